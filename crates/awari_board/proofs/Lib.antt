@@ -1,0 +1,8 @@
+mod Rows
+pub mod Landing
+pub mod Legal
+pub mod Faults
+pub mod Falling
+pub mod Capturing
+pub mod Moving
+pub mod Keeping

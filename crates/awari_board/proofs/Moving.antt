@@ -1,0 +1,16 @@
+-- A move as a whole.
+use Rattle.std.proofs.Common.{◌≡◌, ℕ, List, [], ◌∷◌, length, get_or, refl, ap, ◌∙◌, arith}
+use Rattle.awari_board.specs.Rules.{IsLegal, IsMove, sown, last_pit, captured_stones, captured_pits, emptied, turned}
+
+-- a sowing, a capture and a turn make a move
+pub IsMove-from_steps : (board : List ℕ) (x : ℕ) (strewn : List ℕ) (last c : ℕ) (left next : List ℕ) → IsLegal board x → strewn ≡ sown board x → last ≡ last_pit board x → c ≡ captured_stones strewn last → left ≡ emptied strewn last (captured_pits strewn last) → next ≡ turned left → IsMove board x c next
+IsMove-from_steps board x strewn last c left next legal sowed landed taken emptied_is turn = record {
+  legal = legal;
+  captures = taken ∙ ap (λ b. captured_stones b last) sowed ∙ ap (captured_stones (sown board x)) landed;
+  leaves = turn ∙ ap turned (emptied_is ∙ ap (λ b. emptied b last (captured_pits b last)) sowed ∙ ap (λ l. emptied (sown board x) l (captured_pits (sown board x) l)) landed);
+}
+
+-- the other player's pits come first
+pub turned-items : (pits : List ℕ) → length pits ≡ 12 → get_or pits 6 0 ∷ get_or pits 7 0 ∷ get_or pits 8 0 ∷ get_or pits 9 0 ∷ get_or pits 10 0 ∷ get_or pits 11 0 ∷ get_or pits 0 0 ∷ get_or pits 1 0 ∷ get_or pits 2 0 ∷ get_or pits 3 0 ∷ get_or pits 4 0 ∷ get_or pits 5 0 ∷ [] ≡ turned pits
+turned-items (a ∷ b ∷ c ∷ d ∷ e ∷ f ∷ u ∷ v ∷ w ∷ x ∷ y ∷ z ∷ []) long = refl
+turned-items _ long = absurd (omega arith)

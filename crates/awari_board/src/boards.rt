@@ -1,0 +1,128 @@
+//! Positions, and the moves from them.
+ghost use Rattle.std.specs.Prelude.{◌≡◌, ℕ, ◌+◌, ◌<◌, ◌≤◌, ◌↔◌, IsTrue, ℤ, IsNone, IsOk, IfOk, IfErr, sum, slice_index};
+ghost use Rattle.awari_board.specs.Rules.{IsBoard, IsEnd, IsLegal, IsMove};
+ghost use Rattle.awari_board.specs.MoveFault.{IsDue};
+
+use crate::captures::capture;
+use crate::moves::{MoveFault, Moved};
+use crate::sides::{SIDE, other_stones, own_stones, stones_in, turned};
+use crate::sowing::sow;
+use std::marker::Model;
+
+/// A position: the stones in twelve pits, at most 48 in all. Pits 0 to 5 are the mover's, 6 to 11
+/// the opponent's. Contracts see the list of the twelve numbers.
+#[derive(Clone, Copy, Debug, PartialEq, Eq)]
+pub struct Board {
+    pits: [u8; 12],
+}
+
+impl Model for Board {
+    ghost use Rattle.std.specs.Prelude.{List, ℕ};
+    ghost use Rattle.awari_board.specs.Rules.{IsBoard};
+
+    ghost Value = { List ℕ };
+
+    ghost view = { λ b. b.pits };
+
+    ghost invariant = { λ b. IsBoard b.pits };
+
+    ghost inverse = { λ pits. record { pits = pits } };
+}
+
+impl Board {
+    /// The position with these stones. Condition: at most 48 stones in all.
+    pub fn new(pits: [u8; 12]) -> Self
+        requires { sum pits ≤ 48 }
+        ensures pits { result ≡ pits }
+        ensures board { IsBoard result }
+    {
+        Board { pits }
+    }
+
+    /// The stones in pit `i`. Condition: `i` is below 12.
+    pub fn pit(&self, i: u8) -> u8
+        requires { i < 12 }
+        ensures stones { result ≡ slice_index self.now i }
+        ensures board { IsBoard self.now }
+    {
+        self.pits[i as usize]
+    }
+
+    /// The stones on the board, 0 to 48.
+    pub fn stones(&self) -> u8
+        ensures stones { result ≡ sum self.now }
+        ensures board { IsBoard self.now }
+    {
+        stones_in(&self.pits)
+    }
+
+    /// Whether the mover may play `pit`, which can be any number.
+    pub fn legal(&self, pit: u8) -> bool
+        ensures { IsTrue result ↔ IsLegal self.now pit }
+    {
+        if pit >= SIDE {
+            return false;
+        }
+        let stones = self.pits[pit as usize];
+        stones > 0 && (pit + stones >= SIDE || other_stones(&self.pits) > 0)
+    }
+
+    /// What the mover gains, in stones, where no move is legal and so the play has ended; `None`
+    /// where a move is legal. Each player takes the stones on their own side, one of which is empty.
+    pub fn end(&self) -> Option<i8>
+        ensures none { IsNone result ↔ ((pit : ℕ) × IsLegal self.now pit) }
+        ensures some { (gain : ℤ) → (result ≡ Some gain) ↔ IsEnd self.now gain }
+    {
+        if (0..SIDE).any(|pit| self.legal(pit)) {
+            return None;
+        }
+        let stones = self.stones() as i8;
+        Some(if own_stones(&self.pits) == 0 {
+            -stones
+        } else {
+            stones
+        })
+    }
+
+    /// Plays `pit`: sows its stones, captures, and turns the board to the other player. Refused,
+    /// tried in this order, are a pit above 5 as 4 `NoPit`, any pit where the play has ended as
+    /// 7 `Ended`, an empty pit as 5 `EmptyPit`, and a pit that leaves a bare opponent bare as
+    /// 6 `MustFeed`.
+    pub fn play(&self, pit: u8) -> Result<Moved, MoveFault>
+        ensures ok { IsOk result ↔ IsLegal self.now pit }
+        ensures moved { IfOk result (λ m. IsMove self.now pit m.captured m.board) }
+        ensures board { IfOk result (λ m. IsBoard m.board) }
+        ensures kept { IfOk result (λ m. sum m.board + m.captured ≡ sum self.now) }
+        ensures refused { IfErr result (IsDue self.now pit) }
+    {
+        if !self.legal(pit) {
+            return Err(self.fault(pit));
+        }
+        let mut pits = self.pits;
+        let last = sow(&mut pits, pit);
+        let captured = capture(&mut pits, last);
+        Ok(Moved {
+            board: Board {
+                pits: turned(&pits),
+            },
+            captured,
+        })
+    }
+
+    /// Why `pit` can't be played.
+    fn fault(&self, pit: u8) -> MoveFault
+        requires { IsLegal self.now pit → ⊥ }
+        ensures { IsDue self.now pit result }
+    {
+        if pit >= SIDE {
+            return MoveFault::NoPit;
+        }
+        if self.end().is_some() {
+            return MoveFault::Ended;
+        }
+        if self.pits[pit as usize] == 0 {
+            return MoveFault::EmptyPit;
+        }
+        MoveFault::MustFeed
+    }
+}

@@ -1,0 +1,18 @@
+//! The rules of Awari: positions, moves and the end of play.
+//!
+//! A [`Board`] is a position as the player to move sees it. [`Board::play`] sows, captures and
+//! turns the board to the other player; [`Board::end`] says what the mover gains where no move is
+//! legal. The rules are told with pictures in `docs/RULES.md`, and defined in `specs/Rules.antt`,
+//! which every contract here goes by. Nothing in this crate takes memory.
+#![tactic(auto)]
+
+mod boards;
+mod captures;
+mod laws;
+mod moves;
+mod sides;
+mod sowing;
+
+pub use boards::Board;
+pub use laws::{moves_keep_boards, one_fault_is_due, tests_decide};
+pub use moves::{MoveFault, Moved};

@@ -1,0 +1,46 @@
+//! What playing a pit answers.
+ghost use Rattle.std.specs.Prelude.{◌≡◌};
+ghost use Rattle.awari_board.specs.MoveFault.{number_of};
+
+use crate::boards::Board;
+use thiserror::Error;
+
+/// A move that was played.
+#[derive(Clone, Copy, Debug, PartialEq, Eq)]
+pub struct Moved {
+    /// The position after the move, as the other player sees it.
+    pub board: Board,
+    /// The stones captured, 0 for a quiet move.
+    pub captured: u8,
+}
+
+/// Why a pit can't be played. A fault is answered only where none of those above it is due.
+#[derive(Clone, Copy, Debug, PartialEq, Eq, Error)]
+pub enum MoveFault {
+    /// 4: the mover's pits are 0 to 5.
+    #[error("there is no such pit")]
+    NoPit,
+    /// 7: no pit can be played, so the play has ended.
+    #[error("the play has ended")]
+    Ended,
+    /// 5: the pit holds no stones.
+    #[error("the pit is empty")]
+    EmptyPit,
+    /// 6: the opponent has no stones, and this pit sows none there while another does.
+    #[error("the opponent has no stones and must be fed")]
+    MustFeed,
+}
+
+impl MoveFault {
+    /// The fault's number, by which the product's refusals are told apart.
+    pub fn number(self) -> u8
+        ensures { result ≡ number_of self }
+    {
+        match self {
+            MoveFault::NoPit => 4,
+            MoveFault::Ended => 7,
+            MoveFault::EmptyPit => 5,
+            MoveFault::MustFeed => 6,
+        }
+    }
+}

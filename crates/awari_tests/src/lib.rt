@@ -1,0 +1,6 @@
+//! Tests across the crates, by their public calls alone: worked positions whose answers were found
+//! by hand or by another program.
+#![tactic(auto)]
+
+#[cfg(test)]
+mod moves;
