@@ -1,6 +1,6 @@
 -- Which fault is due.
-use Rattle.std.proofs.Common.{◌≡◌, ℕ, ◌+◌, ◌<◌, ◌≤◌, List, slice_index, refl, arith}
-use Rattle.awari_board.specs.Rules.{IsEnd, IsLegal, other_stones, landing}
+use Rattle.std.proofs.Common.{◌≡◌, ℕ, List, refl, arith}
+use Rattle.awari_board.specs.Rules.{IsLegal}
 use Rattle.awari_board.specs.MoveFault.{IsDue}
 use Rattle.awari_board.specs.declared.moves.MoveFault.{MoveFault}
 use Rattle.awari_board.specs.declared.moves.MoveFault.TheVariants.{NoPit, Ended, EmptyPit, MustFeed}

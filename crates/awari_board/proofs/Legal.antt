@@ -1,8 +1,8 @@
 -- When a move is legal, and when none is.
-use Rattle.std.proofs.Common.{◌≡◌, ℕ, zero, suc, ◌+◌, ◌<◌, ◌≤◌, ◌↔◌, Bool, true, false, not, ◌&&◌, ◌||◌, nat_lt, nat_le, List, IsTrue, slice_index, refl, sym, ◌∙◌, rules, tests, arith}
+use Rattle.std.proofs.Common.{◌≡◌, ℕ, zero, suc, ◌+◌, ◌<◌, ◌≤◌, ◌↔◌, Bool, true, false, not, ◌&&◌, ◌||◌, nat_lt, List, slice_index, refl, sym, ◌∙◌, arith}
 use Rattle.std.proofs.lemmas.Bool.{false≢true}
 use Rattle.std.proofs.lemmas.Bool.Decides.{nat_tests}
-use Rattle.awari_board.specs.Rules.{IsEnded, IsLegal, other_stones, landing}
+use Rattle.awari_board.specs.Rules.{IsEnded, IsLegal, other_stones}
 use Rattle.awari_board.specs.Tests.{is_legal, is_ended}
 use Rattle.awari_board.proofs.Landing.{feeds_far, far_from_feeds}
 

@@ -1,4 +1,3 @@
-mod Rows
 pub mod Landing
 pub mod Legal
 pub mod Faults

@@ -14,5 +14,5 @@ mod sides;
 mod sowing;
 
 pub use boards::Board;
-pub use laws::{moves_keep_boards, one_fault_is_due, tests_decide};
+pub use laws::{moves_keep_boards, one_fault_is_due, tests_decide, worked_examples};
 pub use moves::{MoveFault, Moved};

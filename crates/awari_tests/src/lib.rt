@@ -4,3 +4,5 @@
 
 #[cfg(test)]
 mod moves;
+#[cfg(test)]
+mod numbering;

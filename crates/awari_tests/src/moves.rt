@@ -1,37 +1,93 @@
 //! The rules at worked positions.
-ghost use Rattle.std.specs.Prelude.{◌≤◌, sum};
-
 use awari_board::{Board, MoveFault, Moved};
 
-/// Plays `pit` of the position with these stones.
-fn played(pits: [u8; 12], pit: u8) -> Result<Moved, MoveFault>
-    requires { sum pits ≤ 48 }
-{
-    Board::new(pits).play(pit)
+#[test]
+fn a_grand_slam_takes_nothing(rt: HostRuntime) {
+    let before = Board::new([0, 0, 0, 0, 0, 1, 1, 0, 0, 0, 0, 0]);
+    let after = Board::new([2, 0, 0, 0, 0, 0, 0, 0, 0, 0, 0, 0]);
+    assert_eq!(rt;
+        before.play(5),
+        Ok(Moved {
+            board: after,
+            captured: 0
+        })
+    );
+    assert_eq!(rt; before.end(), None);
+    assert_eq!(rt; after.end(), Some(2));
 }
 
 #[test]
-fn moves_of_worked_positions(rt: HostRuntime) {
-    let rows: [([u8; 12], u8, [u8; 12], u8); 5] = [
-        // A grand slam takes nothing.
-        ([0, 0, 0, 0, 0, 1, 1, 0, 0, 0, 0, 0], 5, [2, 0, 0, 0, 0, 0, 0, 0, 0, 0, 0, 0], 0),
-        ([0, 0, 0, 0, 0, 1, 1, 0, 1, 0, 0, 0], 5, [0, 0, 1, 0, 0, 0, 0, 0, 0, 0, 0, 0], 2),
-        // The run stops at the side's edge.
-        ([0, 0, 0, 0, 0, 2, 1, 2, 0, 1, 0, 0], 5, [0, 0, 0, 1, 0, 0, 0, 0, 0, 0, 0, 0], 5),
-        // The origin is left out on the second lap.
-        ([12, 0, 0, 0, 0, 0, 0, 0, 0, 0, 0, 0], 0, [1, 1, 1, 1, 1, 1, 0, 2, 1, 1, 1, 1], 0),
-        ([0, 0, 0, 0, 0, 12, 0, 0, 0, 0, 0, 0], 5, [0, 1, 1, 1, 1, 1, 1, 1, 1, 1, 1, 0], 2),
-    ];
-    for (before, pit, after, captured) in rows {
-        assert!(rt; before.iter().sum::<u8>() <= 48);
-        match played(before, pit) {
-            Ok(moved) => {
-                assert_eq!(rt; moved.captured, captured, "from {before:?}");
-                for i in 0..12u8 {
-                    assert_eq!(rt; moved.board.pit(i), after[i as usize], "pit {i} from {before:?}");
-                }
-            }
-            Err(fault) => panic!(rt; "refused {fault} from {before:?}"),
-        }
-    }
+fn a_capture_takes_two(rt: HostRuntime) {
+    let before = Board::new([0, 0, 0, 0, 0, 1, 1, 0, 1, 0, 0, 0]);
+    let after = Board::new([0, 0, 1, 0, 0, 0, 0, 0, 0, 0, 0, 0]);
+    assert_eq!(rt;
+        before.play(5),
+        Ok(Moved {
+            board: after,
+            captured: 2
+        })
+    );
+}
+
+#[test]
+fn a_run_stops_at_the_edge(rt: HostRuntime) {
+    let before = Board::new([0, 0, 0, 0, 0, 2, 1, 2, 0, 1, 0, 0]);
+    let after = Board::new([0, 0, 0, 1, 0, 0, 0, 0, 0, 0, 0, 0]);
+    assert_eq!(rt;
+        before.play(5),
+        Ok(Moved {
+            board: after,
+            captured: 5
+        })
+    );
+}
+
+#[test]
+fn a_lap_leaves_the_origin_out(rt: HostRuntime) {
+    let before = Board::new([12, 0, 0, 0, 0, 0, 0, 0, 0, 0, 0, 0]);
+    let after = Board::new([1, 1, 1, 1, 1, 1, 0, 2, 1, 1, 1, 1]);
+    assert_eq!(rt;
+        before.play(0),
+        Ok(Moved {
+            board: after,
+            captured: 0
+        })
+    );
+}
+
+#[test]
+fn a_second_lap_captures(rt: HostRuntime) {
+    let before = Board::new([0, 0, 0, 0, 0, 12, 0, 0, 0, 0, 0, 0]);
+    let after = Board::new([0, 1, 1, 1, 1, 1, 1, 1, 1, 1, 1, 0]);
+    assert_eq!(rt;
+        before.play(5),
+        Ok(Moved {
+            board: after,
+            captured: 2
+        })
+    );
+    assert_eq!(rt; after.stones(), 10);
+}
+
+#[test]
+fn each_fault_has_its_turn(rt: HostRuntime) {
+    let hungry = Board::new([0, 0, 0, 1, 0, 1, 0, 0, 0, 0, 0, 0]);
+    assert!(rt; hungry.legal(5));
+    assert_eq!(rt; hungry.play(3), Err(MoveFault::MustFeed));
+    assert_eq!(rt; hungry.play(0), Err(MoveFault::EmptyPit));
+    assert_eq!(rt; hungry.play(6), Err(MoveFault::NoPit));
+    let ended = Board::new([0, 1, 0, 0, 0, 0, 0, 0, 0, 0, 0, 0]);
+    assert_eq!(rt; ended.play(1), Err(MoveFault::Ended));
+    assert_eq!(rt; ended.play(0), Err(MoveFault::Ended));
+    assert_eq!(rt; ended.end(), Some(1));
+    let bare = Board::new([0, 0, 0, 0, 0, 0, 0, 1, 0, 0, 0, 0]);
+    assert_eq!(rt; bare.end(), Some(-1));
+}
+
+#[test]
+fn faults_tell_their_numbers_and_names(rt: HostRuntime) {
+    assert_eq!(rt; MoveFault::NoPit.number(), 4);
+    assert_eq!(rt; MoveFault::EmptyPit.number(), 5);
+    assert_eq!(rt; MoveFault::MustFeed.number(), 6);
+    assert_eq!(rt; MoveFault::Ended.number(), 7);
 }

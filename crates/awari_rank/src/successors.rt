@@ -1,0 +1,56 @@
+//! The boards of a level, one after the other.
+
+ghost use Rattle.std.specs.Prelude.{◌≡◌, ℕ, ◌+◌, ◌<◌, ◌≤◌, ◌↔◌, List, sum, drop, slice_index, IsNone, IfSome};
+ghost use Rattle.awari_board.specs.Rules.{IsBoard};
+ghost use Rattle.awari_rank.specs.Rank.{rank_of, size_of};
+ghost use Rattle.awari_rank.specs.declared.counts.TheConstants.{MOST_STONES};
+
+use awari_board::Board;
+
+/// The board of the next rank among those with as many stones, or none for the last of them.
+///
+/// It ranks nothing and takes no memory. Of the stones in the last pit that holds any, one goes to
+/// the pit before it, so that the board becomes larger, and the others go to the last pit, so that
+/// it becomes larger by as little as it can.
+pub fn successor(board: &Board) -> Option<Board>
+    requires { sum board.now ≤ MOST_STONES }
+    ensures last { IsNone result ↔ (rank_of board.now + 1 ≡ size_of (sum board.now)) }
+    ensures board { IfSome result (λ b. IsBoard b) }
+    ensures stones { IfSome result (λ b. sum b ≡ sum board.now) }
+    ensures rank { IfSome result (λ b. rank_of b ≡ rank_of board.now + 1) }
+{
+    let mut pits = pits_of(board);
+    let held = last_held(&pits);
+    if held == 0 {
+        return None;
+    }
+    let stones = pits[held];
+    pits[held] = 0;
+    pits[held - 1] += 1;
+    pits[11] = stones - 1;
+    Some(Board::new(pits))
+}
+
+fn pits_of(board: &Board) -> [u8; 12]
+    ensures pits { result ≡ board.now }
+    ensures board { IsBoard board.now }
+{
+    let mut pits = [0; 12];
+    for pit in 0..12 {
+        pits[pit as usize] = board.pit(pit);
+    }
+    pits
+}
+
+/// The last pit that holds stones, or pit 0 where none does.
+fn last_held(pits: &[u8; 12]) -> usize
+    ensures pit { result < 12 }
+    ensures held { 0 < result → 0 < slice_index pits.now result }
+    ensures none_after { sum (drop (result + 1) pits.now) ≡ 0 }
+{
+    let mut pit = 11;
+    while pit > 0 && pits[pit] == 0 {
+        pit -= 1;
+    }
+    pit
+}
