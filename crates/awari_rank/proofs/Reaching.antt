@@ -1,11 +1,11 @@
 -- Each number below the size of a level is the rank of a board.
-use Rattle.std.proofs.Common.{inl, inr, ◌≡◌, ℕ, zero, suc, ◌+◌, ◌-◌, ◌<◌, ◌≤◌, List, [], ◌∷◌, length, sum, refl, ap, arith}
+use Rattle.std.proofs.Common.{inl, inr, ◌≡◌, ℕ, zero, suc, ◌+◌, ◌-◌, ◌<◌, ◌≤◌, List, [], ◌∷◌, length, sum, replicate, refl, ap, arith}
 use Rattle.std.proofs.lemmas.Bool.{cases_lt}
 use Rattle.awari_board.specs.Rules.{IsBoard}
 use Rattle.awari_rank.specs.Tuples.{total, ways, fewer}
 use Rattle.awari_rank.specs.Rank.{rank_of, size_of}
 use Rattle.awari_rank.proofs.Counting.{ways-suc, ways-zero, ways-none}
-use Rattle.awari_rank.proofs.Ranking.{larger, rank_of-larger, sum-cons}
+use Rattle.awari_rank.proofs.Ranking.{larger, rank_of-larger, smaller_of-larger, sum-cons}
 
 -- the term of a sum that a number below the sum falls into
 located : (f : ℕ → ℕ) (m n : ℕ) → m < total f n → (j : ℕ) × (j < n) × (total f j ≤ m) × (m < total f j + f j)
@@ -50,3 +50,10 @@ board_reached n r few in_range =
       has.stones,
       omega (arith, rank_of-larger p has.long, ap size_of has.stones, has.above),
     )
+
+-- each level has a board, as that with all stones in pit 0
+pub size_of-positive : (n : ℕ) → 0 < size_of n
+unfolding size_of
+size_of-positive n =
+    let stones : sum (n ∷ replicate 11 0) ≡ n = omega (arith, sum-cons n (replicate 11 0)) in
+    omega (arith, smaller_of-larger (n ∷ replicate 11 0), ap (ways 12) stones)

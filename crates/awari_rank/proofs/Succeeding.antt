@@ -2,6 +2,8 @@
 use Rattle.std.proofs.Common.{◌≡◌, ℕ, zero, suc, ◌+◌, ◌-◌, ◌<◌, ◌≤◌, List, [], ◌∷◌, ◌++◌, length, sum, get_or, take, drop, set, get_or-set_other, refl, sym, ◌∙◌, ap, arith, length-append, length-drop}
 use Rattle.std.proofs.lemmas.List.{drop_more, length-take-le, take-append-drop, set-append_right}
 use Rattle.std.proofs.lemmas.List.Sums.{sum_by-append}
+use Rattle.awari_board.specs.Rules.{IsBoard}
+use Rattle.awari_rank.specs.Held.{IsLastHeld}
 use Rattle.awari_rank.specs.Tuples.{ways, fewer}
 use Rattle.awari_rank.specs.Rank.{rank_of, size_of}
 use Rattle.awari_rank.proofs.Counting.{total-zero, total-add-one, ways-suc, fewer-zero}
@@ -161,16 +163,15 @@ rank_of-next {b} {s} is long =
 pub rank_of-before : {b s : List ℕ} → IsNext b s → length b ≡ 12 → rank_of b + 1 < size_of (sum b)
 rank_of-before {b} {s} is long = omega (arith, rank_of-larger b long, is.next)
 
-pub rank_of-last : (b : List ℕ) → length b ≡ 12 → sum (drop 1 b) ≡ 0 → rank_of b + 1 ≡ size_of (sum b)
-rank_of-last b long none = omega (arith, rank_of-larger b long, larger-first b 11 long none)
-
 -- the board that `successor` writes into a copy of b
-pub succeeded : {b pits : List ℕ} {held : ℕ} → pits ≡ b → length b ≡ 12 → held < 12 → 0 < held → (0 < held → 0 < get_or pits held 0) → sum (drop (held + 1) pits) ≡ 0 → IsNext b (set (set (set pits held 0) (held - 1) (get_or (set pits held 0) (held - 1) 0 + 1)) 11 (get_or pits held 0 - 1))
-succeeded {b} {pits} {held} copied long in_range some holds none =
-    let size : 11 + 1 ≡ length pits = omega (arith, ap length copied) in
-    let kept : get_or (set pits held 0) (held - 1) 0 ≡ get_or pits (held - 1) 0 = get_or-set_other pits held (held - 1) 0 0 (omega arith) in
+pub succeeded : {b pits : List ℕ} {held : ℕ} → pits ≡ b → IsBoard b → IsLastHeld pits held → 0 < held → IsNext b (set (set (set pits held 0) (held - 1) (get_or (set pits held 0) (held - 1) 0 + 1)) 11 (get_or pits held 0 - 1))
+succeeded {b} {pits} {held} copied board last some =
+    let size : 11 + 1 ≡ length pits = omega (arith, ap length copied, board.pits) in
+    let kept : get_or (set pits held 0) (held - 1) 0 ≡ get_or pits (held - 1) 0
+    = get_or-set_other pits held (held - 1) 0 0 (omega arith)
+    in
     let is : IsNext pits (set (set (set pits held 0) (held - 1) (get_or pits (held - 1) 0 + 1)) 11 (get_or pits held 0 - 1))
-    = moved_next pits (held - 1) held 11 (omega arith) size (omega arith) (holds some) none
+    = moved_next pits (held - 1) held 11 (omega arith) size (omega (arith, last.in_range)) (last.holds some) last.none_after
     in
     rw kept
     (record {
@@ -178,3 +179,11 @@ succeeded {b} {pits} {held} copied long in_range some holds none =
       stones = is.stones ∙ ap sum copied;
       next = sym (ap larger copied) ∙ is.next;
     })
+
+-- where no pit after pit 0 holds stones, the board is the last
+pub rank_of-last : {b pits : List ℕ} {held : ℕ} → pits ≡ b → IsBoard b → IsLastHeld pits held → held ≡ 0 → rank_of b + 1 ≡ size_of (sum b)
+rank_of-last {b} {pits} {held} copied board last first =
+    let none : sum (drop 1 b) ≡ 0
+    = sym (ap (λ t. sum (drop 1 t)) copied) ∙ sym (ap (λ i. sum (drop (i + 1) pits)) first) ∙ last.none_after
+    in
+    omega (arith, rank_of-larger b board.pits, larger-first b 11 board.pits none)

@@ -38,7 +38,7 @@ pub fn ranks_tell_boards_apart()
     ensures { (b c : List ℕ) → IsBoard b → IsBoard c → sum b ≡ sum c → rank_of b ≡ rank_of c → b ≡ c }
 {}
 
-/// The definitions, on numbers that were worked out by hand.
+/// What the definitions give for small levels, for the highest, and for a few boards.
 pub fn worked_examples()
     ensures listed { tuples 3 2
         ≡ (0 ∷ 0 ∷ 2 ∷ []) ∷ (0 ∷ 1 ∷ 1 ∷ []) ∷ (0 ∷ 2 ∷ 0 ∷ []) ∷ (1 ∷ 0 ∷ 1 ∷ [])

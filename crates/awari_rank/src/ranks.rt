@@ -9,11 +9,12 @@ ghost use Rattle.awari_rank.specs.declared.counts.TheConstants.{MOST_STONES};
 use crate::counts::fewer_after;
 use awari_board::Board;
 
-/// The number of boards with so many stones, which is one look-up in a table.
+/// The number of boards with so many stones, at most `MOST_STONES`. It is one look-up in a table.
 pub fn size(stones: u8) -> u32
     requires { stones ≤ MOST_STONES }
     ensures boards { result ≡ size_of stones }
     ensures binomial { result ≡ choose (stones + 11) 11 }
+    ensures some { 0 < result }
 
     // The ranks of the boards are the numbers below the size: none is above, and none is left out.
     ensures below { (p : List ℕ) → IsBoard p → sum p ≡ stones → rank_of p < size_of stones }
@@ -24,7 +25,9 @@ pub fn size(stones: u8) -> u32
 }
 
 /// The number of boards with as many stones that come before this one, in lexicographic order of
-/// the stones in their pits, pit 0 first. It takes no memory, and one look-up in a table a pit.
+/// the stones in their pits, pit 0 first. The board has at most `MOST_STONES` stones.
+///
+/// It takes no memory, and one look-up in a table a pit.
 #[tactic(auto, using(crate::proofs::Ranking::ranks))]
 pub fn rank(board: &Board) -> u32
     requires { sum board.now ≤ MOST_STONES }
@@ -41,8 +44,11 @@ pub fn rank(board: &Board) -> u32
     boards - 1 - larger
 }
 
-/// The board with so many stones and of that rank. It takes no memory, and no more steps than there
-/// are stones and pits: what is left for the pits to the right only falls.
+/// The board with so many stones, at most `MOST_STONES`, and of that rank, which is below the
+/// number of such boards.
+///
+/// It takes no memory, and no more steps than there are stones and pits: what is left for the pits
+/// to the right only falls.
 pub fn unrank(stones: u8, rank: u32) -> Board
     requires few { stones ≤ MOST_STONES }
     requires in_range { rank < size_of stones }

@@ -1,13 +1,15 @@
 //! The boards of a level, one after the other.
 
-ghost use Rattle.std.specs.Prelude.{◌≡◌, ℕ, ◌+◌, ◌<◌, ◌≤◌, ◌↔◌, List, sum, drop, slice_index, IsNone, IfSome};
+ghost use Rattle.std.specs.Prelude.{◌≡◌, ◌+◌, ◌≤◌, ◌↔◌, sum, IsNone, IfSome};
 ghost use Rattle.awari_board.specs.Rules.{IsBoard};
 ghost use Rattle.awari_rank.specs.Rank.{rank_of, size_of};
+ghost use Rattle.awari_rank.specs.Held.{IsLastHeld};
 ghost use Rattle.awari_rank.specs.declared.counts.TheConstants.{MOST_STONES};
 
 use awari_board::Board;
 
-/// The board of the next rank among those with as many stones, or none for the last of them.
+/// The board of the next rank among those with as many stones, or none for the last of them. The
+/// board has at most `MOST_STONES` stones.
 ///
 /// It ranks nothing and takes no memory. Of the stones in the last pit that holds any, one goes to
 /// the pit before it, so that the board becomes larger, and the others go to the last pit, so that
@@ -44,9 +46,7 @@ fn pits_of(board: &Board) -> [u8; 12]
 
 /// The last pit that holds stones, or pit 0 where none does.
 fn last_held(pits: &[u8; 12]) -> usize
-    ensures pit { result < 12 }
-    ensures held { 0 < result → 0 < slice_index pits.now result }
-    ensures none_after { sum (drop (result + 1) pits.now) ≡ 0 }
+    ensures { IsLastHeld pits.now result }
 {
     let mut pit = 11;
     while pit > 0 && pits[pit] == 0 {

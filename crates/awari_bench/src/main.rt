@@ -1,0 +1,115 @@
+//! Goes over a level of ten stones by the hot calls. With no words it makes one round of each and
+//! prints what it counted, which another program has to count too; `bench/run` times it with the
+//! name of a call and a number of rounds.
+#![tactic(auto)]
+
+use awari_board::Board;
+use awari_rank::{rank, size, successor, unrank};
+use std::{env, io};
+
+/// The stones on each board.
+const STONES: u8 = 10;
+
+/// What a round of a call adds up to.
+#[derive(Clone, Copy)]
+struct Counted {
+    calls: u64,
+    total: u64,
+}
+
+impl Counted {
+    const NONE: Counted = Counted { calls: 0, total: 0 };
+
+    fn add(&mut self, number: u64) {
+        self.calls = self.calls.wrapping_add(1);
+        self.total = self.total.wrapping_add(number);
+    }
+}
+
+/// The board of rank 0.
+fn first() -> Board {
+    Board::new([0, 0, 0, 0, 0, 0, 0, 0, 0, 0, 0, STONES])
+}
+
+/// The next board where it can be numbered, and the first one otherwise.
+fn after(board: &Board) -> Board {
+    if board.stones() > STONES {
+        return first();
+    }
+    match successor(board) {
+        Some(next) => next,
+        None => first(),
+    }
+}
+
+/// Plays each pit of each board: the legal moves, and what they capture and lay into pit 3.
+fn plays(counted: &mut Counted) {
+    let mut board = first();
+    for _rank in 0..size(STONES) {
+        for pit in 0..6 {
+            if let Ok(moved) = board.play(pit) {
+                counted.add(u64::from(moved.captured).wrapping_add(u64::from(moved.board.pit(3))));
+            }
+        }
+        board = after(&board);
+    }
+}
+
+/// Ranks each board.
+fn ranks(counted: &mut Counted) {
+    let mut board = first();
+    for _rank in 0..size(STONES) {
+        if board.stones() <= STONES {
+            counted.add(u64::from(rank(&board)));
+        }
+        board = after(&board);
+    }
+}
+
+/// Goes from each board to the next.
+fn successors(counted: &mut Counted) {
+    let mut board = first();
+    for _rank in 0..size(STONES) {
+        counted.add(u64::from(board.pit(5)));
+        board = after(&board);
+    }
+}
+
+/// Makes the board of each rank.
+fn unranks(counted: &mut Counted) {
+    for rank in 0..size(STONES) {
+        counted.add(u64::from(unrank(STONES, rank).pit(5)));
+    }
+}
+
+fn measured(call: &str, rounds: u32) -> Counted {
+    let mut counted = Counted::NONE;
+    for _round in 0..rounds {
+        match call {
+            "play" => plays(&mut counted),
+            "rank" => ranks(&mut counted),
+            "successor" => successors(&mut counted),
+            "unrank" => unranks(&mut counted),
+            _ => {}
+        }
+    }
+    counted
+}
+
+fn report(rt: &impl Print, call: &str, rounds: u32) -> io::Result<()> {
+    let Counted { calls, total } = measured(call, rounds);
+    println!(rt; "{call} calls {calls} total {total}")
+}
+
+fn main(rt: HostRuntime) -> io::Result<()> {
+    let words: Vec<String> = env::args(&rt)?.collect(rt.alloc())?;
+    match words.as_slice() {
+        [_, call, rounds] => report(&rt, call.as_str(), rounds.as_str().parse().unwrap_or(1)),
+        _ => {
+            for call in ["play", "rank", "successor", "unrank"] {
+                report(&rt, call, 1)?;
+            }
+            Ok(())
+        }
+    }
+}
