@@ -6,3 +6,5 @@
 mod moves;
 #[cfg(test)]
 mod numbering;
+#[cfg(test)]
+mod tables;

@@ -1,0 +1,3 @@
+pub mod ShelfLemmas
+pub mod CertificateLemmas
+pub mod CountLemmas

@@ -1,0 +1,51 @@
+-- What a table has to say of each board: the rules V1 to V6, and a table that keeps them.
+use Rattle.std.specs.Prelude.{◌≡◌, ◌≢◌, ℕ, ◌<◌, ◌≤◌, ◌⊎◌, List, sum, ℤ, pos, neg_ℤ, ◌-ℤ◌, ◌≤ℤ◌, ◌<ℤ◌, Option, Some, None, IfSome}
+use Rattle.awari_board.specs.Rules.{IsBoard, IsMove, IsLegal, IsEnd, IsEnded}
+
+-- what a table says of each board
+pub record Table : Type 0 where
+  pub value : List ℕ → ℤ
+  pub plan : List ℕ → Option ℕ
+  pub dist : List ℕ → ℕ
+
+-- V1: the value is within the stones on the board, and a plan is an own pit.
+abbrev pub InRange : Table → List ℕ → Type 0
+InRange t p = (neg_ℤ (pos (sum p)) ≤ℤ t.value p) × (t.value p ≤ℤ pos (sum p)) × IfSome (t.plan p) (λ x. x < 6)
+
+-- V2: an ended board has its gain, no plan, and distance 0.
+abbrev pub EndIsRight : Table → List ℕ → Type 0
+EndIsRight t p = (g : ℤ) → IsEnd p g → (t.value p ≡ g) × (t.plan p ≡ None) × (t.dist p ≡ 0)
+
+-- V3: any other board has a legal plan.
+abbrev pub HasPlan : Table → List ℕ → Type 0
+HasPlan t p = (IsEnded p → ⊥) → (x : ℕ) × (t.plan p ≡ Some x) × IsLegal p x
+
+-- V4: no move gains more than the value. A move gains what it captures, less the value of the board that it leaves.
+abbrev pub NoMoveGainsMore : Table → List ℕ → Type 0
+NoMoveGainsMore t p = (x c : ℕ) (q : List ℕ) → IsMove p x c q → (pos c -ℤ t.value q) ≤ℤ t.value p
+
+-- V5: the plan gains the value.
+abbrev pub PlanGains : Table → List ℕ → Type 0
+PlanGains t p = (x c : ℕ) (q : List ℕ) → t.plan p ≡ Some x → IsMove p x c q → (pos c -ℤ t.value q) ≡ t.value p
+
+-- V6: at value 0 the distance is 0; any other board that is not ended has at least 1; the plan of a positive board captures
+-- or leads to a smaller distance; and each quiet move of a negative board leads to a smaller distance.
+pub record DistancesFall (t : Table) (p : List ℕ) : Type 0 where
+  pub even : t.value p ≡ pos 0 → t.dist p ≡ 0
+  pub uneven : (IsEnded p → ⊥) → t.value p ≢ pos 0 → 1 ≤ t.dist p
+  pub winning : pos 0 <ℤ t.value p → (x c : ℕ) (q : List ℕ) → t.plan p ≡ Some x → IsMove p x c q → (0 < c) ⊎ (t.dist q < t.dist p)
+  pub losing : t.value p <ℤ pos 0 → (x : ℕ) (q : List ℕ) → IsMove p x 0 q → t.dist q < t.dist p
+
+-- all these rules, at one board
+pub record IsRight (t : Table) (p : List ℕ) : Type 0 where
+  pub in_range : InRange t p
+  pub ends : EndIsRight t p
+  pub has_plan : HasPlan t p
+  pub no_more : NoMoveGainsMore t p
+  pub plan_gains : PlanGains t p
+  pub falls : DistancesFall t p
+
+-- all boards with fewer than `levels` stones are right, and no distance among them is above the limit
+pub record IsCertificate (t : Table) (levels limit : ℕ) : Type 0 where
+  pub right : (p : List ℕ) → IsBoard p → sum p < levels → IsRight t p
+  pub limited : (p : List ℕ) → IsBoard p → sum p < levels → t.dist p ≤ limit

@@ -1,0 +1,4 @@
+pub mod Certificate
+pub mod Images
+pub mod Shelves
+pub mod Slots

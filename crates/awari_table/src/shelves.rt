@@ -1,0 +1,133 @@
+// The levels that were verified, from the lowest on.
+ghost use Rattle.std.specs.Prelude.{◌≡◌, ◌<◌, ◌+◌, ◌↔◌, [], ◌∷◌, ◌++◌, Some, IsOk, IfOk, IfErr, length, slice_get, sum};
+ghost use Rattle.std.specs.Arc.{arc_value};
+ghost use Rattle.awari_table.specs.Images.{entry_of, greatest_limit};
+ghost use Rattle.awari_table.specs.Shelves.{Consistent, IsShelf};
+
+use crate::HIGHEST_LEVEL;
+use crate::images::Entry;
+use crate::levels::Level;
+use arrayvec::ArrayVec;
+use awari_board::Board;
+use awari_rank::rank;
+use std::alloc::{AllocError, Global};
+use std::marker::Model;
+use std::sync::Arc;
+use thiserror::Error;
+
+/// The levels from 0 to the highest.
+const SLOTS: usize = HIGHEST_LEVEL as usize + 1;
+
+/// The board has more stones than the levels of the shelf, which are those below `levels`.
+#[derive(Clone, Copy, Debug, PartialEq, Eq, Error)]
+#[error("only the levels below {levels} are there")]
+pub struct NotYet {
+    pub levels: u8,
+}
+
+impl NotYet {
+    /// The number of this refusal, 59.
+    pub fn number(&self) -> u8
+        ensures { result ≡ 59 }
+    {
+        59
+    }
+}
+
+/// The levels 0, 1, 2 and so on, up to `HIGHEST_LEVEL` at most, each consistent over those below
+/// it. A contract sees a shelf as the list of their images.
+#[derive(Drop)]
+pub struct Shelf {
+    slots: ArrayVec<Option<Arc<Level, Global>>, SLOTS>,
+}
+
+impl Model for Shelf {
+    ghost use Rattle.std.specs.Prelude.{List, map};
+    ghost use Rattle.awari_table.specs.declared.images.Image.{Image};
+    ghost use Rattle.awari_table.specs.Slots.{image_in, HoldsShelf};
+
+    ghost Value = { List Image };
+
+    ghost view = { λ s. map image_in s.slots.items };
+
+    ghost invariant = { λ s. HoldsShelf s.slots.items };
+}
+
+impl Shelf {
+    /// The shelf with no level. It takes no memory.
+    pub fn empty() -> Self
+        ensures { result ≡ [] }
+    {
+        Shelf {
+            slots: ArrayVec::new(),
+        }
+    }
+
+    /// How many levels there are.
+    pub fn levels(&self) -> u8
+        ensures levels { result ≡ length self.now }
+        ensures shelf { IsShelf self.now }
+    {
+        self.slots.len() as u8
+    }
+
+    /// The greatest limit of the levels in plies, 0 where there is none.
+    pub fn limit(&self) -> u32
+        ensures { result ≡ greatest_limit self.now }
+    {
+        let mut limit = 0u32;
+        for number in 0..self.levels() {
+            limit = limit.max(self.level(number).limit());
+        }
+        limit
+    }
+
+    /// A shelf of the same levels, which both then hold. It is refused only where the sharing of a
+    /// level's `Arc` is, and takes no other memory.
+    pub fn share(&self) -> Result<Shelf, AllocError>
+        ensures { IfOk result (λ shelf. shelf ≡ self.now) }
+    {
+        let mut shelf = Shelf::empty();
+        for number in 0..self.levels() {
+            shelf.push(Arc::try_clone(self.level(number))?);
+        }
+        Ok(shelf)
+    }
+
+    /// Puts a level on top. It must be consistent over the shelf, and so be its next level. It
+    /// takes no memory.
+    pub fn push(&mut self, level: Arc<Level, Global>)
+        requires { Consistent self.old (arc_value level) }
+        ensures { self.new ≡ self.old ++ arc_value level ∷ [] }
+    {
+        self.slots.push(Some(level));
+    }
+
+    /// The level of this number, which must be below `levels()`.
+    pub fn level(&self, number: u8) -> &Arc<Level, Global>
+        requires { number < length self.now }
+        ensures { slice_get self.now number ≡ Some (arc_value result.now) }
+    {
+        match &self.slots[number as usize] {
+            Some(level) => level,
+            None => unreachable!(),
+        }
+    }
+
+    /// The entry of a board. It is refused as 59 exactly where the board has at least as many stones
+    /// as there are levels. It takes no memory.
+    pub fn entry(&self, board: &Board) -> Result<Entry, NotYet>
+        ensures known { IsOk result ↔ (sum board.now < length self.now) }
+        ensures entry { IfOk result (λ e. e ≡ entry_of self.now board.now) }
+        ensures not_yet { IfErr result (λ e. e.levels ≡ length self.now) }
+    {
+        let stones = board.stones();
+        if stones < self.levels() {
+            Ok(self.level(stones).entry_at(rank(board)))
+        } else {
+            Err(NotYet {
+                levels: self.levels(),
+            })
+        }
+    }
+}

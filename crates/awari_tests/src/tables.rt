@@ -1,0 +1,320 @@
+// Tables of levels 0 to 2, right and wrong, put to the verifier. What each board of two stones is
+// worth was worked out by hand: none has more than one legal move.
+
+use awari_board::Board;
+use awari_rank::{size, unrank};
+use awari_table::{Counts, Entries, Entry, Image, NotYet, Shelf};
+use awari_verify::{Rule, VerifyFault, verify};
+use std::alloc::Global;
+use std::sync::Arc;
+use std::test::Fail;
+
+fn entry(value: i8, plan: Option<u8>, dist: u32) -> Entry {
+    Entry { value, plan, dist }
+}
+
+fn image(alloc: Global, level: u8, limit: u32, entries: &[Entry]) -> Result<Image, Fail> {
+    Ok(Image {
+        level,
+        limit,
+        entries: Entries::from(entries.to_vec(alloc)?),
+    })
+}
+
+/// The entry of the board with no stones.
+fn level_0() -> [Entry; 1] {
+    [entry(0, None, 0)]
+}
+
+/// The entries of the twelve boards with one stone, from pit 11 down to pit 0.
+fn level_1() -> [Entry; 12] {
+    let lost = entry(-1, None, 0);
+    let won = entry(1, None, 0);
+    let mut entries = [won; 12];
+    for rank in 0..6usize {
+        entries[rank] = lost;
+    }
+    // The stone of pit 5 goes over to the opponent.
+    entries[6] = entry(-1, Some(5), 1);
+    entries
+}
+
+/// Where the two stones of a board lie.
+#[derive(Clone, Copy)]
+enum Lie {
+    /// Both on the other side.
+    Away,
+    /// Both on the mover's side, in these pits.
+    Both(u8, u8),
+    /// One in this pit of the mover, and one in this of the opponent, counted from 0 to 5.
+    Across(u8, u8),
+}
+
+fn lie_of(board: &Board) -> Lie {
+    let mut first = None;
+    let mut last = 0u8;
+    let mut other = None;
+    for pit in 0..6u8 {
+        if board.pit(pit) > 0 {
+            first = first.or(Some(pit));
+            last = pit;
+        }
+        if board.pit(pit + 6) > 0 {
+            other = Some(pit);
+        }
+    }
+    match (first, other) {
+        (None, _) => Lie::Away,
+        (Some(own), None) => Lie::Both(own, last),
+        (Some(own), Some(other)) => Lie::Across(own, other),
+    }
+}
+
+/// The entry of a board of two stones, with its only legal move as its plan.
+fn entry_of_two(board: &Board) -> Entry {
+    let (value, dist) = match lie_of(board) {
+        Lie::Away => (-2, 0),
+        Lie::Both(0 | 1, 5) => (0, 0),
+        Lie::Both(2, 5) => (-2, 9),
+        Lie::Both(3, 5) => (-2, 7),
+        Lie::Both(4, 5) => (-2, 5),
+        Lie::Both(4, 4) => (-2, 3),
+        Lie::Both(5, 5) => (-2, 1),
+        Lie::Both(_, _) => (2, 0),
+        Lie::Across(own, other) => {
+            if own > other {
+                (-2, 11u32.saturating_sub(2 * u32::from(own)))
+            } else if other - own >= 2 {
+                (2, 12u32.saturating_sub(2 * u32::from(other)))
+            } else {
+                (0, 0)
+            }
+        }
+    };
+    entry(value, (0..6u8).find(|pit| board.legal(*pit)), dist)
+}
+
+/// The entries of the 78 boards with two stones.
+fn level_2(alloc: Global) -> Result<Vec<Entry>, Fail> {
+    let mut entries = Vec::new(alloc);
+    for rank in 0..size(2) {
+        entries.push(entry_of_two(&unrank(2, rank)))?;
+    }
+    Ok(entries)
+}
+
+/// A board's place among the twelve boards of value 0 whose forced moves lead in a circle, each to
+/// the next.
+fn place_in_circle(board: &Board) -> Option<u32> {
+    match lie_of(board) {
+        Lie::Across(own, other) if other == own => Some(2 * u32::from(own)),
+        Lie::Across(own, other) if own < other && other - own == 1 => Some(2 * u32::from(own) + 1),
+        Lie::Both(0, 5) => Some(11),
+        _ => None,
+    }
+}
+
+/// Level 2 with the boards of the circle won and lost in turn, and so the board of value 0 that
+/// leads into it. Along the circle the distances fall from 12 to 1, unless all are to be `dist`.
+fn false_circle(alloc: Global, dist: Option<u32>) -> Result<Vec<Entry>, Fail> {
+    let mut entries = level_2(alloc)?;
+    for rank in 0..size(2) {
+        let board = unrank(2, rank);
+        if let Some(slot) = entries.get_mut(rank as usize) {
+            if let Some(place) = place_in_circle(&board) {
+                slot.value = if place % 2 == 0 { 2 } else { -2 };
+                slot.dist = dist.unwrap_or(12u32.saturating_sub(place));
+            }
+            if let Lie::Both(1, 5) = lie_of(&board) {
+                slot.value = 2;
+                slot.dist = dist.unwrap_or(12);
+            }
+        }
+    }
+    Ok(entries)
+}
+
+/// The shelf of levels 0 and 1.
+fn two_levels(alloc: Global) -> Result<Shelf, Fail> {
+    let mut shelf = Shelf::empty();
+    let level = verify(&shelf, image(alloc, 0, 0, &level_0())?)?;
+    shelf.push(Arc::new(alloc, level)?);
+    let level = verify(&shelf, image(alloc, 1, 1, &level_1())?)?;
+    shelf.push(Arc::new(alloc, level)?);
+    Ok(shelf)
+}
+
+fn refused(rank: u32, rule: Rule) -> Option<VerifyFault> {
+    Some(VerifyFault::Refused { rank, rule })
+}
+
+#[test]
+fn accepts_the_first_levels(rt: HostRuntime) -> Result<(), Fail> {
+    let mut shelf = two_levels(rt.alloc())?;
+    assert_eq!(rt; shelf.levels(), 2);
+    assert_eq!(rt; shelf.limit(), 1);
+    let entries = level_2(rt.alloc())?;
+    let level = verify(&shelf, image(rt.alloc(), 2, 9, &entries)?)?;
+    assert_eq!(rt; (level.number(), level.limit()), (2, 9));
+    let counts = Counts {
+        won: 24,
+        even: 13,
+        lost: 41,
+    };
+    assert_eq!(rt; level.counts(), counts);
+    shelf.push(Arc::new(rt.alloc(), level)?);
+    assert_eq!(rt; shelf.limit(), 9);
+    assert_eq!(rt; shelf.level(1).limit(), 1);
+    Ok(())
+}
+
+#[test]
+fn answers_the_entry_of_a_board(rt: HostRuntime) -> Result<(), Fail> {
+    let shelf = two_levels(rt.alloc())?;
+    let shared = shelf.share()?;
+    assert_eq!(rt; shared.levels(), 2);
+    for (stones, rank, found) in [
+        (0, 0, entry(0, None, 0)),
+        (1, 5, entry(-1, None, 0)),
+        (1, 6, entry(-1, Some(5), 1)),
+        (1, 11, entry(1, None, 0)),
+    ] {
+        assert!(rt; rank < size(stones));
+        let board = unrank(stones, rank);
+        assert_eq!(rt;
+            shelf.entry(&board),
+            Ok(found),
+            "rank {rank} of level {stones}"
+        );
+        assert_eq!(rt;
+            shared.entry(&board),
+            Ok(found),
+            "shared, rank {rank} of level {stones}"
+        );
+    }
+    let above = Board::new([1, 0, 0, 0, 0, 0, 1, 0, 0, 0, 0, 0]);
+    let refusal = NotYet { levels: 2 };
+    assert_eq!(rt; shelf.entry(&above), Err(refusal));
+    assert_eq!(rt; refusal.number(), 59);
+    Ok(())
+}
+
+#[test]
+fn keeps_a_vector_as_entries(rt: HostRuntime) -> Result<(), Fail> {
+    let entries = Entries::from(level_1().to_vec(rt.alloc())?);
+    assert!(rt; !entries.is_empty());
+    assert_eq!(rt; entries.len(), 12);
+    assert_eq!(rt; entries.at(6), entry(-1, Some(5), 1));
+    assert_eq!(rt; entries.as_slice(), level_1().as_slice());
+    assert_eq!(rt; entries.into_vec().as_slice(), level_1().as_slice());
+    Ok(())
+}
+
+#[test]
+fn refuses_another_level_or_size(rt: HostRuntime) -> Result<(), Fail> {
+    let shelf = Shelf::empty();
+    let fault = verify(&shelf, image(rt.alloc(), 1, 1, &level_1())?).err();
+    assert_eq!(rt; fault, Some(VerifyFault::WrongLevel));
+    assert_eq!(rt; VerifyFault::WrongLevel.number(), 20);
+    let fault = verify(&shelf, image(rt.alloc(), 0, 0, &[])?).err();
+    assert_eq!(rt; fault, Some(VerifyFault::WrongSize));
+    assert_eq!(rt; VerifyFault::WrongSize.number(), 21);
+    Ok(())
+}
+
+#[test]
+fn refuses_wrong_entries_of_level_1(rt: HostRuntime) -> Result<(), Fail> {
+    let mut shelf = Shelf::empty();
+    let level = verify(&shelf, image(rt.alloc(), 0, 0, &level_0())?)?;
+    shelf.push(Arc::new(rt.alloc(), level)?);
+    for (place, wrong, limit, fault) in [
+        (0, entry(-2, None, 0), 1, refused(0, Rule::V1)),
+        (6, entry(-1, Some(6), 1), 1, refused(6, Rule::V1)),
+        (10, entry(1, None, 1), 1, refused(10, Rule::V2)),
+        (10, entry(1, Some(1), 0), 1, refused(10, Rule::V2)),
+        (6, entry(-1, Some(4), 1), 1, refused(6, Rule::V3)),
+        // The value of rank 11 is looked at from rank 6 first. It is -128, and rank 6 may gain 128.
+        (11, entry(-128, None, 0), 1, refused(6, Rule::V4)),
+        (6, entry(1, Some(5), 1), 1, refused(6, Rule::V5)),
+        (6, entry(-1, Some(5), 0), 1, refused(6, Rule::V6)),
+        (6, entry(-1, Some(5), 1), 2, refused(0, Rule::V7)),
+        (6, entry(-1, Some(5), 2), 2, None),
+        (6, entry(-1, Some(5), u32::MAX), u32::MAX, None),
+    ] {
+        let mut entries = level_1();
+        if let Some(slot) = entries.get_mut(place) {
+            *slot = wrong;
+        }
+        let answer = verify(&shelf, image(rt.alloc(), 1, limit, &entries)?).err();
+        assert_eq!(rt; answer, fault, "{wrong:?} at rank {place}");
+    }
+    Ok(())
+}
+
+#[test]
+fn refuses_wrong_entries_of_level_2(rt: HostRuntime) -> Result<(), Fail> {
+    let shelf = two_levels(rt.alloc())?;
+    for (wrong, fault) in [
+        (entry(2, Some(0), 1), refused(71, Rule::V5)),
+        (entry(-2, Some(0), 1), refused(71, Rule::V4)),
+    ] {
+        let mut entries = level_2(rt.alloc())?;
+        if let Some(slot) = entries.get_mut(71) {
+            *slot = wrong;
+        }
+        let answer = verify(&shelf, image(rt.alloc(), 2, 9, &entries)?).err();
+        assert_eq!(rt; answer, fault, "{wrong:?} at rank 71");
+    }
+    let falling = false_circle(rt.alloc(), None)?;
+    let answer = verify(&shelf, image(rt.alloc(), 2, 12, &falling)?).err();
+    assert_eq!(rt; answer, refused(72, Rule::V6));
+    let equal = false_circle(rt.alloc(), Some(5))?;
+    let answer = verify(&shelf, image(rt.alloc(), 2, 9, &equal)?).err();
+    assert_eq!(rt; answer, refused(21, Rule::V6));
+    Ok(())
+}
+
+#[test]
+fn takes_the_greatest_distance_as_limit(rt: HostRuntime) -> Result<(), Fail> {
+    let shelf = two_levels(rt.alloc())?;
+    let mut entries = level_2(rt.alloc())?;
+    for limit in [8, 10] {
+        let answer = verify(&shelf, image(rt.alloc(), 2, limit, &entries)?).err();
+        assert_eq!(rt; answer, refused(0, Rule::V7), "limit {limit}");
+    }
+    // Distances need not be the least.
+    for slot in entries.iter_mut() {
+        slot.dist = slot.dist.saturating_mul(2);
+    }
+    let level = verify(&shelf, image(rt.alloc(), 2, 18, &entries)?)?;
+    assert_eq!(rt; level.limit(), 18);
+    Ok(())
+}
+
+#[test]
+fn prints_rules_and_faults(rt: HostRuntime) -> Result<(), Fail> {
+    let rules = [
+        Rule::V1,
+        Rule::V2,
+        Rule::V3,
+        Rule::V4,
+        Rule::V5,
+        Rule::V6,
+        Rule::V7,
+    ];
+    let mut text = String::new(rt.alloc());
+    for rule in rules {
+        text.push_str(rule.to_string(rt.alloc())?.as_str())?;
+    }
+    assert_eq!(rt; text.as_str(), "V1V2V3V4V5V6V7");
+    let fault = VerifyFault::Refused {
+        rank: 72,
+        rule: Rule::V6,
+    };
+    assert_eq!(rt; fault.number(), 22);
+    assert_eq!(rt;
+        fault.to_string(rt.alloc())?.as_str(),
+        "the board of rank 72 breaks rule V6"
+    );
+    Ok(())
+}

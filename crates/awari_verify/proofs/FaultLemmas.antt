@@ -1,0 +1,119 @@
+-- At most one fault is due.
+use Rattle.std.proofs.Common.{◌≡◌, ℕ, ◌<◌, ◌≤◌, List, [], ◌∷◌, ◌++◌, sum, inl, inr, refl, sym, subst, ap, ◌∙◌, arith}
+use Rattle.std.proofs.lemmas.Bool.{cases_lt}
+use Rattle.awari_rank.specs.Rank.{size_of, rank_of}
+use Rattle.awari_rank.proofs.Ranking.{rank_fixes}
+use Rattle.awari_table.specs.Certificate.{Table}
+use Rattle.awari_table.specs.declared.images.Image.{Image}
+use Rattle.awari_table.specs.Images.{table_of}
+use Rattle.awari_verify.specs.declared.rules.Rule.{Rule}
+use Rattle.awari_verify.specs.declared.rules.Rule.TheVariants.{V1, V2, V3, V4, V5, V6, V7}
+use Rattle.awari_verify.specs.declared.verdicts.VerifyFault.{VerifyFault}
+use Rattle.awari_verify.specs.declared.verdicts.VerifyFault.TheVariants.{WrongLevel, WrongSize, Refused}
+use Rattle.awari_verify.specs.FirstFailure.{BreaksFirst, IsRefusal, RightBetween}
+use Rattle.awari_verify.specs.VerifyFault.{IsDue, IsShaped, IsWrongLimit}
+use Rattle.awari_verify.proofs.LevelLemmas.{wrong_from_breaks}
+
+-- a board has one first broken rule
+one_rule : (t : Table) (p : List ℕ) (r s : Rule) → BreaksFirst t p r → BreaksFirst t p s → r ≡ s
+one_rule t p V1 V1 a b = refl
+one_rule t p V1 V2 a b = absurd (a b.0)
+one_rule t p V1 V3 a b = absurd (a b.0)
+one_rule t p V1 V4 a b = absurd (a b.0)
+one_rule t p V1 V5 a b = absurd (a b.0)
+one_rule t p V1 V6 a b = absurd (a b.0)
+one_rule t p V2 V1 a b = absurd (b a.0)
+one_rule t p V2 V2 a b = refl
+one_rule t p V2 V3 a b = absurd (a.1 b.1)
+one_rule t p V2 V4 a b = absurd (a.1 b.1)
+one_rule t p V2 V5 a b = absurd (a.1 b.1)
+one_rule t p V2 V6 a b = absurd (a.1 b.1)
+one_rule t p V3 V1 a b = absurd (b a.0)
+one_rule t p V3 V2 a b = absurd (b.1 a.1)
+one_rule t p V3 V3 a b = refl
+one_rule t p V3 V4 a b = absurd (a.2 b.2)
+one_rule t p V3 V5 a b = absurd (a.2 b.2)
+one_rule t p V3 V6 a b = absurd (a.2 b.2)
+one_rule t p V4 V1 a b = absurd (b a.0)
+one_rule t p V4 V2 a b = absurd (b.1 a.1)
+one_rule t p V4 V3 a b = absurd (b.2 a.2)
+one_rule t p V4 V4 a b = refl
+one_rule t p V4 V5 a b = absurd (a.3 b.3)
+one_rule t p V4 V6 a b = absurd (a.3 b.3)
+one_rule t p V5 V1 a b = absurd (b a.0)
+one_rule t p V5 V2 a b = absurd (b.1 a.1)
+one_rule t p V5 V3 a b = absurd (b.2 a.2)
+one_rule t p V5 V4 a b = absurd (b.3 a.3)
+one_rule t p V5 V5 a b = refl
+one_rule t p V5 V6 a b = absurd (a.4 b.4)
+one_rule t p V6 V1 a b = absurd (b a.0)
+one_rule t p V6 V2 a b = absurd (b.1 a.1)
+one_rule t p V6 V3 a b = absurd (b.2 a.2)
+one_rule t p V6 V4 a b = absurd (b.3 a.3)
+one_rule t p V6 V5 a b = absurd (b.4 a.4)
+one_rule t p V6 V6 a b = refl
+one_rule t p V1 V7 a b = absurd b
+one_rule t p V2 V7 a b = absurd b
+one_rule t p V3 V7 a b = absurd b
+one_rule t p V4 V7 a b = absurd b
+one_rule t p V5 V7 a b = absurd b
+one_rule t p V6 V7 a b = absurd b
+one_rule t p V7 V1 a b = absurd a
+one_rule t p V7 V2 a b = absurd a
+one_rule t p V7 V3 a b = absurd a
+one_rule t p V7 V4 a b = absurd a
+one_rule t p V7 V5 a b = absurd a
+one_rule t p V7 V6 a b = absurd a
+one_rule t p V7 V7 a b = absurd a
+
+-- no board before a refused one is refused
+not_before : {t : Table} {level low high rank rank' : ℕ} {r r' : Rule} → IsRefusal t level low high rank r → IsRefusal t level low high rank' r' → rank < rank' → ⊥
+not_before {t} a b before =
+    let ranked = a.ranked in
+    let above = a.above in
+    wrong_from_breaks t a.board _ a.breaks (b.before a.board a.is_board a.stones (omega arith) (omega arith))
+
+same_rank : {t : Table} {level low high rank rank' : ℕ} {r r' : Rule} → IsRefusal t level low high rank r → IsRefusal t level low high rank' r' → rank ≡ rank'
+same_rank {rank = rank} {rank' = rank'} a b =
+    elim (cases_lt rank rank') [
+      | inl before ↦ absurd (not_before a b before)
+      | inr le ↦ elim (cases_lt rank' rank) [
+        | inl before ↦ absurd (not_before b a before)
+        | inr ge ↦ omega arith
+      ]
+    ]
+
+same_rule : {t : Table} {level low high rank rank' : ℕ} {r r' : Rule} → IsRefusal t level low high rank r → IsRefusal t level low high rank' r' → r ≡ r'
+same_rule {t} {r = r} {r' = r'} a b =
+    let ranks = same_rank a b in
+    let boards : b.board ≡ a.board
+    = rank_fixes b.board a.board b.is_board.pits a.is_board.pits (b.stones ∙ sym a.stones) (b.ranked ∙ sym ranks ∙ sym a.ranked)
+    in
+    one_rule t a.board r r' a.breaks (subst (λ (p : List ℕ). BreaksFirst t p r') boards b.breaks)
+
+-- where a board is refused, the limit is not looked at
+not_limit : {shelf : List Image} {image : Image} {rank rank' : ℕ} {r r' : Rule} → IsRefusal (table_of (shelf ++ image ∷ [])) image.level 0 (size_of image.level) rank r → IsWrongLimit shelf image rank' r' → ⊥
+not_limit {shelf} {image} a w =
+    let ranked = a.ranked in
+    let below = a.below in
+    wrong_from_breaks _ a.board _ a.breaks (w.right a.board a.is_board a.stones (omega arith) (omega arith))
+
+pub one_due : (shelf : List Image) (image : Image) (fault other : VerifyFault) → IsDue shelf image fault → IsDue shelf image other → fault ≡ other
+one_due shelf image WrongLevel WrongLevel a b = refl
+one_due shelf image WrongLevel WrongSize a b = absurd (a (b.0, b.1))
+one_due shelf image WrongLevel (Refused rank rule) a (shaped, b) = absurd (a (shaped.next, shaped.low))
+one_due shelf image WrongSize WrongLevel a b = absurd (b (a.0, a.1))
+one_due shelf image WrongSize WrongSize a b = refl
+one_due shelf image WrongSize (Refused rank rule) a (shaped, b) = absurd (a.2 shaped.sized)
+one_due shelf image (Refused rank rule) WrongLevel (shaped, a) b = absurd (b (shaped.next, shaped.low))
+one_due shelf image (Refused rank rule) WrongSize (shaped, a) b = absurd (b.2 shaped.sized)
+one_due shelf image (Refused rank rule) (Refused rank' rule') (_, inl a) (_, inl b) =
+    let ranks = same_rank a b in
+    let rules = same_rule a b in
+    cc
+one_due shelf image (Refused rank rule) (Refused rank' rule') (_, inl a) (_, inr b) = absurd (not_limit a b)
+one_due shelf image (Refused rank rule) (Refused rank' rule') (_, inr a) (_, inl b) = absurd (not_limit b a)
+one_due shelf image (Refused rank rule) (Refused rank' rule') (_, inr a) (_, inr b) =
+    let ranks = a.at_0 ∙ sym b.at_0 in
+    let rules = a.named ∙ sym b.named in
+    cc

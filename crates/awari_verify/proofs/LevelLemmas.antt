@@ -1,0 +1,91 @@
+-- Ranks one after another, and faults.
+use Rattle.std.proofs.Common.{◌≡◌, ℕ, ◌+◌, ◌<◌, ◌≤◌, List, [], ◌∷◌, ◌++◌, length, get_or, sum, inl, inr, sym, subst, refl, ap, ◌∙◌, arith, All}
+use Rattle.std.proofs.lemmas.List.{get_or_default}
+use Rattle.awari_table.specs.declared.images.Entry.{Entry}
+use Rattle.std.proofs.lemmas.Bool.{cases_lt}
+use Rattle.std.proofs.Math.Seq.{get_or-append_seam}
+use Rattle.awari_board.specs.Rules.{IsBoard}
+use Rattle.awari_table.specs.Certificate.{Table, IsRight}
+use Rattle.awari_rank.specs.Rank.{size_of, rank_of}
+use Rattle.awari_rank.proofs.Ranking.{rank_of-below, rank_fixes}
+use Rattle.awari_rank.proofs.Reaching.{board_reached}
+use Rattle.awari_table.specs.declared.images.Image.{Image}
+use Rattle.awari_table.specs.Images.{HasOwnPlan, no_image, no_entry, entry_of, table_of, greatest_dist}
+use Rattle.awari_table.specs.Shelves.{Consistent}
+use Rattle.awari_verify.specs.declared.rules.Rule.{Rule}
+use Rattle.awari_verify.specs.declared.rules.Rule.TheVariants.{V1, V2, V3, V4, V5, V6, V7}
+use Rattle.awari_verify.specs.declared.verdicts.VerifyFault.{VerifyFault}
+use Rattle.awari_verify.specs.declared.verdicts.VerifyFault.TheVariants.{WrongLevel, WrongSize, Refused}
+use Rattle.awari_verify.specs.FirstFailure.{BreaksFirst, RightBetween}
+use Rattle.awari_verify.specs.VerifyFault.{IsShaped, IsDue}
+
+-- the entry at a rank is that of the board of that rank
+pub entry_of-rank : (levels : List Image) (image : Image) (p : List ℕ) (rank : ℕ) → sum p ≡ length levels → rank_of p ≡ rank → entry_of (levels ++ image ∷ []) p ≡ get_or image.entries rank no_entry
+unfolding entry_of
+entry_of-rank levels image p rank top ranked = rw (top, get_or-append_seam levels image [] no_image, ranked) refl
+
+-- a right board has an own plan, which is that of the entry at its rank
+pub HasOwnPlan-top : (levels : List Image) (image : Image) (p : List ℕ) (rank : ℕ) → sum p ≡ length levels → rank_of p ≡ rank → IsRight (table_of (levels ++ image ∷ [])) p → HasOwnPlan (get_or image.entries rank no_entry)
+HasOwnPlan-top levels image p rank top ranked right =
+    subst (λ (e : Entry). HasOwnPlan e) (entry_of-rank levels image p rank top ranked) right.in_range.2
+
+-- where every board is right, every plan is an own pit
+pub plans_from_right : (levels : List Image) (image : Image) → IsShaped levels image
+    → RightBetween (table_of (levels ++ image ∷ [])) image.level 0 (size_of image.level) → All HasOwnPlan image.entries
+plans_from_right levels image shaped right k d lt =
+    let sized = shaped.sized in
+    let low = shaped.low in
+    let within : k < size_of image.level = omega arith in
+    let at = board_reached image.level k (omega arith) within in
+    let ranked = at.3 in
+    rw (get_or_default image.entries k d no_entry lt)
+    (HasOwnPlan-top levels image at.0 k (at.2 ∙ shaped.next) at.3 (right at.0 at.1 at.2 (omega arith) (omega arith)))
+
+-- an image in which every board is right, and the limit, is consistent
+pub Consistent-right : (levels : List Image) (image : Image) → IsShaped levels image
+    → RightBetween (table_of (levels ++ image ∷ [])) image.level 0 (size_of image.level) → image.limit ≡ greatest_dist image.entries → Consistent levels image
+Consistent-right levels image shaped right limited = record {
+  next = shaped.next;
+  low = shaped.low;
+  sized = shaped.sized;
+  right = λ p board stones. right p board stones (omega arith) (omega (arith, rank_of-below p board.pits, ap size_of stones));
+  limited = limited;
+}
+
+-- a board that breaks a rule is not right
+pub wrong_from_breaks : (t : Table) (p : List ℕ) (rule : Rule) → BreaksFirst t p rule → IsRight t p → ⊥
+wrong_from_breaks t p V1 b r = b r.in_range
+wrong_from_breaks t p V2 b r = b.1 r.ends
+wrong_from_breaks t p V3 b r = b.2 r.has_plan
+wrong_from_breaks t p V4 b r = b.3 r.no_more
+wrong_from_breaks t p V5 b r = b.4 r.plan_gains
+wrong_from_breaks t p V6 b r = b.5 r.falls
+wrong_from_breaks t p V7 b r = b
+
+-- an image with a fault is not consistent
+pub inconsistent_from_fault : (shelf : List Image) (image : Image) (fault : VerifyFault) → IsDue shelf image fault → Consistent shelf image → ⊥
+inconsistent_from_fault shelf image WrongLevel f c = f (c.next, c.low)
+inconsistent_from_fault shelf image WrongSize f c = f.2 c.sized
+inconsistent_from_fault shelf image (Refused rank rule) f c =
+    elim f.1 [
+      | inl refusal ↦ wrong_from_breaks _ refusal.board rule refusal.breaks (c.right refusal.board refusal.is_board refusal.stones)
+      | inr limit ↦ limit.wrong c.limited
+    ]
+
+-- no rank
+pub RightBetween-none : (t : Table) (level low : ℕ) → RightBetween t level low low
+RightBetween-none t level low = λ p b s ge lt. absurd (omega arith)
+
+-- one rank more
+pub RightBetween-more : (t : Table) (level low rank : ℕ) (board : List ℕ) → IsBoard board → sum board ≡ level → rank_of board ≡ rank → RightBetween t level low rank → IsRight t board → RightBetween t level low (rank + 1)
+RightBetween-more t level low rank board is stones ranked between right = λ p b s ge lt.
+    elim (cases_lt (rank_of p) rank) [
+      | inl before ↦ between p b s ge before
+      | inr here ↦ subst (λ (q : List ℕ). IsRight t q) (rank_fixes board p is.pits b.pits (stones ∙ sym s) (omega arith)) right
+    ]
+
+-- after the last rank there is none
+pub RightBetween-last : (t : Table) (level low rank high : ℕ) (board : List ℕ) → IsBoard board → sum board ≡ level → rank_of board ≡ rank → RightBetween t level low rank → IsRight t board
+    → rank_of board + 1 ≡ size_of (sum board) → high ≤ size_of level → RightBetween t level low high
+RightBetween-last t level low rank high board is stones ranked between right last within = λ p b s ge lt.
+    RightBetween-more t level low rank board is stones ranked between right p b s ge (omega (arith, ap size_of stones))

@@ -1,0 +1,4 @@
+pub mod EntryLemmas
+pub mod SightLemmas
+pub mod LevelLemmas
+pub mod FaultLemmas

@@ -1,0 +1,9 @@
+use Rattle.awari_verify.proofs.FaultLemmas.{one_due}
+use Rattle.awari_verify.proofs.LevelLemmas.{inconsistent_from_fault}
+use Rattle.awari_verify.proofs.laws.one_fault_is_due.Goals as goal
+
+pub returns-clause-one : goal.returns-clause-one
+returns-clause-one c = one_due
+
+pub returns-clause-none : goal.returns-clause-none
+returns-clause-none c = inconsistent_from_fault

@@ -1,0 +1,33 @@
+-- The first board of a level that breaks a rule, and the first rule that it breaks.
+use Rattle.std.specs.Prelude.{◌≡◌, ℕ, ◌<◌, ◌≤◌, List, sum}
+use Rattle.awari_board.specs.Rules.{IsBoard}
+use Rattle.awari_rank.specs.Rank.{rank_of}
+use Rattle.awari_table.specs.Certificate.{Table, InRange, EndIsRight, HasPlan, NoMoveGainsMore, PlanGains, DistancesFall, IsRight}
+use Rattle.awari_verify.specs.declared.rules.Rule.{Rule}
+use Rattle.awari_verify.specs.declared.rules.Rule.TheVariants.{V1, V2, V3, V4, V5, V6, V7}
+
+-- the board keeps the rules before this one, and breaks this one
+abbrev pub BreaksFirst : Table → List ℕ → Rule → Type 0
+BreaksFirst t p V1 = InRange t p → ⊥
+BreaksFirst t p V2 = InRange t p × (EndIsRight t p → ⊥)
+BreaksFirst t p V3 = InRange t p × EndIsRight t p × (HasPlan t p → ⊥)
+BreaksFirst t p V4 = InRange t p × EndIsRight t p × HasPlan t p × (NoMoveGainsMore t p → ⊥)
+BreaksFirst t p V5 = InRange t p × EndIsRight t p × HasPlan t p × NoMoveGainsMore t p × (PlanGains t p → ⊥)
+BreaksFirst t p V6 = InRange t p × EndIsRight t p × HasPlan t p × NoMoveGainsMore t p × PlanGains t p × (DistancesFall t p → ⊥)
+BreaksFirst t p V7 = ⊥
+
+-- the boards of the level are right, from one rank up to another
+abbrev pub RightBetween : Table → ℕ → ℕ → ℕ → Type 0
+RightBetween t level low high = (p : List ℕ) → IsBoard p → sum p ≡ level → low ≤ rank_of p → rank_of p < high → IsRight t p
+
+-- Of the boards from rank low up to rank high, the one of this rank is the first that breaks a rule, and this is the first rule
+-- that it breaks.
+pub record IsRefusal (t : Table) (level low high rank : ℕ) (rule : Rule) : Type 0 where
+  pub above : low ≤ rank
+  pub below : rank < high
+  pub before : RightBetween t level low rank
+  pub board : List ℕ
+  pub is_board : IsBoard board
+  pub stones : sum board ≡ level
+  pub ranked : rank_of board ≡ rank
+  pub breaks : BreaksFirst t board rule

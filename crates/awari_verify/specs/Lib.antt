@@ -1,0 +1,4 @@
+pub mod Sights
+pub mod Rule
+pub mod FirstFailure
+pub mod VerifyFault

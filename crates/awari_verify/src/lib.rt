@@ -1,0 +1,12 @@
+//! Says whether an image may stand as the next level of a shelf, and else which rule fails first.
+#![tactic(auto)]
+
+mod laws;
+mod rules;
+mod search;
+mod sights;
+mod verdicts;
+
+pub use laws::one_fault_is_due;
+pub use rules::Rule;
+pub use verdicts::{VerifyFault, verify};

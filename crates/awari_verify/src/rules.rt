@@ -1,0 +1,218 @@
+// The rules of a table, judged of what was seen of one board.
+ghost use Rattle.std.specs.Prelude.{◌≡◌, ◌↔◌, ℕ, List, IsTrue, MatchOption};
+ghost use Rattle.awari_table.specs.Certificate.{Table, IsRight};
+ghost use Rattle.awari_verify.specs.Sights.{Sees, planned_of, gain_of, IsNearer, KeepsRange, KeepsEnd, KeepsPlan, KeepsGain, KeepsPlanGain, KeepsEven, KeepsUneven, KeepsWinning, KeepsLosing, KeepsDistance};
+ghost use Rattle.awari_verify.specs.FirstFailure.{BreaksFirst};
+
+use awari_table::Entry;
+use std::fmt;
+
+/// The pits of the player to move.
+const SIDE: u8 = 6;
+
+/// The rules of a table, in the order in which they are judged. V1 to V6 are judged of each board,
+/// and V7 of the image as a whole. Printed, a rule is its name.
+#[derive(Clone, Copy, Debug, PartialEq, Eq)]
+pub enum Rule {
+    /// The value is within the stones on the board, and the plan is absent or 0 to 5.
+    V1,
+    /// An ended board has its gain, no plan, and distance 0.
+    V2,
+    /// Any other board has a legal plan.
+    V3,
+    /// No move gains more than the value.
+    V4,
+    /// The plan gains the value.
+    V5,
+    /// Distances fall: value 0 has distance 0, any other board that is not ended at least 1, the
+    /// plan of a positive board captures or goes to a smaller distance, and every quiet move of a
+    /// negative board goes to a smaller distance.
+    V6,
+    /// The limit is the greatest distance.
+    V7,
+}
+
+impl fmt::Display for Rule {
+    ghost use Rattle.std.specs.Prelude.{Some};
+    ghost use Rattle.awari_verify.specs.Rule.{rule_name};
+
+    ghost output = { λ rule. Some (rule_name rule) };
+
+    fn fmt<W: fmt::Write>(&self, f: &mut fmt::Formatter<W>) -> fmt::Result {
+        f.write_str(match self {
+            Rule::V1 => "V1",
+            Rule::V2 => "V2",
+            Rule::V3 => "V3",
+            Rule::V4 => "V4",
+            Rule::V5 => "V5",
+            Rule::V6 => "V6",
+            Rule::V7 => "V7",
+        })
+    }
+}
+
+/// A legal move: the stones it captures, and the entry of the board that it leaves.
+#[derive(Clone, Copy)]
+pub struct Reached {
+    pub captured: u8,
+    pub entry: Entry,
+}
+
+/// All that the rules ask of a board.
+#[derive(Clone, Copy)]
+pub struct Seen {
+    /// The stones on the board.
+    pub stones: u8,
+    pub entry: Entry,
+    /// The mover's gain where the board is ended.
+    pub end: Option<i8>,
+    /// The move of each own pit, none where it is not legal.
+    pub moves: [Option<Reached>; 6],
+}
+
+/// The first of V1 to V6 that the board breaks.
+pub fn first_broken_rule(seen: &Seen) -> Option<Rule>
+    ensures { (t : Table) (p : List ℕ) → Sees t p seen.now → MatchOption result (IsRight t p) (BreaksFirst t p) }
+{
+    if !keeps_range(seen) {
+        return Some(Rule::V1);
+    }
+    if !keeps_end(seen) {
+        return Some(Rule::V2);
+    }
+    if !keeps_plan(seen) {
+        return Some(Rule::V3);
+    }
+    if !keeps_gain(seen) {
+        return Some(Rule::V4);
+    }
+    if !keeps_plan_gain(seen) {
+        return Some(Rule::V5);
+    }
+    if !keeps_distance(seen) {
+        return Some(Rule::V6);
+    }
+    None
+}
+
+fn keeps_range(seen: &Seen) -> bool
+    ensures { IsTrue result ↔ KeepsRange seen.now }
+{
+    // An unchecked value may be -128, whose opposite is no i8.
+    let stones = i16::from(seen.stones);
+    let value = i16::from(seen.entry.value);
+    if value < -stones || stones < value {
+        return false;
+    }
+    match seen.entry.plan {
+        Some(pit) => pit < SIDE,
+        None => true,
+    }
+}
+
+fn keeps_end(seen: &Seen) -> bool
+    ensures { IsTrue result ↔ KeepsEnd seen.now }
+{
+    match seen.end {
+        Some(gain) => seen.entry.value == gain && seen.entry.plan.is_none() && seen.entry.dist == 0,
+        None => true,
+    }
+}
+
+fn keeps_plan(seen: &Seen) -> bool
+    ensures { IsTrue result ↔ KeepsPlan seen.now }
+{
+    seen.end.is_some() || planned(seen).is_some()
+}
+
+fn keeps_gain(seen: &Seen) -> bool
+    ensures { IsTrue result ↔ KeepsGain seen.now }
+{
+    for reached in &seen.moves {
+        if let Some(reached) = reached {
+            if i16::from(seen.entry.value) < gain_of(reached) {
+                return false;
+            }
+        }
+    }
+    true
+}
+
+fn keeps_plan_gain(seen: &Seen) -> bool
+    ensures { IsTrue result ↔ KeepsPlanGain seen.now }
+{
+    match planned(seen) {
+        Some(reached) => gain_of(&reached) == i16::from(seen.entry.value),
+        None => true,
+    }
+}
+
+fn keeps_distance(seen: &Seen) -> bool
+    ensures { IsTrue result ↔ KeepsDistance seen.now }
+{
+    keeps_even(seen) && keeps_uneven(seen) && keeps_winning(seen) && keeps_losing(seen)
+}
+
+fn keeps_even(seen: &Seen) -> bool
+    ensures { IsTrue result ↔ KeepsEven seen.now }
+{
+    seen.entry.value != 0 || seen.entry.dist == 0
+}
+
+fn keeps_uneven(seen: &Seen) -> bool
+    ensures { IsTrue result ↔ KeepsUneven seen.now }
+{
+    seen.end.is_some() || seen.entry.value == 0 || seen.entry.dist > 0
+}
+
+fn keeps_winning(seen: &Seen) -> bool
+    ensures { IsTrue result ↔ KeepsWinning seen.now }
+{
+    if seen.entry.value <= 0 {
+        return true;
+    }
+    match planned(seen) {
+        Some(reached) => is_nearer(&reached, seen.entry.dist),
+        None => true,
+    }
+}
+
+fn keeps_losing(seen: &Seen) -> bool
+    ensures { IsTrue result ↔ KeepsLosing seen.now }
+{
+    if seen.entry.value >= 0 {
+        return true;
+    }
+    for reached in &seen.moves {
+        if let Some(reached) = reached {
+            if !is_nearer(reached, seen.entry.dist) {
+                return false;
+            }
+        }
+    }
+    true
+}
+
+/// The plan's move, if the plan is legal.
+fn planned(seen: &Seen) -> Option<Reached>
+    ensures { result ≡ planned_of seen.now }
+{
+    match seen.entry.plan {
+        Some(pit) if pit < SIDE => seen.moves[pit as usize],
+        _ => None,
+    }
+}
+
+/// What the mover gains by the move.
+fn gain_of(reached: &Reached) -> i16
+    ensures { result ≡ gain_of reached.now }
+{
+    i16::from(reached.captured) - i16::from(reached.entry.value)
+}
+
+/// Whether the move captures, or leads to a board of a smaller distance.
+fn is_nearer(reached: &Reached, dist: u32) -> bool
+    ensures { IsTrue result ↔ IsNearer reached.now dist }
+{
+    reached.captured > 0 || reached.entry.dist < dist
+}

@@ -1,0 +1,47 @@
+// The first board of a level that breaks a rule.
+ghost use Rattle.std.specs.Prelude.{◌≡◌, ◌≤◌, [], ◌∷◌, ◌++◌, MatchOption};
+ghost use Rattle.awari_rank.specs.Rank.{size_of};
+ghost use Rattle.awari_table.specs.Images.{table_of};
+ghost use Rattle.awari_verify.specs.VerifyFault.{IsShaped};
+ghost use Rattle.awari_verify.specs.FirstFailure.{RightBetween, IsRefusal};
+
+use crate::rules::{Rule, first_broken_rule};
+use crate::sights::seen_at;
+use awari_rank::{successor, unrank};
+use awari_table::{Image, Shelf};
+
+/// A board that breaks a rule, by its rank, and the first rule that it breaks.
+#[derive(Clone, Copy)]
+pub struct Refusal {
+    pub rank: u32,
+    pub rule: Rule,
+}
+
+/// The first refusal among the boards from rank `low` up to, not including, rank `high`.
+///
+/// Only the first board is found by its rank: each other is the successor of the one before, which
+/// takes far less time.
+pub fn refusal_between(shelf: &Shelf, image: &Image, low: u32, high: u32) -> Option<Refusal>
+    requires shaped { IsShaped shelf.now image.now }
+    requires order { low ≤ high }
+    requires within { high ≤ size_of image.now.level }
+    ensures { MatchOption result
+        (RightBetween (table_of (shelf.now ++ image.now ∷ [])) image.now.level low high)
+        (λ r. IsRefusal (table_of (shelf.now ++ image.now ∷ [])) image.now.level low high r.rank r.rule) }
+{
+    if low == high {
+        return None;
+    }
+    let mut board = unrank(image.level, low);
+    for rank in low..high {
+        match first_broken_rule(&seen_at(shelf, image, &board, rank)) {
+            Some(rule) => return Some(Refusal { rank, rule }),
+            None => {}
+        }
+        match successor(&board) {
+            Some(next) => board = next,
+            None => return None,
+        }
+    }
+    None
+}

@@ -1,0 +1,114 @@
+// Whether an image may stand as the next level of a shelf.
+ghost use Rattle.std.specs.Prelude.{◌≡◌, ◌↔◌, [], ◌∷◌, ◌++◌, IsOk, IfOk, IfErr, MatchOption};
+ghost use Rattle.awari_rank.specs.Rank.{size_of};
+ghost use Rattle.awari_table.specs.Images.{table_of, greatest_dist};
+ghost use Rattle.awari_table.specs.Shelves.{Consistent};
+ghost use Rattle.awari_verify.specs.FirstFailure.{RightBetween, IsRefusal};
+ghost use Rattle.awari_verify.specs.VerifyFault.{IsShaped, IsDue};
+
+use crate::rules::Rule;
+use crate::search::{Refusal, refusal_between};
+use awari_rank::size;
+use awari_table::{Entry, HIGHEST_LEVEL, Image, Level, Shelf};
+use thiserror::Error;
+
+/// Why an image is not the next level of a shelf. A fault is looked for only where those before it
+/// are not due.
+#[derive(Clone, Copy, Debug, PartialEq, Eq, Error)]
+pub enum VerifyFault {
+    /// 20: the image is not of the shelf's next level, or of one above the highest.
+    #[error("the image is not of the shelf's next level")]
+    WrongLevel,
+    /// 21: the image has more entries, or fewer, than its level has boards.
+    #[error("the image does not have an entry for each board")]
+    WrongSize,
+    /// 22: the board of this rank is the first that breaks a rule, and this is the first rule that
+    /// it breaks. Where each board keeps V1 to V6 and the limit is wrong, rank 0 and V7.
+    #[error("the board of rank {rank} breaks rule {rule}")]
+    Refused { rank: u32, rule: Rule },
+}
+
+impl VerifyFault {
+    ghost use Rattle.awari_verify.specs.VerifyFault.{number_of};
+
+    /// The number of this refusal, 20 to 22.
+    pub fn number(&self) -> u8
+        ensures { result ≡ number_of self.now }
+    {
+        match self {
+            VerifyFault::WrongLevel => 20,
+            VerifyFault::WrongSize => 21,
+            VerifyFault::Refused { .. } => 22,
+        }
+    }
+}
+
+/// The image as a level, if it is consistent over the shelf: of its next level, with an entry for
+/// each board, with each board right by the table of the shelf with the image on top, and with the
+/// greatest distance as its limit. Otherwise it is refused as 20, 21 or 22, and dropped.
+///
+/// It goes over the boards in order of rank, and takes no memory.
+pub fn verify(shelf: &Shelf, image: Image) -> Result<Level, VerifyFault>
+    ensures ok { IsOk result ↔ Consistent shelf.now image }
+    ensures level { IfOk result (λ level. level ≡ image) }
+    ensures fault { IfErr result (IsDue shelf.now image) }
+{
+    match boards_of(shelf, &image) {
+        Ok(boards) => {
+            let refusal = refusal_between(shelf, &image, 0, boards);
+            judged(shelf, image, refusal)
+        }
+        Err(fault) => Err(fault),
+    }
+}
+
+/// The number of boards, if the image is of the shelf's next level and has an entry for each.
+fn boards_of(shelf: &Shelf, image: &Image) -> Result<u32, VerifyFault>
+    ensures ok { IfOk result (λ n. IsShaped shelf.now image.now × (n ≡ size_of image.now.level)) }
+    ensures err { IfErr result (IsDue shelf.now image.now) }
+{
+    if image.level != shelf.levels() || image.level > HIGHEST_LEVEL {
+        return Err(VerifyFault::WrongLevel);
+    }
+    let boards = size(image.level);
+    if image.entries.len() != boards as usize {
+        return Err(VerifyFault::WrongSize);
+    }
+    Ok(boards)
+}
+
+/// What is to be said of the image once its boards were looked at.
+fn judged(shelf: &Shelf, image: Image, refusal: Option<Refusal>) -> Result<Level, VerifyFault>
+    requires shaped { IsShaped shelf.now image }
+    requires sought { MatchOption refusal
+        (RightBetween (table_of (shelf.now ++ image ∷ [])) image.level 0 (size_of image.level))
+        (λ r. IsRefusal (table_of (shelf.now ++ image ∷ [])) image.level 0 (size_of image.level) r.rank r.rule) }
+    ensures ok { IsOk result ↔ Consistent shelf.now image }
+    ensures level { IfOk result (λ level. level ≡ image) }
+    ensures fault { IfErr result (IsDue shelf.now image) }
+{
+    match refusal {
+        Some(Refusal { rank, rule }) => Err(VerifyFault::Refused { rank, rule }),
+        None => {
+            if image.limit == greatest_dist(image.entries.as_slice()) {
+                Ok(Level::new(image))
+            } else {
+                Err(VerifyFault::Refused {
+                    rank: 0,
+                    rule: Rule::V7,
+                })
+            }
+        }
+    }
+}
+
+/// The greatest distance, 0 for none.
+fn greatest_dist(entries: &[Entry]) -> u32
+    ensures { result ≡ greatest_dist entries.now }
+{
+    let mut most = 0u32;
+    for entry in entries {
+        most = most.max(entry.dist);
+    }
+    most
+}
