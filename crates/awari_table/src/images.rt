@@ -6,8 +6,8 @@ use std::marker::Model;
 /// What a table says of one board, as its mover sees it.
 #[derive(Clone, Copy, Debug, PartialEq, Eq)]
 pub struct Entry {
-    /// The difference in stones that the mover can still secure: what both sides capture from here
-    /// on, and what the end of play gives.
+    /// The best difference in stones that the mover can still gain: what the mover captures from
+    /// here on, less what the opponent does, with what the end of play gives.
     pub value: i8,
     /// The mover's pit to play, 0 to 5, or none where the play has ended.
     pub plan: Option<u8>,
@@ -86,14 +86,17 @@ pub struct Image {
     pub level: u8,
     /// The greatest distance, in plies.
     pub limit: u32,
+    /// What is said of each board, in order of rank.
     pub entries: Entries,
 }
 
-/// How many boards of a level are won, even and lost for the mover: those of positive value, of
-/// value 0, and of negative value.
+/// How many boards of a level are won, even and lost for the mover.
 #[derive(Clone, Copy, Debug, PartialEq, Eq)]
 pub struct Counts {
+    /// Boards of positive value.
     pub won: u32,
+    /// Boards of value 0.
     pub even: u32,
+    /// Boards of negative value.
     pub lost: u32,
 }

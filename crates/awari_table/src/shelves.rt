@@ -18,10 +18,11 @@ use thiserror::Error;
 /// The levels from 0 to the highest.
 const SLOTS: usize = HIGHEST_LEVEL as usize + 1;
 
-/// The board has more stones than the levels of the shelf, which are those below `levels`.
+/// The board's level is not on the shelf.
 #[derive(Clone, Copy, Debug, PartialEq, Eq, Error)]
 #[error("only the levels below {levels} are there")]
 pub struct NotYet {
+    /// How many levels the shelf has: those below this number.
     pub levels: u8,
 }
 

@@ -1,18 +1,38 @@
 -- At most one fault is due.
-use Rattle.std.proofs.Common.{◌≡◌, ℕ, ◌<◌, ◌≤◌, List, [], ◌∷◌, ◌++◌, sum, inl, inr, refl, sym, subst, ap, ◌∙◌, arith}
+use Rattle.std.proofs.Common.{◌≡◌, ℕ, ◌<◌, List, [], ◌∷◌, ◌++◌, inl, inr, refl, sym, subst, ◌∙◌, arith}
 use Rattle.std.proofs.lemmas.Bool.{cases_lt}
-use Rattle.awari_rank.specs.Rank.{size_of, rank_of}
+use Rattle.awari_rank.specs.Rank.{size_of}
 use Rattle.awari_rank.proofs.Ranking.{rank_fixes}
-use Rattle.awari_table.specs.Certificate.{Table}
+use Rattle.awari_table.specs.Certificate.{Table, IsRight}
 use Rattle.awari_table.specs.declared.images.Image.{Image}
 use Rattle.awari_table.specs.Images.{table_of}
+use Rattle.awari_table.specs.Shelves.{Consistent}
 use Rattle.awari_verify.specs.declared.rules.Rule.{Rule}
 use Rattle.awari_verify.specs.declared.rules.Rule.TheVariants.{V1, V2, V3, V4, V5, V6, V7}
 use Rattle.awari_verify.specs.declared.verdicts.VerifyFault.{VerifyFault}
 use Rattle.awari_verify.specs.declared.verdicts.VerifyFault.TheVariants.{WrongLevel, WrongSize, Refused}
-use Rattle.awari_verify.specs.FirstFailure.{BreaksFirst, IsRefusal, RightBetween}
-use Rattle.awari_verify.specs.VerifyFault.{IsDue, IsShaped, IsWrongLimit}
-use Rattle.awari_verify.proofs.LevelLemmas.{wrong_from_breaks}
+use Rattle.awari_verify.specs.FirstFailure.{BreaksFirst, IsRefusal}
+use Rattle.awari_verify.specs.VerifyFault.{IsDue, IsWrongLimit}
+
+-- a board that breaks a rule is not right
+pub wrong_from_breaks : (t : Table) (p : List ℕ) (rule : Rule) → BreaksFirst t p rule → IsRight t p → ⊥
+wrong_from_breaks t p V1 b r = b r.in_range
+wrong_from_breaks t p V2 b r = b.1 r.ends
+wrong_from_breaks t p V3 b r = b.2 r.has_plan
+wrong_from_breaks t p V4 b r = b.3 r.no_more
+wrong_from_breaks t p V5 b r = b.4 r.plan_gains
+wrong_from_breaks t p V6 b r = b.5 r.falls
+wrong_from_breaks t p V7 b r = b
+
+-- an image with a fault is not consistent
+pub inconsistent_from_fault : (shelf : List Image) (image : Image) (fault : VerifyFault) → IsDue shelf image fault → Consistent shelf image → ⊥
+inconsistent_from_fault shelf image WrongLevel f c = f (c.next, c.low)
+inconsistent_from_fault shelf image WrongSize f c = f.2 c.sized
+inconsistent_from_fault shelf image (Refused rank rule) f c =
+    elim f.1 [
+      | inl refusal ↦ wrong_from_breaks _ refusal.board rule refusal.breaks (c.right refusal.board refusal.is_board refusal.stones)
+      | inr limit ↦ limit.wrong c.limited
+    ]
 
 -- a board has one first broken rule
 one_rule : (t : Table) (p : List ℕ) (r s : Rule) → BreaksFirst t p r → BreaksFirst t p s → r ≡ s

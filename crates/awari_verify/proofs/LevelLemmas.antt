@@ -12,12 +12,8 @@ use Rattle.awari_rank.proofs.Reaching.{board_reached}
 use Rattle.awari_table.specs.declared.images.Image.{Image}
 use Rattle.awari_table.specs.Images.{HasOwnPlan, no_image, no_entry, entry_of, table_of, greatest_dist}
 use Rattle.awari_table.specs.Shelves.{Consistent}
-use Rattle.awari_verify.specs.declared.rules.Rule.{Rule}
-use Rattle.awari_verify.specs.declared.rules.Rule.TheVariants.{V1, V2, V3, V4, V5, V6, V7}
-use Rattle.awari_verify.specs.declared.verdicts.VerifyFault.{VerifyFault}
-use Rattle.awari_verify.specs.declared.verdicts.VerifyFault.TheVariants.{WrongLevel, WrongSize, Refused}
-use Rattle.awari_verify.specs.FirstFailure.{BreaksFirst, RightBetween}
-use Rattle.awari_verify.specs.VerifyFault.{IsShaped, IsDue}
+use Rattle.awari_verify.specs.FirstFailure.{RightBetween}
+use Rattle.awari_verify.specs.VerifyFault.{IsShaped}
 
 -- the entry at a rank is that of the board of that rank
 pub entry_of-rank : (levels : List Image) (image : Image) (p : List ℕ) (rank : ℕ) → sum p ≡ length levels → rank_of p ≡ rank → entry_of (levels ++ image ∷ []) p ≡ get_or image.entries rank no_entry
@@ -51,26 +47,6 @@ Consistent-right levels image shaped right limited = record {
   right = λ p board stones. right p board stones (omega arith) (omega (arith, rank_of-below p board.pits, ap size_of stones));
   limited = limited;
 }
-
--- a board that breaks a rule is not right
-pub wrong_from_breaks : (t : Table) (p : List ℕ) (rule : Rule) → BreaksFirst t p rule → IsRight t p → ⊥
-wrong_from_breaks t p V1 b r = b r.in_range
-wrong_from_breaks t p V2 b r = b.1 r.ends
-wrong_from_breaks t p V3 b r = b.2 r.has_plan
-wrong_from_breaks t p V4 b r = b.3 r.no_more
-wrong_from_breaks t p V5 b r = b.4 r.plan_gains
-wrong_from_breaks t p V6 b r = b.5 r.falls
-wrong_from_breaks t p V7 b r = b
-
--- an image with a fault is not consistent
-pub inconsistent_from_fault : (shelf : List Image) (image : Image) (fault : VerifyFault) → IsDue shelf image fault → Consistent shelf image → ⊥
-inconsistent_from_fault shelf image WrongLevel f c = f (c.next, c.low)
-inconsistent_from_fault shelf image WrongSize f c = f.2 c.sized
-inconsistent_from_fault shelf image (Refused rank rule) f c =
-    elim f.1 [
-      | inl refusal ↦ wrong_from_breaks _ refusal.board rule refusal.breaks (c.right refusal.board refusal.is_board refusal.stones)
-      | inr limit ↦ limit.wrong c.limited
-    ]
 
 -- no rank
 pub RightBetween-none : (t : Table) (level low : ℕ) → RightBetween t level low low

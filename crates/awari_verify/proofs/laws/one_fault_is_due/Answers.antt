@@ -1,5 +1,4 @@
-use Rattle.awari_verify.proofs.FaultLemmas.{one_due}
-use Rattle.awari_verify.proofs.LevelLemmas.{inconsistent_from_fault}
+use Rattle.awari_verify.proofs.FaultLemmas.{inconsistent_from_fault, one_due}
 use Rattle.awari_verify.proofs.laws.one_fault_is_due.Goals as goal
 
 pub returns-clause-one : goal.returns-clause-one
