@@ -1,0 +1,116 @@
+//! Boards, moves and ranks.
+
+pub type Board = [u8; 12];
+
+/// C(n, k), by multiplication.
+fn choose(n: u64, k: u64) -> u64 {
+    (0..k).fold(1, |product, i| product * (n - i) / (i + 1))
+}
+
+/// At `[k][n]`, the ways to lay fewer than n stones in k pits.
+pub struct Ways([[u32; 26]; 12]);
+
+impl Ways {
+    pub fn new() -> Self {
+        let mut ways = [[0; 26]; 12];
+        for (k, row) in ways.iter_mut().enumerate() {
+            for (n, cell) in row.iter_mut().enumerate().skip(1) {
+                *cell = choose((n - 1 + k) as u64, k as u64) as u32;
+            }
+        }
+        Ways(ways)
+    }
+
+    pub fn size(&self, stones: usize) -> u32 {
+        self.0[11][stones + 1]
+    }
+
+    pub fn rank(&self, board: &Board) -> u32 {
+        let mut right: u8 = board.iter().sum();
+        let size = self.size(right as usize);
+        let mut larger = 0;
+        for i in 0..11 {
+            right -= board[i];
+            larger += self.0[11 - i][right as usize];
+        }
+        size - 1 - larger
+    }
+
+    pub fn unrank(&self, stones: usize, rank: u32) -> Board {
+        let mut larger = self.size(stones) - 1 - rank;
+        let mut left = stones;
+        let mut board = [0; 12];
+        for i in 0..11 {
+            let mut right = left;
+            while self.0[11 - i][right] > larger {
+                right -= 1;
+            }
+            larger -= self.0[11 - i][right];
+            board[i] = (left - right) as u8;
+            left = right;
+        }
+        board[11] = left as u8;
+        board
+    }
+}
+
+pub fn successor(board: &Board) -> Option<Board> {
+    let last = board.iter().rposition(|&stones| stones > 0)?;
+    if last == 0 {
+        return None;
+    }
+    let mut next = *board;
+    next[last] = 0;
+    next[last - 1] += 1;
+    next[11] = board[last] - 1;
+    Some(next)
+}
+
+/// The boards of a level, in order of rank.
+pub fn boards(stones: usize) -> impl Iterator<Item = Board> {
+    let mut first = [0; 12];
+    first[11] = stones as u8;
+    std::iter::successors(Some(first), successor)
+}
+
+/// The board after the move and the stones captured, if the move is legal.
+pub fn play(board: &Board, pit: usize) -> Option<(Board, u8)> {
+    let mut stones = board[pit];
+    let feeds = pit + stones as usize >= 6 || board[6..].iter().any(|&stones| stones > 0);
+    if stones == 0 || !feeds {
+        return None;
+    }
+    let mut pits = *board;
+    pits[pit] = 0;
+    let mut last = pit;
+    while stones > 0 {
+        last = (last + 1) % 12;
+        if last != pit {
+            pits[last] += 1;
+            stones -= 1;
+        }
+    }
+    let mut captured = 0;
+    let mut end = last + 1;
+    while end > 6 && (pits[end - 1] == 2 || pits[end - 1] == 3) {
+        end -= 1;
+        captured += pits[end];
+    }
+    if captured == pits[6..].iter().sum() {
+        captured = 0;
+    } else {
+        pits[end..=last].fill(0);
+    }
+    pits.rotate_left(6);
+    Some((pits, captured))
+}
+
+/// What the mover of a board with no legal move gains.
+pub fn gain_at_end(board: &Board) -> i16 {
+    let stones = board.iter().sum::<u8>() as i16;
+    if board[..6].iter().all(|&stones| stones == 0) {
+        -stones
+    } else {
+        stones
+    }
+}
