@@ -1,4 +1,5 @@
-// What is said of each board of a level, unchecked.
+//! What is said of each board of a level, unchecked.
+
 ghost use Rattle.std.specs.Prelude.{◌≡◌, ◌==◌, ◌<◌, Some, length, slice_get};
 
 use std::marker::Model;

@@ -1,4 +1,5 @@
-// What follows of a shelf.
+//! What follows of a shelf.
+
 ghost use Rattle.std.specs.Prelude.{ℕ, List, length, take};
 ghost use Rattle.awari_table.specs.declared.images.Image.{Image};
 ghost use Rattle.awari_table.specs.Certificate.{IsCertificate};

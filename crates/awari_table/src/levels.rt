@@ -1,4 +1,5 @@
-// A level with an entry for each board of its stones.
+//! A level with an entry for each board of its stones.
+
 ghost use Rattle.std.specs.Prelude.{◌≡◌, ◌<◌, Some, slice_get};
 ghost use Rattle.awari_rank.specs.Rank.{size_of};
 ghost use Rattle.awari_table.specs.Images.{IsLevel, won_boards, even_boards, lost_boards};

@@ -1,4 +1,5 @@
-// The levels that were verified, from the lowest on.
+//! The levels that were verified, from the lowest on.
+
 ghost use Rattle.std.specs.Prelude.{◌≡◌, ◌<◌, ◌+◌, ◌↔◌, [], ◌∷◌, ◌++◌, Some, IsOk, IfOk, IfErr, length, slice_get, sum};
 ghost use Rattle.std.specs.Arc.{arc_value};
 ghost use Rattle.awari_table.specs.Images.{entry_of, greatest_limit};

@@ -1,5 +1,5 @@
-// Tables of levels 0 to 2, right and wrong, put to the verifier. What each board of two stones is
-// worth was worked out by hand: none has more than one legal move.
+//! Tables of levels 0 to 2, right and wrong, put to the verifier. What each board of two stones is
+//! worth was worked out by hand: none has more than one legal move.
 
 use awari_board::Board;
 use awari_rank::{size, unrank};

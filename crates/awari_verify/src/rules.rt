@@ -1,4 +1,5 @@
-// The rules of a table, judged of what was seen of one board.
+//! The rules of a table, judged of what was seen of one board.
+
 ghost use Rattle.std.specs.Prelude.{◌≡◌, ◌↔◌, ℕ, List, IsTrue, MatchOption};
 ghost use Rattle.awari_table.specs.Certificate.{Table, IsRight};
 ghost use Rattle.awari_verify.specs.Sights.{Sees, planned_of, gain_of, IsNearer, KeepsRange, KeepsEnd, KeepsPlan, KeepsGain, KeepsPlanGain, KeepsEven, KeepsUneven, KeepsWinning, KeepsLosing, KeepsDistance};

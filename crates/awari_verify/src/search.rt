@@ -1,5 +1,6 @@
-// The first board of a level that breaks a rule.
-ghost use Rattle.std.specs.Prelude.{◌≡◌, ◌≤◌, [], ◌∷◌, ◌++◌, MatchOption};
+//! The first board of a level that breaks a rule.
+
+ghost use Rattle.std.specs.Prelude.{◌≤◌, [], ◌∷◌, ◌++◌, MatchOption};
 ghost use Rattle.awari_rank.specs.Rank.{size_of};
 ghost use Rattle.awari_table.specs.Images.{table_of};
 ghost use Rattle.awari_verify.specs.VerifyFault.{IsShaped};

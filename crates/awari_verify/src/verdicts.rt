@@ -1,4 +1,5 @@
-// Whether an image may stand as the next level of a shelf.
+//! Whether an image may stand as the next level of a shelf.
+
 ghost use Rattle.std.specs.Prelude.{◌≡◌, ◌↔◌, [], ◌∷◌, ◌++◌, IsOk, IfOk, IfErr, MatchOption};
 ghost use Rattle.awari_rank.specs.Rank.{size_of};
 ghost use Rattle.awari_table.specs.Images.{table_of, greatest_dist};
