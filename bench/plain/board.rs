@@ -74,6 +74,7 @@ pub fn boards(stones: usize) -> impl Iterator<Item = Board> {
 }
 
 /// The board after the move and the stones captured, if the move is legal.
+#[inline]
 pub fn play(board: &Board, pit: usize) -> Option<(Board, u8)> {
     let mut stones = board[pit];
     let feeds = pit + stones as usize >= 6 || board[6..].iter().any(|&stones| stones > 0);
@@ -96,10 +97,12 @@ pub fn play(board: &Board, pit: usize) -> Option<(Board, u8)> {
         end -= 1;
         captured += pits[end];
     }
-    if captured == pits[6..].iter().sum() {
-        captured = 0;
-    } else {
-        pits[end..=last].fill(0);
+    if captured > 0 {
+        if captured == pits[6..].iter().sum() {
+            captured = 0;
+        } else {
+            pits[end..=last].fill(0);
+        }
     }
     pits.rotate_left(6);
     Some((pits, captured))

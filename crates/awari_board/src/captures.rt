@@ -1,5 +1,5 @@
 //! Capturing, pit by pit backward.
-ghost use Rattle.std.specs.Prelude.{◌≡◌, ◌+◌, ◌<◌, ◌≤◌, length, sum};
+ghost use Rattle.std.specs.Prelude.{◌≡◌, ◌+◌, ◌<◌, ◌≤◌, ◌↔◌, [], false, length, sum};
 ghost use Rattle.awari_board.specs.Rules.{captured_pits, captured_stones, emptied, is_takeable, run};
 
 use crate::sides::{SIDE, other_stones};
@@ -13,6 +13,9 @@ pub fn capture(pits: &mut [u8; 12], last: u8) -> u8
     ensures emptied { pits.new ≡ emptied pits.old last (captured_pits pits.old last) }
     ensures kept { sum pits.new + result ≡ sum pits.old }
 {
+    if !ends_a_run(pits, last) {
+        return 0;
+    }
     let mut left = *pits;
     let captured = take_run(&mut left, last);
     if captured == other_stones(pits) {
@@ -20,6 +23,17 @@ pub fn capture(pits: &mut [u8; 12], last: u8) -> u8
     }
     *pits = left;
     captured
+}
+
+/// Whether the last stone fell into an opponent's pit that can be captured, as most don't.
+fn ends_a_run(pits: &[u8; 12], last: u8) -> bool
+    requires { last < 12 }
+    ensures { (result ≡ false) ↔ (run pits.now last ≡ []) }
+{
+    if last < SIDE {
+        return false;
+    }
+    is_takeable(pits[last as usize])
 }
 
 /// Empties the opponent's pits of two or three stones from `last` backward, and gives their stones.
