@@ -2,3 +2,8 @@ pub mod Certificate
 pub mod Images
 pub mod Shelves
 pub mod Slots
+pub mod Spelling
+pub mod TableFault
+pub mod Place
+pub mod Reading
+pub mod Blocks

@@ -1,10 +1,13 @@
-//! What follows of a shelf.
+//! What follows of a shelf, and of the text of a table.
 
-ghost use Rattle.std.specs.Prelude.{ℕ, List, length, take};
+ghost use Rattle.std.specs.Prelude.{◌≡◌, ◌≢◌, ◌++◌, ℕ, List, length, take};
 ghost use Rattle.awari_table.specs.declared.images.Image.{Image};
 ghost use Rattle.awari_table.specs.Certificate.{IsCertificate};
 ghost use Rattle.awari_table.specs.Images.{table_of, greatest_limit};
 ghost use Rattle.awari_table.specs.Shelves.{IsShelf};
+ghost use Rattle.awari_table.specs.declared.faults.TableFault.{TableFault};
+ghost use Rattle.awari_table.specs.Spelling.{block, table_text, IsImage, AreImages};
+ghost use Rattle.awari_table.specs.TableFault.{IsDueAt};
 
 /// The levels of a shelf are a certificate: every board of every level keeps the rules by the one
 /// table of all levels, and no distance is above the greatest limit.
@@ -16,4 +19,18 @@ pub fn shelves_are_certificates()
 /// above it.
 pub fn fronts_are_shelves()
     ensures { (levels : List Image) (n : ℕ) → IsShelf levels → IsShelf (take n levels) }
+{}
+
+/// A text has one reading: two lists of images with the same text are the same.
+pub fn texts_tell_images_apart()
+    ensures { (xs ys : List Image) → AreImages 0 xs → AreImages 0 ys → table_text xs ≡ table_text ys → xs ≡ ys }
+{}
+
+/// Want of memory aside, at most one fault is due, and none where an image of the level that is due
+/// stands.
+pub fn one_text_fault_is_due()
+    ensures one { (level line : ℕ) (bytes : List ℕ) (f g : TableFault) → f ≢ TableFault.Memory → g ≢ TableFault.Memory
+        → IsDueAt level line bytes f → IsDueAt level line bytes g → f ≡ g }
+    ensures none { (level line : ℕ) (image : Image) (rest bytes : List ℕ) (fault : TableFault) → fault ≢ TableFault.Memory
+        → IsImage level image → bytes ≡ block image ++ rest → IsDueAt level line bytes fault → ⊥ }
 {}

@@ -1,16 +1,24 @@
-//! Tables of Awari: what is known of each board of a level, and the shelf that holds the levels
-//! that were verified, from the lowest on.
+//! Tables of Awari: what is known of each board of a level, the shelf that holds the levels that
+//! were verified, from the lowest on, and the text that tables are spelled in.
 #![tactic(auto)]
 
+mod blocks;
+mod faults;
 mod images;
 mod laws;
 mod levels;
+mod lines;
 mod shelves;
+mod text;
 
+pub use faults::TableFault;
 pub use images::{Counts, Entries, Entry, Image};
-pub use laws::{fronts_are_shelves, shelves_are_certificates};
+pub use laws::{
+    fronts_are_shelves, one_text_fault_is_due, shelves_are_certificates, texts_tell_images_apart,
+};
 pub use levels::Level;
 pub use shelves::{NotYet, Shelf};
+pub use text::TableText;
 
 /// The highest level that a shelf may hold, in stones. Every bound on a level goes by this one.
 pub const HIGHEST_LEVEL: u8 = 12;

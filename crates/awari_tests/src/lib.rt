@@ -3,8 +3,12 @@
 #![tactic(auto)]
 
 #[cfg(test)]
+mod commands;
+#[cfg(test)]
 mod moves;
 #[cfg(test)]
 mod numbering;
 #[cfg(test)]
 mod tables;
+#[cfg(test)]
+mod texts;

@@ -1,0 +1,23 @@
+-- What is printed of an answer.
+use Rattle.std.proofs.Common.{◌≡◌, ◌∙◌, ℕ, List, ◌∷◌, [], ◌++◌, length, Option, Some, None, arith}
+use Rattle.std.specs.Prelude.{IfSome, codes}
+use Rattle.std.specs.Fmt.{decimal}
+use Rattle.std.specs.Io.KnownBytes.{Appends, Keeps}
+use Rattle.awari_table.specs.Images.{greatest_limit}
+use Rattle.awari_cli.specs.declared.answers.Answer.{Answer}
+use Rattle.awari_cli.specs.declared.answers.Answer.TheVariants.{Yes, Fault, Read}
+use Rattle.awari_cli.specs.Answer.{answer_text, status_of, IsAnswer}
+use Rattle.awari_cli.specs.Yes.{PrintsYes}
+
+pub printed_yes : (answer : Answer) (input before after : Option (List ℕ)) → IfSome input (λ bytes. IsAnswer bytes answer) → Appends before after (answer_text answer ++ 10 ∷ []) → status_of answer ≡ 0 → PrintsYes input before after
+printed_yes (Yes levels limit) None before after said written done = tt
+printed_yes (Yes levels limit) (Some bytes) before after said written done = (said.0, said.1, rw (said.2, said.3) at written)
+printed_yes (Fault fault) input before after said written done = absurd (omega arith)
+printed_yes Read input before after said written done = absurd (omega arith)
+
+-- what is written stays when the writer is flushed
+pub Appends-flushed : (before written after : Option (List ℕ)) (bytes : List ℕ) → Appends before written bytes → Keeps written after → Appends before after bytes
+Appends-flushed None written after bytes appends keeps = tt
+Appends-flushed (Some b) None after bytes appends keeps = absurd appends
+Appends-flushed (Some b) (Some w) None bytes appends keeps = absurd keeps
+Appends-flushed (Some b) (Some w) (Some a) bytes appends keeps = keeps ∙ appends

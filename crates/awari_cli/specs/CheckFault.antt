@@ -1,0 +1,32 @@
+-- Which bytes are the text of a shelf, and the first fault of those that are not.
+use Rattle.std.specs.Prelude.{◌≡◌, ◌≢◌, ℕ, ◌+◌, List, [], ◌++◌, length}
+use Rattle.awari_table.specs.declared.images.Image.{Image}
+use Rattle.awari_table.specs.Shelves.{IsShelf}
+use Rattle.awari_table.specs.Spelling.{block, table_text, line_count, IsImage, AreImages}
+use Rattle.awari_table.specs.TableFault.{IsDueAt}
+use Rattle.awari_verify.specs.VerifyFault.{IsDue}
+use Rattle.awari_cli.specs.declared.checks.CheckFault.{CheckFault}
+use Rattle.awari_cli.specs.declared.checks.CheckFault.TheVariants.{Table, Verify}
+
+-- the bytes are the text of these images, each of which is consistent over those before it
+pub record IsShelfText (bytes : List ℕ) (images : List Image) : Type 0 where
+  pub fits : AreImages 0 images
+  pub shelf : IsShelf images
+  pub parts : bytes ≡ table_text images
+
+-- The fault of the level that follows these images: one of its text; or the text is that of an image, and the image has a
+-- fault of rules over them.
+abbrev pub IsLevelFault : List Image → List ℕ → CheckFault → Type 0
+IsLevelFault images rest (Table fault) = IsDueAt (length images) (1 + line_count images) rest fault
+IsLevelFault images rest (Verify level fault) =
+    (level ≡ length images) × (image : Image) × (after : List ℕ) × IsImage (length images) image × (rest ≡ block image ++ after) × IsDue images image fault
+
+-- The first fault of the bytes: they begin with the text of a shelf, and the level that follows has the fault.
+pub record IsCheckFault (bytes : List ℕ) (fault : CheckFault) : Type 0 where
+  pub images : List Image
+  pub rest : List ℕ
+  pub fits : AreImages 0 images
+  pub shelf : IsShelf images
+  pub parts : bytes ≡ table_text images ++ rest
+  pub some : rest ≢ []
+  pub due : IsLevelFault images rest fault

@@ -1,0 +1,4 @@
+pub mod CheckFault
+pub mod Stops
+pub mod Answer
+pub mod Yes

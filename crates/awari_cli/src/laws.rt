@@ -1,0 +1,17 @@
+//! What follows of the faults of a check.
+
+ghost use Rattle.std.specs.Prelude.{◌≡◌, ◌≢◌, ℕ, List};
+ghost use Rattle.awari_table.specs.declared.images.Image.{Image};
+ghost use Rattle.awari_table.specs.declared.faults.TableFault.TheVariants.{Memory};
+ghost use Rattle.awari_cli.specs.declared.checks.CheckFault.{CheckFault};
+ghost use Rattle.awari_cli.specs.declared.checks.CheckFault.TheVariants.{Table};
+ghost use Rattle.awari_cli.specs.CheckFault.{IsShelfText, IsCheckFault};
+
+/// Want of memory aside, bytes have at most one first fault, and none where they are the text of
+/// tables that are right.
+pub fn one_check_fault_is_due()
+    ensures one { (bytes : List ℕ) (f g : CheckFault) → f ≢ Table Memory → g ≢ Table Memory
+        → IsCheckFault bytes f → IsCheckFault bytes g → f ≡ g }
+    ensures none { (bytes : List ℕ) (images : List Image) (fault : CheckFault) → fault ≢ Table Memory
+        → IsShelfText bytes images → IsCheckFault bytes fault → ⊥ }
+{}

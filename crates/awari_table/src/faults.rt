@@ -1,0 +1,53 @@
+//! Why the text of a table is refused.
+
+ghost use Rattle.std.specs.Prelude.{◌≡◌};
+ghost use Rattle.awari_table.specs.declared.faults.TableFault.TheVariants.{Memory};
+
+use std::alloc::AllocError;
+use thiserror::Error;
+
+/// Why the text of a table is refused, at its first line that has a fault. Lines are numbered from
+/// 1. Of one line, the faults are looked for in the order of 13, 10, 12, 11.
+#[derive(Clone, Copy, Debug, PartialEq, Eq, Error)]
+pub enum TableFault {
+    /// 10: the line has its line feed, and is not of the form that is due there.
+    #[error("line {line} is not of the form that is due")]
+    Line { line: u64 },
+    /// 11: the line is the header of a level up to the highest, and not of the next level.
+    #[error("line {line} is not the next level's header")]
+    Order { line: u64 },
+    /// 12: the line is the header of a level above the highest.
+    #[error("line {line} is the header of a level above the highest")]
+    High { line: u64 },
+    /// 13: the text ends before its last level is complete, or before a line feed.
+    #[error("the text ends early")]
+    Short,
+    /// 15: there was no room for a level.
+    #[error("out of memory")]
+    Memory,
+}
+
+impl TableFault {
+    ghost use Rattle.awari_table.specs.TableFault.{number_of};
+
+    /// The number of this refusal, 10 to 15.
+    pub fn number(&self) -> u8
+        ensures { result ≡ number_of self.now }
+    {
+        match self {
+            TableFault::Line { .. } => 10,
+            TableFault::Order { .. } => 11,
+            TableFault::High { .. } => 12,
+            TableFault::Short => 13,
+            TableFault::Memory => 15,
+        }
+    }
+}
+
+impl From<AllocError> for TableFault {
+    ghost from_gives = { λ _ fault. fault ≡ Memory };
+
+    fn from(_error: AllocError) -> Self {
+        TableFault::Memory
+    }
+}

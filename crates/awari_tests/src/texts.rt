@@ -1,0 +1,81 @@
+//! The text of tables, read level by level.
+use awari_table::{TableFault, TableText};
+use std::test::Fail;
+
+const LEVELS_0_TO_1: &[u8] =
+    b"level 0 limit 0\n0 - 0\nlevel 1 limit 1\n-1 - 0\n-1 - 0\n-1 - 0\n-1 - 0\n-1 - 0\n-1 - 0\n-1 5 1\n1 - 0\n1 - 0\n1 - 0\n1 - 0\n1 - 0\n";
+
+#[test]
+fn reads_two_levels(rt: HostRuntime) -> Result<(), Fail> {
+    let mut text = TableText::new(rt.alloc(), LEVELS_0_TO_1);
+    let level = text.next()?.ok_or("level 0")?;
+    assert!(rt; level.level == 0 && level.limit == 0 && level.entries.len() == 1);
+    let level = text.next()?.ok_or("level 1")?;
+    assert!(rt; level.level == 1 && level.limit == 1 && level.entries.len() == 12);
+    let entry = level.entries.at(6);
+    assert!(rt; entry.value == -1 && entry.plan == Some(5) && entry.dist == 1);
+    let entry = level.entries.at(11);
+    assert!(rt; entry.value == 1 && entry.plan.is_none() && entry.dist == 0);
+    assert!(rt; text.next()?.is_none());
+    assert!(rt; text.next()?.is_none());
+    Ok(())
+}
+
+#[test]
+fn answers_the_first_fault_again_and_again(rt: HostRuntime) {
+    let cases: [(&[u8], TableFault); 21] = [
+        (b"level 0 limit 0", TableFault::Short),
+        (b"level 0 limit 0\n", TableFault::Short),
+        (b"level 0 limit 0\n0 - 0", TableFault::Short),
+        (b"level 13 limit 0", TableFault::Short),
+        (b"\n", TableFault::Line { line: 1 }),
+        (b"level 0 limit 00\n", TableFault::Line { line: 1 }),
+        (
+            b"level 0 limit 0\r\n0 - 0\r\n",
+            TableFault::Line { line: 1 },
+        ),
+        (b"level 0  limit 0\n", TableFault::Line { line: 1 }),
+        (b"level 0 limit 4294967296\n", TableFault::Line { line: 1 }),
+        (b"level 256 limit 0\n", TableFault::Line { line: 1 }),
+        (b"level 255 limit 0\n", TableFault::High { line: 1 }),
+        (b"level 13 limit 0\n", TableFault::High { line: 1 }),
+        (b"level 12 limit 0\n", TableFault::Order { line: 1 }),
+        (b"level 1 limit 1\n", TableFault::Order { line: 1 }),
+        (b"level 0 limit 0\n-0 - 0\n", TableFault::Line { line: 2 }),
+        (b"level 0 limit 0\n00 - 0\n", TableFault::Line { line: 2 }),
+        (b"level 0 limit 0\n128 - 0\n", TableFault::Line { line: 2 }),
+        (b"level 0 limit 0\n-129 - 0\n", TableFault::Line { line: 2 }),
+        (b"level 0 limit 0\n-128 6 0\n", TableFault::Line { line: 2 }),
+        (
+            b"level 0 limit 0\n0 - 0\n0 - 0\n",
+            TableFault::Line { line: 3 },
+        ),
+        (
+            b"level 0 limit 0\n-128 5 4294967295\nlevel 0 limit 0\n",
+            TableFault::Order { line: 3 },
+        ),
+    ];
+    for (text, fault) in cases {
+        let mut reader = TableText::new(rt.alloc(), text);
+        let mut met = None;
+        for _ in 0..4 {
+            match reader.next() {
+                Ok(image) => assert!(rt; met.is_none() && image.is_some()),
+                Err(other) => {
+                    assert_eq!(rt; other, fault);
+                    met = Some(other);
+                }
+            }
+        }
+        assert!(rt; met.is_some());
+    }
+}
+
+#[test]
+fn numbers_of_its_refusals(rt: HostRuntime) {
+    assert_eq!(rt; TableFault::Line { line: 1 }.number(), 10);
+    assert_eq!(rt; TableFault::Order { line: 1 }.number(), 11);
+    assert_eq!(rt; TableFault::High { line: 1 }.number(), 12);
+    assert_eq!(rt; TableFault::Short.number(), 13);
+    assert_eq!(rt; TableFault::Memory.number(), 15);
+}
