@@ -2,3 +2,4 @@ pub mod EntryLemmas
 pub mod SightLemmas
 pub mod LevelLemmas
 pub mod FaultLemmas
+pub mod TruthLemmas

@@ -3,7 +3,8 @@
 ghost use Rattle.std.specs.Prelude.{◌≡◌, ◌↔◌, [], ◌∷◌, ◌++◌, IsOk, IfOk, IfErr, MatchOption};
 ghost use Rattle.awari_rank.specs.Rank.{size_of};
 ghost use Rattle.awari_table.specs.Images.{table_of, greatest_dist};
-ghost use Rattle.awari_table.specs.Shelves.{Consistent};
+ghost use Rattle.awari_table.specs.Shelves.{Consistent, IsShelf};
+ghost use Rattle.awari_theory.specs.Truth.{TellsTruth};
 ghost use Rattle.awari_verify.specs.FirstFailure.{RightBetween, IsRefusal};
 ghost use Rattle.awari_verify.specs.VerifyFault.{IsShaped, IsDue};
 
@@ -53,6 +54,10 @@ pub fn verify(shelf: &Shelf, image: Image) -> Result<Level, VerifyFault>
     ensures ok { IsOk result ↔ Consistent shelf.now image }
     ensures level { IfOk result (λ level. level ≡ image) }
     ensures fault { IfErr result (IsDue shelf.now image) }
+
+    // What the shelf with the level on it says of each of its boards is the truth: following its
+    // plans secures the value, soon, and the value is what the board is worth.
+    ensures meaning { IfOk result (λ level. TellsTruth (shelf.now ++ level ∷ [])) }
 {
     match boards_of(shelf, &image) {
         Ok(boards) => {
@@ -67,6 +72,7 @@ pub fn verify(shelf: &Shelf, image: Image) -> Result<Level, VerifyFault>
 fn boards_of(shelf: &Shelf, image: &Image) -> Result<u32, VerifyFault>
     ensures ok { IfOk result (λ n. IsShaped shelf.now image.now × (n ≡ size_of image.now.level)) }
     ensures err { IfErr result (IsDue shelf.now image.now) }
+    ensures shelf { IsShelf shelf.now }
 {
     if image.level != shelf.levels() || image.level > HIGHEST_LEVEL {
         return Err(VerifyFault::WrongLevel);

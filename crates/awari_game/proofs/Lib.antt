@@ -1,0 +1,2 @@
+pub mod Showing
+pub mod Outcomes

@@ -1,0 +1,3 @@
+pub mod Plays
+pub mod Shown
+pub mod Kept

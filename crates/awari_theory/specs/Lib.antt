@@ -1,0 +1,4 @@
+pub mod Secures
+pub mod Worth
+pub mod Promises
+pub mod Truth

@@ -1,0 +1,26 @@
+//! The laws of shelves, whose levels are a certificate.
+
+ghost use Rattle.std.specs.Prelude.{◌≡◌, ℕ, ◌+◌, ◌<◌, List, length, sum, take};
+ghost use Rattle.awari_board.specs.Rules.{IsBoard};
+ghost use Rattle.awari_table.specs.declared.images.Image.{Image};
+ghost use Rattle.awari_table.specs.Images.{entry_of, table_of, greatest_limit};
+ghost use Rattle.awari_table.specs.Shelves.{IsShelf};
+ghost use Rattle.awari_theory.specs.Secures.{Comes};
+ghost use Rattle.awari_theory.specs.Truth.{TellsTruth};
+
+/// What a shelf says of each board with fewer stones than it has levels is the truth.
+pub fn shelves_tell_the_truth()
+    ensures { (levels : List Image) → IsShelf levels → TellsTruth levels }
+{}
+
+/// Where both sides follow a shelf's plans, the play comes to an outcome, which is the value.
+pub fn shelves_come_to_their_values()
+    ensures { (levels : List Image) → IsShelf levels → (board : List ℕ) → IsBoard board → sum board < length levels
+        → Comes (table_of levels) (greatest_limit (take (sum board + 1) levels)) board }
+{}
+
+/// Two shelves say the same value of every board that both have.
+pub fn shelves_agree()
+    ensures { (levels others : List Image) → IsShelf levels → IsShelf others → (board : List ℕ) → IsBoard board
+        → sum board < length levels → sum board < length others → (entry_of levels board).value ≡ (entry_of others board).value }
+{}
