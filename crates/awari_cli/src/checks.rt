@@ -8,6 +8,7 @@ ghost use Rattle.awari_cli.specs.declared.checks.CheckFault.{CheckFault};
 ghost use Rattle.awari_cli.specs.declared.checks.CheckFault.TheVariants.{Table};
 ghost use Rattle.awari_cli.specs.CheckFault.{IsShelfText, IsCheckFault};
 ghost use Rattle.awari_cli.specs.Stops.{Stops};
+ghost use Rattle.awari_theory.specs.Truth.{TellsTruth};
 
 use awari_table::{Image, Shelf, TableFault, TableText};
 use awari_verify::{VerifyFault, verify};
@@ -52,6 +53,10 @@ impl<T: Drop> From<AllocFailed<T>> for CheckFault {
 pub fn check(alloc: Global, bytes: &[u8]) -> Result<Shelf, CheckFault>
     // What is found right is the text of levels that are right.
     ensures found { IfOk result (IsShelfText bytes.now) }
+
+    // What is found right tells the truth of every board: following its plans secures the values,
+    // soon, and the values are what the boards are worth.
+    ensures meaning { IfOk result (λ shelf. TellsTruth shelf) }
 
     // What is such a text is found right, unless memory runs out.
     ensures only { (images : List Image) → IsShelfText bytes.now images

@@ -1,6 +1,7 @@
 use Rattle.std.proofs.Common.{◌≡◌, ◌∙◌, sym}
 use Rattle.std.proofs.lemmas.Result.{err_from_is_err_and}
 use Rattle.awari_table.proofs.TextLaws.{images_are}
+use Rattle.awari_theory.proofs.Truths.{TellsTruth-shelf}
 use Rattle.awari_cli.proofs.CheckLaws.{checked_more, checked_all, checked_text, checked_stop, no_check_fault, refused_only, refused_exact}
 use Rattle.awari_cli.specs.CheckFault.{IsCheckFault}
 use Rattle.awari_cli.proofs.checks.check.Goals as goal
@@ -48,3 +49,8 @@ pub returns-clause-exact : goal.returns-clause-exact
 returns-clause-exact c =
     let a = checked_all c.args.bytes.now c.loop-shelf.shelf c.loop-shelf.text c.next.new.self c.loop-shelf.invariant (rw c.in_default.is at c.in_ok-image.ensures.reads) in
     λ fault other due. absurd (no_check_fault c.args.bytes.now c.loop-shelf.shelf fault other a due)
+
+pub returns-clause-meaning : goal.returns-clause-meaning
+returns-clause-meaning c =
+    let a = checked_all c.args.bytes.now c.loop-shelf.shelf c.loop-shelf.text c.next.new.self c.loop-shelf.invariant (rw c.in_default.is at c.in_ok-image.ensures.reads) in
+    TellsTruth-shelf c.loop-shelf.shelf a.shelf
