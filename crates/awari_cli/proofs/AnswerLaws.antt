@@ -1,13 +1,10 @@
 -- What is printed of an answer.
-use Rattle.std.proofs.Common.{◌≡◌, ◌∙◌, ℕ, List, ◌∷◌, [], ◌++◌, length, Option, Some, None, arith}
-use Rattle.std.specs.Prelude.{IfSome, codes}
-use Rattle.std.specs.Fmt.{decimal}
+use Rattle.std.proofs.Common.{◌≡◌, ◌∙◌, ℕ, List, ◌∷◌, [], ◌++◌, Option, Some, None, arith}
+use Rattle.std.specs.Prelude.{IfSome}
 use Rattle.std.specs.Io.KnownBytes.{Appends, Keeps}
-use Rattle.awari_table.specs.Images.{greatest_limit}
 use Rattle.awari_cli.specs.declared.answers.Answer.{Answer}
 use Rattle.awari_cli.specs.declared.answers.Answer.TheVariants.{Yes, Fault, Read}
-use Rattle.awari_cli.specs.Answer.{answer_text, status_of, IsAnswer}
-use Rattle.awari_cli.specs.Yes.{PrintsYes}
+use Rattle.awari_cli.specs.Answer.{answer_text, status_of, IsAnswer, PrintsYes}
 
 pub printed_yes : (answer : Answer) (input before after : Option (List ℕ)) → IfSome input (λ bytes. IsAnswer bytes answer) → Appends before after (answer_text answer ++ 10 ∷ []) → status_of answer ≡ 0 → PrintsYes input before after
 printed_yes (Yes levels limit) None before after said written done = tt

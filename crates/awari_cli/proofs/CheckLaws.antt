@@ -1,5 +1,5 @@
 -- How far a check has come, and that the first fault is one.
-use Rattle.std.proofs.Common.{◌≡◌, ◌≢◌, ◌⊎◌, ℕ, ◌+◌, ◌<◌, suc, ◌≤◌, List, [], ◌∷◌, ◌++◌, length, take, get_or, None, Some, Option, Result, Ok, Err, refl, sym, ap, subst, ◌∙◌, append_assoc, arith, inl, inr}
+use Rattle.std.proofs.Common.{◌≡◌, ◌≢◌, ◌⊎◌, ℕ, ◌+◌, ◌<◌, suc, ◌≤◌, List, [], ◌∷◌, ◌++◌, length, None, Some, Option, Result, Err, refl, sym, ap, subst, ◌∙◌, append_assoc, arith, inl, inr}
 use Rattle.std.specs.Prelude.{IfOk, IfErr}
 use Rattle.std.proofs.lemmas.List.{length-append, append-nil, nil_from_length}
 use Rattle.std.proofs.lemmas.List.Concat.{flat_map-append, flat_map-cons}
@@ -14,7 +14,7 @@ use Rattle.awari_table.specs.Shelves.{Consistent, IsShelf}
 use Rattle.awari_table.specs.Spelling.{entry_line, header_line, block, table_text, line_count, IsImage, AreImages}
 use Rattle.awari_table.specs.TableFault.{Opens, IsDueAt}
 use Rattle.awari_table.specs.Place.{Place, TakesImage, IsAtEnd, Refuses, Repeats}
-use Rattle.awari_table.proofs.TextLaws.{due_once, due_image, same_head, block_some, IsLonger, parting, images_are}
+use Rattle.awari_table.proofs.TextLaws.{due_once, due_image, same_head, block_some, IsLonger, parting}
 use Rattle.awari_table.proofs.ShelfLemmas.{IsShelf-push}
 use Rattle.awari_verify.specs.VerifyFault.{IsDue}
 use Rattle.awari_cli.specs.declared.checks.CheckFault.{CheckFault}

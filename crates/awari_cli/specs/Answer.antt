@@ -1,6 +1,7 @@
 -- What the program prints, and the status that it ends with.
-use Rattle.std.specs.Prelude.{◌≡◌, ℕ, List, ◌∷◌, [], ◌++◌, ⊤, length, codes}
+use Rattle.std.specs.Prelude.{◌≡◌, ℕ, List, ◌++◌, ⊤, length, codes, ◌∷◌, [], Option, IfSome}
 use Rattle.std.specs.Fmt.{decimal}
+use Rattle.std.specs.Io.KnownBytes.{Appends}
 use Rattle.awari_table.specs.declared.images.Image.{Image}
 use Rattle.awari_table.specs.declared.faults.TableFault.{TableFault}
 use Rattle.awari_table.specs.declared.faults.TableFault.TheVariants.{Line, Order, High, Short, Memory}
@@ -50,3 +51,9 @@ IsAnswer bytes (Yes levels limit) = (images : List Image) × IsShelfText bytes i
 IsAnswer bytes (Fault (Table Memory)) = ⊤
 IsAnswer bytes (Fault fault) = IsCheckFault bytes fault
 IsAnswer bytes Read = ⊤
+
+-- Where it is known what a reader had left and what a writer holds: that input is the text of tables that are right, and the
+-- yes for them, ended by a line feed, is what was written.
+abbrev pub PrintsYes : Option (List ℕ) → Option (List ℕ) → Option (List ℕ) → Type 0
+PrintsYes input before after = IfSome input (λ bytes. (images : List Image) × IsShelfText bytes images
+    × Appends before after (answer_text (Yes (length images) (greatest_limit images)) ++ 10 ∷ []))

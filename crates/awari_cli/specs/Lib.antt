@@ -1,4 +1,3 @@
 pub mod CheckFault
 pub mod Stops
 pub mod Answer
-pub mod Yes

@@ -1,13 +1,11 @@
 //! The commands of the program, over its words and its streams.
 
-ghost use Rattle.std.specs.Prelude.{◌≡◌, ◌≤◌, List, IfSome, IsTrue};
-ghost use Rattle.std.specs.Io.KnownBytes.{Keeps, Appends};
-ghost use Rattle.awari_table.specs.declared.images.Image.{Image};
-ghost use Rattle.awari_cli.specs.CheckFault.{IsShelfText};
-ghost use Rattle.awari_cli.specs.Yes.{PrintsYes};
+ghost use Rattle.std.specs.Prelude.{◌≡◌, ◌≤◌};
+ghost use Rattle.std.specs.Io.KnownBytes.{Keeps};
+ghost use Rattle.awari_cli.specs.Answer.{PrintsYes};
 
 use crate::answers::check_input;
-use clap::{ArgMatches, Command, Error};
+use clap::{Command, Error};
 use std::alloc::Global;
 use std::convert::AsStr;
 use std::io::{Read, Write};
@@ -34,6 +32,7 @@ pub fn run<S: AsStr, R: Read, W: Write, E: Write>(
 {
     match is_check(alloc, words) {
         Ok(true) => run_check(alloc, reader, writer),
+        // `clap` lets no other command through.
         Ok(false) => 2,
         Err(error) => {
             // There is nowhere to say that this could not be written.

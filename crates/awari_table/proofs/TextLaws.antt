@@ -1,14 +1,13 @@
 -- What one call of next says of the text, and that a text has one reading.
-use Rattle.std.proofs.Common.{◌≡◌, ◌≢◌, ◌⊎◌, ℕ, ◌+◌, ◌<◌, suc, List, [], ◌∷◌, ◌++◌, length, Option, Some, None, Result, Ok, Err, refl, sym, ap, subst, ◌∙◌, append_assoc, arith, inl, inr}
-use Rattle.std.proofs.lemmas.List.{length-append, append-nil, nil_from_length}
-use Rattle.std.proofs.lemmas.List.Concat.{flat_map-append, flat_map-cons}
+use Rattle.std.proofs.Common.{◌≡◌, ◌≢◌, ◌⊎◌, ℕ, ◌+◌, List, [], ◌∷◌, ◌++◌, Option, Some, None, Result, Ok, Err, refl, sym, ap, subst, ◌∙◌, append_assoc, inl, inr}
+use Rattle.std.proofs.lemmas.List.Concat.{flat_map-cons}
 use Rattle.awari_table.specs.declared.images.Image.{Image}
 use Rattle.awari_table.specs.declared.faults.TableFault.{TableFault}
 use Rattle.awari_table.specs.declared.faults.TableFault.TheVariants.{Line, Order, High, Short, Memory}
-use Rattle.awari_table.specs.Spelling.{block, table_text, line_count, IsImage, AreImages}
+use Rattle.awari_table.specs.Spelling.{block, table_text, IsImage, AreImages}
 use Rattle.awari_table.specs.Blocks.{Fails, Steps, AnswersAfter, Answers, block_at, IsOpened}
 use Rattle.awari_table.specs.TableFault.{IsDueAt}
-use Rattle.awari_table.specs.Place.{Place, TakesImage, IsAtEnd, Refuses, Repeats, Reads}
+use Rattle.awari_table.specs.Place.{Place, Reads}
 use Rattle.awari_table.proofs.BlockLaws.{block_takes, block_again, block_stops, memory_due, due_again}
 
 -- ---- one call

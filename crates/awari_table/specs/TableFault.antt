@@ -1,14 +1,13 @@
 -- Where a text has a fault. All of it is said by how images are spelled. A spelled line ends in its only line feed, so a first
 -- line that is not of a form is one that no spelling of that form begins.
-use Rattle.std.specs.Prelude.{◌≡◌, ◌≢◌, ◌⊎◌, ℕ, ◌+◌, ◌<◌, ◌≤◌, ◌^◌, Bool, true, false, List, [], ◌++◌, length, ◌==◌}
+use Rattle.std.specs.Prelude.{◌≡◌, ◌≢◌, ◌⊎◌, ℕ, ◌+◌, ◌<◌, ◌≤◌, ◌^◌, Bool, true, false, List, ◌++◌, length, ◌==◌}
 use Rattle.std.specs.List.{list_any, flat_map, AllByRecursion}
 use Rattle.awari_rank.specs.Rank.{size_of}
 use Rattle.awari_table.specs.declared.TheConstants.{HIGHEST_LEVEL}
 use Rattle.awari_table.specs.declared.images.Entry.{Entry}
-use Rattle.awari_table.specs.declared.images.Image.{Image}
 use Rattle.awari_table.specs.declared.faults.TableFault.{TableFault}
 use Rattle.awari_table.specs.declared.faults.TableFault.TheVariants.{Line, Order, High, Short, Memory}
-use Rattle.awari_table.specs.Spelling.{entry_line, header_line, table_text, line_count, IsEntry, AreImages}
+use Rattle.awari_table.specs.Spelling.{entry_line, header_line, IsEntry}
 
 abbrev pub number_of : TableFault → ℕ
 number_of (Line line) = 10

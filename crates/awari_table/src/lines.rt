@@ -1,6 +1,6 @@
 //! One line of a table's text.
 
-ghost use Rattle.std.specs.Prelude.{◌≡◌, ◌<◌, ◌^◌};
+ghost use Rattle.std.specs.Prelude.{◌≡◌, ◌<◌};
 ghost use Rattle.std.specs.Option.{option_map};
 ghost use Rattle.awari_table.specs.Reading.{after_byte, after_text, digits_at, number_at, value_at, plan_at, entry_at, header_at};
 

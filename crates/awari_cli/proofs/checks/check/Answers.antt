@@ -3,7 +3,6 @@ use Rattle.std.proofs.lemmas.Result.{err_from_is_err_and}
 use Rattle.awari_table.proofs.TextLaws.{images_are}
 use Rattle.awari_theory.proofs.Truths.{TellsTruth-shelf}
 use Rattle.awari_cli.proofs.CheckLaws.{checked_more, checked_all, checked_text, checked_stop, no_check_fault, refused_only, refused_exact}
-use Rattle.awari_cli.specs.CheckFault.{IsCheckFault}
 use Rattle.awari_cli.proofs.checks.check.Goals as goal
 
 pub returns-in_err-image-clause-only : goal.returns-in_err-image-clause-only
