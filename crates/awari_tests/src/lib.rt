@@ -7,4 +7,6 @@ mod moves;
 #[cfg(test)]
 mod numbering;
 #[cfg(test)]
+mod plays;
+#[cfg(test)]
 mod tables;
