@@ -9,6 +9,8 @@ mod moves;
 #[cfg(test)]
 mod numbering;
 #[cfg(test)]
+mod plays;
+#[cfg(test)]
 mod tables;
 #[cfg(test)]
 mod texts;

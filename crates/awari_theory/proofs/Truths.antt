@@ -35,6 +35,7 @@ IsCertificate-front levels n shelf within =
     }
 
 pub TellsTruth-shelf : (levels : List Image) → IsShelf levels → TellsTruth levels
+unfolding TellsTruth
 TellsTruth-shelf levels shelf board is low =
     let front = IsCertificate-front levels (sum board + 1) shelf (omega arith) in
     record {

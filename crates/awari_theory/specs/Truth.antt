@@ -15,5 +15,5 @@ pub record TellsTruthOf (levels : List Image) (board : List ℕ) : Type 0 where
   pub worth : IsRightWorth (table_of levels) board
 
 -- it is of every board with fewer stones than there are levels
-abbrev pub TellsTruth : List Image → Type 0
+unfoldable pub TellsTruth : List Image → Type 0
 TellsTruth levels = (board : List ℕ) → IsBoard board → sum board < length levels → TellsTruthOf levels board
