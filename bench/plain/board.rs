@@ -25,6 +25,7 @@ impl Ways {
         self.0[11][stones + 1]
     }
 
+    #[inline]
     pub fn rank(&self, board: &Board) -> u32 {
         let mut right: u8 = board.iter().sum();
         let size = self.size(right as usize);
@@ -36,6 +37,7 @@ impl Ways {
         size - 1 - larger
     }
 
+    #[inline]
     pub fn unrank(&self, stones: usize, rank: u32) -> Board {
         let mut larger = self.size(stones) - 1 - rank;
         let mut left = stones;
@@ -54,6 +56,7 @@ impl Ways {
     }
 }
 
+#[inline]
 pub fn successor(board: &Board) -> Option<Board> {
     let last = board.iter().rposition(|&stones| stones > 0)?;
     if last == 0 {
