@@ -5,3 +5,9 @@ pub mod Falling
 pub mod Capturing
 pub mod Moving
 pub mod Keeping
+pub mod Listing
+pub mod Writing
+pub mod Matching
+pub mod Reading
+pub mod Scanning
+pub mod Parsing

@@ -1,3 +1,5 @@
 pub mod Rules
 pub mod Tests
 pub mod MoveFault
+pub mod Text
+pub mod BoardFault

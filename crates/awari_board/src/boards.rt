@@ -1,12 +1,17 @@
 //! Positions, and the moves from them.
-ghost use Rattle.std.specs.Prelude.{◌≡◌, ℕ, ◌+◌, ◌<◌, ◌≤◌, ◌↔◌, IsTrue, ℤ, IsNone, IsOk, IfOk, IfErr, sum, slice_index};
-ghost use Rattle.awari_board.specs.Rules.{IsBoard, IsEnd, IsLegal, IsMove};
+ghost use Rattle.std.specs.Prelude.{◌≡◌, ℕ, ◌+◌, ◌<◌, ◌≤◌, ◌↔◌, Contains, IsTrue, ℤ, IsNone, IsOk, IfOk, IfErr, List, sum, slice_index};
+ghost use Rattle.std.specs.List.Sorted.{IsStrictlyIncreasing};
+ghost use Rattle.awari_board.specs.BoardFault.{IsFaulty};
 ghost use Rattle.awari_board.specs.MoveFault.{IsDue};
+ghost use Rattle.awari_board.specs.Rules.{IsBoard, IsEnd, IsLegal, IsMove};
+ghost use Rattle.awari_board.specs.Text.{text_of};
 
 use crate::captures::capture;
 use crate::moves::{MoveFault, Moved};
 use crate::sides::{SIDE, other_stones, own_stones, stones_in, turned};
 use crate::sowing::sow;
+use crate::text::{BoardFault, is_shaped, push_pit, read_pits, total};
+use arrayvec::ArrayVec;
 use std::marker::Model;
 
 /// A position: the stones in twelve pits, at most 48 in all. Pits 0 to 5 are the mover's, 6 to 11
@@ -39,6 +44,45 @@ impl Board {
         Board { pits }
     }
 
+    /// The position that `text` spells, as [`Board::print`] does: the stones of the pits in decimal,
+    /// parted by commas and, between the two sides, a slash. Refused, tried in this order, are a
+    /// text that is not twelve such fields as 1 `Shape`, one with a field that is no number below
+    /// 100 without a leading zero as 2 `Number`, and more than 48 stones as 3 `TooMany`.
+    pub fn parse(text: &[u8]) -> Result<Self, BoardFault>
+        ensures read { (board : List ℕ) → (result ≡ Ok board) ↔ (IsBoard board × (text.now ≡ text_of board)) }
+        ensures faulty { IfErr result (IsFaulty text.now) }
+    {
+        if !is_shaped(text) {
+            return Err(BoardFault::Shape);
+        }
+        let Some(pits) = read_pits(text) else {
+            return Err(BoardFault::Number);
+        };
+        if total(&pits) > 48 {
+            return Err(BoardFault::TooMany);
+        }
+        Ok(Board { pits })
+    }
+
+    /// The one text that [`Board::parse`] reads as this position, as `0,0,0,0,0,12/4,0,0,0,0,0`.
+    pub fn print(&self) -> ArrayVec<u8, 35>
+        ensures { result.items ≡ text_of self.now }
+    {
+        let mut text = ArrayVec::new();
+        for place in 0..12 {
+            push_pit(&mut text, place, self.pit(place));
+        }
+        text
+    }
+
+    /// The stones in each of the twelve pits.
+    pub fn pits(&self) -> [u8; 12]
+        ensures pits { result ≡ self.now }
+        ensures board { IsBoard self.now }
+    {
+        self.pits
+    }
+
     /// The stones in pit `i`. Condition: `i` is below 12.
     pub fn pit(&self, i: u8) -> u8
         requires { i < 12 }
@@ -65,6 +109,20 @@ impl Board {
         }
         let stones = self.pits[pit as usize];
         stones > 0 && (pit + stones >= SIDE || other_stones(&self.pits) > 0)
+    }
+
+    /// The pits that the mover may play, ascending; none where the play has ended.
+    pub fn moves(&self) -> ArrayVec<u8, 6>
+        ensures legal { (pit : ℕ) → Contains result.items pit ↔ IsLegal self.now pit }
+        ensures ascending { IsStrictlyIncreasing result.items }
+    {
+        let mut moves = ArrayVec::new();
+        for pit in 0..SIDE {
+            if self.legal(pit) {
+                moves.push(pit);
+            }
+        }
+        moves
     }
 
     /// What the mover gains, in stones, where no move is legal and so the play has ended; `None`

@@ -1,11 +1,14 @@
 //! What follows from the rules for every position. Each law is proved, and a caller has it by
 //! calling its function, which does nothing.
 ghost use Rattle.std.specs.Prelude.{◌≡◌, ◌+◌, ◌↔◌, List, [], ◌∷◌, true, ℕ, sum, pos, neg_ℤ};
+ghost use Rattle.awari_board.specs.BoardFault.{IsFaulty};
 ghost use Rattle.awari_board.specs.MoveFault.{IsDue};
 ghost use Rattle.awari_board.specs.Rules.{IsBoard, IsEnd, IsEnded, IsLegal, IsMove};
 ghost use Rattle.awari_board.specs.Tests.{is_ended, is_legal};
+ghost use Rattle.awari_board.specs.Text.{text_of};
 ghost use Rattle.awari_board.specs.declared.moves.MoveFault.{MoveFault};
 ghost use Rattle.awari_board.specs.declared.moves.MoveFault.TheVariants.{NoPit, Ended, EmptyPit, MustFeed};
+ghost use Rattle.awari_board.specs.declared.text.BoardFault.{BoardFault};
 
 /// A move leads from a board to a board, and no stone is lost: what it doesn't capture stays.
 pub fn moves_keep_boards()
@@ -23,6 +26,12 @@ pub fn tests_decide()
 pub fn one_fault_is_due()
     ensures one { (board : List ℕ) (x : ℕ) (fault other : MoveFault) → IsDue board x fault → IsDue board x other → fault ≡ other }
     ensures none { (board : List ℕ) (x : ℕ) (fault : MoveFault) → IsDue board x fault → IsLegal board x → ⊥ }
+{}
+
+/// At most one fault of a text is due, and none where it is the text of a board.
+pub fn one_board_fault_is_due()
+    ensures one { (text : List ℕ) (fault other : BoardFault) → IsFaulty text fault → IsFaulty text other → fault ≡ other }
+    ensures none { (text board : List ℕ) (fault : BoardFault) → IsFaulty text fault → IsBoard board → text ≡ text_of board → ⊥ }
 {}
 
 /// The definitions at positions that were worked out by hand.

@@ -12,7 +12,9 @@ mod laws;
 mod moves;
 mod sides;
 mod sowing;
+mod text;
 
 pub use boards::Board;
-pub use laws::{moves_keep_boards, one_fault_is_due, tests_decide, worked_examples};
+pub use laws::{moves_keep_boards, one_board_fault_is_due, one_fault_is_due, tests_decide, worked_examples};
 pub use moves::{MoveFault, Moved};
+pub use text::BoardFault;

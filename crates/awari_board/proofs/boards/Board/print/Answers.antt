@@ -1,0 +1,18 @@
+use Rattle.std.proofs.Common.{◌≡◌, ◌≤◌, ◌++◌, ap, ◌∙◌, sym, arith, rules}
+use Rattle.awari_board.specs.Text.{digits, mark_after, text_to, text_of}
+use Rattle.awari_board.proofs.Writing.{text_to-more}
+use Rattle.awari_board.proofs.boards.Board.print.Goals as goal
+
+pub loop-place-preserved : goal.loop-place-preserved
+loop-place-preserved c =
+    let before = c.loop-place.invariant in
+    record {
+      room = omega (arith, c.push_pit.ensures.room, before.room);
+      items =
+          c.push_pit.ensures.items ∙ ap (λ t. t ++ (digits c.pit.result ++ mark_after c.loop-place.place)) before.items
+          ∙ ap (λ s. text_to c.args.self.now c.loop-place.place ++ (digits s ++ mark_after c.loop-place.place)) c.pit.ensures.stones ∙ sym (text_to-more c.args.self.now c.loop-place.place);
+    }
+
+pub returns : goal.returns
+unfolding text_of
+returns c = let end : c.loop-place.place ≡ 12 = omega arith in c.loop-place.invariant.items ∙ ap (text_to c.args.self.now) end
