@@ -1,5 +1,5 @@
 -- One text for each board, and one board for each text.
-use Rattle.std.proofs.Common.{◌≡◌, ℕ, ◌<◌, ◌≤◌, ⊎_elim, false, true, List, [], ◌∷◌, ◌++◌, ◌+◌, All, length, get_or, sum, map, filter, Contains, refl, sym, ap, ◌∙◌, subst, arith}
+use Rattle.std.proofs.Common.{◌≡◌, ℕ, ◌<◌, ⊎_elim, false, true, List, [], ◌∷◌, ◌++◌, All, length, get_or, sum, map, filter, Contains, refl, sym, ap, ◌∙◌, subst, arith}
 use Rattle.std.specs.List.{range_with_len, slice_split}
 use Rattle.std.proofs.lemmas.List.{append-nil}
 use Rattle.std.proofs.lemmas.List.Elements.{Contains-push, Contains-append_left}

@@ -1,5 +1,5 @@
 -- Why a text is no board.
-use Rattle.std.specs.Prelude.{◌≡◌, ◌≢◌, ℕ, ◌<◌, List, Contains, sum}
+use Rattle.std.specs.Prelude.{◌≢◌, ℕ, ◌<◌, List, Contains, sum}
 use Rattle.awari_board.specs.Text.{IsShaped, IsReadAs, fields, digits}
 use Rattle.awari_board.specs.declared.text.BoardFault.{BoardFault}
 use Rattle.awari_board.specs.declared.text.BoardFault.TheVariants.{Shape, Number, TooMany}

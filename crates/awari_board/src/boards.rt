@@ -80,7 +80,8 @@ impl Board {
         ensures pits { result ≡ self.now }
         ensures board { IsBoard self.now }
     {
-        self.pits
+        let Board { pits } = *self;
+        pits
     }
 
     /// The stones in pit `i`. Condition: `i` is below 12.

@@ -15,6 +15,10 @@ mod sowing;
 mod text;
 
 pub use boards::Board;
-pub use laws::{moves_keep_boards, one_board_fault_is_due, one_fault_is_due, tests_decide, worked_examples};
+pub use captures::capture;
+pub use laws::{
+    moves_keep_boards, one_board_fault_is_due, one_fault_is_due, tests_decide, worked_examples,
+};
 pub use moves::{MoveFault, Moved};
+pub use sides::turned;
 pub use text::BoardFault;

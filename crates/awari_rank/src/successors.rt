@@ -21,7 +21,7 @@ pub fn successor(board: &Board) -> Option<Board>
     ensures stones { IfSome result (λ b. sum b ≡ sum board.now) }
     ensures rank { IfSome result (λ b. rank_of b ≡ rank_of board.now + 1) }
 {
-    let mut pits = pits_of(board);
+    let mut pits = board.pits();
     let held = last_held(&pits);
     if held == 0 {
         return None;
@@ -31,17 +31,6 @@ pub fn successor(board: &Board) -> Option<Board>
     pits[held - 1] += 1;
     pits[11] = stones - 1;
     Some(Board::new(pits))
-}
-
-fn pits_of(board: &Board) -> [u8; 12]
-    ensures pits { result ≡ board.now }
-    ensures board { IsBoard board.now }
-{
-    let mut pits = [0; 12];
-    for pit in 0..12 {
-        pits[pit as usize] = board.pit(pit);
-    }
-    pits
 }
 
 /// The last pit that holds stones, or pit 0 where none does.

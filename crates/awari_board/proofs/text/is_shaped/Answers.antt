@@ -1,4 +1,4 @@
-use Rattle.std.proofs.Common.{◌≡◌, ◌↔◌, ◌∙◌, sym, eq-eqb, eqb-true, arith, rules, tests}
+use Rattle.std.proofs.Common.{◌∙◌, sym, eq-eqb, eqb-true, arith, rules, tests}
 use Rattle.awari_board.proofs.Matching.{IsMatching-skips, IsMatching-takes, IsMatching-fails, IsMatching-end}
 use Rattle.awari_board.proofs.text.is_shaped.Goals as goal
 use Rattle.awari_board.proofs.text.is_shaped.Goals.{then-is_separator+else-not-is_mark, else-is_separator}

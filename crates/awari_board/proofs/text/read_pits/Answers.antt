@@ -1,5 +1,4 @@
-use Rattle.std.proofs.Common.{◌≡◌, ◌<◌, ℕ, arith, rules, refl}
-use Rattle.awari_board.specs.Text.{digits}
+use Rattle.std.proofs.Common.{◌≡◌, arith, refl}
 use Rattle.awari_board.proofs.Scanning.{IsReading-more}
 use Rattle.awari_board.proofs.Parsing.{IsReadAs-from_IsReading, IsFaulty-from_field, Contains-fields}
 use Rattle.awari_board.proofs.text.read_pits.Goals as goal

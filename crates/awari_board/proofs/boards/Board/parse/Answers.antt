@@ -1,5 +1,4 @@
-use Rattle.std.proofs.Common.{◌≡◌, ◌≤◌, ◌<◌, ◌∙◌, sum, ap, sym, subst, arith, rules, tests, refl, Ok}
-use Rattle.awari_board.specs.BoardFault.{IsFaulty}
+use Rattle.std.proofs.Common.{◌≡◌, ◌≤◌, ◌<◌, sum, ap, subst, arith, rules, tests, Ok}
 use Rattle.awari_board.specs.Text.{IsReadAs, text_of}
 use Rattle.awari_board.specs.Rules.{IsBoard}
 use Rattle.awari_board.specs.declared.text.BoardFault.TheVariants.{Shape, Number, TooMany}

@@ -1,4 +1,4 @@
-use Rattle.std.proofs.Common.{◌≡◌, ◌≤◌, ◌++◌, ap, ◌∙◌, sym, arith, rules}
+use Rattle.std.proofs.Common.{◌≡◌, ◌++◌, ap, ◌∙◌, sym, arith}
 use Rattle.awari_board.specs.Text.{digits, mark_after, text_to, text_of}
 use Rattle.awari_board.proofs.Writing.{text_to-more}
 use Rattle.awari_board.proofs.boards.Board.print.Goals as goal

@@ -1,0 +1,70 @@
+-- A search for quiet moves backward, step by step.
+use Rattle.std.proofs.Common.{◌≡◌, ℕ, ◌+◌, ◌<◌, ◌≤◌, List, [], ◌∷◌, length, get_or, sum, Some, None, sym, ap, ◌∙◌, subst, arith}
+use Rattle.std.proofs.lemmas.Bool.Decides.{nat_tests}
+use Rattle.std.proofs.lemmas.List.Sums.{get_or-le-sum_by}
+use Rattle.awari_board.specs.Rules.{IsLegal, landing, captured_stones}
+use Rattle.awari_unmove.specs.Undoing.{IsUnsowing, IsUndoing, TakesBack, unmove, unmoves_after}
+use Rattle.awari_unmove.proofs.Unsowing.{fallen-own, IsUnsowing-stuck, IsUnsowing-from_sown, bare-from_sown, held-from_IsUnsowing, sown-from_IsUnsowing, unsown-from_IsUnsowing}
+use Rattle.awari_unmove.proofs.Predecessors.{unmoves_after-some, unmoves_after-none, unmoves_after-end}
+use Rattle.awari_unmove.proofs.Unmoving.{IsUnmove, unmove-none, unmove-some}
+
+-- no more stones are taken back than there are
+pub stones-le : (back : List ℕ) (x k : ℕ) (left : List ℕ) → x < 12 → IsUnsowing back x k left → k ≤ sum back
+stones-le back x k left pit taken =
+    let each = taken.each x pit in
+    let most = get_or-le-sum_by (λ s. s) left x 0 (omega (arith, taken.size)) in
+    let own = fallen-own x k pit in
+    let e : get_or left x 0 ≡ get_or back x 0 + k = grind (arith, nat_tests) in
+    omega (arith, taken.stones)
+
+-- from a pit that is not empty no sowing came
+pub unmove-held : (back : List ℕ) (x : ℕ) → x < 12 → 0 < get_or back x 0 → (k : ℕ) → unmove back x k ≡ None
+unmove-held back x pit held k = unmove-none back x k (λ p goes. let bare = bare-from_sown back x p pit goes.sows in omega arith)
+
+-- where the pit of the next stone is bare, no sowing of more stones came from here
+pub unmove-stuck : (back : List ℕ) (x stones : ℕ) (left : List ℕ) → x < 12 → IsUnsowing back x stones left → get_or left (landing x (stones + 1)) 0 ≡ 0 → (k : ℕ) → stones < k → unmove back x k ≡ None
+unmove-stuck back x stones left pit taken bare k more =
+    unmove-none back x k (λ p goes. IsUnsowing-stuck back x stones k left p pit taken bare more (subst (λ n. IsUnsowing back x n p) goes.held (IsUnsowing-from_sown back x p pit goes.size goes.sows)))
+
+pub IsUnmove-from_TakesBack : (back : List ℕ) (x before after : ℕ) (left : List ℕ) → length back ≡ 12 → x < 12 → TakesBack back x before after left → IsLegal left x → captured_stones back (landing x after) ≡ 0 → IsUnmove back x after left
+IsUnmove-from_TakesBack back x before after left size pit took legal kept = record {
+  size = took.unsowing.size;
+  held = held-from_IsUnsowing back x after left pit took.unsowing took.empty;
+  legal = legal;
+  sows = sown-from_IsUnsowing back x after left pit size took.unsowing took.empty;
+  kept = kept;
+}
+
+-- the board that k stones taken back make is the only one
+pub unmove-refused : (back : List ℕ) (x before after : ℕ) (left : List ℕ) → x < 12 → TakesBack back x before after left → (IsLegal left x → captured_stones back (landing x after) ≡ 0 → ⊥) → unmove back x after ≡ None
+unmove-refused back x before after left pit took refused =
+    unmove-none back x after
+    (λ p goes.
+    let bare = took.empty in
+    let that = unsown-from_IsUnsowing back x after left pit took.unsowing bare in
+    let this = unsown-from_IsUnsowing back x after p pit (subst (λ n. IsUnsowing back x n p) goes.held (IsUnsowing-from_sown back x p pit goes.size goes.sows)) bare in
+    let same : p ≡ left = this ∙ sym that in
+    refused (subst (λ p. IsLegal p x) same goes.legal) goes.kept)
+
+pub unmoves_after-gives : (back : List ℕ) (pit before after : ℕ) (left board : List ℕ) (last : ℕ) → length back ≡ 12 → sum back ≤ 48 → pit < 6 → TakesBack back pit before after left → board ≡ left → last ≡ landing pit after → IsLegal board pit → captured_stones back last ≡ 0 → unmoves_after back pit before ≡ (board, pit) ∷ unmoves_after back pit after
+unmoves_after-gives back pit before after left board last size few own took is there legal kept =
+    let legal' : IsLegal left pit = subst (λ b. IsLegal b pit) is legal in
+    let goes = IsUnmove-from_TakesBack back pit before after left size (omega arith) took legal' (ap (captured_stones back) (sym there) ∙ kept) in
+    let pair : List ℕ × ℕ = (board, pit) in
+    let here : unmove back pit after ≡ Some pair = unmove-some back pit after left goes ∙ ap (λ b. let p : List ℕ × ℕ = (b, pit) in Some p) (sym is) in
+    let most = stones-le back pit after left (omega arith) took.unsowing in
+    let more = took.more in
+    unmoves_after-some back pit before pair own (omega arith) (ap (unmove back pit) (sym more) ∙ here) ∙ ap (λ n. pair ∷ unmoves_after back pit n) (sym more)
+
+pub unmoves_after-passes : (back : List ℕ) (pit before after : ℕ) (left board : List ℕ) (last : ℕ) → length back ≡ 12 → sum back ≤ 48 → pit < 6 → TakesBack back pit before after left → board ≡ left → last ≡ landing pit after → (IsLegal board pit × (captured_stones back last ≡ 0) → ⊥) → unmoves_after back pit before ≡ unmoves_after back pit after
+unmoves_after-passes back pit before after left board last size few own took is there refused =
+    let here = unmove-refused back pit before after left (omega arith) took (λ legal kept. refused (subst (λ b. IsLegal b pit) (sym is) legal, ap (captured_stones back) there ∙ kept)) in
+    let most = stones-le back pit after left (omega arith) took.unsowing in
+    let more = took.more in
+    unmoves_after-none back pit before own (omega arith) (ap (unmove back pit) (sym more) ∙ here) ∙ ap (unmoves_after back pit) (sym more)
+
+pub unmoves_after-done : (back : List ℕ) (pit stones : ℕ) (left : List ℕ) → IsUndoing back pit stones left → 6 ≤ pit → unmoves_after back pit stones ≡ []
+unmoves_after-done back pit stones left now past =
+    let last : pit ≡ 6 = omega (arith, now.in_range) in
+    let none = now.fresh last in
+    ap (λ n. unmoves_after back n stones) last ∙ ap (unmoves_after back 6) none ∙ unmoves_after-end back
