@@ -11,3 +11,4 @@ pub mod Matching
 pub mod Reading
 pub mod Scanning
 pub mod Parsing
+pub mod Spelled

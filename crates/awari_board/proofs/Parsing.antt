@@ -17,7 +17,7 @@ use Rattle.awari_board.specs.declared.text.BoardFault.{BoardFault}
 use Rattle.awari_board.specs.declared.text.BoardFault.TheVariants.{Shape, Number, TooMany}
 use Rattle.awari_board.proofs.Reading.{fields-text_from, marks-text_from, same_digits}
 
-small-from_IsBoard : (b : List ℕ) → IsBoard b → (k : ℕ) → get_or b k 0 < 100
+pub small-from_IsBoard : (b : List ℕ) → IsBoard b → (k : ℕ) → get_or b k 0 < 100
 small-from_IsBoard b whole k =
     ⊎_elim
     (λ inside. omega (arith, get_or-le-sum_by (λ s. s) b k 0 (omega (arith, whole.pits, inside)), whole.stones))

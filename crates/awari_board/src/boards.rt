@@ -13,6 +13,7 @@ use crate::sowing::sow;
 use crate::text::{BoardFault, is_shaped, push_pit, read_pits, total};
 use arrayvec::ArrayVec;
 use std::marker::Model;
+use std::{fmt, str};
 
 /// A position: the stones in twelve pits, at most 48 in all. Pits 0 to 5 are the mover's, 6 to 11
 /// the opponent's. Contracts see the list of the twelve numbers.
@@ -66,11 +67,13 @@ impl Board {
 
     /// The one text that [`Board::parse`] reads as this position, as `0,0,0,0,0,12/4,0,0,0,0,0`.
     pub fn print(&self) -> ArrayVec<u8, 35>
-        ensures { result.items ≡ text_of self.now }
+        ensures text { result.items ≡ text_of self.now }
+        ensures board { IsBoard self.now }
     {
+        let pits = self.pits;
         let mut text = ArrayVec::new();
         for place in 0..12 {
-            push_pit(&mut text, place, self.pit(place));
+            push_pit(&mut text, place, pits[place as usize]);
         }
         text
     }
@@ -183,5 +186,21 @@ impl Board {
             return MoveFault::EmptyPit;
         }
         MoveFault::MustFeed
+    }
+}
+
+/// The text that [`Board::print`] gives.
+impl fmt::Display for Board {
+    ghost use Rattle.std.specs.Prelude.{Some};
+    ghost use Rattle.awari_board.specs.Text.{text_of};
+
+    ghost output = { λ board. Some (text_of board) };
+
+    fn fmt<W: fmt::Write>(&self, f: &mut fmt::Formatter<W>) -> fmt::Result {
+        let digits = self.print();
+        let Ok(text) = str::from_utf8(digits.as_slice()) else {
+            unreachable!();
+        };
+        f.write_str(text)
     }
 }

@@ -1,4 +1,4 @@
-use Rattle.std.proofs.Common.{◌≡◌, ◌++◌, ap, ◌∙◌, sym, arith}
+use Rattle.std.proofs.Common.{◌≡◌, ◌++◌, get_or, ap, ◌∙◌, sym, arith}
 use Rattle.awari_board.specs.Text.{digits, mark_after, text_to, text_of}
 use Rattle.awari_board.proofs.Writing.{text_to-more}
 use Rattle.awari_board.proofs.boards.Board.print.Goals as goal
@@ -9,10 +9,11 @@ loop-place-preserved c =
     record {
       room = omega (arith, c.push_pit.ensures.room, before.room);
       items =
-          c.push_pit.ensures.items ∙ ap (λ t. t ++ (digits c.pit.result ++ mark_after c.loop-place.place)) before.items
-          ∙ ap (λ s. text_to c.args.self.now c.loop-place.place ++ (digits s ++ mark_after c.loop-place.place)) c.pit.ensures.stones ∙ sym (text_to-more c.args.self.now c.loop-place.place);
+          c.push_pit.ensures.items ∙ ap (λ b. c.loop-place.text.items ++ (digits (get_or b c.loop-place.place 0) ++ mark_after c.loop-place.place)) c.self.view_is
+          ∙ ap (λ t. t ++ (digits (get_or c.args.self.now c.loop-place.place 0) ++ mark_after c.loop-place.place)) before.items
+          ∙ sym (text_to-more c.args.self.now c.loop-place.place);
     }
 
-pub returns : goal.returns
+pub returns-clause-text : goal.returns-clause-text
 unfolding text_of
-returns c = let end : c.loop-place.place ≡ 12 = omega arith in c.loop-place.invariant.items ∙ ap (text_to c.args.self.now) end
+returns-clause-text c = let end : c.loop-place.place ≡ 12 = omega arith in c.loop-place.invariant.items ∙ ap (text_to c.args.self.now) end
