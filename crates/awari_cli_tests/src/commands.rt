@@ -9,7 +9,7 @@ use std::process::Abort;
 use std::test::Fail;
 
 /// Runs the program on these words, and compares what it prints and its status.
-fn expect_run(
+pub fn expect_run(
     rt: &impl Abort,
     alloc: Global,
     words: &[&str],

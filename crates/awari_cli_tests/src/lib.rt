@@ -3,3 +3,4 @@
 
 #[cfg(test)]
 mod commands;
+mod plays;

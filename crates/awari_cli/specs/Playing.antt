@@ -1,0 +1,31 @@
+-- The command `move`: a move played on a board that is given as text, and what is printed of it.
+use Rattle.std.specs.Prelude.{◌≡◌, ℕ, List, ◌++◌, ◌∷◌, [], codes, Option, Result, Ok, Err}
+use Rattle.std.specs.Fmt.{decimal}
+use Rattle.std.specs.Io.KnownBytes.{Appends}
+use Rattle.awari_board.specs.BoardFault.{IsFaulty}
+use Rattle.awari_board.specs.MoveFault.{IsDue}
+use Rattle.awari_board.specs.Rules.{IsBoard, IsMove}
+use Rattle.awari_board.specs.Text.{text_of}
+use Rattle.awari_board.specs.declared.moves.Moved.{Moved}
+use Rattle.awari_cli.specs.Refusal.{board_fault_text, move_fault_text}
+use Rattle.awari_cli.specs.declared.playing.PlayFault.{PlayFault}
+use Rattle.awari_cli.specs.declared.playing.PlayFault.TheVariants.{Board, Move}
+
+-- the text is that of a board, and the move from this pit of it captures so many stones and leaves that board
+abbrev pub IsPlayed : List ℕ → ℕ → Moved → Type 0
+IsPlayed text pit moved = (board : List ℕ) × IsBoard board × (text ≡ text_of board) × IsMove board pit moved.captured moved.board
+
+-- the fault of the text, or where it is that of a board, the fault of the move
+abbrev pub IsPlayFault : List ℕ → ℕ → PlayFault → Type 0
+IsPlayFault text pit (Board fault) = IsFaulty text fault
+IsPlayFault text pit (Move fault) = (board : List ℕ) × IsBoard board × (text ≡ text_of board) × IsDue board pit fault
+
+abbrev pub play_text : Result Moved PlayFault → List ℕ
+play_text (Ok moved) = text_of moved.board ++ 32 ∷ decimal moved.captured
+play_text (Err (Board fault)) = codes "refused " ++ board_fault_text fault
+play_text (Err (Move fault)) = codes "refused " ++ move_fault_text fault
+
+-- Where it is known what the writer holds, what was written is a move of a board, and the line feed.
+abbrev pub PrintsMove : Option (List ℕ) → Option (List ℕ) → Type 0
+PrintsMove before after = (board : List ℕ) × (pit : ℕ) × (moved : Moved) × IsBoard board × IsMove board pit moved.captured moved.board
+    × Appends before after (play_text (Ok moved) ++ 10 ∷ [])

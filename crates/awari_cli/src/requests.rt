@@ -1,0 +1,169 @@
+//! The words that the program understands.
+
+use clap::{Arg, ArgMatches, Command, Error, value_parser};
+use std::alloc::Global;
+use std::convert::AsStr;
+
+/// What the words ask for.
+#[derive(Clone, Copy, Debug, PartialEq, Eq)]
+pub enum Request<'a> {
+    /// `check`: whether the tables on standard input are right.
+    Check,
+    /// `move BOARD PIT`: the board after a move.
+    Move {
+        board: &'a str,
+        pit: u8,
+    },
+    /// `judge BOARD LIMIT [MOVES]`: where a play stands.
+    Judge {
+        board: &'a str,
+        limit: u32,
+        moves: &'a str,
+    },
+}
+
+/// What the words ask for, of which the first is the program's own name. The error has the text of
+/// `clap`, for `--help` as well. There is none of both only if `clap` lets through what the program
+/// doesn't offer.
+pub fn request_of<'a, S: AsStr>(
+    alloc: Global,
+    words: &'a [S],
+) -> Result<Option<Request<'a>>, Error> {
+    let matches = command(alloc)?.try_get_matches_from(words)?;
+    Ok(match matches.subcommand() {
+        Some((name, given)) => requested(name, given),
+        None => None,
+    })
+}
+
+fn requested<'a>(name: &str, given: &ArgMatches<'a>) -> Option<Request<'a>> {
+    match name {
+        "check" => Some(Request::Check),
+        "move" => Some(Request::Move {
+            board: given.get_str("BOARD")?,
+            pit: given.get_one("PIT")?,
+        }),
+        "judge" => Some(Request::Judge {
+            board: given.get_str("BOARD")?,
+            limit: given.get_one("LIMIT")?,
+            moves: given.get_str("MOVES").unwrap_or(""),
+        }),
+        _ => None,
+    }
+}
+
+fn command<'a>(alloc: Global) -> Result<Command<'a>, Error> {
+    let awari = Command::new(alloc, "awari")
+        .about("Awari endgame tables that are proved right")
+        .after_help(AWARI_HELP)
+        .arg_required_else_help(true)
+        .subcommand_required(true)
+        .subcommand(check_command(alloc))?
+        .subcommand(move_command(alloc)?)?
+        .subcommand(judge_command(alloc)?)?;
+    Ok(awari)
+}
+
+fn check_command<'a>(alloc: Global) -> Command<'a> {
+    Command::new(alloc, "check")
+        .about("Says of tables on standard input whether each is right")
+        .after_help(CHECK_HELP)
+}
+
+fn move_command<'a>(alloc: Global) -> Result<Command<'a>, Error> {
+    let pit = Arg::new(alloc, "PIT")
+        .required(true)
+        .value_parser(value_parser!(u8))
+        .help("The pit to play, 0 to 255");
+    let command = Command::new(alloc, "move")
+        .about("Plays a move, and prints the board after it")
+        .after_help(MOVE_HELP)
+        .arg(board(alloc))?
+        .arg(pit)?;
+    Ok(command)
+}
+
+fn judge_command<'a>(alloc: Global) -> Result<Command<'a>, Error> {
+    let limit = Arg::new(alloc, "LIMIT")
+        .required(true)
+        .value_parser(value_parser!(u32))
+        .help("The plies without a capture that are not yet an outcome");
+    let moves = Arg::new(alloc, "MOVES").help("The pits played, a digit each");
+    let command = Command::new(alloc, "judge")
+        .about("Plays moves, and says where that stands")
+        .after_help(JUDGE_HELP)
+        .arg(board(alloc))?
+        .arg(limit)?
+        .arg(moves)?;
+    Ok(command)
+}
+
+fn board<'a>(alloc: Global) -> Arg<'a> {
+    Arg::new(alloc, "BOARD")
+        .required(true)
+        .help("The stones in the pits, as 0,0,0,0,0,1/1,0,0,0,0,0")
+}
+
+const AWARI_HELP: &str = "\
+A table says of each Awari position of n stones the best difference of stones
+that the player to move can still secure, a pit to play, and a distance.
+Whatever this program says yes to is right for every position.
+
+`awari help check` says what a command reads and prints. The program ends with
+status 0 where it is done, 1 where something was refused, and 2 where its words
+were not understood or asked for help.";
+
+const CHECK_HELP: &str = "\
+The input has a block of lines for each level 0, 1, 2 and so on, in order:
+
+    level N limit K    the stones on each board, the greatest distance
+    V P D              for each board, in order of rank: its value, a pit
+                       to play (0 to 5, or - for none), its distance
+
+It prints one line:
+
+    yes levels M limit K         all M levels are right; K is their limit
+    no level L rank R rule Vx    this board is the first that is not right,
+                                 and this is the first rule that it breaks
+    refused 10 Line line N       the line is not of the form that is due
+    refused 11 Order line N      the line is not the next level's header
+    refused 12 High line N       the line is of a level above the highest
+    refused 13 Short             the input ends early
+    refused 14 Read              the input could not be read
+    refused 15 Memory            there is not enough memory
+
+The status is 0 for a yes, and 1 otherwise. docs/FORMATS.md has the whole form.";
+
+const MOVE_HELP: &str = "\
+BOARD is the stones in the mover's pits 0 to 5 and, after a slash, in the
+opponent's pits 6 to 11. It prints one line:
+
+    BOARD C               the board after the move, as the other player sees
+                          it, and the stones captured
+    refused 1 Shape       BOARD is not twelve fields, parted by five commas,
+                          a slash and five commas
+    refused 2 Number      a field is no number below 100 without a leading 0
+    refused 3 TooMany     there are more than 48 stones
+    refused 4 NoPit       the mover's pits are 0 to 5
+    refused 7 Ended       no pit can be played, so the play has ended
+    refused 5 EmptyPit    the pit is empty
+    refused 6 MustFeed    the opponent has no stones and must be fed
+
+Of several that hold, the first in this list is printed. The status is 0 for a
+move, and 1 for a refusal.";
+
+const JUDGE_HELP: &str = "\
+The moves are played from the board. It prints four lines:
+
+    board BOARD      the board then, as the player to move sees it
+    running R        the stones that the first mover captured less those
+                     that the second captured
+    quiet Q          the plies since the last capture, or since the start
+    outcome X        the outcome, as the first mover sees it: where the play
+                     has ended, with the stones that each side keeps, or where
+                     more than LIMIT plies captured nothing; else `none`
+
+LIMIT is at most 4294967295. A board or a move that is refused is printed
+alone, as `awari help move` says, and a move with its number: `refused 5
+EmptyPit at 2`. A byte of MOVES that is no digit is no pit. The status is 0, or
+1 for a refusal.";
