@@ -9,6 +9,8 @@ mod numbering;
 #[cfg(test)]
 mod plays;
 #[cfg(test)]
+mod predecessors;
+#[cfg(test)]
 mod tables;
 #[cfg(test)]
 mod texts;
