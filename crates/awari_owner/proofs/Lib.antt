@@ -8,3 +8,4 @@ pub mod Taking
 pub mod Gains
 pub mod Spreading
 pub mod Hearing
+pub mod Scanning

@@ -8,3 +8,4 @@ pub mod PartFields
 pub mod Spread
 pub mod OwnerFault
 pub mod Finish
+pub mod Scan

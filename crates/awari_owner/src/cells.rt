@@ -31,6 +31,19 @@ pub struct Cell {
 }
 
 impl Cell {
+    /// The cell of a board of which no note was heard.
+    pub fn unheard(mark: Mark, left: u8, score: i8) -> Cell
+        ensures { result ≡ record { heard = 0; left = left; mark = mark; score = score; dist = 0 } }
+    {
+        Cell {
+            heard: 0,
+            left,
+            mark,
+            score,
+            dist: 0,
+        }
+    }
+
     pub fn is_settled(&self) -> bool
         ensures { result ≡ is_settled self.now.mark }
     {

@@ -7,6 +7,7 @@ mod faults;
 mod notes;
 mod parts;
 mod places;
+mod scans;
 
 pub use faults::OwnerFault;
 pub use notes::{Kind, Note};

@@ -1,12 +1,15 @@
 //! One owner's part of a level, and what is asked of it between two spreads.
-ghost use Rattle.std.specs.Prelude.{◌≡◌, ◌≢◌, ℕ, ℤ, ◌+◌, ◌-◌, ◌^◌, ◌<◌, ◌≤◌, ◌∷◌, ◌↔◌, List, IsTrue, OnOk, OnErr, IfErr, IfSome, All, sum, true, false, slice_set, length, []};
+ghost use Rattle.std.specs.Prelude.{◌≡◌, ◌≢◌, ℕ, ℤ, ◌+◌, ◌-◌, ◌^◌, ◌<◌, ◌≤◌, ◌∷◌, ◌↔◌, List, IsTrue, OnOk, OnErr, IfOk, IfErr, IfSome, All, sum, true, false, slice_set, length, []};
 ghost use Rattle.awari_rank.specs.Rank.{size_of};
 ghost use Rattle.awari_owner.specs.Tally.{has_pit};
 ghost use Rattle.awari_owner.specs.Cells.{IsWithin, IsBeyond};
 ghost use Rattle.awari_owner.specs.Blocks.{due_dist, KeepSettled};
 ghost use Rattle.awari_owner.specs.Part.{Part as PartView, InBlock, Leaves, IsExpected, IsTallied, cell_at, stored_at, PutsCell, JoinsFresh, settled_at, IsLeastDue, unspread};
 ghost use Rattle.awari_owner.specs.OwnerFault.{IsFaultOf};
+ghost use Rattle.awari_owner.specs.Scan.{IsScan, IsWhole};
 ghost use Rattle.awari_owner.specs.Spread.{HearsOwn};
+ghost use Rattle.awari_table.specs.Images.{table_of};
+ghost use Rattle.awari_owner.specs.declared.faults.OwnerFault.{OwnerFault};
 ghost use Rattle.awari_owner.specs.declared.notes.Note.{Note as NoteView};
 
 use crate::blocks::{Due, open_cells, put};
@@ -14,7 +17,10 @@ use crate::cells::{Cell, Mark};
 use crate::faults::OwnerFault;
 use crate::notes::Note;
 use crate::places::Place;
-use awari_rank::{rank, unrank};
+use crate::scans::{first_rank, scanned_block};
+use awari_rank::{rank, size, unrank};
+use awari_table::Shelf;
+use std::alloc::Global;
 use std::collections::BinaryHeap;
 use std::marker::Model;
 
@@ -41,6 +47,41 @@ impl Model for Part {
 }
 
 impl Part {
+    /// The part of this owner, one of `owners`, of the shelf's next level: each board of its block
+    /// with no note heard, and no gain open. There are 1 to 16 owners, and the shelf has at most 12
+    /// levels. Refused as 33 `Memory` where a growth was.
+    ///
+    /// It takes all the memory that the part will ever need, 16 bytes a board.
+    pub fn scan(alloc: Global, shelf: &Shelf, owners: u8, owner: u8) -> Result<Part, OwnerFault>
+        requires owners { (1 ≤ owners) × (owners ≤ 16) }
+        requires owner { owner < owners }
+        requires low { length shelf.now ≤ 12 }
+        ensures scanned { IfOk result (IsScan (length shelf.now) owners owner) }
+        ensures whole { owners ≡ 1 → IfOk result IsWhole }
+        ensures tallied { IfOk result (λ part. IsTallied (table_of shelf.now).value part []) }
+        ensures hears { IfOk result (λ part. HearsOwn part []) }
+        ensures memory { IfErr result (λ fault. fault ≡ OwnerFault.Memory) }
+    {
+        let level = shelf.levels();
+        let boards = size(level);
+        let start = first_rank(boards, owners, owner);
+        let end = first_rank(boards, owners, owner + 1);
+        let place = Place {
+            level,
+            gain: level + 1,
+            wave: 0,
+            start,
+        };
+        match scanned_block(alloc, shelf, start, end) {
+            Ok((cells, fresh)) => Ok(Part {
+                place,
+                cells,
+                fresh,
+            }),
+            Err(_) => Err(OwnerFault::Memory),
+        }
+    }
+
     /// Value in stones and distance in plies of the board of this rank, if it is settled. The rank
     /// is one of the block.
     pub fn settled(&self, rank: u32) -> Option<(i8, u32)>
