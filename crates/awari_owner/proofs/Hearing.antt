@@ -1,0 +1,244 @@
+-- The notes of moves that stay in the block, once a note came in.
+use Rattle.std.proofs.Common.{◌≡◌, ℕ, zero, suc, get_or, ◌+◌, ◌<◌, ◌≤◌, ◌==◌, ◌⊎◌, inl, inr, Bool, true, false, cond, List, [], ◌∷◌, length, sum, ℤ, Some, is_some, ◌&&◌, nat_le, refl, sym, ap, subst, subst₂, ◌∙◌, arith, eqb-true}
+use Rattle.std.proofs.lemmas.Bool.Decides.{nat_tests}
+use Rattle.awari_board.specs.Rules.{IsBoard, next_board}
+use Rattle.awari_rank.specs.Rank.{rank_of}
+use Rattle.awari_owner.specs.Notes.{IsQuietMove, Has, IsNoteOf}
+use Rattle.awari_owner.specs.Part.{Part, InBlock, Leaves, JoinsFresh, settled_at, settled_by, notes_for}
+use Rattle.awari_owner.specs.Cells.{is_settled, status_of, status_by, Keeps}
+use Rattle.awari_owner.specs.declared.cells.Cell.{Cell}
+use Rattle.awari_owner.specs.declared.cells.Mark.{Mark}
+use Rattle.awari_owner.specs.declared.cells.Mark.TheVariants.{Ended, Quiet, Capturing, Settled}
+use Rattle.std.proofs.lemmas.Bool.{false≢true}
+use Rattle.awari_owner.specs.Blocks.{is_settled_in, times_due, cell_in, KeepSettled}
+use Rattle.awari_owner.specs.Spread.{Source, HearsOwn, IsSpread, AreSources, is_held, note_to, with_own, with_all_own}
+use Rattle.awari_owner.specs.declared.notes.Kind.{Kind}
+use Rattle.awari_owner.proofs.Spreading.{IsInjective}
+use Rattle.awari_owner.specs.declared.notes.Note.{Note}
+
+abbrev one_if : Bool → ℕ
+one_if b = cond b 1 0
+
+-- notes that were there are there still
+has_more : (r : ℕ) (m k : Note) (notes : List Note) → Has (notes_for r notes) k → Has (notes_for r (m ∷ notes)) k
+has_more r m k notes has = at (m.target == r)
+  where
+    at : (b : Bool) → Has (cond b (m ∷ notes_for r notes) (notes_for r notes)) k
+    at true = inr has
+    at false = has
+
+-- a note that is there was there, or is the new one
+had_before : (r : ℕ) (m k : Note) (notes : List Note) → Has (notes_for r (m ∷ notes)) k → Has (notes_for r notes) k ⊎ ((k ≡ m) × (m.target ≡ r))
+had_before r m k notes = at (m.target == r) refl
+  where
+    at : (b : Bool) → (m.target == r) ≡ b → Has (cond b (m ∷ notes_for r notes) (notes_for r notes)) k → Has (notes_for r notes) k ⊎ ((k ≡ m) × (m.target ≡ r))
+    at true e (inl same) = inr (same, eqb-true m.target r e)
+    at true e (inr has) = inl has
+    at false e has = inl has
+
+-- a note of a move that leaves the block says nothing of the moves that stay
+pub hears_take : (old new : Part) (notes : List Note) (m : Note) → HearsOwn old notes → Leaves old m.target m.pit → new.level ≡ old.level
+    → ((r : ℕ) → InBlock new r → InBlock old r) → ((r : ℕ) (v : ℤ) (d : ℕ) → InBlock new r → IsSpread new r v d → IsSpread old r v d) → ((r : ℕ) (v : ℤ) (d : ℕ) → InBlock new r → IsSpread old r v d → IsSpread new r v d)
+    → HearsOwn new (m ∷ notes)
+hears_take old new notes m own leaves level inside back forth = record {
+  true_notes = λ p x q is stones in_p in_q quiet k has pit. elim (had_before (rank_of p) m k notes has) [
+    | inl before ↦ (let told = own.true_notes p x q is (stones ∙ level) (inside _ in_p) (inside _ in_q) quiet k before pit in (told.0, told.1, forth (rank_of q) told.0 told.1 in_q told.2, told.3))
+    | inr new_one ↦ absurd (
+        let there = leaves p is (stones ∙ level) (sym new_one.1) in
+        let pits : x ≡ m.pit = sym pit ∙ ap (λ (j : Note). j.pit) new_one.0 in
+        let same : q ≡ there.0 = quiet.leaves ∙ ap (next_board p) pits ∙ sym there.1.leaves in
+        there.2 (subst (λ (b : List ℕ). InBlock old (rank_of b)) same (inside _ in_q)))
+  ];
+  all_notes = λ p x q v d is stones in_p in_q quiet spread.
+      let told = own.all_notes p x q v d is (stones ∙ level) (inside _ in_p) (inside _ in_q) quiet (back (rank_of q) v d in_q spread) in
+      (told.0, has_more (rank_of p) m told.0 notes told.1, told.2);
+}
+
+-- ---- what is spread stays, and nothing else becomes so, where the newly settled join the fresh
+
+some_settled : (c : Cell) (v : ℤ) (d : ℕ) → settled_by (status_of c) ≡ Some (v, d) → is_settled c.mark ≡ true
+some_settled c v d e = at c.mark refl
+  where
+    at : (m : Mark) → c.mark ≡ m → is_settled c.mark ≡ true
+    at Settled f = ap is_settled f
+    at Quiet f = absurd (false≢true (ap (λ k. is_some (settled_by (status_by k c.left c.score c.dist))) (sym f) ∙ ap is_some e))
+    at Capturing f = absurd (false≢true (ap (λ k. is_some (settled_by (status_by k c.left c.score c.dist))) (sym f) ∙ ap is_some e))
+    at Ended f = absurd (false≢true (ap (λ k. is_some (settled_by (status_by k c.left c.score c.dist))) (sym f) ∙ ap is_some e))
+
+kept_status : (a b : Cell) → Keeps a b → is_settled a.mark ≡ true → settled_by (status_of b) ≡ settled_by (status_of a)
+kept_status a b keeps e = at a.mark refl e (keeps e)
+  where
+    at : (m : Mark) → a.mark ≡ m → is_settled a.mark ≡ true → (b.mark ≡ a.mark) × (b.score ≡ a.score) × (b.dist ≡ a.dist) → settled_by (status_of b) ≡ settled_by (status_of a)
+    at m f g same =
+        let both : is_settled b.mark ≡ true = ap is_settled same.0 ∙ g in
+        value_of b both ∙ (λ i. Some (same.1 i, same.2 i)) ∙ sym (value_of a g)
+      where
+        value_of : (c : Cell) → is_settled c.mark ≡ true → settled_by (status_of c) ≡ Some (c.score, c.dist)
+        value_of c h = by c.mark h
+          where
+            by : (k : Mark) → is_settled k ≡ true → settled_by (status_by k c.left c.score c.dist) ≡ Some (c.score, c.dist)
+            by Settled h = refl
+            by Quiet h = absurd (false≢true h)
+            by Capturing h = absurd (false≢true h)
+            by Ended h = absurd (false≢true h)
+
+is_settled_at : (part : Part) (r : ℕ) (v : ℤ) (d : ℕ) → part.start ≤ r → settled_at part r ≡ Some (v, d) → is_settled_in part.start part.cells r ≡ true
+is_settled_at part r v d low e = both (nat_le part.start r) (is_settled (cell_in part.start part.cells r).mark) (le_true part.start r low) (some_settled (cell_in part.start part.cells r) v d e)
+  where
+    both : (a b : Bool) → a ≡ true → b ≡ true → (a && b) ≡ true
+    both a b e f = grind arith
+
+    le_true : (a b : ℕ) → a ≤ b → nat_le a b ≡ true
+    le_true a b h = grind (arith, nat_tests)
+
+-- what is spread stays spread
+pub spread_stays : (old new : Part) → new.start ≡ old.start → KeepSettled old.start old.cells new.cells → JoinsFresh old new → (r : ℕ) (v : ℤ) (d : ℕ) → old.start ≤ r → IsSpread old r v d → IsSpread new r v d
+spread_stays old new start keeps joins r v d low spread =
+    let was = is_settled_at old r v d low spread.0 in
+    let same : settled_at new r ≡ settled_at old r =
+    ap (λ s. settled_by (status_of (cell_in s new.cells r))) start ∙ kept_status (cell_in old.start old.cells r) (cell_in old.start new.cells r) (keeps r low) (some_settled (cell_in old.start old.cells r) v d spread.0) in
+    let one : one_if (is_settled_in old.start old.cells r) ≡ 1 = ap one_if was in
+    let most : one_if (is_settled_in old.start new.cells r) ≤ 1 = at_most (is_settled_in old.start new.cells r) in
+    let law : times_due new.fresh r + one_if (is_settled_in old.start old.cells r) ≡ times_due old.fresh r + one_if (is_settled_in old.start new.cells r) = joins r in
+    (same ∙ spread.0, omega (arith, one, most, law, spread.1))
+  where
+    at_most : (b : Bool) → one_if b ≤ 1
+    at_most true = omega arith
+    at_most false = omega arith
+
+-- and nothing else becomes spread
+pub spread_before : (old new : Part) → new.start ≡ old.start → KeepSettled old.start old.cells new.cells → JoinsFresh old new → (r : ℕ) (v : ℤ) (d : ℕ) → old.start ≤ r → IsSpread new r v d → IsSpread old r v d
+spread_before old new start keeps joins r v d low spread =
+    let now : is_settled_in old.start new.cells r ≡ true = subst (λ s. is_settled_in s new.cells r ≡ true) start (is_settled_at new r v d (omega (arith, start)) spread.0) in
+    let one : one_if (is_settled_in old.start new.cells r) ≡ 1 = ap one_if now in
+    let law : times_due new.fresh r + one_if (is_settled_in old.start old.cells r) ≡ times_due old.fresh r + one_if (is_settled_in old.start new.cells r) = joins r in
+    at (is_settled_in old.start old.cells r) refl law one
+  where
+    mark_is : is_settled_in old.start old.cells r ≡ true → is_settled (cell_in old.start old.cells r).mark ≡ true
+    mark_is e = second (nat_le old.start r) (is_settled (cell_in old.start old.cells r).mark) e
+      where
+        second : (a b : Bool) → (a && b) ≡ true → b ≡ true
+        second a b e = grind arith
+
+    at : (b : Bool) → is_settled_in old.start old.cells r ≡ b → times_due new.fresh r + one_if (is_settled_in old.start old.cells r) ≡ times_due old.fresh r + one_if (is_settled_in old.start new.cells r)
+        → one_if (is_settled_in old.start new.cells r) ≡ 1 → IsSpread old r v d
+    at true e law one =
+        let was : one_if (is_settled_in old.start old.cells r) ≡ 1 = ap one_if e in
+        let same : settled_at new r ≡ settled_at old r =
+        ap (λ s. settled_by (status_of (cell_in s new.cells r))) start ∙ kept_status (cell_in old.start old.cells r) (cell_in old.start new.cells r) (keeps r low) (mark_is e) in
+        (sym same ∙ spread.0, omega (arith, law, one, was, spread.1))
+    at false e law one = let was : one_if (is_settled_in old.start old.cells r) ≡ 0 = ap one_if e in absurd (omega (arith, law, one, was, spread.1))
+
+-- a note of a move that leaves the block keeps what is known of the moves that stay
+pub hears_kept : (old new : Part) (notes : List Note) (m : Note) → HearsOwn old notes → Leaves old m.target m.pit → new.level ≡ old.level → new.start ≡ old.start → length new.cells ≡ length old.cells
+    → KeepSettled old.start old.cells new.cells → JoinsFresh old new → HearsOwn new (m ∷ notes)
+hears_kept old new notes m own leaves level start len keeps joins =
+    hears_take old new notes m own leaves level inside
+    (λ r v d in_r spread. spread_before old new start keeps joins r v d (inside r in_r).0 spread)
+    (λ r v d in_r spread. spread_stays old new start keeps joins r v d (inside r in_r).0 spread)
+  where
+    inside : (r : ℕ) → InBlock new r → InBlock old r
+    inside r in_r = let a = in_r.0 in let b = in_r.1 in (omega (arith, start), omega (arith, start, len))
+
+-- the same, where no note came in
+pub hears_still : (old new : Part) (notes : List Note) → HearsOwn old notes → new.level ≡ old.level → new.start ≡ old.start → length new.cells ≡ length old.cells
+    → KeepSettled old.start old.cells new.cells → JoinsFresh old new → HearsOwn new notes
+hears_still old new notes own level start len keeps joins = record {
+  true_notes = λ p x q is stones in_p in_q quiet k has pit.
+      let told = own.true_notes p x q is (stones ∙ level) (inside _ in_p) (inside _ in_q) quiet k has pit in
+      (told.0, told.1, spread_stays old new start keeps joins (rank_of q) told.0 told.1 (inside _ in_q).0 told.2, told.3);
+  all_notes = λ p x q v d is stones in_p in_q quiet spread.
+      own.all_notes p x q v d is (stones ∙ level) (inside _ in_p) (inside _ in_q) quiet (spread_before old new start keeps joins (rank_of q) v d (inside _ in_q).0 spread);
+}
+  where
+    inside : (r : ℕ) → InBlock new r → InBlock old r
+    inside r in_r = let a = in_r.0 in let b = in_r.1 in (omega (arith, start), omega (arith, start, len))
+
+-- ---- a spread
+
+-- notes that were there are there still
+has_own_more : (part : Part) (kind : Kind) (r : ℕ) (y : Source) (k : Note) (notes : List Note) → Has (notes_for r notes) k → Has (notes_for r (with_own part kind notes y)) k
+has_own_more part kind r y k notes has = at (is_held part (rank_of y.0))
+  where
+    at : (b : Bool) → Has (notes_for r (cond b (note_to part kind y ∷ notes) notes)) k
+    at true = has_more r (note_to part kind y) k notes has
+    at false = has
+
+pub has_all_more : (part : Part) (kind : Kind) (r : ℕ) (ys : List Source) (k : Note) (notes : List Note) → Has (notes_for r notes) k → Has (notes_for r (with_all_own part kind notes ys)) k
+has_all_more part kind r [] k notes has = has
+has_all_more part kind r (y ∷ ys) k notes has = has_all_more part kind r ys k (with_own part kind notes y) (has_own_more part kind r y k notes has)
+
+-- the note of each source of the block is there
+has_source : (part : Part) (kind : Kind) (ys : List Source) (j : ℕ) (d : Source) (notes : List Note) → j < length ys → is_held part (rank_of (get_or ys j d).0) ≡ true
+    → Has (notes_for (rank_of (get_or ys j d).0) (with_all_own part kind notes ys)) (note_to part kind (get_or ys j d))
+has_source part kind [] j d notes h held = absurd (omega arith)
+has_source part kind (y ∷ ys) (suc j) d notes h held = has_source part kind ys j d (with_own part kind notes y) (omega arith) held
+has_source part kind (y ∷ ys) zero d notes h held =
+    has_all_more part kind (rank_of y.0) ys (note_to part kind y) (with_own part kind notes y)
+    (subst (λ b. Has (notes_for (rank_of y.0) (cond b (note_to part kind y ∷ notes) notes)) (note_to part kind y)) (sym held)
+    (subst (λ b. Has (cond b (note_to part kind y ∷ notes_for (rank_of y.0) notes) (notes_for (rank_of y.0) notes)) (note_to part kind y)) (sym (eqb_self (rank_of y.0))) (inl refl)))
+  where
+    eqb_self : (x : ℕ) → (x == x) ≡ true
+    eqb_self x = grind (arith, nat_tests)
+
+-- a note that is there was there, or is that of a source
+had_first : (part : Part) (kind : Kind) (r : ℕ) (ys : List Source) (k : Note) (notes : List Note) → Has (notes_for r (with_all_own part kind notes ys)) k
+    → Has (notes_for r notes) k ⊎ ((j : ℕ) × (j < length ys) × ((d : Source) → (k ≡ note_to part kind (get_or ys j d)) × (rank_of (get_or ys j d).0 ≡ r)))
+had_first part kind r [] k notes has = inl has
+had_first part kind r (y ∷ ys) k notes has = elim (had_first part kind r ys k (with_own part kind notes y) has) [
+  | inl before ↦ at (is_held part (rank_of y.0)) before
+  | inr later ↦ (let l = later.1 in inr (suc later.0, (omega arith), λ d. later.2 d))
+]
+  where
+    at : (b : Bool) → Has (notes_for r (cond b (note_to part kind y ∷ notes) notes)) k
+        → Has (notes_for r notes) k ⊎ ((j : ℕ) × (j < length (y ∷ ys)) × ((d : Source) → (k ≡ note_to part kind (get_or (y ∷ ys) j d)) × (rank_of (get_or (y ∷ ys) j d).0 ≡ r)))
+    at false before = inl before
+    at true before = elim (had_before r (note_to part kind y) k notes before) [ inl old ↦ inl old | inr new ↦ inr (0, (omega arith), λ d. new) ]
+
+-- Where q is the one board that becomes spread, its notes for the block are all that is new.
+pub hears_spread : (old new : Part) (notes : List Note) (q : List ℕ) (sources : List Source) (kind : Kind) (v : ℤ) (d : ℕ) → IsInjective → HearsOwn old notes → AreSources q sources
+    → ((p : List ℕ) (x : ℕ) (r : List ℕ) → IsBoard p → IsQuietMove p x r → IsBoard r × (sum r ≡ sum p))
+    → IsBoard q → sum q ≡ old.level → new.level ≡ old.level
+    → ((r : ℕ) → InBlock new r → InBlock old r) → ((r : ℕ) → InBlock new r → is_held old r ≡ true)
+    → ((r : ℕ) (v : ℤ) (d : ℕ) → InBlock new r → IsSpread old r v d → IsSpread new r v d)
+    → IsSpread new (rank_of q) v d
+    → ((r : ℕ) (u : ℤ) (e : ℕ) → InBlock new r → IsSpread new r u e → IsSpread old r u e ⊎ ((r ≡ rank_of q) × (u ≡ v) × (e ≡ d)))
+    → ((y : Source) → IsQuietMove y.0 y.1 q → sum y.0 ≡ old.level → IsNoteOf q v d y.0 y.1 (note_to old kind y))
+    → HearsOwn new (with_all_own old kind notes sources)
+hears_spread old new notes q sources kind v d injective own are keeps is_q stones level inside held forth spread back fits = record {
+  true_notes = λ p x q' is st in_p in_q quiet k has pit. elim (had_first old kind (rank_of p) sources k notes has) [
+    | inl before ↦ (let told = own.true_notes p x q' is (st ∙ level) (inside _ in_p) (inside _ in_q) quiet k before pit in (told.0, told.1, forth (rank_of q') told.0 told.1 in_q told.2, told.3))
+    | inr later ↦ true_new p x q' is (st ∙ level) quiet k pit later.0 later.1 (later.2 (p, x))
+  ];
+  all_notes = λ p x q' u e is st in_p in_q quiet there. elim (back (rank_of q') u e in_q there) [
+    | inl before ↦ (let told = own.all_notes p x q' u e is (st ∙ level) (inside _ in_p) (inside _ in_q) quiet before in (told.0, has_all_more old kind (rank_of p) sources told.0 notes told.1, told.2))
+    | inr here ↦ all_new p x q' u e is (st ∙ level) in_p quiet here
+  ];
+}
+  where
+    true_new : (p : List ℕ) (x : ℕ) (q' : List ℕ) → IsBoard p → sum p ≡ old.level → IsQuietMove p x q' → (k : Note) → k.pit ≡ x → (j : ℕ) → j < length sources
+        → (k ≡ note_to old kind (get_or sources j (p, x))) × (rank_of (get_or sources j (p, x)).0 ≡ rank_of p)
+        → (u : ℤ) × (e : ℕ) × IsSpread new (rank_of q') u e × IsNoteOf q' u e p x k
+    true_new p x q' is st quiet k pit j h found =
+        let y : Source = get_or sources j (p, x) in
+        let each = are.each j (p, x) h in
+        let boards : y.0 ≡ p = injective y.0 p each.0 is (each.1 ∙ stones ∙ sym st) found.1 in
+        let pits : y.1 ≡ x = sym (ap (λ (m : Note). m.pit) found.0) ∙ pit in
+        let same : q ≡ q' = each.2.leaves ∙ ap (λ b. next_board b y.1) boards ∙ ap (next_board p) pits ∙ sym quiet.leaves in
+        let note : IsNoteOf q v d y.0 y.1 k = subst (IsNoteOf q v d y.0 y.1) (sym found.0) (fits y each.2 (each.1 ∙ stones)) in
+        let at_p : IsNoteOf q v d p x k = subst₂ (λ (b : List ℕ) (z : ℕ). IsNoteOf q v d b z k) boards pits note in
+        (v, d, subst (λ (b : List ℕ). IsSpread new (rank_of b) v d) same spread, subst (λ (b : List ℕ). IsNoteOf b v d p x k) same at_p)
+
+    all_new : (p : List ℕ) (x : ℕ) (q' : List ℕ) (u : ℤ) (e : ℕ) → IsBoard p → sum p ≡ old.level → InBlock new (rank_of p) → IsQuietMove p x q' → (rank_of q' ≡ rank_of q) × (u ≡ v) × (e ≡ d)
+        → (m : Note) × Has (notes_for (rank_of p) (with_all_own old kind notes sources)) m × IsNoteOf q' u e p x m
+    all_new p x q' u e is st in_p quiet here =
+        let there = keeps p x q' is quiet in
+        let same : q' ≡ q = injective q' q there.0 is_q (there.1 ∙ st ∙ sym stones) here.0 in
+        let to_q : IsQuietMove p x q = subst (IsQuietMove p x) same quiet in
+        let found = are.every p x is to_q in
+        let y : Source = (p, x) in
+        let has : Has (notes_for (rank_of p) (with_all_own old kind notes sources)) (note_to old kind y) =
+        subst (λ (z : Source). Has (notes_for (rank_of z.0) (with_all_own old kind notes sources)) (note_to old kind z)) found.2
+        (has_source old kind sources found.0 y notes found.1 (subst (λ (z : Source). is_held old (rank_of z.0) ≡ true) (sym found.2) (held (rank_of p) in_p))) in
+        let note : IsNoteOf q v d p x (note_to old kind y) = fits y to_q st in
+        (note_to old kind y, has, subst₂ (λ (w : ℤ) (f : ℕ). IsNoteOf q' w f p x (note_to old kind y)) (sym here.1) (sym here.2) (subst (λ (b : List ℕ). IsNoteOf b v d p x (note_to old kind y)) (sym same) note))

@@ -1,0 +1,11 @@
+pub mod Basics
+pub mod Legality
+pub mod Statuses
+pub mod Tallies
+pub mod BlockLemmas
+pub mod Opening
+pub mod Taking
+pub mod Gains
+pub mod Spreading
+pub mod Hearing
+pub mod Scanning

@@ -1,0 +1,330 @@
+-- A board of which no note was heard is open before any gain is.
+use Rattle.std.proofs.Common.{◌≡◌, ℕ, zero, suc, ◌+◌, ◌<◌, ◌≤◌, ◌==◌, ◌⊎◌, inl, inr, Bool, true, false, not, ◌&&◌, cond, if◌then◌else◌, is_some, All, List, [], ◌∷◌, ◌++◌, ◌-◌, ◌≢◌, length, get_or, length-append, subst₂, sum, take, count_by, ℤ, Option, Some, None, pos, neg_ℤ, ◌-ℤ◌, ◌<ℤ◌, ◌≤ℤ◌, refl, sym, ap, subst, ◌∙◌, arith, eqb-true}
+use Rattle.std.proofs.lemmas.Bool.Decides.{nat_tests}
+use Rattle.std.proofs.lemmas.Int.{ints}
+use Rattle.std.proofs.lemmas.List.Sums.{count_by-le-length}
+use Rattle.std.proofs.lemmas.List.{get_or_append_left, get_or_default}
+use Rattle.std.proofs.Math.Seq.{get_or-append_seam}
+use Rattle.awari_board.specs.Rules.{IsBoard, IsEnd, IsEnded, IsLegal, IsMove, captured, next_board, own_stones}
+use Rattle.awari_board.specs.Tests.{is_legal}
+use Rattle.awari_board.proofs.Legal.{legal_is}
+use Rattle.awari_owner.specs.Tally.{Open, has_pit, is_left, left_of, pits, Captures, IsBest, Knows, IsStatus, IsTally}
+use Rattle.awari_owner.specs.Cells.{IsWithin, IsEither, Fits, FitsBy, view_of, status_of, status_by, is_settled}
+use Rattle.awari_owner.specs.declared.cells.Cell.{Cell}
+use Rattle.awari_owner.specs.declared.cells.Mark.{Mark}
+use Rattle.awari_owner.specs.declared.cells.Mark.TheVariants.{Ended, Quiet, Capturing, Settled}
+use Rattle.awari_owner.specs.declared.places.Place.{Place}
+use Rattle.awari_owner.specs.Scan.{IsRanged, IsBestBelow, IsOutlook, IsScanned, AreScanned}
+use Rattle.awari_rank.specs.Rank.{rank_of}
+use Rattle.awari_owner.specs.Blocks.{Due, due_rank, due_cmp, cell_in, no_cell, times_due, is_settled_in, IsDueAs, IsBlock}
+use Rattle.std.specs.BinaryHeap.{IsHeap}
+use Rattle.awari_owner.specs.Part.{Part, InBlock, settled_by, settled_at}
+use Rattle.awari_owner.specs.Spread.{HearsOwn}
+use Rattle.std.proofs.lemmas.Bool.{false≢true}
+use Rattle.awari_owner.proofs.Basics.{below_six, count_by-none, count_by-some}
+use Rattle.awari_owner.proofs.BlockLemmas.{one_if}
+use Rattle.awari_owner.proofs.Legality.{quiet_counted}
+
+pub scanned : (value : List ℕ → ℤ) (p : List ℕ) (best : Option ℤ) → ((x : ℕ) × IsLegal p x) → IsBest value p best
+    → ((v : ℤ) → Captures value p v → (neg_ℤ (pos (sum p + 1)) <ℤ v) × (v <ℤ pos (sum p + 1)))
+    → IsStatus value p [] (sum p + 1) (Open (left_of p []) best 0)
+scanned value p best going is within = (
+  λ ended. ended going.0 going.1,
+  record { quiet_left = refl; best_capture = is; farthest = refl },
+  record { below = below; above = by (captured p going.0) refl },
+)
+  where
+    below : (v : ℤ) → Knows value p [] v → v <ℤ pos (sum p + 1)
+    below v (inl capture) = (within v capture).1
+    below v (inr note) = absurd note.1
+
+    some : (n : ℕ) → n ≡ left_of p [] → captured p going.0 ≡ 0 → 0 < left_of p []
+    some (suc n) e none = omega arith
+    some zero e none = absurd (clash (is_legal p going.0) (captured p going.0) ((legal_is p going.0).1 going.1) none (count_by-none (is_left p []) (sym e) going.0 going.1.own))
+      where
+        clash : (a : Bool) (c : ℕ) → a ≡ true → c ≡ 0 → ((a && (c == 0)) && not false) ≡ false → ⊥
+        clash a c e f g = grind (arith, nat_tests)
+
+    by : (c : ℕ) → captured p going.0 ≡ c → (0 < left_of p []) ⊎ ((v : ℤ) × Knows value p [] v × (neg_ℤ (pos (sum p + 1)) <ℤ v))
+    by zero e = inl (some (left_of p []) refl e)
+    by (suc c) e =
+        let capture : Captures value p (pos (suc c) -ℤ value (next_board p going.0)) =
+        (going.0, suc c, next_board p going.0, record { legal = going.1; captures = sym e; leaves = refl }, omega arith, refl) in
+        inr (pos (suc c) -ℤ value (next_board p going.0), inl capture, (within (pos (suc c) -ℤ value (next_board p going.0)) capture).0)
+
+-- ---- the outlook, pit by pit
+
+module _ (value : List ℕ → ℤ) (p : List ℕ) where
+  pub outlook-none : IsOutlook value p 0 0 None
+  outlook-none = record { few = omega arith; counted = refl; best_below = λ x c q h move some. absurd (omega (arith, h)) }
+
+  -- one pit more is one count more where it is a quiet move
+  count-more : (k : ℕ) → k < 6 → count_by (is_left p []) (take (k + 1) pits) ≡ count_by (is_left p []) (take k pits) + one_if (is_left p [] k)
+  count-more = below_six (λ k. count_by (is_left p []) (take (k + 1) pits) ≡ count_by (is_left p []) (take k pits) + one_if (is_left p [] k)) refl refl refl refl refl refl
+
+  left-illegal : (k : ℕ) → (IsLegal p k → ⊥) → one_if (is_left p [] k) ≡ 0
+  left-illegal k illegal = by (is_legal p k) refl
+    where
+      by : (b : Bool) → is_legal p k ≡ b → one_if ((is_legal p k && (captured p k == 0)) && not false) ≡ 0
+      by true e = absurd (illegal ((legal_is p k).0 e))
+      by false e = subst (λ b. one_if ((b && (captured p k == 0)) && not false) ≡ 0) (sym e) refl
+
+  left-quiet : (k : ℕ) (q : List ℕ) → IsMove p k 0 q → one_if (is_left p [] k) ≡ 1
+  left-quiet k q move = subst (λ b. one_if (b && not false) ≡ 1) (sym (quiet_counted p k 0 q move refl)) refl
+
+  left-capture : (k c : ℕ) (q : List ℕ) → IsMove p k c q → 0 < c → one_if (is_left p [] k) ≡ 0
+  left-capture k c q move some = by (captured p k == 0) refl
+    where
+      by : (b : Bool) → (captured p k == 0) ≡ b → one_if ((is_legal p k && (captured p k == 0)) && not false) ≡ 0
+      by true e = absurd (let zero = eqb-true (captured p k) 0 e in omega (arith, some, zero, move.captures))
+      by false e = subst (λ b. one_if ((is_legal p k && b) && not false) ≡ 0) (sym e) (none (is_legal p k))
+        where
+          none : (a : Bool) → one_if ((a && false) && not false) ≡ 0
+          none true = refl
+          none false = refl
+
+  -- a pit below k + 1 is below k, or k
+  split : (x k : ℕ) → x < k + 1 → (x < k) ⊎ (x ≡ k)
+  split x k h = grind (arith, h)
+
+  best-skips : (k : ℕ) (best : Option ℤ) → ((c : ℕ) (q : List ℕ) → IsMove p k c q → 0 < c → ⊥) → IsBestBelow value p k best → IsBestBelow value p (k + 1) best
+  best-skips k None none h = λ x c q low move some. elim (split x k low) [ inl less ↦ h x c q less move some | inr same ↦ none c q (subst (λ y. IsMove p y c q) same move) some ]
+  best-skips k (Some b) none h =
+      (h.0, h.1, λ x c q low move some. elim (split x k low) [ inl less ↦ h.2 x c q less move some | inr same ↦ absurd (none c q (subst (λ y. IsMove p y c q) same move) some) ])
+
+  pub outlook-skips : (k quiet : ℕ) (best : Option ℤ) → k < 6 → (IsLegal p k → ⊥) → IsOutlook value p k quiet best → IsOutlook value p (k + 1) quiet best
+  outlook-skips k quiet best own illegal h = record {
+    few = omega (arith, h.few);
+    counted = let more = count-more k own in let none = left-illegal k illegal in omega (arith, h.counted, more, none);
+    best_below = best-skips k best (λ c q move some. illegal move.legal) h.best_below;
+  }
+
+  pub outlook-quiet : (k quiet : ℕ) (best : Option ℤ) (q : List ℕ) → k < 6 → IsMove p k 0 q → IsOutlook value p k quiet best → IsOutlook value p (k + 1) (quiet + 1) best
+  outlook-quiet k quiet best q own move h = record {
+    few = omega (arith, h.few);
+    counted = let more = count-more k own in let one = left-quiet k q move in omega (arith, h.counted, more, one);
+    best_below = best-skips k best (λ c r other some. let none : c ≡ 0 = other.captures ∙ sym move.captures in absurd (omega (arith, some, none))) h.best_below;
+  }
+
+  -- what a capture gains is what any capture of the same pit gains
+  same_gain : (k c d : ℕ) (q r : List ℕ) → IsMove p k c q → IsMove p k d r → (pos d -ℤ value r) ≡ (pos c -ℤ value q)
+  same_gain k c d q r one two =
+      let counts : d ≡ c = two.captures ∙ sym one.captures in
+      let boards : r ≡ q = two.leaves ∙ sym one.leaves in
+      ap (λ n. pos n -ℤ value r) counts ∙ ap (λ (b : List ℕ). pos c -ℤ value b) boards
+
+  pub outlook-capture : (k quiet c : ℕ) (best : Option ℤ) (q : List ℕ) (v w : ℤ) → k < 6 → IsMove p k c q → 0 < c → v ≡ (pos c -ℤ value q) → IsWithin (sum p) v
+      → (best ≡ None) × (w ≡ v) ⊎ ((b : ℤ) × (best ≡ Some b) × (b ≤ℤ w) × (v ≤ℤ w) × ((w ≡ b) ⊎ (w ≡ v)))
+      → IsOutlook value p k quiet best → IsOutlook value p (k + 1) quiet (Some w)
+  outlook-capture k quiet c best q v w own move some gain within either h = record {
+    few = omega (arith, h.few);
+    counted = let more = count-more k own in let none = left-capture k c q move some in omega (arith, h.counted, more, none);
+    best_below = at either;
+  }
+    where
+      here : Captures value p v
+      here = (k, c, q, move, some, gain)
+
+      at_k : (d : ℕ) (r : List ℕ) (x : ℕ) → x ≡ k → IsMove p x d r → (pos d -ℤ value r) ≡ v
+      at_k d r x same other = same_gain k c d q r move (subst (λ y. IsMove p y d r) same other) ∙ sym gain
+
+      at : (best ≡ None) × (w ≡ v) ⊎ ((b : ℤ) × (best ≡ Some b) × (b ≤ℤ w) × (v ≤ℤ w) × ((w ≡ b) ⊎ (w ≡ v))) → IsBestBelow value p (k + 1) (Some w)
+      at (inl first) =
+          let none : IsBestBelow value p k None = subst (IsBestBelow value p k) first.0 h.best_below in (
+            subst (Captures value p) (sym first.1) here,
+            subst (IsWithin (sum p)) (sym first.1) within,
+            λ x d r low other more. elim (split x k low) [
+              | inl less ↦ absurd (none x d r less other more)
+              | inr same ↦ (let e = at_k d r x same other in let f = first.1 in omega (arith, ints, e, f))
+            ],
+          )
+      at (inr later) =
+          let before : IsBestBelow value p k (Some later.0) = subst (IsBestBelow value p k) later.1 h.best_below in (
+            elim later.4 [ inl e ↦ subst (Captures value p) (sym e) before.0 | inr e ↦ subst (Captures value p) (sym e) here ],
+            elim later.4 [ inl e ↦ subst (IsWithin (sum p)) (sym e) before.1 | inr e ↦ subst (IsWithin (sum p)) (sym e) within ],
+            λ x d r low other more. elim (split x k low) [
+              | inl less ↦ (let b = before.2 x d r less other more in let l = later.2 in omega (arith, ints, b, l))
+              | inr same ↦ (let e = at_k d r x same other in let l = later.3 in omega (arith, ints, e, l))
+            ],
+          )
+
+  -- all six pits
+  pub best-all : (best : Option ℤ) → IsBestBelow value p 6 best → IsBest value p best
+  best-all None h = λ v capture. h capture.0 capture.1 capture.2 capture.3.legal.own capture.3 capture.4
+  best-all (Some b) h = (h.0, λ v capture. subst (λ u. u ≤ℤ b) (sym capture.5) (h.2 capture.0 capture.1 capture.2 capture.3.legal.own capture.3 capture.4))
+
+  -- no pit is legal where none is quiet and none captures
+  pub outlook-ended : (best : Option ℤ) → best ≡ None → IsOutlook value p 6 0 best → IsEnded p
+  outlook-ended best none h x legal = by (captured p x) refl
+    where
+      uncounted : left_of p [] ≡ 0
+      uncounted = sym h.counted
+
+      by : (c : ℕ) → captured p x ≡ c → ⊥
+      by zero e =
+          let counted = quiet_counted p x 0 (next_board p x) (record { legal = legal; captures = sym e; leaves = refl }) refl in
+          clash (is_legal p x && (captured p x == 0)) counted (count_by-none (is_left p []) uncounted x legal.own)
+        where
+          clash : (a : Bool) → a ≡ true → (a && not false) ≡ false → ⊥
+          clash a e f = grind arith
+      by (suc c) e =
+          let below : IsBestBelow value p 6 None = subst (IsBestBelow value p 6) none h.best_below in
+          below x (suc c) (next_board p x) legal.own (record { legal = legal; captures = sym e; leaves = refl }) (omega arith)
+
+  -- a quiet move is legal
+  pub outlook-quiet_legal : (quiet : ℕ) (best : Option ℤ) → 0 < quiet → IsOutlook value p 6 quiet best → (x : ℕ) × IsLegal p x
+  outlook-quiet_legal quiet best some h =
+      let found = count_by-some (is_left p []) (omega (arith, h.counted)) in
+      (found.0, (legal_is p found.0).0 (first (is_legal p found.0) (captured p found.0 == 0) found.2))
+    where
+      first : (a b : Bool) → ((a && b) && not false) ≡ true → a ≡ true
+      first a b e = grind arith
+
+-- ---- the cell
+
+-- a capture gains at most the stones on the board
+pub captures_within : (value : List ℕ → ℤ) (p : List ℕ) → ((x c : ℕ) (q : List ℕ) → IsMove p x c q → IsBoard q × (sum q + c ≡ sum p)) → IsRanged value (sum p)
+    → (v : ℤ) → Captures value p v → (neg_ℤ (pos (sum p + 1)) <ℤ v) × (v <ℤ pos (sum p + 1))
+captures_within value p keeps ranged v capture =
+    let kept = keeps capture.0 capture.1 capture.2 capture.3 in
+    let some = capture.4 in
+    let stones = kept.1 in
+    let within = ranged capture.2 kept.0 (omega (arith, some, stones)) in
+    let low = within.0 in
+    let high = within.1 in
+    let gain = capture.5 in
+    (omega (arith, ints, low, high, gain, stones), omega (arith, ints, low, high, gain, stones, some))
+
+pub scanned_capturing : (value : List ℕ → ℤ) (p : List ℕ) (quiet : ℕ) (b : ℤ) (best : Option ℤ) (c : Cell) → ((x c : ℕ) (q : List ℕ) → IsMove p x c q → IsBoard q × (sum q + c ≡ sum p)) → IsRanged value (sum p)
+    → best ≡ Some b → IsOutlook value p 6 quiet best → c ≡ record { heard = 0; left = quiet; mark = Capturing; score = b; dist = 0 } → IsScanned value p c
+scanned_capturing value p quiet b best c keeps ranged some h is = subst (IsScanned value p) (sym is) (record {
+  heard = refl;
+  fits = λ t. (omega arith, below.1);
+  unsettled = refl;
+  status = subst (λ n. IsStatus value p [] (sum p + 1) (Open n (Some b) 0)) (sym h.counted)
+      (scanned value p (Some b) (below.0.0, below.0.3.legal) (best-all value p (Some b) below) (captures_within value p keeps ranged));
+})
+  where
+    below : IsBestBelow value p 6 (Some b)
+    below = subst (IsBestBelow value p 6) some h.best_below
+
+pub scanned_quiet : (value : List ℕ → ℤ) (p : List ℕ) (quiet : ℕ) (best : Option ℤ) (c : Cell) → ((x c : ℕ) (q : List ℕ) → IsMove p x c q → IsBoard q × (sum q + c ≡ sum p)) → IsRanged value (sum p)
+    → best ≡ None → 0 < quiet → IsOutlook value p 6 quiet best → c ≡ record { heard = 0; left = quiet; mark = Quiet; score = pos 0; dist = 0 } → IsScanned value p c
+scanned_quiet value p quiet best c keeps ranged none some h is = subst (IsScanned value p) (sym is) (record {
+  heard = refl;
+  fits = λ t. omega arith;
+  unsettled = refl;
+  status = subst (λ n. IsStatus value p [] (sum p + 1) (Open n None 0)) (sym h.counted)
+      (scanned value p None (outlook-quiet_legal value p quiet best some h) (best-all value p None (subst (IsBestBelow value p 6) none h.best_below)) (captures_within value p keeps ranged));
+})
+
+pub scanned_ended : (value : List ℕ → ℤ) (p : List ℕ) (g : ℤ) (c : Cell) → IsEnd p g → c ≡ record { heard = 0; left = 0; mark = Ended; score = g; dist = 0 } → IsScanned value p c
+scanned_ended value p g c end is = subst (IsScanned value p) (sym is) (record {
+  heard = refl;
+  fits = λ t. subst (IsEither (sum p)) (sym end.gains) (either (own_stones p == 0));
+  unsettled = refl;
+  status = (end, omega arith);
+})
+  where
+    either : (b : Bool) → IsEither (sum p) (cond b (neg_ℤ (pos (sum p))) (pos (sum p)))
+    either true = inr refl
+    either false = inl refl
+
+-- the cell of a board of which no note was heard is a tally of none
+pub scanned_tally : (value : List ℕ → ℤ) (p : List ℕ) (c : Cell) (t w : ℕ) → t ≡ sum p + 1 → IsScanned value p c → IsTally value (view_of c) p [] t w
+scanned_tally value p c t w at h = record {
+  once = tt;
+  quiet = λ m has. absurd has;
+  opened = λ m has. absurd has;
+  waved = λ m has _. absurd has;
+  heard = λ x own. subst (λ n. has_pit n x ≡ false) (sym h.heard) (below_six (λ x. has_pit 0 x ≡ false) refl refl refl refl refl refl x own);
+  status = subst (λ n. IsStatus value p [] n (status_of c)) (sym at) h.status;
+}
+
+-- ---- the cells, board by board
+
+-- the boards of the level of n stones from rank `start` up to this one are scanned, and the board of this rank comes next
+pub record IsScanning (value : List ℕ → ℤ) (n start rank : ℕ) (cells : List Cell) (board : List ℕ) : Type 0 where
+  pub len : start + length cells ≡ rank
+  pub next : IsBoard board
+  pub stones : sum board ≡ n
+  pub ranked : rank_of board ≡ rank
+  pub each : (p : List ℕ) → IsBoard p → sum p ≡ n → start ≤ rank_of p → rank_of p < rank → IsScanned value p (cell_in start cells (rank_of p))
+
+module _ (value : List ℕ → ℤ) (n start : ℕ) where
+  pub IsScanning-none : (board : List ℕ) → IsBoard board → sum board ≡ n → rank_of board ≡ start → IsScanning value n start start [] board
+  IsScanning-none board is stones ranked = record { len = omega arith; next = is; stones = stones; ranked = ranked; each = λ p _ _ low high. absurd (omega (arith, low, high)) }
+
+  -- one board more
+  pub scanned-more : (rank : ℕ) (cells : List Cell) (c : Cell) (board : List ℕ) → ((b d : List ℕ) → IsBoard b → IsBoard d → sum b ≡ sum d → rank_of b ≡ rank_of d → b ≡ d)
+      → IsScanning value n start rank cells board → IsScanned value board c
+      → (p : List ℕ) → IsBoard p → sum p ≡ n → start ≤ rank_of p → rank_of p < rank + 1 → IsScanned value p (cell_in start (cells ++ c ∷ []) (rank_of p))
+  scanned-more rank cells c board injective before here p is stones low high = by (rank_of p == rank) refl
+    where
+      differ : (x y : ℕ) → (x == y) ≡ false → x ≢ y
+      differ x y e = grind (arith, nat_tests)
+
+      by : (b : Bool) → (rank_of p == rank) ≡ b → IsScanned value p (cell_in start (cells ++ c ∷ []) (rank_of p))
+      by true e =
+          let at : rank_of p ≡ rank = eqb-true (rank_of p) rank e in
+          let same : p ≡ board = injective p board is before.next (stones ∙ sym before.stones) (at ∙ sym before.ranked) in
+          let place : rank_of p - start ≡ length cells = omega (arith, at, before.len) in
+          subst₂ (IsScanned value) (sym same) (sym (ap (λ k. get_or (cells ++ c ∷ []) k no_cell) place ∙ get_or-append_seam cells c [] no_cell)) here
+      by false e =
+          let ne : rank_of p ≢ rank = differ (rank_of p) rank e in
+          let less : rank_of p - start < length cells = omega (arith, ne, low, high, before.len) in
+          subst (IsScanned value p) (sym (get_or_append_left cells (c ∷ []) no_cell (rank_of p - start) less)) (before.each p is stones low (omega (arith, ne, high)))
+
+  pub IsScanning-more : (rank : ℕ) (cells : List Cell) (c : Cell) (board next : List ℕ) → ((b d : List ℕ) → IsBoard b → IsBoard d → sum b ≡ sum d → rank_of b ≡ rank_of d → b ≡ d)
+      → IsScanning value n start rank cells board → IsScanned value board c → IsBoard next → sum next ≡ sum board → rank_of next ≡ rank_of board + 1
+      → IsScanning value n start (rank + 1) (cells ++ c ∷ []) next
+  IsScanning-more rank cells c board next injective before here is stones ranked = record {
+    len = omega (arith, before.len, length-append cells (c ∷ []));
+    next = is;
+    stones = stones ∙ before.stones;
+    ranked = omega (arith, ranked, before.ranked);
+    each = scanned-more rank cells c board injective before here;
+  }
+
+-- ---- the block
+
+module _ (value : List ℕ → ℤ) (n start end : ℕ) (cells : List Cell) (long : start + length cells ≡ end)
+    (onto : (r : ℕ) → r < end → (p : List ℕ) × IsBoard p × (sum p ≡ n) × (rank_of p ≡ r)) (scanned_all : AreScanned value n start end cells) where
+  -- each cell is that of a board
+  scanned_at : (k : ℕ) → k < length cells → (p : List ℕ) × (sum p ≡ n) × IsScanned value p (get_or cells k no_cell)
+  scanned_at k h =
+      let board = onto (start + k) (omega (arith, h, long)) in
+      let at : rank_of board.0 - start ≡ k = omega (arith, board.3) in
+      (board.0, board.2, subst (λ j. IsScanned value board.0 (get_or cells j no_cell)) at (scanned_all board.0 board.1 board.2 (omega (arith, board.3)) (omega (arith, board.3, h, long))))
+
+  pub scanned_block : (place : Place) (fresh : List Due) (capacity : ℕ) → place.level ≡ n → fresh ≡ [] → length cells ≤ capacity → IsHeap due_cmp fresh → IsBlock place cells fresh capacity
+  scanned_block place fresh capacity level none room heap = record {
+    fit = λ k d h.
+        let at = scanned_at k h in
+        let same : get_or cells k d ≡ get_or cells k no_cell = get_or_default cells k d no_cell h in
+        subst (Fits place) (sym same) (subst (λ m. FitsBy (get_or cells k no_cell).mark m place.gain (get_or cells k no_cell).score (get_or cells k no_cell).dist) (at.1 ∙ sym level) (at.2.fits place.gain));
+    room = let e = ap length none in let u = count_by-le-length (λ (c : Cell). not (is_settled c.mark)) cells in omega (arith, e, u, room);
+    settled = λ r. subst (λ (fs : List Due). times_due fs r ≤ (if is_settled_in place.start cells r then 1 else 0)) (sym none) (omega arith);
+    due = subst (λ (fs : List Due). All (λ f. IsDueAs place f (cell_in place.start cells (due_rank f))) fs) (sym none) (λ k d h. absurd (omega (arith, h)));
+    ordered = heap;
+  }
+
+  -- no board is settled
+  pub scanned_unsettled : (r : ℕ) → start ≤ r → r - start < length cells → settled_by (status_of (cell_in start cells r)) ≡ None
+  scanned_unsettled r low high = at (cell_in start cells r).mark (scanned_at (r - start) high).2.unsettled
+    where
+      c : Cell
+      c = cell_in start cells r
+
+      at : (m : Mark) → is_settled m ≡ false → settled_by (status_by m c.left c.score c.dist) ≡ None
+      at Settled e = absurd (false≢true (sym e))
+      at Quiet e = refl
+      at Capturing e = refl
+      at Ended e = refl
+
+-- of no notes there is nothing to hear where no board is settled
+pub hears_none : (part : Part) → ((r : ℕ) → InBlock part r → settled_at part r ≡ None) → HearsOwn part []
+hears_none part none = record {
+  true_notes = λ p x q is stones in_p in_q quiet m has pit. absurd has;
+  all_notes = λ p x q v d is stones in_p in_q quiet spread. absurd (false≢true (sym (ap is_some (sym spread.0 ∙ none (rank_of q) in_q))));
+}

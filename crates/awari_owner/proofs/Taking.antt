@@ -1,0 +1,113 @@
+-- What a note makes of a part.
+use Rattle.std.proofs.Common.{◌≡◌, ◌≢◌, ℕ, ◌-◌, ◌≤◌, ◌==◌, Bool, true, false, not, cond, IsTrue, List, ◌∷◌, length, set, sum, ℤ, refl, sym, ap, subst, subst₂, ◌∙◌, arith, rules, eqb-true, length-set}
+use Rattle.std.proofs.lemmas.Bool.Decides.{nat_tests}
+use Rattle.awari_board.specs.Rules.{IsBoard, IsMove}
+use Rattle.awari_rank.specs.Rank.{rank_of}
+use Rattle.awari_owner.specs.Notes.{is_heard_at}
+use Rattle.awari_owner.specs.Tally.{IsTally, has_pit, with_pit}
+use Rattle.awari_owner.specs.Tally as tally
+use Rattle.awari_owner.specs.Steps.{after_note}
+use Rattle.awari_owner.specs.Cells.{status_of}
+use Rattle.awari_owner.specs.Blocks.{cell_in, Due}
+use Rattle.awari_owner.specs.Part.{Part, InBlock, Leaves, IsExpected, IsTakeable, IsTallied, SameLevel, cell_at, stored_at, notes_for}
+use Rattle.awari_owner.specs.declared.notes.Note.{Note}
+use Rattle.awari_owner.specs.declared.cells.Cell.{Cell}
+use Rattle.awari_owner.proofs.Statuses.{IsNew}
+use Rattle.awari_owner.proofs.Tallies.{note_tally}
+use Rattle.awari_owner.proofs.BlockLemmas.{cell_in-other, cell_in-same}
+
+pub not_true : (b : Bool) → IsTrue (not b) → IsTrue b → ⊥
+not_true b h k = grind arith
+
+pub true_not : (b : Bool) → (IsTrue b → ⊥) → IsTrue (not b)
+true_not true h = absurd (h (search rules))
+true_not false h = search rules
+
+pub leaves_by : (part : Part) (target pit : ℕ) (board : List ℕ) (c : ℕ) (q : List ℕ) → ((p : List ℕ) → IsBoard p → sum p ≡ part.level → rank_of p ≡ target → p ≡ board)
+    → IsMove board pit c q → c ≡ 0 → (InBlock part (rank_of q) → ⊥) → Leaves part target pit
+leaves_by part target pit board c q only move none out p is stones at =
+    (q, subst₂ (λ (b : List ℕ) (n : ℕ). IsMove b pit n q) (sym (only p is stones at)) none move, out)
+
+pub leaves_as : (part : Part) (target pit : ℕ) (board : List ℕ) (c : ℕ) (q : List ℕ) → IsBoard board → sum board ≡ part.level → rank_of board ≡ target
+    → IsMove board pit c q → Leaves part target pit → (c ≡ 0) × (InBlock part (rank_of q) → ⊥)
+leaves_as part target pit board c q is stones at move leaves =
+    let there = leaves board is stones at in
+    let same : q ≡ there.0 = move.leaves ∙ sym there.1.leaves in
+    (move.captures ∙ sym there.1.captures, λ in'. there.2 (subst (λ (b : List ℕ). InBlock part (rank_of b)) same in'))
+
+-- a cell that was changed by a note, in a part at the same gain and distance
+pub moved_tally : (value : List ℕ → ℤ) (old new : tally.Cell) (p : List ℕ) (notes : List Note) (t w t' w' : ℕ) → t' ≡ t → w' ≡ w → new.heard ≡ old.heard → new.status ≡ old.status
+    → IsTally value old p notes t w → IsTally value new p notes t' w'
+moved_tally value old new p notes t w t' w' gain wave heard status told =
+    subst₂ (λ (a b : ℕ). IsTally value new p notes a b) (sym gain) (sym wave)
+    (subst₂ (λ (h : ℕ) (s : tally.Status). IsTally value (record { heard = h; status = s }) p notes t w) (sym heard) (sym status) told)
+
+pub added : (value : List ℕ → ℤ) (notes : List Note) (old new : Part) (note : Note) → 1 ≤ old.gain → IsTakeable old note → has_pit (stored_at old note.target).heard note.pit ≡ false
+    → SameLevel old new → new.cells ≡ set old.cells (note.target - old.start) (stored_at new note.target) → (stored_at new note.target).heard ≡ with_pit (stored_at old note.target).heard note.pit
+    → status_of (stored_at new note.target) ≡ after_note (status_of (stored_at old note.target)) note.kind old.gain note.dist
+    → IsTallied value old notes → IsTallied value new (note ∷ notes)
+added value notes old new note one due silent same_level put heard status tallied p is stones inside = by (note.target == rank_of p) refl
+  where
+    same_length : length new.cells ≡ length old.cells
+    same_length = ap length put ∙ length-set old.cells (note.target - old.start) (stored_at new note.target)
+
+    inside_old : InBlock old (rank_of p)
+    inside_old = let a = inside.0 in let b = inside.1 in (omega (arith, same_level.start), omega (arith, same_level.start, same_length))
+
+    before : IsTally value (cell_at old (rank_of p)) p (notes_for (rank_of p) notes) old.gain old.wave
+    before = tallied p is (stones ∙ same_level.level) inside_old
+
+    differ : (x y : ℕ) → (x == y) ≡ false → y ≢ x
+    differ x y e = grind (arith, nat_tests)
+
+    stored_other : rank_of p ≢ note.target → stored_at new (rank_of p) ≡ stored_at old (rank_of p)
+    stored_other ne =
+        subst₂ (λ s (cs : List Cell). cell_in s cs (rank_of p) ≡ cell_in old.start old.cells (rank_of p)) (sym same_level.start) (sym put)
+        (cell_in-other old.start old.cells note.target (rank_of p) (stored_at new note.target) due.held.0 inside_old.0 ne)
+
+    here : note.target ≡ rank_of p → IsTally value (cell_at new (rank_of p)) p (note ∷ notes_for (rank_of p) notes) new.gain new.wave
+    here at =
+        let leaves = due.quiet p is (stones ∙ same_level.level) (sym at) in
+        let unheard : is_heard_at (notes_for (rank_of p) notes) note.pit ≡ false =
+        sym (before.heard note.pit due.own) ∙ subst (λ r. has_pit (stored_at old r).heard note.pit ≡ false) at silent in
+        let fresh : IsNew p (notes_for (rank_of p) notes) old.gain old.wave note = record { quiet = (leaves.0, leaves.1); unheard = unheard; gained = due.gain; waved = due.dist } in
+        moved_tally value _ (cell_at new (rank_of p)) p (note ∷ notes_for (rank_of p) notes) old.gain old.wave new.gain new.wave same_level.gain same_level.wave
+        (subst (λ r. (stored_at new r).heard ≡ with_pit (stored_at old r).heard note.pit) at heard)
+        (subst (λ r. status_of (stored_at new r) ≡ after_note (status_of (stored_at old r)) note.kind old.gain note.dist) at status)
+        (note_tally value (cell_at old (rank_of p)) p (notes_for (rank_of p) notes) old.gain old.wave note one fresh before)
+
+    by : (b : Bool) → (note.target == rank_of p) ≡ b → IsTally value (cell_at new (rank_of p)) p (cond (note.target == rank_of p) (note ∷ notes_for (rank_of p) notes) (notes_for (rank_of p) notes)) new.gain new.wave
+    by true e =
+        subst (λ b. IsTally value (cell_at new (rank_of p)) p (cond b (note ∷ notes_for (rank_of p) notes) (notes_for (rank_of p) notes)) new.gain new.wave) (sym e)
+        (here (eqb-true note.target (rank_of p) e))
+    by false e =
+        let same = stored_other (differ note.target (rank_of p) e) in
+        subst (λ b. IsTally value (cell_at new (rank_of p)) p (cond b (note ∷ notes_for (rank_of p) notes) (notes_for (rank_of p) notes)) new.gain new.wave) (sym e)
+        (moved_tally value (cell_at old (rank_of p)) (cell_at new (rank_of p)) p (notes_for (rank_of p) notes) old.gain old.wave new.gain new.wave same_level.gain same_level.wave
+        (ap (λ (d : Cell). d.heard) same) (ap status_of same) before)
+
+-- the same, where a cell is put into the block
+pub added_put : (value : List ℕ → ℤ) (notes : List Note) (old : Part) (note : Note) (cells : List Cell) (fresh : List Due) (cell next : Cell) → 1 ≤ old.gain → IsTakeable old note
+    → stored_at old note.target ≡ cell → has_pit cell.heard note.pit ≡ false → cells ≡ set old.cells (note.target - old.start) next
+    → next.heard ≡ with_pit cell.heard note.pit → status_of next ≡ after_note (status_of cell) note.kind old.gain note.dist
+    → IsTallied value old notes
+    → IsTallied value (record { level = old.level; gain = old.gain; wave = old.wave; start = old.start; cells = cells; fresh = fresh }) (note ∷ notes)
+added_put value notes old note cells fresh cell next one due was silent put heard status tallied =
+    let there : cell_in old.start cells note.target ≡ next =
+    subst (λ (cs : List Cell). cell_in old.start cs note.target ≡ next) (sym put) (cell_in-same old.start old.cells note.target next due.held.1) in
+    added value notes old (record { level = old.level; gain = old.gain; wave = old.wave; start = old.start; cells = cells; fresh = fresh }) note one due
+    (subst (λ (d : Cell). has_pit d.heard note.pit ≡ false) (sym was) silent)
+    (record { level = refl; gain = refl; wave = refl; start = refl })
+    (subst (λ (d : Cell). cells ≡ set old.cells (note.target - old.start) d) (sym there) put)
+    (subst₂ (λ (d e : Cell). d.heard ≡ with_pit e.heard note.pit) (sym there) (sym was) heard)
+    (subst₂ (λ (d e : Cell). status_of d ≡ after_note (status_of e) note.kind old.gain note.dist) (sym there) (sym was) status)
+    tallied
+
+pub expected_takeable : (part : Part) (note : Note) → IsExpected part note → IsTakeable part note
+expected_takeable part note e = record {
+  gain = e.gain;
+  dist = e.dist;
+  held = e.held;
+  own = e.own;
+  quiet = λ p is stones at. let there = e.leaves p is stones at in (there.0, there.1);
+}

@@ -1,0 +1,48 @@
+use Rattle.std.proofs.Common.{◌≡◌, ℕ, ◌+◌, ◌-◌, ◌<◌, List, length, get_or, set, ap, sym, subst, ◌∙◌, rules, arith}
+use Rattle.std.proofs.lemmas.List.{get_or_default}
+use Rattle.awari_owner.specs.Blocks.{cell_in, no_cell}
+use Rattle.awari_owner.specs.Cells.{Fits, Keeps, SettlesTimely}
+use Rattle.awari_owner.specs.declared.cells.Cell.{Cell}
+use Rattle.awari_owner.proofs.BlockLemmas.{keeps_both}
+use Rattle.awari_owner.proofs.Opening.{heard_step, status_step, above_step}
+use Rattle.awari_owner.proofs.blocks.open_cells.Goals as goal
+
+-- the cell is in the block, and it is the one that was read
+read_cell : (cells : List Cell) (k start : ℕ) (x : Cell) → k < length cells → x ≡ get_or cells k x → cell_in start cells (start + k) ≡ x
+read_cell cells k start x high is =
+    let at : start + k - start ≡ k = omega arith in
+    ap (λ n. get_or cells n no_cell) at ∙ get_or_default cells k no_cell x high ∙ sym is
+
+pub with_gain-cell-requires-clause-fits : goal.with_gain-cell-requires-clause-fits
+with_gain-cell-requires-clause-fits c =
+    let high : c.loop-i.i < length c.loop-i.cells.items = search rules in
+    subst (Fits c.args.place) (sym c.index.ensures) (c.loop-i.invariant.block.fit c.loop-i.i c.index.result.now high)
+
+pub put-requires-clause-keeps : goal.put-requires-clause-keeps
+put-requires-clause-keeps c =
+    let high : c.loop-i.i < length c.loop-i.cells.items = search rules in
+    subst (λ (d : Cell). Keeps d c.with_gain-cell.result) (sym (read_cell c.loop-i.cells.items c.loop-i.i c.args.place.start c.index.result.now high c.index.ensures)) c.with_gain-cell.ensures.keeps
+
+pub put-requires-clause-timely : goal.put-requires-clause-timely
+put-requires-clause-timely c =
+    let high : c.loop-i.i < length c.loop-i.cells.items = search rules in
+    subst (λ (d : Cell). SettlesTimely c.args.place d c.with_gain-cell.result) (sym (read_cell c.loop-i.cells.items c.loop-i.i c.args.place.start c.index.result.now high c.index.ensures))
+    c.with_gain-cell.ensures.timely
+
+pub loop-i-preserved : goal.loop-i-preserved
+loop-i-preserved c =
+    let at : c.args.place.start + c.loop-i.i - c.args.place.start ≡ c.loop-i.i = omega arith in
+    let put = c.put.ensures.cells ∙ ap (λ n. set c.loop-i.cells.items n c.with_gain-cell.result) at in
+    let high : c.loop-i.i < length c.loop-i.cells.items = search rules in
+    let read = get_or_default c.loop-i.cells.items c.loop-i.i no_cell c.index.result.now high ∙ sym c.index.ensures in
+    record {
+      same_len = search rules;
+      block = c.put.ensures.sound;
+      stays = λ r low. keeps_both (cell_in c.args.place.start c.args.cells.now.items r) (cell_in c.args.place.start c.loop-i.cells.items r) (cell_in c.args.place.start c.put.new.cells.items r)
+          (c.loop-i.invariant.stays r low) (c.put.ensures.stays r low);
+      unspread = c.put.ensures.unspread ∙ c.loop-i.invariant.unspread;
+      joins = λ r. omega (arith, c.put.ensures.joined r, c.loop-i.invariant.joins r);
+      heard_below = heard_step _ _ _ _ _ _ _ 0 0 put high read c.with_gain-cell.ensures.heard c.loop-i.invariant.heard_below;
+      status_below = status_step _ _ _ _ 0 _ _ _ _ put high read c.with_gain-cell.ensures.status c.loop-i.invariant.status_below c.loop-i.invariant.above;
+      above = above_step _ _ _ _ 0 _ _ 0 0 put high read c.loop-i.invariant.above;
+    }

@@ -1,0 +1,75 @@
+-- The cells of a block and its fresh boards.
+use Rattle.std.specs.Prelude.{◌≡◌, ℕ, ◌+◌, ◌-◌, ◌≤◌, ◌==◌, Bool, true, false, not, ◌&&◌, if◌then◌else◌, nat_le, List, ◌∷◌, length, All, count_by, slice_index_or, pos}
+use Rattle.std.specs.Ordering.{nat_cmp, ordering_then}
+use Rattle.std.specs.List.Sorted.{IsPermutation}
+use Rattle.std.specs.BinaryHeap.{IsHeap}
+use Rattle.std.specs.declared.cmp.Ordering.{Ordering}
+use Rattle.std.specs.declared.cmp.Reverse.{Reverse}
+use Rattle.awari_owner.specs.declared.cells.Cell.{Cell}
+use Rattle.awari_owner.specs.declared.cells.Mark.TheVariants.{Ended}
+use Rattle.awari_owner.specs.Cells.{is_settled, Fits, IsEither, Keeps}
+use Rattle.awari_owner.specs.declared.places.Place.{Place}
+
+-- the distance and the rank of a fresh board
+abbrev pub Due : Type 0
+Due = Reverse (ℕ × ℕ)
+
+abbrev pub due_rank : Due → ℕ
+due_rank f = f.0.1
+
+abbrev pub due_dist : Due → ℕ
+due_dist f = f.0.0
+
+-- nearer boards come first, and of those the ones of smaller rank
+abbrev pub due_cmp : Due → Due → Ordering
+due_cmp a b = ordering_then (nat_cmp b.0.0 a.0.0) (nat_cmp b.0.1 a.0.1)
+
+abbrev pub no_cell : Cell
+no_cell = record { heard = 0; left = 0; mark = Ended; score = pos 0; dist = 0 }
+
+-- the cell of the board of this rank
+abbrev pub cell_in : ℕ → List Cell → ℕ → Cell
+cell_in start cells rank = slice_index_or cells (rank - start) no_cell
+
+abbrev pub is_settled_in : ℕ → List Cell → ℕ → Bool
+is_settled_in start cells rank = nat_le start rank && is_settled (cell_in start cells rank).mark
+
+-- how often a rank is among the fresh
+abbrev pub times_due : List Due → ℕ → ℕ
+times_due fresh rank = count_by (λ f. due_rank f == rank) fresh
+
+-- how many cells are not settled
+abbrev pub unsettled : List Cell → ℕ
+unsettled cells = count_by (λ c. not (is_settled c.mark)) cells
+
+-- The cell of a fresh board: it has the board's distance, which is not below the open one, and the open gain, either way.
+pub record IsDueAs (place : Place) (f : Due) (c : Cell) : Type 0 where
+  pub near : c.dist ≡ due_dist f
+  pub timely : place.wave ≤ c.dist
+  pub valued : IsEither place.gain c.score
+
+-- Fresh boards are settled boards of the block, each once, with their distances, in a heap with room for the boards that are
+-- not settled.
+pub record IsBlock (place : Place) (cells : List Cell) (fresh : List Due) (capacity : ℕ) : Type 0 where
+  pub fit : All (Fits place) cells
+  pub room : length fresh + unsettled cells ≤ capacity
+  pub settled : (rank : ℕ) → times_due fresh rank ≤ (if is_settled_in place.start cells rank then 1 else 0)
+  pub due : All (λ f. IsDueAs place f (cell_in place.start cells (due_rank f))) fresh
+  pub ordered : IsHeap due_cmp fresh
+
+-- where the board is newly settled it joins the fresh, and else nothing changes
+abbrev pub JoinsIf : Bool → Cell → ℕ → List Due → List Due → Type 0
+JoinsIf true new rank fresh after = (f : Due) × (due_rank f ≡ rank) × (due_dist f ≡ new.dist) × IsPermutation (f ∷ fresh) after
+JoinsIf false new rank fresh after = after ≡ fresh
+
+abbrev pub Joins : Cell → Cell → ℕ → List Due → List Due → Type 0
+Joins old new rank fresh after = JoinsIf (is_settled new.mark && not (is_settled old.mark)) new rank fresh after
+
+-- the fresh boards gain those that are newly settled
+abbrev pub JoinNewlySettled : ℕ → List Cell → List Due → List Cell → List Due → Type 0
+JoinNewlySettled start cells fresh cells' fresh' =
+    (rank : ℕ) → times_due fresh' rank + (if is_settled_in start cells rank then 1 else 0) ≡ times_due fresh rank + (if is_settled_in start cells' rank then 1 else 0)
+
+-- settled boards keep value and distance
+abbrev pub KeepSettled : ℕ → List Cell → List Cell → Type 0
+KeepSettled start cells cells' = (rank : ℕ) → start ≤ rank → Keeps (cell_in start cells rank) (cell_in start cells' rank)

@@ -1,0 +1,40 @@
+-- What a quiet level says of its boards once all gains are closed.
+use Rattle.std.specs.Prelude.{◌≡◌, ℕ, ◌<◌, ◌≤◌, ◌⊎◌, List, sum, ℤ, pos, neg_ℤ, ◌-ℤ◌, ◌≤ℤ◌, ◌<ℤ◌}
+use Rattle.awari_board.specs.Rules.{IsBoard, IsMove, IsEnd, IsEnded}
+use Rattle.awari_owner.specs.Notes.{IsQuietMove, Has, gain_by}
+use Rattle.awari_owner.specs.Tally.{Status, Ended, Open, Settled, Cell, IsTally}
+use Rattle.awari_owner.specs.declared.notes.Note.{Note}
+
+-- what the image has of a board: value and distance where it is settled, and else 0 and 0
+abbrev pub value_by : Status → ℤ
+value_by (Ended gain) = pos 0
+value_by (Open left best far) = pos 0
+value_by (Settled value dist) = value
+
+abbrev pub dist_by : Status → ℕ
+dist_by (Ended gain) = 0
+dist_by (Open left best far) = 0
+dist_by (Settled value dist) = dist
+
+-- All notes of the settled boards of the level of n stones were heard, and no others, at gain 1.
+pub record IsQuietLevel (value : List ℕ → ℤ) (n w : ℕ) (cell : List ℕ → Cell) (notes : List ℕ → List Note) : Type 0 where
+  pub tallied : (p : List ℕ) → IsBoard p → sum p ≡ n → IsTally value (cell p) p (notes p) 1 w
+  pub true_notes : (p : List ℕ) → IsBoard p → sum p ≡ n → (m : Note) → Has (notes p) m
+      → (q : List ℕ) × (v : ℤ) × (d : ℕ) × IsQuietMove p m.pit q × ((cell q).status ≡ Settled v d) × (gain_by m.kind m.gain ≡ neg_ℤ v) × (m.dist ≡ d)
+  pub all_notes : (p : List ℕ) → IsBoard p → sum p ≡ n → (x : ℕ) (q : List ℕ) (v : ℤ) (d : ℕ) → IsQuietMove p x q → (cell q).status ≡ Settled v d
+      → (m : Note) × Has (notes p) m × (m.pit ≡ x) × (gain_by m.kind m.gain ≡ neg_ℤ v) × (m.dist ≡ d)
+
+-- what a move gains, where boards of fewer stones have this value
+abbrev pub gains : (List ℕ → ℤ) → (List ℕ → Cell) → ℕ → List ℕ → ℤ → Type 0
+gains value cell c q v = ((0 < c) × (v ≡ (pos c -ℤ value q))) ⊎ ((c ≡ 0) × (v ≡ neg_ℤ (value_by (cell q).status)))
+
+-- The rules of an image at p, the plan being a move that there is.
+pub record IsRightAt (value : List ℕ → ℤ) (cell : List ℕ → Cell) (p : List ℕ) : Type 0 where
+  pub ends : (g : ℤ) → IsEnd p g → (value_by (cell p).status ≡ g) × (dist_by (cell p).status ≡ 0)
+  pub no_more : (x c : ℕ) (q : List ℕ) (v : ℤ) → IsMove p x c q → gains value cell c q v → v ≤ℤ value_by (cell p).status
+  pub planned : (IsEnded p → ⊥)
+      → (x c : ℕ) × (q : List ℕ) × IsMove p x c q × gains value cell c q (value_by (cell p).status)
+      × (pos 0 <ℤ value_by (cell p).status → (0 < c) ⊎ (dist_by (cell q).status < dist_by (cell p).status))
+  pub even : value_by (cell p).status ≡ pos 0 → dist_by (cell p).status ≡ 0
+  pub uneven : (IsEnded p → ⊥) → (value_by (cell p).status ≡ pos 0 → ⊥) → 1 ≤ dist_by (cell p).status
+  pub losing : value_by (cell p).status <ℤ pos 0 → (x : ℕ) (q : List ℕ) → IsQuietMove p x q → dist_by (cell q).status < dist_by (cell p).status

@@ -1,0 +1,11 @@
+pub mod Notes
+pub mod Tally
+pub mod Steps
+pub mod Cells
+pub mod Blocks
+pub mod Part
+pub mod PartFields
+pub mod Spread
+pub mod OwnerFault
+pub mod Finish
+pub mod Scan

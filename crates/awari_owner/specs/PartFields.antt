@@ -1,0 +1,14 @@
+-- The fields of a part.
+use Rattle.std.specs.Prelude.{◌+◌, ◌^◌, ◌<◌, ◌≤◌, vec_len}
+use Rattle.std.specs.BinaryHeap.{heap_items, heap_capacity}
+use Rattle.awari_rank.specs.Rank.{size_of}
+use Rattle.awari_owner.specs.Blocks.{IsBlock}
+use Rattle.awari_owner.specs.declared.parts.Part.TheInside.{Inside}
+
+pub record IsPart (a : Inside) : Type 0 where
+  pub low : a.place.level ≤ 24
+  pub opened : 1 ≤ a.place.gain
+  pub inward : a.place.gain ≤ a.place.level + 1
+  pub fits : a.place.start + vec_len a.cells < 2 ^ 32
+  pub within : a.place.start + vec_len a.cells ≤ size_of a.place.level
+  pub block : IsBlock a.place a.cells.items (heap_items a.fresh) (heap_capacity a.fresh)

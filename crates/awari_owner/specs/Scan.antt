@@ -1,0 +1,56 @@
+-- What a part is before any gain is open and any note is heard.
+use Rattle.std.specs.Prelude.{◌≡◌, ℕ, ◌+◌, ◌-◌, ◌*◌, ◌/◌, ◌<◌, ◌≤◌, ◌&&◌, ◌==◌, Bool, false, min, List, [], length, sum, take, count_by, ℤ, pos, ◌-ℤ◌, ◌≤ℤ◌, Option, Some, None}
+use Rattle.awari_board.specs.Rules.{IsBoard, IsMove}
+use Rattle.awari_rank.specs.Rank.{rank_of, size_of}
+use Rattle.awari_owner.specs.Tally.{is_left, pits, Captures, IsStatus}
+use Rattle.awari_owner.specs.Cells.{status_of, is_settled, IsWithin, FitsBy}
+use Rattle.awari_owner.specs.Blocks.{cell_in}
+use Rattle.awari_owner.specs.Part.{Part, InBlock, settled_at}
+use Rattle.awari_owner.specs.declared.cells.Cell.{Cell}
+
+-- Of so many boards each owner has as many, the last ones fewer or none where they don't divide. This is the rank of an
+-- owner's first board, or the number of boards where there is none.
+abbrev pub first_rank : ℕ → ℕ → ℕ → ℕ
+first_rank boards owners owner = min (owner * ((boards + (owners - 1)) / owners)) boards
+
+-- the part of this owner of so many, with no gain open
+pub record IsScan (n owners owner : ℕ) (part : Part) : Type 0 where
+  pub level : part.level ≡ n
+  pub gain : part.gain ≡ n + 1
+  pub wave : part.wave ≡ 0
+  pub start : part.start ≡ first_rank (size_of n) owners owner
+  pub end : part.start + length part.cells ≡ first_rank (size_of n) owners (owner + 1)
+  pub unsettled : (rank : ℕ) → InBlock part rank → settled_at part rank ≡ None
+  pub fresh : part.fresh ≡ []
+
+-- all boards of the level are in the part's block
+pub record IsWhole (part : Part) : Type 0 where
+  pub start : part.start ≡ 0
+  pub all : length part.cells ≡ size_of part.level
+
+-- boards of fewer stones are worth at most their stones, either way
+abbrev pub IsRanged : (List ℕ → ℤ) → ℕ → Type 0
+IsRanged value n = (q : List ℕ) → IsBoard q → sum q < n → IsWithin (sum q) (value q)
+
+-- the best that a capture from a pit below k gains, or none where none is legal
+abbrev pub IsBestBelow : (List ℕ → ℤ) → List ℕ → ℕ → Option ℤ → Type 0
+IsBestBelow value p k None = (x c : ℕ) (q : List ℕ) → x < k → IsMove p x c q → 0 < c → ⊥
+IsBestBelow value p k (Some best) =
+    Captures value p best × IsWithin (sum p) best × ((x c : ℕ) (q : List ℕ) → x < k → IsMove p x c q → 0 < c → (pos c -ℤ value q) ≤ℤ best)
+
+-- how many pits below k are quiet moves, and what the best capture from one gains
+pub record IsOutlook (value : List ℕ → ℤ) (p : List ℕ) (k quiet : ℕ) (best : Option ℤ) : Type 0 where
+  pub few : quiet ≤ k
+  pub counted : quiet ≡ count_by (is_left p []) (take k pits)
+  pub best_below : IsBestBelow value p k best
+
+-- the cell of a board of which no note was heard, before any gain is open
+pub record IsScanned (value : List ℕ → ℤ) (p : List ℕ) (c : Cell) : Type 0 where
+  pub heard : c.heard ≡ 0
+  pub fits : (t : ℕ) → FitsBy c.mark (sum p) t c.score c.dist
+  pub unsettled : is_settled c.mark ≡ false
+  pub status : IsStatus value p [] (sum p + 1) (status_of c)
+
+-- these are the cells of the boards of n stones from rank `start` up to, not including, rank `end`
+abbrev pub AreScanned : (List ℕ → ℤ) → ℕ → ℕ → ℕ → List Cell → Type 0
+AreScanned value n start end cells = (p : List ℕ) → IsBoard p → sum p ≡ n → start ≤ rank_of p → rank_of p < end → IsScanned value p (cell_in start cells (rank_of p))

@@ -1,0 +1,154 @@
+//! What is kept of each board of a block.
+ghost use Rattle.std.specs.Prelude.{◌≡◌, ◌+◌, ◌-◌, ◌^◌, ◌<◌, ◌≤◌, ◌↔◌, IsTrue, pos, neg_ℤ, ◌≤ℤ◌};
+ghost use Rattle.awari_owner.specs.Tally.{Open, has_pit, with_pit};
+ghost use Rattle.awari_owner.specs.Cells.{status_of, is_settled, Fits, Keeps, SettlesTimely};
+ghost use Rattle.awari_owner.specs.Steps.{after_note, after_opening};
+
+use crate::notes::Kind;
+use crate::places::Place;
+
+/// What a cell knows of its board: that it is ended, with its gain as score; that it is open, with the best capture
+/// as score where there is one; or that it is settled, with its value as score.
+#[derive(Clone, Copy, PartialEq)]
+pub enum Mark {
+    Ended,
+    Quiet,
+    Capturing,
+    Settled,
+}
+
+/// The cell of a board, in eight bytes.
+#[derive(Clone, Copy)]
+pub struct Cell {
+    /// The pits of which a note was heard, a bit for each.
+    pub heard: u8,
+    /// The quiet moves with no Won note.
+    pub left: u8,
+    pub mark: Mark,
+    pub score: i8,
+    /// The greatest distance of a Won note, or the distance of a settled board.
+    pub dist: u32,
+}
+
+impl Cell {
+    /// The cell of a board of which no note was heard.
+    pub fn unheard(mark: Mark, left: u8, score: i8) -> Cell
+        ensures { result ≡ record { heard = 0; left = left; mark = mark; score = score; dist = 0 } }
+    {
+        Cell {
+            heard: 0,
+            left,
+            mark,
+            score,
+            dist: 0,
+        }
+    }
+
+    pub fn is_settled(&self) -> bool
+        ensures { result ≡ is_settled self.now.mark }
+    {
+        self.mark == Mark::Settled
+    }
+
+    pub fn has_heard(&self, pit: u8) -> bool
+        requires { pit < 6 }
+        ensures { result ≡ has_pit self.now.heard pit }
+    {
+        self.heard & (1 << pit) != 0
+    }
+
+    /// The cell once the note of this pit and kind, of the open gain and distance, was heard.
+    ///
+    /// A lost board gives the gain at once. A won one leaves one move less that might do better; the
+    /// last, where no capture does better either, settles the board.
+    pub fn with_note(self, place: Place, pit: u8, kind: Kind) -> Cell
+        requires pit { pit < 6 }
+        requires low { place.level ≤ 24 }
+        requires gain { place.gain ≤ place.level }
+        requires near { place.wave < 2 ^ 32 - 1 }
+        requires fits { Fits place self }
+        ensures heard { result.heard ≡ with_pit self.heard pit }
+        ensures status { status_of result ≡ after_note (status_of self) kind place.gain place.wave }
+        ensures keeps { Keeps self result }
+        ensures timely { SettlesTimely place self result }
+        ensures fits { Fits place result }
+    {
+        let heard = self.heard | (1 << pit);
+        if self.mark == Mark::Settled || self.mark == Mark::Ended {
+            return Cell { heard, ..self };
+        }
+        if kind == Kind::Lost {
+            return Cell {
+                heard,
+                left: 0,
+                mark: Mark::Settled,
+                score: place.gain as i8,
+                dist: place.wave + 1,
+            };
+        }
+        let far = place.wave.max(self.dist);
+        if self.left == 1 && (self.mark == Mark::Quiet || self.score <= -(place.gain as i8)) {
+            return Cell {
+                heard,
+                left: 0,
+                mark: Mark::Settled,
+                score: -(place.gain as i8),
+                dist: far + 1,
+            };
+        }
+        Cell {
+            heard,
+            left: self.left.saturating_sub(1),
+            mark: self.mark,
+            score: self.score,
+            dist: far,
+        }
+    }
+
+    /// The cell once the gain of the place is opened.
+    pub fn with_gain(self, place: Place) -> Cell
+        requires low { place.level ≤ 24 }
+        requires gain { place.gain ≤ place.level }
+        requires opened { place.wave ≡ 0 }
+        requires fits { Fits place self }
+        ensures heard { result.heard ≡ self.heard }
+        ensures status { status_of result ≡ after_opening (status_of self) place.level place.gain }
+        ensures keeps { Keeps self result }
+        ensures timely { SettlesTimely place self result }
+        ensures fits { Fits place result }
+    {
+        match self.mark {
+            Mark::Settled | Mark::Quiet => self,
+            Mark::Ended => {
+                if place.gain == place.level {
+                    Cell {
+                        mark: Mark::Settled,
+                        dist: 0,
+                        ..self
+                    }
+                } else {
+                    self
+                }
+            }
+            Mark::Capturing => {
+                if self.score == place.gain as i8 {
+                    return Cell {
+                        mark: Mark::Settled,
+                        dist: 1,
+                        ..self
+                    };
+                }
+                if self.left == 0 && self.score == -(place.gain as i8) {
+                    return Cell {
+                        mark: Mark::Settled,
+                        dist: self.dist + 1,
+                        ..self
+                    };
+                }
+                self
+            }
+        }
+    }
+}
+
+const _: () = prove!(size_of::<Cell>() == 8);

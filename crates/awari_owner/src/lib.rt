@@ -1,0 +1,14 @@
+//! One owner's part of a level that is being built: a cell for each board of its block.
+#![tactic(auto)]
+
+mod blocks;
+mod cells;
+mod faults;
+mod notes;
+mod parts;
+mod places;
+mod scans;
+
+pub use faults::OwnerFault;
+pub use notes::{Kind, Note};
+pub use parts::Part;

@@ -1,0 +1,25 @@
+//! What is told of a settled board to the boards whose quiet moves lead to it.
+
+/// What a note says of the board that its move leads to: its mover has won, or has lost.
+#[derive(Clone, Copy, Debug, PartialEq, Eq)]
+pub enum Kind {
+    Won,
+    Lost,
+}
+
+/// That a quiet move leads to a settled board: whether that one is won or lost, by how much, and
+/// how far it is from a capture or the end of play.
+#[derive(Clone, Copy, Debug, PartialEq, Eq)]
+pub struct Note {
+    /// The stones on the boards of the level.
+    pub level: u8,
+    /// The rank of the board that the move is from.
+    pub target: u32,
+    /// The pit that the move plays.
+    pub pit: u8,
+    pub kind: Kind,
+    /// What the settled board gains or loses, in stones.
+    pub gain: u8,
+    /// The distance of the settled board, in plies.
+    pub dist: u32,
+}

@@ -1,0 +1,233 @@
+//! One owner's part of a level, and what is asked of it between two spreads.
+ghost use Rattle.std.specs.Prelude.{◌≡◌, ◌≢◌, ℕ, ℤ, ◌+◌, ◌-◌, ◌^◌, ◌<◌, ◌≤◌, ◌∷◌, ◌↔◌, List, IsTrue, OnOk, OnErr, IfOk, IfErr, IfSome, All, sum, true, false, slice_set, length, []};
+ghost use Rattle.awari_rank.specs.Rank.{size_of};
+ghost use Rattle.awari_owner.specs.Tally.{has_pit};
+ghost use Rattle.awari_owner.specs.Cells.{IsWithin, IsBeyond};
+ghost use Rattle.awari_owner.specs.Blocks.{due_dist, KeepSettled};
+ghost use Rattle.awari_owner.specs.Part.{Part as PartView, InBlock, Leaves, IsExpected, IsTallied, cell_at, stored_at, PutsCell, JoinsFresh, settled_at, IsLeastDue, unspread};
+ghost use Rattle.awari_owner.specs.OwnerFault.{IsFaultOf};
+ghost use Rattle.awari_owner.specs.Scan.{IsScan, IsWhole};
+ghost use Rattle.awari_owner.specs.Spread.{HearsOwn};
+ghost use Rattle.awari_table.specs.Images.{table_of};
+ghost use Rattle.awari_owner.specs.declared.faults.OwnerFault.{OwnerFault};
+ghost use Rattle.awari_owner.specs.declared.notes.Note.{Note as NoteView};
+
+use crate::blocks::{Due, open_cells, put};
+use crate::cells::{Cell, Mark};
+use crate::faults::OwnerFault;
+use crate::notes::Note;
+use crate::places::Place;
+use crate::scans::{first_rank, scanned_block};
+use awari_rank::{rank, size, unrank};
+use awari_table::Shelf;
+use std::alloc::Global;
+use std::collections::BinaryHeap;
+use std::marker::Model;
+
+/// One owner's part of a level that is being built: what is known of each board of its block, and
+/// which of the settled ones are fresh, that is, not spread yet.
+#[derive(Drop)]
+pub struct Part {
+    place: Place,
+    cells: Vec<Cell>,
+    fresh: BinaryHeap<Due>,
+}
+
+impl Model for Part {
+    ghost use Rattle.std.specs.BinaryHeap.{heap_items};
+    ghost use Rattle.awari_owner.specs.Part.{Part as PartView, part_of};
+
+    ghost Value = { PartView };
+
+    ghost use Rattle.awari_owner.specs.PartFields.{IsPart};
+
+    ghost view = { λ a. part_of a.place a.cells.items (heap_items a.fresh) };
+
+    ghost invariant = { IsPart };
+}
+
+impl Part {
+    /// The part of this owner, one of `owners`, of the shelf's next level: each board of its block
+    /// with no note heard, and no gain open. There are 1 to 16 owners, and the shelf has at most 12
+    /// levels. Refused as 33 `Memory` where a growth was.
+    ///
+    /// It takes all the memory that the part will ever need, 16 bytes a board.
+    pub fn scan(alloc: Global, shelf: &Shelf, owners: u8, owner: u8) -> Result<Part, OwnerFault>
+        requires owners { (1 ≤ owners) × (owners ≤ 16) }
+        requires owner { owner < owners }
+        requires low { length shelf.now ≤ 12 }
+        ensures scanned { IfOk result (IsScan (length shelf.now) owners owner) }
+        ensures whole { owners ≡ 1 → IfOk result IsWhole }
+        ensures tallied { IfOk result (λ part. IsTallied (table_of shelf.now).value part []) }
+        ensures hears { IfOk result (λ part. HearsOwn part []) }
+        ensures memory { IfErr result (λ fault. fault ≡ OwnerFault.Memory) }
+    {
+        let level = shelf.levels();
+        let boards = size(level);
+        let start = first_rank(boards, owners, owner);
+        let end = first_rank(boards, owners, owner + 1);
+        let place = Place {
+            level,
+            gain: level + 1,
+            wave: 0,
+            start,
+        };
+        match scanned_block(alloc, shelf, start, end) {
+            Ok((cells, fresh)) => Ok(Part {
+                place,
+                cells,
+                fresh,
+            }),
+            Err(_) => Err(OwnerFault::Memory),
+        }
+    }
+
+    /// Value in stones and distance in plies of the board of this rank, if it is settled. The rank
+    /// is one of the block.
+    pub fn settled(&self, rank: u32) -> Option<(i8, u32)>
+        requires { InBlock self.now rank }
+        ensures known { result ≡ settled_at self.now rank }
+        ensures ranged { IfSome result (λ s. IsWithin self.now.level s.0 × IsBeyond self.now.gain s.0) }
+    {
+        let cell = self.cells[(rank - self.place.start) as usize];
+        if cell.mark == Mark::Settled {
+            Some((cell.score, cell.dist))
+        } else {
+            None
+        }
+    }
+
+    /// The open gain in stones, one more than the level where none was opened yet.
+    pub fn gain(&self) -> u8
+        ensures gain { result ≡ self.now.gain }
+        ensures range { (1 ≤ self.now.gain) × (self.now.gain ≤ self.now.level + 1) }
+    {
+        self.place.gain
+    }
+
+    /// The open distance in plies.
+    pub fn wave(&self) -> u32
+        ensures { result ≡ self.now.wave }
+    {
+        self.place.wave
+    }
+
+    /// Whether no board is fresh.
+    pub fn idle(&self) -> bool
+        ensures { IsTrue result ↔ (self.now.fresh ≡ []) }
+    {
+        self.fresh.is_empty()
+    }
+
+    /// The least distance of a fresh board in plies, none where no board is fresh. It is not below
+    /// the open one.
+    pub fn due(&self) -> Option<u32>
+        ensures least { IsLeastDue self.now result }
+        ensures timely { IfSome result (λ dist. self.now.wave ≤ dist) }
+    {
+        match self.fresh.peek() {
+            Some(due) => Some(due.0.0),
+            None => None,
+        }
+    }
+
+    /// Opens the next smaller gain: the boards that a capture settles at that gain are settled, and
+    /// so are fresh. It needs no board to be fresh. It takes no memory.
+    pub fn open_gain(&mut self, gain: u8)
+        requires idle { self.old.fresh ≡ [] }
+        requires next { gain + 1 ≡ self.old.gain }
+        requires positive { 1 ≤ gain }
+        ensures opened { (value : List ℕ → ℤ) (notes : List NoteView) → IsTallied value self.old notes → IsTallied value self.new notes }
+        ensures hears { (notes : List NoteView) → HearsOwn self.old notes → HearsOwn self.new notes }
+        ensures gain { self.new.gain ≡ gain }
+        ensures wave { self.new.wave ≡ 0 }
+        ensures same { (self.new.level ≡ self.old.level) × (self.new.start ≡ self.old.start) × (length self.new.cells ≡ length self.old.cells) }
+        ensures joins { JoinsFresh self.old self.new }
+        ensures stays { KeepSettled self.old.start self.old.cells self.new.cells }
+        ensures unspread { unspread self.new ≡ unspread self.old }
+    {
+        self.place.gain = gain;
+        self.place.wave = 0;
+        open_cells(&mut self.cells, &mut self.fresh, self.place);
+    }
+
+    /// Opens a greater distance. It needs no fresh board to have a smaller one. It takes no memory.
+    pub fn open_wave(&mut self, dist: u32)
+        requires farther { self.old.wave < dist }
+        requires nearest { All (λ f. dist ≤ due_dist f) self.old.fresh }
+        ensures opened { (value : List ℕ → ℤ) (notes : List NoteView) → IsTallied value self.old notes → IsTallied value self.new notes }
+        ensures hears { (notes : List NoteView) → HearsOwn self.old notes → HearsOwn self.new notes }
+        ensures wave { self.new ≡ record self.old { wave = dist } }
+    {
+        self.place.wave = dist;
+    }
+
+    /// Hears a note of another owner, which may settle the board that it is for. It takes no
+    /// memory. In this order it is refused as 30 `Stranger`, 31 `Doubled` or 32 `Far`, and then
+    /// nothing changes.
+    pub fn take(&mut self, note: Note) -> Result<(), OwnerFault>
+        ensures added { OnOk result ((value : List ℕ → ℤ) (notes : List NoteView) → IsTallied value self.old notes → IsTallied value self.new (note ∷ notes)) }
+        ensures hears { OnOk result ((notes : List NoteView) → HearsOwn self.old notes → HearsOwn self.new (note ∷ notes)) }
+        ensures puts { OnOk result (PutsCell self.old self.new note.target) }
+        ensures stays { KeepSettled self.old.start self.old.cells self.new.cells }
+        ensures unspread { unspread self.new ≡ unspread self.old }
+
+        ensures ok { OnOk result (IsExpected self.old note × (has_pit (stored_at self.old note.target).heard note.pit ≡ false) × (note.dist < 2 ^ 32 - 1)) }
+        ensures refused { IfErr result (IsFaultOf self.old note) }
+        ensures err { OnErr result (self.new ≡ self.old) }
+    {
+        if !self.expects(&note) {
+            return Err(OwnerFault::Stranger);
+        }
+        let cell = self.cells[(note.target - self.place.start) as usize];
+        if cell.has_heard(note.pit) {
+            return Err(OwnerFault::Doubled);
+        }
+        if note.dist == u32::MAX {
+            return Err(OwnerFault::Far);
+        }
+        let next = cell.with_note(self.place, note.pit, note.kind);
+        put(
+            &mut self.cells,
+            &mut self.fresh,
+            self.place,
+            note.target,
+            next,
+        );
+        Ok(())
+    }
+
+    /// Whether the note is one that other owners may send now.
+    fn expects(&self, note: &Note) -> bool
+        ensures { IsTrue result ↔ IsExpected self.now note.now }
+    {
+        let place = self.place;
+        if note.level != place.level || note.gain != place.gain || place.gain > place.level {
+            return false;
+        }
+        if note.dist != place.wave || note.pit >= 6 || !self.holds(note.target) {
+            return false;
+        }
+        self.leaves(note.target, note.pit)
+    }
+
+    /// Whether the board of this rank is in the block.
+    fn holds(&self, rank: u32) -> bool
+        ensures { IsTrue result ↔ InBlock self.now rank }
+    {
+        self.place.start <= rank && ((rank - self.place.start) as usize) < self.cells.len()
+    }
+
+    /// Whether the move from `pit` of the board of this rank is quiet and leads to a board of another
+    /// block.
+    fn leaves(&self, target: u32, pit: u8) -> bool
+        requires { InBlock self.now target }
+        ensures { IsTrue result ↔ Leaves self.now target pit }
+    {
+        let board = unrank(self.place.level, target);
+        match board.play(pit) {
+            Ok(moved) => moved.captured == 0 && !self.holds(rank(&moved.board)),
+            Err(_) => false,
+        }
+    }
+}
