@@ -97,6 +97,15 @@ impl Part {
         }
     }
 
+    /// The ranks of the boards of the block: from the first number up to, not including, the second.
+    pub fn block(&self) -> (u32, u32)
+        ensures start { result.0 ≡ self.now.start }
+        ensures end { result.1 ≡ self.now.start + length self.now.cells }
+    {
+        let start = self.place.start;
+        (start, start + self.cells.len() as u32)
+    }
+
     /// The open gain in stones, one more than the level where none was opened yet.
     pub fn gain(&self) -> u8
         ensures gain { result ≡ self.now.gain }

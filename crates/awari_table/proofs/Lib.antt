@@ -1,6 +1,7 @@
 pub mod ShelfLemmas
 pub mod CertificateLemmas
 pub mod CountLemmas
+pub mod EntryLemmas
 pub mod Numbers
 pub mod LineLaws
 pub mod BlockLaws

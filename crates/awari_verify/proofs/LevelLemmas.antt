@@ -1,24 +1,19 @@
 -- Ranks one after another, and faults.
-use Rattle.std.proofs.Common.{◌≡◌, ℕ, ◌+◌, ◌<◌, ◌≤◌, List, [], ◌∷◌, ◌++◌, length, get_or, sum, inl, inr, sym, subst, refl, ap, ◌∙◌, arith, All}
+use Rattle.std.proofs.Common.{◌≡◌, ℕ, ◌+◌, ◌<◌, ◌≤◌, List, [], ◌∷◌, ◌++◌, length, get_or, sum, inl, inr, sym, subst, ap, ◌∙◌, arith, All}
 use Rattle.std.proofs.lemmas.List.{get_or_default}
 use Rattle.awari_table.specs.declared.images.Entry.{Entry}
 use Rattle.std.proofs.lemmas.Bool.{cases_lt}
-use Rattle.std.proofs.Math.Seq.{get_or-append_seam}
 use Rattle.awari_board.specs.Rules.{IsBoard}
 use Rattle.awari_table.specs.Certificate.{Table, IsRight}
 use Rattle.awari_rank.specs.Rank.{size_of, rank_of}
 use Rattle.awari_rank.proofs.Ranking.{rank_of-below, rank_fixes}
 use Rattle.awari_rank.proofs.Reaching.{board_reached}
 use Rattle.awari_table.specs.declared.images.Image.{Image}
-use Rattle.awari_table.specs.Images.{HasOwnPlan, no_image, no_entry, entry_of, table_of, greatest_dist}
+use Rattle.awari_table.specs.Images.{HasOwnPlan, no_entry, table_of, greatest_dist}
 use Rattle.awari_table.specs.Shelves.{Consistent}
+use Rattle.awari_table.proofs.EntryLemmas.{entry_of-rank}
 use Rattle.awari_verify.specs.FirstFailure.{RightBetween}
 use Rattle.awari_verify.specs.VerifyFault.{IsShaped}
-
--- the entry at a rank is that of the board of that rank
-pub entry_of-rank : (levels : List Image) (image : Image) (p : List ℕ) (rank : ℕ) → sum p ≡ length levels → rank_of p ≡ rank → entry_of (levels ++ image ∷ []) p ≡ get_or image.entries rank no_entry
-unfolding entry_of
-entry_of-rank levels image p rank top ranked = rw (top, get_or-append_seam levels image [] no_image, ranked) refl
 
 -- a right board has an own plan, which is that of the entry at its rank
 pub HasOwnPlan-top : (levels : List Image) (image : Image) (p : List ℕ) (rank : ℕ) → sum p ≡ length levels → rank_of p ≡ rank → IsRight (table_of (levels ++ image ∷ [])) p → HasOwnPlan (get_or image.entries rank no_entry)

@@ -1,4 +1,3 @@
-pub mod EntryLemmas
 pub mod SightLemmas
 pub mod LevelLemmas
 pub mod FaultLemmas

@@ -1,5 +1,5 @@
 use Rattle.std.proofs.Common.{◌≡◌, ◌∷◌, [], length, sum, sym, refl, ◌∙◌, arith}
-use Rattle.awari_verify.proofs.EntryLemmas.{entry_of-append, entry_of-top}
+use Rattle.awari_table.proofs.EntryLemmas.{entry_of-append, entry_of-top}
 use Rattle.awari_verify.proofs.sights.entry_after.Goals as goal
 
 pub returns-then-moved-eq0 : goal.returns-then-moved-eq0

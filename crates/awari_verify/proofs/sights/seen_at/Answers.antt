@@ -2,7 +2,7 @@ use Rattle.std.proofs.Common.{◌≡◌, sum, sym, ap, ◌∙◌, ◌<◌, ◌�
 use Rattle.awari_table.specs.Images.{table_of}
 use Rattle.awari_table.specs.declared.images.Entry.{Entry}
 use Rattle.awari_verify.specs.Sights.{SeesMove}
-use Rattle.awari_verify.proofs.EntryLemmas.{entry_of-top}
+use Rattle.awari_table.proofs.EntryLemmas.{entry_of-top}
 use Rattle.awari_verify.proofs.sights.seen_at.Goals as goal
 
 pub loop-pit-preserved : goal.loop-pit-preserved

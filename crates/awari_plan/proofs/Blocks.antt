@@ -1,0 +1,102 @@
+-- The entries of blocks put one after another.
+use Rattle.std.proofs.Common.{◌≡◌, ℕ, ◌+◌, ◌-◌, ◌<◌, ◌≤◌, List, [], ◌∷◌, ◌++◌, length, get_or, Option, Some, None, ℤ, refl, sym, ap, ◌∙◌, subst, arith, inl, inr, length-append, take, drop, suc, add-one}
+use Rattle.std.proofs.Math.ListN.{get_or-append}
+use Rattle.std.proofs.Math.Seq.{get_or-append_seam, drop-cons}
+use Rattle.std.proofs.lemmas.List.{take_more, take_all, drop_all}
+use Rattle.std.proofs.lemmas.Bool.{cases_lt}
+use Rattle.awari_owner.specs.Part.{Part, InBlock, settled_at}
+use Rattle.awari_table.specs.declared.images.Entry.{Entry}
+use Rattle.awari_table.specs.Images.{no_entry}
+use Rattle.awari_plan.specs.Finished.{AreBlocks, HasSettled, HasAllSettled}
+use Rattle.awari_plan.specs.Planning.{PushesBlock, SameSettled}
+
+pub pushes_none : (part : Part) (old : List Entry) → PushesBlock part old old 0
+pushes_none part old = record { size = omega arith; before = λ k inside. refl; settled = λ k below. absurd (omega (arith, below)) }
+
+pub pushes_more : (part : Part) (old now : List Entry) (count : ℕ) (e : Entry) → PushesBlock part old now count → HasSettled (settled_at part (part.start + count)) e → PushesBlock part old (now ++ e ∷ []) (count + 1)
+pushes_more part old now count e before has = record {
+  size = let more = length-append now (e ∷ []) in omega (arith, before.size, more);
+  before = λ k inside. get_or-append now (e ∷ []) no_entry k (omega (arith, inside, before.size)) ∙ before.before k inside;
+  settled = λ k below. elim (cases_lt k count) [
+    | inl lt ↦ subst (HasSettled (settled_at part (part.start + k))) (sym (get_or-append now (e ∷ []) no_entry (length old + k) (omega (arith, lt, before.size)))) (before.settled k lt)
+    | inr ge ↦
+        let last : k ≡ count = omega arith in
+        let place : length old + k ≡ length now = omega (arith, last, before.size) in
+        let put : get_or (now ++ e ∷ []) (length old + k) no_entry ≡ e = ap (λ n. get_or (now ++ e ∷ []) n no_entry) place ∙ get_or-append_seam now e [] no_entry in
+        subst (HasSettled (settled_at part (part.start + k))) (sym put) (subst (λ n. HasSettled (settled_at part (part.start + n)) e) (sym last) has)
+  ];
+}
+
+-- each of these blocks ends at a rank that is not above this
+abbrev pub AllBelow : List Part → ℕ → Type 0
+AllBelow [] high = Unit {0}
+AllBelow (part ∷ parts) high = (part.start + length part.cells ≤ high) × AllBelow parts high
+
+pub below_more : (parts : List Part) (low high : ℕ) → low ≤ high → AllBelow parts low → AllBelow parts high
+below_more [] low high order below = tt
+below_more (part ∷ parts) low high order below = (omega (arith, order, below.0), below_more parts low high order below.1)
+
+pub below_push : (parts : List Part) (part : Part) (high : ℕ) → AllBelow parts high → part.start + length part.cells ≤ high → AllBelow (parts ++ part ∷ []) high
+below_push [] part high below last = (last, tt)
+below_push (first ∷ parts) part high below last = (below.0, below_push parts part high below.1 last)
+
+-- what is put behind changes nothing of what was there
+pub settled_more : (parts : List Part) (old now : List Entry) → AllBelow parts (length old) → ((k : ℕ) → k < length old → get_or now k no_entry ≡ get_or old k no_entry) → HasAllSettled parts old → HasAllSettled parts now
+settled_more [] old now below same has = tt
+settled_more (part ∷ parts) old now below same has = (
+  λ rank inside. subst (HasSettled (settled_at part rank)) (sym (same rank (omega (arith, inside.0, inside.1, below.0)))) (has.0 rank inside),
+  settled_more parts old now below.1 same has.1,
+)
+
+pub settled_push : (parts : List Part) (part : Part) (entries : List Entry) → HasAllSettled parts entries
+    → ((rank : ℕ) → InBlock part rank → HasSettled (settled_at part rank) (get_or entries rank no_entry)) → HasAllSettled (parts ++ part ∷ []) entries
+settled_push [] part entries has last = (last, tt)
+settled_push (first ∷ parts) part entries has last = (has.0, settled_push parts part entries has.1 last)
+
+-- a block that is put where its ranks begin has its settled boards there
+pub block_settled : (part : Part) (old now : List Entry) → part.start ≡ length old → PushesBlock part old now (length part.cells) → (rank : ℕ) → InBlock part rank → HasSettled (settled_at part rank) (get_or now rank no_entry)
+block_settled part old now here pushed rank inside =
+    let k = rank - part.start in
+    let a : part.start + k ≡ rank = omega (arith, inside.0) in
+    let b : length old + k ≡ rank = omega (arith, inside.0, here) in
+    subst (λ n. HasSettled (settled_at part n) (get_or now rank no_entry)) a
+    (subst (λ n. HasSettled (settled_at part (part.start + k)) (get_or now n no_entry)) b (pushed.settled k inside.1))
+
+-- plans aside the same entries have the same settled boards
+pub settled_alike : (parts : List Part) (old now : List Entry) → SameSettled old now → HasAllSettled parts old → HasAllSettled parts now
+settled_alike [] old now same has = tt
+settled_alike (part ∷ parts) old now same has = (λ rank inside. alike (settled_at part rank) rank (has.0 rank inside), settled_alike parts old now same has.1)
+  where
+    alike : (o : Option (ℤ × ℕ)) (rank : ℕ) → HasSettled o (get_or old rank no_entry) → HasSettled o (get_or now rank no_entry)
+    alike None rank here = (same.value rank ∙ here.0, same.dist rank ∙ here.1)
+    alike (Some s) rank here = (same.value rank ∙ here.0, same.dist rank ∙ here.1)
+
+-- the next of the parts, its block, and the parts after it
+next_is : (parts : List Part) (i : ℕ) (part : Part) → i < length parts → part ≡ get_or parts i part → drop i parts ≡ part ∷ drop (i + 1) parts
+next_is parts i part inside is = drop-cons parts i part inside ∙ ap (λ p. p ∷ drop (suc i) parts) (sym is) ∙ ap (λ n. part ∷ drop n parts) (sym (add-one i))
+
+pub next_block : (level low high : ℕ) (parts : List Part) (i : ℕ) (part : Part) → AreBlocks level low high (drop i parts) → i < length parts → part ≡ get_or parts i part
+    → (part.start ≡ low) × AreBlocks level (low + length part.cells) high (drop (i + 1) parts)
+next_block level low high parts i part rest inside is =
+    let (here, after) = subst (AreBlocks level low high) (next_is parts i part inside is) rest in
+    (here.3, after)
+
+-- the blocks put so far, and one more
+pub record ArePut (level high : ℕ) (parts : List Part) (i : ℕ) (entries : List Entry) : Type 0 where
+  pub rest : AreBlocks level (length entries) high (drop i parts)
+  pub below : AllBelow (take i parts) (length entries)
+  pub done : HasAllSettled (take i parts) entries
+
+pub put_more : (level high : ℕ) (parts : List Part) (i : ℕ) (part : Part) (old now : List Entry) → ArePut level high parts i old → i < length parts → part ≡ get_or parts i part
+    → PushesBlock part old now (length part.cells) → ArePut level high parts (i + 1) now
+put_more level high parts i part old now before inside is pushed =
+    let (here, after) = next_block level (length old) high parts i part before.rest inside is in
+    let more : take (i + 1) parts ≡ take i parts ++ part ∷ [] = take_more parts i part inside ∙ ap (λ p. take i parts ++ p ∷ []) (sym is) in
+    record {
+      rest = subst (λ n. AreBlocks level n high (drop (i + 1) parts)) (sym pushed.size) after;
+      below = subst (λ ps. AllBelow ps (length now)) (sym more) (below_push (take i parts) part (length now) (below_more (take i parts) (length old) (length now) (omega (arith, pushed.size)) before.below) (omega (arith, pushed.size, here)));
+      done = subst (λ ps. HasAllSettled ps now) (sym more) (settled_push (take i parts) part now (settled_more (take i parts) old now before.below pushed.before before.done) (block_settled part old now here pushed));
+    }
+
+pub put_all : (level high : ℕ) (parts : List Part) (i : ℕ) (entries : List Entry) → ArePut level high parts i entries → length parts ≤ i → (length entries ≡ high) × HasAllSettled parts entries
+put_all level high parts i entries all past = (subst (AreBlocks level (length entries) high) (drop_all i parts past) all.rest, subst (λ ps. HasAllSettled ps entries) (take_all i parts past) all.done)

@@ -1,0 +1,4 @@
+pub mod Serving
+pub mod Tables
+pub mod Blocks
+pub mod Whole

@@ -1,0 +1,6 @@
+use Rattle.awari_rank.specs.Rank.{size_of}
+use Rattle.awari_plan.proofs.Blocks.{ArePut}
+use Rattle.awari_plan.proofs.finishing.settled_entries.Given as goal
+
+abbrev pub invariant-loop-part : goal.invariant-loop-part
+invariant-loop-part l = ArePut l.level (size_of l.level) l.parts l.part-index l.entries.items

@@ -1,0 +1,36 @@
+-- Plans set board by board. Private functions alone go by this: no public contract does.
+use Rattle.std.specs.Prelude.{◌≡◌, ℕ, ◌+◌, ◌<◌, List, [], ◌∷◌, ◌++◌, length, sum, slice_index_or, ◌⊎◌, pos, ◌-ℤ◌, ◌<ℤ◌}
+use Rattle.awari_board.specs.Rules.{IsBoard}
+use Rattle.awari_rank.specs.Rank.{rank_of}
+use Rattle.awari_table.specs.declared.images.Entry.{Entry}
+use Rattle.awari_table.specs.declared.images.Image.{Image}
+use Rattle.awari_table.specs.Images.{table_of, no_entry}
+use Rattle.awari_owner.specs.Part.{Part, settled_at}
+use Rattle.awari_plan.specs.Finished.{HasSettled}
+use Rattle.awari_plan.specs.Plan.{IsLowest}
+
+-- the shelf with these entries on top
+abbrev pub topped : List Image → List Entry → List Image
+topped shelf entries = shelf ++ record { level = length shelf; limit = 0; entries = entries } ∷ []
+
+-- A move with c captured stones to the board of an entry gains the value of the board's own entry; and where that is positive,
+-- it captures or leads to a smaller distance.
+abbrev pub Gains : Entry → ℕ → Entry → Type 0
+Gains own c reached = ((pos c -ℤ reached.value) ≡ own.value) × (pos 0 <ℤ own.value → (0 < c) ⊎ (reached.dist < own.dist))
+
+-- plans aside, the entries are the same
+pub record SameSettled (old new : List Entry) : Type 0 where
+  pub size : length new ≡ length old
+  pub value : (k : ℕ) → (slice_index_or new k no_entry).value ≡ (slice_index_or old k no_entry).value
+  pub dist : (k : ℕ) → (slice_index_or new k no_entry).dist ≡ (slice_index_or old k no_entry).dist
+
+-- of the boards of a rank below `high`, each has its plan, by the values and distances of the old entries
+abbrev pub IsPlanned : List Image → List Entry → List Entry → ℕ → Type 0
+IsPlanned shelf old new high =
+    (p : List ℕ) → IsBoard p → sum p ≡ length shelf → rank_of p < high → IsLowest (table_of (topped shelf old)) p (slice_index_or new (rank_of p) no_entry).plan
+
+-- the entries of the first `count` boards of the block are put after those that were there
+pub record PushesBlock (part : Part) (old new : List Entry) (count : ℕ) : Type 0 where
+  pub size : length new ≡ length old + count
+  pub before : (k : ℕ) → k < length old → slice_index_or new k no_entry ≡ slice_index_or old k no_entry
+  pub settled : (k : ℕ) → k < count → HasSettled (settled_at part (part.start + k)) (slice_index_or new (length old + k) no_entry)
