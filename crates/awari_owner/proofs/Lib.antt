@@ -9,3 +9,5 @@ pub mod Gains
 pub mod Spreading
 pub mod Hearing
 pub mod Scanning
+pub mod Firsts
+pub mod Sending

@@ -5,10 +5,13 @@ mod blocks;
 mod cells;
 mod faults;
 mod notes;
+mod outboxes;
 mod parts;
 mod places;
 mod scans;
+mod spreads;
 
 pub use faults::OwnerFault;
 pub use notes::{Kind, Note};
+pub use outboxes::{Batch, Outboxes};
 pub use parts::Part;

@@ -47,5 +47,10 @@ returns-in-Some c =
     let greater = max_is c.in-Some.best c.gain_of-gain.result c.max-best.result is in
     outlook-capture (table_of c.args.shelf.now).value c.args.board.now c.args.pit c.args.seen.quiet c.args.moved.now.captured c.args.seen.best c.args.moved.now.board c.gain_of-gain.result _
     c.requires.own c.requires.legal some c.gain_of-gain.ensures.gain (subst (λ n. IsWithin n c.gain_of-gain.result) (sym c.requires.stones) c.gain_of-gain.ensures.within)
-    (inr (c.in-Some.best, c.in-Some.is, subst (λ z. c.in-Some.best ≤ℤ z) (sym (to_z-of_z w8 _ most)) greater.0, subst (λ z. c.gain_of-gain.result ≤ℤ z) (sym (to_z-of_z w8 _ most)) greater.1,
-    subst (λ z. (z ≡ c.in-Some.best) ⊎ (z ≡ c.gain_of-gain.result)) (sym (to_z-of_z w8 _ most)) greater.2)) c.requires.seen
+    (inr (
+      c.in-Some.best,
+      c.in-Some.is,
+      subst (λ z. c.in-Some.best ≤ℤ z) (sym (to_z-of_z w8 _ most)) greater.0,
+      subst (λ z. c.gain_of-gain.result ≤ℤ z) (sym (to_z-of_z w8 _ most)) greater.1,
+      subst (λ z. (z ≡ c.in-Some.best) ⊎ (z ≡ c.gain_of-gain.result)) (sym (to_z-of_z w8 _ most)) greater.2,
+    )) c.requires.seen
