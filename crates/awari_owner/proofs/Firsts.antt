@@ -1,5 +1,5 @@
 -- The first fresh board, and what its spread makes of the part.
-use Rattle.std.proofs.Common.{◌≡◌, ℕ, ℤ, ◌+◌, ◌-◌, ◌<◌, ◌≤◌, ◌==◌, Bool, false, true, inl, inr, if◌then◌else◌, Some, List, ◌∷◌, length, get_or, sum, pos, neg_ℤ, ◌≤ℤ◌, All, refl, sym, ap, subst, subst₂, ◌∙◌, arith}
+use Rattle.std.proofs.Common.{◌≡◌, ℕ, ◌+◌, ◌-◌, ◌<◌, ◌≤◌, Bool, false, true, inl, inr, if◌then◌else◌, Some, List, ◌∷◌, length, get_or, sum, All, refl, sym, ap, subst, ◌∙◌, arith}
 use Rattle.std.proofs.lemmas.Int.{ints}
 use Rattle.std.proofs.lemmas.Bool.{false≢true}
 use Rattle.std.proofs.lemmas.Bool.Decides.{nat_tests}
@@ -12,13 +12,12 @@ use Rattle.awari_unmove.specs.Predecessors.{IsPredecessors}
 use Rattle.awari_owner.specs.Notes.{IsQuietMove}
 use Rattle.awari_owner.specs.Cells.{IsEither, IsWithin, Fits, FitsBy, is_settled}
 use Rattle.awari_owner.specs.Blocks.{Due, due_rank, due_dist, due_cmp, cell_in, times_due, is_settled_in, IsDueAs, IsBlock, JoinNewlySettled, KeepSettled}
-use Rattle.awari_owner.specs.Part.{Part, InBlock, IsTallied, part_of, stored_at, settled_at}
-use Rattle.awari_owner.specs.Spread.{Source, HearsOwn, Tells, kind_of, with_all_own, IsFirst, LeavesFresh, Spreads}
+use Rattle.awari_owner.specs.Part.{Part, InBlock, IsTallied, part_of, stored_at}
+use Rattle.awari_owner.specs.Spread.{Source, Tells, kind_of, with_all_own, LeavesFresh, Spreads}
 use Rattle.awari_owner.specs.declared.cells.Cell.{Cell}
 use Rattle.awari_owner.specs.declared.cells.Mark.{Mark}
 use Rattle.awari_owner.specs.declared.cells.Mark.TheVariants.{Ended, Quiet, Capturing, Settled}
 use Rattle.awari_owner.specs.declared.notes.Kind.{Kind}
-use Rattle.awari_owner.specs.declared.notes.Note.{Note}
 use Rattle.awari_owner.specs.declared.places.Place.{Place}
 use Rattle.awari_owner.proofs.BlockLemmas.{first_due}
 use Rattle.awari_owner.proofs.Spreading.{IsInjective, AreSources, sources_of, unheard_sources, joined_but}

@@ -11,3 +11,4 @@ pub mod Hearing
 pub mod Scanning
 pub mod Firsts
 pub mod Sending
+pub mod Finishing

@@ -1,5 +1,5 @@
 -- Queues of batches, seen as lists of lists.
-use Rattle.std.proofs.Common.{◌≡◌, ℕ, ◌<◌, List, [], ◌∷◌, length, get_or, map, All, sym, ap, ◌∙◌, refl, arith}
+use Rattle.std.proofs.Common.{◌≡◌, ℕ, ◌<◌, List, [], ◌∷◌, length, get_or, map, sym, ap, ◌∙◌, refl, arith}
 use Rattle.std.proofs.lemmas.List.{get_or-map, length-map}
 
 module _ {Q X Y : Type 0} (f : Q → List X) (g : X → Y) (queues : List Q) (i : ℕ) (q : Q) (high : i < length queues) (is : q ≡ get_or queues i q) where

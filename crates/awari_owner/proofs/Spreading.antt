@@ -11,7 +11,7 @@ use Rattle.awari_owner.specs.Notes.{IsQuietMove, Has, is_heard_at}
 use Rattle.awari_owner.specs.Tally.{has_pit, with_pit}
 use Rattle.awari_owner.specs.Steps.{after_note}
 use Rattle.awari_owner.specs.Cells.{status_of}
-use Rattle.awari_owner.specs.Blocks.{Due, due_rank, due_dist, times_due, is_settled_in, JoinNewlySettled}
+use Rattle.awari_owner.specs.Blocks.{Due, due_rank, times_due, is_settled_in, JoinNewlySettled}
 use Rattle.awari_owner.specs.Part.{Part, InBlock, IsTakeable, IsTallied, stored_at, notes_for}
 use Rattle.awari_owner.specs.Spread.{Source, is_held, note_to, with_own, with_all_own, IsSource, AreUnheard, Tells, HearsOwn}
 use Rattle.awari_unmove.specs.Predecessors.{IsPredecessors, ComesBefore}

@@ -4,6 +4,7 @@
 mod blocks;
 mod cells;
 mod faults;
+mod laws;
 mod notes;
 mod outboxes;
 mod parts;
@@ -12,6 +13,7 @@ mod scans;
 mod spreads;
 
 pub use faults::OwnerFault;
+pub use laws::{idle_parts_are_right, quiet_levels_are_right};
 pub use notes::{Kind, Note};
 pub use outboxes::{Batch, Outboxes};
 pub use parts::Part;

@@ -149,8 +149,11 @@ impl Part {
         ensures stays { KeepSettled self.old.start self.old.cells self.new.cells }
         ensures unspread { unspread self.new ≡ unspread self.old }
     {
-        self.place.gain = gain;
-        self.place.wave = 0;
+        self.place = Place {
+            gain,
+            wave: 0,
+            ..self.place
+        };
         open_cells(&mut self.cells, &mut self.fresh, self.place);
     }
 
@@ -162,7 +165,10 @@ impl Part {
         ensures hears { (notes : List NoteView) → HearsOwn self.old notes → HearsOwn self.new notes }
         ensures wave { self.new ≡ record self.old { wave = dist } }
     {
-        self.place.wave = dist;
+        self.place = Place {
+            wave: dist,
+            ..self.place
+        };
     }
 
     /// Hears a note of another owner, which may settle the board that it is for. It takes no

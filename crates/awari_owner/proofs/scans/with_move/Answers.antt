@@ -1,4 +1,4 @@
-use Rattle.std.proofs.Common.{ℤ, ◌≤ℤ◌, ◌⊎◌, ◌≡◌, ◌<◌, inl, inr, Bool, true, false, cond, ap, SFits, w8, Some, rules, refl, subst, sym, ◌∙◌, arith}
+use Rattle.std.proofs.Common.{ℤ, ◌≤ℤ◌, ◌⊎◌, ◌≡◌, ◌<◌, inl, inr, Bool, true, false, cond, ap, SFits, w8, rules, refl, subst, sym, ◌∙◌, arith}
 use Rattle.std.proofs.lemmas.Int.{ints, to_z-of_z}
 use Rattle.std.specs.Int.{int_max}
 use Rattle.std.specs.Prelude.{int_lt}
@@ -6,7 +6,6 @@ use Rattle.std.proofs.lemmas.Bool.Decides.{nat_tests}
 use Rattle.awari_board.specs.Rules.{IsMove}
 use Rattle.awari_table.specs.Images.{table_of}
 use Rattle.awari_owner.specs.Cells.{IsWithin}
-use Rattle.awari_owner.specs.Scan.{IsOutlook}
 use Rattle.awari_owner.proofs.Scanning.{outlook-quiet, outlook-capture}
 use Rattle.awari_owner.proofs.scans.with_move.Goals as goal
 

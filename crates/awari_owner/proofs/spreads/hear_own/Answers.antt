@@ -1,16 +1,15 @@
-use Rattle.std.proofs.Common.{◌≡◌, ◌+◌, List, sum, length, vec_len, heap_items, refl, sym, subst, rules, arith}
-use Rattle.awari_unmove.specs.Predecessors.{IsQuiet, IsPredecessors}
+use Rattle.std.proofs.Common.{◌≡◌, ◌+◌, sum, length, heap_items, refl, rules, arith}
+use Rattle.awari_unmove.specs.Predecessors.{IsQuiet}
 use Rattle.awari_unmove.proofs.Walking.{IsPredecessors-more, IsPredecessors-end, IsQuiet-next}
 use Rattle.awari_owner.specs.Blocks.{cell_in}
 use Rattle.awari_owner.specs.Part.{Part, part_of}
-use Rattle.awari_owner.specs.Spread.{Source}
 use Rattle.awari_owner.proofs.BlockLemmas.{keeps_both}
 use Rattle.awari_owner.proofs.Spreading.{told_more}
 use Rattle.awari_owner.proofs.spreads.hear_own.Goals as goal
 
 pub hear_one-requires-clause-source : goal.hear_one-requires-clause-source
 hear_one-requires-clause-source c =
-    let quiet : IsQuiet c.in-Some.source c.in-Some.pit c.args.board.now = IsQuiet-next _ _ _ _ _ _ c.loop-source.invariant.pairs c.in-Some.ensures.steps in
+    let quiet : IsQuiet c.in-Some.source c.in-Some.pit c.args.board.now = IsQuiet-next c.args.board.now c.loop-source.yielded c.loop-source.source-iterator c.next.new.self c.in-Some.source c.in-Some.pit c.loop-source.invariant.pairs c.in-Some.ensures.steps in
     let kept : sum c.args.board.now + 0 ≡ sum c.in-Some.source = c.moves_keep_boards.ensures.stones c.in-Some.source c.args.board.now c.in-Some.pit 0 quiet.board quiet.move in
     (quiet.board, omega (arith, kept, c.requires.stones), (c.args.board.now, quiet.move))
 

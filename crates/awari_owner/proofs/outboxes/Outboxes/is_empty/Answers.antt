@@ -1,4 +1,4 @@
-use Rattle.std.proofs.Common.{◌≡◌, ◌≢◌, ◌<◌, ◌≤◌, ℕ, [], length, get_or, ap, sym, ◌∙◌, below_more, rules, arith}
+use Rattle.std.proofs.Common.{◌≡◌, ◌≢◌, ◌<◌, ◌≤◌, [], length, get_or, ap, sym, ◌∙◌, below_more, rules, arith}
 use Rattle.std.proofs.lemmas.List.{get_or_default}
 use Rattle.awari_owner.specs.Outboxes.{Outboxes}
 use Rattle.awari_owner.proofs.Sending.{seen_empty, seen_filled, seen_length, none_left}

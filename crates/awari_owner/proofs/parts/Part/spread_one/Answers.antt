@@ -1,7 +1,6 @@
-use Rattle.std.proofs.Common.{◌≡◌, ◌+◌, ◌<◌, ◌≤◌, ◌∙◌, ℕ, List, Some, length, subst, sym, refl, rules, arith, heap_items}
+use Rattle.std.proofs.Common.{◌≡◌, ◌+◌, ◌<◌, ◌∙◌, ℕ, List, Some, length, subst, sym, refl, rules, arith, heap_items}
 use Rattle.std.specs.BinaryHeap.{heap_capacity}
 use Rattle.std.proofs.lemmas.List.{get_or_default}
-use Rattle.awari_owner.specs.Cells.{Fits}
 use Rattle.awari_owner.specs.Blocks.{IsBlock, no_cell, cell_in, due_rank}
 use Rattle.awari_owner.specs.Part.{Part, part_of, IsLeastDue}
 use Rattle.awari_owner.specs.Spread.{Source, Spreads}
