@@ -254,6 +254,7 @@ put_unspread start cells fresh after rank c high step =
 -- it is a settled board of the block, with its distance
 pub first_due : (place : Place) (cells : List Cell) (fresh : List Due) (capacity : ℕ) → IsBlock place cells fresh capacity → 0 < length fresh → (f : Due) → f ≡ get_or fresh 0 f
     → (place.start ≤ due_rank f) × (due_rank f - place.start < length cells) × IsDueAs place f (cell_in place.start cells (due_rank f)) × (0 < times_due fresh (due_rank f))
+    × (is_settled (cell_in place.start cells (due_rank f)).mark ≡ true)
 first_due place cells [] capacity sound some f e = absurd (omega arith)
 first_due place cells (g ∷ fresh) capacity sound some f e =
     let settled = subst (λ (h : Due). is_settled_in place.start cells (due_rank h) ≡ true) (sym e) (due_settled (is_settled_in place.start cells) (g ∷ fresh) sound.settled).0 in
@@ -262,6 +263,7 @@ first_due place cells (g ∷ fresh) capacity sound some f e =
       below (due_rank f - place.start) low.1,
       subst (λ (h : Due). IsDueAs place h (cell_in place.start cells (due_rank h))) (sym e) (sound.due 0 g (omega arith)),
       once (due_rank f) (subst (λ (h : Due). due_rank h ≡ due_rank f) e refl),
+      low.1,
     )
   where
     parts : (a b : ℕ) (d : Bool) → (nat_le a b && d) ≡ true → (a ≤ b) × (d ≡ true)

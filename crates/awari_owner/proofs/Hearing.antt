@@ -1,19 +1,22 @@
 -- The notes of moves that stay in the block, once a note came in.
-use Rattle.std.proofs.Common.{◌≡◌, ℕ, zero, suc, get_or, ◌+◌, ◌<◌, ◌≤◌, ◌==◌, ◌⊎◌, inl, inr, Bool, true, false, cond, List, [], ◌∷◌, length, sum, ℤ, Some, is_some, ◌&&◌, nat_le, refl, sym, ap, subst, subst₂, ◌∙◌, arith, eqb-true}
+use Rattle.std.proofs.Common.{◌≡◌, ℕ, zero, suc, get_or, ◌+◌, ◌<◌, ◌≤◌, ◌==◌, ◌⊎◌, inl, inr, Bool, true, false, cond, List, [], ◌∷◌, length, sum, ℤ, pos, neg_ℤ, ◌<ℤ◌, ◌≤ℤ◌, Some, is_some, ◌&&◌, nat_le, refl, sym, ap, subst, subst₂, ◌∙◌, arith, eqb-true}
+use Rattle.std.proofs.lemmas.Int.{ints}
+use Rattle.std.specs.Prelude.{int_lt}
 use Rattle.std.proofs.lemmas.Bool.Decides.{nat_tests}
 use Rattle.awari_board.specs.Rules.{IsBoard, next_board}
 use Rattle.awari_rank.specs.Rank.{rank_of}
-use Rattle.awari_owner.specs.Notes.{IsQuietMove, Has, IsNoteOf}
+use Rattle.awari_owner.specs.Notes.{IsQuietMove, Has, IsNoteOf, gain_by}
 use Rattle.awari_owner.specs.Part.{Part, InBlock, Leaves, JoinsFresh, settled_at, settled_by, notes_for}
-use Rattle.awari_owner.specs.Cells.{is_settled, status_of, status_by, Keeps}
+use Rattle.awari_owner.specs.declared.notes.Kind.TheVariants.{Won, Lost}
+use Rattle.awari_owner.specs.Cells.{IsEither, is_settled, status_of, status_by, Keeps}
 use Rattle.awari_owner.specs.declared.cells.Cell.{Cell}
 use Rattle.awari_owner.specs.declared.cells.Mark.{Mark}
 use Rattle.awari_owner.specs.declared.cells.Mark.TheVariants.{Ended, Quiet, Capturing, Settled}
 use Rattle.std.proofs.lemmas.Bool.{false≢true}
 use Rattle.awari_owner.specs.Blocks.{is_settled_in, times_due, cell_in, KeepSettled}
-use Rattle.awari_owner.specs.Spread.{Source, HearsOwn, IsSpread, AreSources, is_held, note_to, with_own, with_all_own}
+use Rattle.awari_owner.specs.Spread.{Source, HearsOwn, IsSpread, LeavesFresh, kind_of, is_held, note_to, with_own, with_all_own}
 use Rattle.awari_owner.specs.declared.notes.Kind.{Kind}
-use Rattle.awari_owner.proofs.Spreading.{IsInjective}
+use Rattle.awari_owner.proofs.Spreading.{IsInjective, AreSources, held_is}
 use Rattle.awari_owner.specs.declared.notes.Note.{Note}
 
 abbrev one_if : Bool → ℕ
@@ -65,22 +68,20 @@ some_settled c v d e = at c.mark refl
     at Capturing f = absurd (false≢true (ap (λ k. is_some (settled_by (status_by k c.left c.score c.dist))) (sym f) ∙ ap is_some e))
     at Ended f = absurd (false≢true (ap (λ k. is_some (settled_by (status_by k c.left c.score c.dist))) (sym f) ∙ ap is_some e))
 
-kept_status : (a b : Cell) → Keeps a b → is_settled a.mark ≡ true → settled_by (status_of b) ≡ settled_by (status_of a)
-kept_status a b keeps e = at a.mark refl e (keeps e)
+-- value and distance of a settled cell
+pub settled_value : (c : Cell) → is_settled c.mark ≡ true → settled_by (status_of c) ≡ Some (c.score, c.dist)
+settled_value c h = by c.mark h
   where
-    at : (m : Mark) → a.mark ≡ m → is_settled a.mark ≡ true → (b.mark ≡ a.mark) × (b.score ≡ a.score) × (b.dist ≡ a.dist) → settled_by (status_of b) ≡ settled_by (status_of a)
-    at m f g same =
-        let both : is_settled b.mark ≡ true = ap is_settled same.0 ∙ g in
-        value_of b both ∙ (λ i. Some (same.1 i, same.2 i)) ∙ sym (value_of a g)
-      where
-        value_of : (c : Cell) → is_settled c.mark ≡ true → settled_by (status_of c) ≡ Some (c.score, c.dist)
-        value_of c h = by c.mark h
-          where
-            by : (k : Mark) → is_settled k ≡ true → settled_by (status_by k c.left c.score c.dist) ≡ Some (c.score, c.dist)
-            by Settled h = refl
-            by Quiet h = absurd (false≢true h)
-            by Capturing h = absurd (false≢true h)
-            by Ended h = absurd (false≢true h)
+    by : (k : Mark) → is_settled k ≡ true → settled_by (status_by k c.left c.score c.dist) ≡ Some (c.score, c.dist)
+    by Settled h = refl
+    by Quiet h = absurd (false≢true h)
+    by Capturing h = absurd (false≢true h)
+    by Ended h = absurd (false≢true h)
+
+kept_status : (a b : Cell) → Keeps a b → is_settled a.mark ≡ true → settled_by (status_of b) ≡ settled_by (status_of a)
+kept_status a b keeps e =
+    let same = keeps e in
+    settled_value b (ap is_settled same.0 ∙ e) ∙ (λ i. Some (same.1 i, same.2 i)) ∙ sym (settled_value a e)
 
 is_settled_at : (part : Part) (r : ℕ) (v : ℤ) (d : ℕ) → part.start ≤ r → settled_at part r ≡ Some (v, d) → is_settled_in part.start part.cells r ≡ true
 is_settled_at part r v d low e = both (nat_le part.start r) (is_settled (cell_in part.start part.cells r).mark) (le_true part.start r low) (some_settled (cell_in part.start part.cells r) v d e)
@@ -242,3 +243,124 @@ hears_spread old new notes q sources kind v d injective own are keeps is_q stone
         (has_source old kind sources found.0 y notes found.1 (subst (λ (z : Source). is_held old (rank_of z.0) ≡ true) (sym found.2) (held (rank_of p) in_p))) in
         let note : IsNoteOf q v d p x (note_to old kind y) = fits y to_q st in
         (note_to old kind y, has, subst₂ (λ (w : ℤ) (f : ℕ). IsNoteOf q' w f p x (note_to old kind y)) (sym here.1) (sym here.2) (subst (λ (b : List ℕ). IsNoteOf b v d p x (note_to old kind y)) (sym same) note))
+
+-- ---- what is spread, once the first fresh board is
+
+-- one board more is spread
+pub spread_back : (old new : Part) (rank : ℕ) → new.start ≡ old.start → KeepSettled old.start old.cells new.cells → LeavesFresh old new rank → (r : ℕ) (v : ℤ) (d : ℕ) → old.start ≤ r
+    → IsSpread new r v d → IsSpread old r v d ⊎ ((rank ≡ r) × (settled_at new r ≡ Some (v, d)))
+spread_back old new rank start keeps leaves r v d low spread = by (rank == r) refl
+  where
+    now : one_if (is_settled_in new.start new.cells r) ≡ 1
+    now = ap one_if (is_settled_at new r v d (omega (arith, start, low)) spread.0)
+
+    mark_is : is_settled_in old.start old.cells r ≡ true → is_settled (cell_in old.start old.cells r).mark ≡ true
+    mark_is e = second (nat_le old.start r) (is_settled (cell_in old.start old.cells r).mark) e
+      where
+        second : (a b : Bool) → (a && b) ≡ true → b ≡ true
+        second a b e = grind arith
+
+    by : (b : Bool) → (rank == r) ≡ b → IsSpread old r v d ⊎ ((rank ≡ r) × (settled_at new r ≡ Some (v, d)))
+    by true e = inr (eqb-true rank r e, spread.0)
+    by false e = inl (at (is_settled_in old.start old.cells r) refl)
+      where
+        none : one_if (rank == r) ≡ 0
+        none = ap one_if e
+
+        law : times_due new.fresh r + one_if (is_settled_in old.start old.cells r) + one_if (rank == r) ≡ times_due old.fresh r + one_if (is_settled_in new.start new.cells r)
+        law = leaves r
+
+        at : (b : Bool) → is_settled_in old.start old.cells r ≡ b → IsSpread old r v d
+        at true f =
+            let was : one_if (is_settled_in old.start old.cells r) ≡ 1 = ap one_if f in
+            let same : settled_at new r ≡ settled_at old r =
+            ap (λ s. settled_by (status_of (cell_in s new.cells r))) start ∙ kept_status (cell_in old.start old.cells r) (cell_in old.start new.cells r) (keeps r low) (mark_is f) in
+            (sym same ∙ spread.0, omega (arith, now, none, law, was, spread.1))
+        at false f = let was : one_if (is_settled_in old.start old.cells r) ≡ 0 = ap one_if f in absurd (omega (arith, now, none, law, was, spread.1))
+
+-- a settled board keeps value and distance
+pub settled_still : (old new : Part) → new.start ≡ old.start → KeepSettled old.start old.cells new.cells → (r : ℕ) (v : ℤ) (d : ℕ) → old.start ≤ r → settled_at old r ≡ Some (v, d) → settled_at new r ≡ Some (v, d)
+settled_still old new start keeps r v d low settled =
+    ap (λ s. settled_by (status_of (cell_in s new.cells r))) start
+    ∙ kept_status (cell_in old.start old.cells r) (cell_in old.start new.cells r) (keeps r low) (some_settled (cell_in old.start old.cells r) v d settled) ∙ settled
+
+-- what is settled and not fresh, or is the first fresh board, is spread
+pub spread_forth : (old new : Part) (rank : ℕ) → new.start ≡ old.start → KeepSettled old.start old.cells new.cells → LeavesFresh old new rank → (r : ℕ) (v : ℤ) (d : ℕ) → old.start ≤ r
+    → settled_at old r ≡ Some (v, d) → (times_due old.fresh r ≡ 0) ⊎ ((rank ≡ r) × (times_due old.fresh r ≤ 1)) → IsSpread new r v d
+spread_forth old new rank start keeps leaves r v d low settled due = (still, by due)
+  where
+    still : settled_at new r ≡ Some (v, d)
+    still = settled_still old new start keeps r v d low settled
+
+    was : one_if (is_settled_in old.start old.cells r) ≡ 1
+    was = ap one_if (is_settled_at old r v d low settled)
+
+    now : one_if (is_settled_in new.start new.cells r) ≡ 1
+    now = ap one_if (is_settled_at new r v d (omega (arith, start, low)) still)
+
+    law : times_due new.fresh r + one_if (is_settled_in old.start old.cells r) + one_if (rank == r) ≡ times_due old.fresh r + one_if (is_settled_in new.start new.cells r)
+    law = leaves r
+
+    eqb_same : (a b : ℕ) → a ≡ b → (a == b) ≡ true
+    eqb_same a b e = grind (arith, nat_tests)
+
+    by : (times_due old.fresh r ≡ 0) ⊎ ((rank ≡ r) × (times_due old.fresh r ≤ 1)) → times_due new.fresh r ≡ 0
+    by (inl none) = omega (arith, was, now, law, none)
+    by (inr first) = let one : one_if (rank == r) ≡ 1 = ap one_if (eqb_same rank r first.0) in let few = first.1 in omega (arith, was, now, law, one, few)
+
+-- the note that the first fresh board gives to a source
+pub note_fits : (old : Part) (q : List ℕ) (score : ℤ) (y : Source) → 1 ≤ old.gain → IsEither old.gain score → sum y.0 ≡ old.level → IsQuietMove y.0 y.1 q
+    → IsNoteOf q score old.wave y.0 y.1 (note_to old (kind_of score) y)
+note_fits old q score y one either stones quiet = record {
+  quiet = quiet;
+  level = sym stones;
+  target = refl;
+  pit = refl;
+  kind = kinds (int_lt (pos 0) score) refl;
+  gain = gains (int_lt (pos 0) score) refl;
+  same_dist = refl;
+}
+  where
+    positive : (z : ℤ) → int_lt (pos 0) z ≡ true → pos 0 <ℤ z
+    positive z e = grind (arith, ints, nat_tests)
+
+    unpositive : (z : ℤ) → int_lt (pos 0) z ≡ false → z ≤ℤ pos 0
+    unpositive z e = grind (arith, ints, nat_tests)
+
+    kinds : (b : Bool) → int_lt (pos 0) score ≡ b → ((kind_of score ≡ Won) × (pos 0 <ℤ score)) ⊎ ((kind_of score ≡ Lost) × (score <ℤ pos 0))
+    kinds true e = inl (ap (λ b. cond b Won Lost) e, positive score e)
+    kinds false e = inr (ap (λ b. cond b Won Lost) e, (let low = unpositive score e in elim either [ inl up ↦ omega (arith, ints, low, up) | inr down ↦ omega (arith, ints, low, down) ]))
+
+    gains : (b : Bool) → int_lt (pos 0) score ≡ b → gain_by (kind_of score) old.gain ≡ neg_ℤ score
+    gains true e =
+        ap (λ b. gain_by (cond b Won Lost) old.gain) e
+        ∙ elim either [ inl up ↦ ap neg_ℤ (sym up) | inr down ↦ absurd (let high = positive score e in omega (arith, ints, high, down)) ]
+    gains false e =
+        ap (λ b. gain_by (cond b Won Lost) old.gain) e
+        ∙ elim either [ inl up ↦ absurd (let low = unpositive score e in omega (arith, ints, low, up)) | inr down ↦ omega (arith, ints, down) ]
+
+-- the moves heard that stay in the block are those to spread boards, also once the first fresh board is spread
+pub hears_first : (old new : Part) (notes : List Note) (q : List ℕ) (sources : List Source) (score : ℤ) → IsInjective → AreSources q sources
+    → ((p : List ℕ) (x : ℕ) (r : List ℕ) → IsBoard p → IsQuietMove p x r → IsBoard r × (sum r ≡ sum p))
+    → IsBoard q → sum q ≡ old.level → 1 ≤ old.gain → IsEither old.gain score → settled_at old (rank_of q) ≡ Some (score, old.wave) → InBlock old (rank_of q) → times_due old.fresh (rank_of q) ≤ 1
+    → new.level ≡ old.level → new.start ≡ old.start → length new.cells ≡ length old.cells → KeepSettled old.start old.cells new.cells → LeavesFresh old new (rank_of q)
+    → HearsOwn old notes → HearsOwn new (with_all_own old (kind_of score) notes sources)
+hears_first old new notes q sources score injective are keeps is_q stones one either settled held few level start len stays leaves own =
+    hears_spread old new notes q sources (kind_of score) score old.wave injective own are keeps is_q stones level inside
+    (λ r in_r. let i = inside r in_r in held_is old.start r (length old.cells) i.0 i.1)
+    (λ r v d in_r spread. spread_forth old new (rank_of q) start stays leaves r v d (inside r in_r).0 spread.0 (inl spread.1))
+    (spread_forth old new (rank_of q) start stays leaves (rank_of q) score old.wave held.0 settled (inr (refl, few)))
+    (λ r u e in_r spread. elim (spread_back old new (rank_of q) start stays leaves r u e (inside r in_r).0 spread) [
+      | inl before ↦ inl before
+      | inr here ↦ inr (
+          let now : settled_at new (rank_of q) ≡ Some (score, old.wave) = settled_still old new start stays (rank_of q) score old.wave held.0 settled in
+          let both = pairs (u, e) (score, old.wave) (sym here.1 ∙ ap (settled_at new) (sym here.0) ∙ now) in
+          (sym here.0, both.0, both.1))
+    ])
+    (λ y quiet st. note_fits old q score y one either st quiet)
+  where
+    inside : (r : ℕ) → InBlock new r → InBlock old r
+    inside r in_r = let a = in_r.0 in let b = in_r.1 in (omega (arith, a, start), omega (arith, b, start, len))
+
+    pairs : (a b : ℤ × ℕ) → Some a ≡ Some b → (a.0 ≡ b.0) × (a.1 ≡ b.1)
+    pairs a b same = let both : a ≡ b = cc in (ap (λ (c : ℤ × ℕ). c.0) both, ap (λ (c : ℤ × ℕ). c.1) both)

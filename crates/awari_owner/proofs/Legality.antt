@@ -1,8 +1,7 @@
 -- What the tests of the rules decide.
-use Rattle.std.proofs.Common.{◌≡◌, ℕ, ◌+◌, ◌-◌, ◌<◌, ◌≤◌, true, ◌&&◌, ◌||◌, nat_lt, ◌↔◌, List, slice_index, ◌==◌, eqb-true, refl, sym, ◌∙◌, arith}
+use Rattle.std.proofs.Common.{◌≡◌, ℕ, true, ◌&&◌, List, ◌==◌, eqb-true, refl, sym, ◌∙◌}
 use Rattle.std.proofs.lemmas.Bool.{and_parts}
-use Rattle.std.proofs.lemmas.Bool.Decides.{nat_tests}
-use Rattle.awari_board.specs.Rules.{IsLegal, IsMove, captured, next_board, landing, other_stones}
+use Rattle.awari_board.specs.Rules.{IsMove, captured, next_board}
 use Rattle.awari_board.specs.Tests.{is_legal}
 use Rattle.awari_board.proofs.Legal.{legal_is}
 

@@ -9,3 +9,6 @@ pub mod Gains
 pub mod Spreading
 pub mod Hearing
 pub mod Scanning
+pub mod Firsts
+pub mod Sending
+pub mod Finishing

@@ -1,8 +1,8 @@
 -- What the notes of a board that is spread make of its own part.
-use Rattle.std.proofs.Common.{◌≡◌, ℕ, suc, ◌||◌, eqb-true, ◌+◌, ◌-◌, ◌<◌, ◌≤◌, ◌==◌, ◌⊎◌, inl, inr, Bool, true, false, ◌&&◌, cond, if◌then◌else◌, nat_le, nat_lt, List, [], ◌∷◌, length, get_or, take, set, sum, ℤ, All, refl, sym, ap, subst, ◌∙◌, arith}
+use Rattle.std.proofs.Common.{◌≡◌, ℕ, suc, ◌||◌, eqb-true, ◌+◌, ◌-◌, ◌<◌, ◌≤◌, ◌==◌, ◌⊎◌, inl, inr, Bool, true, false, ◌&&◌, cond, if◌then◌else◌, nat_le, nat_lt, List, [], ◌∷◌, ◌++◌, length, length-append, append_assoc, get_or, slice_index, fold, set, sum, ℤ, All, Contains, refl, sym, ap, subst, subst₂, ◌∙◌, arith}
 use Rattle.std.proofs.lemmas.Bool.Decides.{nat_tests}
-use Rattle.std.proofs.lemmas.List.Sums.{fold_more}
-use Rattle.std.proofs.lemmas.List.{length-take-le, get_or-take, get_or_default}
+use Rattle.std.proofs.lemmas.List.{get_or_default, get_or_append_left}
+use Rattle.std.proofs.Math.Seq.{get_or-append_seam}
 use Rattle.std.specs.List.Sorted.{IsPermutation}
 use Rattle.awari_owner.proofs.BlockLemmas.{times_due-cons, times_due-permuted}
 use Rattle.awari_board.specs.Rules.{IsBoard}
@@ -11,15 +11,16 @@ use Rattle.awari_owner.specs.Notes.{IsQuietMove, Has, is_heard_at}
 use Rattle.awari_owner.specs.Tally.{has_pit, with_pit}
 use Rattle.awari_owner.specs.Steps.{after_note}
 use Rattle.awari_owner.specs.Cells.{status_of}
-use Rattle.awari_owner.specs.Blocks.{Due, due_rank, due_dist, times_due, is_settled_in, JoinNewlySettled}
+use Rattle.awari_owner.specs.Blocks.{Due, due_rank, times_due, is_settled_in, JoinNewlySettled}
 use Rattle.awari_owner.specs.Part.{Part, InBlock, IsTakeable, IsTallied, stored_at, notes_for}
-use Rattle.awari_owner.specs.Spread.{Source, is_held, note_to, with_own, with_all_own, IsSource, AreUnheard, AreSources, HearsOwn, kind_of, Spreads, LeavesFresh}
+use Rattle.awari_owner.specs.Spread.{Source, is_held, note_to, with_own, with_all_own, IsSource, AreUnheard, Tells, HearsOwn}
+use Rattle.awari_unmove.specs.Predecessors.{IsPredecessors, ComesBefore}
 use Rattle.awari_owner.specs.declared.notes.Note.{Note}
 use Rattle.awari_owner.specs.declared.notes.Kind.{Kind}
 use Rattle.awari_owner.specs.declared.cells.Cell.{Cell}
 use Rattle.awari_owner.proofs.Taking.{added_put}
 
-held_is : (a b n : ℕ) → a ≤ b → b - a < n → (nat_le a b && nat_lt (b - a) n) ≡ true
+pub held_is : (a b n : ℕ) → a ≤ b → b - a < n → (nat_le a b && nat_lt (b - a) n) ≡ true
 held_is a b n h k = grind (arith, nat_tests)
 
 unheld_is : (a b n : ℕ) → (b < a) ⊎ (n ≤ b - a) → (nat_le a b && nat_lt (b - a) n) ≡ false
@@ -67,16 +68,26 @@ pub with_own-same : (part other : Part) (kind : Kind) (notes : List Note) (y : S
     → length other.cells ≡ length part.cells → with_own other kind notes y ≡ with_own part kind notes y
 with_own-same part other kind notes y level gain wave start len = cc
 
--- one source more
-pub told_more : (value : List ℕ → ℤ) (part now new : Part) (kind : Kind) (notes : List Note) (sources : List Source) (i : ℕ) (y : Source) → i < length sources → y ≡ get_or sources i y
-    → now.level ≡ part.level → now.gain ≡ part.gain → now.wave ≡ part.wave → now.start ≡ part.start → length now.cells ≡ length part.cells
-    → IsTallied value new (with_own now kind (with_all_own part kind notes (take i sources)) y) → IsTallied value new (with_all_own part kind notes (take (i + 1) sources))
-told_more value part now new kind notes sources i y h at level gain wave start len told =
-    subst (λ (ns : List Note). IsTallied value new ns)
-    (with_own-same part now kind (with_all_own part kind notes (take i sources)) y level gain wave start len
-    ∙ ap (λ (z : Source). with_own part kind (with_all_own part kind notes (take i sources)) z) at
-    ∙ sym (fold_more (with_own part kind) notes sources i y h))
-    told
+-- ---- one source more
+
+fold_push : {A B : Type 0} (f : A → B → A) (a : A) (xs : List B) (y : B) → fold f a (xs ++ y ∷ []) ≡ f (fold f a xs) y
+fold_push f a [] y = refl
+fold_push f a (x ∷ xs) y = fold_push f (f a x) xs y
+
+pub told_none : (old : Part) (kind : Kind) → Tells old old kind []
+told_none old kind value notes unheard tallied = tallied
+
+pub told_more : (old now new : Part) (kind : Kind) (seen : List Source) (y : Source)
+    → now.level ≡ old.level → now.gain ≡ old.gain → now.wave ≡ old.wave → now.start ≡ old.start → length now.cells ≡ length old.cells
+    → Tells old now kind seen
+    → ((value : List ℕ → ℤ) (notes : List Note) → (InBlock now (rank_of y.0) → is_heard_at (notes_for (rank_of y.0) notes) y.1 ≡ false)
+    → IsTallied value now notes → IsTallied value new (with_own now kind notes y))
+    → Tells old new kind (seen ++ y ∷ [])
+told_more old now new kind seen y level gain wave start len before one value notes unheard tallied =
+    subst (IsTallied value new)
+    (with_own-same old now kind (with_all_own old kind notes seen) y level gain wave start len ∙ sym (fold_push (with_own old kind) notes seen y))
+    (one value (with_all_own old kind notes seen) (λ inside. unheard seen [] y refl (let a = inside.0 in let b = inside.1 in (omega (arith, a, start), omega (arith, b, start, len))))
+    (before value notes (λ front after z is. unheard front (after ++ y ∷ []) z (ap (λ l. l ++ y ∷ []) is ∙ append_assoc front (z ∷ after) (y ∷ []))) tallied))
 
 -- ---- why the pits are not heard
 
@@ -117,68 +128,64 @@ heard_note (k ∷ notes) x h = first (k.pit == x) refl (heard_note notes x)
     first true e other = (k, inl refl, eqb-true k.pit x e)
     first false e other = let rest = other (subst (λ b. (b || is_heard_at notes x) ≡ true) e h) in (rest.0, inr rest.1, rest.2)
 
-same_source : (a b : Source) → a.0 ≡ b.0 → a.1 ≡ b.1 → a ≡ b
-same_source a b e f = λ k. (e k, f k)
+-- ---- predecessors
+
+-- boards and pits whose quiet move gives q, all of them, each once
+pub record AreSources (q : List ℕ) (sources : List Source) : Type 0 where
+  pub each : All (λ y. IsBoard y.0 × (sum y.0 ≡ sum q) × IsQuietMove y.0 y.1 q) sources
+  pub every : (p : List ℕ) (x : ℕ) → IsBoard p → IsQuietMove p x q → Contains sources (p, x)
+  pub apart : (before after : List Source) (y : Source) → sources ≡ before ++ y ∷ after → (j : ℕ) (d : Source) → j < length before
+      → (get_or before j d).0 ≡ y.0 → (get_or before j d).1 ≡ y.1 → ⊥
+
+pub sources_of : (q : List ℕ) (sources : List Source) → ((p : List ℕ) (x : ℕ) → IsBoard p → IsQuietMove p x q → sum q + 0 ≡ sum p) → IsPredecessors q sources → AreSources q sources
+sources_of q sources keeps are = record {
+  each = λ k d h.
+      let y : Source = get_or sources k d in
+      let quiet = (are.listed y.0 y.1).0 (k, h, get_or_default sources k y d h) in
+      (quiet.board, omega (arith, keeps y.0 y.1 quiet.board quiet.move), quiet.move);
+  every = λ p x is move. (are.listed p x).1 (record { board = is; move = move });
+  apart = λ before after y is j d h boards pits.
+      let long : length sources ≡ length before + suc (length after) = ap length is ∙ length-append before (y ∷ after) in
+      let here : get_or sources (length before) d ≡ y = ap (λ l. get_or l (length before) d) is ∙ get_or-append_seam before y after d in
+      let there : get_or sources j d ≡ get_or before j d = ap (λ l. get_or l j d) is ∙ get_or_append_left before (y ∷ after) d j h in
+      clash (get_or before j d) y boards pits (subst₂ ComesBefore there here (are.ordered j (length before) d h (omega (arith, long))));
+}
+  where
+    clash : (a b : Source) → a.0 ≡ b.0 → a.1 ≡ b.1 → ComesBefore a b → ⊥
+    clash a b boards pits (inl less) = omega (arith, less, pits)
+    clash a b boards pits (inr more) =
+        let same : slice_index a.0 a.1 ≡ slice_index b.0 b.1 = ap (λ (p : List ℕ). slice_index p a.1) boards ∙ ap (slice_index b.0) pits in
+        let less = more.1 in omega (arith, less, same)
 
 -- a board that is fresh was not heard of in its block
 pub unheard_sources : (part : Part) (kind : Kind) (notes : List Note) (q : List ℕ) (sources : List Source) → IsInjective → HearsOwn part notes → AreSources q sources
     → sum q ≡ part.level → InBlock part (rank_of q) → 0 < times_due part.fresh (rank_of q) → AreUnheard part kind notes sources
-unheard_sources part kind notes q sources injective own are stones inside fresh i d h held =
-    by (is_heard_at (notes_for (rank_of (get_or sources i d).0) (with_all_own part kind notes (take i sources))) (get_or sources i d).1) refl
+unheard_sources part kind notes q sources injective own are stones inside fresh before after y is held =
+    by (is_heard_at (notes_for (rank_of y.0) (with_all_own part kind notes before)) y.1) refl
   where
-    here : IsBoard (get_or sources i d).0 × (sum (get_or sources i d).0 ≡ sum q) × IsQuietMove (get_or sources i d).0 (get_or sources i d).1 q
-    here = are.each i d h
+    long : length sources ≡ length before + suc (length after)
+    long = ap length is ∙ length-append before (y ∷ after)
 
-    earlier : (j : ℕ) → j < i → rank_of (get_or sources j d).0 ≡ rank_of (get_or sources i d).0 → (get_or sources j d).1 ≡ (get_or sources i d).1 → ⊥
+    here : IsBoard y.0 × (sum y.0 ≡ sum q) × IsQuietMove y.0 y.1 q
+    here = subst (λ (z : Source). IsBoard z.0 × (sum z.0 ≡ sum q) × IsQuietMove z.0 z.1 q) (ap (λ l. get_or l (length before) y) is ∙ get_or-append_seam before y after y)
+        (are.each (length before) y (omega (arith, long)))
+
+    earlier : (j : ℕ) → j < length before → rank_of (get_or before j y).0 ≡ rank_of y.0 → (get_or before j y).1 ≡ y.1 → ⊥
     earlier j less ranks pits =
-        let there = are.each j d (omega arith) in
-        are.once j i d less h (same_source (get_or sources j d) (get_or sources i d) (injective (get_or sources j d).0 (get_or sources i d).0 there.0 here.0 (there.1 ∙ sym here.1) ranks) pits)
+        let read : get_or sources j y ≡ get_or before j y = ap (λ l. get_or l j y) is ∙ get_or_append_left before (y ∷ after) y j less in
+        let there : IsBoard (get_or before j y).0 × (sum (get_or before j y).0 ≡ sum q) × IsQuietMove (get_or before j y).0 (get_or before j y).1 q =
+        subst (λ (z : Source). IsBoard z.0 × (sum z.0 ≡ sum q) × IsQuietMove z.0 z.1 q) read (are.each j y (omega (arith, long, less))) in
+        are.apart before after y is j y less (injective (get_or before j y).0 y.0 there.0 here.0 (there.1 ∙ sym here.1) ranks) pits
 
-    by : (b : Bool) → is_heard_at (notes_for (rank_of (get_or sources i d).0) (with_all_own part kind notes (take i sources))) (get_or sources i d).1 ≡ b → b ≡ false
+    by : (b : Bool) → is_heard_at (notes_for (rank_of y.0) (with_all_own part kind notes before)) y.1 ≡ b → b ≡ false
     by false e = refl
-    by true e = absurd (elim (heard_first part kind notes (take i sources) (rank_of (get_or sources i d).0) (get_or sources i d).1 e) [
-      | inl before ↦ (
-          let note = heard_note (notes_for (rank_of (get_or sources i d).0) notes) (get_or sources i d).1 before in
-          let told = own.true_notes (get_or sources i d).0 (get_or sources i d).1 q here.0 (here.1 ∙ stones) held inside here.2 note.0 note.1 note.2 in
+    by true e = absurd (elim (heard_first part kind notes before (rank_of y.0) y.1 e) [
+      | inl first ↦ (
+          let note = heard_note (notes_for (rank_of y.0) notes) y.1 first in
+          let told = own.true_notes y.0 y.1 q here.0 (here.1 ∙ stones) held inside here.2 note.0 note.1 note.2 in
           let none = told.2.1 in omega (arith, none))
-      | inr later ↦ (
-          let long : length (take i sources) ≡ i = length-take-le i sources (omega arith) in
-          let less : later.0 < i = (let l = later.1 in omega (arith, l, long)) in
-          let read : get_or (take i sources) later.0 d ≡ get_or sources later.0 d = get_or-take i sources later.0 d less in
-          let at = later.2 d in
-          earlier later.0 less (subst (λ (z : Source). rank_of z.0 ≡ rank_of (get_or sources i d).0) read at.0) (subst (λ (z : Source). z.1 ≡ (get_or sources i d).1) read at.1))
+      | inr later ↦ (let at = later.2 y in earlier later.0 later.1 at.0 at.1)
     ])
-
-pub sources_are : (q : List ℕ) (sources : List Source) (level : ℕ) → AreSources q sources → sum q ≡ level → All (IsSource level) sources
-sources_are q sources level are stones k d h = let e = are.each k d h in (e.0, e.1 ∙ stones, (q, e.2))
-
-pub spread_by : (old new : Part) (q : List ℕ) (sources : List Source) (kind : Kind) (f : Due) (cell : Cell) → IsInjective → IsBoard q → sum q ≡ old.level → AreSources q sources
-    → due_rank f ≡ rank_of q → due_dist f ≡ old.wave
-    → (old.start ≤ due_rank f) × (due_rank f - old.start < length old.cells) × ((stored_at old (due_rank f)).dist ≡ due_dist f) × (0 < times_due old.fresh (due_rank f))
-    → stored_at old (due_rank f) ≡ cell → kind ≡ kind_of cell.score → LeavesFresh old new (due_rank f)
-    → ((value : List ℕ → ℤ) (notes : List Note) → AreUnheard old kind notes sources → IsTallied value old notes → IsTallied value new (with_all_own old kind notes sources))
-    → Spreads old new
-spread_by old new q sources kind f cell injective is stones are at near due was kinds joins told = (
-  q,
-  sources,
-  is,
-  stones,
-  record { fresh = fresh; inside = inside; near = subst (λ r. (stored_at old r).dist ≡ old.wave) at (due.2 ∙ near) },
-  are,
-  subst (LeavesFresh old new) at joins,
-  λ value notes own tallied.
-      subst (λ (k : Kind). IsTallied value new (with_all_own old k notes sources)) same
-      (told value notes (unheard_sources old kind notes q sources injective own are stones inside fresh) tallied),
-)
-  where
-    inside : InBlock old (rank_of q)
-    inside = subst (InBlock old) at (due.0, due.1)
-
-    fresh : 0 < times_due old.fresh (rank_of q)
-    fresh = subst (λ r. 0 < times_due old.fresh r) at due.3
-
-    same : kind ≡ kind_of (stored_at old (rank_of q)).score
-    same = kinds ∙ ap (λ (d : Cell). kind_of d.score) (sym was ∙ ap (stored_at old) at)
 
 -- the fresh boards once the first is taken and others joined
 pub joined_but : (start start' : ℕ) (cells cells' : List Cell) (fresh rest after : List Due) (first f : Due) → 0 < length fresh → first ≡ get_or fresh 0 first → f ≡ get_or fresh 0 f

@@ -9,3 +9,4 @@ pub mod Spread
 pub mod OwnerFault
 pub mod Finish
 pub mod Scan
+pub mod Outboxes

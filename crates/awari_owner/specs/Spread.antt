@@ -1,9 +1,10 @@
 -- The notes that a settled board gives to the boards of its own block.
-use Rattle.std.specs.Prelude.{◌≡◌, ℕ, ◌+◌, ◌-◌, ◌<◌, ◌&&◌, Bool, false, ◌==◌, nat_le, nat_lt, if◌then◌else◌, List, ◌∷◌, length, take, fold, sum, slice_index_or, All, AllPairs, Contains, ℤ, pos, int_lt, Some}
+use Rattle.std.specs.Prelude.{◌≡◌, ℕ, ◌+◌, ◌-◌, ◌<◌, ◌≤◌, ◌&&◌, Bool, false, ◌==◌, nat_le, nat_lt, if◌then◌else◌, List, ◌∷◌, ◌++◌, length, fold, sum, All, ℤ, pos, int_lt, Some}
 use Rattle.awari_board.specs.Rules.{IsBoard}
 use Rattle.awari_rank.specs.Rank.{rank_of}
 use Rattle.awari_owner.specs.Notes.{IsQuietMove, Has, is_heard_at, IsNoteOf}
-use Rattle.awari_owner.specs.Blocks.{times_due, is_settled_in}
+use Rattle.awari_unmove.specs.Predecessors.{IsPredecessors}
+use Rattle.awari_owner.specs.Blocks.{times_due, due_dist, due_rank, is_settled_in}
 use Rattle.awari_owner.specs.declared.notes.Kind.TheVariants.{Won, Lost}
 use Rattle.awari_owner.specs.Part.{Part, InBlock, IsTallied, notes_for, settled_at, stored_at}
 use Rattle.awari_owner.specs.declared.notes.Note.{Note}
@@ -34,14 +35,14 @@ IsSource level y = IsBoard y.0 × (sum y.0 ≡ level) × ((q : List ℕ) × IsQu
 -- of those in the block, no pit was heard, neither in these notes nor earlier among these
 abbrev pub AreUnheard : Part → Kind → List Note → List Source → Type 0
 AreUnheard part kind notes sources =
-    (i : ℕ) (d : Source) → i < length sources → InBlock part (rank_of (slice_index_or sources i d).0)
-    → is_heard_at (notes_for (rank_of (slice_index_or sources i d).0) (with_all_own part kind notes (take i sources))) (slice_index_or sources i d).1 ≡ false
+    (before after : List Source) (y : Source) → sources ≡ before ++ y ∷ after → InBlock part (rank_of y.0)
+    → is_heard_at (notes_for (rank_of y.0) (with_all_own part kind notes before)) y.1 ≡ false
 
--- the quiet moves that lead to q, each once
-pub record AreSources (q : List ℕ) (sources : List Source) : Type 0 where
-  pub each : All (λ y. IsBoard y.0 × (sum y.0 ≡ sum q) × IsQuietMove y.0 y.1 q) sources
-  pub every : (p : List ℕ) (x : ℕ) → IsBoard p → IsQuietMove p x q → Contains sources (p, x)
-  pub once : AllPairs (λ a b. a ≡ b → ⊥) sources
+-- between these two the notes of all these sources that are of the block were heard
+abbrev pub Tells : Part → Part → Kind → List Source → Type 0
+Tells old new kind sources =
+    (value : List ℕ → ℤ) (notes : List Note) → AreUnheard old kind notes sources → IsTallied value old notes
+    → IsTallied value new (with_all_own old kind notes sources)
 
 -- a board of the block is spread where it is settled and not fresh
 abbrev pub IsSpread : Part → ℕ → ℤ → ℕ → Type 0
@@ -58,11 +59,12 @@ pub record HearsOwn (part : Part) (notes : List Note) : Type 0 where
 abbrev pub kind_of : ℤ → Kind
 kind_of score = if int_lt (pos 0) score then Won else Lost
 
--- a fresh board of the open distance, of least rank among those
+-- the fresh board that comes first: of the open distance, to which none is nearer, and of least rank among those
 pub record IsFirst (part : Part) (rank : ℕ) : Type 0 where
   pub fresh : 0 < times_due part.fresh rank
   pub inside : InBlock part rank
   pub near : (stored_at part rank).dist ≡ part.wave
+  pub first : All (λ f. (part.wave ≤ due_dist f) × (due_dist f ≡ part.wave → rank ≤ due_rank f)) part.fresh
 
 -- the fresh boards lose the one of this rank, and gain the newly settled
 abbrev pub LeavesFresh : Part → Part → ℕ → Type 0
@@ -70,9 +72,14 @@ LeavesFresh old new rank =
     (r : ℕ) → times_due new.fresh r + (if is_settled_in old.start old.cells r then 1 else 0) + (if rank == r then 1 else 0)
     ≡ times_due old.fresh r + (if is_settled_in new.start new.cells r then 1 else 0)
 
--- The first fresh board q is spread: its notes for boards of the block are heard.
-abbrev pub Spreads : Part → Part → Type 0
-Spreads old new =
-    (q : List ℕ) × (sources : List Source) × IsBoard q × (sum q ≡ old.level) × IsFirst old (rank_of q) × AreSources q sources × LeavesFresh old new (rank_of q)
-    × ((value : List ℕ → ℤ) (notes : List Note) → HearsOwn old notes → IsTallied value old notes
-    → IsTallied value new (with_all_own old (kind_of (stored_at old (rank_of q)).score) notes sources))
+-- The first fresh board q is spread: the notes that it gives to boards of the block are heard, and no others.
+pub record Spreads (old new : Part) (q : List ℕ) (sources : List Source) : Type 0 where
+  pub board : IsBoard q
+  pub stones : sum q ≡ old.level
+  pub first : IsFirst old (rank_of q)
+  pub predecessors : IsPredecessors q sources
+  pub leaves : LeavesFresh old new (rank_of q)
+  pub told : (value : List ℕ → ℤ) (notes : List Note) → HearsOwn old notes → IsTallied value old notes
+      → IsTallied value new (with_all_own old (kind_of (stored_at old (rank_of q)).score) notes sources)
+  pub hears : (notes : List Note) → HearsOwn old notes
+      → HearsOwn new (with_all_own old (kind_of (stored_at old (rank_of q)).score) notes sources)

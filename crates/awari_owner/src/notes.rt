@@ -1,15 +1,16 @@
 //! What is told of a settled board to the boards whose quiet moves lead to it.
 
 /// What a note says of the board that its move leads to: its mover has won, or has lost.
-#[derive(Clone, Copy, Debug, PartialEq, Eq)]
+#[derive(Clone, Copy, Debug, Default, PartialEq, Eq)]
 pub enum Kind {
+    #[default]
     Won,
     Lost,
 }
 
 /// That a quiet move leads to a settled board: whether that one is won or lost, by how much, and
 /// how far it is from a capture or the end of play.
-#[derive(Clone, Copy, Debug, PartialEq, Eq)]
+#[derive(Clone, Copy, Debug, Default, PartialEq, Eq)]
 pub struct Note {
     /// The stones on the boards of the level.
     pub level: u8,

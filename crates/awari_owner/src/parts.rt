@@ -1,13 +1,13 @@
 //! One owner's part of a level, and what is asked of it between two spreads.
-ghost use Rattle.std.specs.Prelude.{◌≡◌, ◌≢◌, ℕ, ℤ, ◌+◌, ◌-◌, ◌^◌, ◌<◌, ◌≤◌, ◌∷◌, ◌↔◌, List, IsTrue, OnOk, OnErr, IfOk, IfErr, IfSome, All, sum, true, false, slice_set, length, []};
+ghost use Rattle.std.specs.Prelude.{◌≡◌, ◌≢◌, ℕ, ℤ, ◌+◌, ◌-◌, ◌^◌, ◌<◌, ◌≤◌, ◌∷◌, ◌↔◌, List, IsTrue, OnOk, OnErr, IfOk, IfErr, IfSome, All, sum, true, false, length, []};
 ghost use Rattle.awari_rank.specs.Rank.{size_of};
 ghost use Rattle.awari_owner.specs.Tally.{has_pit};
 ghost use Rattle.awari_owner.specs.Cells.{IsWithin, IsBeyond};
 ghost use Rattle.awari_owner.specs.Blocks.{due_dist, KeepSettled};
-ghost use Rattle.awari_owner.specs.Part.{Part as PartView, InBlock, Leaves, IsExpected, IsTallied, cell_at, stored_at, PutsCell, JoinsFresh, settled_at, IsLeastDue, unspread};
+ghost use Rattle.awari_owner.specs.Part.{Part as PartView, InBlock, Leaves, IsExpected, IsTallied, stored_at, PutsCell, SameLevel, JoinsFresh, settled_at, IsLeastDue, unspread};
 ghost use Rattle.awari_owner.specs.OwnerFault.{IsFaultOf};
 ghost use Rattle.awari_owner.specs.Scan.{IsScan, IsWhole};
-ghost use Rattle.awari_owner.specs.Spread.{HearsOwn};
+ghost use Rattle.awari_owner.specs.Spread.{HearsOwn, Source, Spreads};
 ghost use Rattle.awari_table.specs.Images.{table_of};
 ghost use Rattle.awari_owner.specs.declared.faults.OwnerFault.{OwnerFault};
 ghost use Rattle.awari_owner.specs.declared.notes.Note.{Note as NoteView};
@@ -16,9 +16,12 @@ use crate::blocks::{Due, open_cells, put};
 use crate::cells::{Cell, Mark};
 use crate::faults::OwnerFault;
 use crate::notes::Note;
+use crate::outboxes::Outboxes;
 use crate::places::Place;
 use crate::scans::{first_rank, scanned_block};
-use awari_rank::{rank, size, unrank};
+use crate::spreads::{hear_own, kind_of};
+use awari_board::moves_keep_boards;
+use awari_rank::{rank, ranks_tell_boards_apart, size, unrank};
 use awari_table::Shelf;
 use std::alloc::Global;
 use std::collections::BinaryHeap;
@@ -155,8 +158,11 @@ impl Part {
         ensures stays { KeepSettled self.old.start self.old.cells self.new.cells }
         ensures unspread { unspread self.new ≡ unspread self.old }
     {
-        self.place.gain = gain;
-        self.place.wave = 0;
+        self.place = Place {
+            gain,
+            wave: 0,
+            ..self.place
+        };
         open_cells(&mut self.cells, &mut self.fresh, self.place);
     }
 
@@ -168,7 +174,10 @@ impl Part {
         ensures hears { (notes : List NoteView) → HearsOwn self.old notes → HearsOwn self.new notes }
         ensures wave { self.new ≡ record self.old { wave = dist } }
     {
-        self.place.wave = dist;
+        self.place = Place {
+            wave: dist,
+            ..self.place
+        };
     }
 
     /// Hears a note of another owner, which may settle the board that it is for. It takes no
@@ -204,6 +213,45 @@ impl Part {
             next,
         );
         Ok(())
+    }
+
+    /// Spreads the first fresh board, the one of least distance and then of least rank, if its
+    /// distance is the open one: its quiet predecessors hear of it, and it is fresh no longer.
+    /// It is false where no board is fresh, or the first is farther. Refused as 32 `Far` where its
+    /// distance is the greatest that can be stored, and then nothing changes.
+    ///
+    /// The block has all boards of the level, so there is nothing to send. It takes no memory.
+    pub fn spread_one(&mut self, outboxes: &mut Outboxes) -> Result<bool, OwnerFault>
+        requires whole { IsWhole self.old }
+        ensures spread { result ≡ Ok true → (q : List ℕ) × (sources : List Source) × Spreads self.old self.new q sources }
+        ensures unspread { result ≡ Ok true → unspread self.new + 1 ≡ unspread self.old }
+        ensures none { result ≡ Ok false → self.new ≡ self.old }
+        ensures due { result ≡ Ok false → IsLeastDue self.old (Some self.old.wave) → ⊥ }
+        ensures same { SameLevel self.old self.new × (length self.new.cells ≡ length self.old.cells) }
+        ensures stays { KeepSettled self.old.start self.old.cells self.new.cells }
+        ensures far { IfErr result (λ fault. (fault ≡ OwnerFault.Far) × (self.old.wave ≡ 2 ^ 32 - 1) × IsLeastDue self.old (Some self.old.wave)) }
+        ensures err { OnErr result (self.new ≡ self.old) }
+        ensures sends { outboxes.new ≡ outboxes.old }
+    {
+        let Some(first) = self.fresh.peek() else {
+            return Ok(false);
+        };
+        let (dist, rank) = first.0;
+        if dist != self.place.wave {
+            return Ok(false);
+        }
+        if dist == u32::MAX {
+            return Err(OwnerFault::Far);
+        }
+        moves_keep_boards();
+        ranks_tell_boards_apart();
+        let kind = kind_of(&self.cells[(rank - self.place.start) as usize]);
+        let board = unrank(self.place.level, rank);
+        let Some(_) = self.fresh.pop() else {
+            unreachable!()
+        };
+        hear_own(&mut self.cells, &mut self.fresh, self.place, kind, &board);
+        Ok(true)
     }
 
     /// Whether the note is one that other owners may send now.

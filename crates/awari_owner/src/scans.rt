@@ -37,7 +37,12 @@ pub fn first_rank(boards: u32, owners: u8, owner: u8) -> u32
 }
 
 /// The cells of a block, and a heap with room for each of its boards.
-pub fn scanned_block(alloc: Global, shelf: &Shelf, start: u32, end: u32) -> Result<(Vec<Cell>, BinaryHeap<Due>), AllocError>
+pub fn scanned_block(
+    alloc: Global,
+    shelf: &Shelf,
+    start: u32,
+    end: u32,
+) -> Result<(Vec<Cell>, BinaryHeap<Due>), AllocError>
     requires low { length shelf.now ≤ 12 }
     requires order { start ≤ end }
     requires within { end ≤ size_of (length shelf.now) }
@@ -56,7 +61,12 @@ pub fn scanned_block(alloc: Global, shelf: &Shelf, start: u32, end: u32) -> Resu
 /// taken first.
 ///
 /// Only the first board is found by its rank: each other is the successor of the one before.
-fn scanned_cells(alloc: Global, shelf: &Shelf, start: u32, end: u32) -> Result<Vec<Cell>, AllocError>
+fn scanned_cells(
+    alloc: Global,
+    shelf: &Shelf,
+    start: u32,
+    end: u32,
+) -> Result<Vec<Cell>, AllocError>
     requires low { length shelf.now ≤ 12 }
     requires order { start ≤ end }
     requires within { end ≤ size_of (length shelf.now) }

@@ -1,6 +1,5 @@
-use Rattle.std.proofs.Common.{ℕ, ℤ, List, ◌≡◌, ◌+◌, ◌<◌, inl, inr, SFits, w8, pos, sum, rules, refl, subst, sym, ap, ◌∙◌, arith}
-use Rattle.std.proofs.lemmas.Int.{ints, to_z-of_z}
-use Rattle.awari_board.specs.Rules.{IsBoard, IsMove, IsEnd}
+use Rattle.std.proofs.Common.{ℕ, ℤ, ◌≡◌, SFits, w8, sum, rules, subst, ap, ◌∙◌, arith}
+use Rattle.std.proofs.lemmas.Int.{to_z-of_z}
 use Rattle.awari_table.specs.Images.{table_of}
 use Rattle.awari_owner.specs.Scan.{IsRanged, IsOutlook}
 use Rattle.awari_owner.proofs.Scanning.{outlook-ended, scanned_capturing, scanned_quiet, scanned_ended}

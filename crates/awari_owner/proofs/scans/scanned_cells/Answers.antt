@@ -1,5 +1,4 @@
-use Rattle.std.proofs.Common.{◌≡◌, ◌+◌, ◌<◌, ◌≤◌, ◌∷◌, ◌++◌, ℕ, List, [], sum, length, ap, subst, sym, rules, arith}
-use Rattle.awari_board.specs.Rules.{IsBoard}
+use Rattle.std.proofs.Common.{◌≡◌, ◌+◌, ◌∷◌, ◌++◌, List, [], sum, length, ap, subst, sym, rules, arith}
 use Rattle.awari_rank.specs.Rank.{rank_of, size_of}
 use Rattle.awari_table.specs.Images.{table_of}
 use Rattle.awari_owner.specs.declared.cells.Cell.{Cell}

@@ -1,4 +1,4 @@
-use Rattle.std.proofs.Common.{ℤ, ◌≤ℤ◌, ◌⊎◌, ◌≡◌, ◌<◌, inl, inr, Bool, true, false, cond, ap, SFits, w8, Some, rules, refl, subst, sym, ◌∙◌, arith}
+use Rattle.std.proofs.Common.{ℤ, ◌≤ℤ◌, ◌⊎◌, ◌≡◌, ◌<◌, inl, inr, Bool, true, false, cond, ap, SFits, w8, rules, refl, subst, sym, ◌∙◌, arith}
 use Rattle.std.proofs.lemmas.Int.{ints, to_z-of_z}
 use Rattle.std.specs.Int.{int_max}
 use Rattle.std.specs.Prelude.{int_lt}
@@ -6,7 +6,6 @@ use Rattle.std.proofs.lemmas.Bool.Decides.{nat_tests}
 use Rattle.awari_board.specs.Rules.{IsMove}
 use Rattle.awari_table.specs.Images.{table_of}
 use Rattle.awari_owner.specs.Cells.{IsWithin}
-use Rattle.awari_owner.specs.Scan.{IsOutlook}
 use Rattle.awari_owner.proofs.Scanning.{outlook-quiet, outlook-capture}
 use Rattle.awari_owner.proofs.scans.with_move.Goals as goal
 
@@ -47,5 +46,10 @@ returns-in-Some c =
     let greater = max_is c.in-Some.best c.gain_of-gain.result c.max-best.result is in
     outlook-capture (table_of c.args.shelf.now).value c.args.board.now c.args.pit c.args.seen.quiet c.args.moved.now.captured c.args.seen.best c.args.moved.now.board c.gain_of-gain.result _
     c.requires.own c.requires.legal some c.gain_of-gain.ensures.gain (subst (λ n. IsWithin n c.gain_of-gain.result) (sym c.requires.stones) c.gain_of-gain.ensures.within)
-    (inr (c.in-Some.best, c.in-Some.is, subst (λ z. c.in-Some.best ≤ℤ z) (sym (to_z-of_z w8 _ most)) greater.0, subst (λ z. c.gain_of-gain.result ≤ℤ z) (sym (to_z-of_z w8 _ most)) greater.1,
-    subst (λ z. (z ≡ c.in-Some.best) ⊎ (z ≡ c.gain_of-gain.result)) (sym (to_z-of_z w8 _ most)) greater.2)) c.requires.seen
+    (inr (
+      c.in-Some.best,
+      c.in-Some.is,
+      subst (λ z. c.in-Some.best ≤ℤ z) (sym (to_z-of_z w8 _ most)) greater.0,
+      subst (λ z. c.gain_of-gain.result ≤ℤ z) (sym (to_z-of_z w8 _ most)) greater.1,
+      subst (λ z. (z ≡ c.in-Some.best) ⊎ (z ≡ c.gain_of-gain.result)) (sym (to_z-of_z w8 _ most)) greater.2,
+    )) c.requires.seen

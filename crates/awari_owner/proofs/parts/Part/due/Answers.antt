@@ -1,5 +1,5 @@
 use Rattle.std.proofs.Common.{◌≡◌, ◌<◌, length, Some, ap, arith, refl, sym, subst, rules, heap_items}
-use Rattle.awari_owner.specs.Part.{Part, part_of, IsLeastDue}
+use Rattle.awari_owner.specs.Part.{Part, IsLeastDue}
 use Rattle.std.specs.BinaryHeap.{heap_capacity}
 use Rattle.awari_owner.proofs.BlockLemmas.{first_due}
 use Rattle.awari_owner.proofs.Gains.{nearest}

@@ -1,5 +1,5 @@
 use Rattle.std.proofs.Common.{◌≡◌, ap, subst, ◌∙◌, sym, rules}
-use Rattle.awari_owner.specs.Part.{Part, part_of, InBlock}
+use Rattle.awari_owner.specs.Part.{Part, InBlock}
 use Rattle.awari_owner.proofs.Taking.{leaves_by, leaves_as, not_true, true_not}
 use Rattle.awari_owner.proofs.parts.Part.leaves.Goals as goal
 

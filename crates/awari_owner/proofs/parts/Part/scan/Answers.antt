@@ -1,9 +1,7 @@
-use Rattle.std.proofs.Common.{◌≡◌, ◌+◌, ◌<◌, ◌≤◌, ℕ, None, length, vec_len, heap_items, refl, ap, sym, subst, ◌∙◌, rules, arith}
+use Rattle.std.proofs.Common.{◌≡◌, ◌+◌, ◌≤◌, length, heap_items, refl, ap, sym, ◌∙◌, rules, arith}
 use Rattle.std.specs.BinaryHeap.{heap_capacity}
-use Rattle.awari_board.specs.Rules.{IsBoard}
 use Rattle.awari_rank.specs.Rank.{size_of}
 use Rattle.awari_table.specs.Images.{table_of}
-use Rattle.awari_owner.specs.Part.{Part, InBlock, part_of, settled_at}
 use Rattle.awari_owner.proofs.Scanning.{scanned_block, scanned_unsettled, hears_none}
 use Rattle.awari_owner.proofs.parts.Part.scan.Goals as goal
 

@@ -1,0 +1,110 @@
+-- The first fresh board, and what its spread makes of the part.
+use Rattle.std.proofs.Common.{◌≡◌, ℕ, ◌+◌, ◌-◌, ◌<◌, ◌≤◌, Bool, false, true, inl, inr, if◌then◌else◌, Some, List, ◌∷◌, length, get_or, sum, All, refl, sym, ap, subst, ◌∙◌, arith}
+use Rattle.std.proofs.lemmas.Int.{ints}
+use Rattle.std.proofs.lemmas.Bool.{false≢true}
+use Rattle.std.proofs.lemmas.Bool.Decides.{nat_tests}
+use Rattle.std.proofs.lemmas.List.Elements.{All-from_recursion, All-weaker}
+use Rattle.std.specs.BinaryHeap.{lt_by_cmp, IsUpperBound}
+use Rattle.std.specs.List.Sorted.{IsPermutation}
+use Rattle.awari_board.specs.Rules.{IsBoard}
+use Rattle.awari_rank.specs.Rank.{rank_of}
+use Rattle.awari_unmove.specs.Predecessors.{IsPredecessors}
+use Rattle.awari_owner.specs.Notes.{IsQuietMove}
+use Rattle.awari_owner.specs.Cells.{IsEither, IsWithin, Fits, FitsBy, is_settled}
+use Rattle.awari_owner.specs.Blocks.{Due, due_rank, due_dist, due_cmp, cell_in, times_due, is_settled_in, IsDueAs, IsBlock, JoinNewlySettled, KeepSettled}
+use Rattle.awari_owner.specs.Part.{Part, InBlock, IsTallied, part_of, stored_at}
+use Rattle.awari_owner.specs.Spread.{Source, Tells, kind_of, with_all_own, LeavesFresh, Spreads}
+use Rattle.awari_owner.specs.declared.cells.Cell.{Cell}
+use Rattle.awari_owner.specs.declared.cells.Mark.{Mark}
+use Rattle.awari_owner.specs.declared.cells.Mark.TheVariants.{Ended, Quiet, Capturing, Settled}
+use Rattle.awari_owner.specs.declared.notes.Kind.{Kind}
+use Rattle.awari_owner.specs.declared.places.Place.{Place}
+use Rattle.awari_owner.proofs.BlockLemmas.{first_due}
+use Rattle.awari_owner.proofs.Spreading.{IsInjective, AreSources, sources_of, unheard_sources, joined_but}
+use Rattle.awari_owner.proofs.Hearing.{settled_value, hears_first}
+
+-- no board is fresh before a gain is open that the level has
+pub gain_low : (place : Place) (c : Cell) → Fits place c → is_settled c.mark ≡ true → IsEither place.gain c.score → place.gain ≤ place.level
+gain_low place c fits settled either = at c.mark settled fits
+  where
+    at : (m : Mark) → is_settled m ≡ true → FitsBy m place.level place.gain c.score c.dist → place.gain ≤ place.level
+    at Settled e f = within f.0 either
+      where
+        within : IsWithin place.level c.score → IsEither place.gain c.score → place.gain ≤ place.level
+        within w (inl up) = let high = w.1 in omega (arith, ints, high, up)
+        within w (inr down) = let low = w.0 in omega (arith, ints, low, down)
+    at Quiet e f = absurd (false≢true e)
+    at Capturing e f = absurd (false≢true e)
+    at Ended e f = absurd (false≢true e)
+
+-- what is not before the first: it is not nearer, and as near only with a greater rank
+not_nearer : (x y : Due) → lt_by_cmp due_cmp x y ≡ false → due_dist x ≤ due_dist y
+not_nearer x y h = grind (arith, nat_tests)
+
+not_before : (x y : Due) → lt_by_cmp due_cmp x y ≡ false → due_dist y ≡ due_dist x → due_rank x ≤ due_rank y
+not_before x y h same = grind (arith, nat_tests)
+
+first_of : (x : Due) (fresh : List Due) (wave rank : ℕ) → due_dist x ≡ wave → rank ≡ due_rank x → IsUpperBound due_cmp x fresh
+    → All (λ f. (wave ≤ due_dist f) × (due_dist f ≡ wave → rank ≤ due_rank f)) fresh
+first_of x fresh wave rank near at h =
+    All-weaker (λ y. lt_by_cmp due_cmp x y ≡ false) (λ f. (wave ≤ due_dist f) × (due_dist f ≡ wave → rank ≤ due_rank f))
+    (λ y later. (let n = not_nearer x y later in omega (arith, n, near), λ same. let n = not_before x y later (same ∙ sym near) in omega (arith, n, at)))
+    fresh (All-from_recursion _ fresh h)
+
+module _ (place : Place) (cells cells' : List Cell) (fresh rest after : List Due) (capacity : ℕ) (f g : Due) (cell : Cell) (q : List ℕ) (sources : List Source) (kind : Kind) where
+  pub spread_by : IsInjective → ((p : List ℕ) (x : ℕ) (r : List ℕ) → IsBoard p → IsQuietMove p x r → IsBoard r) → ((p : List ℕ) (x : ℕ) (r : List ℕ) → IsBoard p → IsQuietMove p x r → sum r + 0 ≡ sum p)
+      → IsBlock place cells fresh capacity → 0 < length fresh → f ≡ get_or fresh 0 f → g ≡ get_or fresh 0 g → IsPermutation fresh (g ∷ rest) → IsUpperBound due_cmp f fresh
+      → due_dist f ≡ place.wave → 1 ≤ place.gain → IsBoard q → sum q ≡ place.level → rank_of q ≡ due_rank f → cell_in place.start cells (due_rank f) ≡ cell → kind ≡ kind_of cell.score
+      → IsPredecessors q sources → Tells (part_of place cells rest) (part_of place cells' after) kind sources
+      → JoinNewlySettled place.start cells rest cells' after → KeepSettled place.start cells cells' → length cells' ≡ length cells
+      → Spreads (part_of place cells fresh) (part_of place cells' after) q sources
+  spread_by injective boards stones sound some at at' moved greatest wave one is level ranked was kinds predecessors told joined stays len = record {
+    board = is;
+    stones = level;
+    first = record { fresh = often; inside = inside; near = near; first = first_of f fresh place.wave (rank_of q) wave ranked greatest };
+    predecessors = predecessors;
+    leaves = leaves;
+    told = λ value notes own tallied.
+        subst (λ (k : Kind). IsTallied value new (with_all_own old k notes sources)) same
+        (told value notes (unheard_sources old kind notes q sources injective own are level inside often) tallied);
+    hears = λ notes own. hears_first old new notes q sources (stored_at old (rank_of q)).score injective are
+        (λ p x r board quiet. (boards p x r board quiet, omega (arith, stones p x r board quiet))) is level one
+        (subst (λ r. IsEither place.gain (cell_in place.start cells r).score) (sym ranked) due.2.valued)
+        (settled_value (stored_at old (rank_of q)) (subst (λ r. is_settled (cell_in place.start cells r).mark ≡ true) (sym ranked) due.4) ∙ ap (λ d. Some ((stored_at old (rank_of q)).score, d)) near)
+        inside few refl refl len stays leaves own;
+  }
+    where
+      old : Part
+      old = part_of place cells fresh
+
+      new : Part
+      new = part_of place cells' after
+
+      due : (place.start ≤ due_rank f) × (due_rank f - place.start < length cells) × IsDueAs place f (cell_in place.start cells (due_rank f)) × (0 < times_due fresh (due_rank f))
+          × (is_settled (cell_in place.start cells (due_rank f)).mark ≡ true)
+      due = first_due place cells fresh capacity sound some f at
+
+      are : AreSources q sources
+      are = sources_of q sources (λ p x board quiet. stones p x q board quiet) predecessors
+
+      inside : InBlock old (rank_of q)
+      inside = subst (InBlock old) (sym ranked) (due.0, due.1)
+
+      often : 0 < times_due fresh (rank_of q)
+      often = subst (λ r. 0 < times_due fresh r) (sym ranked) due.3
+
+      near : (stored_at old (rank_of q)).dist ≡ place.wave
+      near = subst (λ r. (cell_in place.start cells r).dist ≡ place.wave) (sym ranked) (due.2.near ∙ wave)
+
+      few : times_due fresh (rank_of q) ≤ 1
+      few = let most = sound.settled (rank_of q) in at_most (is_settled_in place.start cells (rank_of q)) most
+        where
+          at_most : (b : Bool) → times_due fresh (rank_of q) ≤ (if b then 1 else 0) → times_due fresh (rank_of q) ≤ 1
+          at_most true h = h
+          at_most false h = omega (arith, h)
+
+      same : kind ≡ kind_of (stored_at old (rank_of q)).score
+      same = kinds ∙ ap (λ (d : Cell). kind_of d.score) (sym was ∙ ap (cell_in place.start cells) (sym ranked))
+
+      leaves : LeavesFresh old new (rank_of q)
+      leaves = subst (LeavesFresh old new) (sym ranked) (joined_but place.start place.start cells cells' fresh rest after f g some at at' moved joined)
