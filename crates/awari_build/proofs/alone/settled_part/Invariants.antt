@@ -1,0 +1,16 @@
+use Rattle.std.proofs.Common.{◌≡◌, length, []}
+use Rattle.awari_owner.specs.Scan.{IsWhole}
+use Rattle.awari_table.specs.Images.{table_of}
+use Rattle.awari_build.specs.Sound.{IsSound}
+use Rattle.awari_build.proofs.alone.settled_part.Given as goal
+
+abbrev pub invariant-loop-part : goal.invariant-loop-part
+invariant-loop-part l = record {
+  whole : IsWhole l.part;
+  level : l.part.level ≡ length l.shelf;
+  idle : l.part.fresh ≡ [];
+  sound : IsSound (table_of l.shelf).value l.part;
+}
+
+abbrev pub decreases-loop-part : goal.decreases-loop-part
+decreases-loop-part l = l.part.gain

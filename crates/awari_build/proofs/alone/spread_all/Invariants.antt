@@ -1,0 +1,16 @@
+use Rattle.std.proofs.Common.{◌≡◌, ℕ, ℤ, List}
+use Rattle.awari_owner.specs.Part.{unspread}
+use Rattle.awari_owner.specs.Scan.{IsWhole}
+use Rattle.awari_build.specs.Sound.{IsSound}
+use Rattle.awari_build.proofs.alone.spread_all.Given as goal
+
+abbrev pub invariant-loop-dist : goal.invariant-loop-dist
+invariant-loop-dist l = record {
+  whole : IsWhole l.part;
+  level : l.part.level ≡ l.fn.part.level;
+  gain : l.part.gain ≡ l.fn.part.gain;
+  sound : (value : List ℕ → ℤ) → IsSound value l.fn.part → IsSound value l.part;
+}
+
+abbrev pub decreases-loop-dist : goal.decreases-loop-dist
+decreases-loop-dist l = unspread l.part

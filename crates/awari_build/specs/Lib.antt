@@ -1,0 +1,2 @@
+pub mod BuildFault
+pub mod Sound

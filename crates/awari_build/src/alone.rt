@@ -1,0 +1,96 @@
+//! A level built by one part, in one thread.
+
+ghost use Rattle.std.specs.Prelude.{◌≡◌, ◌≤◌, ◌<◌, ◌+◌, ◌⊎◌, ◌↔◌, ◌++◌, ◌∷◌, [], ℕ, ℤ, List, length, IfOk, IfErr, OnOk, Err, Some};
+ghost use Rattle.awari_owner.specs.Part.{IsLeastDue, unspread};
+ghost use Rattle.awari_owner.specs.Scan.{IsWhole};
+ghost use Rattle.awari_build.specs.Sound.{IsSound};
+ghost use Rattle.awari_table.specs.Images.{table_of};
+ghost use Rattle.awari_table.specs.Shelves.{Consistent};
+ghost use Rattle.awari_table.specs.declared.TheConstants.{HIGHEST_LEVEL};
+ghost use Rattle.awari_theory.specs.Truth.{TellsTruth};
+
+use crate::faults::BuildFault;
+use awari_owner::{Outboxes, Part};
+use awari_plan::finish;
+use awari_table::{HIGHEST_LEVEL, Level, Shelf};
+use awari_verify::{VerifyFault, verify};
+use std::alloc::Global;
+use std::slice;
+
+/// The shelf's next level, built by one part. It always returns. Refused are a shelf that has all
+/// levels, as 51 `TooHigh`, want of memory as 53 `Memory`, a distance that can't be stored as
+/// 58 `Far`, and what the verifier refuses as 54 `Refused`. It takes memory for the part, eight bytes
+/// a board and eight for the order in which boards are spread, and for the entries.
+pub fn build_alone(alloc: Global, shelf: &Shelf) -> Result<Level, BuildFault>
+    ensures consistent { IfOk result (λ level. Consistent shelf.now level) }
+    ensures meaning { IfOk result (λ level. TellsTruth (shelf.now ++ level ∷ [])) }
+    ensures too_high { (result ≡ Err BuildFault.TooHigh) ↔ (HIGHEST_LEVEL < length shelf.now) }
+{
+    if shelf.levels() > HIGHEST_LEVEL {
+        return Err(BuildFault::TooHigh);
+    }
+    let part = settled_part(alloc, shelf)?;
+    let Ok(image) = finish(alloc, shelf, slice::from_ref(&part)) else {
+        return Err(BuildFault::Memory);
+    };
+    match verify(shelf, image) {
+        Ok(level) => Ok(level),
+        Err(VerifyFault::Refused { rank, rule }) => Err(BuildFault::Refused { rank, rule }),
+        Err(_) => unreachable!(),
+    }
+}
+
+/// The part of all boards of the shelf's next level, with all gains closed.
+fn settled_part(alloc: Global, shelf: &Shelf) -> Result<Part, BuildFault>
+    requires low { length shelf.now ≤ HIGHEST_LEVEL }
+    ensures whole { IfOk result (λ part. IsWhole part × (part.level ≡ length shelf.now)) }
+    ensures closed { IfOk result (λ part. (part.gain ≡ 1) × (part.fresh ≡ [])) }
+    ensures sound { IfOk result (IsSound (table_of shelf.now).value) }
+    ensures fault { IfErr result (λ fault. (fault ≡ BuildFault.Memory) ⊎ (fault ≡ BuildFault.Far)) }
+{
+    let Ok(mut part) = Part::scan(alloc, shelf, 1, 0) else {
+        return Err(BuildFault::Memory);
+    };
+    let Ok(mut outboxes) = Outboxes::new(alloc, 1, 0) else {
+        return Err(BuildFault::Memory);
+    };
+    while part.gain() > 1 {
+        part.open_gain(part.gain() - 1);
+        spread_all(&mut part, &mut outboxes)?;
+    }
+    Ok(part)
+}
+
+/// Spreads all boards that are settled at the open gain, the nearest ones first.
+fn spread_all(part: &mut Part, outboxes: &mut Outboxes) -> Result<(), BuildFault>
+    requires whole { IsWhole part.old }
+    ensures whole { IsWhole part.new × (part.new.level ≡ part.old.level) × (part.new.gain ≡ part.old.gain) }
+    ensures idle { OnOk result (part.new.fresh ≡ []) }
+    ensures sound { OnOk result ((value : List ℕ → ℤ) → IsSound value part.old → IsSound value part.new) }
+    ensures far { IfErr result (λ fault. fault ≡ BuildFault.Far) }
+{
+    while let Some(dist) = part.due() {
+        spread_nearest(part, outboxes, dist)?;
+    }
+    Ok(())
+}
+
+/// Spreads the first fresh board, which is of this distance.
+fn spread_nearest(part: &mut Part, outboxes: &mut Outboxes, dist: u32) -> Result<(), BuildFault>
+    requires whole { IsWhole part.old }
+    requires least { IsLeastDue part.old (Some dist) }
+    requires timely { part.old.wave ≤ dist }
+    ensures whole { IsWhole part.new × (part.new.level ≡ part.old.level) × (part.new.gain ≡ part.old.gain) }
+    ensures fewer { OnOk result (unspread part.new + 1 ≡ unspread part.old) }
+    ensures sound { OnOk result ((value : List ℕ → ℤ) → IsSound value part.old → IsSound value part.new) }
+    ensures far { IfErr result (λ fault. fault ≡ BuildFault.Far) }
+{
+    if part.wave() < dist {
+        part.open_wave(dist);
+    }
+    match part.spread_one(outboxes) {
+        Ok(true) => Ok(()),
+        Ok(false) => unreachable!(),
+        Err(_) => Err(BuildFault::Far),
+    }
+}
