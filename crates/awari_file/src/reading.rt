@@ -1,0 +1,183 @@
+//! Reading the file of a level.
+
+ghost use Rattle.std.specs.Prelude.{◌≡◌, ◌≢◌, ◌≤◌, ◌+◌, List, ℕ, IfOk, OnOk, IsOk, IfSome, Some, Ok, Err, vec_len};
+ghost use Rattle.std.specs.Vec.{vec_capacity};
+ghost use Rattle.awari_rank.specs.Rank.{size_of};
+ghost use Rattle.awari_table.specs.declared.TheConstants.{HIGHEST_LEVEL};
+ghost use Rattle.awari_table.specs.Counts.{inner_of, faults_of, Grew};
+ghost use Rattle.awari_table.specs.declared.images.Image.{Image};
+ghost use Rattle.sha2.specs.Hashers.{Holds256};
+ghost use Rattle.awari_file.specs.FileText.{IsBytes, HasFile, IsFileOf, file_text, found_of};
+ghost use Rattle.awari_file.specs.Reading.{header_at, entries_at, end_at, file_in};
+ghost use Rattle.awari_file.specs.Source.{IsAt, Advances, Adds, AddsAt, Answers};
+
+use crate::contents::{Header, Loaded};
+use crate::faults::FileFault;
+use crate::fields::{ENTRY_LEN, digest_at, entry_at, header_of};
+use crate::source::fill;
+use awari_rank::size;
+use awari_table::{Counted, Entries, Entry, Image};
+use sha2::{Digest, Sha256};
+use std::alloc::Global;
+use std::io::Read;
+
+/// The bytes of the header.
+const HEADER_LEN: usize = 52;
+
+/// A digest, and the byte that is to be missing behind it.
+const END_LEN: usize = 33;
+
+/// A buffer that lies on the stack, in bytes.
+const BUFFER_LEN: usize = 4080;
+
+/// How many entries the buffer has room for.
+const BUFFERED: u32 = 680;
+
+/// All of the header is asked for at once, and its fields are judged in order on what came.
+fn read_header<R: Read>(reader: &mut Counted<R>, hasher: &mut Sha256) -> Result<Header, FileFault>
+    ensures parsed { (whole left : List ℕ) → IsAt whole left (R.remaining (inner_of reader.old)) hasher.old
+        → Advances (λ h. h) header_at whole left (R.remaining (inner_of reader.new)) hasher.new result }
+    ensures low { IfOk result (λ h. h.level ≤ HIGHEST_LEVEL) }
+    ensures read { result ≡ Err FileFault.Read → Grew (faults_of reader.old) (faults_of reader.new) }
+    ensures memory { result ≢ Err FileFault.Memory }
+    ensures faults { faults_of reader.old ≤ faults_of reader.new }
+{
+    let mut buf = [0u8; HEADER_LEN];
+    let came = fill(reader, &mut buf, HEADER_LEN);
+    let bytes = &buf[..came.count];
+    let (header, _) = header_of(bytes, came.short)?;
+    hasher.update(bytes);
+    Ok(header)
+}
+
+fn push_entries(
+    entries: &mut Vec<Entry>,
+    count: u32,
+    bytes: &[u8],
+    short: FileFault,
+) -> Result<(), FileFault>
+    requires { vec_len entries.old + count ≤ vec_capacity entries.old }
+    ensures added { Adds entries.old.items entries.new.items result (entries_at count short bytes.now) }
+    ensures len { OnOk result (vec_len entries.new ≡ vec_len entries.old + count) }
+    ensures capacity { vec_capacity entries.new ≡ vec_capacity entries.old }
+{
+    let mut rest = bytes;
+    for _ in 0..count {
+        let (entry, after) = entry_at(rest, short)?;
+        entries.push_reserved(entry);
+        rest = after;
+    }
+    Ok(())
+}
+
+/// Reads no further than these entries, so that no fault behind them is met before theirs.
+fn read_some<R: Read>(
+    reader: &mut Counted<R>,
+    hasher: &mut Sha256,
+    entries: &mut Vec<Entry>,
+    count: u32,
+) -> Result<(), FileFault>
+    requires few { count ≤ 680 }
+    requires room { vec_len entries.old + count ≤ vec_capacity entries.old }
+    ensures parsed { (whole left : List ℕ) → IsAt whole left (R.remaining (inner_of reader.old)) hasher.old
+        → AddsAt entries.old.items entries.new.items count whole left (R.remaining (inner_of reader.new)) hasher.new result }
+    ensures len { OnOk result (vec_len entries.new ≡ vec_len entries.old + count) }
+    ensures capacity { vec_capacity entries.new ≡ vec_capacity entries.old }
+    ensures read { result ≡ Err FileFault.Read → Grew (faults_of reader.old) (faults_of reader.new) }
+    ensures memory { result ≢ Err FileFault.Memory }
+    ensures faults { faults_of reader.old ≤ faults_of reader.new }
+{
+    let mut buf = [0u8; BUFFER_LEN];
+    let came = fill(reader, &mut buf, count as usize * ENTRY_LEN);
+    let bytes = &buf[..came.count];
+    push_entries(entries, count, bytes, came.short)?;
+    hasher.update(bytes);
+    Ok(())
+}
+
+fn read_entries<R: Read>(
+    reader: &mut Counted<R>,
+    hasher: &mut Sha256,
+    entries: &mut Vec<Entry>,
+    count: u32,
+) -> Result<(), FileFault>
+    requires { vec_len entries.old + count ≤ vec_capacity entries.old }
+    ensures parsed { (whole left : List ℕ) → IsAt whole left (R.remaining (inner_of reader.old)) hasher.old
+        → AddsAt entries.old.items entries.new.items count whole left (R.remaining (inner_of reader.new)) hasher.new result }
+    ensures read { result ≡ Err FileFault.Read → Grew (faults_of reader.old) (faults_of reader.new) }
+    ensures memory { result ≢ Err FileFault.Memory }
+    ensures faults { faults_of reader.old ≤ faults_of reader.new }
+{
+    let mut left = count;
+    while left > 0 {
+        let some = left.min(BUFFERED);
+        read_some(reader, hasher, entries, some)?;
+        left -= some;
+    }
+    Ok(())
+}
+
+fn read_end<R: Read>(reader: &mut Counted<R>, hasher: Sha256) -> Result<[u8; 32], FileFault>
+    ensures parsed { (left body : List ℕ) → R.remaining (inner_of reader.old) ≡ Some left → Holds256 hasher body
+        → Answers (λ d. d) result (end_at body FileFault.Truncated left) }
+    ensures bytes { OnOk result (IfSome (R.remaining (inner_of reader.old)) IsBytes) }
+    ensures read { result ≡ Err FileFault.Read → Grew (faults_of reader.old) (faults_of reader.new) }
+    ensures memory { result ≢ Err FileFault.Memory }
+    ensures faults { faults_of reader.old ≤ faults_of reader.new }
+{
+    let computed = hasher.finalize();
+    let mut buf = [0u8; END_LEN];
+    let came = fill(reader, &mut buf, END_LEN);
+    let (digest, rest) = digest_at(&buf[..came.count], came.short, &computed)?;
+    if !rest.is_empty() {
+        return Err(FileFault::Trailing);
+    }
+    match came.short {
+        FileFault::Read => Err(FileFault::Read),
+        _ => Ok(digest),
+    }
+}
+
+fn read_all<R: Read>(alloc: Global, reader: &mut Counted<R>) -> Result<Loaded, FileFault>
+    // Which image or fault it is.
+    ensures exact { IfSome (R.remaining (inner_of reader.old)) (λ bytes. Answers (λ x. x) result (file_in bytes)) }
+    ensures bytes { OnOk result (IfSome (R.remaining (inner_of reader.old)) IsBytes) }
+    ensures read { result ≡ Err FileFault.Read → Grew (faults_of reader.old) (faults_of reader.new) }
+    // The room is taken behind the header.
+    ensures memory { result ≡ Err FileFault.Memory
+        → IfSome (R.remaining (inner_of reader.old)) (λ bytes. IsOk (header_at FileFault.Truncated bytes)) }
+{
+    let mut hasher = Sha256::new();
+    let header = read_header(reader, &mut hasher)?;
+    let count = size(header.level);
+    let mut entries = Vec::with_capacity(alloc, count as usize)?;
+    read_entries(reader, &mut hasher, &mut entries, count)?;
+    let digest = read_end(reader, hasher)?;
+    let below = header.below;
+    Ok(Loaded {
+        image: Image {
+            level: header.level,
+            limit: header.limit,
+            entries: Entries::from(entries),
+        },
+        below,
+        digest,
+    })
+}
+
+/// Reads the file of a level, all that the reader has left.
+pub fn read_image<R: Read>(alloc: Global, reader: &mut Counted<R>) -> Result<Loaded, FileFault>
+    // What is read is spelled so.
+    ensures found { IfSome (R.remaining (inner_of reader.old)) (λ bytes. IfOk result (λ x. IsFileOf bytes x)) }
+    // What is spelled so is read, unless the reader answers a fault or memory runs out.
+    ensures only { IfSome (R.remaining (inner_of reader.old)) (λ bytes. (version : ℕ) (image : Image) (below : List ℕ) →
+        HasFile version image below → bytes ≡ file_text version image below → Answers (λ x. x) result (Ok (found_of version image below))) }
+    // Which image or fault it is.
+    ensures exact { IfSome (R.remaining (inner_of reader.old)) (λ bytes. Answers (λ x. x) result (file_in bytes)) }
+    ensures read { result ≡ Err FileFault.Read → Grew (faults_of reader.old) (faults_of reader.new) }
+    // The room is taken behind the header.
+    ensures memory { result ≡ Err FileFault.Memory
+        → IfSome (R.remaining (inner_of reader.old)) (λ bytes. IsOk (header_at FileFault.Truncated bytes)) }
+{
+    read_all(alloc, reader)
+}
