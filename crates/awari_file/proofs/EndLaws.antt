@@ -1,5 +1,5 @@
 -- The digest, and the end behind it.
-use Rattle.std.proofs.Common.{◌≡◌, ℕ, zero, suc, ◌+◌, ◌<◌, ◌≤◌, Bool, true, false, cond, eqb, List, [], ◌∷◌, ◌++◌, length, Option, Some, None, Result, Ok, Err, refl, sym, ap, subst, ◌∙◌, arith}
+use Rattle.std.proofs.Common.{◌≡◌, ℕ, zero, suc, ◌+◌, ◌<◌, ◌≤◌, Bool, true, false, cond, eqb, List, [], ◌∷◌, ◌++◌, length, Option, Some, None, Result, Ok, Err, refl, sym, ap, subst, ◌∙◌, arith, inl, inr}
 use Rattle.std.specs.Io.KnownBytes.{Consumes}
 use Rattle.std.proofs.lemmas.List.{length-append, nil_from_length, append-nil}
 use Rattle.std.proofs.lemmas.Bool.{eqb-true, eqb-false, ne_eqb}
@@ -8,8 +8,9 @@ use Rattle.awari_file.specs.declared.faults.FileFault.{FileFault}
 use Rattle.awari_file.specs.declared.faults.FileFault.TheVariants as faults
 use Rattle.awari_file.specs.Reading.{◌>>=◌, field, digest_if, end_at, Fails}
 use Rattle.awari_file.specs.Source as source
+use Rattle.awari_file.specs.Source.{StopsIn, IsSoundEnd}
 use Rattle.awari_file.proofs.FieldLaws.{Reader, IsField, followed_by, field-is}
-use Rattle.awari_file.proofs.FileLaws.{IsWhy, test_own, piece_fails, fails_along}
+use Rattle.awari_file.proofs.FileLaws.{IsWhy, test_own, piece_fails, fails_along, read_stops}
 use Rattle.awari_file.proofs.Steps.{consumes_some, why_is}
 
 pub digest-is : (computed : List ℕ) → IsField (List ℕ) 32 (field 32 (digest_if computed))
@@ -82,3 +83,25 @@ end_ok s front left body computed digest over a b old new same known took why h 
     let small : length front < 33 = omega (arith, taken, ap length nothing) in
     let done : rest ≡ [] = at_end s rest (why_is s b rest old new b-is (why small)) not in
     digest_whole s front rest left body computed digest over same parts h ∙ rw (nothing, done) refl
+
+-- the reader's fault within the digest, and behind it
+pub end_stops : (s : FileFault) (front left body computed : List ℕ) (a b : Option (List ℕ)) → computed ≡ sha256 body → a ≡ Some left → Consumes a b front
+    → field 32 (digest_if computed) s front ≡ Err faults.Read → StopsIn (IsSoundEnd body) left b
+end_stops s front left body computed a b same known took h =
+    let (rest, b-is, parts) = consumes_some a b left front known took in
+    let short = read_stops (List ℕ) 32 (field 32 (digest_if computed)) (digest-is computed) s front h in
+    record {
+      came = front;
+      rest = rest;
+      known_is = b-is;
+      parts = parts;
+      kind = inl (end_is body front ∙ ap ended (ap (λ (c : List ℕ). field 32 (digest_if c) faults.Truncated front) (sym same) ∙ short));
+    }
+
+pub end_stops_behind : (s : FileFault) (front left body computed digest over : List ℕ) (a b : Option (List ℕ)) → computed ≡ sha256 body → a ≡ Some left → Consumes a b front
+    → field 32 (digest_if computed) s front ≡ Ok (digest, over) → eqb (length over) 0 ≡ true → StopsIn (IsSoundEnd body) left b
+end_stops_behind s front left body computed digest over a b same known took h none =
+    let (rest, b-is, parts) = consumes_some a b left front known took in
+    let whole : end_at body faults.Truncated front ≡ Ok digest =
+    digest_whole s front [] front body computed digest over same (sym (append-nil front)) h ∙ ap (λ (l : List ℕ). ended (Ok (digest, l ++ []))) (nothing_over over none) in
+    record { came = front; rest = rest; known_is = b-is; parts = parts; kind = inr (rw whole refl) }

@@ -1,7 +1,7 @@
 -- What holds of each field: it takes its bytes and no others, and what stands behind them doesn't matter.
 use Rattle.std.proofs.Common.{◌≡◌, ℕ, zero, suc, ◌+◌, ◌*◌, ◌-◌, ◌<◌, ◌≤◌, ◌⊎◌, Bool, true, false, cond, ltb, List, [], ◌∷◌, ◌++◌, length, take, drop, Result, Ok, Err, refl, sym, ap, subst, ◌∙◌, append_assoc, arith, inl, inr}
 use Rattle.std.proofs.lemmas.Bool.{cases_lt, ltb-false, le-ltb, lt-ltb}
-use Rattle.std.proofs.lemmas.List.{length-append, length-drop, take-append-le, drop-append-le, nil_from_length}
+use Rattle.std.proofs.lemmas.List.{length-append, length-drop, take-append-le, drop-append-le, nil_from_length, append-nil, take-append-drop, length-take}
 use Rattle.awari_file.specs.declared.faults.FileFault.{FileFault}
 use Rattle.awari_file.specs.Reading.{◌>>=◌, field, IsOwn}
 
@@ -25,7 +25,8 @@ followed_by more read = read >>= λ x. Ok (x.0, x.1 ++ more)
 pub record IsField (Y : Type 0) (len : ℕ) (f : Reader Y) : Type 0 where
   pub takes : (short : FileFault) (bytes : List ℕ) (x : Y × List ℕ) → f short bytes ≡ Ok x → length x.1 + len ≡ length bytes
   pub whole : (s t : FileFault) (bytes more : List ℕ) → len ≤ length bytes → f t (bytes ++ more) ≡ followed_by more (f s bytes)
-  pub early : (s t e : FileFault) (bytes more : List ℕ) → f s bytes ≡ Err e → (e ≡ s) ⊎ (IsOwn e × (f t (bytes ++ more) ≡ Err e))
+  -- a fault is that of missing bytes, or one of the field's own, which stays whatever follows
+  pub early : (s t e : FileFault) (bytes more : List ℕ) → f s bytes ≡ Err e → ((e ≡ s) × (f t bytes ≡ Err t)) ⊎ (IsOwn e × (f t (bytes ++ more) ≡ Err e))
 
 made_followed : {Y : Type 0} (r : Result Y FileFault) (rest more : List ℕ) → (r >>= λ y. Ok (y, rest ++ more)) ≡ followed_by more (r >>= λ y. Ok (y, rest))
 made_followed (Ok y) rest more = refl
@@ -52,10 +53,10 @@ guard_err false d e r h fault = fault
 abbrev pub MakesOwn : {Y : Type 0} → (List ℕ → Result Y FileFault) → Type 0
 MakesOwn made = (bytes : List ℕ) (e : FileFault) → made bytes ≡ Err e → IsOwn e
 
-field-early : {Y : Type 0} (n : ℕ) (made : List ℕ → Result Y FileFault) → MakesOwn made → (s t e : FileFault) (bytes more : List ℕ) → field n made s bytes ≡ Err e → (e ≡ s) ⊎ (IsOwn e × (field n made t (bytes ++ more) ≡ Err e))
+field-early : {Y : Type 0} (n : ℕ) (made : List ℕ → Result Y FileFault) → MakesOwn made → (s t e : FileFault) (bytes more : List ℕ) → field n made s bytes ≡ Err e → ((e ≡ s) × (field n made t bytes ≡ Err t)) ⊎ (IsOwn e × (field n made t (bytes ++ more) ≡ Err e))
 field-early n made own s t e bytes more fault =
     elim (cases_lt (length bytes) n) [
-      | inl lt ↦ inl (short_first s e (made (take n bytes) >>= λ y. Ok (y, drop n bytes)) (ltb (length bytes) n) (lt-ltb _ _ lt) fault)
+      | inl lt ↦ inl (short_first s e (made (take n bytes) >>= λ y. Ok (y, drop n bytes)) (ltb (length bytes) n) (lt-ltb _ _ lt) fault, rw (lt-ltb _ _ lt) refl)
       | inr le ↦ inr (
         own (take n bytes) e (made_err (made (take n bytes)) (λ y. (y, drop n bytes)) e (guard_err (ltb (length bytes) n) s e (made (take n bytes) >>= λ y. Ok (y, drop n bytes)) (le-ltb _ _ le) fault)),
         field-whole n made s t bytes more le ∙ ap (followed_by more) fault,
@@ -104,18 +105,25 @@ then-whole Y Z a b f g first second s t bytes more long (Err e) is =
     let one : f t (bytes ++ more) ≡ Err e = first.whole s t bytes more (omega arith) ∙ ap (followed_by more) is in
     rw (one, is) refl
 
+-- what a field makes of its bytes does not go by the fault for missing ones
+same_bytes : (Y : Type 0) (n : ℕ) (f : Reader Y) → IsField Y n f → (s t : FileFault) (bytes : List ℕ) (x : Y × List ℕ) → f s bytes ≡ Ok x → f t bytes ≡ Ok x
+same_bytes Y n f is s t bytes x h =
+    let taken = is.takes s bytes x h in
+    ap (f t) (sym (append-nil bytes)) ∙ is.whole s t bytes [] (omega (arith, taken)) ∙ ap (followed_by []) h ∙ ap (λ (rest : List ℕ). Ok (x.0, rest)) (append-nil x.1)
+
 then-early : (Y Z : Type 0) (a b : ℕ) (f : Reader Y) (g : Y → Reader Z) → IsField Y a f → ((y : Y) → IsField Z b (g y))
     → (s t e : FileFault) (bytes more : List ℕ) → (f s bytes >>= λ x. g x.0 s x.1) ≡ Err e → (r : Result (Y × List ℕ) FileFault) → f s bytes ≡ r
-    → (e ≡ s) ⊎ (IsOwn e × ((f t (bytes ++ more) >>= λ x. g x.0 t x.1) ≡ Err e))
+    → ((e ≡ s) × ((f t bytes >>= λ x. g x.0 t x.1) ≡ Err t)) ⊎ (IsOwn e × ((f t (bytes ++ more) >>= λ x. g x.0 t x.1) ≡ Err e))
 then-early Y Z a b f g first second s t e bytes more fault (Ok x) is =
     let left = first.takes s bytes x is in
     let one : f t (bytes ++ more) ≡ Ok (x.0, x.1 ++ more) = first.whole s t bytes more (omega (arith, left)) ∙ ap (followed_by more) is in
     let two : g x.0 s x.1 ≡ Err e = rw is at fault in
-    rw one ((second x.0).early s t e x.1 more two)
+    let here : f t bytes ≡ Ok x = same_bytes Y a f first s t bytes x is in
+    rw (one, here) ((second x.0).early s t e x.1 more two)
 then-early Y Z a b f g first second s t e bytes more fault (Err d) is =
     let same : d ≡ e = err_is {A = Z × List ℕ} d e (rw is at fault) in
     elim (first.early s t d bytes more is) [
-      | inl short ↦ inl (sym same ∙ short)
+      | inl short ↦ inl (sym same ∙ short.0, rw short.1 refl)
       | inr one ↦ inr (subst IsOwn same one.0, rw (one.1, same) refl)
     ]
 
@@ -128,3 +136,25 @@ then-is Y Z a b f g first second = record {
   whole = λ s t bytes more long. then-whole Y Z a b f g first second s t bytes more long (f s bytes) refl;
   early = λ s t e bytes more fault. then-early Y Z a b f g first second s t e bytes more fault (f s bytes) refl;
 }
+
+-- the bytes that a field took, and what it makes of them before any others
+pub record Took (Y : Type 0) (f : Reader Y) (t : FileFault) (bytes : List ℕ) (y : Y) (rest : List ℕ) : Type 0 where
+  pub front : List ℕ
+  pub parts : bytes ≡ front ++ rest
+  pub again : (more : List ℕ) → f t (front ++ more) ≡ Ok (y, more)
+
+pub took : (Y : Type 0) (n : ℕ) (f : Reader Y) → IsField Y n f → (s t : FileFault) (bytes : List ℕ) (x : Y × List ℕ) → f s bytes ≡ Ok x → Took Y f t bytes x.0 x.1
+took Y n f is s t bytes x h =
+    let front = take n bytes in
+    let rest = drop n bytes in
+    let taken = is.takes s bytes x h in
+    let size : n ≤ length front = omega (arith, length-take n bytes, taken) in
+    let whole : followed_by rest (f s front) ≡ Ok x = sym (is.whole s s front rest size) ∙ ap (f s) (take-append-drop n bytes) ∙ h in
+    let y = bind_ok (f s front) (λ z. Ok (z.0, z.1 ++ rest)) x whole in
+    let over : y.0.1 ≡ [] = nil_from_length y.0.1 (omega (arith, is.takes s front y.0 y.1, length-take n bytes, taken)) in
+    let same : (y.0.0, rest) ≡ x = ap (λ (l : List ℕ). (y.0.0, l ++ rest)) (sym over) ∙ ok_is (y.0.0, y.0.1 ++ rest) x y.2 in
+    record {
+      front = front;
+      parts = sym (take-append-drop n bytes) ∙ ap (λ (l : List ℕ). front ++ l) (ap (λ (p : Y × List ℕ). p.1) same);
+      again = λ more. is.whole s t front more size ∙ ap (followed_by more) y.1 ∙ ap (λ (l : List ℕ). Ok (y.0.0, l ++ more)) over ∙ ap (λ (p : Y × List ℕ). Ok (p.0, more)) same;
+    }

@@ -129,7 +129,7 @@ pub piece_fails : (Y : Type 0) (n : ℕ) (f : Reader Y) → IsField Y n f → (s
 piece_fails Y n f is s e front left why h =
     elim (cases_lt (length front) n) [
       | inl lt ↦ elim (is.early s faults.Truncated e front left h) [
-        | inl same ↦ why_fails s e f front left (why lt) same h
+        | inl same ↦ why_fails s e f front left (why lt) same.0 h
         | inr own ↦ fails_of e _ own.1
       ]
       | inr le ↦ fails_of e _ (is.whole s faults.Truncated front left le ∙ ap (followed_by left) h)
@@ -145,11 +145,16 @@ piece_gives Y n f is s front left x small h =
 -- only a reader's fault is answered as one
 pub read_from_short : (Y : Type 0) (n : ℕ) (f : Reader Y) → IsField Y n f → (s : FileFault) (bytes : List ℕ) → f s bytes ≡ Err faults.Read → s ≡ faults.Read
 read_from_short Y n f is s bytes h =
-    elim (is.early s s faults.Read bytes [] h) [ inl same ↦ sym same | inr own ↦ absurd own.0 ]
+    elim (is.early s s faults.Read bytes [] h) [ inl same ↦ sym same.0 | inr own ↦ absurd own.0 ]
 
 pub memory_from_short : (Y : Type 0) (n : ℕ) (f : Reader Y) → IsField Y n f → (s : FileFault) (bytes : List ℕ) → f s bytes ≡ Err faults.Memory → s ≡ faults.Memory
 memory_from_short Y n f is s bytes h =
-    elim (is.early s s faults.Memory bytes [] h) [ inl same ↦ sym same | inr own ↦ absurd own.0 ]
+    elim (is.early s s faults.Memory bytes [] h) [ inl same ↦ sym same.0 | inr own ↦ absurd own.0 ]
+
+-- where a reader's fault is answered, what came is unfinished
+pub read_stops : (Y : Type 0) (n : ℕ) (f : Reader Y) → IsField Y n f → (s : FileFault) (bytes : List ℕ) → f s bytes ≡ Err faults.Read → f faults.Truncated bytes ≡ Err faults.Truncated
+read_stops Y n f is s bytes h =
+    elim (is.early s faults.Truncated faults.Read bytes [] h) [ inl same ↦ same.1 | inr own ↦ absurd own.0 ]
 
 -- what has the fault of a part has it too
 pub fails_along : {A B : Type 0} (e : FileFault) (a : Result A FileFault) (b : Result B FileFault) → (a ≡ Err e → b ≡ Err e) → Fails e a → Fails e b

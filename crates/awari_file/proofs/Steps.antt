@@ -7,10 +7,10 @@ use Rattle.awari_file.specs.declared.faults.FileFault.{FileFault}
 use Rattle.awari_file.specs.declared.faults.FileFault.TheVariants as faults
 use Rattle.awari_file.specs.Reading.{Fails}
 use Rattle.awari_file.specs.Source as source
-use Rattle.awari_file.specs.Source.{IsAt}
+use Rattle.awari_file.specs.Source.{IsAt, StopsIn, Unfinished}
 use Rattle.awari_file.specs.FileText.{IsBytes}
 use Rattle.awari_file.proofs.FieldLaws.{Reader, IsField}
-use Rattle.awari_file.proofs.FileLaws.{IsWhy, piece_fails, piece_gives}
+use Rattle.awari_file.proofs.FileLaws.{IsWhy, piece_fails, piece_gives, read_stops}
 
 abbrev some : List ℕ → Option (List ℕ)
 some xs = Some xs
@@ -71,6 +71,13 @@ step_gives Y n f is s front whole left x a b hasher after here took small h hold
       },
       ap (f faults.Truncated) parts ∙ piece_gives Y n f is s front rest x small h,
     )
+
+-- the reader's fault in the piece that came
+pub step_stops : (Y : Type 0) (n : ℕ) (f : Reader Y) → IsField Y n f → (s : FileFault) (front whole left : List ℕ) (a b : Option (List ℕ)) (hasher : Sha256)
+    → IsAt whole left a hasher → Consumes a b front → f s front ≡ Err faults.Read → StopsIn (Unfinished f) left b
+step_stops Y n f is s front whole left a b hasher here took h =
+    let (rest, b-is, parts) = consumes_some a b left front here.known_is took in
+    record { came = front; rest = rest; known_is = b-is; parts = parts; kind = read_stops Y n f is s front h }
 
 -- the fault that a `?` passes on
 pub fault_was : {X : Type 0} (r : Result X FileFault) (d e : FileFault) → r ≡ Err d → r ≡ Err e → d ≡ e

@@ -1,5 +1,5 @@
 -- From the parts of a file to all of it.
-use Rattle.std.proofs.Common.{◌≡◌, ℕ, ◌-◌, ◌+◌, ◌<◌, get_or, subst, List, [], ◌++◌, length, take, Option, Some, None, Result, Ok, Err, refl, sym, ap, ◌∙◌, arith}
+use Rattle.std.proofs.Common.{◌≡◌, ℕ, ◌-◌, ◌+◌, ◌<◌, get_or, subst, List, [], ◌++◌, length, take, Option, Some, None, Result, Ok, Err, refl, sym, ap, ◌∙◌, ◌*◌, arith, append_assoc, inl, inr}
 use Rattle.std.specs.Prelude.{IfSome, IsOk}
 use Rattle.std.proofs.lemmas.List.{length-append, take_at}
 use Rattle.sha2.specs.Hashers.{Holds256}
@@ -12,9 +12,10 @@ use Rattle.awari_file.specs.declared.faults.FileFault.{FileFault}
 use Rattle.awari_file.specs.declared.faults.FileFault.TheVariants.{Truncated}
 use Rattle.awari_file.specs.Reading.{◌>>=◌, header_at, entries_at, end_at, file_in, Fails}
 use Rattle.awari_file.specs.FileText.{IsBytes}
-use Rattle.awari_file.specs.Source.{IsAt, Answers}
+use Rattle.awari_file.specs.Source.{IsAt, Answers, StopsIn, Unfinished, IsSoundEnd, IsSoundSoFar}
 use Rattle.awari_file.proofs.Steps.{IsBytes-append}
-use Rattle.awari_file.proofs.FileLaws.{fails_along}
+use Rattle.awari_file.proofs.FieldLaws.{took}
+use Rattle.awari_file.proofs.FileLaws.{fails_along, header-is, entries-is}
 
 abbrev some_of : List ℕ → Option (List ℕ)
 some_of xs = Some xs
@@ -95,3 +96,50 @@ bytes_at (Some xs) left h fits = subst IsBytes (same_some xs left h) fits
 
 pub both_bytes : (xs done left : List ℕ) → xs ≡ done ++ left → IsBytes done → IsBytes left → IsBytes xs
 both_bytes xs done left e p q = subst IsBytes (sym e) (IsBytes-append done left p q)
+
+-- ---- where the reader stops
+
+pub stops_in_header : (xs : List ℕ) (known : Option (List ℕ)) → StopsIn (Unfinished header_at) xs known → StopsIn IsSoundSoFar xs known
+unfolding file_in
+stops_in_header xs known stop = record { came = stop.came; rest = stop.rest; known_is = stop.known_is; parts = stop.parts; kind = inl (rw stop.kind refl) }
+
+pub stops_in_entries : (xs : List ℕ) (h : Header) (rest : List ℕ) (n : ℕ) (known : Option (List ℕ)) → n ≡ size_of h.level → header_at Truncated xs ≡ Ok (h, rest) → StopsIn (Unfinished (entries_at n)) rest known → StopsIn IsSoundSoFar xs known
+stops_in_entries xs h rest n known size header stop =
+    let t = took Header 52 header_at header-is Truncated Truncated xs (h, rest) header in
+    let came = t.front ++ stop.came in
+    record {
+      came = came;
+      rest = stop.rest;
+      known_is = stop.known_is;
+      parts = t.parts ∙ ap (λ (l : List ℕ). t.front ++ l) stop.parts ∙ sym (append_assoc t.front stop.came stop.rest);
+      kind = inl (after_header came h stop.came (t.again stop.came) ∙ ap (λ (k : ℕ). after_entries came h (entries_at k Truncated stop.came)) (sym size) ∙ ap (after_entries came h) stop.kind);
+    }
+
+ok_after : (h : Header) (es : List Entry) (read : Result (List ℕ) FileFault) → IsOk read → IsOk (after_end h es read)
+ok_after h es (Ok digest) ok = refl
+ok_after h es (Err e) ok = absurd cc
+
+pub stops_in_end : (xs : List ℕ) (h : Header) (rest : List ℕ) (n : ℕ) (es : List Entry) (left done : List ℕ) (known : Option (List ℕ)) → n ≡ size_of h.level → header_at Truncated xs ≡ Ok (h, rest) → entries_at n Truncated rest ≡ Ok (es, left) → xs ≡ done ++ left
+    → StopsIn (IsSoundEnd done) left known → StopsIn IsSoundSoFar xs known
+stops_in_end xs h rest n es left done known size header entries parts stop =
+    let t = took Header 52 header_at header-is Truncated Truncated xs (h, rest) header in
+    let u = took (List Entry) (6 * n) (entries_at n) (entries-is n) Truncated Truncated rest (es, left) entries in
+    let cut : xs ≡ (t.front ++ u.front) ++ left = t.parts ∙ ap (λ (l : List ℕ). t.front ++ l) u.parts ∙ sym (append_assoc t.front u.front left) in
+    let same : done ≡ t.front ++ u.front = sym (before_is xs done left parts) ∙ before_is xs (t.front ++ u.front) left cut in
+    let came = done ++ stop.came in
+    let again : header_at Truncated came ≡ Ok (h, u.front ++ stop.came) =
+    ap (λ (d : List ℕ). header_at Truncated (d ++ stop.came)) same ∙ ap (header_at Truncated) (append_assoc t.front u.front stop.came) ∙ t.again (u.front ++ stop.came) in
+    let whole : file_in came ≡ after_end h es (end_at done Truncated stop.came) = at_the_end came h (u.front ++ stop.came) n es stop.came done size again (u.again stop.came) refl in
+    record {
+      came = came;
+      rest = stop.rest;
+      known_is = stop.known_is;
+      parts = parts ∙ ap (λ (l : List ℕ). done ++ l) stop.parts ∙ sym (append_assoc done stop.came stop.rest);
+      kind = elim stop.kind [
+        | inl short ↦ inl (whole ∙ ap (after_end h es) short)
+        | inr ok ↦ inr (rw whole (ok_after h es (end_at done Truncated stop.came) ok))
+      ];
+    }
+
+pub known_stops : (a b : Option (List ℕ)) → ((xs : List ℕ) → a ≡ Some xs → StopsIn IsSoundSoFar xs b) → IfSome a (λ xs. StopsIn IsSoundSoFar xs b)
+known_stops a b f = known_intro a (λ xs. StopsIn IsSoundSoFar xs b) f

@@ -1,5 +1,5 @@
 -- What a reader has left, and what a hasher holds of what came before.
-use Rattle.std.specs.Prelude.{◌≡◌, ℕ, List, [], ◌++◌, Option, Some, Result, Ok, Err}
+use Rattle.std.specs.Prelude.{◌≡◌, ◌⊎◌, IsOk, ℕ, List, [], ◌++◌, Option, Some, Result, Ok, Err}
 use Rattle.std.specs.Io.KnownBytes.{Appends, IsAtEnd}
 use Rattle.sha2.specs.Hashers.{Holds256}
 use Rattle.sha2.specs.declared.Sha256.{Sha256}
@@ -8,13 +8,33 @@ use Rattle.awari_file.specs.declared.faults.FileFault.{FileFault}
 use Rattle.awari_file.specs.declared.faults.FileFault.TheVariants as faults
 use Rattle.awari_table.specs.declared.images.Entry.{Entry}
 use Rattle.awari_file.specs.FileText.{IsBytes}
-use Rattle.awari_file.specs.Reading.{entries_at, end_at, Fails}
+use Rattle.awari_file.specs.Reading.{entries_at, end_at, file_in, Fails}
 
 -- Why fewer bytes came than were asked for: the input ended, or the reader answered a fault, which was counted.
 abbrev pub IsWhy : FileFault → Option (List ℕ) → ℕ → ℕ → Type 0
 IsWhy faults.Truncated known old new = IsAtEnd known
 IsWhy faults.Read known old new = Grew old new
 IsWhy e known old new = ⊥
+
+-- The reader stopped within what was left, and what came of it is of this kind.
+pub record StopsIn (P : List ℕ → Type 0) (left : List ℕ) (known : Option (List ℕ)) : Type 0 where
+  pub came : List ℕ
+  pub rest : List ℕ
+  pub known_is : known ≡ Some rest
+  pub parts : left ≡ came ++ rest
+  pub kind : P came
+
+-- reading ends before the field does
+abbrev pub Unfinished : {Y : Type 0} → (FileFault → List ℕ → Result Y FileFault) → List ℕ → Type 0
+Unfinished f came = f faults.Truncated came ≡ Err faults.Truncated
+
+-- What came of a file has no fault, but that it ends early, or is whole.
+abbrev pub IsSoundSoFar : List ℕ → Type 0
+IsSoundSoFar came = (file_in came ≡ Err faults.Truncated) ⊎ IsOk (file_in came)
+
+-- the same of what came from its digest on
+abbrev pub IsSoundEnd : List ℕ → List ℕ → Type 0
+IsSoundEnd body came = (end_at body faults.Truncated came ≡ Err faults.Truncated) ⊎ IsOk (end_at body faults.Truncated came)
 
 -- of the whole input left is what the reader has, and the hasher holds what stands before it
 pub record IsAt (whole left : List ℕ) (known : Option (List ℕ)) (hasher : Sha256) : Type 0 where

@@ -9,7 +9,7 @@ ghost use Rattle.awari_table.specs.declared.images.Image.{Image};
 ghost use Rattle.sha2.specs.Hashers.{Holds256};
 ghost use Rattle.awari_file.specs.FileText.{IsBytes, HasFile, IsFileOf, file_text, found_of};
 ghost use Rattle.awari_file.specs.Reading.{header_at, entries_at, end_at, file_in};
-ghost use Rattle.awari_file.specs.Source.{IsAt, Advances, Adds, AddsAt, Answers};
+ghost use Rattle.awari_file.specs.Source.{IsAt, StopsIn, Unfinished, IsSoundEnd, IsSoundSoFar, Advances, Adds, AddsAt, Answers};
 
 use crate::contents::{Header, Loaded};
 use crate::faults::FileFault;
@@ -37,6 +37,8 @@ const BUFFERED: u32 = 680;
 fn read_header<R: Read>(reader: &mut Counted<R>, hasher: &mut Sha256) -> Result<Header, FileFault>
     ensures parsed { (whole left : List ℕ) → IsAt whole left (R.remaining (inner_of reader.old)) hasher.old
         → Advances (λ h. h) header_at whole left (R.remaining (inner_of reader.new)) hasher.new result }
+    ensures stops { (whole left : List ℕ) → IsAt whole left (R.remaining (inner_of reader.old)) hasher.old
+        → result ≡ Err FileFault.Read → StopsIn (Unfinished header_at) left (R.remaining (inner_of reader.new)) }
     ensures low { IfOk result (λ h. h.level ≤ HIGHEST_LEVEL) }
     ensures read { result ≡ Err FileFault.Read → Grew (faults_of reader.old) (faults_of reader.new) }
     ensures memory { result ≢ Err FileFault.Memory }
@@ -81,6 +83,8 @@ fn read_some<R: Read>(
     requires room { vec_len entries.old + count ≤ vec_capacity entries.old }
     ensures parsed { (whole left : List ℕ) → IsAt whole left (R.remaining (inner_of reader.old)) hasher.old
         → AddsAt entries.old.items entries.new.items count whole left (R.remaining (inner_of reader.new)) hasher.new result }
+    ensures stops { (whole left : List ℕ) → IsAt whole left (R.remaining (inner_of reader.old)) hasher.old
+        → result ≡ Err FileFault.Read → StopsIn (Unfinished (entries_at count)) left (R.remaining (inner_of reader.new)) }
     ensures len { OnOk result (vec_len entries.new ≡ vec_len entries.old + count) }
     ensures capacity { vec_capacity entries.new ≡ vec_capacity entries.old }
     ensures read { result ≡ Err FileFault.Read → Grew (faults_of reader.old) (faults_of reader.new) }
@@ -104,6 +108,8 @@ fn read_entries<R: Read>(
     requires { vec_len entries.old + count ≤ vec_capacity entries.old }
     ensures parsed { (whole left : List ℕ) → IsAt whole left (R.remaining (inner_of reader.old)) hasher.old
         → AddsAt entries.old.items entries.new.items count whole left (R.remaining (inner_of reader.new)) hasher.new result }
+    ensures stops { (whole left : List ℕ) → IsAt whole left (R.remaining (inner_of reader.old)) hasher.old
+        → result ≡ Err FileFault.Read → StopsIn (Unfinished (entries_at count)) left (R.remaining (inner_of reader.new)) }
     ensures read { result ≡ Err FileFault.Read → Grew (faults_of reader.old) (faults_of reader.new) }
     ensures memory { result ≢ Err FileFault.Memory }
     ensures faults { faults_of reader.old ≤ faults_of reader.new }
@@ -120,6 +126,8 @@ fn read_entries<R: Read>(
 fn read_end<R: Read>(reader: &mut Counted<R>, hasher: Sha256) -> Result<[u8; 32], FileFault>
     ensures parsed { (left body : List ℕ) → R.remaining (inner_of reader.old) ≡ Some left → Holds256 hasher body
         → Answers (λ d. d) result (end_at body FileFault.Truncated left) }
+    ensures stops { (left body : List ℕ) → R.remaining (inner_of reader.old) ≡ Some left → Holds256 hasher body
+        → result ≡ Err FileFault.Read → StopsIn (IsSoundEnd body) left (R.remaining (inner_of reader.new)) }
     ensures bytes { OnOk result (IfSome (R.remaining (inner_of reader.old)) IsBytes) }
     ensures read { result ≡ Err FileFault.Read → Grew (faults_of reader.old) (faults_of reader.new) }
     ensures memory { result ≢ Err FileFault.Memory }
@@ -143,6 +151,9 @@ fn read_all<R: Read>(alloc: Global, reader: &mut Counted<R>) -> Result<Loaded, F
     ensures exact { IfSome (R.remaining (inner_of reader.old)) (λ bytes. Answers (λ x. x) result (file_in bytes)) }
     ensures bytes { OnOk result (IfSome (R.remaining (inner_of reader.old)) IsBytes) }
     ensures read { result ≡ Err FileFault.Read → Grew (faults_of reader.old) (faults_of reader.new) }
+    // What came before the reader's fault has none of its own.
+    ensures in_order { result ≡ Err FileFault.Read
+        → IfSome (R.remaining (inner_of reader.old)) (λ bytes. StopsIn IsSoundSoFar bytes (R.remaining (inner_of reader.new))) }
     // The room is taken behind the header.
     ensures memory { result ≡ Err FileFault.Memory
         → IfSome (R.remaining (inner_of reader.old)) (λ bytes. IsOk (header_at FileFault.Truncated bytes)) }
@@ -175,6 +186,9 @@ pub fn read_image<R: Read>(alloc: Global, reader: &mut Counted<R>) -> Result<Loa
     // Which image or fault it is.
     ensures exact { IfSome (R.remaining (inner_of reader.old)) (λ bytes. Answers (λ x. x) result (file_in bytes)) }
     ensures read { result ≡ Err FileFault.Read → Grew (faults_of reader.old) (faults_of reader.new) }
+    // What came before the reader's fault has none of its own.
+    ensures in_order { result ≡ Err FileFault.Read
+        → IfSome (R.remaining (inner_of reader.old)) (λ bytes. StopsIn IsSoundSoFar bytes (R.remaining (inner_of reader.new))) }
     // The room is taken behind the header.
     ensures memory { result ≡ Err FileFault.Memory
         → IfSome (R.remaining (inner_of reader.old)) (λ bytes. IsOk (header_at FileFault.Truncated bytes)) }

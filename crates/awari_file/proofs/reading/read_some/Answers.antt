@@ -5,7 +5,7 @@ use Rattle.awari_file.specs.declared.faults.FileFault.{FileFault}
 use Rattle.awari_file.specs.declared.faults.FileFault.TheVariants as faults
 use Rattle.awari_file.specs.Reading.{entries_at}
 use Rattle.awari_file.proofs.FileLaws.{entries-is, read_from_short, memory_from_short}
-use Rattle.awari_file.proofs.Steps.{step_fails, step_gives, fault_was}
+use Rattle.awari_file.proofs.Steps.{step_fails, step_gives, step_stops, fault_was}
 use Rattle.awari_file.proofs.SpellLaws.{IsBytes-take}
 use Rattle.awari_file.proofs.reading.read_some.Goals as goal
 
@@ -43,3 +43,11 @@ returns-clause-parsed g c = λ whole left here.
     let (rest, at, gives) = step_gives (List Entry) (6 * n) (entries_at n) (entries-is n) c.fill-came.result.short front whole left (new, over) _ _ c.args.hasher.now c.update.new.self here c.fill-came.ensures.bytes
     (omega (arith, size)) read c.update.ensures (IsBytes-take c.fill-came.result.count c.fill-came.new.buf c.fill-came.ensures.range) in
     (new, rest, items, at, gives)
+
+pub returns-in_err-push_entries-clause-stops : goal.returns-in_err-push_entries-clause-stops
+returns-in_err-push_entries-clause-stops g c = λ whole left here is.
+    let p = err_from_is_err_and c.from_residual.result c.from_residual.ensures.1 in
+    let n = c.args.count in
+    let front = take c.fill-came.result.count c.fill-came.new.buf in
+    let same : c.in_err-push_entries.field-0.0 ≡ faults.Read = sym p.2 ∙ fault_was c.from_residual.result p.0 faults.Read p.1 is in
+    step_stops (List Entry) (6 * n) (entries_at n) (entries-is n) c.fill-came.result.short front whole left _ _ c.args.hasher.now here c.fill-came.ensures.bytes (c.in_err-push_entries.ensures.added ∙ ap (λ (e : FileFault). Err e) same)
