@@ -40,6 +40,7 @@ fn read_header<R: Read>(reader: &mut Counted<R>, hasher: &mut Sha256) -> Result<
     ensures stops { (whole left : List ℕ) → IsAt whole left (R.remaining (inner_of reader.old)) hasher.old
         → result ≡ Err FileFault.Read → StopsIn (Unfinished header_at) left (R.remaining (inner_of reader.new)) }
     ensures low { IfOk result (λ h. h.level ≤ HIGHEST_LEVEL) }
+    ensures clean { OnOk result (faults_of reader.new ≡ faults_of reader.old) }
     ensures read { result ≡ Err FileFault.Read → Grew (faults_of reader.old) (faults_of reader.new) }
     ensures memory { result ≢ Err FileFault.Memory }
     ensures faults { faults_of reader.old ≤ faults_of reader.new }
@@ -87,6 +88,7 @@ fn read_some<R: Read>(
         → result ≡ Err FileFault.Read → StopsIn (Unfinished (entries_at count)) left (R.remaining (inner_of reader.new)) }
     ensures len { OnOk result (vec_len entries.new ≡ vec_len entries.old + count) }
     ensures capacity { vec_capacity entries.new ≡ vec_capacity entries.old }
+    ensures clean { OnOk result (faults_of reader.new ≡ faults_of reader.old) }
     ensures read { result ≡ Err FileFault.Read → Grew (faults_of reader.old) (faults_of reader.new) }
     ensures memory { result ≢ Err FileFault.Memory }
     ensures faults { faults_of reader.old ≤ faults_of reader.new }
@@ -110,6 +112,7 @@ fn read_entries<R: Read>(
         → AddsAt entries.old.items entries.new.items count whole left (R.remaining (inner_of reader.new)) hasher.new result }
     ensures stops { (whole left : List ℕ) → IsAt whole left (R.remaining (inner_of reader.old)) hasher.old
         → result ≡ Err FileFault.Read → StopsIn (Unfinished (entries_at count)) left (R.remaining (inner_of reader.new)) }
+    ensures clean { OnOk result (faults_of reader.new ≡ faults_of reader.old) }
     ensures read { result ≡ Err FileFault.Read → Grew (faults_of reader.old) (faults_of reader.new) }
     ensures memory { result ≢ Err FileFault.Memory }
     ensures faults { faults_of reader.old ≤ faults_of reader.new }
@@ -129,6 +132,7 @@ fn read_end<R: Read>(reader: &mut Counted<R>, hasher: Sha256) -> Result<[u8; 32]
     ensures stops { (left body : List ℕ) → R.remaining (inner_of reader.old) ≡ Some left → Holds256 hasher body
         → result ≡ Err FileFault.Read → StopsIn (IsSoundEnd body) left (R.remaining (inner_of reader.new)) }
     ensures bytes { OnOk result (IfSome (R.remaining (inner_of reader.old)) IsBytes) }
+    ensures clean { OnOk result (faults_of reader.new ≡ faults_of reader.old) }
     ensures read { result ≡ Err FileFault.Read → Grew (faults_of reader.old) (faults_of reader.new) }
     ensures memory { result ≢ Err FileFault.Memory }
     ensures faults { faults_of reader.old ≤ faults_of reader.new }
@@ -150,6 +154,7 @@ fn read_all<R: Read>(alloc: Global, reader: &mut Counted<R>) -> Result<Loaded, F
     // Which image or fault it is.
     ensures exact { IfSome (R.remaining (inner_of reader.old)) (λ bytes. Answers (λ x. x) result (file_in bytes)) }
     ensures bytes { OnOk result (IfSome (R.remaining (inner_of reader.old)) IsBytes) }
+    ensures clean { OnOk result (faults_of reader.new ≡ faults_of reader.old) }
     ensures read { result ≡ Err FileFault.Read → Grew (faults_of reader.old) (faults_of reader.new) }
     // What came before the reader's fault has none of its own.
     ensures in_order { result ≡ Err FileFault.Read
@@ -185,6 +190,7 @@ pub fn read_image<R: Read>(alloc: Global, reader: &mut Counted<R>) -> Result<Loa
         HasFile version image below → bytes ≡ file_text version image below → Answers (λ x. x) result (Ok (found_of version image below))) }
     // Which image or fault it is.
     ensures exact { IfSome (R.remaining (inner_of reader.old)) (λ bytes. Answers (λ x. x) result (file_in bytes)) }
+    ensures clean { OnOk result (faults_of reader.new ≡ faults_of reader.old) }
     ensures read { result ≡ Err FileFault.Read → Grew (faults_of reader.old) (faults_of reader.new) }
     // What came before the reader's fault has none of its own.
     ensures in_order { result ≡ Err FileFault.Read

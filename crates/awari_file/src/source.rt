@@ -25,6 +25,8 @@ pub(crate) fn fill<R: Read>(reader: &mut Counted<R>, buf: &mut [u8], wanted: usi
     ensures why { result.count < wanted
         → IsWhy result.short (R.remaining (inner_of reader.new)) (faults_of reader.old) (faults_of reader.new) }
     ensures read { result.short ≡ FileFault.Read → Grew (faults_of reader.old) (faults_of reader.new) }
+    ensures calm { result.short ≢ FileFault.Read → faults_of reader.new ≡ faults_of reader.old }
+    ensures whole { result.count ≡ wanted → faults_of reader.new ≡ faults_of reader.old }
     ensures memory { result.short ≢ FileFault.Memory }
     ensures range { IsBytes buf.new }
     ensures faults { faults_of reader.old ≤ faults_of reader.new }

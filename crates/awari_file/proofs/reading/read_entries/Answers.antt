@@ -14,7 +14,7 @@ use Rattle.awari_file.proofs.reading.read_entries.Goals as goal
 pub loop-left-init : goal.loop-left-init
 loop-left-init g c = record {
   room = omega arith;
-  faults = omega arith;
+  faults = refl;
   read = λ whole left here. ([], left, [], sym (append-nil c.args.entries.now.items), here, refl, λ more. with_front-nil (entries_at c.args.count Truncated more));
 }
 
@@ -50,7 +50,7 @@ loop-left-preserved g c =
     let le : a ≤ c.loop-left.left = omega (arith, c.min-some.ensures) in
     record {
       room = omega (arith, c.in_ok-read_some.ensures.len, c.read_some.ensures.capacity, c.loop-left.invariant.room, le);
-      faults = omega (arith, c.read_some.ensures.faults, c.loop-left.invariant.faults);
+      faults = c.in_ok-read_some.ensures.clean ∙ c.loop-left.invariant.faults;
       read = λ whole left here.
           let (new, rest, taken, items, at, parts, so_far) = c.loop-left.invariant.read whole left here in
           let (more, after, items2, at2, gives) = c.in_ok-read_some.ensures.parsed whole rest at in

@@ -44,3 +44,10 @@ returns-in_err-header-clause-stops g c = λ whole left here is.
     let front = take c.fill-came.result.count c.fill-came.new.buf in
     let same : c.in_err-header.field-0.0 ≡ faults.Read = sym p.2 ∙ fault_was c.from_residual.result p.0 faults.Read p.1 is in
     step_stops Header 52 header_at header-is c.fill-came.result.short front whole left _ _ c.args.hasher.now here c.fill-came.ensures.bytes (c.in_err-header.ensures.value ∙ ap (λ (e : FileFault). Err e) same)
+
+pub returns-clause-clean : goal.returns-clause-clean
+returns-clause-clean g c =
+    let front = take c.fill-came.result.count c.fill-came.new.buf in
+    let size = length-take c.fill-came.result.count c.fill-came.new.buf in
+    let taken = header-is.takes c.fill-came.result.short front (c.in_ok-header.header, c.in_ok-header.field-0-1.now) c.in_ok-header.ensures.value in
+    c.fill-came.ensures.whole (omega (arith, size, taken, c.fill-came.ensures.count))

@@ -51,3 +51,12 @@ returns-in_err-push_entries-clause-stops g c = λ whole left here is.
     let front = take c.fill-came.result.count c.fill-came.new.buf in
     let same : c.in_err-push_entries.field-0.0 ≡ faults.Read = sym p.2 ∙ fault_was c.from_residual.result p.0 faults.Read p.1 is in
     step_stops (List Entry) (6 * n) (entries_at n) (entries-is n) c.fill-came.result.short front whole left _ _ c.args.hasher.now here c.fill-came.ensures.bytes (c.in_err-push_entries.ensures.added ∙ ap (λ (e : FileFault). Err e) same)
+
+pub returns-clause-clean : goal.returns-clause-clean
+returns-clause-clean g c =
+    let n = c.args.count in
+    let front = take c.fill-came.result.count c.fill-came.new.buf in
+    let size = length-take c.fill-came.result.count c.fill-came.new.buf in
+    let (new, over, items, read) = c.in_ok-push_entries.ensures.added in
+    let taken = (entries-is n).takes c.fill-came.result.short front (new, over) read in
+    c.fill-came.ensures.whole (omega (arith, size, taken, c.fill-came.ensures.count))
