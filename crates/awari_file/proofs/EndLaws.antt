@@ -1,5 +1,5 @@
 -- The digest, and the end behind it.
-use Rattle.std.proofs.Common.{◌≡◌, ℕ, zero, suc, ◌+◌, ◌<◌, ◌≤◌, Bool, true, false, cond, eqb, List, [], ◌∷◌, ◌++◌, length, Option, Some, None, Result, Ok, Err, refl, sym, ap, subst, ◌∙◌, arith, inl, inr}
+use Rattle.std.proofs.Common.{◌≡◌, ℕ, ◌<◌, true, false, cond, eqb, List, [], ◌++◌, length, Option, Some, Result, Ok, Err, refl, sym, ap, ◌∙◌, arith, inl, inr}
 use Rattle.std.specs.Io.KnownBytes.{Consumes}
 use Rattle.std.proofs.lemmas.List.{length-append, nil_from_length, append-nil}
 use Rattle.std.proofs.lemmas.Bool.{eqb-true, eqb-false, ne_eqb}
@@ -9,7 +9,7 @@ use Rattle.awari_file.specs.declared.faults.FileFault.TheVariants as faults
 use Rattle.awari_file.specs.Reading.{◌>>=◌, field, digest_if, end_at, Fails}
 use Rattle.awari_file.specs.Source as source
 use Rattle.awari_file.specs.Source.{StopsIn, IsSoundEnd}
-use Rattle.awari_file.proofs.FieldLaws.{Reader, IsField, followed_by, field-is}
+use Rattle.awari_file.proofs.FieldLaws.{IsField, followed_by, field-is}
 use Rattle.awari_file.proofs.FileLaws.{IsWhy, test_own, piece_fails, fails_along, read_stops}
 use Rattle.awari_file.proofs.Steps.{consumes_some, why_is}
 

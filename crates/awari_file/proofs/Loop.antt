@@ -3,7 +3,7 @@ use Rattle.std.proofs.Common.{◌≡◌, ℕ, zero, suc, ◌-◌, ◌+◌, ◌�
 use Rattle.std.proofs.lemmas.List.{append-nil}
 use Rattle.awari_table.specs.declared.images.Entry.{Entry}
 use Rattle.awari_file.specs.declared.faults.FileFault.{FileFault}
-use Rattle.awari_file.specs.Reading.{◌>>=◌, field, entry_of, entries_at, Fails}
+use Rattle.awari_file.specs.Reading.{◌>>=◌, field, entry_of, entries_at}
 
 -- what was read before, and what is still read
 abbrev pub with_front : List Entry → Result (List Entry × List ℕ) FileFault → Result (List Entry × List ℕ) FileFault

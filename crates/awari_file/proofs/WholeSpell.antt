@@ -1,5 +1,5 @@
 -- A file is spelled and read again.
-use Rattle.std.proofs.Common.{◌≡◌, ℕ, zero, suc, ◌+◌, ◌*◌, ◌-◌, ◌^◌, ◌<◌, ◌≤◌, ◌⊎◌, Bool, true, false, cond, eqb, leb, ltb, ◌||◌, List, [], ◌∷◌, ◌++◌, length, get_or, take, drop, Option, Some, None, Result, Ok, Err, refl, sym, ap, subst, ◌∙◌, append_assoc, arith, inl, inr}
+use Rattle.std.proofs.Common.{◌≡◌, ℕ, zero, suc, ◌+◌, ◌-◌, ◌^◌, ◌<◌, ◌≤◌, Bool, true, cond, eqb, leb, List, [], ◌∷◌, ◌++◌, length, take, Option, Some, None, Result, Ok, Err, refl, sym, ap, subst, ◌∙◌, append_assoc, arith}
 use Rattle.std.specs.Prelude.{IfSome, IfOk, OnOk, map}
 use Rattle.std.specs.List.{flat_map, range_with_len, AllByRecursion}
 use Rattle.std.specs.Int.{w8, w16, w32, w64, to_be_bytes}
@@ -231,3 +231,10 @@ pub is_only : (a : Option (List ℕ)) (r : Result Loaded FileFault) → IfSome a
     → IfSome a (λ bytes. (version : ℕ) (image : Image) (below : List ℕ) → HasFile version image below → bytes ≡ file_text version image below → Answers (λ (x : Loaded). x) r (Ok (found_of version image below)))
 is_only None r given = tt
 is_only (Some bytes) r given = λ version image below has text. subst (λ (read : Result Loaded FileFault). Answers (λ (x : Loaded). x) r read) (ap file_in text ∙ file_again version image below has (size_small image.level has.low)) given
+
+pub told_apart : (version other : ℕ) (image shown : Image) (below under : List ℕ) → HasFile version image below → HasFile other shown under
+    → file_text version image below ≡ file_text other shown under → (image ≡ shown) × (below ≡ under)
+told_apart version other image shown below under has also same =
+    let read = sym (file_again version image below has (size_small image.level has.low)) ∙ ap file_in same ∙ file_again other shown under also (size_small shown.level also.low) in
+    let found = ok_is (found_of version image below) (found_of other shown under) read in
+    (ap (λ (x : Loaded). x.image) found, ap (λ (x : Loaded). x.below) found)

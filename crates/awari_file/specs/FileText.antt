@@ -1,6 +1,6 @@
 -- The file of a level, byte by byte. Whole numbers are big-endian: `to_be_bytes w16` makes 2 bytes of one, `to_be_bytes w32` 4,
 -- and `to_be_bytes w64` 8.
-use Rattle.std.specs.Prelude.{◌≡◌, ℕ, ◌<◌, ◌≤◌, ◌^◌, List, [], ◌∷◌, ◌++◌, length, Option, Some, None, IfSome, FitsSigned, slice_index}
+use Rattle.std.specs.Prelude.{◌≡◌, ℕ, ◌<◌, ◌≤◌, ◌^◌, List, ◌∷◌, ◌++◌, length, Option, Some, None, IfSome, FitsSigned, slice_index}
 use Rattle.std.specs.List.{flat_map, AllByRecursion}
 use Rattle.std.specs.Int.{w8, w16, w32, w64, to_be_bytes, cast_unsigned}
 use Rattle.sha2.specs.Sha256.{sha256}

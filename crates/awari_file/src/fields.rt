@@ -10,6 +10,7 @@ ghost use Rattle.awari_file.specs.Reading.{Gives, field, number_if, any_number, 
 
 use crate::contents::Header;
 use crate::faults::FileFault;
+use crate::sizes::ENTRY_LEN;
 use awari_rank::size;
 use awari_table::{Entry, HIGHEST_LEVEL};
 
@@ -18,9 +19,6 @@ pub(crate) const MAGIC: u32 = 0x4157_4442;
 
 /// The version that is written, and the one that is read.
 pub(crate) const VERSION: u16 = 1;
-
-/// The bytes of an entry.
-pub(crate) const ENTRY_LEN: usize = 6;
 
 /// Stands in the place of a pit where there is no plan.
 pub(crate) const NO_PLAN: u8 = 255;
@@ -68,6 +66,7 @@ fn level_at(bytes: &[u8], short: FileFault) -> Result<(u8, &[u8]), FileFault>
     Ok((level, rest))
 }
 
+/// The byte that is always 0.
 fn nought_at(bytes: &[u8], short: FileFault) -> Result<(u8, &[u8]), FileFault>
     ensures { Gives (λ x. (x.0, x.1.now)) result (field 1 (number_if w8 (λ n. n == 0) FileFault.Version) short bytes.now) }
 {
@@ -82,6 +81,7 @@ fn nought_at(bytes: &[u8], short: FileFault) -> Result<(u8, &[u8]), FileFault>
     Ok((nought, rest))
 }
 
+/// The number of entries, which is that of the level's boards.
 fn count_at(level: u8, bytes: &[u8], short: FileFault) -> Result<(u64, &[u8]), FileFault>
     requires { level ≤ HIGHEST_LEVEL }
     ensures { Gives (λ x. (x.0, x.1.now)) result (field 8 (number_if w64 (λ n. n == size_of level) FileFault.Count) short bytes.now) }
@@ -112,6 +112,7 @@ fn limit_at(bytes: &[u8], short: FileFault) -> Result<(u32, &[u8]), FileFault>
     ))
 }
 
+/// 32 bytes, of which any may stand there.
 fn bytes_at(bytes: &[u8], short: FileFault) -> Result<([u8; 32], &[u8]), FileFault>
     ensures { Gives (λ x. (x.0, x.1.now)) result (field 32 as_they_are short bytes.now) }
 {
@@ -124,6 +125,7 @@ fn bytes_at(bytes: &[u8], short: FileFault) -> Result<([u8; 32], &[u8]), FileFau
     Ok((taken, rest))
 }
 
+/// All that stands before the entries.
 #[tactic(auto, unfolding(crate::specs::Reading::header_at))]
 pub(crate) fn header_of(bytes: &[u8], short: FileFault) -> Result<(Header, &[u8]), FileFault>
     ensures value { Gives (λ x. (x.0, x.1.now)) result (header_at short bytes.now) }
@@ -147,13 +149,14 @@ pub(crate) fn header_of(bytes: &[u8], short: FileFault) -> Result<(Header, &[u8]
     ))
 }
 
+/// One entry.
 pub(crate) fn entry_at(bytes: &[u8], short: FileFault) -> Result<(Entry, &[u8]), FileFault>
     ensures { Gives (λ x. (x.0, x.1.now)) result (field 6 entry_of short bytes.now) }
 {
-    if bytes.len() < 6 {
+    if bytes.len() < ENTRY_LEN {
         return Err(short);
     }
-    let (front, rest) = bytes.split_at(6);
+    let (front, rest) = bytes.split_at(ENTRY_LEN);
     let plan = match front[1] {
         NO_PLAN => None,
         pit if pit < 6 => Some(pit),
@@ -170,6 +173,7 @@ pub(crate) fn entry_at(bytes: &[u8], short: FileFault) -> Result<(Entry, &[u8]),
     ))
 }
 
+/// A digest, which has to be the one that was computed.
 pub(crate) fn digest_at<'b>(
     bytes: &'b [u8],
     short: FileFault,

@@ -4,11 +4,14 @@
 mod contents;
 mod faults;
 mod fields;
+mod laws;
 mod reading;
+mod sizes;
 mod source;
 mod writing;
 
 pub use contents::Loaded;
 pub use faults::FileFault;
+pub use laws::files_tell_images_apart;
 pub use reading::read_image;
 pub use writing::write_level;

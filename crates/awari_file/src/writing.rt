@@ -6,25 +6,18 @@ ghost use Rattle.std.specs.Io.KnownBytes.{Appends};
 ghost use Rattle.sha2.specs.Sha256.{sha256};
 ghost use Rattle.awari_table.specs.declared.TheConstants.{HIGHEST_LEVEL};
 ghost use Rattle.awari_table.specs.Counts.{inner_of, faults_of, Grew};
+ghost use Rattle.awari_file.specs.declared.sizes.TheConstants.{BUFFERED};
 ghost use Rattle.awari_file.specs.FileText.{header_text, entry_text, body_text, file_text};
 ghost use Rattle.awari_file.specs.Source.{Puts};
 
 use crate::faults::FileFault;
-use crate::fields::{ENTRY_LEN, MAGIC, NO_PLAN, VERSION};
+use crate::fields::{MAGIC, NO_PLAN, VERSION};
+use crate::sizes::{BUFFER_LEN, BUFFERED, ENTRY_LEN, HEADER_LEN};
 use awari_rank::size;
 use awari_table::{Counted, Entry, Level};
 use byteorder::{BigEndian, ByteOrder};
 use sha2::{Digest, Sha256};
 use std::io::Write;
-
-/// The bytes of the header.
-const HEADER_LEN: usize = 52;
-
-/// A buffer that lies on the stack, in bytes.
-const BUFFER_LEN: usize = 4080;
-
-/// How many entries the buffer has room for.
-const BUFFERED: usize = 680;
 
 /// What stands before the entries.
 fn header_of(level: u8, limit: u32, below: &[u8; 32]) -> [u8; 52]
@@ -41,6 +34,7 @@ fn header_of(level: u8, limit: u32, below: &[u8; 32]) -> [u8; 52]
     header
 }
 
+/// What stands for an entry.
 fn bytes_of(entry: &Entry) -> [u8; 6]
     ensures { result ≡ entry_text entry.now }
 {
@@ -51,6 +45,7 @@ fn bytes_of(entry: &Entry) -> [u8; 6]
     bytes
 }
 
+/// Writes the bytes, and hashes them.
 fn put<W: Write>(
     writer: &mut Counted<W>,
     hasher: &mut Sha256,
@@ -70,12 +65,13 @@ fn put<W: Write>(
     }
 }
 
+/// Writes entries that fit the buffer.
 fn put_some<W: Write>(
     writer: &mut Counted<W>,
     hasher: &mut Sha256,
     entries: &[Entry],
 ) -> Result<(), FileFault>
-    requires { length entries.now ≤ 680 }
+    requires { length entries.now ≤ BUFFERED }
     ensures ok { OnOk result (Puts (W.contents (inner_of writer.old)) (W.contents (inner_of writer.new)) hasher.old hasher.new (flat_map entry_text entries.now)) }
     ensures err { OnErr result (Grew (faults_of writer.old) (faults_of writer.new)) }
     ensures write { IfErr result (λ e. e ≡ FileFault.Write) }
@@ -91,6 +87,7 @@ fn put_some<W: Write>(
     put(writer, hasher, &buf[..len])
 }
 
+/// Writes the entries, a buffer at a time.
 fn put_entries<W: Write>(
     writer: &mut Counted<W>,
     hasher: &mut Sha256,
@@ -103,21 +100,25 @@ fn put_entries<W: Write>(
 {
     let mut rest = entries;
     while !rest.is_empty() {
-        let (front, after) = rest.split_at(rest.len().min(BUFFERED));
+        let (front, after) = rest.split_at(rest.len().min(BUFFERED as usize));
         put_some(writer, hasher, front)?;
         rest = after;
     }
     Ok(())
 }
 
-/// Writes the file of a level, and gives its digest.
+/// Writes the file of a level over the file whose digest is `below`, zeros for level 0, and gives
+/// the digest that it ends in. It takes no memory, and doesn't flush.
+///
+/// It is refused as 70 where the writer answers a fault or takes no byte, and then nothing is known
+/// of what the writer holds.
 pub fn write_level<W: Write>(
     level: &Level,
     below: [u8; 32],
     writer: &mut Counted<W>,
 ) -> Result<[u8; 32], FileFault>
     ensures written { OnOk result (Appends (W.contents (inner_of writer.old)) (W.contents (inner_of writer.new)) (file_text 1 level.now below)) }
-    ensures digest { IfOk result (λ d. d ≡ sha256 (body_text 1 level.now below)) }
+    ensures digest { IfOk result (λ digest. digest ≡ sha256 (body_text 1 level.now below)) }
     ensures write { IfErr result (λ e. e ≡ FileFault.Write) }
     ensures grew { OnErr result (Grew (faults_of writer.old) (faults_of writer.new)) }
 {

@@ -1,4 +1,4 @@
-use Rattle.std.proofs.Common.{◌≡◌, ◌∙◌, ◌++◌, List, ℕ, Ok, Err, sym, ap}
+use Rattle.std.proofs.Common.{◌≡◌, ◌∙◌, ◌++◌, List, Ok, Err, sym, ap}
 use Rattle.std.proofs.lemmas.Result.{err_from_is_err_and}
 use Rattle.awari_table.specs.declared.images.Entry.{Entry}
 use Rattle.awari_file.proofs.WholeLaws.{known_bytes, bytes_at, both_bytes, known_header, known_fails, known_gives, start_at, header_bad, entries_bad, end_bad, all_ok, loaded_of, known_stops, stops_in_header, stops_in_entries, stops_in_end}

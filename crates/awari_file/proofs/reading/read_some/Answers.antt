@@ -1,4 +1,4 @@
-use Rattle.std.proofs.Common.{◌≡◌, ◌≤◌, ◌*◌, ◌∙◌, List, ℕ, Err, length, take, sym, ap, arith, length-take}
+use Rattle.std.proofs.Common.{◌≡◌, ◌*◌, ◌∙◌, List, Err, take, sym, ap, arith, length-take}
 use Rattle.std.proofs.lemmas.Result.{err_from_is_err_and}
 use Rattle.awari_table.specs.declared.images.Entry.{Entry}
 use Rattle.awari_file.specs.declared.faults.FileFault.{FileFault}
