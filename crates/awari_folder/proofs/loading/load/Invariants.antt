@@ -1,0 +1,5 @@
+use Rattle.awari_theory.specs.Truth.{TellsTruth}
+use Rattle.awari_folder.proofs.loading.load.Given as goal
+
+abbrev pub invariant-loop-level : goal.invariant-loop-level
+invariant-loop-level g l = TellsTruth l.shelf
