@@ -1,5 +1,7 @@
 //! Readers and writers that move one byte a call, and fail or are interrupted at one of them.
 
+ghost use Rattle.std.specs.Prelude.{◌≡◌, IfOk};
+
 use crate::levels::{digest_in, right_files, right_shelf};
 use awari_file::{read_image, write_level};
 use awari_table::{Counted, Level};
@@ -13,6 +15,17 @@ enum Bad {
     Fault(ErrorKind),
     /// Nothing is taken.
     Nothing,
+}
+
+impl Bad {
+    fn answer(self) -> io::Result<usize>
+        ensures { IfOk result (λ n. n ≡ 0) }
+    {
+        match self {
+            Bad::Fault(kind) => Err(Error::from(kind)),
+            Bad::Nothing => Ok(0),
+        }
+    }
 }
 
 /// Counts the calls of a stream, of which some are bad.
@@ -34,17 +47,14 @@ impl Calls {
         }
     }
 
-    /// Whether this call is to go well, and where not, what it answers.
-    fn next(&mut self) -> Option<io::Result<usize>> {
+    /// What this call is to answer, none where it goes well.
+    fn next(&mut self) -> Option<Bad> {
         self.made = self.made.saturating_add(1);
         if self.made < self.first_bad || self.bad == 0 {
             return None;
         }
         self.bad -= 1;
-        Some(match self.kind {
-            Bad::Fault(kind) => Err(Error::from(kind)),
-            Bad::Nothing => Ok(0),
-        })
+        Some(self.kind)
     }
 }
 
@@ -57,8 +67,8 @@ struct Slow<'a> {
 
 impl Read for Slow<'_> {
     fn read(&mut self, buf: &mut [u8]) -> io::Result<usize> {
-        if let Some(answer) = self.calls.next() {
-            return answer;
+        if let Some(bad) = self.calls.next() {
+            return bad.answer();
         }
         match self.bytes {
             [first, rest @ ..] if !buf.is_empty() => {
@@ -81,8 +91,8 @@ struct Sink {
 
 impl Write for Sink {
     fn write(&mut self, buf: &[u8]) -> io::Result<usize> {
-        if let Some(answer) = self.calls.next() {
-            return answer;
+        if let Some(bad) = self.calls.next() {
+            return bad.answer();
         }
         if buf.is_empty() {
             return Ok(0);
@@ -94,8 +104,8 @@ impl Write for Sink {
     fn flush(&mut self) -> io::Result<()> {
         self.flushes = self.flushes.saturating_add(1);
         match self.calls.next() {
-            Some(Err(error)) => Err(error),
-            _ => Ok(()),
+            Some(bad) => bad.answer().map(|_| ()),
+            None => Ok(()),
         }
     }
 }
