@@ -3,7 +3,6 @@ use Rattle.std.specs.Prelude.{◌≡◌, ◌≢◌, ℕ, List, [], ◌∷◌, �
 use Rattle.awari_table.specs.declared.images.Image.{Image}
 use Rattle.awari_table.specs.Shelves.{Consistent}
 use Rattle.awari_file.specs.declared.contents.Loaded.{Loaded}
-use Rattle.awari_file.specs.declared.faults.FileFault.{FileFault}
 use Rattle.awari_file.specs.FileText.{IsFileOf}
 use Rattle.awari_file.specs.Reading.{file_in, Fails}
 use Rattle.awari_verify.specs.VerifyFault.{IsDue}

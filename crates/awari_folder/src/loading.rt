@@ -1,8 +1,9 @@
 //! A shelf from the files in a folder.
 
-ghost use Rattle.std.specs.Prelude.{◌≡◌, IfOk, IfErr, OnOk, IfSome};
+ghost use Rattle.std.specs.Prelude.{◌≡◌, ◌+◌, IfOk, IfErr, OnOk, IfSome, length};
 ghost use Rattle.awari_table.specs.Counts.{inner_of};
 ghost use Rattle.awari_theory.specs.Truth.{TellsTruth};
+ghost use Rattle.awari_folder.specs.FolderFault.{Names, NamesLevel};
 ghost use Rattle.awari_folder.specs.NextFile.{IsNextFile, IsFileFault};
 
 use crate::faults::FolderFault;
@@ -34,14 +35,11 @@ pub struct Stored {
 /// where it is not read, 80 where it does not name the digest of the file before it, 83 where the
 /// level is not right over those below. It takes memory for names, entries and an `Arc` for each
 /// level; want of it is 84.
-pub fn load<R: Files>(
-    files: &R,
-    alloc: Global,
-    folder: Path<'_>,
-) -> Result<Stored, FolderFault>
+pub fn load<R: Files>(files: &R, alloc: Global, folder: Path<'_>) -> Result<Stored, FolderFault>
     // What the shelf says of each of its boards is the truth: following its plans secures the
     // value, soon, and the value is what the board is worth.
     ensures meaning { IfOk result (λ stored. TellsTruth stored.shelf) }
+    ensures named { IfErr result NamesLevel }
 {
     let mut shelf = Shelf::empty();
     let mut digest = [0u8; 32];
@@ -62,7 +60,9 @@ fn open_level<R: Files>(
     alloc: Global,
     folder: Path<'_>,
     level: u8,
-) -> Result<Option<R::File>, FolderFault> {
+) -> Result<Option<R::File>, FolderFault>
+    ensures { IfErr result (Names level) }
+{
     let path = path_of(alloc, folder, level)?;
     match fs::open(files, path.as_path()) {
         Ok(file) => Ok(Some(file)),
@@ -82,6 +82,8 @@ fn put_on<R: Read>(
     ensures ok { IfSome (R.remaining (inner_of reader.old)) (λ bytes. IfOk result (IsNextFile shelf.old below bytes shelf.new)) }
     ensures fault { IfSome (R.remaining (inner_of reader.old)) (λ bytes. IfErr result (IsFileFault shelf.old below bytes)) }
     ensures meaning { OnOk result (TellsTruth shelf.new) }
+    ensures levels { OnOk result (length shelf.new ≡ length shelf.old + 1) }
+    ensures named { IfErr result (Names (length shelf.old)) }
 {
     let level = shelf.levels();
     let loaded = match read_image(alloc, reader) {

@@ -3,6 +3,7 @@
 ghost use Rattle.std.specs.Prelude.{◌≡◌, IfOk, IfErr};
 ghost use Rattle.sha2.specs.Sha256.{sha256};
 ghost use Rattle.awari_file.specs.FileText.{body_text};
+ghost use Rattle.awari_folder.specs.FolderFault.{Names};
 
 use crate::faults::FolderFault;
 use crate::names::{path_of, path_of_new};
@@ -30,6 +31,7 @@ pub fn save<R: Files>(
     below: [u8; 32],
 ) -> Result<[u8; 32], FolderFault>
     ensures digest { IfOk result (λ digest. digest ≡ sha256 (body_text 1 level.now below)) }
+    ensures named { IfErr result (Names level.now.level) }
 {
     let number = level.number();
     let path = path_of(alloc, folder, number)?;
@@ -37,20 +39,19 @@ pub fn save<R: Files>(
     let Ok(file) = fs::create(files, new.as_path()) else {
         return Err(FolderFault::Open { level: number });
     };
-    match write_whole(level, below, file) {
+    let fault = match write_whole(level, below, file) {
         Ok(digest) => match fs::rename(files, new.as_path(), path.as_path()) {
-            Ok(()) => Ok(digest),
-            Err(_) => Err(FolderFault::Open { level: number }),
+            Ok(()) => return Ok(digest),
+            Err(_) => FolderFault::Open { level: number },
         },
-        Err(fault) => {
-            // What is left of it stands in nobody's way.
-            let _ = fs::remove_file(files, new.as_path());
-            Err(FolderFault::File {
-                level: number,
-                fault,
-            })
-        }
-    }
+        Err(fault) => FolderFault::File {
+            level: number,
+            fault,
+        },
+    };
+    // What was written of the new file is of no use; that it could not be removed is no other fault.
+    let _ = fs::remove_file(files, new.as_path());
+    Err(fault)
 }
 
 /// Writes the file of a level, and sees it on the disk.
