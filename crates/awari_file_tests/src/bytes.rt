@@ -1,8 +1,8 @@
 //! The bytes of files, and what is answered where some are changed, missing or too many.
 
-use crate::levels::{digest_in, file_of, right_files, right_shelf};
-use awari_file::{FileFault, read_image};
-use awari_table::{Counted, Entry, Shelf};
+use crate::levels::{changed, digest_in, digested, right_files, right_shelf};
+use awari_file::read_image;
+use awari_table::{Counted, Shelf};
 use awari_verify::{Rule, VerifyFault, verify};
 use sha2::{Digest, Sha256};
 use std::alloc::Global;
@@ -21,22 +21,6 @@ fn fault_of(alloc: Global, bytes: &[u8]) -> u8 {
         Ok(_) => 0,
         Err(fault) => fault.number(),
     }
-}
-
-/// The file with this byte at this place.
-fn changed(alloc: Global, file: &[u8], place: usize, byte: u8) -> Result<Vec<u8>, Fail> {
-    let mut bytes = file.to_vec(alloc)?;
-    *bytes.get_mut(place).ok_or("a place in the file")? = byte;
-    Ok(bytes)
-}
-
-/// The file with this byte at this place, and the digest made right.
-fn digested(alloc: Global, file: &[u8], place: usize, byte: u8) -> Result<Vec<u8>, Fail> {
-    let mut bytes = changed(alloc, file, place, byte)?;
-    bytes.truncate(bytes.len().saturating_sub(32));
-    let digest = Sha256::digest(bytes.as_slice());
-    bytes.extend_from_slice(&digest)?;
-    Ok(bytes)
 }
 
 #[test]

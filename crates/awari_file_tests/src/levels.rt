@@ -3,6 +3,7 @@
 use awari_file::write_level;
 use awari_table::{Counted, Shelf, TableText};
 use awari_verify::verify;
+use sha2::{Digest, Sha256};
 use std::alloc::Global;
 use std::sync::Arc;
 use std::test::Fail;
@@ -65,4 +66,25 @@ pub(crate) fn digest_in(file: &[u8]) -> [u8; 32] {
         digest.copy_from_slice(&file[file.len() - 32..]);
     }
     digest
+}
+
+/// The file with this byte at this place.
+pub(crate) fn changed(alloc: Global, file: &[u8], place: usize, byte: u8) -> Result<Vec<u8>, Fail> {
+    let mut bytes = file.to_vec(alloc)?;
+    *bytes.get_mut(place).ok_or("a place in the file")? = byte;
+    Ok(bytes)
+}
+
+/// The file with this byte at this place, and the digest made right.
+pub(crate) fn digested(
+    alloc: Global,
+    file: &[u8],
+    place: usize,
+    byte: u8,
+) -> Result<Vec<u8>, Fail> {
+    let mut bytes = changed(alloc, file, place, byte)?;
+    bytes.truncate(bytes.len().saturating_sub(32));
+    let digest = Sha256::digest(bytes.as_slice());
+    bytes.extend_from_slice(&digest)?;
+    Ok(bytes)
 }

@@ -1,8 +1,11 @@
-//! Tests of the file of a level, by public calls alone: its bytes, and every fault in its place.
+//! Tests of the files of levels and of folders of them, by public calls alone: their bytes, and every
+//! fault in its place.
 #![tactic(auto)]
 
 #[cfg(test)]
 mod bytes;
+#[cfg(test)]
+mod folders;
 #[cfg(test)]
 mod levels;
 #[cfg(test)]
