@@ -7,3 +7,4 @@ pub mod TableFault
 pub mod Place
 pub mod Reading
 pub mod Blocks
+pub mod Counts

@@ -51,6 +51,13 @@ impl Level {
         self.image.limit
     }
 
+    /// The entries of all boards of the level, in order of rank.
+    pub fn entries(&self) -> &[Entry]
+        ensures { result.now ≡ self.now.entries }
+    {
+        self.image.entries.as_slice()
+    }
+
     /// The entry of the board of this rank, which must be below the number of boards of the level.
     pub fn entry_at(&self, rank: u32) -> Entry
         requires { rank < size_of self.now.level }

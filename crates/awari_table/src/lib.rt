@@ -1,8 +1,10 @@
 //! Tables of Awari: what is known of each board of a level, the shelf that holds the levels that
-//! were verified, from the lowest on, and the text that tables are spelled in.
+//! were verified, from the lowest on, the text that tables are spelled in, and readers and writers whose
+//! faults are counted.
 #![tactic(auto)]
 
 mod blocks;
+mod counted;
 mod faults;
 mod images;
 mod laws;
@@ -11,6 +13,7 @@ mod lines;
 mod shelves;
 mod text;
 
+pub use counted::Counted;
 pub use faults::TableFault;
 pub use images::{Counts, Entries, Entry, Image};
 pub use laws::{

@@ -1,0 +1,85 @@
+-- Steps over a reader: what a piece of its bytes gives is what all that it has left gives.
+use Rattle.std.proofs.Common.{◌≡◌, ℕ, zero, suc, ◌<◌, ◌≤◌, List, [], ◌∷◌, ◌++◌, length, Option, Some, None, Result, Ok, Err, refl, sym, ap, ◌∙◌, append_assoc}
+use Rattle.std.specs.Io.KnownBytes.{Consumes, IsAtEnd}
+use Rattle.sha2.specs.Hashers.{Holds256}
+use Rattle.sha2.specs.declared.Sha256.{Sha256}
+use Rattle.awari_file.specs.declared.faults.FileFault.{FileFault}
+use Rattle.awari_file.specs.declared.faults.FileFault.TheVariants as faults
+use Rattle.awari_file.specs.Reading.{Fails}
+use Rattle.awari_file.specs.Source as source
+use Rattle.awari_file.specs.Source.{IsAt, StopsIn, Unfinished}
+use Rattle.awari_file.specs.FileText.{IsBytes}
+use Rattle.awari_file.proofs.FieldLaws.{Reader, IsField}
+use Rattle.awari_file.proofs.FileLaws.{IsWhy, piece_fails, piece_gives, read_stops}
+
+abbrev some : List ℕ → Option (List ℕ)
+some xs = Some xs
+
+some_is : (xs ys : List ℕ) → some xs ≡ some ys → xs ≡ ys
+some_is xs ys h = cc
+
+pub consumes_some : (a b : Option (List ℕ)) (xs front : List ℕ) → a ≡ Some xs → Consumes a b front → (rest : List ℕ) × (b ≡ Some rest) × (xs ≡ front ++ rest)
+consumes_some None b xs front h c = absurd cc
+consumes_some (Some ys) None xs front h c = absurd c
+consumes_some (Some ys) (Some rest) xs front h c = (rest, refl, sym (some_is ys xs h) ∙ c)
+
+end_is : (b : Option (List ℕ)) (rest : List ℕ) → b ≡ Some rest → IsAtEnd b → rest ≡ []
+end_is None rest h e = absurd cc
+end_is (Some xs) rest h e = sym (some_is xs rest h) ∙ e
+
+pub why_is : (s : FileFault) (b : Option (List ℕ)) (rest : List ℕ) (old new : ℕ) → b ≡ Some rest → source.IsWhy s b old new → IsWhy s rest
+why_is faults.Truncated b rest old new h why = end_is b rest h why
+why_is faults.Read b rest old new h why = tt
+why_is faults.Memory b rest old new h why = why
+why_is faults.Magic b rest old new h why = why
+why_is faults.Version b rest old new h why = why
+why_is faults.LevelOutOfRange b rest old new h why = why
+why_is faults.Count b rest old new h why = why
+why_is faults.EntryForm b rest old new h why = why
+why_is faults.Digest b rest old new h why = why
+why_is faults.Trailing b rest old new h why = why
+why_is faults.Write b rest old new h why = why
+
+IsBytes-cons : (x : ℕ) (xs : List ℕ) → x < 256 → IsBytes xs → IsBytes (x ∷ xs)
+IsBytes-cons x xs h p zero = h
+IsBytes-cons x xs h p (suc i) = p i
+
+pub IsBytes-append : (xs ys : List ℕ) → IsBytes xs → IsBytes ys → IsBytes (xs ++ ys)
+IsBytes-append [] ys p q = q
+IsBytes-append (x ∷ xs) ys p q = IsBytes-cons x (xs ++ ys) (p zero) (IsBytes-append xs ys (λ k. p (suc k)) q)
+
+-- a fault in the piece that came
+pub step_fails : (Y : Type 0) (n : ℕ) (f : Reader Y) → IsField Y n f → (s e : FileFault) (front whole left : List ℕ) (a b : Option (List ℕ)) (hasher : Sha256) (old new : ℕ)
+    → IsAt whole left a hasher → Consumes a b front → (length front < n → source.IsWhy s b old new) → f s front ≡ Err e → Fails e (f faults.Truncated left)
+step_fails Y n f is s e front whole left a b hasher old new here took why h =
+    let (rest, b-is, parts) = consumes_some a b left front here.known_is took in
+    rw parts (piece_fails Y n f is s e front rest (λ lt. why_is s b rest old new b-is (why lt)) h)
+
+-- a value in the piece that came
+pub step_gives : (Y : Type 0) (n : ℕ) (f : Reader Y) → IsField Y n f → (s : FileFault) (front whole left : List ℕ) (x : Y × List ℕ) (a b : Option (List ℕ)) (hasher after : Sha256)
+    → IsAt whole left a hasher → Consumes a b front → length front ≤ n → f s front ≡ Ok x → ((m : List ℕ) → Holds256 hasher m → Holds256 after (m ++ front)) → IsBytes front
+    → (rest : List ℕ) × IsAt whole rest b after × (f faults.Truncated left ≡ Ok (x.0, rest))
+step_gives Y n f is s front whole left x a b hasher after here took small h holds fits =
+    let (rest, b-is, parts) = consumes_some a b left front here.known_is took in (
+      rest,
+      record {
+        done = here.done ++ front;
+        holds = holds here.done here.holds;
+        known_is = b-is;
+        parts = here.parts ∙ ap (λ (t : List ℕ). here.done ++ t) parts ∙ sym (append_assoc here.done front rest);
+        bytes = IsBytes-append here.done front here.bytes fits;
+      },
+      ap (f faults.Truncated) parts ∙ piece_gives Y n f is s front rest x small h,
+    )
+
+-- the reader's fault in the piece that came
+pub step_stops : (Y : Type 0) (n : ℕ) (f : Reader Y) → IsField Y n f → (s : FileFault) (front whole left : List ℕ) (a b : Option (List ℕ)) (hasher : Sha256)
+    → IsAt whole left a hasher → Consumes a b front → f s front ≡ Err faults.Read → StopsIn (Unfinished f) left b
+step_stops Y n f is s front whole left a b hasher here took h =
+    let (rest, b-is, parts) = consumes_some a b left front here.known_is took in
+    record { came = front; rest = rest; known_is = b-is; parts = parts; kind = read_stops Y n f is s front h }
+
+-- the fault that a `?` passes on
+pub fault_was : {X : Type 0} (r : Result X FileFault) (d e : FileFault) → r ≡ Err d → r ≡ Err e → d ≡ e
+fault_was (Ok x) d e h k = absurd cc
+fault_was (Err f) d e h k = cc

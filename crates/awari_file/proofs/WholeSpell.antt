@@ -1,0 +1,240 @@
+-- A file is spelled and read again.
+use Rattle.std.proofs.Common.{◌≡◌, ℕ, zero, suc, ◌+◌, ◌-◌, ◌^◌, ◌<◌, ◌≤◌, Bool, true, cond, eqb, leb, List, [], ◌∷◌, ◌++◌, length, take, Option, Some, None, Result, Ok, Err, refl, sym, ap, subst, ◌∙◌, append_assoc, arith}
+use Rattle.std.specs.Prelude.{IfSome, IfOk, OnOk, map}
+use Rattle.std.specs.List.{flat_map, range_with_len, AllByRecursion}
+use Rattle.std.specs.Int.{w8, w16, w32, w64, to_be_bytes}
+use Rattle.std.proofs.lemmas.Bool.{eqb-true, eq-eqb, leb-true, le-leb}
+use Rattle.std.proofs.lemmas.List.{append-nil, nil_from_length}
+use Rattle.std.proofs.lemmas.Slice.Eq.{bytes_eq-Decides}
+use Rattle.std.specs.Str.{bytes_eq}
+use Rattle.sha2.specs.Sha256.{sha256}
+use Rattle.sha2.proofs.Facts256.{length-sha256}
+use Rattle.awari_rank.specs.Rank.{size_of}
+use Rattle.awari_rank.proofs.Examples.{sizes}
+use Rattle.awari_table.specs.declared.TheConstants.{HIGHEST_LEVEL}
+use Rattle.awari_table.specs.declared.images.Entry.{Entry}
+use Rattle.awari_table.specs.declared.images.Image.{Image}
+use Rattle.awari_file.specs.declared.contents.Header.{Header}
+use Rattle.awari_file.specs.declared.contents.Loaded.{Loaded}
+use Rattle.awari_file.specs.declared.faults.FileFault.{FileFault}
+use Rattle.awari_file.specs.declared.faults.FileFault.TheVariants as faults
+use Rattle.awari_file.specs.FileText.{magic_number, header_text, entry_text, body_text, file_text, found_of, HasFile, IsFileOf}
+use Rattle.awari_file.specs.Reading.{◌>>=◌, field, number_if, any_number, as_they_are, digest_if, header_at, entries_at, end_at, file_in}
+use Rattle.awari_file.specs.Source.{Answers}
+use Rattle.awari_file.proofs.FieldLaws.{bind_ok, ok_is}
+use Rattle.awari_file.proofs.FileLaws.{below_on, limit_on, count_on, nought_on, level_on, version_on}
+use Rattle.awari_file.proofs.SpellLaws.{IsBytes, Takes, Takes-then, Spells, field_again, field_takes, wide16, wide32, wide64, number-spells, any-spells, byte-spells, bytes-spell, test_ok}
+use Rattle.awari_file.proofs.EntryLaws.{entries_again, entries_take}
+use Rattle.awari_file.proofs.WholeLaws.{loaded_of, all_ok, before_is}
+
+-- ---- the header
+
+abbrev is_version : ℕ → Bool
+is_version n = eqb n 1
+
+-- a header whose numbers fit their bytes
+pub record FitsHeader (h : Header) : Type 0 where
+  pub version : h.version ≡ 1
+  pub level : h.level ≤ HIGHEST_LEVEL
+  pub limit : h.limit < 2 ^ 32
+  pub below : length h.below ≡ 32
+  pub bytes : IsBytes h.below
+
+abbrev text_of : Header → List ℕ
+text_of h = header_text h.version h.level h.limit h.below
+
+abbrev magic_spells : Spells ℕ 4 (number_if w32 (λ n. eqb n magic_number) faults.Magic) (to_be_bytes w32) (λ n. (n < 2 ^ 32) × (eqb n magic_number ≡ true))
+magic_spells = number-spells w32 (2 ^ 32) wide32 (λ n. eqb n magic_number) faults.Magic
+
+abbrev version_spells : Spells ℕ 2 (number_if w16 is_version faults.Version) (to_be_bytes w16) (λ n. (n < 2 ^ 16) × (is_version n ≡ true))
+version_spells = number-spells w16 (2 ^ 16) wide16 is_version faults.Version
+
+count_spells : (l : ℕ) → Spells ℕ 8 (number_if w64 (λ n. eqb n (size_of l)) faults.Count) (to_be_bytes w64) (λ n. (n < 2 ^ 64) × (eqb n (size_of l) ≡ true))
+count_spells l = number-spells w64 (2 ^ 64) wide64 (λ n. eqb n (size_of l)) faults.Count
+
+header_take : (s : FileFault) (bytes : List ℕ) (x : Header × List ℕ) → IsBytes bytes → header_at s bytes ≡ Ok x → Takes bytes (text_of x.0) x.1 × FitsHeader x.0
+unfolding header_at
+header_take s bytes x fits e =
+    let a = bind_ok (field 4 (number_if w32 (λ n. eqb n magic_number) faults.Magic) s bytes) (λ y. version_on s y.1) x e in
+    let b = bind_ok (field 2 (number_if w16 is_version faults.Version) s a.0.1) (λ y. level_on y.0 s y.1) x a.2 in
+    let v = b.0.0 in
+    let c = bind_ok (field 1 (number_if w8 (λ n. leb n HIGHEST_LEVEL) faults.LevelOutOfRange) s b.0.1) (λ y. nought_on v y.0 s y.1) x b.2 in
+    let l = c.0.0 in
+    let d = bind_ok (field 1 (number_if w8 (λ n. eqb n 0) faults.Version) s c.0.1) (λ y. count_on v l s y.1) x c.2 in
+    let f = bind_ok (field 8 (number_if w64 (λ n. eqb n (size_of l)) faults.Count) s d.0.1) (λ y. limit_on v l s y.1) x d.2 in
+    let h = bind_ok (field 4 (any_number w32) s f.0.1) (λ y. below_on v l y.0 s y.1) x f.2 in
+    let m = h.0.0 in
+    let k = bind_ok (field 32 as_they_are s h.0.1) (λ y. Ok (record { version = v; level = l; limit = m; below = y.0 }, y.1)) x h.2 in
+    let ta = field_takes ℕ 4 (number_if w32 (λ n. eqb n magic_number) faults.Magic) (to_be_bytes w32) (λ n. (n < 2 ^ 32) × (eqb n magic_number ≡ true)) magic_spells s bytes a.0 fits a.1 in
+    let tb = field_takes ℕ 2 (number_if w16 is_version faults.Version) (to_be_bytes w16) (λ n. (n < 2 ^ 16) × (is_version n ≡ true)) version_spells s a.0.1 b.0 ta.0.rest_fits b.1 in
+    let tc = field_takes ℕ 1 (number_if w8 (λ n. leb n HIGHEST_LEVEL) faults.LevelOutOfRange) (λ n. n ∷ []) (λ n. (n < 256) × (leb n HIGHEST_LEVEL ≡ true)) (byte-spells (λ n. leb n HIGHEST_LEVEL) faults.LevelOutOfRange) s b.0.1 c.0 tb.0.rest_fits c.1 in
+    let td = field_takes ℕ 1 (number_if w8 (λ n. eqb n 0) faults.Version) (λ n. n ∷ []) (λ n. (n < 256) × (eqb n 0 ≡ true)) (byte-spells (λ n. eqb n 0) faults.Version) s c.0.1 d.0 tc.0.rest_fits d.1 in
+    let tf = field_takes ℕ 8 (number_if w64 (λ n. eqb n (size_of l)) faults.Count) (to_be_bytes w64) (λ n. (n < 2 ^ 64) × (eqb n (size_of l) ≡ true)) (count_spells l) s d.0.1 f.0 td.0.rest_fits f.1 in
+    let th = field_takes ℕ 4 (any_number w32) (to_be_bytes w32) (λ n. n < 2 ^ 32) (any-spells w32 (2 ^ 32) wide32) s f.0.1 h.0 tf.0.rest_fits h.1 in
+    let tk = field_takes (List ℕ) 32 as_they_are (λ bs. bs) (λ bs. (length bs ≡ 32) × IsBytes bs) (bytes-spell 32) s h.0.1 k.0 th.0.rest_fits k.1 in
+    let whole = Takes-then _ _ _ _ _ ta.0 (Takes-then _ _ _ _ _ tb.0 (Takes-then _ _ _ _ _ tc.0 (Takes-then _ _ _ _ _ td.0 (Takes-then _ _ _ _ _ tf.0 (Takes-then _ _ _ _ _ th.0 tk.0))))) in
+    let magic : a.0.0 ≡ magic_number = eqb-true _ _ ta.1.1 in
+    let nought : d.0.0 ≡ 0 = eqb-true _ _ td.1.1 in
+    let count : f.0.0 ≡ size_of l = eqb-true _ _ tf.1.1 in
+    let made : Header × List ℕ = (record { version = v; level = l; limit = m; below = k.0.0 }, k.0.1) in
+    let parts : bytes ≡ text_of made.0 ++ made.1 =
+    whole.parts ∙ ap (λ (n : ℕ). (to_be_bytes w32 n ++ (to_be_bytes w16 v ++ ((l ∷ []) ++ ((d.0.0 ∷ []) ++ (to_be_bytes w64 f.0.0 ++ (to_be_bytes w32 m ++ k.0.0)))))) ++ k.0.1) magic
+    ∙ ap (λ (n : ℕ). (to_be_bytes w32 magic_number ++ (to_be_bytes w16 v ++ ((l ∷ []) ++ ((n ∷ []) ++ (to_be_bytes w64 f.0.0 ++ (to_be_bytes w32 m ++ k.0.0)))))) ++ k.0.1) nought
+    ∙ ap (λ (n : ℕ). (to_be_bytes w32 magic_number ++ (to_be_bytes w16 v ++ ((l ∷ []) ++ ((0 ∷ []) ++ (to_be_bytes w64 n ++ (to_be_bytes w32 m ++ k.0.0)))))) ++ k.0.1) count in
+    let fit : FitsHeader made.0 = record {
+      version = eqb-true v 1 tb.1.1;
+      level = leb-true _ _ tc.1.1;
+      limit = th.1;
+      below = tk.1.0;
+      bytes = tk.1.1;
+    } in
+    subst (λ (y : Header × List ℕ). Takes bytes (text_of y.0) y.1 × FitsHeader y.0) (ok_is made x k.2) (record { parts = parts; rest_fits = whole.rest_fits }, fit)
+
+abbrev header_with : ℕ → ℕ → ℕ → List ℕ → Header
+header_with v l m below = record { version = v; level = l; limit = m; below = below }
+
+digest-spells : (computed : List ℕ) → length computed ≡ 32 → Spells (List ℕ) 32 (digest_if computed) (λ bs. bs) (λ bs. bs ≡ computed)
+digest-spells computed size = record {
+  len = λ bs same. ap length same ∙ size;
+  again = λ bs same. let is : bytes_eq bs computed ≡ true = (bytes_eq-Decides bs computed).1 same in rw is refl;
+  back = λ bytes bs len fits e. let t = test_ok (bytes_eq bytes computed) bytes bs faults.Digest e in (sym t.1, sym t.1 ∙ (bytes_eq-Decides bytes computed).0 t.0);
+}
+
+below_again : (v l m : ℕ) (s : FileFault) (below rest : List ℕ) → length below ≡ 32 → IsBytes below → below_on v l m s (below ++ rest) ≡ Ok (record { version = v; level = l; limit = m; below = below }, rest)
+below_again v l m s below rest len fits =
+    ap (λ (r : Result (List ℕ × List ℕ) FileFault). r >>= λ y. Ok (header_with v l m y.0, y.1)) (field_again (List ℕ) 32 as_they_are (λ bs. bs) (λ bs. (length bs ≡ 32) × IsBytes bs) (bytes-spell 32) s below rest (len, fits))
+
+limit_again : (v l m : ℕ) (s : FileFault) (below rest : List ℕ) → m < 2 ^ 32 → length below ≡ 32 → IsBytes below → limit_on v l s (to_be_bytes w32 m ++ (below ++ rest)) ≡ Ok (header_with v l m below, rest)
+limit_again v l m s below rest lt len fits =
+    ap (λ (r : Result (ℕ × List ℕ) FileFault). r >>= λ y. below_on v l y.0 s y.1) (field_again ℕ 4 (any_number w32) (to_be_bytes w32) (λ n. n < 2 ^ 32) (any-spells w32 (2 ^ 32) wide32) s m (below ++ rest) lt)
+    ∙ below_again v l m s below rest len fits
+
+count_again : (v l m : ℕ) (s : FileFault) (below rest : List ℕ) → size_of l < 2 ^ 64 → m < 2 ^ 32 → length below ≡ 32 → IsBytes below
+    → count_on v l s (to_be_bytes w64 (size_of l) ++ (to_be_bytes w32 m ++ (below ++ rest))) ≡ Ok (header_with v l m below, rest)
+count_again v l m s below rest small lt len fits =
+    ap (λ (r : Result (ℕ × List ℕ) FileFault). r >>= λ y. limit_on v l s y.1)
+    (field_again ℕ 8 (number_if w64 (λ n. eqb n (size_of l)) faults.Count) (to_be_bytes w64) (λ n. (n < 2 ^ 64) × (eqb n (size_of l) ≡ true)) (count_spells l) s (size_of l) (to_be_bytes w32 m ++ (below ++ rest)) (small, eq-eqb _ _ refl))
+    ∙ limit_again v l m s below rest lt len fits
+
+nought_again : (v l m : ℕ) (s : FileFault) (below rest : List ℕ) → size_of l < 2 ^ 64 → m < 2 ^ 32 → length below ≡ 32 → IsBytes below
+    → nought_on v l s ((0 ∷ []) ++ (to_be_bytes w64 (size_of l) ++ (to_be_bytes w32 m ++ (below ++ rest)))) ≡ Ok (header_with v l m below, rest)
+nought_again v l m s below rest small lt len fits =
+    ap (λ (r : Result (ℕ × List ℕ) FileFault). r >>= λ y. count_on v l s y.1)
+    (field_again ℕ 1 (number_if w8 (λ n. eqb n 0) faults.Version) (λ n. n ∷ []) (λ n. (n < 256) × (eqb n 0 ≡ true)) (byte-spells (λ n. eqb n 0) faults.Version) s 0 (to_be_bytes w64 (size_of l) ++ (to_be_bytes w32 m ++ (below ++ rest))) (omega arith, refl))
+    ∙ count_again v l m s below rest small lt len fits
+
+level_again : (v l m : ℕ) (s : FileFault) (below rest : List ℕ) → l < 256 → l ≤ HIGHEST_LEVEL → size_of l < 2 ^ 64 → m < 2 ^ 32 → length below ≡ 32 → IsBytes below
+    → level_on v s ((l ∷ []) ++ ((0 ∷ []) ++ (to_be_bytes w64 (size_of l) ++ (to_be_bytes w32 m ++ (below ++ rest))))) ≡ Ok (header_with v l m below, rest)
+level_again v l m s below rest byte low small lt len fits =
+    ap (λ (r : Result (ℕ × List ℕ) FileFault). r >>= λ y. nought_on v y.0 s y.1)
+    (field_again ℕ 1 (number_if w8 (λ n. leb n HIGHEST_LEVEL) faults.LevelOutOfRange) (λ n. n ∷ []) (λ n. (n < 256) × (leb n HIGHEST_LEVEL ≡ true)) (byte-spells (λ n. leb n HIGHEST_LEVEL) faults.LevelOutOfRange) s l ((0 ∷ []) ++ (to_be_bytes w64 (size_of l) ++ (to_be_bytes w32 m ++ (below ++ rest)))) (byte, le-leb _ _ low))
+    ∙ nought_again v l m s below rest small lt len fits
+
+version_again : (v l m : ℕ) (s : FileFault) (below rest : List ℕ) → v ≡ 1 → l < 256 → l ≤ HIGHEST_LEVEL → size_of l < 2 ^ 64 → m < 2 ^ 32 → length below ≡ 32 → IsBytes below
+    → version_on s (to_be_bytes w16 v ++ ((l ∷ []) ++ ((0 ∷ []) ++ (to_be_bytes w64 (size_of l) ++ (to_be_bytes w32 m ++ (below ++ rest)))))) ≡ Ok (header_with v l m below, rest)
+version_again v l m s below rest known byte low small lt len fits =
+    ap (λ (r : Result (ℕ × List ℕ) FileFault). r >>= λ y. level_on y.0 s y.1)
+    (field_again ℕ 2 (number_if w16 is_version faults.Version) (to_be_bytes w16) (λ n. (n < 2 ^ 16) × (is_version n ≡ true)) version_spells s v ((l ∷ []) ++ ((0 ∷ []) ++ (to_be_bytes w64 (size_of l) ++ (to_be_bytes w32 m ++ (below ++ rest))))) (omega (arith, known), eq-eqb _ _ known))
+    ∙ level_again v l m s below rest byte low small lt len fits
+
+header_again : (h : Header) (s : FileFault) (rest : List ℕ) → FitsHeader h → size_of h.level < 2 ^ 64 → header_at s (text_of h ++ rest) ≡ Ok (h, rest)
+unfolding header_at
+header_again h s rest fits small =
+    let byte : h.level < 256 = omega (arith, fits.level) in
+    ap (λ (r : Result (ℕ × List ℕ) FileFault). r >>= λ y. version_on s y.1)
+    (field_again ℕ 4 (number_if w32 (λ n. eqb n magic_number) faults.Magic) (to_be_bytes w32) (λ n. (n < 2 ^ 32) × (eqb n magic_number ≡ true)) magic_spells s magic_number
+    (to_be_bytes w16 h.version ++ ((h.level ∷ []) ++ ((0 ∷ []) ++ (to_be_bytes w64 (size_of h.level) ++ (to_be_bytes w32 h.limit ++ (h.below ++ rest)))))) (omega arith, refl))
+    ∙ version_again h.version h.level h.limit s h.below rest fits.version byte fits.level small fits.limit fits.below fits.bytes
+
+-- ---- the digest
+
+end_again : (body : List ℕ) (s : FileFault) → end_at body s (sha256 body) ≡ Ok (sha256 body)
+unfolding end_at
+end_again body s =
+    let one = field_again (List ℕ) 32 (digest_if (sha256 body)) (λ bs. bs) (λ bs. bs ≡ sha256 body) (digest-spells (sha256 body) (length-sha256 body)) s (sha256 body) [] refl in
+    let regrouped : sha256 body ≡ sha256 body ++ [] = sym (append-nil (sha256 body)) in
+    ap (λ (bytes : List ℕ). field 32 (digest_if (sha256 body)) s bytes >>= λ digest. cond (eqb (length digest.1) 0) (Ok digest.0) (Err faults.Trailing)) regrouped
+    ∙ ap (λ (r : Result (List ℕ × List ℕ) FileFault). r >>= λ digest. cond (eqb (length digest.1) 0) (Ok digest.0) (Err faults.Trailing)) one
+
+end_take : (body : List ℕ) (s : FileFault) (bytes digest : List ℕ) → IsBytes bytes → end_at body s bytes ≡ Ok digest → (bytes ≡ digest) × (digest ≡ sha256 body)
+unfolding end_at
+end_take body s bytes digest fits e =
+    let a = bind_ok (field 32 (digest_if (sha256 body)) s bytes) (λ d. cond (eqb (length d.1) 0) (Ok d.0) (Err faults.Trailing)) digest e in
+    let t = field_takes (List ℕ) 32 (digest_if (sha256 body)) (λ bs. bs) (λ bs. bs ≡ sha256 body) (digest-spells (sha256 body) (length-sha256 body)) s bytes a.0 fits a.1 in
+    let k = test_ok (eqb (length a.0.1) 0) a.0.0 digest faults.Trailing a.2 in
+    let nothing : a.0.1 ≡ [] = nil_from_length a.0.1 (eqb-true _ _ k.0) in
+    (t.0.parts ∙ ap (λ (r : List ℕ). a.0.0 ++ r) nothing ∙ append-nil a.0.0 ∙ k.1, sym k.1 ∙ t.1)
+
+-- ---- all of it
+
+pub file_again : (version : ℕ) (image : Image) (below : List ℕ) → HasFile version image below → size_of image.level < 2 ^ 64 → file_in (file_text version image below) ≡ Ok (found_of version image below)
+file_again version image below has small =
+    let body = body_text version image below in
+    let h = header_with version image.level image.limit below in
+    let fits : FitsHeader h = record { version = has.known; level = has.low; limit = has.limit; below = has.whole; bytes = has.bytes } in
+    let es = flat_map entry_text image.entries in
+    let header : header_at faults.Truncated (file_text version image below) ≡ Ok (h, es ++ sha256 body) = ap (header_at faults.Truncated) (append_assoc (text_of h) es (sha256 body)) ∙ header_again h faults.Truncated (es ++ sha256 body) fits small in
+    all_ok (file_text version image below) h (es ++ sha256 body) (length image.entries) image.entries (sha256 body) body (sha256 body) has.sized header (entries_again image.entries faults.Truncated (sha256 body) has.entries) refl (end_again body faults.Truncated)
+
+abbrev after_header : List ℕ → Header → Result (List Entry × List ℕ) FileFault → Result Loaded FileFault
+after_header bytes h read = read >>= λ entries. end_at (take (length bytes - length entries.1) bytes) faults.Truncated entries.1 >>= λ digest. Ok (loaded_of h entries.0 digest)
+
+pub file_take : (bytes : List ℕ) (x : Loaded) → IsBytes bytes → file_in bytes ≡ Ok x → IsFileOf bytes x
+unfolding file_in
+file_take bytes x fits e =
+    let a = bind_ok (header_at faults.Truncated bytes) (λ y. after_header bytes y.0 (entries_at (size_of y.0.level) faults.Truncated y.1)) x e in
+    let h = a.0.0 in
+    let b = bind_ok (entries_at (size_of h.level) faults.Truncated a.0.1) (λ y. end_at (take (length bytes - length y.1) bytes) faults.Truncated y.1 >>= λ digest. Ok (loaded_of h y.0 digest)) x a.2 in
+    let c = bind_ok (end_at (take (length bytes - length b.0.1) bytes) faults.Truncated b.0.1) (λ digest. Ok (loaded_of h b.0.0 digest)) x b.2 in
+    let th = header_take faults.Truncated bytes a.0 fits a.1 in
+    let te = entries_take (size_of h.level) faults.Truncated a.0.1 b.0 th.0.rest_fits b.1 in
+    let both = Takes-then bytes (text_of h) a.0.1 (flat_map entry_text b.0.0) b.0.1 th.0 te.0 in
+    let body = text_of h ++ flat_map entry_text b.0.0 in
+    let before : take (length bytes - length b.0.1) bytes ≡ body = before_is bytes body b.0.1 both.parts in
+    let tc = end_take body faults.Truncated b.0.1 c.0 te.0.rest_fits (ap (λ (d : List ℕ). end_at d faults.Truncated b.0.1) (sym before) ∙ c.1) in
+    subst (IsFileOf bytes) (ok_is (loaded_of h b.0.0 c.0) x c.2) (record {
+      version = h.version;
+      has = record { known = th.1.version; low = th.1.level; limit = th.1.limit; whole = th.1.below; bytes = th.1.bytes; sized = te.1; entries = te.2 };
+      text = both.parts ∙ ap (λ (d : List ℕ). body ++ d) (tc.0 ∙ tc.1);
+      digest = tc.1;
+    })
+
+-- ---- the sizes of the levels fit 8 bytes
+
+abbrev IsSmall : ℕ → Type 0
+IsSmall n = n < 2 ^ 64
+
+all_at : (n a i : ℕ) → AllByRecursion IsSmall (map size_of (range_with_len a n)) → i < n → IsSmall (size_of (a + i))
+all_at zero a i small lt = absurd (omega (arith, lt))
+all_at (suc n) a zero small lt = subst (λ (m : ℕ). IsSmall (size_of m)) (omega arith) small.0
+all_at (suc n) a (suc i) small lt = subst (λ (m : ℕ). IsSmall (size_of m)) (omega arith) (all_at n (a + 1) i small.1 (omega (arith, lt)))
+
+sizes_small : AllByRecursion IsSmall (map size_of (range_with_len 0 13))
+sizes_small = subst (AllByRecursion IsSmall) (sym sizes) (omega arith, (omega arith, (omega arith, (omega arith, (omega arith, (omega arith, (omega arith, (omega arith, (omega arith, (omega arith, (omega arith, (omega arith, (omega arith, tt)))))))))))))
+
+size_small : (n : ℕ) → n ≤ HIGHEST_LEVEL → size_of n < 2 ^ 64
+size_small n low = subst (λ (m : ℕ). IsSmall (size_of m)) (omega arith) (all_at 13 0 n sizes_small (omega (arith, low)))
+
+found_in : (bytes : List ℕ) (r : Result Loaded FileFault) → IsBytes bytes → Answers (λ (x : Loaded). x) r (file_in bytes) → IfOk r (λ x. IsFileOf bytes x)
+found_in bytes (Ok x) fits given = file_take bytes x fits given
+found_in bytes (Err e) fits given = tt
+
+found_ok : (bytes : List ℕ) (r : Result Loaded FileFault) → Answers (λ (x : Loaded). x) r (file_in bytes) → OnOk r (IsBytes bytes) → IfOk r (λ x. IsFileOf bytes x)
+found_ok bytes (Ok x) given fits = found_in bytes (Ok x) fits given
+found_ok bytes (Err e) given fits = tt
+
+pub is_found : (a : Option (List ℕ)) (r : Result Loaded FileFault) → IfSome a (λ bytes. Answers (λ (x : Loaded). x) r (file_in bytes)) → OnOk r (IfSome a IsBytes) → IfSome a (λ bytes. IfOk r (λ x. IsFileOf bytes x))
+is_found None r given fits = tt
+is_found (Some bytes) r given fits = found_ok bytes r given fits
+
+pub is_only : (a : Option (List ℕ)) (r : Result Loaded FileFault) → IfSome a (λ bytes. Answers (λ (x : Loaded). x) r (file_in bytes))
+    → IfSome a (λ bytes. (version : ℕ) (image : Image) (below : List ℕ) → HasFile version image below → bytes ≡ file_text version image below → Answers (λ (x : Loaded). x) r (Ok (found_of version image below)))
+is_only None r given = tt
+is_only (Some bytes) r given = λ version image below has text. subst (λ (read : Result Loaded FileFault). Answers (λ (x : Loaded). x) r read) (ap file_in text ∙ file_again version image below has (size_small image.level has.low)) given
+
+pub told_apart : (version other : ℕ) (image shown : Image) (below under : List ℕ) → HasFile version image below → HasFile other shown under
+    → file_text version image below ≡ file_text other shown under → (image ≡ shown) × (below ≡ under)
+told_apart version other image shown below under has also same =
+    let read = sym (file_again version image below has (size_small image.level has.low)) ∙ ap file_in same ∙ file_again other shown under also (size_small shown.level also.low) in
+    let found = ok_is (found_of version image below) (found_of other shown under) read in
+    (ap (λ (x : Loaded). x.image) found, ap (λ (x : Loaded). x.below) found)

@@ -1,0 +1,73 @@
+use Rattle.std.proofs.Common.{◌≡◌, ◌≤◌, ◌*◌, ◌∙◌, ◌++◌, [], List, ℕ, Err, refl, sym, ap, arith, append_assoc}
+use Rattle.std.proofs.lemmas.List.{append-nil}
+use Rattle.std.proofs.lemmas.Result.{err_from_is_err_and}
+use Rattle.awari_table.specs.declared.images.Entry.{Entry}
+use Rattle.awari_file.specs.declared.faults.FileFault.{FileFault}
+use Rattle.awari_file.specs.declared.faults.FileFault.TheVariants.{Truncated, Read}
+use Rattle.awari_file.specs.Reading.{entries_at}
+use Rattle.awari_file.proofs.FieldLaws.{took}
+use Rattle.awari_file.proofs.FileLaws.{entries-is, fails_along}
+use Rattle.awari_file.proofs.Steps.{fault_was}
+use Rattle.awari_file.proofs.Loop.{with_front-nil, some_go_on, some_end, all_done}
+use Rattle.awari_file.proofs.reading.read_entries.Goals as goal
+
+pub loop-left-init : goal.loop-left-init
+loop-left-init g c = record {
+  room = omega arith;
+  faults = refl;
+  read = λ whole left here. ([], left, [], sym (append-nil c.args.entries.now.items), here, refl, λ more. with_front-nil (entries_at c.args.count Truncated more));
+}
+
+pub returns-in_err-read_some-clause-parsed : goal.returns-in_err-read_some-clause-parsed
+returns-in_err-read_some-clause-parsed g c = λ whole left here.
+    let p = err_from_is_err_and c.from_residual.result c.from_residual.ensures.1 in
+    let (new, rest, taken, items, at, parts, so_far) = c.loop-left.invariant.read whole left here in
+    let a = c.min-some.result in
+    let le : a ≤ c.loop-left.left = omega (arith, c.min-some.ensures) in
+    rw (p.1, p.2) (fails_along c.in_err-read_some.field-0.0 (entries_at a Truncated rest) (entries_at c.args.count Truncated left)
+    (λ h. ap (entries_at c.args.count Truncated) parts ∙ some_end c.in_err-read_some.field-0.0 new c.loop-left.left a Truncated rest (entries_at c.args.count Truncated (taken ++ rest)) le (so_far rest) h)
+    (c.in_err-read_some.ensures.parsed whole rest at))
+
+pub returns-in_err-read_some-clause-stops : goal.returns-in_err-read_some-clause-stops
+returns-in_err-read_some-clause-stops g c = λ whole left here is.
+    let p = err_from_is_err_and c.from_residual.result c.from_residual.ensures.1 in
+    let same : c.in_err-read_some.field-0.0 ≡ Read = sym p.2 ∙ fault_was c.from_residual.result p.0 Read p.1 is in
+    let (new, rest, taken, items, at, parts, so_far) = c.loop-left.invariant.read whole left here in
+    let a = c.min-some.result in
+    let le : a ≤ c.loop-left.left = omega (arith, c.min-some.ensures) in
+    let stop = c.in_err-read_some.ensures.stops whole rest at (ap (λ (e : FileFault). Err e) same) in
+    record {
+      came = taken ++ stop.came;
+      rest = stop.rest;
+      known_is = stop.known_is;
+      parts = parts ∙ ap (λ (l : List ℕ). taken ++ l) stop.parts ∙ sym (append_assoc taken stop.came stop.rest);
+      kind = some_end Truncated new c.loop-left.left a Truncated stop.came (entries_at c.args.count Truncated (taken ++ stop.came)) le (so_far stop.came) stop.kind;
+    }
+
+pub loop-left-preserved : goal.loop-left-preserved
+loop-left-preserved g c =
+    let a = c.min-some.result in
+    let le : a ≤ c.loop-left.left = omega (arith, c.min-some.ensures) in
+    record {
+      room = omega (arith, c.in_ok-read_some.ensures.len, c.read_some.ensures.capacity, c.loop-left.invariant.room, le);
+      faults = c.in_ok-read_some.ensures.clean ∙ c.loop-left.invariant.faults;
+      read = λ whole left here.
+          let (new, rest, taken, items, at, parts, so_far) = c.loop-left.invariant.read whole left here in
+          let (more, after, items2, at2, gives) = c.in_ok-read_some.ensures.parsed whole rest at in
+          let t = took (List Entry) (6 * a) (entries_at a) (entries-is a) Truncated Truncated rest (more, after) gives in (
+            new ++ more,
+            after,
+            taken ++ t.front,
+            items2 ∙ ap (λ (l : List Entry). l ++ more) items ∙ append_assoc c.args.entries.now.items new more,
+            at2,
+            parts ∙ ap (λ (l : List ℕ). taken ++ l) t.parts ∙ sym (append_assoc taken t.front after),
+            λ behind. some_go_on new more c.loop-left.left a Truncated (t.front ++ behind) behind (entries_at c.args.count Truncated (taken ++ (t.front ++ behind))) le (t.again behind) (so_far (t.front ++ behind))
+                ∙ ap (entries_at c.args.count Truncated) (sym (append_assoc taken t.front behind)),
+          );
+    }
+
+pub returns-clause-parsed : goal.returns-clause-parsed
+returns-clause-parsed g c = λ whole left here.
+    let (new, rest, taken, items, at, parts, so_far) = c.loop-left.invariant.read whole left here in
+    let none : c.loop-left.left ≡ 0 = omega arith in
+    (new, rest, items, at, ap (entries_at c.args.count Truncated) parts ∙ all_done new c.loop-left.left Truncated rest (entries_at c.args.count Truncated (taken ++ rest)) none (so_far rest))

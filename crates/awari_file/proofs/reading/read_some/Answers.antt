@@ -1,0 +1,62 @@
+use Rattle.std.proofs.Common.{◌≡◌, ◌*◌, ◌∙◌, List, Err, take, sym, ap, arith, length-take}
+use Rattle.std.proofs.lemmas.Result.{err_from_is_err_and}
+use Rattle.awari_table.specs.declared.images.Entry.{Entry}
+use Rattle.awari_file.specs.declared.faults.FileFault.{FileFault}
+use Rattle.awari_file.specs.declared.faults.FileFault.TheVariants as faults
+use Rattle.awari_file.specs.Reading.{entries_at}
+use Rattle.awari_file.proofs.FileLaws.{entries-is, read_from_short, memory_from_short}
+use Rattle.awari_file.proofs.Steps.{step_fails, step_gives, step_stops, fault_was}
+use Rattle.awari_file.proofs.SpellLaws.{IsBytes-take}
+use Rattle.awari_file.proofs.reading.read_some.Goals as goal
+
+pub returns-in_err-push_entries-clause-parsed : goal.returns-in_err-push_entries-clause-parsed
+returns-in_err-push_entries-clause-parsed g c = λ whole left here.
+    let p = err_from_is_err_and c.from_residual.result c.from_residual.ensures.1 in
+    let n = c.args.count in
+    let front = take c.fill-came.result.count c.fill-came.new.buf in
+    let size = length-take c.fill-came.result.count c.fill-came.new.buf in
+    rw (p.1, p.2) (step_fails (List Entry) (6 * n) (entries_at n) (entries-is n) c.fill-came.result.short c.in_err-push_entries.field-0.0 front whole left _ _ c.args.hasher.now _ _ here c.fill-came.ensures.bytes
+    (λ lt. c.fill-came.ensures.why (omega (arith, size))) c.in_err-push_entries.ensures.added)
+
+pub returns-in_err-push_entries-clause-read : goal.returns-in_err-push_entries-clause-read
+returns-in_err-push_entries-clause-read g c = λ is.
+    let p = err_from_is_err_and c.from_residual.result c.from_residual.ensures.1 in
+    let n = c.args.count in
+    let front = take c.fill-came.result.count c.fill-came.new.buf in
+    let same : c.in_err-push_entries.field-0.0 ≡ faults.Read = sym p.2 ∙ fault_was c.from_residual.result p.0 faults.Read p.1 is in
+    c.fill-came.ensures.read (read_from_short (List Entry) (6 * n) (entries_at n) (entries-is n) c.fill-came.result.short front (c.in_err-push_entries.ensures.added ∙ ap (λ (e : FileFault). Err e) same))
+
+pub returns-in_err-push_entries-clause-memory : goal.returns-in_err-push_entries-clause-memory
+returns-in_err-push_entries-clause-memory g c = λ is.
+    let p = err_from_is_err_and c.from_residual.result c.from_residual.ensures.1 in
+    let n = c.args.count in
+    let front = take c.fill-came.result.count c.fill-came.new.buf in
+    let same : c.in_err-push_entries.field-0.0 ≡ faults.Memory = sym p.2 ∙ fault_was c.from_residual.result p.0 faults.Memory p.1 is in
+    c.fill-came.ensures.memory (memory_from_short (List Entry) (6 * n) (entries_at n) (entries-is n) c.fill-came.result.short front (c.in_err-push_entries.ensures.added ∙ ap (λ (e : FileFault). Err e) same))
+
+pub returns-clause-parsed : goal.returns-clause-parsed
+returns-clause-parsed g c = λ whole left here.
+    let n = c.args.count in
+    let front = take c.fill-came.result.count c.fill-came.new.buf in
+    let size = length-take c.fill-came.result.count c.fill-came.new.buf in
+    let (new, over, items, read) = c.in_ok-push_entries.ensures.added in
+    let (rest, at, gives) = step_gives (List Entry) (6 * n) (entries_at n) (entries-is n) c.fill-came.result.short front whole left (new, over) _ _ c.args.hasher.now c.update.new.self here c.fill-came.ensures.bytes
+    (omega (arith, size)) read c.update.ensures (IsBytes-take c.fill-came.result.count c.fill-came.new.buf c.fill-came.ensures.range) in
+    (new, rest, items, at, gives)
+
+pub returns-in_err-push_entries-clause-stops : goal.returns-in_err-push_entries-clause-stops
+returns-in_err-push_entries-clause-stops g c = λ whole left here is.
+    let p = err_from_is_err_and c.from_residual.result c.from_residual.ensures.1 in
+    let n = c.args.count in
+    let front = take c.fill-came.result.count c.fill-came.new.buf in
+    let same : c.in_err-push_entries.field-0.0 ≡ faults.Read = sym p.2 ∙ fault_was c.from_residual.result p.0 faults.Read p.1 is in
+    step_stops (List Entry) (6 * n) (entries_at n) (entries-is n) c.fill-came.result.short front whole left _ _ c.args.hasher.now here c.fill-came.ensures.bytes (c.in_err-push_entries.ensures.added ∙ ap (λ (e : FileFault). Err e) same)
+
+pub returns-clause-clean : goal.returns-clause-clean
+returns-clause-clean g c =
+    let n = c.args.count in
+    let front = take c.fill-came.result.count c.fill-came.new.buf in
+    let size = length-take c.fill-came.result.count c.fill-came.new.buf in
+    let (new, over, items, read) = c.in_ok-push_entries.ensures.added in
+    let taken = (entries-is n).takes c.fill-came.result.short front (new, over) read in
+    c.fill-came.ensures.whole (omega (arith, size, taken, c.fill-came.ensures.count))

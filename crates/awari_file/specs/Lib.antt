@@ -1,0 +1,4 @@
+pub mod FileText
+pub mod FileFault
+pub mod Reading
+pub mod Source

@@ -1,0 +1,71 @@
+-- What a reader has left, and what a hasher holds of what came before.
+use Rattle.std.specs.Prelude.{◌≡◌, ◌⊎◌, IsOk, ℕ, List, ◌++◌, Option, Some, Result, Ok, Err}
+use Rattle.std.specs.Io.KnownBytes.{Appends, IsAtEnd}
+use Rattle.sha2.specs.Hashers.{Holds256}
+use Rattle.sha2.specs.declared.Sha256.{Sha256}
+use Rattle.awari_table.specs.Counts.{Grew}
+use Rattle.awari_file.specs.declared.faults.FileFault.{FileFault}
+use Rattle.awari_file.specs.declared.faults.FileFault.TheVariants as faults
+use Rattle.awari_table.specs.declared.images.Entry.{Entry}
+use Rattle.awari_file.specs.FileText.{IsBytes}
+use Rattle.awari_file.specs.Reading.{entries_at, end_at, file_in, Fails}
+
+-- Why fewer bytes came than were asked for: the input ended, or the reader answered a fault, which was counted.
+abbrev pub IsWhy : FileFault → Option (List ℕ) → ℕ → ℕ → Type 0
+IsWhy faults.Truncated known old new = IsAtEnd known
+IsWhy faults.Read known old new = Grew old new
+IsWhy e known old new = ⊥
+
+-- The reader stopped within what was left, and what came of it is of this kind.
+pub record StopsIn (P : List ℕ → Type 0) (left : List ℕ) (known : Option (List ℕ)) : Type 0 where
+  pub came : List ℕ
+  pub rest : List ℕ
+  pub known_is : known ≡ Some rest
+  pub parts : left ≡ came ++ rest
+  pub kind : P came
+
+-- reading ends before the field does
+abbrev pub Unfinished : {Y : Type 0} → (FileFault → List ℕ → Result Y FileFault) → List ℕ → Type 0
+Unfinished f came = f faults.Truncated came ≡ Err faults.Truncated
+
+-- What came of a file has no fault, but that it ends early, or is whole.
+abbrev pub IsSoundSoFar : List ℕ → Type 0
+IsSoundSoFar came = (file_in came ≡ Err faults.Truncated) ⊎ IsOk (file_in came)
+
+-- the same of what came from its digest on
+abbrev pub IsSoundEnd : List ℕ → List ℕ → Type 0
+IsSoundEnd body came = (end_at body faults.Truncated came ≡ Err faults.Truncated) ⊎ IsOk (end_at body faults.Truncated came)
+
+-- of the whole input left is what the reader has, and the hasher holds what stands before it
+pub record IsAt (whole left : List ℕ) (known : Option (List ℕ)) (hasher : Sha256) : Type 0 where
+  pub done : List ℕ
+  pub holds : Holds256 hasher done
+  pub known_is : known ≡ Some left
+  pub parts : whole ≡ done ++ left
+  pub bytes : IsBytes done
+
+-- A step that began where left was there: it read a field, and the reader and the hasher are behind it; or the field has
+-- this fault.
+abbrev pub Advances : {X Y : Type 0} → (X → Y) → (FileFault → List ℕ → Result (Y × List ℕ) FileFault) → List ℕ → List ℕ → Option (List ℕ) → Sha256 → Result X FileFault → Type 0
+Advances view f whole left known hasher (Ok x) = (rest : List ℕ) × IsAt whole rest known hasher × (f faults.Truncated left ≡ Ok (view x, rest))
+Advances view f whole left known hasher (Err e) = Fails e (f faults.Truncated left)
+
+-- the answer is what reading gives, but for the faults of the reader and of memory
+abbrev pub Answers : {X Y : Type 0} → (X → Y) → Result X FileFault → Result Y FileFault → Type 0
+Answers view (Ok x) read = read ≡ Ok (view x)
+Answers view (Err e) read = Fails e read
+
+-- entries were put behind the old ones as reading gives them; or reading gives this fault
+abbrev pub Adds : {X : Type 0} → List Entry → List Entry → Result X FileFault → Result (List Entry × List ℕ) FileFault → Type 0
+Adds old new (Ok x) read = (entries : List Entry) × (rest : List ℕ) × (new ≡ old ++ entries) × (read ≡ Ok (entries, rest))
+Adds old new (Err e) read = read ≡ Err e
+
+-- the same over a reader
+abbrev pub AddsAt : {X : Type 0} → List Entry → List Entry → ℕ → List ℕ → List ℕ → Option (List ℕ) → Sha256 → Result X FileFault → Type 0
+AddsAt old new count whole left known hasher (Ok x) = (entries : List Entry) × (rest : List ℕ) × (new ≡ old ++ entries) × IsAt whole rest known hasher × (entries_at count faults.Truncated left ≡ Ok (entries, rest))
+AddsAt old new count whole left known hasher (Err e) = Fails e (entries_at count faults.Truncated left)
+
+-- bytes were put behind what a writer holds, and behind what a hasher holds
+pub record Puts (old new : Option (List ℕ)) (before after : Sha256) (bytes : List ℕ) : Type 0 where
+  pub appends : Appends old new bytes
+  pub holds : (m : List ℕ) → Holds256 before m → Holds256 after (m ++ bytes)

@@ -1,0 +1,23 @@
+//! What stands in the file of a level.
+
+use awari_table::Image;
+
+/// What stands before the entries.
+#[derive(Clone, Copy)]
+pub(crate) struct Header {
+    pub version: u16,
+    pub level: u8,
+    pub limit: u32,
+    pub below: [u8; 32],
+}
+
+/// What was read from the file of a level. Its bytes are right; what it says of boards is unchecked.
+#[derive(Debug, Drop)]
+pub struct Loaded {
+    /// The level, and what is said of its boards.
+    pub image: Image,
+    /// What the file says is the digest of the file of the level below, zeros for level 0.
+    pub below: [u8; 32],
+    /// The last 32 bytes of the file, which are the SHA-256 of all before them.
+    pub digest: [u8; 32],
+}

@@ -1,0 +1,189 @@
+//! The fields of a file, each at the front of some bytes. `short` is the fault where there are too
+//! few.
+
+ghost use Rattle.std.specs.Prelude.{◌≡◌, ◌≤◌, ◌==◌, nat_le, IfOk};
+ghost use Rattle.std.specs.Int.{w8, w16, w32, w64};
+ghost use Rattle.awari_rank.specs.Rank.{size_of};
+ghost use Rattle.awari_table.specs.declared.TheConstants.{HIGHEST_LEVEL};
+ghost use Rattle.awari_file.specs.FileText.{magic_number};
+ghost use Rattle.awari_file.specs.Reading.{Gives, field, number_if, any_number, as_they_are, digest_if, header_at, entry_of};
+
+use crate::contents::Header;
+use crate::faults::FileFault;
+use crate::sizes::ENTRY_LEN;
+use awari_rank::size;
+use awari_table::{Entry, HIGHEST_LEVEL};
+
+/// `AWDB`.
+pub(crate) const MAGIC: u32 = 0x4157_4442;
+
+/// The version that is written, and the one that is read.
+pub(crate) const VERSION: u16 = 1;
+
+/// Stands in the place of a pit where there is no plan.
+pub(crate) const NO_PLAN: u8 = 255;
+
+fn magic_at(bytes: &[u8], short: FileFault) -> Result<(u32, &[u8]), FileFault>
+    ensures { Gives (λ x. (x.0, x.1.now)) result (field 4 (number_if w32 (λ n. n == magic_number) FileFault.Magic) short bytes.now) }
+{
+    if bytes.len() < 4 {
+        return Err(short);
+    }
+    let (front, rest) = bytes.split_at(4);
+    let magic = u32::from_be_bytes([front[0], front[1], front[2], front[3]]);
+    if magic != MAGIC {
+        return Err(FileFault::Magic);
+    }
+    Ok((magic, rest))
+}
+
+fn version_at(bytes: &[u8], short: FileFault) -> Result<(u16, &[u8]), FileFault>
+    ensures { Gives (λ x. (x.0, x.1.now)) result (field 2 (number_if w16 (λ n. n == 1) FileFault.Version) short bytes.now) }
+{
+    if bytes.len() < 2 {
+        return Err(short);
+    }
+    let (front, rest) = bytes.split_at(2);
+    let version = u16::from_be_bytes([front[0], front[1]]);
+    if version != VERSION {
+        return Err(FileFault::Version);
+    }
+    Ok((version, rest))
+}
+
+fn level_at(bytes: &[u8], short: FileFault) -> Result<(u8, &[u8]), FileFault>
+    ensures value { Gives (λ x. (x.0, x.1.now)) result (field 1 (number_if w8 (λ n. nat_le n HIGHEST_LEVEL) FileFault.LevelOutOfRange) short bytes.now) }
+    ensures low { IfOk result (λ x. x.0 ≤ HIGHEST_LEVEL) }
+{
+    if bytes.len() < 1 {
+        return Err(short);
+    }
+    let (front, rest) = bytes.split_at(1);
+    let level = u8::from_be_bytes([front[0]]);
+    if level > HIGHEST_LEVEL {
+        return Err(FileFault::LevelOutOfRange);
+    }
+    Ok((level, rest))
+}
+
+/// The byte that is always 0.
+fn nought_at(bytes: &[u8], short: FileFault) -> Result<(u8, &[u8]), FileFault>
+    ensures { Gives (λ x. (x.0, x.1.now)) result (field 1 (number_if w8 (λ n. n == 0) FileFault.Version) short bytes.now) }
+{
+    if bytes.len() < 1 {
+        return Err(short);
+    }
+    let (front, rest) = bytes.split_at(1);
+    let nought = u8::from_be_bytes([front[0]]);
+    if nought != 0 {
+        return Err(FileFault::Version);
+    }
+    Ok((nought, rest))
+}
+
+/// The number of entries, which is that of the level's boards.
+fn count_at(level: u8, bytes: &[u8], short: FileFault) -> Result<(u64, &[u8]), FileFault>
+    requires { level ≤ HIGHEST_LEVEL }
+    ensures { Gives (λ x. (x.0, x.1.now)) result (field 8 (number_if w64 (λ n. n == size_of level) FileFault.Count) short bytes.now) }
+{
+    if bytes.len() < 8 {
+        return Err(short);
+    }
+    let (front, rest) = bytes.split_at(8);
+    let count = u64::from_be_bytes([
+        front[0], front[1], front[2], front[3], front[4], front[5], front[6], front[7],
+    ]);
+    if count != u64::from(size(level)) {
+        return Err(FileFault::Count);
+    }
+    Ok((count, rest))
+}
+
+fn limit_at(bytes: &[u8], short: FileFault) -> Result<(u32, &[u8]), FileFault>
+    ensures { Gives (λ x. (x.0, x.1.now)) result (field 4 (any_number w32) short bytes.now) }
+{
+    if bytes.len() < 4 {
+        return Err(short);
+    }
+    let (front, rest) = bytes.split_at(4);
+    Ok((
+        u32::from_be_bytes([front[0], front[1], front[2], front[3]]),
+        rest,
+    ))
+}
+
+/// 32 bytes, of which any may stand there.
+fn bytes_at(bytes: &[u8], short: FileFault) -> Result<([u8; 32], &[u8]), FileFault>
+    ensures { Gives (λ x. (x.0, x.1.now)) result (field 32 as_they_are short bytes.now) }
+{
+    if bytes.len() < 32 {
+        return Err(short);
+    }
+    let (front, rest) = bytes.split_at(32);
+    let mut taken = [0u8; 32];
+    taken.copy_from_slice(front);
+    Ok((taken, rest))
+}
+
+/// All that stands before the entries.
+#[tactic(auto, unfolding(crate::specs::Reading::header_at))]
+pub(crate) fn header_of(bytes: &[u8], short: FileFault) -> Result<(Header, &[u8]), FileFault>
+    ensures value { Gives (λ x. (x.0, x.1.now)) result (header_at short bytes.now) }
+    ensures low { IfOk result (λ x. x.0.level ≤ HIGHEST_LEVEL) }
+{
+    let (_, rest) = magic_at(bytes, short)?;
+    let (version, rest) = version_at(rest, short)?;
+    let (level, rest) = level_at(rest, short)?;
+    let (_, rest) = nought_at(rest, short)?;
+    let (_, rest) = count_at(level, rest, short)?;
+    let (limit, rest) = limit_at(rest, short)?;
+    let (below, rest) = bytes_at(rest, short)?;
+    Ok((
+        Header {
+            version,
+            level,
+            limit,
+            below,
+        },
+        rest,
+    ))
+}
+
+/// One entry.
+pub(crate) fn entry_at(bytes: &[u8], short: FileFault) -> Result<(Entry, &[u8]), FileFault>
+    ensures { Gives (λ x. (x.0, x.1.now)) result (field 6 entry_of short bytes.now) }
+{
+    if bytes.len() < ENTRY_LEN {
+        return Err(short);
+    }
+    let (front, rest) = bytes.split_at(ENTRY_LEN);
+    let plan = match front[1] {
+        NO_PLAN => None,
+        pit if pit < 6 => Some(pit),
+        _ => return Err(FileFault::EntryForm),
+    };
+    let dist = u32::from_be_bytes([front[2], front[3], front[4], front[5]]);
+    Ok((
+        Entry {
+            value: front[0].cast_signed(),
+            plan,
+            dist,
+        },
+        rest,
+    ))
+}
+
+/// A digest, which has to be the one that was computed.
+pub(crate) fn digest_at<'b>(
+    bytes: &'b [u8],
+    short: FileFault,
+    computed: &[u8; 32],
+) -> Result<([u8; 32], &'b [u8]), FileFault>
+    ensures { Gives (λ x. (x.0, x.1.now)) result (field 32 (digest_if computed.now) short bytes.now) }
+{
+    let (digest, rest) = bytes_at(bytes, short)?;
+    if digest != *computed {
+        return Err(FileFault::Digest);
+    }
+    Ok((digest, rest))
+}

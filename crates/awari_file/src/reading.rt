@@ -1,0 +1,208 @@
+//! Reading the file of a level.
+
+ghost use Rattle.std.specs.Prelude.{◌≡◌, ◌≢◌, ◌≤◌, ◌+◌, List, ℕ, IfOk, OnOk, IsOk, IfSome, Some, Ok, Err, vec_len};
+ghost use Rattle.std.specs.Vec.{vec_capacity};
+ghost use Rattle.awari_rank.specs.Rank.{size_of};
+ghost use Rattle.awari_table.specs.declared.TheConstants.{HIGHEST_LEVEL};
+ghost use Rattle.awari_table.specs.Counts.{inner_of, faults_of, Grew};
+ghost use Rattle.awari_table.specs.declared.images.Image.{Image};
+ghost use Rattle.sha2.specs.Hashers.{Holds256};
+ghost use Rattle.awari_file.specs.declared.sizes.TheConstants.{BUFFERED};
+ghost use Rattle.awari_file.specs.FileText.{IsBytes, HasFile, IsFileOf, file_text, found_of};
+ghost use Rattle.awari_file.specs.Reading.{header_at, entries_at, end_at, file_in};
+ghost use Rattle.awari_file.specs.Source.{IsAt, StopsIn, Unfinished, IsSoundEnd, IsSoundSoFar, Advances, Adds, AddsAt, Answers};
+
+use crate::contents::{Header, Loaded};
+use crate::faults::FileFault;
+use crate::fields::{digest_at, entry_at, header_of};
+use crate::sizes::{BUFFER_LEN, BUFFERED, END_LEN, ENTRY_LEN, HEADER_LEN};
+use crate::source::fill;
+use awari_rank::size;
+use awari_table::{Counted, Entries, Entry, Image};
+use sha2::{Digest, Sha256};
+use std::alloc::Global;
+use std::io::Read;
+
+/// All of the header is asked for at once, and its fields are judged in order on what came. So a
+/// fault that the reader answered comes after the faults of the fields before it.
+fn read_header<R: Read>(reader: &mut Counted<R>, hasher: &mut Sha256) -> Result<Header, FileFault>
+    ensures parsed { (whole left : List ℕ) → IsAt whole left (R.remaining (inner_of reader.old)) hasher.old
+        → Advances (λ h. h) header_at whole left (R.remaining (inner_of reader.new)) hasher.new result }
+    ensures stops { (whole left : List ℕ) → IsAt whole left (R.remaining (inner_of reader.old)) hasher.old
+        → result ≡ Err FileFault.Read → StopsIn (Unfinished header_at) left (R.remaining (inner_of reader.new)) }
+    ensures low { IfOk result (λ h. h.level ≤ HIGHEST_LEVEL) }
+    ensures clean { OnOk result (faults_of reader.new ≡ faults_of reader.old) }
+    ensures read { result ≡ Err FileFault.Read → Grew (faults_of reader.old) (faults_of reader.new) }
+    ensures memory { result ≢ Err FileFault.Memory }
+    ensures faults { faults_of reader.old ≤ faults_of reader.new }
+{
+    let mut buf = [0u8; HEADER_LEN];
+    let came = fill(reader, &mut buf, HEADER_LEN);
+    let fields = &buf[..came.count];
+    let (header, _) = header_of(fields, came.short)?;
+    hasher.update(fields);
+    Ok(header)
+}
+
+/// Puts as many entries as the bytes have behind those that are there, for which there is room.
+fn push_entries(
+    entries: &mut Vec<Entry>,
+    count: u32,
+    bytes: &[u8],
+    short: FileFault,
+) -> Result<(), FileFault>
+    requires { vec_len entries.old + count ≤ vec_capacity entries.old }
+    ensures added { Adds entries.old.items entries.new.items result (entries_at count short bytes.now) }
+    ensures len { OnOk result (vec_len entries.new ≡ vec_len entries.old + count) }
+    ensures capacity { vec_capacity entries.new ≡ vec_capacity entries.old }
+{
+    let mut rest = bytes;
+    for _ in 0..count {
+        let (entry, after) = entry_at(rest, short)?;
+        entries.push_reserved(entry);
+        rest = after;
+    }
+    Ok(())
+}
+
+/// So many entries, and nothing behind them. They fit the buffer.
+fn read_some<R: Read>(
+    reader: &mut Counted<R>,
+    hasher: &mut Sha256,
+    entries: &mut Vec<Entry>,
+    count: u32,
+) -> Result<(), FileFault>
+    requires few { count ≤ BUFFERED }
+    requires room { vec_len entries.old + count ≤ vec_capacity entries.old }
+    ensures parsed { (whole left : List ℕ) → IsAt whole left (R.remaining (inner_of reader.old)) hasher.old
+        → AddsAt entries.old.items entries.new.items count whole left (R.remaining (inner_of reader.new)) hasher.new result }
+    ensures stops { (whole left : List ℕ) → IsAt whole left (R.remaining (inner_of reader.old)) hasher.old
+        → result ≡ Err FileFault.Read → StopsIn (Unfinished (entries_at count)) left (R.remaining (inner_of reader.new)) }
+    ensures len { OnOk result (vec_len entries.new ≡ vec_len entries.old + count) }
+    ensures capacity { vec_capacity entries.new ≡ vec_capacity entries.old }
+    ensures clean { OnOk result (faults_of reader.new ≡ faults_of reader.old) }
+    ensures read { result ≡ Err FileFault.Read → Grew (faults_of reader.old) (faults_of reader.new) }
+    ensures memory { result ≢ Err FileFault.Memory }
+    ensures faults { faults_of reader.old ≤ faults_of reader.new }
+{
+    let mut buf = [0u8; BUFFER_LEN];
+    let came = fill(reader, &mut buf, count as usize * ENTRY_LEN);
+    let bytes = &buf[..came.count];
+    push_entries(entries, count, bytes, came.short)?;
+    hasher.update(bytes);
+    Ok(())
+}
+
+/// Reads no further than the last entry: what comes then is judged by the digest of all before it.
+fn read_entries<R: Read>(
+    reader: &mut Counted<R>,
+    hasher: &mut Sha256,
+    entries: &mut Vec<Entry>,
+    count: u32,
+) -> Result<(), FileFault>
+    requires { vec_len entries.old + count ≤ vec_capacity entries.old }
+    ensures parsed { (whole left : List ℕ) → IsAt whole left (R.remaining (inner_of reader.old)) hasher.old
+        → AddsAt entries.old.items entries.new.items count whole left (R.remaining (inner_of reader.new)) hasher.new result }
+    ensures stops { (whole left : List ℕ) → IsAt whole left (R.remaining (inner_of reader.old)) hasher.old
+        → result ≡ Err FileFault.Read → StopsIn (Unfinished (entries_at count)) left (R.remaining (inner_of reader.new)) }
+    ensures clean { OnOk result (faults_of reader.new ≡ faults_of reader.old) }
+    ensures read { result ≡ Err FileFault.Read → Grew (faults_of reader.old) (faults_of reader.new) }
+    ensures memory { result ≢ Err FileFault.Memory }
+    ensures faults { faults_of reader.old ≤ faults_of reader.new }
+{
+    let mut left = count;
+    while left > 0 {
+        let some = left.min(BUFFERED);
+        read_some(reader, hasher, entries, some)?;
+        left -= some;
+    }
+    Ok(())
+}
+
+/// The digest, which has to be that of what was read, and the end of the input behind it.
+fn read_end<R: Read>(reader: &mut Counted<R>, hasher: Sha256) -> Result<[u8; 32], FileFault>
+    ensures parsed { (left body : List ℕ) → R.remaining (inner_of reader.old) ≡ Some left → Holds256 hasher body
+        → Answers (λ d. d) result (end_at body FileFault.Truncated left) }
+    ensures stops { (left body : List ℕ) → R.remaining (inner_of reader.old) ≡ Some left → Holds256 hasher body
+        → result ≡ Err FileFault.Read → StopsIn (IsSoundEnd body) left (R.remaining (inner_of reader.new)) }
+    ensures bytes { OnOk result (IfSome (R.remaining (inner_of reader.old)) IsBytes) }
+    ensures clean { OnOk result (faults_of reader.new ≡ faults_of reader.old) }
+    ensures read { result ≡ Err FileFault.Read → Grew (faults_of reader.old) (faults_of reader.new) }
+    ensures memory { result ≢ Err FileFault.Memory }
+    ensures faults { faults_of reader.old ≤ faults_of reader.new }
+{
+    let computed = hasher.finalize();
+    let mut buf = [0u8; END_LEN];
+    let came = fill(reader, &mut buf, END_LEN);
+    let (digest, rest) = digest_at(&buf[..came.count], came.short, &computed)?;
+    if !rest.is_empty() {
+        return Err(FileFault::Trailing);
+    }
+    match came.short {
+        FileFault::Read => Err(FileFault::Read),
+        _ => Ok(digest),
+    }
+}
+
+/// The file as reading from left to right has it.
+fn read_all<R: Read>(alloc: Global, reader: &mut Counted<R>) -> Result<Loaded, FileFault>
+    ensures exact { IfSome (R.remaining (inner_of reader.old)) (λ bytes. Answers (λ x. x) result (file_in bytes)) }
+    ensures bytes { OnOk result (IfSome (R.remaining (inner_of reader.old)) IsBytes) }
+    ensures clean { OnOk result (faults_of reader.new ≡ faults_of reader.old) }
+    ensures read { result ≡ Err FileFault.Read → Grew (faults_of reader.old) (faults_of reader.new) }
+    ensures in_order { result ≡ Err FileFault.Read
+        → IfSome (R.remaining (inner_of reader.old)) (λ bytes. StopsIn IsSoundSoFar bytes (R.remaining (inner_of reader.new))) }
+    ensures memory { result ≡ Err FileFault.Memory
+        → IfSome (R.remaining (inner_of reader.old)) (λ bytes. IsOk (header_at FileFault.Truncated bytes)) }
+{
+    let mut hasher = Sha256::new();
+    let header = read_header(reader, &mut hasher)?;
+    let count = size(header.level);
+    let mut entries = Vec::with_capacity(alloc, count as usize)?;
+    read_entries(reader, &mut hasher, &mut entries, count)?;
+    let digest = read_end(reader, hasher)?;
+    let below = header.below;
+    Ok(Loaded {
+        image: Image {
+            level: header.level,
+            limit: header.limit,
+            entries: Entries::from(entries),
+        },
+        below,
+        digest,
+    })
+}
+
+/// Reads the file of a level, which has to be all that the reader has left. What it says of the
+/// boards is not judged, and neither is whether `below` is the digest of the file below.
+///
+/// The fields are read in order, each entry being one, and the first fault is answered: 68 where the
+/// reader answers a fault, else 60 where the input ends within the field, else the field's own, 61
+/// to 66. After the digest one more byte is asked for, and 67 is answered if there is one. Room for
+/// all entries is taken after the header; want of it is 69. It takes no other memory. After a
+/// refusal nothing is known of the reader's place.
+pub fn read_image<R: Read>(alloc: Global, reader: &mut Counted<R>) -> Result<Loaded, FileFault>
+    // What is read is the file of a level, and all of it.
+    ensures found { IfSome (R.remaining (inner_of reader.old)) (λ bytes. IfOk result (λ loaded. IsFileOf bytes loaded)) }
+
+    // What is the file of a level is read, unless the reader answers a fault or memory runs out.
+    ensures only { IfSome (R.remaining (inner_of reader.old)) (λ bytes. (version : ℕ) (image : Image) (below : List ℕ) →
+        HasFile version image below → bytes ≡ file_text version image below → Answers (λ loaded. loaded) result (Ok (found_of version image below))) }
+
+    // Otherwise it is the first fault, unless the reader answers one or memory runs out.
+    ensures exact { IfSome (R.remaining (inner_of reader.old)) (λ bytes. Answers (λ loaded. loaded) result (file_in bytes)) }
+
+    // An image comes only from a reader that answered no fault, and 68 only from one that did.
+    ensures clean { OnOk result (faults_of reader.new ≡ faults_of reader.old) }
+    ensures read { result ≡ Err FileFault.Read → Grew (faults_of reader.old) (faults_of reader.new) }
+
+    // With 68, what came before has no fault of its own.
+    ensures in_order { result ≡ Err FileFault.Read
+        → IfSome (R.remaining (inner_of reader.old)) (λ bytes. StopsIn IsSoundSoFar bytes (R.remaining (inner_of reader.new))) }
+
+    // With 69, the header is right.
+    ensures memory { result ≡ Err FileFault.Memory
+        → IfSome (R.remaining (inner_of reader.old)) (λ bytes. IsOk (header_at FileFault.Truncated bytes)) }
+{
+    read_all(alloc, reader)
+}

@@ -1,0 +1,56 @@
+//! Pieces of the input, each asked for until it is whole.
+
+ghost use Rattle.std.specs.Prelude.{◌≡◌, ◌≢◌, ◌≤◌, ◌<◌, length, take};
+ghost use Rattle.std.specs.Io.KnownBytes.{Consumes};
+ghost use Rattle.awari_table.specs.Counts.{inner_of, faults_of, Grew};
+ghost use Rattle.awari_file.specs.FileText.{IsBytes};
+ghost use Rattle.awari_file.specs.Source.{IsWhy};
+
+use crate::faults::FileFault;
+use awari_table::Counted;
+use std::io::Read;
+
+/// How many bytes came, and where there are fewer than were asked for, why.
+#[derive(Clone, Copy)]
+pub(crate) struct Came {
+    pub count: usize,
+    pub short: FileFault,
+}
+
+/// Reads until that many bytes are there, the input ends or the reader answers a fault.
+pub(crate) fn fill<R: Read>(reader: &mut Counted<R>, buf: &mut [u8], wanted: usize) -> Came
+    requires { wanted ≤ length buf.old }
+    ensures count { result.count ≤ wanted }
+    ensures bytes { Consumes (R.remaining (inner_of reader.old)) (R.remaining (inner_of reader.new)) (take result.count buf.new) }
+    ensures why { result.count < wanted
+        → IsWhy result.short (R.remaining (inner_of reader.new)) (faults_of reader.old) (faults_of reader.new) }
+    ensures read { result.short ≡ FileFault.Read → Grew (faults_of reader.old) (faults_of reader.new) }
+    ensures calm { result.short ≢ FileFault.Read → faults_of reader.new ≡ faults_of reader.old }
+    ensures whole { result.count ≡ wanted → faults_of reader.new ≡ faults_of reader.old }
+    ensures memory { result.short ≢ FileFault.Memory }
+    ensures range { IsBytes buf.new }
+    ensures faults { faults_of reader.old ≤ faults_of reader.new }
+{
+    let mut count = 0;
+    while count < wanted {
+        match reader.read(&mut buf[count..wanted]) {
+            Ok(0) => {
+                return Came {
+                    count,
+                    short: FileFault::Truncated,
+                };
+            }
+            Ok(n) => count += n,
+            Err(_) => {
+                return Came {
+                    count,
+                    short: FileFault::Read,
+                };
+            }
+        }
+    }
+    Came {
+        count,
+        short: FileFault::Truncated,
+    }
+}

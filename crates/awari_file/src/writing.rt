@@ -1,0 +1,134 @@
+//! Writing the file of a level.
+
+ghost use Rattle.std.specs.Prelude.{◌≡◌, ◌≤◌, ◌++◌, length, IfErr, OnOk, OnErr, IfOk};
+ghost use Rattle.std.specs.List.{flat_map};
+ghost use Rattle.std.specs.Io.KnownBytes.{Appends};
+ghost use Rattle.sha2.specs.Sha256.{sha256};
+ghost use Rattle.awari_table.specs.declared.TheConstants.{HIGHEST_LEVEL};
+ghost use Rattle.awari_table.specs.Counts.{inner_of, faults_of, Grew};
+ghost use Rattle.awari_file.specs.declared.sizes.TheConstants.{BUFFERED};
+ghost use Rattle.awari_file.specs.FileText.{header_text, entry_text, body_text, file_text};
+ghost use Rattle.awari_file.specs.Source.{Puts};
+
+use crate::faults::FileFault;
+use crate::fields::{MAGIC, NO_PLAN, VERSION};
+use crate::sizes::{BUFFER_LEN, BUFFERED, ENTRY_LEN, HEADER_LEN};
+use awari_rank::size;
+use awari_table::{Counted, Entry, Level};
+use byteorder::{BigEndian, ByteOrder};
+use sha2::{Digest, Sha256};
+use std::io::Write;
+
+/// What stands before the entries.
+fn header_of(level: u8, limit: u32, below: &[u8; 32]) -> [u8; 52]
+    requires { level ≤ HIGHEST_LEVEL }
+    ensures { result ≡ header_text 1 level limit below.now }
+{
+    let mut header = [0u8; HEADER_LEN];
+    BigEndian::write_u32(&mut header, MAGIC);
+    BigEndian::write_u16(&mut header[4..], VERSION);
+    header[6] = level;
+    BigEndian::write_u64(&mut header[8..], u64::from(size(level)));
+    BigEndian::write_u32(&mut header[16..], limit);
+    header[20..].copy_from_slice(below);
+    header
+}
+
+/// What stands for an entry.
+fn bytes_of(entry: &Entry) -> [u8; 6]
+    ensures { result ≡ entry_text entry.now }
+{
+    let mut bytes = [0u8; ENTRY_LEN];
+    bytes[0] = entry.value.cast_unsigned();
+    bytes[1] = entry.plan.unwrap_or(NO_PLAN);
+    BigEndian::write_u32(&mut bytes[2..], entry.dist);
+    bytes
+}
+
+/// Writes the bytes, and hashes them.
+fn put<W: Write>(
+    writer: &mut Counted<W>,
+    hasher: &mut Sha256,
+    bytes: &[u8],
+) -> Result<(), FileFault>
+    ensures ok { OnOk result (Puts (W.contents (inner_of writer.old)) (W.contents (inner_of writer.new)) hasher.old hasher.new bytes.now) }
+    ensures err { OnErr result (Grew (faults_of writer.old) (faults_of writer.new)) }
+    ensures write { IfErr result (λ e. e ≡ FileFault.Write) }
+    ensures faults { faults_of writer.old ≤ faults_of writer.new }
+{
+    match writer.write_all(bytes) {
+        Ok(()) => {
+            hasher.update(bytes);
+            Ok(())
+        }
+        Err(_) => Err(FileFault::Write),
+    }
+}
+
+/// Writes entries that fit the buffer.
+fn put_some<W: Write>(
+    writer: &mut Counted<W>,
+    hasher: &mut Sha256,
+    entries: &[Entry],
+) -> Result<(), FileFault>
+    requires { length entries.now ≤ BUFFERED }
+    ensures ok { OnOk result (Puts (W.contents (inner_of writer.old)) (W.contents (inner_of writer.new)) hasher.old hasher.new (flat_map entry_text entries.now)) }
+    ensures err { OnErr result (Grew (faults_of writer.old) (faults_of writer.new)) }
+    ensures write { IfErr result (λ e. e ≡ FileFault.Write) }
+    ensures faults { faults_of writer.old ≤ faults_of writer.new }
+{
+    let mut buf = [0u8; BUFFER_LEN];
+    let mut len = 0;
+    for entry in entries {
+        let bytes = bytes_of(entry);
+        buf[len..len + ENTRY_LEN].copy_from_slice(&bytes);
+        len += ENTRY_LEN;
+    }
+    put(writer, hasher, &buf[..len])
+}
+
+/// Writes the entries, a buffer at a time.
+fn put_entries<W: Write>(
+    writer: &mut Counted<W>,
+    hasher: &mut Sha256,
+    entries: &[Entry],
+) -> Result<(), FileFault>
+    ensures ok { OnOk result (Puts (W.contents (inner_of writer.old)) (W.contents (inner_of writer.new)) hasher.old hasher.new (flat_map entry_text entries.now)) }
+    ensures err { OnErr result (Grew (faults_of writer.old) (faults_of writer.new)) }
+    ensures write { IfErr result (λ e. e ≡ FileFault.Write) }
+    ensures faults { faults_of writer.old ≤ faults_of writer.new }
+{
+    let mut rest = entries;
+    while !rest.is_empty() {
+        let (front, after) = rest.split_at(rest.len().min(BUFFERED as usize));
+        put_some(writer, hasher, front)?;
+        rest = after;
+    }
+    Ok(())
+}
+
+/// Writes the file of a level over the file whose digest is `below`, zeros for level 0, and gives
+/// the digest that it ends in. It takes no memory, and doesn't flush.
+///
+/// It is refused as 70 where the writer answers a fault or takes no byte, and then nothing is known
+/// of what the writer holds.
+pub fn write_level<W: Write>(
+    level: &Level,
+    below: [u8; 32],
+    writer: &mut Counted<W>,
+) -> Result<[u8; 32], FileFault>
+    ensures written { OnOk result (Appends (W.contents (inner_of writer.old)) (W.contents (inner_of writer.new)) (file_text 1 level.now below)) }
+    ensures digest { IfOk result (λ digest. digest ≡ sha256 (body_text 1 level.now below)) }
+    ensures write { IfErr result (λ e. e ≡ FileFault.Write) }
+    ensures grew { OnErr result (Grew (faults_of writer.old) (faults_of writer.new)) }
+{
+    let mut hasher = Sha256::new();
+    let header = header_of(level.number(), level.limit(), &below);
+    put(writer, &mut hasher, &header)?;
+    put_entries(writer, &mut hasher, level.entries())?;
+    let digest = hasher.finalize();
+    match writer.write_all(&digest) {
+        Ok(()) => Ok(digest),
+        Err(_) => Err(FileFault::Write),
+    }
+}

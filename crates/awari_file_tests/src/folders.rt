@@ -1,0 +1,149 @@
+//! Folders of level files, right and wrong.
+
+use crate::levels::{digest_in, digested, file_of, right_files, right_shelf};
+use awari_file::FileFault;
+use awari_folder::{FolderFault, load, save};
+use awari_verify::{Rule, VerifyFault};
+use std::os::unix::fs::symlink;
+use std::path::Path;
+use std::rt::Files;
+use std::test::Fail;
+use std::{fs, io};
+
+/// A new folder of this name.
+fn empty_folder(files: &(impl Files + AllocGlobal), folder: &str) -> io::Result<()> {
+    let _ = fs::remove_dir_all(files, folder);
+    fs::create_dir(files, folder)
+}
+
+/// Lays a file into the folder.
+fn lay(
+    files: &(impl Files + AllocGlobal),
+    folder: &str,
+    name: &str,
+    file: &[u8],
+) -> io::Result<()> {
+    let path = Path::new(folder).join(files.alloc(), name)?;
+    fs::write(files, path.as_path(), file)
+}
+
+/// How many levels are loaded, and the digest.
+fn loaded(files: &(impl Files + AllocGlobal), folder: &str) -> Result<(u8, [u8; 32]), FolderFault> {
+    let stored = load(files, files.alloc(), Path::new(folder))?;
+    Ok((stored.shelf.levels(), stored.digest))
+}
+
+/// Saves levels 0 and 1, and gives their digests.
+fn save_both(
+    files: &(impl Files + AllocGlobal),
+    folder: &str,
+) -> Result<([u8; 32], [u8; 32]), Fail> {
+    let folder = Path::new(folder);
+    let shelf = right_shelf(files.alloc())?;
+    if shelf.levels() < 2 {
+        return Err(Fail::new("levels"));
+    }
+    let below = save(files, files.alloc(), folder, shelf.level(0), [0; 32])?;
+    let digest = save(files, files.alloc(), folder, shelf.level(1), below)?;
+    Ok((below, digest))
+}
+
+/// The refusal of a folder with these files of levels 0 and 1, an empty slice for none.
+fn refusal(
+    files: &(impl Files + AllocGlobal),
+    folder: &str,
+    first: &[u8],
+    second: &[u8],
+) -> io::Result<Option<FolderFault>> {
+    empty_folder(files, folder)?;
+    if !first.is_empty() {
+        lay(files, folder, "level_00.awdb", first)?;
+    }
+    if !second.is_empty() {
+        lay(files, folder, "level_01.awdb", second)?;
+    }
+    Ok(loaded(files, folder).err())
+}
+
+#[test]
+fn a_folder_without_files_has_no_level(rt: HostRuntime) -> Result<(), Fail> {
+    let folder = "awari_folder_test_empty";
+    let _ = fs::remove_dir_all(&rt, folder);
+    assert_eq!(rt; loaded(&rt, folder), Ok((0, [0; 32])));
+    let shelf = right_shelf(rt.alloc())?;
+    assert!(rt; shelf.levels() > 0);
+    let refused = save(&rt, rt.alloc(), Path::new(folder), shelf.level(0), [0; 32]);
+    assert_eq!(rt; refused.err(), Some(FolderFault::Open { level: 0 }));
+    empty_folder(&rt, folder)?;
+    assert_eq!(rt; loaded(&rt, folder), Ok((0, [0; 32])));
+    fs::remove_dir_all(&rt, folder)?;
+    Ok(())
+}
+
+#[test]
+fn saved_levels_are_loaded(rt: HostRuntime) -> Result<(), Fail> {
+    let folder = "awari_folder_test_saved";
+    let (first, second, _) = right_files(rt.alloc())?;
+    empty_folder(&rt, folder)?;
+    // The second time the files are replaced.
+    for _ in 0..2u8 {
+        let (below, digest) = save_both(&rt, folder)?;
+        assert_eq!(rt; below, digest_in(&first));
+        assert_eq!(rt; digest, digest_in(&second));
+        assert_eq!(rt; loaded(&rt, folder), Ok((2, digest)));
+    }
+    assert!(rt; fs::read(&rt, "awari_folder_test_saved/level_00.awdb")? == first);
+    assert!(rt; fs::read(&rt, "awari_folder_test_saved/level_01.awdb")? == second);
+    assert_eq!(rt; fs::read_dir(&rt, folder)?.count(), 2);
+    fs::remove_dir_all(&rt, folder)?;
+    Ok(())
+}
+
+#[test]
+fn the_first_wrong_file_is_refused(rt: HostRuntime) -> Result<(), Fail> {
+    let folder = "awari_folder_test_refused";
+    let (first, second, _) = right_files(rt.alloc())?;
+    let unlinked = digested(rt.alloc(), &second, 20, 0)?;
+    let met = refusal(&rt, folder, &first, &unlinked)?;
+    assert_eq!(rt; met, Some(FolderFault::Below { level: 1 }));
+
+    let false_value = digested(rt.alloc(), &second, 52, 0xfe)?;
+    let met = refusal(&rt, folder, &first, &false_value)?;
+    let fault = VerifyFault::Refused {
+        rank: 0,
+        rule: Rule::V1,
+    };
+    assert_eq!(rt; met, Some(FolderFault::Verify { level: 1, fault }));
+
+    let cut = second.get(..155).ok_or("a longer file")?;
+    let met = refusal(&rt, folder, &first, cut)?;
+    let fault = FileFault::Truncated;
+    assert_eq!(rt; met, Some(FolderFault::File { level: 1, fault }));
+    fs::remove_dir_all(&rt, folder)?;
+    Ok(())
+}
+
+#[test]
+fn level_0_is_looked_for_first(rt: HostRuntime) -> Result<(), Fail> {
+    let folder = "awari_folder_test_first";
+    let (_, second, _) = right_files(rt.alloc())?;
+    assert_eq!(rt; refusal(&rt, folder, b"", &second)?, None);
+    assert_eq!(rt; loaded(&rt, folder), Ok((0, [0; 32])));
+
+    let shelf = right_shelf(rt.alloc())?;
+    let unlinked = file_of(rt.alloc(), &shelf, 1, [0; 32])?;
+    let met = refusal(&rt, folder, &unlinked, b"")?;
+    let fault = VerifyFault::WrongLevel;
+    assert_eq!(rt; met, Some(FolderFault::Verify { level: 0, fault }));
+
+    // A file that is there and can't be opened: a link to itself.
+    empty_folder(&rt, folder)?;
+    symlink(
+        &rt,
+        "level_00.awdb",
+        "awari_folder_test_first/level_00.awdb",
+    )?;
+    assert_eq!(rt; loaded(&rt, folder), Err(FolderFault::Open { level: 0 }));
+    fs::remove_dir_all(&rt, folder)?;
+    Ok(())
+}

@@ -1,0 +1,90 @@
+//! The right tables of levels 0 to 2, and their files.
+
+use awari_file::write_level;
+use awari_table::{Counted, Shelf, TableText};
+use awari_verify::verify;
+use sha2::{Digest, Sha256};
+use std::alloc::Global;
+use std::sync::Arc;
+use std::test::Fail;
+
+/// The text of levels 0 to 2, with `;` for each line feed. What each board of two stones is worth
+/// was worked out by hand: none has more than one legal move.
+const LEVELS: &str = "\
+level 0 limit 0;0 - 0;level 1 limit 1;-1 - 0;-1 - 0;-1 - 0;-1 - 0;-1 - 0;-1 - 0;-1 5 1;\
+1 - 0;1 - 0;1 - 0;1 - 0;1 - 0;level 2 limit 9;-2 - 0;-2 - 0;-2 - 0;-2 - 0;-2 - 0;-2 - 0;\
+-2 - 0;-2 - 0;-2 - 0;-2 - 0;-2 - 0;-2 - 0;-2 - 0;-2 - 0;-2 - 0;-2 - 0;-2 - 0;-2 - 0;-2 - 0;\
+-2 - 0;-2 - 0;0 5 0;-2 5 1;-2 5 1;-2 5 1;-2 5 1;-2 5 1;-2 5 1;0 4 0;0 4 0;-2 4 3;-2 4 3;\
+-2 4 3;-2 4 3;-2 5 5;-2 4 3;2 3 2;0 3 0;0 3 0;-2 3 5;-2 3 5;-2 3 5;-2 5 7;2 - 0;2 - 0;2 2 2;\
+2 2 4;0 2 0;0 2 0;-2 2 7;-2 2 7;-2 5 9;2 - 0;2 - 0;2 - 0;2 1 2;2 1 4;2 1 6;0 1 0;0 1 0;\
+-2 1 9;0 5 0;2 - 0;2 - 0;2 - 0;2 - 0;2 0 2;2 0 4;2 0 6;2 0 8;0 0 0;0 0 0;0 5 0;2 - 0;2 - 0;\
+2 - 0;2 - 0;2 - 0;";
+
+/// The shelf of levels 0 to 2.
+pub(crate) fn right_shelf(alloc: Global) -> Result<Shelf, Fail> {
+    let mut text = Vec::new(alloc);
+    for byte in LEVELS.bytes() {
+        text.push(if byte == b';' { b'\n' } else { byte })?;
+    }
+    let mut text = TableText::new(alloc, text.as_slice());
+    let mut shelf = Shelf::empty();
+    for _ in 0..3u8 {
+        let image = text.next()?.ok_or("a level")?;
+        let level = verify(&shelf, image)?;
+        shelf.push(Arc::new(alloc, level)?);
+    }
+    Ok(shelf)
+}
+
+/// The file of a level of the shelf, over a file that ends in this digest.
+pub(crate) fn file_of(
+    alloc: Global,
+    shelf: &Shelf,
+    number: u8,
+    below: [u8; 32],
+) -> Result<Vec<u8>, Fail> {
+    let mut file = Vec::new(alloc);
+    if number < shelf.levels() {
+        write_level(shelf.level(number), below, &mut Counted::new(&mut file))?;
+    }
+    Ok(file)
+}
+
+/// The files of levels 0, 1 and 2, each over the one before.
+pub(crate) fn right_files(alloc: Global) -> Result<(Vec<u8>, Vec<u8>, Vec<u8>), Fail> {
+    let shelf = right_shelf(alloc)?;
+    let first = file_of(alloc, &shelf, 0, [0; 32])?;
+    let second = file_of(alloc, &shelf, 1, digest_in(&first))?;
+    let third = file_of(alloc, &shelf, 2, digest_in(&second))?;
+    Ok((first, second, third))
+}
+
+/// The last 32 bytes of a file, zeros for a shorter one.
+pub(crate) fn digest_in(file: &[u8]) -> [u8; 32] {
+    let mut digest = [0; 32];
+    if file.len() >= 32 {
+        digest.copy_from_slice(&file[file.len() - 32..]);
+    }
+    digest
+}
+
+/// The file with this byte at this place.
+pub(crate) fn changed(alloc: Global, file: &[u8], place: usize, byte: u8) -> Result<Vec<u8>, Fail> {
+    let mut bytes = file.to_vec(alloc)?;
+    *bytes.get_mut(place).ok_or("a place in the file")? = byte;
+    Ok(bytes)
+}
+
+/// The file with this byte at this place, and the digest made right.
+pub(crate) fn digested(
+    alloc: Global,
+    file: &[u8],
+    place: usize,
+    byte: u8,
+) -> Result<Vec<u8>, Fail> {
+    let mut bytes = changed(alloc, file, place, byte)?;
+    bytes.truncate(bytes.len().saturating_sub(32));
+    let digest = Sha256::digest(bytes.as_slice());
+    bytes.extend_from_slice(&digest)?;
+    Ok(bytes)
+}

@@ -1,0 +1,12 @@
+//! Tests of the files of levels and of folders of them, by public calls alone: their bytes, and every
+//! fault in its place.
+#![tactic(auto)]
+
+#[cfg(test)]
+mod bytes;
+#[cfg(test)]
+mod folders;
+#[cfg(test)]
+mod levels;
+#[cfg(test)]
+mod streams;

@@ -1,0 +1,2 @@
+pub mod FolderFault
+pub mod NextFile

@@ -1,0 +1,63 @@
+//! Why a folder is not loaded, or a level not saved.
+
+ghost use Rattle.std.specs.Prelude.{◌≡◌};
+ghost use Rattle.awari_folder.specs.declared.faults.FolderFault.TheVariants.{Memory};
+
+use awari_file::FileFault;
+use awari_verify::VerifyFault;
+use std::alloc::{AllocError, AllocFailed};
+use thiserror::Error;
+
+/// Why a folder is not loaded, or a level not saved. For each file in turn the faults are looked
+/// for in the order 82, 81, 80, 83.
+#[derive(Clone, Copy, Debug, PartialEq, Eq, Error)]
+pub enum FolderFault {
+    /// 80: the level's file was written over another file than that of the level below.
+    #[error("the file of level {level} stands over another file than that of the level below")]
+    Below { level: u8 },
+    /// 81: the level's file is not read or written.
+    #[error("the file of level {level}: {fault}")]
+    File { level: u8, fault: FileFault },
+    /// 82: the level's file is there and does not open, or could not be made.
+    #[error("the file of level {level} does not open")]
+    Open { level: u8 },
+    /// 83: the level's file was read, and what it says is not right.
+    #[error("level {level}: {fault}")]
+    Verify { level: u8, fault: VerifyFault },
+    /// 84: there was no room for a level, or for a name.
+    #[error("out of memory")]
+    Memory,
+}
+
+impl FolderFault {
+    ghost use Rattle.awari_folder.specs.FolderFault.{number_of};
+
+    /// The number of this refusal, 80 to 84.
+    pub fn number(&self) -> u8
+        ensures { result ≡ number_of self.now }
+    {
+        match self {
+            FolderFault::Below { .. } => 80,
+            FolderFault::File { .. } => 81,
+            FolderFault::Open { .. } => 82,
+            FolderFault::Verify { .. } => 83,
+            FolderFault::Memory => 84,
+        }
+    }
+}
+
+impl From<AllocError> for FolderFault {
+    ghost from_gives = { λ _ fault. fault ≡ Memory };
+
+    fn from(_error: AllocError) -> Self {
+        FolderFault::Memory
+    }
+}
+
+impl<T: Drop> From<AllocFailed<T>> for FolderFault {
+    ghost from_gives = { λ _ fault. fault ≡ Memory };
+
+    fn from(_error: AllocFailed<T>) -> Self {
+        FolderFault::Memory
+    }
+}

@@ -1,0 +1,105 @@
+//! A shelf from the files in a folder.
+
+ghost use Rattle.std.specs.Prelude.{◌≡◌, ◌+◌, IfOk, IfErr, OnOk, IfSome, length};
+ghost use Rattle.awari_table.specs.Counts.{inner_of};
+ghost use Rattle.awari_theory.specs.Truth.{TellsTruth};
+ghost use Rattle.awari_folder.specs.FolderFault.{Names, NamesLevel};
+ghost use Rattle.awari_folder.specs.NextFile.{IsNextFile, IsFileFault};
+
+use crate::faults::FolderFault;
+use crate::names::path_of;
+use awari_file::{FileFault, Loaded, read_image};
+use awari_table::{Counted, HIGHEST_LEVEL, Image, Shelf};
+use awari_verify::verify;
+use std::alloc::Global;
+use std::fs;
+use std::io::{ErrorKind, Read};
+use std::path::Path;
+use std::rt::Files;
+use std::sync::Arc;
+
+/// What a folder holds.
+#[derive(Drop)]
+pub struct Stored {
+    /// The levels whose files are there, from level 0 on.
+    pub shelf: Shelf,
+    /// The digest of the last of the files, zeros for none.
+    pub digest: [u8; 32],
+}
+
+/// Loads the levels of a folder: the files `level_00.awdb`, `level_01.awdb` and so on, up to the
+/// first that is not there or the highest level. A folder that is not there is an empty one.
+///
+/// Each file is read and its level verified, so what the shelf says is right, whatever lies in the
+/// folder. For each file in turn it is refused as 82 where the file is there and does not open, 81
+/// where it is not read, 80 where it does not name the digest of the file before it, 83 where the
+/// level is not right over those below. It takes memory for names, entries and an `Arc` for each
+/// level; want of it is 84.
+pub fn load<R: Files>(files: &R, alloc: Global, folder: Path<'_>) -> Result<Stored, FolderFault>
+    // What the shelf says of each of its boards is the truth: following its plans secures the
+    // value, soon, and the value is what the board is worth.
+    ensures meaning { IfOk result (λ stored. TellsTruth stored.shelf) }
+    ensures named { IfErr result NamesLevel }
+{
+    let mut shelf = Shelf::empty();
+    let mut digest = [0u8; 32];
+    for level in 0..=HIGHEST_LEVEL {
+        match open_level(files, alloc, folder, level)? {
+            Some(file) => {
+                digest = put_on(alloc, &mut shelf, digest, &mut Counted::new(file))?;
+            }
+            None => break,
+        }
+    }
+    Ok(Stored { shelf, digest })
+}
+
+/// The file of a level, none where there is none.
+fn open_level<R: Files>(
+    files: &R,
+    alloc: Global,
+    folder: Path<'_>,
+    level: u8,
+) -> Result<Option<R::File>, FolderFault>
+    ensures { IfErr result (Names level) }
+{
+    let path = path_of(alloc, folder, level)?;
+    match fs::open(files, path.as_path()) {
+        Ok(file) => Ok(Some(file)),
+        Err(error) if error.kind() == ErrorKind::NotFound => Ok(None),
+        Err(_) => Err(FolderFault::Open { level }),
+    }
+}
+
+/// Reads the file of the shelf's next level and puts the level on top, if all is right. It gives
+/// the digest that the file ends in.
+fn put_on<R: Read>(
+    alloc: Global,
+    shelf: &mut Shelf,
+    below: [u8; 32],
+    reader: &mut Counted<R>,
+) -> Result<[u8; 32], FolderFault>
+    ensures ok { IfSome (R.remaining (inner_of reader.old)) (λ bytes. IfOk result (IsNextFile shelf.old below bytes shelf.new)) }
+    ensures fault { IfSome (R.remaining (inner_of reader.old)) (λ bytes. IfErr result (IsFileFault shelf.old below bytes)) }
+    ensures meaning { OnOk result (TellsTruth shelf.new) }
+    ensures levels { OnOk result (length shelf.new ≡ length shelf.old + 1) }
+    ensures named { IfErr result (Names (length shelf.old)) }
+{
+    let level = shelf.levels();
+    let loaded = match read_image(alloc, reader) {
+        Ok(loaded) => loaded,
+        Err(FileFault::Memory) => return Err(FolderFault::Memory),
+        Err(fault) => return Err(FolderFault::File { level, fault }),
+    };
+    if loaded.below != below {
+        return Err(FolderFault::Below { level });
+    }
+    let Loaded { image, digest, .. } = loaded;
+    match verify(shelf, image) {
+        Ok(verified) => {
+            shelf.push(Arc::new(alloc, verified)?);
+            Ok(digest)
+        }
+        Err(fault) => Err(FolderFault::Verify { level, fault }),
+    }
+}

@@ -1,0 +1,159 @@
+//! A reader or a writer whose faults are counted, so that one who is lent it can be asked afterwards
+//! whether a refusal was the stream's.
+
+ghost use Rattle.std.specs.Prelude.{◌≡◌, ◌≢◌, ◌≤◌, ◌<◌, Ok, IfOk, IfErr, OnOk, OnErr, length};
+ghost use Rattle.std.specs.IoError.{error_kind};
+ghost use Rattle.std.specs.Io.{ReadsAtMost, WritesAtMost};
+ghost use Rattle.std.specs.Io.KnownBytes.{ReadConsumes, WriteAppends, Keeps, Appends};
+
+use std::io::{self, Error, ErrorKind, Read, Write};
+
+/// How often a call is made in a row while it is interrupted: once, and 1000 times again.
+const TURNS: u32 = 1001;
+
+/// Passes the calls of a reader or a writer on, and counts those that answered a fault or, writing
+/// a slice that is not empty, took no byte.
+///
+/// A call that is interrupted is made again, at most 1000 times in a row. Then it is answered as a
+/// fault of kind `Other` and counted once. It takes no memory.
+#[derive(Drop)]
+pub struct Counted<T> {
+    inner: T,
+    count: u64,
+}
+
+impl<T> Counted<T> {
+    ghost use Rattle.awari_table.specs.Counts.{inner_of, faults_of, one_more};
+
+    /// Holds this reader or writer, of which no fault is counted yet.
+    pub fn new(inner: T) -> Self
+        ensures inner { inner_of result ≡ inner }
+        ensures faults { faults_of result ≡ 0 }
+    {
+        Counted { inner, count: 0 }
+    }
+
+    /// How many faults there were so far. It stays at the greatest u64.
+    pub fn faults(&self) -> u64
+        ensures { result ≡ faults_of self.now }
+    {
+        self.count
+    }
+
+    fn add_fault(&mut self)
+        ensures inner { inner_of self.new ≡ inner_of self.old }
+        ensures count { faults_of self.new ≡ one_more (faults_of self.old) }
+    {
+        self.count = self.count.saturating_add(1);
+    }
+}
+
+fn gave_up() -> Error
+    ensures { error_kind result ≡ ErrorKind.Other }
+{
+    Error::other("interrupted 1001 times in a row")
+}
+
+impl<R: Read> Read for Counted<R> {
+    ghost use Rattle.awari_table.specs.Counts.{faults_of, one_more};
+
+    ghost remaining = { λ c. R.remaining c.inner };
+
+    fn read(&mut self, buf: &mut [u8]) -> io::Result<usize>
+        ensures bound { ReadsAtMost result buf.new }
+        ensures bytes { ReadConsumes (R.remaining self.old.inner) (R.remaining self.new.inner) result buf.new }
+        ensures ok { OnOk result (faults_of self.new ≡ faults_of self.old) }
+        ensures err { OnErr result (faults_of self.new ≡ one_more (faults_of self.old)) }
+        ensures never_less { faults_of self.old ≤ faults_of self.new }
+        ensures retried { IfErr result (λ e. error_kind e ≢ ErrorKind.Interrupted) }
+    {
+        for _ in 0..TURNS {
+            match self.inner.read(buf) {
+                Ok(n) => return Ok(n),
+                Err(e) => {
+                    if e.kind() != ErrorKind::Interrupted {
+                        self.add_fault();
+                        return Err(e);
+                    }
+                }
+            }
+        }
+        self.add_fault();
+        Err(gave_up())
+    }
+}
+
+impl<W: Write> Write for Counted<W> {
+    ghost use Rattle.awari_table.specs.Counts.{faults_of, one_more, Grew};
+
+    ghost contents = { λ c. W.contents c.inner };
+
+    fn write(&mut self, buf: &[u8]) -> io::Result<usize>
+        ensures bound { WritesAtMost result buf.now }
+        ensures bytes { WriteAppends (W.contents self.old.inner) (W.contents self.new.inner) result buf.now }
+        ensures ok { IfOk result (λ n. 0 < n → faults_of self.new ≡ faults_of self.old) }
+        ensures empty { OnOk result (length buf.now ≡ 0 → faults_of self.new ≡ faults_of self.old) }
+        ensures none { result ≡ Ok 0 → 0 < length buf.now → faults_of self.new ≡ one_more (faults_of self.old) }
+        ensures err { OnErr result (faults_of self.new ≡ one_more (faults_of self.old)) }
+        ensures never_less { faults_of self.old ≤ faults_of self.new }
+        ensures retried { IfErr result (λ e. error_kind e ≢ ErrorKind.Interrupted) }
+    {
+        for _ in 0..TURNS {
+            match self.inner.write(buf) {
+                Ok(n) => {
+                    if n == 0 && !buf.is_empty() {
+                        self.add_fault();
+                    }
+                    return Ok(n);
+                }
+                Err(e) => {
+                    if e.kind() != ErrorKind::Interrupted {
+                        self.add_fault();
+                        return Err(e);
+                    }
+                }
+            }
+        }
+        self.add_fault();
+        Err(gave_up())
+    }
+
+    fn flush(&mut self) -> io::Result<()>
+        ensures bytes { Keeps (W.contents self.old.inner) (W.contents self.new.inner) }
+        ensures ok { OnOk result (faults_of self.new ≡ faults_of self.old) }
+        ensures err { OnErr result (faults_of self.new ≡ one_more (faults_of self.old)) }
+        ensures never_less { faults_of self.old ≤ faults_of self.new }
+        ensures retried { IfErr result (λ e. error_kind e ≢ ErrorKind.Interrupted) }
+    {
+        for _ in 0..TURNS {
+            match self.inner.flush() {
+                Ok(()) => return Ok(()),
+                Err(e) => {
+                    if e.kind() != ErrorKind::Interrupted {
+                        self.add_fault();
+                        return Err(e);
+                    }
+                }
+            }
+        }
+        self.add_fault();
+        Err(gave_up())
+    }
+
+    fn write_all(&mut self, buf: &[u8]) -> io::Result<()>
+        ensures bytes { OnOk result (Appends (W.contents self.old.inner) (W.contents self.new.inner) buf.now) }
+        ensures ok { OnOk result (faults_of self.new ≡ faults_of self.old) }
+        ensures err { OnErr result (Grew (faults_of self.old) (faults_of self.new)) }
+        ensures never_less { faults_of self.old ≤ faults_of self.new }
+    {
+        let mut rest = buf;
+        while !rest.is_empty() {
+            let count = self.write(rest)?;
+            if count == 0 {
+                return Err(Error::from(ErrorKind::WriteZero));
+            }
+            rest = &rest[count..];
+        }
+        Ok(())
+    }
+}
