@@ -8,6 +8,7 @@ use std::{env, io};
 fn main(rt: HostRuntime) -> ExitCode {
     match words(rt) {
         Ok(words) => ExitCode::from(run(
+            &rt,
             rt.alloc(),
             words.as_slice(),
             &mut rt.stdin(),

@@ -5,3 +5,5 @@ pub mod Refusal
 pub mod Playing
 pub mod Judgement
 pub mod Done
+pub mod Building
+pub mod Folders

@@ -1,5 +1,7 @@
 //! The words that the program understands.
 
+use awari_table::HIGHEST_LEVEL;
+use clap::builder::ValueParser;
 use clap::{Arg, ArgMatches, Command, Error, value_parser};
 use std::alloc::Global;
 use std::convert::AsStr;
@@ -19,6 +21,20 @@ pub enum Request<'a> {
         board: &'a str,
         limit: u32,
         moves: &'a str,
+    },
+    /// `build TOP [--folder FOLDER]`: the levels up to this one.
+    Build {
+        top: u8,
+        folder: Option<&'a str>,
+    },
+    /// `verify FOLDER`: whether the levels in a folder are right.
+    Verify {
+        folder: &'a str,
+    },
+    /// `ask FOLDER BOARD`: the entry of a board.
+    Ask {
+        folder: &'a str,
+        board: &'a str,
     },
 }
 
@@ -48,6 +64,17 @@ fn requested<'a>(name: &str, given: &ArgMatches<'a>) -> Option<Request<'a>> {
             limit: given.get_one("LIMIT")?,
             moves: given.get_str("MOVES").unwrap_or(""),
         }),
+        "build" => Some(Request::Build {
+            top: given.get_one("TOP")?,
+            folder: given.get_str("folder"),
+        }),
+        "verify" => Some(Request::Verify {
+            folder: given.get_str("FOLDER")?,
+        }),
+        "ask" => Some(Request::Ask {
+            folder: given.get_str("FOLDER")?,
+            board: given.get_str("BOARD")?,
+        }),
         _ => None,
     }
 }
@@ -60,7 +87,10 @@ fn command<'a>(alloc: Global) -> Result<Command<'a>, Error> {
         .subcommand_required(true)
         .subcommand(check_command(alloc))?
         .subcommand(move_command(alloc)?)?
-        .subcommand(judge_command(alloc)?)?;
+        .subcommand(judge_command(alloc)?)?
+        .subcommand(build_command(alloc)?)?
+        .subcommand(verify_command(alloc)?)?
+        .subcommand(ask_command(alloc)?)?;
     Ok(awari)
 }
 
@@ -96,6 +126,46 @@ fn judge_command<'a>(alloc: Global) -> Result<Command<'a>, Error> {
         .arg(limit)?
         .arg(moves)?;
     Ok(command)
+}
+
+fn build_command<'a>(alloc: Global) -> Result<Command<'a>, Error> {
+    let top = Arg::new(alloc, "TOP")
+        .required(true)
+        .value_parser(ValueParser::unsigned(0, u64::from(HIGHEST_LEVEL)))
+        .help("The highest level to build, 0 to 12");
+    let folder = Arg::new(alloc, "folder")
+        .long("folder")
+        .value_name("FOLDER")
+        .help("Begin with the levels of this folder, and save each level there");
+    let command = Command::new(alloc, "build")
+        .about("Builds levels, and prints a line for each")
+        .after_help(BUILD_HELP)
+        .arg(top)?
+        .arg(folder)?;
+    Ok(command)
+}
+
+fn verify_command<'a>(alloc: Global) -> Result<Command<'a>, Error> {
+    let command = Command::new(alloc, "verify")
+        .about("Says of the levels in a folder whether each is right")
+        .after_help(VERIFY_HELP)
+        .arg(folder(alloc))?;
+    Ok(command)
+}
+
+fn ask_command<'a>(alloc: Global) -> Result<Command<'a>, Error> {
+    let command = Command::new(alloc, "ask")
+        .about("Looks a board up in the levels of a folder")
+        .after_help(ASK_HELP)
+        .arg(folder(alloc))?
+        .arg(board(alloc))?;
+    Ok(command)
+}
+
+fn folder<'a>(alloc: Global) -> Arg<'a> {
+    Arg::new(alloc, "FOLDER").required(true).help(
+        "A folder with the files level_00.awdb, level_01.awdb and so on",
+    )
 }
 
 fn board<'a>(alloc: Global) -> Arg<'a> {
@@ -167,3 +237,51 @@ LIMIT is at most 4294967295. A board or a move that is refused is printed
 alone, as `awari help move` says, and a move with its number: `refused 5
 EmptyPit at 2`. A byte of MOVES that is no digit is no pit. The status is 0, or
 1 for a refusal.";
+
+const BUILD_HELP: &str = "\
+Each level is built over those below it, and judged by the rules before it is
+told of. It prints a line for each level, in order:
+
+    level L boards S won A even B lost C limit K
+
+with the number of its boards, how many of them the mover wins, holds even and
+loses, and the greatest distance. Without a folder it begins with level 0, and
+saves nothing. With one it begins above the levels that are there, which are
+verified first, and saves each level as level_LL.awdb before its line.
+
+    refused 53 Memory         there is not enough memory
+    refused 58 Far            a distance is greater than can be stored
+    refused 80 and higher     the folder, as `awari help verify` says
+
+The status is 0, or 1 for a refusal; the lines before it stand.";
+
+const VERIFY_HELP: &str = "\
+It prints a line for each level, in order, and one for them all:
+
+    level L ok limit K        the level is right; K is its greatest distance
+    levels M digest H         there are M levels; H is the SHA-256 that the
+                              last one's file ends in, zeros for none
+
+or else one line, of the first file that is at fault:
+
+    refused 80 Below level L        it was written over another file than that
+                                    of the level below
+    refused 81 File level L: ..     it is not read: what is wrong with its
+                                    bytes, as docs/FORMATS.md says
+    refused 82 Open level L         it is there and does not open
+    refused 83 Verify level L: ..   what it says is not right: the first rank
+                                    and rule
+    refused 84 Memory               there is not enough memory
+
+The status is 0, or 1 for a refusal. A folder that is not there is an empty one.";
+
+const ASK_HELP: &str = "\
+It prints `V P D`: the value of the board for its mover, a pit to play (0 to 5,
+or - where the play has ended), and the distance. The levels of the folder are
+verified first, so the answer is right.
+
+    refused 1 to 3            BOARD is no board, as `awari help move` says
+    refused 59 NotYet levels M    the folder has only levels 0 to M - 1
+    refused 80 and higher     the folder, as `awari help verify` says
+
+The status is 0, or 1 for a refusal.";

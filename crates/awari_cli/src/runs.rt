@@ -1,27 +1,31 @@
 //! The commands of the program, over its words and its streams.
 
-ghost use Rattle.std.specs.Prelude.{◌≡◌, ◌≤◌, ℕ, List, ◌∷◌, ◌++◌, [], true, Some, IfSome};
-ghost use Rattle.std.specs.Io.KnownBytes.{Appends, Keeps};
+ghost use Rattle.std.specs.Prelude.{◌≡◌, ◌≤◌};
+ghost use Rattle.std.specs.Io.KnownBytes.{Keeps};
 ghost use Rattle.awari_cli.specs.Answer.{PrintsYes};
 ghost use Rattle.awari_cli.specs.Done.{PrintsDone};
 ghost use Rattle.awari_cli.specs.Judgement.{PrintsJudgement};
 ghost use Rattle.awari_cli.specs.Playing.{PrintsMove};
 
 use crate::answers::check_input;
+use crate::building::run_build;
+use crate::folders::{run_ask, run_verify};
 use crate::judgements::{Judged, judge};
 use crate::playing::{Played, play_on};
+use crate::printing::print;
 use crate::requests::{Request, request_of};
 use std::alloc::Global;
 use std::convert::AsStr;
-use std::fmt::Display;
 use std::io::{Read, Write};
+use std::rt::Files;
 
 /// Runs the command that the words name, of which the first is the program's own name. What it
 /// prints goes to the writer, and the text of `clap` to `errors`. The result is the status that the
 /// program ends with: 0 where it is done, 1 where it was refused or the writer gave a fault, and 2
-/// where the words were not understood, or asked for help. It takes memory for the words, and
-/// `check` for the input and the entries that it spells; want of it is a refusal.
-pub fn run<S: AsStr, R: Read, W: Write, E: Write>(
+/// where the words were not understood, or asked for help. It takes memory for the words,
+/// and for what the commands read and build; want of it is a refusal.
+pub fn run<F: Files, S: AsStr, R: Read, W: Write, E: Write>(
+    files: &F,
     alloc: Global,
     words: &[S],
     reader: &mut R,
@@ -30,24 +34,15 @@ pub fn run<S: AsStr, R: Read, W: Write, E: Write>(
 ) -> u8
     ensures status { result ≤ 2 }
 
-    // A yes is said only of tables that are right, and a move or a judgement only of a right play.
+    // A yes is said only of tables that are right, a move or a judgement only of a right play, and a
+    // level or an entry only of right levels.
     ensures done { result ≡ 0 → PrintsDone (R.remaining reader.old) (W.contents writer.old) (W.contents writer.new) }
 
     // Where the words were not understood, nothing is printed.
     ensures nothing { result ≡ 2 → Keeps (W.contents writer.old) (W.contents writer.new) }
 {
     match request_of(alloc, words) {
-        Ok(Some(Request::Check)) => run_check(alloc, reader, writer),
-        Ok(Some(Request::Move { board, pit })) => run_move(board, pit, writer),
-        Ok(
-            Some(
-                Request::Judge {
-                    board,
-                    limit,
-                    moves,
-                },
-            ),
-        ) => run_judge(board, limit, moves, writer),
+        Ok(Some(request)) => run_request(files, alloc, request, reader, writer),
         // `clap` lets no other command through.
         Ok(None) => 2,
         Err(error) => {
@@ -55,6 +50,30 @@ pub fn run<S: AsStr, R: Read, W: Write, E: Write>(
             let _ = write!(errors, "{error}");
             2
         }
+    }
+}
+
+fn run_request<F: Files, R: Read, W: Write>(
+    files: &F,
+    alloc: Global,
+    request: Request<'_>,
+    reader: &mut R,
+    writer: &mut W,
+) -> u8
+    ensures status { result ≤ 1 }
+    ensures done { result ≡ 0 → PrintsDone (R.remaining reader.old) (W.contents writer.old) (W.contents writer.new) }
+{
+    match request {
+        Request::Check => run_check(alloc, reader, writer),
+        Request::Move { board, pit } => run_move(board, pit, writer),
+        Request::Judge {
+            board,
+            limit,
+            moves,
+        } => run_judge(board, limit, moves, writer),
+        Request::Build { top, folder } => run_build(files, alloc, top, folder, writer),
+        Request::Verify { folder } => run_verify(files, alloc, folder, writer),
+        Request::Ask { folder, board } => run_ask(files, alloc, folder, board, writer),
     }
 }
 
@@ -94,15 +113,5 @@ fn run_judge<W: Write>(board: &str, limit: u32, moves: &str, writer: &mut W) -> 
         0
     } else {
         1
-    }
-}
-
-/// Writes the lines and a line feed, and says whether the writer took them.
-fn print<W: Write, T: Display>(writer: &mut W, lines: &T) -> bool
-    ensures { result ≡ true → IfSome (T.output lines.now) (λ text. Appends (W.contents writer.old) (W.contents writer.new) (text ++ 10 ∷ [])) }
-{
-    match writeln!(writer, "{lines}") {
-        Ok(()) => writer.flush().is_ok(),
-        Err(_) => false,
     }
 }

@@ -1,0 +1,49 @@
+-- The command `build`: what is printed of the levels that were built.
+use Rattle.std.specs.Prelude.{◌≡◌, ℕ, List, ◌++◌, ◌∷◌, [], length, codes, Option}
+use Rattle.std.specs.Fmt.{decimal}
+use Rattle.std.specs.List.{flat_map}
+use Rattle.std.specs.Io.KnownBytes.{Appends}
+use Rattle.awari_table.specs.Images.{won_boards, even_boards, lost_boards}
+use Rattle.awari_table.specs.Shelves.{IsShelf}
+use Rattle.awari_table.specs.declared.images.Counts.{Counts}
+use Rattle.awari_table.specs.declared.images.Image.{Image}
+use Rattle.awari_cli.specs.Refusal.{build_fault_text, folder_fault_text}
+use Rattle.awari_cli.specs.declared.building.BuiltLevel.{BuiltLevel}
+use Rattle.awari_cli.specs.declared.building.BuildingFault.{BuildingFault}
+use Rattle.awari_cli.specs.declared.building.BuildingFault.TheVariants.{Build, Folder}
+
+-- what is told of a level
+pub record IsToldOf (image : Image) (told : BuiltLevel) : Type 0 where
+  pub level : told.level ≡ image.level
+  pub boards : told.boards ≡ length image.entries
+  pub won : told.counts.won ≡ won_boards image.entries
+  pub even : told.counts.even ≡ even_boards image.entries
+  pub lost : told.counts.lost ≡ lost_boards image.entries
+  pub limit : told.limit ≡ image.limit
+
+abbrev pub shares_text : Counts → List ℕ
+shares_text counts = codes "won " ++ decimal counts.won ++ codes " even " ++ decimal counts.even ++ codes " lost " ++ decimal counts.lost
+
+abbrev pub told_text : BuiltLevel → List ℕ
+told_text told = codes "level " ++ decimal told.level ++ codes " boards " ++ decimal told.boards ++ codes " " ++ shares_text told.counts ++ codes " limit " ++ decimal told.limit
+
+-- the line of a level
+unfoldable pub level_line : Image → List ℕ
+level_line image = told_text (record {
+  level = image.level;
+  boards = length image.entries;
+  counts = record { won = won_boards image.entries; even = even_boards image.entries; lost = lost_boards image.entries };
+  limit = image.limit;
+})
+
+-- the lines of levels, each ended by a line feed
+abbrev pub level_lines : List Image → List ℕ
+level_lines images = flat_map (λ image. level_line image ++ 10 ∷ []) images
+
+abbrev pub building_fault_text : BuildingFault → List ℕ
+building_fault_text (Build fault) = codes "refused " ++ build_fault_text fault
+building_fault_text (Folder fault) = codes "refused " ++ folder_fault_text fault
+
+-- Where it is known what the writer holds, what was written are the lines of right levels over some that were there.
+abbrev pub PrintsLevels : Option (List ℕ) → Option (List ℕ) → Type 0
+PrintsLevels before after = (below built : List Image) × IsShelf (below ++ built) × Appends before after (level_lines built)

@@ -1,0 +1,57 @@
+-- The commands `verify` and `ask`: what is printed of the levels in a folder.
+use Rattle.std.specs.Prelude.{◌≡◌, ℕ, ◌+◌, ◌/◌, ◌%◌, ◌<◌, nat_lt, if◌then◌else◌, List, ◌++◌, ◌∷◌, [], length, sum, codes, Option, Some, None}
+use Rattle.std.specs.Fmt.{decimal, signed_decimal}
+use Rattle.std.specs.List.{flat_map}
+use Rattle.std.specs.Io.KnownBytes.{Appends}
+use Rattle.awari_board.specs.Rules.{IsBoard}
+use Rattle.awari_table.specs.Images.{entry_of}
+use Rattle.awari_table.specs.Shelves.{IsShelf}
+use Rattle.awari_table.specs.declared.images.Entry.{Entry}
+use Rattle.awari_table.specs.declared.images.Image.{Image}
+use Rattle.awari_cli.specs.Refusal.{board_fault_text, folder_fault_text}
+use Rattle.awari_cli.specs.declared.folders.LookUpFault.{LookUpFault}
+use Rattle.awari_cli.specs.declared.folders.LookUpFault.TheVariants.{Board, Folder, NotYet}
+use Rattle.awari_cli.specs.declared.folders.RightLevel.{RightLevel}
+use Rattle.awari_cli.specs.declared.folders.Summary.{Summary}
+
+-- a hexadecimal digit in lower case, and the two of a byte
+abbrev pub hex_digit : ℕ → ℕ
+hex_digit n = if nat_lt n 10 then 48 + n else 87 + n
+
+abbrev pub byte_text : ℕ → List ℕ
+byte_text b = hex_digit (b / 16) ∷ hex_digit (b % 16) ∷ []
+
+unfoldable pub digest_text : List ℕ → List ℕ
+digest_text digest = flat_map byte_text digest
+
+abbrev pub right_text : RightLevel → List ℕ
+right_text right = codes "level " ++ decimal right.level ++ codes " ok limit " ++ decimal right.limit
+
+-- the lines of right levels, each ended by a line feed
+abbrev pub right_lines : List Image → List ℕ
+right_lines images = flat_map (λ image. right_text (record { level = image.level; limit = image.limit }) ++ 10 ∷ []) images
+
+abbrev pub summary_text : Summary → List ℕ
+summary_text summary = codes "levels " ++ decimal summary.levels ++ codes " digest " ++ digest_text summary.digest
+
+-- Where it is known what the writer holds, what was written are the lines of right levels, and the line of them all.
+abbrev pub PrintsFolder : Option (List ℕ) → Option (List ℕ) → Type 0
+PrintsFolder before after = (images : List Image) × (summary : Summary) × IsShelf images × (summary.levels ≡ length images)
+    × Appends before after (right_lines images ++ (summary_text summary ++ 10 ∷ []))
+
+abbrev pub plan_text : Option ℕ → List ℕ
+plan_text None = codes "-"
+plan_text (Some pit) = decimal pit
+
+abbrev pub entry_text : Entry → List ℕ
+entry_text e = signed_decimal e.value ++ codes " " ++ plan_text e.plan ++ codes " " ++ decimal e.dist
+
+-- Where it is known what the writer holds, what was written is what right levels say of a board, and the line feed.
+abbrev pub PrintsEntry : Option (List ℕ) → Option (List ℕ) → Type 0
+PrintsEntry before after = (images : List Image) × (board : List ℕ) × IsShelf images × IsBoard board × (sum board < length images)
+    × Appends before after (entry_text (entry_of images board) ++ 10 ∷ [])
+
+abbrev pub look_up_fault_text : LookUpFault → List ℕ
+look_up_fault_text (Board fault) = codes "refused " ++ board_fault_text fault
+look_up_fault_text (Folder fault) = codes "refused " ++ folder_fault_text fault
+look_up_fault_text (NotYet levels) = codes "refused 59 NotYet levels " ++ decimal levels

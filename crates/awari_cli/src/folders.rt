@@ -1,0 +1,260 @@
+//! The commands `verify` and `ask`: the levels in a folder verified, and asked for an entry.
+
+ghost use Rattle.std.specs.Prelude.{◌≡◌, ◌≤◌, ◌<◌, ℕ, List, true, length, sum, IfOk};
+ghost use Rattle.std.specs.Io.KnownBytes.{Appends};
+ghost use Rattle.awari_board.specs.Rules.{IsBoard};
+ghost use Rattle.awari_board.specs.Text.{text_of};
+ghost use Rattle.awari_table.specs.Images.{entry_of};
+ghost use Rattle.awari_table.specs.Shelves.{IsShelf};
+ghost use Rattle.awari_table.specs.declared.images.Image.{Image};
+ghost use Rattle.awari_cli.specs.Folders.{PrintsFolder, PrintsEntry, digest_text, hex_digit, right_lines};
+ghost use Rattle.awari_cli.specs.declared.folders.LookUpFault.TheVariants as look_up;
+
+use crate::printing::print;
+use crate::refusals::{OfBoard, OfFolder};
+use arrayvec::ArrayString;
+use awari_board::{Board, BoardFault};
+use awari_folder::{FolderFault, load};
+use awari_table::{Entry, NotYet, Shelf};
+use std::alloc::Global;
+use std::fmt;
+use std::io::Write;
+use std::path::Path;
+use std::rt::Files;
+use thiserror::Error;
+
+/// A level of a folder that is right. Printed, it is its line without the line feed.
+#[derive(Clone, Copy)]
+struct RightLevel {
+    level: u8,
+    limit: u32,
+}
+
+impl fmt::Display for RightLevel {
+    ghost use Rattle.std.specs.Prelude.{Some};
+    ghost use Rattle.awari_cli.specs.Folders.{right_text};
+
+    ghost output = { λ right. Some (right_text right) };
+
+    fn fmt<W: fmt::Write>(&self, f: &mut fmt::Formatter<W>) -> fmt::Result {
+        write!(f, "level {} ok limit {}", self.level, self.limit)
+    }
+}
+
+/// The last line of a folder: how many levels it has, and the digest of the last one's file.
+#[derive(Clone, Copy)]
+struct Summary {
+    levels: u8,
+    digest: [u8; 32],
+}
+
+impl fmt::Display for Summary {
+    ghost use Rattle.std.specs.Prelude.{Some};
+    ghost use Rattle.awari_cli.specs.Folders.{summary_text};
+
+    ghost output = { λ summary. Some (summary_text summary) };
+
+    fn fmt<W: fmt::Write>(&self, f: &mut fmt::Formatter<W>) -> fmt::Result {
+        let digits = hex_of(&self.digest);
+        write!(f, "levels {} digest {digits}", self.levels)
+    }
+}
+
+/// The digest in hexadecimal.
+fn hex_of(digest: &[u8; 32]) -> ArrayString<64>
+    ensures { result.bytes ≡ digest_text digest.now }
+{
+    let mut text = ArrayString::new();
+    for byte in digest {
+        text.push(hex_digit(*byte / 16));
+        text.push(hex_digit(*byte % 16));
+    }
+    text
+}
+
+fn hex_digit(value: u8) -> char
+    requires { value < 16 }
+    ensures { result ≡ hex_digit value }
+{
+    char::from(if value < 10 {
+        b'0' + value
+    } else {
+        b'a' + (value - 10)
+    })
+}
+
+/// Why a folder gives no entry of a board.
+#[derive(Clone, Copy, Debug, PartialEq, Eq, Error)]
+pub enum LookUpFault {
+    /// The text is no board.
+    #[error("{fault}")]
+    Board { fault: BoardFault },
+    /// The folder is not loaded.
+    #[error("{fault}")]
+    Folder { fault: FolderFault },
+    /// 59: the folder has only so many levels, and the board has at least as many stones.
+    #[error("there are {levels} levels")]
+    NotYet { levels: u8 },
+}
+
+impl From<BoardFault> for LookUpFault {
+    ghost from_gives = { λ fault e. e ≡ look_up.Board fault };
+
+    fn from(fault: BoardFault) -> Self {
+        LookUpFault::Board { fault }
+    }
+}
+
+impl From<FolderFault> for LookUpFault {
+    ghost from_gives = { λ fault e. e ≡ look_up.Folder fault };
+
+    fn from(fault: FolderFault) -> Self {
+        LookUpFault::Folder { fault }
+    }
+}
+
+impl From<NotYet> for LookUpFault {
+    ghost from_gives = { λ not_yet e. e ≡ look_up.NotYet not_yet.levels };
+
+    fn from(not_yet: NotYet) -> Self {
+        LookUpFault::NotYet {
+            levels: not_yet.levels,
+        }
+    }
+}
+
+/// Printed, a fault is its refusal.
+#[derive(Clone, Copy)]
+struct Refusal(LookUpFault);
+
+impl fmt::Display for Refusal {
+    ghost use Rattle.std.specs.Prelude.{Some};
+    ghost use Rattle.awari_cli.specs.Folders.{look_up_fault_text};
+
+    ghost output = { λ refused. Some (look_up_fault_text refused.0) };
+
+    fn fmt<W: fmt::Write>(&self, f: &mut fmt::Formatter<W>) -> fmt::Result {
+        match self.0 {
+            LookUpFault::Board { fault } => write!(f, "refused {}", OfBoard(fault)),
+            LookUpFault::Folder { fault } => write!(f, "refused {}", OfFolder(fault)),
+            LookUpFault::NotYet { levels } => write!(f, "refused 59 NotYet levels {levels}"),
+        }
+    }
+}
+
+/// An entry as `ask` prints it: value, plan and distance.
+#[derive(Clone, Copy)]
+struct EntryLine(Entry);
+
+impl fmt::Display for EntryLine {
+    ghost use Rattle.std.specs.Prelude.{Some};
+    ghost use Rattle.awari_cli.specs.Folders.{entry_text};
+
+    ghost output = { λ line. Some (entry_text line.0) };
+
+    fn fmt<W: fmt::Write>(&self, f: &mut fmt::Formatter<W>) -> fmt::Result {
+        let Entry { value, plan, dist } = self.0;
+        let plan = Plan(plan);
+        write!(f, "{value} {plan} {dist}")
+    }
+}
+
+/// A plan, or that there is none.
+#[derive(Clone, Copy)]
+struct Plan(Option<u8>);
+
+impl fmt::Display for Plan {
+    ghost use Rattle.std.specs.Prelude.{Some};
+    ghost use Rattle.awari_cli.specs.Folders.{plan_text};
+
+    ghost output = { λ plan. Some (plan_text plan.0) };
+
+    fn fmt<W: fmt::Write>(&self, f: &mut fmt::Formatter<W>) -> fmt::Result {
+        match self.0 {
+            Some(pit) => write!(f, "{pit}"),
+            None => f.write_str("-"),
+        }
+    }
+}
+
+/// The entry of the board that `text` spells, as the levels in the folder have it. The text is read
+/// before the folder is.
+fn look_up<F: Files>(
+    files: &F,
+    alloc: Global,
+    folder: &str,
+    text: &[u8],
+) -> Result<Entry, LookUpFault>
+    ensures { IfOk result (λ e. (images : List Image) × (board : List ℕ) × IsShelf images × IsBoard board × (sum board < length images)
+        × (text.now ≡ text_of board) × (e ≡ entry_of images board)) }
+{
+    let board = Board::parse(text)?;
+    let shelf = load(files, alloc, Path::new(folder))?.shelf;
+    // That the levels are a shelf is what this call tells the proof.
+    let _levels = shelf.levels();
+    Ok(shelf.entry(&board)?)
+}
+
+/// Prints the entry of a board, or the refusal.
+pub fn run_ask<F: Files, W: Write>(
+    files: &F,
+    alloc: Global,
+    folder: &str,
+    board: &str,
+    writer: &mut W,
+) -> u8
+    ensures status { result ≤ 1 }
+    ensures found { result ≡ 0 → PrintsEntry (W.contents writer.old) (W.contents writer.new) }
+{
+    match look_up(files, alloc, folder, board.as_bytes()) {
+        Ok(entry) => {
+            if print(writer, &EntryLine(entry)) {
+                0
+            } else {
+                1
+            }
+        }
+        Err(fault) => {
+            print(writer, &Refusal(fault));
+            1
+        }
+    }
+}
+
+/// Verifies the levels of a folder, and prints a line for each and one for all. A refusal is
+/// printed alone.
+pub fn run_verify<F: Files, W: Write>(files: &F, alloc: Global, folder: &str, writer: &mut W) -> u8
+    ensures status { result ≤ 1 }
+    ensures verified { result ≡ 0 → PrintsFolder (W.contents writer.old) (W.contents writer.new) }
+{
+    let stored = match load(files, alloc, Path::new(folder)) {
+        Ok(stored) => stored,
+        Err(fault) => {
+            print(writer, &Refusal(LookUpFault::Folder { fault }));
+            return 1;
+        }
+    };
+    if !print_levels(&stored.shelf, writer) {
+        return 1;
+    }
+    let levels = stored.shelf.levels();
+    let digest = stored.digest;
+    if print(writer, &Summary { levels, digest }) {
+        0
+    } else {
+        1
+    }
+}
+
+/// Prints the line of each level, and says whether the writer took them.
+fn print_levels<W: Write>(shelf: &Shelf, writer: &mut W) -> bool
+    ensures { result ≡ true → IsShelf shelf.now × Appends (W.contents writer.old) (W.contents writer.new) (right_lines shelf.now) }
+{
+    for level in 0..shelf.levels() {
+        let limit = shelf.level(level).limit();
+        if !print(writer, &RightLevel { level, limit }) {
+            return false;
+        }
+    }
+    true
+}
