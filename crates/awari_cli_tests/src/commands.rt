@@ -6,11 +6,12 @@ use std::alloc::{AllocError, Global};
 use std::io;
 use std::io::{ErrorKind, Read, Write};
 use std::process::Abort;
+use std::rt::Files;
 use std::test::Fail;
 
 /// Runs the program on these words, and compares what it prints and its status.
 pub fn expect_run(
-    rt: &impl Abort,
+    rt: &(impl Abort + Files),
     alloc: Global,
     words: &[&str],
     input: &[u8],
@@ -20,13 +21,13 @@ pub fn expect_run(
     let mut reader = input;
     let mut output = Vec::new(alloc);
     let mut errors = Vec::new(alloc);
-    let status = run(alloc, words, &mut reader, &mut output, &mut errors);
+    let status = run(rt, alloc, words, &mut reader, &mut output, &mut errors);
     assert!(rt; output.as_slice() == printed.as_bytes(), "{printed}");
     assert_eq!(rt; status, expected, "{printed}");
     assert_eq!(rt; errors.is_empty(), expected != 2, "{printed}");
 }
 
-fn expect_check(rt: &impl Abort, alloc: Global, input: &[u8], printed: &str, status: u8) {
+fn expect_check(rt: &(impl Abort + Files), alloc: Global, input: &[u8], printed: &str, status: u8) {
     expect_run(rt, alloc, &["awari", "check"], input, printed, status);
 }
 
@@ -54,7 +55,7 @@ fn levels_0_to_1(
 
 /// The entry of a board of level 2. Each such board has at most one legal move, so these are worked
 /// by hand: with `low` and `high` the pits of its two stones, the mover's being 0 to 5.
-fn level_2_line(alloc: Global, board: &Board) -> Result<String, AllocError> {
+pub fn level_2_line(alloc: Global, board: &Board) -> Result<String, AllocError> {
     let mut low = 12i32;
     let mut high = 0i32;
     for pit in 0..12u8 {
@@ -210,6 +211,7 @@ fn a_line_that_is_not_passed_on_is_no_yes(rt: HostRuntime) {
     let words = ["awari", "check"];
     let mut errors = Vec::new(rt.alloc());
     let status = run(
+        &rt,
         rt.alloc(),
         words.as_slice(),
         &mut reader,
@@ -227,6 +229,7 @@ fn a_broken_stream_ends_the_command(rt: HostRuntime) -> Result<(), Fail> {
     let mut reader = text.chain(Broken);
     let words = ["awari", "check"];
     let status = run(
+        &rt,
         rt.alloc(),
         words.as_slice(),
         &mut reader,
@@ -237,6 +240,7 @@ fn a_broken_stream_ends_the_command(rt: HostRuntime) -> Result<(), Fail> {
     assert!(rt; output.as_slice() == "refused 14 Read\n".as_bytes());
     let mut reader = text;
     let status = run(
+        &rt,
         rt.alloc(),
         words.as_slice(),
         &mut reader,

@@ -3,4 +3,7 @@
 
 #[cfg(test)]
 mod commands;
+#[cfg(test)]
+mod levels;
+#[cfg(test)]
 mod plays;

@@ -1,0 +1,119 @@
+//! The commands `build`, `verify` and `ask`.
+use crate::commands::{expect_run, level_2_line};
+use awari_board::Board;
+use awari_build::build_alone;
+use awari_rank::successor;
+use awari_table::{Entry, HIGHEST_LEVEL, Shelf};
+use std::alloc::Global;
+use std::fs;
+use std::sync::Arc;
+use std::test::Fail;
+
+const LEVELS_0_TO_2: &str = "\
+level 0 boards 1 won 0 even 1 lost 0 limit 0
+level 1 boards 12 won 5 even 0 lost 7 limit 1
+level 2 boards 78 won 24 even 13 lost 41 limit 9
+";
+
+/// Counts and limits as a program found them which shares nothing with this one.
+const LEVELS_3_TO_6: &str = "\
+level 3 boards 364 won 121 even 64 lost 179 limit 28
+level 4 boards 1365 won 577 even 143 lost 645 limit 38
+level 5 boards 4368 won 2161 even 0 lost 2207 limit 60
+level 6 boards 12376 won 5707 even 1545 lost 5124 limit 64
+";
+
+#[test]
+fn levels_are_built(rt: HostRuntime) {
+    let words = ["awari", "build", "2"];
+    expect_run(&rt, rt.alloc(), words.as_slice(), b"", LEVELS_0_TO_2, 0);
+    for top in ["13", "-1", "x", "256"] {
+        let words = ["awari", "build", top];
+        expect_run(&rt, rt.alloc(), words.as_slice(), b"", "", 2);
+    }
+}
+
+#[test]
+fn a_folder_is_built_verified_and_asked(rt: HostRuntime) -> Result<(), Fail> {
+    let folder = "awari_cli_test_folder";
+    let _ = fs::remove_dir_all(&rt, folder);
+    let zeros =
+        "levels 0 digest 0000000000000000000000000000000000000000000000000000000000000000\n";
+    let verify = ["awari", "verify", folder];
+    expect_run(&rt, rt.alloc(), verify.as_slice(), b"", zeros, 0);
+    let build = ["awari", "build", "1", "--folder", folder];
+    expect_run(
+        &rt,
+        rt.alloc(),
+        build.as_slice(),
+        b"",
+        "refused 82 Open level 0\n",
+        1,
+    );
+    fs::create_dir(&rt, folder)?;
+    let ask = ["awari", "ask", folder, "1,0,0,0,0,0/1,0,0,0,0,0"];
+    expect_run(
+        &rt,
+        rt.alloc(),
+        ask.as_slice(),
+        b"",
+        "refused 59 NotYet levels 0\n",
+        1,
+    );
+    let build = ["awari", "build", "2", "--folder", folder];
+    expect_run(&rt, rt.alloc(), build.as_slice(), b"", LEVELS_0_TO_2, 0);
+    expect_run(&rt, rt.alloc(), build.as_slice(), b"", "", 0);
+    let build = ["awari", "build", "6", "--folder", folder];
+    expect_run(&rt, rt.alloc(), build.as_slice(), b"", LEVELS_3_TO_6, 0);
+    let asked = [
+        ("0,0,0,0,0,1/1,0,0,0,0,0", "-2 5 1\n", 0),
+        ("0,0,0,0,0,1/1,0,1,0,0,0", "1 5 1\n", 0),
+        ("0,0,0,1,0,1/0,0,0,0,0,0", "-2 5 7\n", 0),
+        ("1,0,0,0,0,0/1,0,0,0,0,0", "0 0 0\n", 0),
+        ("0,0,0,0,0,1/0,0,0,0,0,1", "0 5 0\n", 0),
+        ("1,0,0,0,0,0/0,0,1,0,0,0", "2 0 8\n", 0),
+        ("0,0,0,0,0,0/0,0,0,0,0,3", "-3 - 0\n", 0),
+        ("0,0,0,0,0,2/1,2,0,1,0,0", "4 5 1\n", 0),
+        ("0,0,0,0,0,0/0,0,0,0,0,7", "refused 59 NotYet levels 7\n", 1),
+        ("1,2,3", "refused 1 Shape\n", 1),
+    ];
+    for (board, printed, status) in asked {
+        let ask = ["awari", "ask", folder, board];
+        expect_run(&rt, rt.alloc(), ask.as_slice(), b"", printed, status);
+    }
+    fs::remove_dir_all(&rt, folder)?;
+    Ok(())
+}
+
+/// Levels 0 to 2, built.
+fn built(alloc: Global) -> Result<Shelf, Fail> {
+    let mut shelf = Shelf::empty();
+    for _level in 0..3 {
+        let level = build_alone(alloc, &shelf)?;
+        if shelf.levels() > HIGHEST_LEVEL {
+            return Err(Fail::new("levels"));
+        }
+        shelf.push(Arc::new(alloc, level)?);
+    }
+    Ok(shelf)
+}
+
+#[test]
+fn level_2_is_the_one_worked_by_hand(rt: HostRuntime) -> Result<(), Fail> {
+    let shelf = built(rt.alloc())?;
+    let mut board = Board::new([0, 0, 0, 0, 0, 0, 0, 0, 0, 0, 0, 2]);
+    for _rank in 0..78 {
+        let Entry { value, plan, dist } = shelf.entry(&board)?;
+        let line = match plan {
+            Some(pit) => format!(in rt.alloc(); "{value} {pit} {dist}")?,
+            None => format!(in rt.alloc(); "{value} - {dist}")?,
+        };
+        assert_eq!(rt; line.as_str(), level_2_line(rt.alloc(), &board)?.as_str());
+        assert_eq!(rt; board.stones(), 2);
+        if let Some(next) = successor(&board) {
+            board = next;
+        }
+    }
+    assert_eq!(rt; successor(&board), None);
+    Ok(())
+}
