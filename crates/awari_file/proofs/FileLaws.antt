@@ -151,6 +151,10 @@ pub memory_from_short : (Y : Type 0) (n : ℕ) (f : Reader Y) → IsField Y n f 
 memory_from_short Y n f is s bytes h =
     elim (is.early s s faults.Memory bytes [] h) [ inl same ↦ sym same.0 | inr own ↦ absurd own.0 ]
 
+pub early_from_short : (Y : Type 0) (n : ℕ) (f : Reader Y) → IsField Y n f → (s : FileFault) (bytes : List ℕ) → f s bytes ≡ Err faults.Truncated → s ≡ faults.Truncated
+early_from_short Y n f is s bytes h =
+    elim (is.early s s faults.Truncated bytes [] h) [ inl same ↦ sym same.0 | inr own ↦ absurd own.0 ]
+
 -- where a reader's fault is answered, what came is unfinished
 pub read_stops : (Y : Type 0) (n : ℕ) (f : Reader Y) → IsField Y n f → (s : FileFault) (bytes : List ℕ) → f s bytes ≡ Err faults.Read → f faults.Truncated bytes ≡ Err faults.Truncated
 read_stops Y n f is s bytes h =

@@ -10,7 +10,7 @@ use Rattle.awari_file.specs.Source as source
 use Rattle.awari_file.specs.Source.{IsAt, StopsIn, Unfinished}
 use Rattle.awari_file.specs.FileText.{IsBytes}
 use Rattle.awari_file.proofs.FieldLaws.{Reader, IsField}
-use Rattle.awari_file.proofs.FileLaws.{IsWhy, piece_fails, piece_gives, read_stops}
+use Rattle.awari_file.proofs.FileLaws.{IsWhy, piece_fails, piece_gives, read_stops, early_from_short}
 
 abbrev some : List ℕ → Option (List ℕ)
 some xs = Some xs
@@ -78,6 +78,13 @@ pub step_stops : (Y : Type 0) (n : ℕ) (f : Reader Y) → IsField Y n f → (s 
 step_stops Y n f is s front whole left a b hasher here took h =
     let (rest, b-is, parts) = consumes_some a b left front here.known_is took in
     record { came = front; rest = rest; known_is = b-is; parts = parts; kind = read_stops Y n f is s front h }
+
+not_the_readers : (s : FileFault) → s ≡ faults.Truncated → s ≡ faults.Read → ⊥
+not_the_readers s early read = absurd cc
+
+-- bytes are missing only where the reader answered no fault
+pub step_early : (Y : Type 0) (n : ℕ) (f : Reader Y) → IsField Y n f → (s : FileFault) (front : List ℕ) (old new : ℕ) → ((s ≡ faults.Read → ⊥) → new ≡ old) → f s front ≡ Err faults.Truncated → new ≡ old
+step_early Y n f is s front old new calm h = calm (not_the_readers s (early_from_short Y n f is s front h))
 
 -- the fault that a `?` passes on
 pub fault_was : {X : Type 0} (r : Result X FileFault) (d e : FileFault) → r ≡ Err d → r ≡ Err e → d ≡ e

@@ -93,8 +93,9 @@ abbrev pub Gives : {X Y : Type 0} → (X → Y) → Result X FileFault → Resul
 Gives view (Ok x) read = read ≡ Ok (view x)
 Gives view (Err e) read = read ≡ Err e
 
--- The fault of a field of its own, or of the end of the input: not one of the reader or of memory.
+-- The fault of a field of its own: not that of missing bytes, of the reader or of memory.
 abbrev pub IsOwn : FileFault → Type 0
+IsOwn faults.Truncated = ⊥
 IsOwn faults.Read = ⊥
 IsOwn faults.Memory = ⊥
 IsOwn e = Unit {0}

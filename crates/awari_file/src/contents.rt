@@ -5,6 +5,7 @@ use awari_table::Image;
 /// What stands before the entries.
 #[derive(Clone, Copy)]
 pub(crate) struct Header {
+    /// There is one so far; what follows would go by it.
     pub version: u16,
     pub level: u8,
     pub limit: u32,

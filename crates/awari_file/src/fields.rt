@@ -26,11 +26,10 @@ pub(crate) const NO_PLAN: u8 = 255;
 fn magic_at(bytes: &[u8], short: FileFault) -> Result<(u32, &[u8]), FileFault>
     ensures { Gives (λ x. (x.0, x.1.now)) result (field 4 (number_if w32 (λ n. n == magic_number) FileFault.Magic) short bytes.now) }
 {
-    if bytes.len() < 4 {
+    let Some((front, rest)) = bytes.split_first_chunk::<4>() else {
         return Err(short);
-    }
-    let (front, rest) = bytes.split_at(4);
-    let magic = u32::from_be_bytes([front[0], front[1], front[2], front[3]]);
+    };
+    let magic = u32::from_be_bytes(*front);
     if magic != MAGIC {
         return Err(FileFault::Magic);
     }
@@ -40,11 +39,10 @@ fn magic_at(bytes: &[u8], short: FileFault) -> Result<(u32, &[u8]), FileFault>
 fn version_at(bytes: &[u8], short: FileFault) -> Result<(u16, &[u8]), FileFault>
     ensures { Gives (λ x. (x.0, x.1.now)) result (field 2 (number_if w16 (λ n. n == 1) FileFault.Version) short bytes.now) }
 {
-    if bytes.len() < 2 {
+    let Some((front, rest)) = bytes.split_first_chunk::<2>() else {
         return Err(short);
-    }
-    let (front, rest) = bytes.split_at(2);
-    let version = u16::from_be_bytes([front[0], front[1]]);
+    };
+    let version = u16::from_be_bytes(*front);
     if version != VERSION {
         return Err(FileFault::Version);
     }
@@ -55,30 +53,26 @@ fn level_at(bytes: &[u8], short: FileFault) -> Result<(u8, &[u8]), FileFault>
     ensures value { Gives (λ x. (x.0, x.1.now)) result (field 1 (number_if w8 (λ n. nat_le n HIGHEST_LEVEL) FileFault.LevelOutOfRange) short bytes.now) }
     ensures low { IfOk result (λ x. x.0 ≤ HIGHEST_LEVEL) }
 {
-    if bytes.len() < 1 {
+    let Some(([level], rest)) = bytes.split_first_chunk::<1>() else {
         return Err(short);
-    }
-    let (front, rest) = bytes.split_at(1);
-    let level = u8::from_be_bytes([front[0]]);
-    if level > HIGHEST_LEVEL {
+    };
+    if *level > HIGHEST_LEVEL {
         return Err(FileFault::LevelOutOfRange);
     }
-    Ok((level, rest))
+    Ok((*level, rest))
 }
 
 /// The byte that is always 0.
 fn nought_at(bytes: &[u8], short: FileFault) -> Result<(u8, &[u8]), FileFault>
     ensures { Gives (λ x. (x.0, x.1.now)) result (field 1 (number_if w8 (λ n. n == 0) FileFault.Version) short bytes.now) }
 {
-    if bytes.len() < 1 {
+    let Some(([nought], rest)) = bytes.split_first_chunk::<1>() else {
         return Err(short);
-    }
-    let (front, rest) = bytes.split_at(1);
-    let nought = u8::from_be_bytes([front[0]]);
-    if nought != 0 {
+    };
+    if *nought != 0 {
         return Err(FileFault::Version);
     }
-    Ok((nought, rest))
+    Ok((*nought, rest))
 }
 
 /// The number of entries, which is that of the level's boards.
@@ -86,13 +80,10 @@ fn count_at(level: u8, bytes: &[u8], short: FileFault) -> Result<(u64, &[u8]), F
     requires { level ≤ HIGHEST_LEVEL }
     ensures { Gives (λ x. (x.0, x.1.now)) result (field 8 (number_if w64 (λ n. n == size_of level) FileFault.Count) short bytes.now) }
 {
-    if bytes.len() < 8 {
+    let Some((front, rest)) = bytes.split_first_chunk::<8>() else {
         return Err(short);
-    }
-    let (front, rest) = bytes.split_at(8);
-    let count = u64::from_be_bytes([
-        front[0], front[1], front[2], front[3], front[4], front[5], front[6], front[7],
-    ]);
+    };
+    let count = u64::from_be_bytes(*front);
     if count != u64::from(size(level)) {
         return Err(FileFault::Count);
     }
@@ -102,27 +93,20 @@ fn count_at(level: u8, bytes: &[u8], short: FileFault) -> Result<(u64, &[u8]), F
 fn limit_at(bytes: &[u8], short: FileFault) -> Result<(u32, &[u8]), FileFault>
     ensures { Gives (λ x. (x.0, x.1.now)) result (field 4 (any_number w32) short bytes.now) }
 {
-    if bytes.len() < 4 {
+    let Some((front, rest)) = bytes.split_first_chunk::<4>() else {
         return Err(short);
-    }
-    let (front, rest) = bytes.split_at(4);
-    Ok((
-        u32::from_be_bytes([front[0], front[1], front[2], front[3]]),
-        rest,
-    ))
+    };
+    Ok((u32::from_be_bytes(*front), rest))
 }
 
 /// 32 bytes, of which any may stand there.
 fn bytes_at(bytes: &[u8], short: FileFault) -> Result<([u8; 32], &[u8]), FileFault>
     ensures { Gives (λ x. (x.0, x.1.now)) result (field 32 as_they_are short bytes.now) }
 {
-    if bytes.len() < 32 {
+    let Some((taken, rest)) = bytes.split_first_chunk::<32>() else {
         return Err(short);
-    }
-    let (front, rest) = bytes.split_at(32);
-    let mut taken = [0u8; 32];
-    taken.copy_from_slice(front);
-    Ok((taken, rest))
+    };
+    Ok((*taken, rest))
 }
 
 /// All that stands before the entries.
@@ -153,24 +137,20 @@ pub(crate) fn header_of(bytes: &[u8], short: FileFault) -> Result<(Header, &[u8]
 pub(crate) fn entry_at(bytes: &[u8], short: FileFault) -> Result<(Entry, &[u8]), FileFault>
     ensures { Gives (λ x. (x.0, x.1.now)) result (field 6 entry_of short bytes.now) }
 {
-    if bytes.len() < ENTRY_LEN {
+    let Some((front, rest)) = bytes.split_first_chunk::<ENTRY_LEN>() else {
         return Err(short);
-    }
-    let (front, rest) = bytes.split_at(ENTRY_LEN);
+    };
     let plan = match front[1] {
         NO_PLAN => None,
         pit if pit < 6 => Some(pit),
         _ => return Err(FileFault::EntryForm),
     };
-    let dist = u32::from_be_bytes([front[2], front[3], front[4], front[5]]);
-    Ok((
-        Entry {
-            value: front[0].cast_signed(),
-            plan,
-            dist,
-        },
-        rest,
-    ))
+    let entry = Entry {
+        value: front[0].cast_signed(),
+        plan,
+        dist: u32::from_be_bytes([front[2], front[3], front[4], front[5]]),
+    };
+    Ok((entry, rest))
 }
 
 /// A digest, which has to be the one that was computed.

@@ -32,6 +32,7 @@ fn read_header<R: Read>(reader: &mut Counted<R>, hasher: &mut Sha256) -> Result<
         → result ≡ Err FileFault.Read → StopsIn (Unfinished header_at) left (R.remaining (inner_of reader.new)) }
     ensures low { IfOk result (λ h. h.level ≤ HIGHEST_LEVEL) }
     ensures clean { OnOk result (faults_of reader.new ≡ faults_of reader.old) }
+    ensures early { result ≡ Err FileFault.Truncated → faults_of reader.new ≡ faults_of reader.old }
     ensures read { result ≡ Err FileFault.Read → Grew (faults_of reader.old) (faults_of reader.new) }
     ensures memory { result ≢ Err FileFault.Memory }
     ensures faults { faults_of reader.old ≤ faults_of reader.new }
@@ -81,6 +82,7 @@ fn read_some<R: Read>(
     ensures len { OnOk result (vec_len entries.new ≡ vec_len entries.old + count) }
     ensures capacity { vec_capacity entries.new ≡ vec_capacity entries.old }
     ensures clean { OnOk result (faults_of reader.new ≡ faults_of reader.old) }
+    ensures early { result ≡ Err FileFault.Truncated → faults_of reader.new ≡ faults_of reader.old }
     ensures read { result ≡ Err FileFault.Read → Grew (faults_of reader.old) (faults_of reader.new) }
     ensures memory { result ≢ Err FileFault.Memory }
     ensures faults { faults_of reader.old ≤ faults_of reader.new }
@@ -106,6 +108,7 @@ fn read_entries<R: Read>(
     ensures stops { (whole left : List ℕ) → IsAt whole left (R.remaining (inner_of reader.old)) hasher.old
         → result ≡ Err FileFault.Read → StopsIn (Unfinished (entries_at count)) left (R.remaining (inner_of reader.new)) }
     ensures clean { OnOk result (faults_of reader.new ≡ faults_of reader.old) }
+    ensures early { result ≡ Err FileFault.Truncated → faults_of reader.new ≡ faults_of reader.old }
     ensures read { result ≡ Err FileFault.Read → Grew (faults_of reader.old) (faults_of reader.new) }
     ensures memory { result ≢ Err FileFault.Memory }
     ensures faults { faults_of reader.old ≤ faults_of reader.new }
@@ -127,6 +130,7 @@ fn read_end<R: Read>(reader: &mut Counted<R>, hasher: Sha256) -> Result<[u8; 32]
         → result ≡ Err FileFault.Read → StopsIn (IsSoundEnd body) left (R.remaining (inner_of reader.new)) }
     ensures bytes { OnOk result (IfSome (R.remaining (inner_of reader.old)) IsBytes) }
     ensures clean { OnOk result (faults_of reader.new ≡ faults_of reader.old) }
+    ensures early { result ≡ Err FileFault.Truncated → faults_of reader.new ≡ faults_of reader.old }
     ensures read { result ≡ Err FileFault.Read → Grew (faults_of reader.old) (faults_of reader.new) }
     ensures memory { result ≢ Err FileFault.Memory }
     ensures faults { faults_of reader.old ≤ faults_of reader.new }
@@ -149,6 +153,7 @@ fn read_all<R: Read>(alloc: Global, reader: &mut Counted<R>) -> Result<Loaded, F
     ensures exact { IfSome (R.remaining (inner_of reader.old)) (λ bytes. Answers (λ x. x) result (file_in bytes)) }
     ensures bytes { OnOk result (IfSome (R.remaining (inner_of reader.old)) IsBytes) }
     ensures clean { OnOk result (faults_of reader.new ≡ faults_of reader.old) }
+    ensures early { result ≡ Err FileFault.Truncated → faults_of reader.new ≡ faults_of reader.old }
     ensures read { result ≡ Err FileFault.Read → Grew (faults_of reader.old) (faults_of reader.new) }
     ensures in_order { result ≡ Err FileFault.Read
         → IfSome (R.remaining (inner_of reader.old)) (λ bytes. StopsIn IsSoundSoFar bytes (R.remaining (inner_of reader.new))) }
@@ -192,8 +197,9 @@ pub fn read_image<R: Read>(alloc: Global, reader: &mut Counted<R>) -> Result<Loa
     // Otherwise it is the first fault, unless the reader answers one or memory runs out.
     ensures exact { IfSome (R.remaining (inner_of reader.old)) (λ bytes. Answers (λ loaded. loaded) result (file_in bytes)) }
 
-    // An image comes only from a reader that answered no fault, and 68 only from one that did.
+    // An image and 60 come only from a reader that answered no fault, and 68 only from one that did.
     ensures clean { OnOk result (faults_of reader.new ≡ faults_of reader.old) }
+    ensures early { result ≡ Err FileFault.Truncated → faults_of reader.new ≡ faults_of reader.old }
     ensures read { result ≡ Err FileFault.Read → Grew (faults_of reader.old) (faults_of reader.new) }
 
     // With 68, what came before has no fault of its own.
