@@ -22,7 +22,7 @@ use crate::scans::{first_rank, scanned_block};
 use crate::spreads::{hear_own, kind_of};
 use awari_board::moves_keep_boards;
 use awari_rank::{rank, ranks_tell_boards_apart, size, unrank};
-use awari_table::Shelf;
+use awari_table::{Shelf, shelves_are_certificates};
 use std::alloc::Global;
 use std::collections::BinaryHeap;
 use std::marker::Model;
@@ -65,6 +65,7 @@ impl Part {
         ensures hears { IfOk result (λ part. HearsOwn part []) }
         ensures memory { IfErr result (λ fault. fault ≡ OwnerFault.Memory) }
     {
+        shelves_are_certificates();
         let level = shelf.levels();
         let boards = size(level);
         let start = first_rank(boards, owners, owner);
