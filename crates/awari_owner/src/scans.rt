@@ -4,10 +4,11 @@ ghost use Rattle.std.specs.Prelude.{◌≡◌, ◌<◌, ◌≤◌, ◌+◌, ℕ,
 ghost use Rattle.awari_board.specs.Rules.{IsBoard, IsEnd, IsEnded, IsMove};
 ghost use Rattle.awari_rank.specs.Rank.{size_of};
 ghost use Rattle.awari_table.specs.Images.{table_of};
+ghost use Rattle.awari_table.specs.declared.TheConstants.{HIGHEST_LEVEL};
 ghost use Rattle.awari_owner.specs.Cells.{IsWithin};
 ghost use Rattle.std.specs.BinaryHeap.{heap_items, heap_capacity, IsHeap};
 ghost use Rattle.awari_owner.specs.Blocks.{due_cmp};
-ghost use Rattle.awari_owner.specs.Scan.{first_rank, AreScanned, IsOutlook, IsRanged, IsScanned};
+ghost use Rattle.awari_owner.specs.Scan.{AreScanned, IsOutlook, IsRanged, IsScanned};
 
 use crate::blocks::Due;
 use crate::cells::{Cell, Mark};
@@ -24,18 +25,6 @@ struct Outlook {
     best: Option<i8>,
 }
 
-/// The rank of the first board of an owner's block, where so many boards are shared out in blocks of
-/// one length. It is the number of boards where the owner has none.
-pub fn first_rank(boards: u32, owners: u8, owner: u8) -> u32
-    requires some { 1 ≤ owners }
-    requires few { owner ≤ owners }
-    ensures rank { result ≡ first_rank boards owners owner }
-    ensures within { result ≤ boards }
-{
-    let length = (u64::from(boards) + (u64::from(owners) - 1)) / u64::from(owners);
-    (u64::from(owner) * length).min(u64::from(boards)) as u32
-}
-
 /// The cells of a block, and a heap with room for each of its boards.
 pub fn scanned_block(
     alloc: Global,
@@ -43,7 +32,7 @@ pub fn scanned_block(
     start: u32,
     end: u32,
 ) -> Result<(Vec<Cell>, BinaryHeap<Due>), AllocError>
-    requires low { length shelf.now ≤ 12 }
+    requires low { length shelf.now ≤ HIGHEST_LEVEL }
     requires ranged { IsRanged (table_of shelf.now).value (length shelf.now) }
     requires order { start ≤ end }
     requires within { end ≤ size_of (length shelf.now) }
@@ -68,7 +57,7 @@ fn scanned_cells(
     start: u32,
     end: u32,
 ) -> Result<Vec<Cell>, AllocError>
-    requires low { length shelf.now ≤ 12 }
+    requires low { length shelf.now ≤ HIGHEST_LEVEL }
     requires ranged { IsRanged (table_of shelf.now).value (length shelf.now) }
     requires order { start ≤ end }
     requires within { end ≤ size_of (length shelf.now) }
@@ -95,7 +84,7 @@ fn scanned_cells(
 fn scanned(shelf: &Shelf, board: &Board) -> Cell
     requires board { IsBoard board.now }
     requires stones { sum board.now ≡ length shelf.now }
-    requires low { length shelf.now ≤ 12 }
+    requires low { length shelf.now ≤ HIGHEST_LEVEL }
     requires ranged { IsRanged (table_of shelf.now).value (length shelf.now) }
     ensures { IsScanned (table_of shelf.now).value board.now result }
 {
@@ -112,7 +101,7 @@ fn scanned(shelf: &Shelf, board: &Board) -> Cell
 /// The outlook with one pit more.
 fn with_pit(seen: Outlook, shelf: &Shelf, board: &Board, pit: u8) -> Outlook
     requires stones { sum board.now ≡ length shelf.now }
-    requires low { length shelf.now ≤ 12 }
+    requires low { length shelf.now ≤ HIGHEST_LEVEL }
     requires ranged { IsRanged (table_of shelf.now).value (length shelf.now) }
     requires own { pit < 6 }
     requires seen { IsOutlook (table_of shelf.now).value board.now pit seen.quiet seen.best }
@@ -131,7 +120,7 @@ fn with_pit(seen: Outlook, shelf: &Shelf, board: &Board, pit: u8) -> Outlook
 fn with_move(seen: Outlook, shelf: &Shelf, moved: &Moved) -> Outlook
     requires kept { sum moved.now.board + moved.now.captured ≡ length shelf.now }
     requires board { IsBoard moved.now.board }
-    requires low { length shelf.now ≤ 12 }
+    requires low { length shelf.now ≤ HIGHEST_LEVEL }
     requires ranged { IsRanged (table_of shelf.now).value (length shelf.now) }
     requires few { seen.quiet < 6 }
     ensures { (p : List ℕ) (pit : ℕ) → pit < 6 → sum p ≡ length shelf.now → IsMove p pit moved.now.captured moved.now.board
@@ -159,7 +148,7 @@ fn with_move(seen: Outlook, shelf: &Shelf, moved: &Moved) -> Outlook
 fn gain_of(shelf: &Shelf, moved: &Moved) -> i8
     requires kept { sum moved.now.board + moved.now.captured ≡ length shelf.now }
     requires board { IsBoard moved.now.board }
-    requires low { length shelf.now ≤ 12 }
+    requires low { length shelf.now ≤ HIGHEST_LEVEL }
     requires ranged { IsRanged (table_of shelf.now).value (length shelf.now) }
     requires captures { 0 < moved.now.captured }
     ensures gain { result ≡ (pos moved.now.captured -ℤ (table_of shelf.now).value moved.now.board) }
