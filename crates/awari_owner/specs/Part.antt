@@ -55,14 +55,6 @@ pub record IsExpected (part : Part) (note : Note) : Type 0 where
   pub own : note.pit < 6
   pub leaves : Leaves part note.target note.pit
 
--- a note for a board of the block, of one of its quiet moves, of the open gain and distance
-pub record IsTakeable (part : Part) (note : Note) : Type 0 where
-  pub gain : note.gain ≡ part.gain
-  pub dist : note.dist ≡ part.wave
-  pub held : InBlock part note.target
-  pub own : note.pit < 6
-  pub quiet : (p : List ℕ) → IsBoard p → sum p ≡ part.level → rank_of p ≡ note.target → (q : List ℕ) × IsQuietMove p note.pit q
-
 -- all but the cells and the fresh boards is the same
 pub record SameLevel (old new : Part) : Type 0 where
   pub level : new.level ≡ old.level
