@@ -10,7 +10,8 @@ use Rattle.awari_owner.specs.declared.cells.Cell.{Cell}
 use Rattle.awari_owner.specs.declared.places.Place.{Place}
 use Rattle.awari_owner.specs.declared.notes.Note.{Note}
 
--- the stones on the level's boards, the open gain and distance, the rank of the block's first board, the cells of its boards, and the fresh boards
+-- The stones on the boards of the level, the open gain and distance, the rank of the block's first board, the cells of its
+-- boards in order of rank, and the fresh boards.
 pub record Part : Type 0 where
   pub level : ℕ
   pub gain : ℕ
@@ -23,10 +24,11 @@ pub record Part : Type 0 where
 abbrev pub InBlock : Part → ℕ → Type 0
 InBlock part rank = (part.start ≤ rank) × (rank - part.start < length part.cells)
 
+-- the cell of the board of this rank, as it is stored
 abbrev pub stored_at : Part → ℕ → Cell
 stored_at part rank = cell_in part.start part.cells rank
 
--- the cell of the board of this rank
+-- and what it knows
 abbrev pub cell_at : Part → ℕ → tally.Cell
 cell_at part rank = view_of (stored_at part rank)
 
