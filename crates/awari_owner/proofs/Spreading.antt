@@ -12,13 +12,13 @@ use Rattle.awari_owner.specs.Tally.{has_pit, with_pit}
 use Rattle.awari_owner.specs.Steps.{after_note}
 use Rattle.awari_owner.specs.Cells.{status_of}
 use Rattle.awari_owner.specs.Blocks.{Due, due_rank, times_due, is_settled_in, JoinNewlySettled}
-use Rattle.awari_owner.specs.Part.{Part, InBlock, IsTakeable, IsTallied, stored_at, notes_for}
+use Rattle.awari_owner.specs.Part.{Part, InBlock, IsTallied, stored_at, notes_for}
 use Rattle.awari_owner.specs.Spread.{Source, is_held, note_to, with_own, with_all_own, IsSource, AreUnheard, Tells, HearsOwn}
 use Rattle.awari_unmove.specs.Predecessors.{IsPredecessors, ComesBefore}
 use Rattle.awari_owner.specs.declared.notes.Note.{Note}
 use Rattle.awari_owner.specs.declared.notes.Kind.{Kind}
 use Rattle.awari_owner.specs.declared.cells.Cell.{Cell}
-use Rattle.awari_owner.proofs.Taking.{added_put}
+use Rattle.awari_owner.proofs.Taking.{IsTakeable, added_put}
 
 pub held_is : (a b n : ℕ) → a ≤ b → b - a < n → (nat_le a b && nat_lt (b - a) n) ≡ true
 held_is a b n h k = grind (arith, nat_tests)

@@ -1,20 +1,28 @@
 -- What a note makes of a part.
-use Rattle.std.proofs.Common.{◌≡◌, ◌≢◌, ℕ, ◌-◌, ◌≤◌, ◌==◌, Bool, true, false, not, cond, IsTrue, List, ◌∷◌, length, set, sum, ℤ, refl, sym, ap, subst, subst₂, ◌∙◌, arith, rules, eqb-true, length-set}
+use Rattle.std.proofs.Common.{◌≡◌, ◌≢◌, ℕ, ◌-◌, ◌≤◌, ◌<◌, ◌==◌, Bool, true, false, not, cond, IsTrue, List, ◌∷◌, length, set, sum, ℤ, refl, sym, ap, subst, subst₂, ◌∙◌, arith, rules, eqb-true, length-set}
 use Rattle.std.proofs.lemmas.Bool.Decides.{nat_tests}
 use Rattle.awari_board.specs.Rules.{IsBoard, IsMove}
 use Rattle.awari_rank.specs.Rank.{rank_of}
-use Rattle.awari_owner.specs.Notes.{is_heard_at}
+use Rattle.awari_owner.specs.Notes.{IsQuietMove, is_heard_at}
 use Rattle.awari_owner.specs.Tally.{IsTally, has_pit, with_pit}
 use Rattle.awari_owner.specs.Tally as tally
 use Rattle.awari_owner.specs.Steps.{after_note}
 use Rattle.awari_owner.specs.Cells.{status_of}
 use Rattle.awari_owner.specs.Blocks.{cell_in, Due}
-use Rattle.awari_owner.specs.Part.{Part, InBlock, Leaves, IsExpected, IsTakeable, IsTallied, SameLevel, cell_at, stored_at, notes_for}
+use Rattle.awari_owner.specs.Part.{Part, InBlock, Leaves, IsExpected, IsTallied, SameLevel, cell_at, stored_at, notes_for}
 use Rattle.awari_owner.specs.declared.notes.Note.{Note}
 use Rattle.awari_owner.specs.declared.cells.Cell.{Cell}
 use Rattle.awari_owner.proofs.Statuses.{IsNew}
 use Rattle.awari_owner.proofs.Tallies.{note_tally}
 use Rattle.awari_owner.proofs.BlockLemmas.{cell_in-other, cell_in-same}
+
+-- a note for a board of the block, of one of its quiet moves, of the open gain and distance
+pub record IsTakeable (part : Part) (note : Note) : Type 0 where
+  pub gain : note.gain ≡ part.gain
+  pub dist : note.dist ≡ part.wave
+  pub held : InBlock part note.target
+  pub own : note.pit < 6
+  pub quiet : (p : List ℕ) → IsBoard p → sum p ≡ part.level → rank_of p ≡ note.target → (q : List ℕ) × IsQuietMove p note.pit q
 
 pub not_true : (b : Bool) → IsTrue (not b) → IsTrue b → ⊥
 not_true b h k = grind arith

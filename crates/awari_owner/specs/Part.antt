@@ -10,7 +10,8 @@ use Rattle.awari_owner.specs.declared.cells.Cell.{Cell}
 use Rattle.awari_owner.specs.declared.places.Place.{Place}
 use Rattle.awari_owner.specs.declared.notes.Note.{Note}
 
--- the stones on the level's boards, the open gain and distance, the rank of the block's first board, the cells of its boards, and the fresh boards
+-- The stones on the boards of the level, the open gain and distance, the rank of the block's first board, the cells of its
+-- boards in order of rank, and the fresh boards.
 pub record Part : Type 0 where
   pub level : ℕ
   pub gain : ℕ
@@ -23,10 +24,11 @@ pub record Part : Type 0 where
 abbrev pub InBlock : Part → ℕ → Type 0
 InBlock part rank = (part.start ≤ rank) × (rank - part.start < length part.cells)
 
+-- the cell of the board of this rank, as it is stored
 abbrev pub stored_at : Part → ℕ → Cell
 stored_at part rank = cell_in part.start part.cells rank
 
--- the cell of the board of this rank
+-- and what it knows
 abbrev pub cell_at : Part → ℕ → tally.Cell
 cell_at part rank = view_of (stored_at part rank)
 
@@ -54,14 +56,6 @@ pub record IsExpected (part : Part) (note : Note) : Type 0 where
   pub held : InBlock part note.target
   pub own : note.pit < 6
   pub leaves : Leaves part note.target note.pit
-
--- a note for a board of the block, of one of its quiet moves, of the open gain and distance
-pub record IsTakeable (part : Part) (note : Note) : Type 0 where
-  pub gain : note.gain ≡ part.gain
-  pub dist : note.dist ≡ part.wave
-  pub held : InBlock part note.target
-  pub own : note.pit < 6
-  pub quiet : (p : List ℕ) → IsBoard p → sum p ≡ part.level → rank_of p ≡ note.target → (q : List ℕ) × IsQuietMove p note.pit q
 
 -- all but the cells and the fresh boards is the same
 pub record SameLevel (old new : Part) : Type 0 where

@@ -14,6 +14,7 @@ use Rattle.awari_owner.specs.declared.notes.Kind.{Kind}
 abbrev pub Source : Type 0
 Source = List ℕ × ℕ
 
+-- whether the board of this rank is in the block
 abbrev pub is_held : Part → ℕ → Bool
 is_held part rank = nat_le part.start rank && nat_lt (rank - part.start) (length part.cells)
 
@@ -25,6 +26,7 @@ note_to part kind y = record { level = part.level; target = rank_of y.0; pit = y
 abbrev pub with_own : Part → Kind → List Note → Source → List Note
 with_own part kind notes y = if is_held part (rank_of y.0) then note_to part kind y ∷ notes else notes
 
+-- and those of all these, one after the other
 abbrev pub with_all_own : Part → Kind → List Note → List Source → List Note
 with_all_own part kind notes sources = fold (with_own part kind) notes sources
 

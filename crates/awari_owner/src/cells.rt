@@ -7,26 +7,30 @@ ghost use Rattle.awari_owner.specs.Steps.{after_note, after_opening};
 use crate::notes::Kind;
 use crate::places::Place;
 
-/// What a cell knows of its board: that it is ended, with its gain as score; that it is open, with the best capture
-/// as score where there is one; or that it is settled, with its value as score.
+/// What a cell knows of its board.
 #[derive(Clone, Copy, PartialEq)]
 pub enum Mark {
+    /// No move is legal, and the gain of the end, which is the score, is not open yet.
     Ended,
+    /// No move captures, and the board is not settled.
     Quiet,
+    /// The best capture gains the score, and the board is not settled.
     Capturing,
+    /// The score is the board's value.
     Settled,
 }
 
-/// The cell of a board, in eight bytes.
+/// The cell of a board, in eight bytes. Once it is settled it keeps mark, score and distance.
 #[derive(Clone, Copy)]
 pub struct Cell {
     /// The pits of which a note was heard, a bit for each.
     pub heard: u8,
-    /// The quiet moves with no Won note.
+    /// How many quiet moves have no Won note.
     pub left: u8,
     pub mark: Mark,
+    /// Stones, for the mover.
     pub score: i8,
-    /// The greatest distance of a Won note, or the distance of a settled board.
+    /// The greatest distance of a Won note, or the distance of a settled board, in plies.
     pub dist: u32,
 }
 
@@ -44,12 +48,14 @@ impl Cell {
         }
     }
 
+    /// Whether the board is settled.
     pub fn is_settled(&self) -> bool
         ensures { result ≡ is_settled self.now.mark }
     {
         self.mark == Mark::Settled
     }
 
+    /// Whether a note of this pit was heard.
     pub fn has_heard(&self, pit: u8) -> bool
         requires { pit < 6 }
         ensures { result ≡ has_pit self.now.heard pit }
@@ -105,7 +111,9 @@ impl Cell {
         }
     }
 
-    /// The cell once the gain of the place is opened.
+    /// The cell once the gain of the place is opened. An end with the greatest gain settles the
+    /// board, and so does a capture that gains just that, or that loses just that where each quiet
+    /// move has a Won note.
     pub fn with_gain(self, place: Place) -> Cell
         requires low { place.level ≤ 24 }
         requires gain { place.gain ≤ place.level }

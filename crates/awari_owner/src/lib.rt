@@ -1,4 +1,11 @@
-//! One owner's part of a level that is being built: a cell for each board of its block.
+//! The analysis of a level, backward from the ends of play and the captures.
+//!
+//! A level is shared out in blocks of boards, and each owner has a [`Part`]: a cell for each board
+//! of its block. Gains are opened from the greatest inward to 1, and within a gain distances from 0
+//! on. A board that is settled tells the boards whose quiet moves lead to it that its mover has won
+//! or lost that gain, which may settle those. What a cell has to know of the notes that its board
+//! heard is defined in `specs/Tally.antt`, and `specs/Finish.antt` says what is right once all are
+//! heard.
 #![tactic(auto)]
 
 mod blocks;

@@ -9,6 +9,7 @@ ghost use Rattle.awari_owner.specs.OwnerFault.{IsFaultOf};
 ghost use Rattle.awari_owner.specs.Scan.{IsScan, IsWhole};
 ghost use Rattle.awari_owner.specs.Spread.{HearsOwn, Source, Spreads};
 ghost use Rattle.awari_table.specs.Images.{table_of};
+ghost use Rattle.awari_table.specs.declared.TheConstants.{HIGHEST_LEVEL};
 ghost use Rattle.awari_owner.specs.declared.faults.OwnerFault.{OwnerFault};
 ghost use Rattle.awari_owner.specs.declared.notes.Note.{Note as NoteView};
 
@@ -17,12 +18,12 @@ use crate::cells::{Cell, Mark};
 use crate::faults::OwnerFault;
 use crate::notes::Note;
 use crate::outboxes::Outboxes;
-use crate::places::Place;
-use crate::scans::{first_rank, scanned_block};
+use crate::places::{Place, first_rank};
+use crate::scans::scanned_block;
 use crate::spreads::{hear_own, kind_of};
 use awari_board::moves_keep_boards;
 use awari_rank::{rank, ranks_tell_boards_apart, size, unrank};
-use awari_table::Shelf;
+use awari_table::{Shelf, shelves_are_certificates};
 use std::alloc::Global;
 use std::collections::BinaryHeap;
 use std::marker::Model;
@@ -51,20 +52,21 @@ impl Model for Part {
 
 impl Part {
     /// The part of this owner, one of `owners`, of the shelf's next level: each board of its block
-    /// with no note heard, and no gain open. There are 1 to 16 owners, and the shelf has at most 12
-    /// levels. Refused as 33 `Memory` where a growth was.
+    /// with no note heard, and no gain open. There are 1 to 16 owners, and the shelf has at most
+    /// `HIGHEST_LEVEL` levels. Refused as 33 `Memory` where a growth was.
     ///
     /// It takes all the memory that the part will ever need, 16 bytes a board.
     pub fn scan(alloc: Global, shelf: &Shelf, owners: u8, owner: u8) -> Result<Part, OwnerFault>
         requires owners { (1 ≤ owners) × (owners ≤ 16) }
         requires owner { owner < owners }
-        requires low { length shelf.now ≤ 12 }
+        requires low { length shelf.now ≤ HIGHEST_LEVEL }
         ensures scanned { IfOk result (IsScan (length shelf.now) owners owner) }
         ensures whole { owners ≡ 1 → IfOk result IsWhole }
         ensures tallied { IfOk result (λ part. IsTallied (table_of shelf.now).value part []) }
         ensures hears { IfOk result (λ part. HearsOwn part []) }
         ensures memory { IfErr result (λ fault. fault ≡ OwnerFault.Memory) }
     {
+        shelves_are_certificates();
         let level = shelf.levels();
         let boards = size(level);
         let start = first_rank(boards, owners, owner);

@@ -1,4 +1,6 @@
-//! Where a part stands.
+//! Where a part stands, and where its block begins.
+ghost use Rattle.std.specs.Prelude.{◌≡◌, ◌≤◌};
+ghost use Rattle.awari_owner.specs.Scan.{first_rank};
 
 /// The level, the open gain and distance, and where the block begins.
 #[derive(Clone, Copy)]
@@ -11,4 +13,16 @@ pub struct Place {
     pub wave: u32,
     /// The rank of the first board of the block.
     pub start: u32,
+}
+
+/// The rank of the first board of an owner's block, where so many boards are shared out in blocks of
+/// one length. It is the number of boards where the owner has none.
+pub fn first_rank(boards: u32, owners: u8, owner: u8) -> u32
+    requires some { 1 ≤ owners }
+    requires few { owner ≤ owners }
+    ensures rank { result ≡ first_rank boards owners owner }
+    ensures within { result ≤ boards }
+{
+    let length = (u64::from(boards) + (u64::from(owners) - 1)) / u64::from(owners);
+    (u64::from(owner) * length).min(u64::from(boards)) as u32
 }

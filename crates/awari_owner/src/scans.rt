@@ -1,19 +1,20 @@
 //! What is known of a board before any note is heard: how many quiet moves it has, and what its
 //! best capture gains by the shelf.
-ghost use Rattle.std.specs.Prelude.{◌≡◌, ◌<◌, ◌≤◌, ◌+◌, pos, ◌-ℤ◌, [], IfOk, length, sum, vec_len};
-ghost use Rattle.awari_board.specs.Rules.{IsEnd, IsEnded, IsMove};
+ghost use Rattle.std.specs.Prelude.{◌≡◌, ◌<◌, ◌≤◌, ◌+◌, ℕ, ℤ, pos, ◌-ℤ◌, List, [], None, IfOk, length, sum, vec_len};
+ghost use Rattle.awari_board.specs.Rules.{IsBoard, IsEnd, IsEnded, IsMove};
 ghost use Rattle.awari_rank.specs.Rank.{size_of};
 ghost use Rattle.awari_table.specs.Images.{table_of};
+ghost use Rattle.awari_table.specs.declared.TheConstants.{HIGHEST_LEVEL};
 ghost use Rattle.awari_owner.specs.Cells.{IsWithin};
 ghost use Rattle.std.specs.BinaryHeap.{heap_items, heap_capacity, IsHeap};
 ghost use Rattle.awari_owner.specs.Blocks.{due_cmp};
-ghost use Rattle.awari_owner.specs.Scan.{first_rank, AreScanned, IsOutlook, IsScanned};
+ghost use Rattle.awari_owner.specs.Scan.{AreScanned, IsOutlook, IsRanged, IsScanned};
 
 use crate::blocks::Due;
 use crate::cells::{Cell, Mark};
-use awari_board::{Board, Moved, moves_keep_boards};
+use awari_board::{Board, Moved};
 use awari_rank::{ranks_tell_boards_apart, successor, unrank};
-use awari_table::{Shelf, shelves_are_certificates};
+use awari_table::Shelf;
 use std::alloc::{AllocError, Global};
 use std::collections::BinaryHeap;
 
@@ -24,18 +25,6 @@ struct Outlook {
     best: Option<i8>,
 }
 
-/// The rank of the first board of an owner's block, where so many boards are shared out in blocks of
-/// one length. It is the number of boards where the owner has none.
-pub fn first_rank(boards: u32, owners: u8, owner: u8) -> u32
-    requires some { 1 ≤ owners }
-    requires few { owner ≤ owners }
-    ensures rank { result ≡ first_rank boards owners owner }
-    ensures within { result ≤ boards }
-{
-    let length = (u64::from(boards) + (u64::from(owners) - 1)) / u64::from(owners);
-    (u64::from(owner) * length).min(u64::from(boards)) as u32
-}
-
 /// The cells of a block, and a heap with room for each of its boards.
 pub fn scanned_block(
     alloc: Global,
@@ -43,7 +32,8 @@ pub fn scanned_block(
     start: u32,
     end: u32,
 ) -> Result<(Vec<Cell>, BinaryHeap<Due>), AllocError>
-    requires low { length shelf.now ≤ 12 }
+    requires low { length shelf.now ≤ HIGHEST_LEVEL }
+    requires ranged { IsRanged (table_of shelf.now).value (length shelf.now) }
     requires order { start ≤ end }
     requires within { end ≤ size_of (length shelf.now) }
     ensures len { IfOk result (λ block. start + vec_len block.0 ≡ end) }
@@ -67,7 +57,8 @@ fn scanned_cells(
     start: u32,
     end: u32,
 ) -> Result<Vec<Cell>, AllocError>
-    requires low { length shelf.now ≤ 12 }
+    requires low { length shelf.now ≤ HIGHEST_LEVEL }
+    requires ranged { IsRanged (table_of shelf.now).value (length shelf.now) }
     requires order { start ≤ end }
     requires within { end ≤ size_of (length shelf.now) }
     ensures len { IfOk result (λ cells. start + vec_len cells ≡ end) }
@@ -91,8 +82,10 @@ fn scanned_cells(
 
 /// The cell of a board of the shelf's next level.
 fn scanned(shelf: &Shelf, board: &Board) -> Cell
+    requires board { IsBoard board.now }
     requires stones { sum board.now ≡ length shelf.now }
-    requires low { length shelf.now ≤ 12 }
+    requires low { length shelf.now ≤ HIGHEST_LEVEL }
+    requires ranged { IsRanged (table_of shelf.now).value (length shelf.now) }
     ensures { IsScanned (table_of shelf.now).value board.now result }
 {
     let mut seen = Outlook {
@@ -100,15 +93,16 @@ fn scanned(shelf: &Shelf, board: &Board) -> Cell
         best: None,
     };
     for pit in 0..6 {
-        seen = with_pit(shelf, board, seen, pit);
+        seen = with_pit(seen, shelf, board, pit);
     }
-    cell_of(shelf, board, seen)
+    cell_of(board, seen)
 }
 
 /// The outlook with one pit more.
-fn with_pit(shelf: &Shelf, board: &Board, seen: Outlook, pit: u8) -> Outlook
+fn with_pit(seen: Outlook, shelf: &Shelf, board: &Board, pit: u8) -> Outlook
     requires stones { sum board.now ≡ length shelf.now }
-    requires low { length shelf.now ≤ 12 }
+    requires low { length shelf.now ≤ HIGHEST_LEVEL }
+    requires ranged { IsRanged (table_of shelf.now).value (length shelf.now) }
     requires own { pit < 6 }
     requires seen { IsOutlook (table_of shelf.now).value board.now pit seen.quiet seen.best }
     ensures { IsOutlook (table_of shelf.now).value board.now (pit + 1) result.quiet result.best }
@@ -117,20 +111,21 @@ fn with_pit(shelf: &Shelf, board: &Board, seen: Outlook, pit: u8) -> Outlook
         return seen;
     }
     match board.play(pit) {
-        Ok(moved) => with_move(shelf, board, seen, pit, &moved),
+        Ok(moved) => with_move(seen, shelf, &moved),
         Err(_) => unreachable!(),
     }
 }
 
 /// The outlook with the move of one pit more.
-fn with_move(shelf: &Shelf, board: &Board, seen: Outlook, pit: u8, moved: &Moved) -> Outlook
-    requires stones { sum board.now ≡ length shelf.now }
-    requires low { length shelf.now ≤ 12 }
-    requires own { pit < 6 }
-    requires legal { IsMove board.now pit moved.now.captured moved.now.board }
-    requires kept { sum moved.now.board + moved.now.captured ≡ sum board.now }
-    requires seen { IsOutlook (table_of shelf.now).value board.now pit seen.quiet seen.best }
-    ensures { IsOutlook (table_of shelf.now).value board.now (pit + 1) result.quiet result.best }
+fn with_move(seen: Outlook, shelf: &Shelf, moved: &Moved) -> Outlook
+    requires kept { sum moved.now.board + moved.now.captured ≡ length shelf.now }
+    requires board { IsBoard moved.now.board }
+    requires low { length shelf.now ≤ HIGHEST_LEVEL }
+    requires ranged { IsRanged (table_of shelf.now).value (length shelf.now) }
+    requires few { seen.quiet < 6 }
+    ensures { (p : List ℕ) (pit : ℕ) → pit < 6 → sum p ≡ length shelf.now → IsMove p pit moved.now.captured moved.now.board
+        → IsOutlook (table_of shelf.now).value p pit seen.quiet seen.best
+        → IsOutlook (table_of shelf.now).value p (pit + 1) result.quiet result.best }
 {
     if moved.captured == 0 {
         return Outlook {
@@ -152,30 +147,25 @@ fn with_move(shelf: &Shelf, board: &Board, seen: Outlook, pit: u8, moved: &Moved
 /// What a capture gains: the stones captured, less the value of the board that it leaves.
 fn gain_of(shelf: &Shelf, moved: &Moved) -> i8
     requires kept { sum moved.now.board + moved.now.captured ≡ length shelf.now }
-    requires low { length shelf.now ≤ 12 }
+    requires board { IsBoard moved.now.board }
+    requires low { length shelf.now ≤ HIGHEST_LEVEL }
+    requires ranged { IsRanged (table_of shelf.now).value (length shelf.now) }
     requires captures { 0 < moved.now.captured }
     ensures gain { result ≡ (pos moved.now.captured -ℤ (table_of shelf.now).value moved.now.board) }
     ensures within { IsWithin (length shelf.now) result }
 {
-    shelves_are_certificates();
-    let _levels = shelf.levels();
-    let _stones = moved.board.stones();
     match shelf.entry(&moved.board) {
         Ok(entry) => moved.captured as i8 - entry.value,
         Err(_) => unreachable!(),
     }
 }
 
-/// The cell of a board with this outlook.
-fn cell_of(shelf: &Shelf, board: &Board, seen: Outlook) -> Cell
-    requires stones { sum board.now ≡ length shelf.now }
-    requires seen { IsOutlook (table_of shelf.now).value board.now 6 seen.quiet seen.best }
-    ensures { IsScanned (table_of shelf.now).value board.now result }
+/// The cell of a board with this outlook, which is ended where it has no quiet move and no capture.
+fn cell_of(board: &Board, seen: Outlook) -> Cell
+    requires ended { seen.quiet ≡ 0 → seen.best ≡ None → IsEnded board.now }
+    ensures { (value : List ℕ → ℤ) → IsBoard board.now → IsRanged value (sum board.now)
+        → IsOutlook value board.now 6 seen.quiet seen.best → IsScanned value board.now result }
 {
-    shelves_are_certificates();
-    moves_keep_boards();
-    let _levels = shelf.levels();
-    let _stones = board.stones();
     match seen.best {
         Some(best) => Cell::unheard(Mark::Capturing, seen.quiet, best),
         None => {

@@ -1,0 +1,83 @@
+//! Notes put to the second of three owners of level 1, whose block has the ranks 4 to 7. The boards of
+//! ranks 4, 5 and 7 are ended, and that of rank 6 has one move, which is quiet and leads to rank 11.
+
+use crate::shelves::one_level;
+use awari_owner::{Kind, Note, OwnerFault, Part};
+use std::alloc::Global;
+use std::test::Fail;
+
+/// Rank 6 hears that its pit 5 leads to a board that wins 1 stone.
+const NOTE: Note = Note {
+    level: 1,
+    target: 6,
+    pit: 5,
+    kind: Kind::Won,
+    gain: 1,
+    dist: 0,
+};
+
+/// The part of the second of three owners, with gain 1 open.
+fn second_of_three(alloc: Global) -> Result<Part, Fail> {
+    let shelf = one_level(alloc)?;
+    let mut part = Part::scan(alloc, &shelf, 3, 1)?;
+    part.open_gain(1);
+    Ok(part)
+}
+
+#[test]
+fn hears_a_note_once(rt: HostRuntime) -> Result<(), Fail> {
+    let mut part = second_of_three(rt.alloc())?;
+    assert_eq!(rt; part.block(), (4, 8));
+    assert_eq!(rt; part.settled(5), Some((-1, 0)));
+    assert_eq!(rt; part.settled(6), None);
+    assert_eq!(rt; part.settled(7), Some((1, 0)));
+    assert_eq!(rt; part.take(NOTE), Ok(()));
+    assert_eq!(rt; part.block(), (4, 8));
+    assert_eq!(rt; part.settled(6), Some((-1, 1)));
+    assert_eq!(rt; part.take(NOTE), Err(OwnerFault::Doubled));
+    Ok(())
+}
+
+#[test]
+fn a_lost_board_gives_its_gain(rt: HostRuntime) -> Result<(), Fail> {
+    let mut part = second_of_three(rt.alloc())?;
+    let lost = Note {
+        kind: Kind::Lost,
+        ..NOTE
+    };
+    assert_eq!(rt; part.take(lost), Ok(()));
+    assert_eq!(rt; part.block(), (4, 8));
+    assert_eq!(rt; part.settled(6), Some((1, 1)));
+    Ok(())
+}
+
+#[test]
+fn refuses_strangers(rt: HostRuntime) -> Result<(), Fail> {
+    let mut part = second_of_three(rt.alloc())?;
+    for stranger in [
+        Note { level: 2, ..NOTE },
+        Note { target: 8, ..NOTE },
+        Note { gain: 2, ..NOTE },
+        Note { pit: 4, ..NOTE },
+        Note { dist: 1, ..NOTE },
+        Note {
+            dist: u32::MAX,
+            ..NOTE
+        },
+        // The board of rank 4 is ended.
+        Note {
+            target: 4,
+            pit: 0,
+            ..NOTE
+        },
+    ] {
+        assert_eq!(rt; part.take(stranger), Err(OwnerFault::Stranger));
+    }
+    Ok(())
+}
+
+#[test]
+fn faults_have_their_numbers(rt: HostRuntime) {
+    assert_eq!(rt; OwnerFault::Stranger.number(), 30);
+    assert_eq!(rt; OwnerFault::Far.number(), 32);
+}

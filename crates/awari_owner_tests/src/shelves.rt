@@ -1,0 +1,18 @@
+//! The shelf that the tests stand on.
+ghost use Rattle.std.specs.Prelude.{◌≡◌, IfOk, length};
+
+use awari_build::build_alone;
+use awari_table::Shelf;
+use std::alloc::Global;
+use std::sync::Arc;
+use std::test::Fail;
+
+/// The shelf of level 0.
+pub fn one_level(alloc: Global) -> Result<Shelf, Fail>
+    ensures { IfOk result (λ shelf. length shelf ≡ 1) }
+{
+    let mut shelf = Shelf::empty();
+    let level = build_alone(alloc, &shelf)?;
+    shelf.push(Arc::new(alloc, level)?);
+    Ok(shelf)
+}
