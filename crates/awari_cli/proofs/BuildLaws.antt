@@ -1,12 +1,9 @@
 -- Levels built one on another, and their lines.
 use Rattle.std.proofs.Common.{◌≡◌, ℕ, List, [], ◌∷◌, ◌++◌, Option, refl, sym, ap, ◌∙◌, subst, append_assoc, append-nil}
-use Rattle.std.specs.List.{flat_map}
 use Rattle.std.specs.Io.KnownBytes.{Appends}
 use Rattle.std.proofs.KnownBytes.{Appends-nil, Appends-trans}
 use Rattle.std.proofs.lemmas.Grind.{flat_map-append}
 use Rattle.awari_table.specs.declared.images.Image.{Image}
-use Rattle.awari_table.specs.Images.{won_boards, even_boards, lost_boards}
-use Rattle.awari_table.specs.Shelves.{IsShelf}
 use Rattle.awari_cli.specs.Building.{IsToldOf, told_text, level_line, level_lines}
 use Rattle.awari_cli.specs.declared.building.BuiltLevel.{BuiltLevel}
 

@@ -1,6 +1,5 @@
 -- The lines of the levels in a folder.
-use Rattle.std.proofs.Common.{◌≡◌, ℕ, ◌+◌, ◌<◌, ◌≤◌, List, [], ◌∷◌, ◌++◌, length, get_or, take, Option, Some, sym, ap, ◌∙◌, subst, arith, append-nil, slice_get}
-use Rattle.std.specs.List.{flat_map}
+use Rattle.std.proofs.Common.{◌≡◌, ℕ, ◌+◌, ◌<◌, List, [], ◌∷◌, ◌++◌, length, get_or, take, Option, Some, sym, ap, ◌∙◌, subst, arith, append-nil, slice_get}
 use Rattle.std.specs.Io.KnownBytes.{Appends}
 use Rattle.std.proofs.KnownBytes.{Appends-trans}
 use Rattle.std.proofs.lemmas.Grind.{flat_map-append}
@@ -10,7 +9,6 @@ use Rattle.awari_table.specs.declared.images.Image.{Image}
 use Rattle.awari_table.specs.Images.{no_image}
 use Rattle.awari_table.specs.Shelves.{IsShelf}
 use Rattle.awari_cli.specs.Folders.{right_text, right_lines}
-use Rattle.awari_cli.specs.declared.folders.RightLevel.{RightLevel}
 
 pub lines_more : (shelf : List Image) (i limit : ℕ) (image : Image) (before middle after : Option (List ℕ)) → IsShelf shelf → i < length shelf → slice_get shelf i ≡ Some image → limit ≡ image.limit
     → Appends before middle (right_lines (take i shelf)) → Appends middle after (right_text (record { level = i; limit = limit }) ++ 10 ∷ []) → Appends before after (right_lines (take (i + 1) shelf))

@@ -1,5 +1,5 @@
 -- The command `build`: what is printed of the levels that were built.
-use Rattle.std.specs.Prelude.{◌≡◌, ℕ, List, ◌++◌, ◌∷◌, [], length, codes, Option}
+use Rattle.std.specs.Prelude.{◌≡◌, ◌<◌, ℕ, List, ◌++◌, ◌∷◌, [], length, codes, Option}
 use Rattle.std.specs.Fmt.{decimal}
 use Rattle.std.specs.List.{flat_map}
 use Rattle.std.specs.Io.KnownBytes.{Appends}
@@ -44,6 +44,7 @@ abbrev pub building_fault_text : BuildingFault → List ℕ
 building_fault_text (Build fault) = codes "refused " ++ build_fault_text fault
 building_fault_text (Folder fault) = codes "refused " ++ folder_fault_text fault
 
--- Where it is known what the writer holds, what was written are the lines of right levels over some that were there.
-abbrev pub PrintsLevels : Option (List ℕ) → Option (List ℕ) → Type 0
-PrintsLevels before after = (below built : List Image) × IsShelf (below ++ built) × Appends before after (level_lines built)
+-- Where it is known what the writer holds, what was written are the lines of right levels, over some that were there, up to
+-- level `top` at least.
+abbrev pub PrintsLevels : ℕ → Option (List ℕ) → Option (List ℕ) → Type 0
+PrintsLevels top before after = (below built : List Image) × IsShelf (below ++ built) × (top < length (below ++ built)) × Appends before after (level_lines built)

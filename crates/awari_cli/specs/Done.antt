@@ -1,14 +1,19 @@
--- What the program has printed where it ends with status 0.
-use Rattle.std.specs.Prelude.{ℕ, List, Option, ◌⊎◌}
+-- What the program has printed for a request where it ends with status 0.
+use Rattle.std.specs.Prelude.{ℕ, List, Option}
 use Rattle.awari_cli.specs.Answer.{PrintsYes}
 use Rattle.awari_cli.specs.Building.{PrintsLevels}
 use Rattle.awari_cli.specs.Folders.{PrintsFolder, PrintsEntry}
 use Rattle.awari_cli.specs.Judgement.{PrintsJudgement}
 use Rattle.awari_cli.specs.Playing.{PrintsMove}
+use Rattle.awari_cli.specs.declared.requests.Request.{Request}
+use Rattle.awari_cli.specs.declared.requests.Request.TheVariants.{Check, Move, Judge, Build, Verify, Ask}
 
--- the yes for what the reader had left, a move, the judgement of a play, the lines of levels that were built or that lie in a
--- folder, or an entry
-abbrev pub PrintsDone : Option (List ℕ) → Option (List ℕ) → Option (List ℕ) → Type 0
-PrintsDone input before after =
-    PrintsYes input before after ⊎ (PrintsMove before after ⊎ (PrintsJudgement before after
-    ⊎ (PrintsLevels before after ⊎ (PrintsFolder before after ⊎ PrintsEntry before after))))
+-- the yes for what the reader had left, the move, the judgement of the play, the lines of levels that were built or that lie in a
+-- folder, or the board's entry
+abbrev pub PrintsFor : Request → Option (List ℕ) → Option (List ℕ) → Option (List ℕ) → Type 0
+PrintsFor Check input before after = PrintsYes input before after
+PrintsFor (Move board pit) input before after = PrintsMove board.now pit before after
+PrintsFor (Judge board limit moves) input before after = PrintsJudgement board.now limit moves.now before after
+PrintsFor (Build top folder) input before after = PrintsLevels top before after
+PrintsFor (Verify folder) input before after = PrintsFolder before after
+PrintsFor (Ask folder board) input before after = PrintsEntry board.now before after

@@ -4,6 +4,7 @@ use Rattle.std.specs.Fmt.{decimal, signed_decimal}
 use Rattle.std.specs.List.{flat_map}
 use Rattle.std.specs.Io.KnownBytes.{Appends}
 use Rattle.awari_board.specs.Rules.{IsBoard}
+use Rattle.awari_board.specs.Text.{text_of}
 use Rattle.awari_table.specs.Images.{entry_of}
 use Rattle.awari_table.specs.Shelves.{IsShelf}
 use Rattle.awari_table.specs.declared.images.Entry.{Entry}
@@ -46,10 +47,14 @@ plan_text (Some pit) = decimal pit
 abbrev pub entry_text : Entry → List ℕ
 entry_text e = signed_decimal e.value ++ codes " " ++ plan_text e.plan ++ codes " " ++ decimal e.dist
 
--- Where it is known what the writer holds, what was written is what right levels say of a board, and the line feed.
-abbrev pub PrintsEntry : Option (List ℕ) → Option (List ℕ) → Type 0
-PrintsEntry before after = (images : List Image) × (board : List ℕ) × IsShelf images × IsBoard board × (sum board < length images)
-    × Appends before after (entry_text (entry_of images board) ++ 10 ∷ [])
+-- what right levels say of the board that the text spells
+abbrev pub IsEntryOf : List ℕ → Entry → Type 0
+IsEntryOf text e = (images : List Image) × (board : List ℕ) × IsShelf images × IsBoard board × (sum board < length images)
+    × (text ≡ text_of board) × (e ≡ entry_of images board)
+
+-- Where it is known what the writer holds, what was written is such an entry, and the line feed.
+abbrev pub PrintsEntry : List ℕ → Option (List ℕ) → Option (List ℕ) → Type 0
+PrintsEntry text before after = (e : Entry) × IsEntryOf text e × Appends before after (entry_text e ++ 10 ∷ [])
 
 abbrev pub look_up_fault_text : LookUpFault → List ℕ
 look_up_fault_text (Board fault) = codes "refused " ++ board_fault_text fault

@@ -62,7 +62,7 @@ judge_text (Ok judgement) = judgement_text judgement
 judge_text (Err (Board fault)) = codes "refused " ++ board_fault_text fault
 judge_text (Err (Move fault number)) = codes "refused " ++ move_fault_text fault ++ codes " at " ++ decimal number
 
--- Where it is known what the writer holds, what was written is the judgement of a play, and the line feed.
-abbrev pub PrintsJudgement : Option (List ℕ) → Option (List ℕ) → Type 0
-PrintsJudgement before after = (board pits : List ℕ) × (limit : ℕ) × (judgement : Judgement) × IsJudged board limit pits judgement
+-- Where it is known what the writer holds, what was written is the judgement of the play of these moves, and the line feed.
+abbrev pub PrintsJudgement : List ℕ → ℕ → List ℕ → Option (List ℕ) → Option (List ℕ) → Type 0
+PrintsJudgement text limit moves before after = (judgement : Judgement) × IsJudgement text limit moves judgement
     × Appends before after (judgement_text judgement ++ 10 ∷ [])

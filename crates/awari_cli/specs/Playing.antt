@@ -25,7 +25,7 @@ play_text (Ok moved) = text_of moved.board ++ 32 ∷ decimal moved.captured
 play_text (Err (Board fault)) = codes "refused " ++ board_fault_text fault
 play_text (Err (Move fault)) = codes "refused " ++ move_fault_text fault
 
--- Where it is known what the writer holds, what was written is a move of a board, and the line feed.
-abbrev pub PrintsMove : Option (List ℕ) → Option (List ℕ) → Type 0
-PrintsMove before after = (board : List ℕ) × (pit : ℕ) × (moved : Moved) × IsBoard board × IsMove board pit moved.captured moved.board
-    × Appends before after (play_text (Ok moved) ++ 10 ∷ [])
+-- Where it is known what the writer holds, what was written is the move from this pit of the board that the text spells, and the
+-- line feed.
+abbrev pub PrintsMove : List ℕ → ℕ → Option (List ℕ) → Option (List ℕ) → Type 0
+PrintsMove text pit before after = (moved : Moved) × IsPlayed text pit moved × Appends before after (play_text (Ok moved) ++ 10 ∷ [])

@@ -1,6 +1,6 @@
 //! The command `build`: levels built one on another.
 
-ghost use Rattle.std.specs.Prelude.{◌≡◌, ◌≤◌, ◌<◌, ◌++◌, ◌∷◌, [], ℕ, List, OnOk, IfOk};
+ghost use Rattle.std.specs.Prelude.{◌≡◌, ◌≤◌, ◌<◌, ◌++◌, ◌∷◌, [], ℕ, List, length, OnOk, IfOk};
 ghost use Rattle.std.specs.Io.KnownBytes.{Appends};
 ghost use Rattle.awari_build.specs.declared.faults.BuildFault.TheVariants as build_fault;
 ghost use Rattle.awari_table.specs.declared.images.Image.{Image};
@@ -132,7 +132,7 @@ pub fn run_build<F: Files, W: Write>(
     writer: &mut W,
 ) -> u8
     ensures status { result ≤ 1 }
-    ensures built { result ≡ 0 → PrintsLevels (W.contents writer.old) (W.contents writer.new) }
+    ensures built { result ≡ 0 → PrintsLevels top (W.contents writer.old) (W.contents writer.new) }
 {
     let mut digest = [0u8; 32];
     match folder {
@@ -182,7 +182,7 @@ fn build_up<F: Files, W: Write>(
     writer: &mut W,
 ) -> u8
     ensures status { result ≤ 1 }
-    ensures shelf { result ≡ 0 → IsShelf shelf.new }
+    ensures shelf { result ≡ 0 → IsShelf shelf.new × (top < length shelf.new) }
     ensures built { result ≡ 0 → (built : List Image) × (shelf.new ≡ shelf.old ++ built)
         × Appends (W.contents writer.old) (W.contents writer.new) (level_lines built) }
 {

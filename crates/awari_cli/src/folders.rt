@@ -7,7 +7,7 @@ ghost use Rattle.awari_board.specs.Text.{text_of};
 ghost use Rattle.awari_table.specs.Images.{entry_of};
 ghost use Rattle.awari_table.specs.Shelves.{IsShelf};
 ghost use Rattle.awari_table.specs.declared.images.Image.{Image};
-ghost use Rattle.awari_cli.specs.Folders.{PrintsFolder, PrintsEntry, digest_text, hex_digit, right_lines};
+ghost use Rattle.awari_cli.specs.Folders.{IsEntryOf, PrintsFolder, PrintsEntry, digest_text, hex_digit, right_lines};
 ghost use Rattle.awari_cli.specs.declared.folders.LookUpFault.TheVariants as look_up;
 
 use crate::printing::print;
@@ -185,8 +185,7 @@ fn look_up<F: Files>(
     folder: &str,
     text: &[u8],
 ) -> Result<Entry, LookUpFault>
-    ensures { IfOk result (λ e. (images : List Image) × (board : List ℕ) × IsShelf images × IsBoard board × (sum board < length images)
-        × (text.now ≡ text_of board) × (e ≡ entry_of images board)) }
+    ensures { IfOk result (IsEntryOf text.now) }
 {
     let board = Board::parse(text)?;
     let shelf = load(files, alloc, Path::new(folder))?.shelf;
@@ -204,7 +203,7 @@ pub fn run_ask<F: Files, W: Write>(
     writer: &mut W,
 ) -> u8
     ensures status { result ≤ 1 }
-    ensures found { result ≡ 0 → PrintsEntry (W.contents writer.old) (W.contents writer.new) }
+    ensures found { result ≡ 0 → PrintsEntry board.now (W.contents writer.old) (W.contents writer.new) }
 {
     match look_up(files, alloc, folder, board.as_bytes()) {
         Ok(entry) => {

@@ -3,9 +3,10 @@
 ghost use Rattle.std.specs.Prelude.{◌≡◌, ◌≤◌};
 ghost use Rattle.std.specs.Io.KnownBytes.{Keeps};
 ghost use Rattle.awari_cli.specs.Answer.{PrintsYes};
-ghost use Rattle.awari_cli.specs.Done.{PrintsDone};
+ghost use Rattle.awari_cli.specs.Done.{PrintsFor};
 ghost use Rattle.awari_cli.specs.Judgement.{PrintsJudgement};
 ghost use Rattle.awari_cli.specs.Playing.{PrintsMove};
+ghost use Rattle.awari_cli.specs.declared.requests.Request.{Request};
 
 use crate::answers::check_input;
 use crate::building::run_build;
@@ -36,7 +37,7 @@ pub fn run<F: Files, S: AsStr, R: Read, W: Write, E: Write>(
 
     // A yes is said only of tables that are right, a move or a judgement only of a right play, and a
     // level or an entry only of right levels.
-    ensures done { result ≡ 0 → PrintsDone (R.remaining reader.old) (W.contents writer.old) (W.contents writer.new) }
+    ensures done { result ≡ 0 → (request : Request) × PrintsFor request (R.remaining reader.old) (W.contents writer.old) (W.contents writer.new) }
 
     // Where the words were not understood, nothing is printed.
     ensures nothing { result ≡ 2 → Keeps (W.contents writer.old) (W.contents writer.new) }
@@ -61,7 +62,7 @@ fn run_request<F: Files, R: Read, W: Write>(
     writer: &mut W,
 ) -> u8
     ensures status { result ≤ 1 }
-    ensures done { result ≡ 0 → PrintsDone (R.remaining reader.old) (W.contents writer.old) (W.contents writer.new) }
+    ensures done { result ≡ 0 → PrintsFor request.entry (R.remaining reader.old) (W.contents writer.old) (W.contents writer.new) }
 {
     match request {
         Request::Check => run_check(alloc, reader, writer),
@@ -93,7 +94,7 @@ fn run_check<R: Read, W: Write>(alloc: Global, reader: &mut R, writer: &mut W) -
 /// Prints the board after a move.
 fn run_move<W: Write>(board: &str, pit: u8, writer: &mut W) -> u8
     ensures status { result ≤ 1 }
-    ensures played { result ≡ 0 → PrintsMove (W.contents writer.old) (W.contents writer.new) }
+    ensures played { result ≡ 0 → PrintsMove board.now pit (W.contents writer.old) (W.contents writer.new) }
 {
     let played = play_on(board.as_bytes(), pit);
     if print(writer, &Played(played)) && played.is_ok() {
@@ -106,7 +107,7 @@ fn run_move<W: Write>(board: &str, pit: u8, writer: &mut W) -> u8
 /// Prints where a play stands.
 fn run_judge<W: Write>(board: &str, limit: u32, moves: &str, writer: &mut W) -> u8
     ensures status { result ≤ 1 }
-    ensures judged { result ≡ 0 → PrintsJudgement (W.contents writer.old) (W.contents writer.new) }
+    ensures judged { result ≡ 0 → PrintsJudgement board.now limit moves.now (W.contents writer.old) (W.contents writer.new) }
 {
     let judged = judge(board.as_bytes(), limit, moves.as_bytes());
     if print(writer, &Judged(judged)) && judged.is_ok() {

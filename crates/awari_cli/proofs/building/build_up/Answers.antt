@@ -1,4 +1,3 @@
-use Rattle.std.proofs.Common.{refl}
 use Rattle.awari_cli.proofs.BuildLaws.{built_none, built_more}
 use Rattle.awari_cli.proofs.building.build_up.Goals as goal
 

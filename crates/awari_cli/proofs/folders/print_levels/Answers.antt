@@ -1,4 +1,4 @@
-use Rattle.std.proofs.Common.{◌≡◌, ◌<◌, ◌∙◌, length, sym, ap, arith}
+use Rattle.std.proofs.Common.{◌<◌, ◌∙◌, length, ap, arith}
 use Rattle.std.proofs.KnownBytes.{Appends-nil}
 use Rattle.awari_cli.proofs.FolderLaws.{lines_more}
 use Rattle.awari_cli.proofs.folders.print_levels.Goals as goal

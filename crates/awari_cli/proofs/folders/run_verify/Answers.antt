@@ -1,7 +1,6 @@
-use Rattle.std.proofs.Common.{refl}
 use Rattle.std.proofs.KnownBytes.{Appends-trans}
 use Rattle.awari_cli.specs.declared.folders.Summary.{Summary}
-use Rattle.awari_cli.specs.Folders.{summary_text, right_lines}
+use Rattle.awari_cli.specs.Folders.{right_lines}
 use Rattle.awari_cli.proofs.folders.run_verify.Goals as goal
 
 pub returns-then-print-clause-verified : goal.returns-then-print-clause-verified
