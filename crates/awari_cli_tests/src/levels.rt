@@ -4,10 +4,26 @@ use awari_board::Board;
 use awari_build::build_alone;
 use awari_rank::successor;
 use awari_table::{Entry, HIGHEST_LEVEL, Shelf};
+use sha2::{Digest, Sha256};
 use std::alloc::Global;
 use std::fs;
 use std::sync::Arc;
 use std::test::Fail;
+
+const LEVELS_0_TO_1: &str = "\
+level 0 boards 1 won 0 even 1 lost 0 limit 0
+level 1 boards 12 won 5 even 0 lost 7 limit 1
+";
+
+const RIGHT_LEVELS_0_TO_1: &str = "\
+level 0 ok limit 0
+level 1 ok limit 1
+levels 2 digest 045eb0f444c69c6731d7b84d1be9206da3347f69294d13c733cbaf6303ecc4d8
+";
+
+const NO_LEVELS: &str = "\
+levels 0 digest 0000000000000000000000000000000000000000000000000000000000000000
+";
 
 const LEVELS_0_TO_2: &str = "\
 level 0 boards 1 won 0 even 1 lost 0 limit 0
@@ -37,10 +53,8 @@ fn levels_are_built(rt: HostRuntime) {
 fn a_folder_is_built_verified_and_asked(rt: HostRuntime) -> Result<(), Fail> {
     let folder = "awari_cli_test_folder";
     let _ = fs::remove_dir_all(&rt, folder);
-    let zeros =
-        "levels 0 digest 0000000000000000000000000000000000000000000000000000000000000000\n";
     let verify = ["awari", "verify", folder];
-    expect_run(&rt, rt.alloc(), verify.as_slice(), b"", zeros, 0);
+    expect_run(&rt, rt.alloc(), verify.as_slice(), b"", NO_LEVELS, 0);
     let build = ["awari", "build", "1", "--folder", folder];
     expect_run(
         &rt,
@@ -81,6 +95,61 @@ fn a_folder_is_built_verified_and_asked(rt: HostRuntime) -> Result<(), Fail> {
         let ask = ["awari", "ask", folder, board];
         expect_run(&rt, rt.alloc(), ask.as_slice(), b"", printed, status);
     }
+    fs::remove_dir_all(&rt, folder)?;
+    Ok(())
+}
+
+/// The file with these bytes from this place on, and its digest made right.
+fn changed(alloc: Global, file: &[u8], from: usize, bytes: &[u8]) -> Result<Vec<u8>, Fail> {
+    let mut new = file.to_vec(alloc)?;
+    new.truncate(file.len().saturating_sub(32));
+    for (index, byte) in bytes.iter().enumerate() {
+        let place = from.saturating_add(index);
+        *new.get_mut(place).ok_or("a place in the file")? = *byte;
+    }
+    let digest = Sha256::digest(new.as_slice());
+    new.extend_from_slice(&digest)?;
+    Ok(new)
+}
+
+#[test]
+fn folders_at_fault_are_refused(rt: HostRuntime) -> Result<(), Fail> {
+    let folder = "awari_cli_test_faults";
+    let first = "awari_cli_test_faults/level_00.awdb";
+    let second = "awari_cli_test_faults/level_01.awdb";
+    let _ = fs::remove_dir_all(&rt, folder);
+    fs::create_dir(&rt, folder)?;
+    let build = ["awari", "build", "1", "--folder", folder];
+    expect_run(&rt, rt.alloc(), build.as_slice(), b"", LEVELS_0_TO_1, 0);
+    let verify = ["awari", "verify", folder];
+    expect_run(
+        &rt,
+        rt.alloc(),
+        verify.as_slice(),
+        b"",
+        RIGHT_LEVELS_0_TO_1,
+        0,
+    );
+    let right = fs::read(&rt, second)?;
+    let orphan = changed(rt.alloc(), right.as_slice(), 20, &[0; 32])?;
+    let wrong = changed(rt.alloc(), right.as_slice(), 52, &[254])?;
+    let cases: [(&[u8], &str); 3] = [
+        (orphan.as_slice(), "refused 80 Below level 1\n"),
+        (
+            wrong.as_slice(),
+            "refused 83 Verify level 1: 22 Refused rank 0 rule V1\n",
+        ),
+        (b"AWDB", "refused 81 File level 1: 60 Truncated\n"),
+    ];
+    for (file, printed) in cases {
+        fs::write(&rt, second, file)?;
+        expect_run(&rt, rt.alloc(), verify.as_slice(), b"", printed, 1);
+    }
+    fs::write(&rt, first, orphan.as_slice())?;
+    let printed = "refused 83 Verify level 0: 20 WrongLevel\n";
+    expect_run(&rt, rt.alloc(), verify.as_slice(), b"", printed, 1);
+    fs::remove_file(&rt, first)?;
+    expect_run(&rt, rt.alloc(), verify.as_slice(), b"", NO_LEVELS, 0);
     fs::remove_dir_all(&rt, folder)?;
     Ok(())
 }
