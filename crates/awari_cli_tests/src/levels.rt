@@ -6,9 +6,13 @@ use awari_rank::successor;
 use awari_table::{Entry, HIGHEST_LEVEL, Shelf};
 use sha2::{Digest, Sha256};
 use std::alloc::Global;
-use std::fs;
+use std::process::Abort;
+use std::rt::Files;
 use std::sync::Arc;
 use std::test::Fail;
+use std::{fs, io};
+
+const CYCLE: &str = "1,0,0,0,0,0/1,0,0,0,0,0";
 
 const LEVELS_0_TO_1: &str = "\
 level 0 boards 1 won 0 even 1 lost 0 limit 0
@@ -49,51 +53,79 @@ fn levels_are_built(rt: HostRuntime) {
     }
 }
 
+/// Runs `build` on the folder.
+fn expect_build(rt: &(impl Abort + Files + AllocGlobal), folder: &str, top: &str, printed: &str) {
+    let words = ["awari", "build", top, "--folder", folder];
+    expect_run(rt, rt.alloc(), words.as_slice(), b"", printed, 0);
+}
+
+/// Runs `verify` on the folder.
+fn expect_verify(rt: &(impl Abort + Files + AllocGlobal), folder: &str, printed: &str, status: u8) {
+    let words = ["awari", "verify", folder];
+    expect_run(rt, rt.alloc(), words.as_slice(), b"", printed, status);
+}
+
+/// Runs `ask` on the folder.
+fn expect_ask(
+    rt: &(impl Abort + Files + AllocGlobal),
+    folder: &str,
+    board: &str,
+    printed: &str,
+    status: u8,
+) {
+    let words = ["awari", "ask", folder, board];
+    expect_run(rt, rt.alloc(), words.as_slice(), b"", printed, status);
+}
+
+/// A new folder of this name.
+fn empty_folder(rt: &(impl Files + AllocGlobal), folder: &str) -> io::Result<()> {
+    let _ = fs::remove_dir_all(rt, folder);
+    fs::create_dir(rt, folder)
+}
+
 #[test]
-fn a_folder_is_built_verified_and_asked(rt: HostRuntime) -> Result<(), Fail> {
-    let folder = "awari_cli_test_folder";
+fn a_folder_that_is_not_there_is_empty(rt: HostRuntime) {
+    let folder = "awari_cli_test_nowhere";
     let _ = fs::remove_dir_all(&rt, folder);
-    let verify = ["awari", "verify", folder];
-    expect_run(&rt, rt.alloc(), verify.as_slice(), b"", NO_LEVELS, 0);
-    let build = ["awari", "build", "1", "--folder", folder];
-    expect_run(
-        &rt,
-        rt.alloc(),
-        build.as_slice(),
-        b"",
-        "refused 82 Open level 0\n",
-        1,
-    );
-    fs::create_dir(&rt, folder)?;
-    let ask = ["awari", "ask", folder, "1,0,0,0,0,0/1,0,0,0,0,0"];
-    expect_run(
-        &rt,
-        rt.alloc(),
-        ask.as_slice(),
-        b"",
-        "refused 59 NotYet levels 0\n",
-        1,
-    );
-    let build = ["awari", "build", "2", "--folder", folder];
-    expect_run(&rt, rt.alloc(), build.as_slice(), b"", LEVELS_0_TO_2, 0);
-    expect_run(&rt, rt.alloc(), build.as_slice(), b"", "", 0);
-    let build = ["awari", "build", "6", "--folder", folder];
-    expect_run(&rt, rt.alloc(), build.as_slice(), b"", LEVELS_3_TO_6, 0);
-    let asked = [
-        ("0,0,0,0,0,1/1,0,0,0,0,0", "-2 5 1\n", 0),
-        ("0,0,0,0,0,1/1,0,1,0,0,0", "1 5 1\n", 0),
-        ("0,0,0,1,0,1/0,0,0,0,0,0", "-2 5 7\n", 0),
-        ("1,0,0,0,0,0/1,0,0,0,0,0", "0 0 0\n", 0),
-        ("0,0,0,0,0,1/0,0,0,0,0,1", "0 5 0\n", 0),
-        ("1,0,0,0,0,0/0,0,1,0,0,0", "2 0 8\n", 0),
-        ("0,0,0,0,0,0/0,0,0,0,0,3", "-3 - 0\n", 0),
-        ("0,0,0,0,0,2/1,2,0,1,0,0", "4 5 1\n", 0),
-        ("0,0,0,0,0,0/0,0,0,0,0,7", "refused 59 NotYet levels 7\n", 1),
-        ("1,2,3", "refused 1 Shape\n", 1),
-    ];
-    for (board, printed, status) in asked {
-        let ask = ["awari", "ask", folder, board];
-        expect_run(&rt, rt.alloc(), ask.as_slice(), b"", printed, status);
+    expect_verify(&rt, folder, NO_LEVELS, 0);
+    let words = ["awari", "build", "1", "--folder", folder];
+    let printed = "refused 82 Open level 0\n";
+    expect_run(&rt, rt.alloc(), words.as_slice(), b"", printed, 1);
+}
+
+#[test]
+fn a_folder_is_built_upward(rt: HostRuntime) -> Result<(), Fail> {
+    let folder = "awari_cli_test_upward";
+    empty_folder(&rt, folder)?;
+    expect_ask(&rt, folder, CYCLE, "refused 59 NotYet levels 0\n", 1);
+    expect_build(&rt, folder, "2", LEVELS_0_TO_2);
+    expect_build(&rt, folder, "1", "");
+    expect_build(&rt, folder, "6", LEVELS_3_TO_6);
+    fs::remove_dir_all(&rt, folder)?;
+    Ok(())
+}
+
+/// Boards, and what `ask` prints of each with levels 0 to 6.
+const ASKED: [(&str, &str, u8); 9] = [
+    ("0,0,0,0,0,1/1,0,0,0,0,0", "-2 5 1\n", 0),
+    ("0,0,0,0,0,1/1,0,1,0,0,0", "1 5 1\n", 0),
+    ("0,0,0,1,0,1/0,0,0,0,0,0", "-2 5 7\n", 0),
+    (CYCLE, "0 0 0\n", 0),
+    ("0,0,0,0,0,1/0,0,0,0,0,1", "0 5 0\n", 0),
+    ("1,0,0,0,0,0/0,0,1,0,0,0", "2 0 8\n", 0),
+    ("0,0,0,0,0,2/1,2,0,1,0,0", "4 5 1\n", 0),
+    ("0,0,0,0,0,0/0,0,0,0,0,7", "refused 59 NotYet levels 7\n", 1),
+    ("1,2,3", "refused 1 Shape\n", 1),
+];
+
+#[test]
+fn a_folder_is_asked(rt: HostRuntime) -> Result<(), Fail> {
+    let folder = "awari_cli_test_asked";
+    empty_folder(&rt, folder)?;
+    expect_build(&rt, folder, "2", LEVELS_0_TO_2);
+    expect_build(&rt, folder, "6", LEVELS_3_TO_6);
+    for (board, printed, status) in ASKED {
+        expect_ask(&rt, folder, board, printed, status);
     }
     fs::remove_dir_all(&rt, folder)?;
     Ok(())
@@ -112,44 +144,62 @@ fn changed(alloc: Global, file: &[u8], from: usize, bytes: &[u8]) -> Result<Vec<
     Ok(new)
 }
 
+/// What `verify` prints where the second file is this.
+fn expect_refusal(
+    rt: &(impl Abort + Files + AllocGlobal),
+    folder: &str,
+    second: &str,
+    file: &[u8],
+    printed: &str,
+) -> io::Result<()> {
+    fs::write(rt, second, file)?;
+    expect_verify(rt, folder, printed, 1);
+    Ok(())
+}
+
 #[test]
-fn folders_at_fault_are_refused(rt: HostRuntime) -> Result<(), Fail> {
-    let folder = "awari_cli_test_faults";
-    let first = "awari_cli_test_faults/level_00.awdb";
-    let second = "awari_cli_test_faults/level_01.awdb";
-    let _ = fs::remove_dir_all(&rt, folder);
-    fs::create_dir(&rt, folder)?;
-    let build = ["awari", "build", "1", "--folder", folder];
-    expect_run(&rt, rt.alloc(), build.as_slice(), b"", LEVELS_0_TO_1, 0);
-    let verify = ["awari", "verify", folder];
-    expect_run(
-        &rt,
-        rt.alloc(),
-        verify.as_slice(),
-        b"",
-        RIGHT_LEVELS_0_TO_1,
-        0,
-    );
+fn a_second_file_at_fault_is_refused(rt: HostRuntime) -> Result<(), Fail> {
+    let folder = "awari_cli_test_second";
+    let second = "awari_cli_test_second/level_01.awdb";
+    empty_folder(&rt, folder)?;
+    expect_build(&rt, folder, "1", LEVELS_0_TO_1);
+    expect_verify(&rt, folder, RIGHT_LEVELS_0_TO_1, 0);
     let right = fs::read(&rt, second)?;
     let orphan = changed(rt.alloc(), right.as_slice(), 20, &[0; 32])?;
     let wrong = changed(rt.alloc(), right.as_slice(), 52, &[254])?;
-    let cases: [(&[u8], &str); 3] = [
-        (orphan.as_slice(), "refused 80 Below level 1\n"),
-        (
-            wrong.as_slice(),
-            "refused 83 Verify level 1: 22 Refused rank 0 rule V1\n",
-        ),
-        (b"AWDB", "refused 81 File level 1: 60 Truncated\n"),
-    ];
-    for (file, printed) in cases {
-        fs::write(&rt, second, file)?;
-        expect_run(&rt, rt.alloc(), verify.as_slice(), b"", printed, 1);
-    }
+    expect_refusal(
+        &rt,
+        folder,
+        second,
+        orphan.as_slice(),
+        "refused 80 Below level 1\n",
+    )?;
+    let printed = "refused 83 Verify level 1: 22 Refused rank 0 rule V1\n";
+    expect_refusal(&rt, folder, second, wrong.as_slice(), printed)?;
+    expect_refusal(
+        &rt,
+        folder,
+        second,
+        b"AWDB",
+        "refused 81 File level 1: 60 Truncated\n",
+    )?;
+    fs::remove_dir_all(&rt, folder)?;
+    Ok(())
+}
+
+#[test]
+fn another_level_is_not_level_0(rt: HostRuntime) -> Result<(), Fail> {
+    let folder = "awari_cli_test_first";
+    let first = "awari_cli_test_first/level_00.awdb";
+    let second = "awari_cli_test_first/level_01.awdb";
+    empty_folder(&rt, folder)?;
+    expect_build(&rt, folder, "1", LEVELS_0_TO_1);
+    let right = fs::read(&rt, second)?;
+    let orphan = changed(rt.alloc(), right.as_slice(), 20, &[0; 32])?;
     fs::write(&rt, first, orphan.as_slice())?;
-    let printed = "refused 83 Verify level 0: 20 WrongLevel\n";
-    expect_run(&rt, rt.alloc(), verify.as_slice(), b"", printed, 1);
+    expect_verify(&rt, folder, "refused 83 Verify level 0: 20 WrongLevel\n", 1);
     fs::remove_file(&rt, first)?;
-    expect_run(&rt, rt.alloc(), verify.as_slice(), b"", NO_LEVELS, 0);
+    expect_verify(&rt, folder, NO_LEVELS, 0);
     fs::remove_dir_all(&rt, folder)?;
     Ok(())
 }
