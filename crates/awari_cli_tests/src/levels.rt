@@ -233,6 +233,7 @@ fn level_2_is_the_one_worked_by_hand(rt: HostRuntime) -> Result<(), Fail> {
             board = next;
         }
     }
+    assert_eq!(rt; board.stones(), 2);
     assert_eq!(rt; successor(&board), None);
     Ok(())
 }
