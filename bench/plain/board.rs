@@ -27,8 +27,14 @@ impl Ways {
 
     #[inline]
     pub fn rank(&self, board: &Board) -> u32 {
-        let mut right: u8 = board.iter().sum();
-        let size = self.size(right as usize);
+        self.rank_of(board.iter().sum::<u8>() as usize, board)
+    }
+
+    /// The rank of a board of so many stones.
+    #[inline]
+    pub fn rank_of(&self, stones: usize, board: &Board) -> u32 {
+        let mut right = stones as u8;
+        let size = self.size(stones);
         let mut larger = 0;
         for i in 0..11 {
             right -= board[i];

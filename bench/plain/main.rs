@@ -2,9 +2,11 @@
 //! timed beside them, and a second opinion on what they answer.
 //!
 //! With no words, or with a call and a number of rounds, it does what `crates/awari_bench` does.
-//! `tables TOP` writes the text of the levels from 0 to TOP, and `check` checks such a text.
+//! `tables TOP` writes the text of the levels from 0 to TOP, `check` checks such a text, and
+//! `build TOP` builds the levels from 0 to TOP in the way of the proved builder.
 
 mod board;
+mod build;
 mod tables;
 
 use board::{Ways, boards, play};
@@ -54,6 +56,7 @@ fn main() {
         .as_slice()
     {
         ["tables", top] => print!("{}", tables::text(&ways, top.parse().unwrap_or(0))),
+        ["build", top] => build::build(&ways, top.parse().unwrap_or(0)),
         ["check"] => {
             let mut text = String::new();
             stdin().read_to_string(&mut text).unwrap();
