@@ -9,7 +9,7 @@ use Rattle.awari_rank.specs.Rank.{size_of, rank_of}
 use Rattle.awari_rank.proofs.Ranking.{rank_of-below, rank_fixes}
 use Rattle.awari_rank.proofs.Reaching.{board_reached}
 use Rattle.awari_table.specs.declared.images.Image.{Image}
-use Rattle.awari_table.specs.Images.{HasOwnPlan, no_entry, table_of, greatest_dist}
+use Rattle.awari_table.specs.Images.{HasOwnPlan, IsLevel, no_entry, table_of, greatest_dist}
 use Rattle.awari_table.specs.Shelves.{Consistent}
 use Rattle.awari_table.proofs.EntryLemmas.{entry_of-rank}
 use Rattle.awari_verify.specs.FirstFailure.{RightBetween}
@@ -20,17 +20,24 @@ pub HasOwnPlan-top : (levels : List Image) (image : Image) (p : List ℕ) (rank 
 HasOwnPlan-top levels image p rank top ranked right =
     subst (λ (e : Entry). HasOwnPlan e) (entry_of-rank levels image p rank top ranked) right.in_range.2
 
--- where every board is right, every plan is an own pit
-pub plans_from_right : (levels : List Image) (image : Image) → IsShaped levels image
-    → RightBetween (table_of (levels ++ image ∷ [])) image.level 0 (size_of image.level) → All HasOwnPlan image.entries
-plans_from_right levels image shaped right k d lt =
-    let sized = shaped.sized in
-    let low = shaped.low in
+-- in a consistent image every plan is an own pit
+plans_from_right : (levels : List Image) (image : Image) → Consistent levels image → All HasOwnPlan image.entries
+plans_from_right levels image consistent k d lt =
+    let sized = consistent.sized in
+    let low = consistent.low in
     let within : k < size_of image.level = omega arith in
     let at = board_reached image.level k (omega arith) within in
     let ranked = at.3 in
     rw (get_or_default image.entries k d no_entry lt)
-    (HasOwnPlan-top levels image at.0 k (at.2 ∙ shaped.next) at.3 (right at.0 at.1 at.2 (omega arith) (omega arith)))
+    (HasOwnPlan-top levels image at.0 k (at.2 ∙ consistent.next) at.3 (consistent.right at.0 at.1 at.2))
+
+-- a consistent image is one of a level
+pub IsLevel-consistent : (levels : List Image) (image : Image) → Consistent levels image → IsLevel image
+IsLevel-consistent levels image consistent = record {
+  low = omega (arith, consistent.low);
+  sized = consistent.sized;
+  plans = plans_from_right levels image consistent;
+}
 
 -- an image in which every board is right, and the limit, is consistent
 pub Consistent-right : (levels : List Image) (image : Image) → IsShaped levels image

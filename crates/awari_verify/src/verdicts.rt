@@ -1,11 +1,10 @@
 //! Whether an image may stand as the next level of a shelf.
 
-ghost use Rattle.std.specs.Prelude.{◌≡◌, ◌↔◌, [], ◌∷◌, ◌++◌, IsOk, IfOk, IfErr, MatchOption};
+ghost use Rattle.std.specs.Prelude.{◌≡◌, ◌↔◌, [], ◌∷◌, ◌++◌, IsOk, IfOk, IfErr, IsNone, IfSome};
 ghost use Rattle.awari_rank.specs.Rank.{size_of};
-ghost use Rattle.awari_table.specs.Images.{table_of, greatest_dist};
+ghost use Rattle.awari_table.specs.Images.{greatest_dist};
 ghost use Rattle.awari_table.specs.Shelves.{Consistent, IsShelf};
 ghost use Rattle.awari_theory.specs.Truth.{TellsTruth};
-ghost use Rattle.awari_verify.specs.FirstFailure.{RightBetween, IsRefusal};
 ghost use Rattle.awari_verify.specs.VerifyFault.{IsShaped, IsDue};
 
 use crate::rules::Rule;
@@ -59,12 +58,34 @@ pub fn verify(shelf: &Shelf, image: Image) -> Result<Level, VerifyFault>
     // plans secures the value, soon, and the value is what the board is worth.
     ensures meaning { IfOk result (λ level. TellsTruth (shelf.now ++ level ∷ [])) }
 {
-    match boards_of(shelf, &image) {
-        Ok(boards) => {
-            let refusal = refusal_between(shelf, &image, 0, boards);
-            judged(shelf, image, refusal)
+    match fault_of(shelf, &image) {
+        Some(fault) => Err(fault),
+        None => Ok(Level::new(image)),
+    }
+}
+
+/// Why the image is not the shelf's next level, none where it may be: what [`verify`] answers, of an
+/// image that stays with the caller. It takes no memory.
+pub fn fault_of(shelf: &Shelf, image: &Image) -> Option<VerifyFault>
+    // An image with no fault tells the truth, on the shelf: following the plans secures the value,
+    // soon, and the value is what the board is worth.
+    ensures meaning { IsNone result → TellsTruth (shelf.now ++ image.now ∷ []) }
+    ensures none { IsNone result ↔ Consistent shelf.now image.now }
+    ensures fault { IfSome result (IsDue shelf.now image.now) }
+{
+    let boards = match boards_of(shelf, image) {
+        Ok(boards) => boards,
+        Err(fault) => return Some(fault),
+    };
+    match refusal_between(shelf, image, 0, boards) {
+        Some(Refusal { rank, rule }) => Some(VerifyFault::Refused { rank, rule }),
+        None if image.limit != greatest_dist(image.entries.as_slice()) => {
+            Some(VerifyFault::Refused {
+                rank: 0,
+                rule: Rule::V7,
+            })
         }
-        Err(fault) => Err(fault),
+        None => None,
     }
 }
 
@@ -82,31 +103,6 @@ fn boards_of(shelf: &Shelf, image: &Image) -> Result<u32, VerifyFault>
         return Err(VerifyFault::WrongSize);
     }
     Ok(boards)
-}
-
-/// What is to be said of the image once its boards were looked at.
-fn judged(shelf: &Shelf, image: Image, refusal: Option<Refusal>) -> Result<Level, VerifyFault>
-    requires shaped { IsShaped shelf.now image }
-    requires sought { MatchOption refusal
-        (RightBetween (table_of (shelf.now ++ image ∷ [])) image.level 0 (size_of image.level))
-        (λ r. IsRefusal (table_of (shelf.now ++ image ∷ [])) image.level 0 (size_of image.level) r.rank r.rule) }
-    ensures ok { IsOk result ↔ Consistent shelf.now image }
-    ensures level { IfOk result (λ level. level ≡ image) }
-    ensures fault { IfErr result (IsDue shelf.now image) }
-{
-    match refusal {
-        Some(Refusal { rank, rule }) => Err(VerifyFault::Refused { rank, rule }),
-        None => {
-            if image.limit == greatest_dist(image.entries.as_slice()) {
-                Ok(Level::new(image))
-            } else {
-                Err(VerifyFault::Refused {
-                    rank: 0,
-                    rule: Rule::V7,
-                })
-            }
-        }
-    }
 }
 
 /// The greatest distance, 0 for none.

@@ -1,5 +1,6 @@
-use Rattle.awari_verify.proofs.TruthLemmas.{TellsTruth-verified}
+use Rattle.std.proofs.Common.{refl}
+use Rattle.awari_verify.proofs.LevelLemmas.{IsLevel-consistent}
 use Rattle.awari_verify.proofs.verdicts.verify.Goals as goal
 
-pub returns-in-Ok-clause-meaning : goal.returns-in-Ok-clause-meaning
-returns-in-Ok-clause-meaning c = TellsTruth-verified _ _ _ c.in-Ok.ensures.shelf c.judged.ensures.ok c.judged.ensures.level
+pub new-requires : goal.new-requires
+new-requires c = IsLevel-consistent c.args.shelf.now c.args.image (c.in-None.ensures.none.0 refl)
