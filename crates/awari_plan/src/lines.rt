@@ -50,9 +50,10 @@ impl LineFault {
 }
 
 /// The play from the board in which both sides follow the shelf's plans, up to the first outcome by
-/// this limit. The outcome is the board's value, where no level up to the board's has a greater
-/// limit. It always returns. Refused are a board with at least as many stones as there are levels,
-/// as 56 `NotYet`, and then want of memory as 57 `Memory`. It takes memory for the moves.
+/// this limit. It always returns. Where the limit is at least that of each level up to the board's,
+/// as the shelf's own limit is, the outcome is the board's value. Refused are a board with at least
+/// as many stones as there are levels, as 56 `NotYet`, and then want of memory as 57 `Memory`. It
+/// takes memory for the moves, a byte each.
 pub fn best_line(alloc: Global, shelf: &Shelf, board: Board, limit: u32) -> Result<Line, LineFault>
     ensures line { IfOk result (λ line. IsBestLine (table_of shelf.now) limit board line.moves.items line.outcome) }
     ensures value { IfOk result (λ line. greatest_limit (take (sum board + 1) shelf.now) ≤ limit → line.outcome ≡ (entry_of shelf.now board).value) }
@@ -63,14 +64,11 @@ pub fn best_line(alloc: Global, shelf: &Shelf, board: Board, limit: u32) -> Resu
     if board.stones() >= levels {
         return Err(LineFault::NotYet { levels });
     }
-    match followed(alloc, shelf, board, limit) {
-        Ok(line) => Ok(line),
-        Err(_) => Err(LineFault::Memory),
-    }
+    play_out(alloc, shelf, board, limit).map_err(|_| LineFault::Memory)
 }
 
-/// The line from a board whose level is on the shelf.
-fn followed(alloc: Global, shelf: &Shelf, board: Board, limit: u32) -> Result<Line, AllocError>
+/// Plays the plans of both sides from a board whose level is on the shelf, up to the first outcome.
+fn play_out(alloc: Global, shelf: &Shelf, board: Board, limit: u32) -> Result<Line, AllocError>
     requires shelf { IsShelf shelf.now }
     requires board { IsBoard board }
     requires known { sum board < length shelf.now }

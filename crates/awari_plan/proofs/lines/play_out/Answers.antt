@@ -1,9 +1,7 @@
-use Rattle.std.proofs.Common.{◌≡◌, ◌≤◌, ◌<◌, ◌^◌, ℤ, Some, SFits, refl, sym, rules, arith, w16, subst}
+use Rattle.std.proofs.Common.{◌<◌, ◌^◌, SFits, refl, rules, arith, w16}
 use Rattle.std.proofs.lemmas.Int.{to_z-of_z}
-use Rattle.awari_game.specs.Plays.{Standing, IsOutcome}
-use Rattle.awari_game.specs.Shown.{IsShown}
 use Rattle.awari_plan.proofs.Following.{HasNone, best_line-end, best_line-value, under_way-more, left_of-more}
-use Rattle.awari_plan.proofs.lines.followed.Goals as goal
+use Rattle.awari_plan.proofs.lines.play_out.Goals as goal
 
 pub returns-in-Some-clause-line : goal.returns-in-Some-clause-line
 returns-in-Some-clause-line c =

@@ -1,7 +1,7 @@
 use Rattle.std.proofs.Common.{length}
 use Rattle.awari_table.specs.Images.{table_of}
 use Rattle.awari_plan.proofs.Following.{IsUnderWay, left_of}
-use Rattle.awari_plan.proofs.lines.followed.Given as goal
+use Rattle.awari_plan.proofs.lines.play_out.Given as goal
 
 abbrev pub invariant-loop-outcome : goal.invariant-loop-outcome
 invariant-loop-outcome l = IsUnderWay (table_of l.shelf) (length l.shelf) l.limit l.fn.board l.game l.moves.items
