@@ -4,12 +4,13 @@ use Rattle.awari_cli.specs.Answer.{PrintsYes}
 use Rattle.awari_cli.specs.Building.{PrintsLevels}
 use Rattle.awari_cli.specs.Folders.{PrintsFolder, PrintsEntry}
 use Rattle.awari_cli.specs.Judgement.{PrintsJudgement}
+use Rattle.awari_cli.specs.Lines.{PrintsLine}
 use Rattle.awari_cli.specs.Playing.{PrintsMove}
 use Rattle.awari_cli.specs.declared.requests.Request.{Request}
-use Rattle.awari_cli.specs.declared.requests.Request.TheVariants.{Check, Move, Judge, Build, Verify, Ask}
+use Rattle.awari_cli.specs.declared.requests.Request.TheVariants.{Check, Move, Judge, Build, Verify, Ask, Line}
 
 -- the yes for what the reader had left, the move, the judgement of the play, the lines of levels that were built or that lie in a
--- folder, or the board's entry
+-- folder, the board's entry, or the line of play from it
 abbrev pub PrintsFor : Request → Option (List ℕ) → Option (List ℕ) → Option (List ℕ) → Type 0
 PrintsFor Check input before after = PrintsYes input before after
 PrintsFor (Move board pit) input before after = PrintsMove board.now pit before after
@@ -17,3 +18,4 @@ PrintsFor (Judge board limit moves) input before after = PrintsJudgement board.n
 PrintsFor (Build top folder) input before after = PrintsLevels top before after
 PrintsFor (Verify folder) input before after = PrintsFolder before after
 PrintsFor (Ask folder board) input before after = PrintsEntry board.now before after
+PrintsFor (Line folder board) input before after = PrintsLine board.now before after

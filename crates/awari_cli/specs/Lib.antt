@@ -7,3 +7,4 @@ pub mod Judgement
 pub mod Done
 pub mod Building
 pub mod Folders
+pub mod Lines

@@ -12,6 +12,8 @@ use Rattle.awari_file.specs.declared.faults.FileFault.{FileFault}
 use Rattle.awari_file.specs.declared.faults.FileFault.TheVariants as file
 use Rattle.awari_folder.specs.declared.faults.FolderFault.{FolderFault}
 use Rattle.awari_folder.specs.declared.faults.FolderFault.TheVariants as folder
+use Rattle.awari_plan.specs.declared.lines.LineFault.{LineFault}
+use Rattle.awari_plan.specs.declared.lines.LineFault.TheVariants as line
 use Rattle.awari_verify.specs.Rule.{rule_name}
 use Rattle.awari_verify.specs.declared.rules.Rule.{Rule}
 use Rattle.awari_verify.specs.declared.verdicts.VerifyFault.{VerifyFault}
@@ -42,6 +44,10 @@ build_fault_text TooHigh = codes "51 TooHigh"
 build_fault_text build.Memory = codes "53 Memory"
 build_fault_text (build.Refused rank rule) = codes "54" ++ refused_text rank rule
 build_fault_text Far = codes "58 Far"
+
+abbrev pub line_fault_text : LineFault → List ℕ
+line_fault_text (line.NotYet levels) = codes "56 NotYet levels " ++ decimal levels
+line_fault_text line.Memory = codes "57 Memory"
 
 abbrev pub file_fault_text : FileFault → List ℕ
 file_fault_text file.Truncated = codes "60 Truncated"

@@ -4,6 +4,7 @@ use awari_board::{BoardFault, MoveFault};
 use awari_build::BuildFault;
 use awari_file::FileFault;
 use awari_folder::FolderFault;
+use awari_plan::LineFault;
 use awari_verify::VerifyFault;
 use std::fmt;
 
@@ -85,6 +86,24 @@ impl fmt::Display for OfBuild {
                 write!(f, "54 Refused rank {rank} rule {rule}")
             }
             BuildFault::Far => f.write_str("58 Far"),
+        }
+    }
+}
+
+/// A refusal of a line of play.
+#[derive(Clone, Copy)]
+pub struct OfLine(pub LineFault);
+
+impl fmt::Display for OfLine {
+    ghost use Rattle.std.specs.Prelude.{Some};
+    ghost use Rattle.awari_cli.specs.Refusal.{line_fault_text};
+
+    ghost output = { λ refused. Some (line_fault_text refused.0) };
+
+    fn fmt<W: fmt::Write>(&self, f: &mut fmt::Formatter<W>) -> fmt::Result {
+        match self.0 {
+            LineFault::NotYet { levels } => write!(f, "56 NotYet levels {levels}"),
+            LineFault::Memory => f.write_str("57 Memory"),
         }
     }
 }

@@ -36,6 +36,11 @@ pub enum Request<'a> {
         folder: &'a str,
         board: &'a str,
     },
+    /// `line FOLDER BOARD`: the play from a board in which both sides follow the plans.
+    Line {
+        folder: &'a str,
+        board: &'a str,
+    },
 }
 
 /// What the words ask for, of which the first is the program's own name. The error has the text of
@@ -75,6 +80,10 @@ fn requested<'a>(name: &str, given: &ArgMatches<'a>) -> Option<Request<'a>> {
             folder: given.get_str("FOLDER")?,
             board: given.get_str("BOARD")?,
         }),
+        "line" => Some(Request::Line {
+            folder: given.get_str("FOLDER")?,
+            board: given.get_str("BOARD")?,
+        }),
         _ => None,
     }
 }
@@ -90,7 +99,8 @@ fn command<'a>(alloc: Global) -> Result<Command<'a>, Error> {
         .subcommand(judge_command(alloc)?)?
         .subcommand(build_command(alloc)?)?
         .subcommand(verify_command(alloc)?)?
-        .subcommand(ask_command(alloc)?)?;
+        .subcommand(ask_command(alloc)?)?
+        .subcommand(line_command(alloc)?)?;
     Ok(awari)
 }
 
@@ -157,6 +167,15 @@ fn ask_command<'a>(alloc: Global) -> Result<Command<'a>, Error> {
     let command = Command::new(alloc, "ask")
         .about("Looks a board up in the levels of a folder")
         .after_help(ASK_HELP)
+        .arg(folder(alloc))?
+        .arg(board(alloc))?;
+    Ok(command)
+}
+
+fn line_command<'a>(alloc: Global) -> Result<Command<'a>, Error> {
+    let command = Command::new(alloc, "line")
+        .about("Plays the plans of both sides, from a board to the outcome")
+        .after_help(LINE_HELP)
         .arg(folder(alloc))?
         .arg(board(alloc))?;
     Ok(command)
@@ -282,6 +301,25 @@ verified first, so the answer is right.
 
     refused 1 to 3            BOARD is no board, as `awari help move` says
     refused 59 NotYet levels M    the folder has only levels 0 to M - 1
+    refused 80 and higher     the folder, as `awari help verify` says
+
+The status is 0, or 1 for a refusal.";
+
+const LINE_HELP: &str = "\
+It prints three lines: the value of the board for its mover, the pits that the
+two players play in turn where both follow the plans, and the outcome:
+
+    value V
+    moves P P P
+    outcome X
+
+The play goes on to its end, or until more plies captured nothing than the
+greatest limit of the levels; the outcome, as the first mover sees it, is the
+value. The levels of the folder are verified first.
+
+    refused 1 to 3            BOARD is no board, as `awari help move` says
+    refused 56 NotYet levels M    the folder has only levels 0 to M - 1
+    refused 57 Memory         there is not enough memory for the moves
     refused 80 and higher     the folder, as `awari help verify` says
 
 The status is 0, or 1 for a refusal.";

@@ -12,6 +12,7 @@ use crate::answers::check_input;
 use crate::building::run_build;
 use crate::folders::{run_ask, run_verify};
 use crate::judgements::{Judged, judge};
+use crate::lines::run_line;
 use crate::playing::{Played, play_on};
 use crate::printing::print;
 use crate::requests::{Request, request_of};
@@ -36,7 +37,7 @@ pub fn run<F: Files, S: AsStr, R: Read, W: Write, E: Write>(
     ensures status { result ≤ 2 }
 
     // A yes is said only of tables that are right, a move or a judgement only of a right play, and a
-    // level or an entry only of right levels.
+    // level, an entry or a line of play only of right levels.
     ensures done { result ≡ 0 → (request : Request) × PrintsFor request (R.remaining reader.old) (W.contents writer.old) (W.contents writer.new) }
 
     // Where the words were not understood, nothing is printed.
@@ -75,6 +76,7 @@ fn run_request<F: Files, R: Read, W: Write>(
         Request::Build { top, folder } => run_build(files, alloc, top, folder, writer),
         Request::Verify { folder } => run_verify(files, alloc, folder, writer),
         Request::Ask { folder, board } => run_ask(files, alloc, folder, board, writer),
+        Request::Line { folder, board } => run_line(files, alloc, folder, board, writer),
     }
 }
 

@@ -1,4 +1,4 @@
-//! The commands `build`, `verify` and `ask`.
+//! The commands `build`, `verify`, `ask` and `line`.
 use crate::commands::{expect_run, level_2_line};
 use awari_board::Board;
 use awari_build::build_alone;
@@ -36,6 +36,8 @@ level 2 boards 78 won 24 even 13 lost 41 limit 9
 ";
 
 /// Counts and limits as a program found them which shares nothing with this one.
+const LEVEL_3: &str = "level 3 boards 364 won 121 even 64 lost 179 limit 28\n";
+
 const LEVELS_3_TO_6: &str = "\
 level 3 boards 364 won 121 even 64 lost 179 limit 28
 level 4 boards 1365 won 577 even 143 lost 645 limit 38
@@ -126,6 +128,53 @@ fn a_folder_is_asked(rt: HostRuntime) -> Result<(), Fail> {
     expect_build(&rt, folder, "6", LEVELS_3_TO_6);
     for (board, printed, status) in ASKED {
         expect_ask(&rt, folder, board, printed, status);
+    }
+    fs::remove_dir_all(&rt, folder)?;
+    Ok(())
+}
+
+/// Runs `line` on the folder.
+fn expect_line(
+    rt: &(impl Abort + Files + AllocGlobal),
+    folder: &str,
+    board: &str,
+    printed: &str,
+    status: u8,
+) {
+    let words = ["awari", "line", folder, board];
+    expect_run(rt, rt.alloc(), words.as_slice(), b"", printed, status);
+}
+
+/// Boards, and what `line` prints of each with levels 0 to 2.
+const LINES_OF_2: [(&str, &str, u8); 6] = [
+    (CYCLE, "value 0\nmoves 0 0 1 1 2 2 3 3 4 4\noutcome 0\n", 0),
+    ("1,0,0,0,0,0/0,0,1,0,0,0", "value 2\nmoves 0 2 1 3 2 4 3 5\noutcome 2\n", 0),
+    ("0,0,0,0,0,1/1,0,1,0,0,0", "refused 56 NotYet levels 3\n", 1),
+    ("25,0,0,0,0,0/0,0,0,0,0,0", "refused 56 NotYet levels 3\n", 1),
+    ("12,12,0,0,0,0/12,12,0,0,0,0", "refused 56 NotYet levels 3\n", 1),
+    ("25,0,0,0,0,0/24,0,0,0,0,0", "refused 3 TooMany\n", 1),
+];
+
+/// The same with level 3 as well.
+const LINES_OF_3: [(&str, &str, u8); 4] = [
+    ("1,0,0,0,0,0/0,0,1,0,0,0", "value 2\nmoves 0 2 1 3 2 4 3 5\noutcome 2\n", 0),
+    ("0,0,0,0,0,1/1,0,1,0,0,0", "value 1\nmoves 5\noutcome 1\n", 0),
+    ("0,0,0,0,0,0/1,0,0,0,0,0", "value -1\nmoves\noutcome -1\n", 0),
+    ("0,0,0,0,0,0/0,0,0,0,0,4", "refused 56 NotYet levels 4\n", 1),
+];
+
+#[test]
+fn a_line_is_played(rt: HostRuntime) -> Result<(), Fail> {
+    let folder = "awari_cli_test_line";
+    empty_folder(&rt, folder)?;
+    expect_line(&rt, folder, CYCLE, "refused 56 NotYet levels 0\n", 1);
+    expect_build(&rt, folder, "2", LEVELS_0_TO_2);
+    for (board, printed, status) in LINES_OF_2 {
+        expect_line(&rt, folder, board, printed, status);
+    }
+    expect_build(&rt, folder, "3", LEVEL_3);
+    for (board, printed, status) in LINES_OF_3 {
+        expect_line(&rt, folder, board, printed, status);
     }
     fs::remove_dir_all(&rt, folder)?;
     Ok(())

@@ -2,3 +2,4 @@ pub mod Serving
 pub mod Tables
 pub mod Blocks
 pub mod Whole
+pub mod Following

@@ -1,3 +1,5 @@
 pub mod Plan
 pub mod Finished
 pub mod Planning
+pub mod BestLine
+pub mod LineFault

@@ -1,8 +1,10 @@
 //! A level whose gains are all closed made an image: the settled values and distances, and for each
-//! board the plan that they make.
+//! board the plan that they make. And play by the plans of a shelf, from a board to its outcome.
 #![tactic(auto)]
 
 mod finishing;
+mod lines;
 mod plans;
 
 pub use finishing::finish;
+pub use lines::{Line, LineFault, best_line};

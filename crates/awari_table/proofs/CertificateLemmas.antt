@@ -65,6 +65,16 @@ above_each g [] a k d lt = absurd (omega arith)
 above_each g (x ∷ xs) a zero d lt = omega (arith, above_start g xs (max a (g x)))
 above_each g (x ∷ xs) a (suc k) d lt = above_each g xs (max a (g x)) k d (omega arith)
 
+-- that of a front is at most that of the whole list
+front_below : {A : Type 0} (g : A → ℕ) (n : ℕ) (xs : List A) (a : ℕ) → fold (λ most x. max most (g x)) a (take n xs) ≤ fold (λ most x. max most (g x)) a xs
+front_below g zero xs a = above_start g xs a
+front_below g (suc n) [] a = omega arith
+front_below g (suc n) (x ∷ xs) a = front_below g n xs (max a (g x))
+
+-- no limit of the lowest levels is above the greatest of all
+pub greatest_limit-take : (levels : List Image) (n : ℕ) → greatest_limit (take n levels) ≤ greatest_limit levels
+greatest_limit-take levels n = front_below (λ i. i.limit) n levels 0
+
 -- no entry is above the greatest distance
 dist_le : (entries : List Entry) (k : ℕ) → (get_or entries k no_entry).dist ≤ greatest_dist entries
 dist_le entries k =

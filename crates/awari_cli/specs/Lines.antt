@@ -1,0 +1,44 @@
+-- The command `line`: the play in which both sides follow the plans of a folder's levels, and what is printed of it.
+use Rattle.std.specs.Prelude.{◌≡◌, ℕ, ◌<◌, List, ◌++◌, ◌∷◌, [], length, sum, codes, ℤ, Option}
+use Rattle.std.specs.Fmt.{decimal, signed_decimal}
+use Rattle.std.specs.List.{flat_map}
+use Rattle.std.specs.Io.KnownBytes.{Appends}
+use Rattle.awari_board.specs.Rules.{IsBoard}
+use Rattle.awari_board.specs.Text.{text_of}
+use Rattle.awari_plan.specs.BestLine.{IsBestLine}
+use Rattle.awari_table.specs.Images.{entry_of, greatest_limit, table_of}
+use Rattle.awari_table.specs.Shelves.{IsShelf}
+use Rattle.awari_table.specs.declared.images.Image.{Image}
+use Rattle.awari_cli.specs.Refusal.{board_fault_text, folder_fault_text, line_fault_text}
+use Rattle.awari_cli.specs.declared.lines.NoLine.{NoLine}
+use Rattle.awari_cli.specs.declared.lines.NoLine.TheVariants.{Board, Folder, Line}
+
+-- Right levels say this value of the board that the text spells, and these moves are the play from it in which both sides follow
+-- their plans, by their greatest limit, up to the first outcome: which is the value.
+pub record IsLineOf (text : List ℕ) (value : ℤ) (moves : List ℕ) (outcome : ℤ) : Type 0 where
+  pub images : List Image
+  pub board : List ℕ
+  pub right : IsShelf images
+  pub whole : IsBoard board
+  pub known : sum board < length images
+  pub spelled : text ≡ text_of board
+  pub valued : value ≡ (entry_of images board).value
+  pub line : IsBestLine (table_of images) (greatest_limit images) board moves outcome
+  pub comes : outcome ≡ value
+
+-- each pit after a space
+abbrev pub moves_text : List ℕ → List ℕ
+moves_text moves = flat_map (λ pit. codes " " ++ decimal pit) moves
+
+abbrev pub line_text : ℤ → List ℕ → ℤ → List ℕ
+line_text value moves outcome = codes "value " ++ signed_decimal value ++ codes "\nmoves" ++ moves_text moves ++ codes "\noutcome " ++ signed_decimal outcome
+
+-- Where it is known what the writer holds, what was written is such a line, and the line feed.
+abbrev pub PrintsLine : List ℕ → Option (List ℕ) → Option (List ℕ) → Type 0
+PrintsLine text before after = (value : ℤ) × (moves : List ℕ) × (outcome : ℤ) × IsLineOf text value moves outcome
+    × Appends before after (line_text value moves outcome ++ 10 ∷ [])
+
+abbrev pub no_line_text : NoLine → List ℕ
+no_line_text (Board fault) = codes "refused " ++ board_fault_text fault
+no_line_text (Folder fault) = codes "refused " ++ folder_fault_text fault
+no_line_text (Line fault) = codes "refused " ++ line_fault_text fault

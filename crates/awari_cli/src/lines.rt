@@ -1,0 +1,160 @@
+//! The command `line`: a play in which both sides follow the plans of the levels in a folder.
+
+ghost use Rattle.std.specs.Prelude.{◌≡◌, ◌≤◌, IfOk};
+ghost use Rattle.awari_cli.specs.Lines.{IsLineOf, PrintsLine};
+ghost use Rattle.awari_cli.specs.declared.lines.NoLine.TheVariants as no_line;
+
+use crate::printing::print;
+use crate::refusals::{OfBoard, OfFolder, OfLine};
+use awari_board::{Board, BoardFault};
+use awari_folder::{FolderFault, load};
+use awari_plan::{Line, LineFault, best_line};
+use awari_table::Entry;
+use std::alloc::Global;
+use std::fmt;
+use std::io::Write;
+use std::path::Path;
+use std::rt::Files;
+use thiserror::Error;
+
+/// The entry of a board, and the line of play from it. Printed, it is the value and the line, in
+/// three lines without the last line feed.
+#[derive(Drop)]
+struct ValuedLine {
+    entry: Entry,
+    line: Line,
+}
+
+impl fmt::Display for ValuedLine {
+    ghost use Rattle.std.specs.Prelude.{Some};
+    ghost use Rattle.awari_cli.specs.Lines.{line_text};
+
+    ghost output = { λ found. Some (line_text found.entry.value found.line.moves.items found.line.outcome) };
+
+    fn fmt<W: fmt::Write>(&self, f: &mut fmt::Formatter<W>) -> fmt::Result {
+        let value = self.entry.value;
+        let moves = Moves(self.line.moves.as_slice());
+        let outcome = self.line.outcome;
+        write!(f, "value {value}\nmoves{moves}\noutcome {outcome}")
+    }
+}
+
+/// The pits of a line. Printed, each stands after a space.
+#[derive(Clone, Copy)]
+struct Moves<'a>(&'a [u8]);
+
+impl fmt::Display for Moves<'_> {
+    ghost use Rattle.std.specs.Prelude.{Some};
+    ghost use Rattle.awari_cli.specs.Lines.{moves_text};
+
+    ghost output = { λ moves. Some (moves_text moves.0.now) };
+
+    fn fmt<W: fmt::Write>(&self, f: &mut fmt::Formatter<W>) -> fmt::Result {
+        for pit in self.0 {
+            write!(f, " {pit}")?;
+        }
+        Ok(())
+    }
+}
+
+/// Why there is no line of a board.
+#[derive(Clone, Copy, Debug, PartialEq, Eq, Error)]
+pub enum NoLine {
+    /// The text is no board.
+    #[error("{fault}")]
+    Board { fault: BoardFault },
+    /// The folder is not loaded.
+    #[error("{fault}")]
+    Folder { fault: FolderFault },
+    /// The levels have no line, or there is no room for it.
+    #[error("{fault}")]
+    Line { fault: LineFault },
+}
+
+impl From<BoardFault> for NoLine {
+    ghost from_gives = { λ fault e. e ≡ no_line.Board fault };
+
+    fn from(fault: BoardFault) -> Self {
+        NoLine::Board { fault }
+    }
+}
+
+impl From<FolderFault> for NoLine {
+    ghost from_gives = { λ fault e. e ≡ no_line.Folder fault };
+
+    fn from(fault: FolderFault) -> Self {
+        NoLine::Folder { fault }
+    }
+}
+
+impl From<LineFault> for NoLine {
+    ghost from_gives = { λ fault e. e ≡ no_line.Line fault };
+
+    fn from(fault: LineFault) -> Self {
+        NoLine::Line { fault }
+    }
+}
+
+/// Printed, a fault is its refusal.
+#[derive(Clone, Copy)]
+struct Refusal(NoLine);
+
+impl fmt::Display for Refusal {
+    ghost use Rattle.std.specs.Prelude.{Some};
+    ghost use Rattle.awari_cli.specs.Lines.{no_line_text};
+
+    ghost output = { λ refused. Some (no_line_text refused.0) };
+
+    fn fmt<W: fmt::Write>(&self, f: &mut fmt::Formatter<W>) -> fmt::Result {
+        match self.0 {
+            NoLine::Board { fault } => write!(f, "refused {}", OfBoard(fault)),
+            NoLine::Folder { fault } => write!(f, "refused {}", OfFolder(fault)),
+            NoLine::Line { fault } => write!(f, "refused {}", OfLine(fault)),
+        }
+    }
+}
+
+/// The line of play from the board that `text` spells, by the plans of the levels in the folder and
+/// their limit. The text is read before the folder is.
+fn line_of<F: Files>(
+    files: &F,
+    alloc: Global,
+    folder: &str,
+    text: &[u8],
+) -> Result<ValuedLine, NoLine>
+    ensures { IfOk result (λ found. IsLineOf text.now found.entry.value found.line.moves.items found.line.outcome) }
+{
+    let board = Board::parse(text)?;
+    let shelf = load(files, alloc, Path::new(folder))?.shelf;
+    let line = best_line(alloc, &shelf, board, shelf.limit())?;
+    match shelf.entry(&board) {
+        Ok(entry) => Ok(ValuedLine { entry, line }),
+        Err(_) => unreachable!(),
+    }
+}
+
+/// Prints the value of a board and the line of play from it, or the refusal.
+pub fn run_line<F: Files, W: Write>(
+    files: &F,
+    alloc: Global,
+    folder: &str,
+    board: &str,
+    writer: &mut W,
+) -> u8
+    ensures status { result ≤ 1 }
+    ensures found { result ≡ 0 → PrintsLine board.now (W.contents writer.old) (W.contents writer.new) }
+{
+    match line_of(files, alloc, folder, board.as_bytes()) {
+        Ok(found) => {
+            if print(writer, &found) {
+                0
+            } else {
+                1
+            }
+        }
+        Err(fault) => {
+            print(writer, &Refusal(fault));
+            1
+        }
+    }
+}
