@@ -1,5 +1,3 @@
-pub mod CheckLaws
-pub mod AnswerLaws
 pub mod JudgeLaws
 pub mod BuildLaws
 pub mod FolderLaws

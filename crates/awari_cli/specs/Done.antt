@@ -1,6 +1,6 @@
 -- What the program has printed for a request where it ends with status 0.
 use Rattle.std.specs.Prelude.{ℕ, List, Option}
-use Rattle.awari_cli.specs.Answer.{PrintsYes}
+use Rattle.awari_check.specs.Answer.{PrintsYes}
 use Rattle.awari_cli.specs.Building.{PrintsLevels}
 use Rattle.awari_cli.specs.Folders.{PrintsFolder, PrintsEntry}
 use Rattle.awari_cli.specs.Judgement.{PrintsJudgement}

@@ -1,6 +1,3 @@
-pub mod CheckFault
-pub mod Stops
-pub mod Answer
 pub mod Refusal
 pub mod Playing
 pub mod Judgement

@@ -2,13 +2,12 @@
 
 ghost use Rattle.std.specs.Prelude.{◌≡◌, ◌≤◌};
 ghost use Rattle.std.specs.Io.KnownBytes.{Keeps};
-ghost use Rattle.awari_cli.specs.Answer.{PrintsYes};
+ghost use Rattle.awari_check.specs.Answer.{PrintsYes};
 ghost use Rattle.awari_cli.specs.Done.{PrintsFor};
 ghost use Rattle.awari_cli.specs.Judgement.{PrintsJudgement};
 ghost use Rattle.awari_cli.specs.Playing.{PrintsMove};
 ghost use Rattle.awari_cli.specs.declared.requests.Request.{Request};
 
-use crate::answers::check_input;
 use crate::building::run_build;
 use crate::folders::{run_ask, run_verify};
 use crate::judgements::{Judged, judge};
@@ -16,6 +15,7 @@ use crate::lines::run_line;
 use crate::playing::{Played, play_on};
 use crate::printing::print;
 use crate::requests::{Request, request_of};
+use awari_check::check_input;
 use std::alloc::Global;
 use std::convert::AsStr;
 use std::io::{Read, Write};

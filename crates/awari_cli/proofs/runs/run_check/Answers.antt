@@ -1,5 +1,5 @@
 use Rattle.std.proofs.Common.{◌∙◌, sym}
-use Rattle.awari_cli.proofs.AnswerLaws.{printed_yes}
+use Rattle.awari_check.proofs.AnswerLaws.{printed_yes}
 use Rattle.awari_cli.proofs.runs.run_check.Goals as goal
 
 pub returns-then-print-clause-yes : goal.returns-then-print-clause-yes

@@ -17,10 +17,10 @@ use Rattle.awari_table.specs.Place.{Place, TakesImage, IsAtEnd, Refuses, Repeats
 use Rattle.awari_table.proofs.TextLaws.{due_once, due_image, same_head, block_some, IsLonger, parting}
 use Rattle.awari_table.proofs.ShelfLemmas.{IsShelf-push}
 use Rattle.awari_verify.specs.VerifyFault.{IsDue}
-use Rattle.awari_cli.specs.declared.checks.CheckFault.{CheckFault}
-use Rattle.awari_cli.specs.declared.checks.CheckFault.TheVariants.{Table, Verify}
-use Rattle.awari_cli.specs.CheckFault.{IsShelfText, IsLevelFault, IsCheckFault}
-use Rattle.awari_cli.specs.Stops.{Stops}
+use Rattle.awari_check.specs.declared.checks.CheckFault.{CheckFault}
+use Rattle.awari_check.specs.declared.checks.CheckFault.TheVariants.{Table, Verify}
+use Rattle.awari_check.specs.CheckFault.{IsShelfText, IsLevelFault, IsCheckFault}
+use Rattle.awari_check.specs.Stops.{Stops}
 use Rattle.awari_verify.proofs.FaultLemmas.{inconsistent_from_fault, one_due}
 
 -- ---- how far a check has come

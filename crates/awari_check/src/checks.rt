@@ -4,10 +4,10 @@ ghost use Rattle.std.specs.Prelude.{◌≡◌, ◌≢◌, ◌⊎◌, ◌++◌, �
 ghost use Rattle.awari_table.specs.declared.images.Image.{Image};
 ghost use Rattle.awari_table.specs.declared.faults.TableFault.{TableFault};
 ghost use Rattle.awari_table.specs.Shelves.{Consistent};
-ghost use Rattle.awari_cli.specs.declared.checks.CheckFault.{CheckFault};
-ghost use Rattle.awari_cli.specs.declared.checks.CheckFault.TheVariants.{Table};
-ghost use Rattle.awari_cli.specs.CheckFault.{IsShelfText, IsCheckFault};
-ghost use Rattle.awari_cli.specs.Stops.{Stops};
+ghost use Rattle.awari_check.specs.declared.checks.CheckFault.{CheckFault};
+ghost use Rattle.awari_check.specs.declared.checks.CheckFault.TheVariants.{Table};
+ghost use Rattle.awari_check.specs.CheckFault.{IsShelfText, IsCheckFault};
+ghost use Rattle.awari_check.specs.Stops.{Stops};
 ghost use Rattle.awari_theory.specs.Truth.{TellsTruth};
 
 use awari_table::{Image, Shelf, TableFault, TableText};

@@ -3,9 +3,9 @@
 ghost use Rattle.std.specs.Prelude.{◌≡◌, ◌≢◌, ℕ, List};
 ghost use Rattle.awari_table.specs.declared.images.Image.{Image};
 ghost use Rattle.awari_table.specs.declared.faults.TableFault.TheVariants.{Memory};
-ghost use Rattle.awari_cli.specs.declared.checks.CheckFault.{CheckFault};
-ghost use Rattle.awari_cli.specs.declared.checks.CheckFault.TheVariants.{Table};
-ghost use Rattle.awari_cli.specs.CheckFault.{IsShelfText, IsCheckFault};
+ghost use Rattle.awari_check.specs.declared.checks.CheckFault.{CheckFault};
+ghost use Rattle.awari_check.specs.declared.checks.CheckFault.TheVariants.{Table};
+ghost use Rattle.awari_check.specs.CheckFault.{IsShelfText, IsCheckFault};
 
 /// Want of memory aside, bytes have at most one first fault, and none where they are the text of
 /// tables that are right.

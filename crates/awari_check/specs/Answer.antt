@@ -9,11 +9,11 @@ use Rattle.awari_table.specs.Images.{greatest_limit}
 use Rattle.awari_verify.specs.declared.verdicts.VerifyFault.{VerifyFault}
 use Rattle.awari_verify.specs.declared.verdicts.VerifyFault.TheVariants.{WrongLevel, WrongSize, Refused}
 use Rattle.awari_verify.specs.Rule.{rule_name}
-use Rattle.awari_cli.specs.declared.checks.CheckFault.{CheckFault}
-use Rattle.awari_cli.specs.declared.checks.CheckFault.TheVariants.{Table, Verify}
-use Rattle.awari_cli.specs.declared.answers.Answer.{Answer}
-use Rattle.awari_cli.specs.declared.answers.Answer.TheVariants.{Yes, Fault, Read}
-use Rattle.awari_cli.specs.CheckFault.{IsShelfText, IsCheckFault}
+use Rattle.awari_check.specs.declared.checks.CheckFault.{CheckFault}
+use Rattle.awari_check.specs.declared.checks.CheckFault.TheVariants.{Table, Verify}
+use Rattle.awari_check.specs.declared.answers.Answer.{Answer}
+use Rattle.awari_check.specs.declared.answers.Answer.TheVariants.{Yes, Fault, Read}
+use Rattle.awari_check.specs.CheckFault.{IsShelfText, IsCheckFault}
 
 -- a refusal's number, its name, and its fields, each with its name
 abbrev pub table_fault_text : TableFault → List ℕ

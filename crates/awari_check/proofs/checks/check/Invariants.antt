@@ -1,6 +1,6 @@
 use Rattle.std.proofs.Common.{length}
-use Rattle.awari_cli.proofs.CheckLaws.{IsChecked}
-use Rattle.awari_cli.proofs.checks.check.Given as goal
+use Rattle.awari_check.proofs.CheckLaws.{IsChecked}
+use Rattle.awari_check.proofs.checks.check.Given as goal
 
 abbrev pub invariant-loop-shelf : goal.invariant-loop-shelf
 invariant-loop-shelf l = IsChecked l.bytes l.shelf l.text

@@ -5,8 +5,8 @@ use Rattle.awari_table.specs.Shelves.{IsShelf}
 use Rattle.awari_table.specs.Spelling.{block, table_text, line_count, IsImage, AreImages}
 use Rattle.awari_table.specs.TableFault.{IsDueAt}
 use Rattle.awari_verify.specs.VerifyFault.{IsDue}
-use Rattle.awari_cli.specs.declared.checks.CheckFault.{CheckFault}
-use Rattle.awari_cli.specs.declared.checks.CheckFault.TheVariants.{Table, Verify}
+use Rattle.awari_check.specs.declared.checks.CheckFault.{CheckFault}
+use Rattle.awari_check.specs.declared.checks.CheckFault.TheVariants.{Table, Verify}
 
 -- the bytes are the text of these images, each of which is consistent over those before it
 pub record IsShelfText (bytes : List ℕ) (images : List Image) : Type 0 where

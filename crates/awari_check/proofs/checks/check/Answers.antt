@@ -2,8 +2,8 @@ use Rattle.std.proofs.Common.{◌≡◌, ◌∙◌, sym}
 use Rattle.std.proofs.lemmas.Result.{err_from_is_err_and}
 use Rattle.awari_table.proofs.TextLaws.{images_are}
 use Rattle.awari_theory.proofs.Truths.{TellsTruth-shelf}
-use Rattle.awari_cli.proofs.CheckLaws.{checked_more, checked_all, checked_text, checked_stop, no_check_fault, refused_only, refused_exact}
-use Rattle.awari_cli.proofs.checks.check.Goals as goal
+use Rattle.awari_check.proofs.CheckLaws.{checked_more, checked_all, checked_text, checked_stop, no_check_fault, refused_only, refused_exact}
+use Rattle.awari_check.proofs.checks.check.Goals as goal
 
 pub returns-in_err-image-clause-only : goal.returns-in_err-image-clause-only
 returns-in_err-image-clause-only c =

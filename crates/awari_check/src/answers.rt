@@ -1,7 +1,7 @@
 //! What the program prints.
 
 ghost use Rattle.std.specs.Prelude.{◌≡◌, IfSome};
-ghost use Rattle.awari_cli.specs.Answer.{IsAnswer};
+ghost use Rattle.awari_check.specs.Answer.{IsAnswer};
 
 use crate::checks::{CheckFault, check};
 use awari_table::TableFault;
@@ -22,7 +22,7 @@ pub enum Answer {
 }
 
 impl Answer {
-    ghost use Rattle.awari_cli.specs.Answer.{status_of};
+    ghost use Rattle.awari_check.specs.Answer.{status_of};
 
     /// The status that the program ends with: 0 for a yes, and 1 otherwise.
     pub fn status(&self) -> u8
@@ -38,7 +38,7 @@ impl Answer {
 
 impl fmt::Display for Answer {
     ghost use Rattle.std.specs.Prelude.{Some};
-    ghost use Rattle.awari_cli.specs.Answer.{answer_text};
+    ghost use Rattle.awari_check.specs.Answer.{answer_text};
 
     ghost output = { λ answer. Some (answer_text answer) };
 
@@ -62,7 +62,7 @@ struct OfText(TableFault);
 
 impl fmt::Display for OfText {
     ghost use Rattle.std.specs.Prelude.{Some};
-    ghost use Rattle.awari_cli.specs.Answer.{table_fault_text};
+    ghost use Rattle.awari_check.specs.Answer.{table_fault_text};
 
     ghost output = { λ refused. Some (table_fault_text refused.0) };
 
@@ -83,7 +83,7 @@ struct OfLevel(u8, VerifyFault);
 
 impl fmt::Display for OfLevel {
     ghost use Rattle.std.specs.Prelude.{Some};
-    ghost use Rattle.awari_cli.specs.Answer.{verify_fault_text};
+    ghost use Rattle.awari_check.specs.Answer.{verify_fault_text};
 
     ghost output = { λ refused. Some (verify_fault_text refused.0 refused.1) };
 

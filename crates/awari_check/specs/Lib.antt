@@ -1,0 +1,3 @@
+pub mod CheckFault
+pub mod Stops
+pub mod Answer
