@@ -30,11 +30,7 @@ fn pit_after(pit: u8, origin: u8) -> u8
     ensures next { (s : ℕ) → 1 ≤ s → pit ≡ landing origin s → result ≡ landing origin (s + 1) }
 {
     let next = next_pit(pit);
-    if next == origin {
-        next_pit(next)
-    } else {
-        next
-    }
+    if next == origin { next_pit(next) } else { next }
 }
 
 /// The pit after `pit` in the circle; a test here is faster than a division.

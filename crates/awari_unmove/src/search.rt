@@ -85,7 +85,11 @@ fn landing(origin: u8, stone: u8) -> u8
     ensures on_board { result < 12 }
 {
     // Most sowings end before they come round, so that these tests are faster than divisions.
-    let passed = if stone > 11 { (stone - 1) % 11 } else { stone - 1 };
+    let passed = if stone > 11 {
+        (stone - 1) % 11
+    } else {
+        stone - 1
+    };
     let place = origin + 1 + passed;
     if place < 12 { place } else { place - 12 }
 }
