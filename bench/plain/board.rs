@@ -82,10 +82,15 @@ pub fn boards(stones: usize) -> impl Iterator<Item = Board> {
     std::iter::successors(Some(first), successor)
 }
 
+#[inline]
+pub fn next_pit(pit: usize) -> usize {
+    if pit == 11 { 0 } else { pit + 1 }
+}
+
 /// The board after the move and the stones captured, if the move is legal.
 #[inline]
 pub fn play(board: &Board, pit: usize) -> Option<(Board, u8)> {
-    let mut stones = board[pit];
+    let stones = board[pit];
     let feeds = pit + stones as usize >= 6 || board[6..].iter().any(|&stones| stones > 0);
     if stones == 0 || !feeds {
         return None;
@@ -93,12 +98,12 @@ pub fn play(board: &Board, pit: usize) -> Option<(Board, u8)> {
     let mut pits = *board;
     pits[pit] = 0;
     let mut last = pit;
-    while stones > 0 {
-        last = (last + 1) % 12;
-        if last != pit {
-            pits[last] += 1;
-            stones -= 1;
+    for _ in 0..stones {
+        last = next_pit(last);
+        if last == pit {
+            last = next_pit(last);
         }
+        pits[last] += 1;
     }
     let mut captured = 0;
     let mut end = last + 1;
@@ -113,8 +118,14 @@ pub fn play(board: &Board, pit: usize) -> Option<(Board, u8)> {
             pits[end..=last].fill(0);
         }
     }
-    pits.rotate_left(6);
-    Some((pits, captured))
+    Some((turned(&pits), captured))
+}
+
+/// The board as the other player sees it.
+#[inline]
+pub fn turned(pits: &Board) -> Board {
+    let [a, b, c, d, e, f, u, v, w, x, y, z] = *pits;
+    [u, v, w, x, y, z, a, b, c, d, e, f]
 }
 
 /// What the mover of a board with no legal move gains.

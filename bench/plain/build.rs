@@ -1,15 +1,9 @@
-//! Levels built backward from the ends of play and the captures, in the way of the proved builder,
-//! and not verified.
+//! Levels built backward from the ends of play and the captures, in the way of the proved builder.
 
-use crate::board::{Board, Ways, boards, gain_at_end, play};
-
-/// Eight bytes, as in the proved builder.
-#[derive(Clone, Copy)]
-struct Entry {
-    value: i8,
-    plan: Option<u8>,
-    dist: u32,
-}
+use crate::board::{Board, Ways, boards, gain_at_end, next_pit, play, turned};
+use crate::folder::save;
+use crate::level::{Entry, Level, refusal};
+use std::path::Path;
 
 #[derive(Clone, Copy, PartialEq)]
 enum Mark {
@@ -28,15 +22,15 @@ struct Cell {
     dist: u32,
 }
 
-const _: () = assert!(size_of::<Cell>() == 8 && size_of::<Entry>() == 8);
+const _: () = assert!(size_of::<Cell>() == 8);
 
 /// What a capture gains, by the finished levels.
-fn gain_of(ways: &Ways, below: &[Vec<Entry>], next: &Board, captured: u8) -> i8 {
+fn gain_of(ways: &Ways, below: &[Level], next: &Board, captured: u8) -> i8 {
     let level = below.len() - captured as usize;
-    captured as i8 - below[level][ways.rank_of(level, next) as usize].value
+    captured as i8 - below[level].entries[ways.rank_of(level, next) as usize].value
 }
 
-fn scanned(ways: &Ways, below: &[Vec<Entry>], board: &Board) -> Cell {
+fn scanned(ways: &Ways, below: &[Level], board: &Board) -> Cell {
     let mut left = 0;
     let mut best = None;
     for (next, captured) in (0..6).filter_map(|pit| play(board, pit)) {
@@ -86,8 +80,7 @@ fn told(cell: &mut Cell, won: bool, gain: i8, dist: u32) -> Option<(i8, u32)> {
 
 /// Gives the boards whose quiet move leads to this one.
 fn unmoves(board: &Board, mut give: impl FnMut(&Board)) {
-    let mut back = *board;
-    back.rotate_left(6);
+    let back = turned(board);
     for origin in 0..6 {
         if back[origin] > 0 {
             continue;
@@ -95,7 +88,7 @@ fn unmoves(board: &Board, mut give: impl FnMut(&Board)) {
         let mut left = back;
         let mut last = origin;
         loop {
-            last = if last == 11 { 0 } else { last + 1 };
+            last = next_pit(last);
             if last == origin {
                 continue;
             }
@@ -172,13 +165,7 @@ impl Work {
 }
 
 /// The lowest pit that gains the value, and for a won board captures or comes nearer.
-fn plan(
-    ways: &Ways,
-    below: &[Vec<Entry>],
-    entries: &[Entry],
-    board: &Board,
-    own: Entry,
-) -> Option<u8> {
+fn plan(ways: &Ways, below: &[Level], entries: &[Entry], board: &Board, own: Entry) -> Option<u8> {
     (0..6).find(|&pit| match play(board, usize::from(pit)) {
         Some((next, 0)) => {
             let next = entries[ways.rank_of(below.len(), &next) as usize];
@@ -202,7 +189,7 @@ fn entry(cell: &Cell) -> Entry {
 }
 
 /// The next level above these.
-fn built(ways: &Ways, below: &[Vec<Entry>]) -> Vec<Entry> {
+fn built(ways: &Ways, below: &[Level]) -> Level {
     let stones = below.len();
     let mut work = Work {
         cells: Vec::with_capacity(ways.size(stones) as usize),
@@ -218,27 +205,40 @@ fn built(ways: &Ways, below: &[Vec<Entry>]) -> Vec<Entry> {
     for (rank, board) in boards(stones).enumerate() {
         entries[rank].plan = plan(ways, below, &entries, &board, entries[rank]);
     }
-    entries
+    Level::of(entries)
 }
 
-fn line(stones: usize, entries: &[Entry]) -> String {
-    let count = |sign| entries.iter().filter(|e| e.value.signum() == sign).count();
-    let limit = entries.iter().map(|entry| entry.dist).max().unwrap_or(0);
+fn line(stones: usize, level: &Level) -> String {
+    let count = |sign| {
+        let entries = level.entries.iter();
+        entries.filter(|entry| entry.value.signum() == sign).count()
+    };
     format!(
-        "level {stones} boards {} won {} even {} lost {} limit {limit}",
-        entries.len(),
+        "level {stones} boards {} won {} even {} lost {} limit {}",
+        level.entries.len(),
         count(1),
         count(0),
-        count(-1)
+        count(-1),
+        level.limit
     )
 }
 
-/// Builds the levels from 0 to this one, and prints a line for each.
-pub fn build(ways: &Ways, top: usize) {
+/// Builds the levels from 0 to this one, and prints a line for each. If it is wanted, each is
+/// verified, and saved into a folder.
+pub fn build(ways: &Ways, top: usize, verifies: bool, folder: Option<&Path>) -> Result<(), String> {
     let mut below = Vec::new();
+    let mut digest = [0; 32];
     for stones in 0..=top {
-        let entries = built(ways, &below);
-        println!("{}", line(stones, &entries));
-        below.push(entries);
+        let level = built(ways, &below);
+        if verifies && let Some((rank, rule)) = refusal(ways, &below, &level) {
+            return Err(format!("refused 54 Refused rank {rank} rule V{rule}"));
+        }
+        if let Some(folder) = folder {
+            digest = save(folder, stones, &level, &digest)
+                .map_err(|fault| format!("level {stones} is not saved: {fault}"))?;
+        }
+        println!("{}", line(stones, &level));
+        below.push(level);
     }
+    Ok(())
 }

@@ -1,19 +1,8 @@
-//! Tables: found by a plain analysis, judged by the rules, written and read as text.
+//! Tables: found by a plain analysis, written and read as text, and checked.
 
 use crate::board::{Board, Ways, boards, gain_at_end, play};
+use crate::level::{Entry, Level, limit_of, refusal};
 use std::fmt::Write;
-
-#[derive(Clone, Copy)]
-pub struct Entry {
-    value: i16,
-    plan: Option<usize>,
-    dist: u32,
-}
-
-pub struct Level {
-    limit: u32,
-    entries: Vec<Entry>,
-}
 
 /// A legal move: the stones captured, and the rank of the board that it leaves.
 type Move = Option<(u8, u32)>;
@@ -33,7 +22,7 @@ impl Work<'_> {
     /// What a capture gains, by the finished levels.
     fn captures(&self, captured: u8, rank: u32) -> i16 {
         let level = &self.below[self.below.len() - captured as usize];
-        i16::from(captured) - level.entries[rank as usize].value
+        i16::from(captured) - i16::from(level.entries[rank as usize].value)
     }
 
     /// The value and distance by which a board can be settled at this gain, if it can be yet.
@@ -83,8 +72,8 @@ impl Work<'_> {
     }
 
     /// The lowest pit that gains the value, and for a won board captures or comes nearer.
-    fn plan(&self, rank: usize, value: i16, dist: u32) -> Option<usize> {
-        (0..6).find(|&pit| match self.moves[rank][pit] {
+    fn plan(&self, rank: usize, value: i16, dist: u32) -> Option<u8> {
+        (0..6).find(|&pit| match self.moves[rank][usize::from(pit)] {
             Some((0, next)) => {
                 let (reached, nearer) = self.settled[next as usize].unwrap_or((0, 0));
                 -reached == value && (value <= 0 || nearer < dist)
@@ -116,85 +105,17 @@ pub fn solve(ways: &Ways, below: &[Level]) -> Level {
     for gain in (1..=stones as i16).rev() {
         work.settle(gain);
     }
-    let entries: Vec<_> = (0..work.moves.len())
+    let entries = (0..work.moves.len())
         .map(|rank| {
             let (value, dist) = work.settled[rank].unwrap_or((0, 0));
             Entry {
-                value,
+                value: value as i8,
                 plan: work.plan(rank, value, dist),
                 dist,
             }
         })
         .collect();
-    Level {
-        limit: entries.iter().map(|entry| entry.dist).max().unwrap_or(0),
-        entries,
-    }
-}
-
-/// The first rule from V1 to V6 that a board breaks.
-fn broken(
-    ways: &Ways,
-    below: &[Level],
-    entries: &[Entry],
-    rank: usize,
-    board: &Board,
-) -> Option<u8> {
-    let Entry { value, plan, dist } = entries[rank];
-    let stones = below.len() as i16;
-    if value.abs() > stones || plan.is_some_and(|pit| pit > 5) {
-        return Some(1);
-    }
-    let reached = moves_of(ways, board).map(|found| {
-        found.map(|(captured, next)| {
-            let level = if captured == 0 {
-                entries
-            } else {
-                &below[below.len() - captured as usize].entries
-            };
-            let next = level[next as usize];
-            (
-                i16::from(captured) - next.value,
-                captured > 0 || next.dist < dist,
-                captured,
-            )
-        })
-    });
-    if reached.iter().all(Option::is_none) {
-        let right = value == gain_at_end(board) && plan.is_none() && dist == 0;
-        return (!right).then_some(2);
-    }
-    let Some((planned, nearer, _)) = plan.and_then(|pit| reached[pit]) else {
-        return Some(3);
-    };
-    if reached.iter().flatten().any(|&(gain, _, _)| gain > value) {
-        return Some(4);
-    }
-    if planned != value {
-        return Some(5);
-    }
-    let falls = match value {
-        0 => dist == 0,
-        1.. => dist > 0 && nearer,
-        _ => dist > 0 && reached.iter().flatten().all(|&(_, nearer, _)| nearer),
-    };
-    (!falls).then_some(6)
-}
-
-/// The first rank and rule by which a level is refused above those below it.
-fn refusal(ways: &Ways, below: &[Level], level: &Level) -> Option<(usize, u8)> {
-    boards(below.len())
-        .enumerate()
-        .find_map(|(rank, board)| Some((rank, broken(ways, below, &level.entries, rank, &board)?)))
-        .or_else(|| {
-            let most = level
-                .entries
-                .iter()
-                .map(|entry| entry.dist)
-                .max()
-                .unwrap_or(0);
-            (most != level.limit).then_some((0, 7))
-        })
+    Level::of(entries)
 }
 
 /// The text of the levels from 0 to this one.
@@ -242,19 +163,22 @@ fn level<'a>(
 }
 
 /// What is to be said of a text, whose form is not looked at closely.
-pub fn check(ways: &Ways, text: &str) -> String {
+pub fn check(ways: &Ways, text: &str) -> Result<String, String> {
     let mut below: Vec<Level> = Vec::new();
     let mut lines = text.lines().peekable();
     while lines.peek().is_some() {
         let stones = below.len();
         let Some(level) = level(ways, &mut lines, stones) else {
-            return format!("no level {stones}");
+            return Err(format!("no level {stones}"));
         };
         if let Some((rank, rule)) = refusal(ways, &below, &level) {
-            return format!("no level {stones} rank {rank} rule V{rule}");
+            return Err(format!("no level {stones} rank {rank} rule V{rule}"));
         }
         below.push(level);
     }
-    let limit = below.iter().map(|level| level.limit).max().unwrap_or(0);
-    format!("yes levels {} limit {limit}", below.len())
+    Ok(format!(
+        "yes levels {} limit {}",
+        below.len(),
+        limit_of(&below)
+    ))
 }

@@ -1,30 +1,20 @@
 //! Goes over a level of ten stones by the hot calls. With no words it makes one round of each and
 //! prints what it counted, which another program has to count too; `bench/run` times it with the
-//! name of a call and a number of rounds.
+//! name of a call and a number of rounds. The call `verify` is that of all levels, which are built
+//! first.
 #![tactic(auto)]
 
+mod counting;
+mod judging;
+
+use crate::counting::Counted;
+use crate::judging::judgements;
 use awari_board::Board;
 use awari_rank::{rank, size, successor, unrank};
 use std::{env, io};
 
 /// The stones on each board.
 const STONES: u8 = 10;
-
-/// What a round of a call adds up to.
-#[derive(Clone, Copy)]
-struct Counted {
-    calls: u64,
-    total: u64,
-}
-
-impl Counted {
-    const NONE: Counted = Counted { calls: 0, total: 0 };
-
-    fn add(&mut self, number: u64) {
-        self.calls = self.calls.wrapping_add(1);
-        self.total = self.total.wrapping_add(number);
-    }
-}
 
 /// The board of rank 0.
 fn first() -> Board {
@@ -42,11 +32,15 @@ fn after(board: &Board) -> Board {
     }
 }
 
-/// Plays each pit of each board: the legal moves, and what they capture and lay into pit 3.
+/// Plays each pit of each board that is legal, and counts what is captured and laid into pit 3. The
+/// other pits are not played, since the program never asks why a move of its own is refused.
 fn plays(counted: &mut Counted) {
     let mut board = first();
     for _rank in 0..size(STONES) {
         for pit in 0..6 {
+            if !board.legal(pit) {
+                continue;
+            }
             if let Ok(moved) = board.play(pit) {
                 counted.add(u64::from(moved.captured).wrapping_add(u64::from(moved.board.pit(3))));
             }
@@ -97,14 +91,25 @@ fn measured(call: &str, rounds: u32) -> Counted {
 }
 
 fn report(rt: &impl Print, call: &str, rounds: u32) -> io::Result<()> {
-    let Counted { calls, total } = measured(call, rounds);
+    print_counted(rt, call, measured(call, rounds))
+}
+
+fn print_counted(rt: &impl Print, call: &str, counted: Counted) -> io::Result<()> {
+    let Counted { calls, total } = counted;
     println!(rt; "{call} calls {calls} total {total}")
 }
 
 fn main(rt: HostRuntime) -> io::Result<()> {
     let words: Vec<String> = env::args(&rt)?.collect(rt.alloc())?;
     match words.as_slice() {
-        [_, call, rounds] => report(&rt, call.as_str(), rounds.as_str().parse().unwrap_or(1)),
+        [_, call, rounds] => {
+            let rounds = rounds.as_str().parse().unwrap_or(1);
+            if call.as_str() == "verify" {
+                print_counted(&rt, "verify", judgements(rt.alloc(), rounds)?)
+            } else {
+                report(&rt, call.as_str(), rounds)
+            }
+        }
         _ => {
             for call in ["play", "rank", "successor", "unrank"] {
                 report(&rt, call, 1)?;

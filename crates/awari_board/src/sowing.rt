@@ -1,5 +1,5 @@
 //! Sowing, stone by stone.
-ghost use Rattle.std.specs.Prelude.{◌≡◌, ℕ, ◌+◌, ◌<◌, ◌≤◌, slice_index, sum};
+ghost use Rattle.std.specs.Prelude.{◌≡◌, ℕ, ◌+◌, ◌%◌, ◌<◌, ◌≤◌, slice_index, sum};
 ghost use Rattle.awari_board.specs.Rules.{landing, last_pit, sown};
 
 /// Sows the stones of pit `origin` one by one into the pits after it, and gives the pit of the last.
@@ -29,10 +29,14 @@ fn pit_after(pit: u8, origin: u8) -> u8
     ensures first { pit ≡ origin → result ≡ landing origin 1 }
     ensures next { (s : ℕ) → 1 ≤ s → pit ≡ landing origin s → result ≡ landing origin (s + 1) }
 {
-    let next = (pit + 1) % 12;
-    if next == origin {
-        (next + 1) % 12
-    } else {
-        next
-    }
+    let next = next_pit(pit);
+    if next == origin { next_pit(next) } else { next }
+}
+
+/// The pit after `pit` in the circle; a test here is faster than a division.
+fn next_pit(pit: u8) -> u8
+    requires { pit < 12 }
+    ensures { result ≡ (pit + 1) % 12 }
+{
+    if pit == 11 { 0 } else { pit + 1 }
 }

@@ -55,7 +55,12 @@ pub fn open_cells(cells: &mut Vec<Cell>, fresh: &mut BinaryHeap<Due>, place: Pla
     ensures sound { IsBlock place cells.new.items (heap_items fresh.new) (heap_capacity fresh.new) }
 {
     for i in 0..cells.len() {
-        let cell = cells[i].with_gain(place);
-        put(cells, fresh, place, place.start + i as u32, cell);
+        // Most cells have nothing to open, and are passed over without being written.
+        let cell = cells[i];
+        if !cell.awaits_gain() {
+            continue;
+        }
+        let opened = cell.with_gain(place);
+        put(cells, fresh, place, place.start + i as u32, opened);
     }
 }

@@ -1,5 +1,5 @@
 //! What is kept of each board of a block.
-ghost use Rattle.std.specs.Prelude.{◌≡◌, ◌+◌, ◌-◌, ◌^◌, ◌<◌, ◌≤◌, ◌↔◌, IsTrue, pos, neg_ℤ, ◌≤ℤ◌};
+ghost use Rattle.std.specs.Prelude.{◌≡◌, ℕ, false, ◌+◌, ◌-◌, ◌^◌, ◌<◌, ◌≤◌, ◌↔◌, IsTrue, pos, neg_ℤ, ◌≤ℤ◌};
 ghost use Rattle.awari_owner.specs.Tally.{Open, has_pit, with_pit};
 ghost use Rattle.awari_owner.specs.Cells.{status_of, is_settled, Fits, Keeps, SettlesTimely};
 ghost use Rattle.awari_owner.specs.Steps.{after_note, after_opening};
@@ -109,6 +109,13 @@ impl Cell {
             score: self.score,
             dist: far,
         }
+    }
+
+    /// Whether the opening of a gain can change the cell.
+    pub fn awaits_gain(&self) -> bool
+        ensures { result ≡ false → (level gain : ℕ) → after_opening (status_of self.now) level gain ≡ status_of self.now }
+    {
+        self.mark == Mark::Ended || self.mark == Mark::Capturing
     }
 
     /// The cell once the gain of the place is opened. An end with the greatest gain settles the

@@ -24,9 +24,8 @@ pub fn set_plans(shelf: &Shelf, entries: &mut Vec<Entry>)
     for rank in 0..boards {
         let plan = lowest_plan(shelf, entries.as_slice(), &board, rank);
         entries[rank as usize].plan = plan;
-        match successor(&board) {
-            Some(next) => board = next,
-            None => return,
+        if let Some(next) = successor(&board) {
+            board = next;
         }
     }
 }
@@ -58,6 +57,10 @@ fn serves(shelf: &Shelf, entries: &[Entry], board: &Board, own: Entry, pit: u8) 
     requires own { own ≡ entry_of (topped shelf.now entries.now) board.now }
     ensures { IsTrue result ↔ Serves (table_of (topped shelf.now entries.now)) board.now pit }
 {
+    // Asked first, since to find why a move is refused takes longer than to play one.
+    if !board.legal(pit) {
+        return false;
+    }
     match board.play(pit) {
         Ok(moved) => {
             let reached = entry_after(shelf, entries, &moved);

@@ -84,7 +84,14 @@ fn landing(origin: u8, stone: u8) -> u8
     ensures pit { result ≡ landing origin stone }
     ensures on_board { result < 12 }
 {
-    (origin + 1 + (stone - 1) % 11) % 12
+    // Most sowings end before they come round, so that these tests are faster than divisions.
+    let passed = if stone > 11 {
+        (stone - 1) % 11
+    } else {
+        stone - 1
+    };
+    let place = origin + 1 + passed;
+    if place < 12 { place } else { place - 12 }
 }
 
 /// Whether the move of pit `origin` that sows to `back` and ends in pit `last` is legal and quiet.

@@ -39,6 +39,10 @@ fn reached(shelf: &Shelf, image: &Image, board: &Board, pit: u8) -> Option<Reach
     requires stones { sum board.now ≡ image.now.level }
     ensures { SeesMove (table_of (shelf.now ++ image.now ∷ [])) board.now pit result }
 {
+    // Asked first, since to find why a move is refused takes longer than to play one.
+    if !board.legal(pit) {
+        return None;
+    }
     match board.play(pit) {
         Ok(moved) => Some(Reached {
             captured: moved.captured,

@@ -1,4 +1,4 @@
-use Rattle.std.proofs.Common.{◌≡◌, ◌<◌, ◌+◌, ◌∙◌, sym, ap, subst, arith, length, refl, List}
+use Rattle.std.proofs.Common.{◌≡◌, ◌<◌, ◌+◌, ◌∙◌, sym, ap, subst, arith, length, List, rules}
 use Rattle.std.proofs.lemmas.List.{get_or_default}
 use Rattle.awari_rank.specs.Rank.{size_of}
 use Rattle.awari_table.specs.declared.images.Entry.{Entry}
@@ -17,32 +17,10 @@ loop-rank-init c = record {
   ranked = λ _. c.unrank-board.ensures.rank;
 }
 
-pub returns-in-None-clause-same : goal.returns-in-None-clause-same
-returns-in-None-clause-same c =
-    let before = c.loop-rank.invariant in
-    let put : Entry = record { value = c.index_mut.result.now.value; plan = c.lowest_plan-plan.result; dist = c.index_mut.result.now.dist } in
-    let boards : size_of c.levels-level.result ≡ size_of (length c.args.shelf.now) = ap size_of c.levels-level.ensures.levels in
-    let inside : c.loop-rank.rank < length c.loop-rank.entries.items = omega (arith, boards, before.same.size, c.size-boards.ensures.boards, c.requires.sized, c.loop-rank-test.true) in
-    let was = c.index_mut.ensures.value ∙ get_or_default c.loop-rank.entries.items c.loop-rank.rank c.index_mut.result.now no_entry inside in
-    same_set _ _ _ put before.same inside (ap (λ e. e.value) was) (ap (λ e. e.dist) was)
-
-pub returns-in-None-clause-planned : goal.returns-in-None-clause-planned
-returns-in-None-clause-planned c =
-    let before = c.loop-rank.invariant in
-    let ranked = before.ranked c.loop-rank-test.true in
-    let put : Entry = record { value = c.index_mut.result.now.value; plan = c.lowest_plan-plan.result; dist = c.index_mut.result.now.dist } in
-    let boards : size_of c.levels-level.result ≡ size_of (length c.args.shelf.now) = ap size_of c.levels-level.ensures.levels in
-    let inside : c.loop-rank.rank < length c.loop-rank.entries.items = omega (arith, boards, before.same.size, c.size-boards.ensures.boards, c.requires.sized, c.loop-rank-test.true) in
-    let lowest = subst (λ (es : List Entry). IsLowest (table_of (topped c.args.shelf.now es)) c.loop-rank.board put.plan) c.as_slice.ensures.value c.lowest_plan-plan.ensures in
-    let all : c.loop-rank.rank + 1 ≡ size_of (length c.args.shelf.now) = ap (λ n. n + 1) (sym ranked) ∙ c.in-None.ensures.last.0 refl ∙ ap size_of before.stones in
-    let planned = planned_more c.args.shelf.now c.args.entries.now.items c.loop-rank.entries.items c.loop-rank.rank c.loop-rank.board put before.same before.planned inside before.is_board before.stones ranked lowest in
-    λ p whole stones below. planned p whole stones (omega (arith, all, below))
-
 pub loop-rank-preserved : goal.loop-rank-preserved
 loop-rank-preserved c =
     let before = c.loop-rank.invariant in
     let ranked = before.ranked c.loop-rank-test.true in
-    let next = c.in-Some.ensures in
     let put : Entry = record { value = c.index_mut.result.now.value; plan = c.lowest_plan-plan.result; dist = c.index_mut.result.now.dist } in
     let boards : size_of c.levels-level.result ≡ size_of (length c.args.shelf.now) = ap size_of c.levels-level.ensures.levels in
     let inside : c.loop-rank.rank < length c.loop-rank.entries.items = omega (arith, boards, before.same.size, c.size-boards.ensures.boards, c.requires.sized, c.loop-rank-test.true) in
@@ -51,7 +29,7 @@ loop-rank-preserved c =
     record {
       same = same_set _ _ _ put before.same inside (ap (λ e. e.value) was) (ap (λ e. e.dist) was);
       planned = planned_more _ _ _ _ _ put before.same before.planned inside before.is_board before.stones ranked lowest;
-      is_board = next.board;
-      stones = next.stones ∙ before.stones;
-      ranked = λ _. let is = next.rank in omega arith;
+      is_board = search rules;
+      stones = search rules;
+      ranked = search rules;
     }
