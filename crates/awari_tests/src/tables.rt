@@ -4,7 +4,7 @@
 use awari_board::Board;
 use awari_rank::{size, unrank};
 use awari_table::{Counts, Entries, Entry, Image, NotYet, Shelf};
-use awari_verify::{Rule, VerifyFault, verify};
+use awari_verify::{Rule, VerifyFault, fault_of, verify};
 use std::alloc::Global;
 use std::sync::Arc;
 use std::test::Fail;
@@ -144,6 +144,23 @@ fn two_levels(alloc: Global) -> Result<Shelf, Fail> {
     Ok(shelf)
 }
 
+/// What the verifier has against these entries, as the next level of the shelf.
+fn fault_found(
+    alloc: Global,
+    shelf: &Shelf,
+    limit: u32,
+    entries: &[Entry],
+) -> Result<Option<VerifyFault>, Fail> {
+    let image = image(alloc, shelf.levels(), limit, entries)?;
+    let fault = fault_of(shelf, &image);
+    match verify(shelf, image) {
+        Ok(_) if fault.is_some() => Err("a fault, and a yes".into()),
+        Ok(_) => Ok(None),
+        Err(refused) if fault != Some(refused) => Err("another fault".into()),
+        Err(refused) => Ok(Some(refused)),
+    }
+}
+
 fn refused(rank: u32, rule: Rule) -> Option<VerifyFault> {
     Some(VerifyFault::Refused { rank, rule })
 }
@@ -245,7 +262,7 @@ fn refuses_wrong_entries_of_level_1(rt: HostRuntime) -> Result<(), Fail> {
         if let Some(slot) = entries.get_mut(place) {
             *slot = wrong;
         }
-        let answer = verify(&shelf, image(rt.alloc(), 1, limit, &entries)?).err();
+        let answer = fault_found(rt.alloc(), &shelf, limit, &entries)?;
         assert_eq!(rt; answer, fault, "{wrong:?} at rank {place}");
     }
     Ok(())
@@ -262,14 +279,20 @@ fn refuses_wrong_entries_of_level_2(rt: HostRuntime) -> Result<(), Fail> {
         if let Some(slot) = entries.get_mut(71) {
             *slot = wrong;
         }
-        let answer = verify(&shelf, image(rt.alloc(), 2, 9, &entries)?).err();
+        let answer = fault_found(rt.alloc(), &shelf, 9, &entries)?;
         assert_eq!(rt; answer, fault, "{wrong:?} at rank 71");
     }
+    Ok(())
+}
+
+#[test]
+fn refuses_a_circle_of_won_and_lost_boards(rt: HostRuntime) -> Result<(), Fail> {
+    let shelf = two_levels(rt.alloc())?;
     let falling = false_circle(rt.alloc(), None)?;
-    let answer = verify(&shelf, image(rt.alloc(), 2, 12, &falling)?).err();
+    let answer = fault_found(rt.alloc(), &shelf, 12, &falling)?;
     assert_eq!(rt; answer, refused(72, Rule::V6));
     let equal = false_circle(rt.alloc(), Some(5))?;
-    let answer = verify(&shelf, image(rt.alloc(), 2, 9, &equal)?).err();
+    let answer = fault_found(rt.alloc(), &shelf, 9, &equal)?;
     assert_eq!(rt; answer, refused(21, Rule::V6));
     Ok(())
 }
@@ -279,7 +302,7 @@ fn takes_the_greatest_distance_as_limit(rt: HostRuntime) -> Result<(), Fail> {
     let shelf = two_levels(rt.alloc())?;
     let mut entries = level_2(rt.alloc())?;
     for limit in [8, 10] {
-        let answer = verify(&shelf, image(rt.alloc(), 2, limit, &entries)?).err();
+        let answer = fault_found(rt.alloc(), &shelf, limit, &entries)?;
         assert_eq!(rt; answer, refused(0, Rule::V7), "limit {limit}");
     }
     // Distances need not be the least.
