@@ -145,13 +145,7 @@ pub fn run_line<F: Files, W: Write>(
     ensures found { result ≡ 0 → PrintsLine board.now (W.contents writer.old) (W.contents writer.new) }
 {
     match line_of(files, alloc, folder, board.as_bytes()) {
-        Ok(found) => {
-            if print(writer, &found) {
-                0
-            } else {
-                1
-            }
-        }
+        Ok(found) => { if print(writer, &found) { 0 } else { 1 } }
         Err(fault) => {
             print(writer, &Refusal(fault));
             1

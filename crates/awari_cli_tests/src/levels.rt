@@ -148,18 +148,42 @@ fn expect_line(
 /// Boards, and what `line` prints of each with levels 0 to 2.
 const LINES_OF_2: [(&str, &str, u8); 6] = [
     (CYCLE, "value 0\nmoves 0 0 1 1 2 2 3 3 4 4\noutcome 0\n", 0),
-    ("1,0,0,0,0,0/0,0,1,0,0,0", "value 2\nmoves 0 2 1 3 2 4 3 5\noutcome 2\n", 0),
+    (
+        "1,0,0,0,0,0/0,0,1,0,0,0",
+        "value 2\nmoves 0 2 1 3 2 4 3 5\noutcome 2\n",
+        0,
+    ),
     ("0,0,0,0,0,1/1,0,1,0,0,0", "refused 56 NotYet levels 3\n", 1),
-    ("25,0,0,0,0,0/0,0,0,0,0,0", "refused 56 NotYet levels 3\n", 1),
-    ("12,12,0,0,0,0/12,12,0,0,0,0", "refused 56 NotYet levels 3\n", 1),
+    (
+        "25,0,0,0,0,0/0,0,0,0,0,0",
+        "refused 56 NotYet levels 3\n",
+        1,
+    ),
+    (
+        "12,12,0,0,0,0/12,12,0,0,0,0",
+        "refused 56 NotYet levels 3\n",
+        1,
+    ),
     ("25,0,0,0,0,0/24,0,0,0,0,0", "refused 3 TooMany\n", 1),
 ];
 
 /// The same with level 3 as well.
 const LINES_OF_3: [(&str, &str, u8); 4] = [
-    ("1,0,0,0,0,0/0,0,1,0,0,0", "value 2\nmoves 0 2 1 3 2 4 3 5\noutcome 2\n", 0),
-    ("0,0,0,0,0,1/1,0,1,0,0,0", "value 1\nmoves 5\noutcome 1\n", 0),
-    ("0,0,0,0,0,0/1,0,0,0,0,0", "value -1\nmoves\noutcome -1\n", 0),
+    (
+        "1,0,0,0,0,0/0,0,1,0,0,0",
+        "value 2\nmoves 0 2 1 3 2 4 3 5\noutcome 2\n",
+        0,
+    ),
+    (
+        "0,0,0,0,0,1/1,0,1,0,0,0",
+        "value 1\nmoves 5\noutcome 1\n",
+        0,
+    ),
+    (
+        "0,0,0,0,0,0/1,0,0,0,0,0",
+        "value -1\nmoves\noutcome -1\n",
+        0,
+    ),
     ("0,0,0,0,0,0/0,0,0,0,0,4", "refused 56 NotYet levels 4\n", 1),
 ];
 
