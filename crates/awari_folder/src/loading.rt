@@ -1,7 +1,7 @@
 //! A shelf from the files in a folder.
 
-ghost use Rattle.std.specs.Prelude.{◌≡◌, ◌+◌, IfOk, IfErr, OnOk, IfSome, length};
-ghost use Rattle.awari_table.specs.Counts.{inner_of};
+ghost use Rattle.std.specs.Prelude.{◌≡◌, ℕ, ◌+◌, IfOk, IfErr, OnOk, IfSome, Err, length};
+ghost use Rattle.awari_table.specs.Counts.{inner_of, faults_of, Grew};
 ghost use Rattle.awari_theory.specs.Truth.{TellsTruth};
 ghost use Rattle.awari_folder.specs.FolderFault.{Names, NamesLevel};
 ghost use Rattle.awari_folder.specs.NextFile.{IsNextFile, IsFileFault};
@@ -81,6 +81,7 @@ fn put_on<R: Read>(
 ) -> Result<[u8; 32], FolderFault>
     ensures ok { IfSome (R.remaining (inner_of reader.old)) (λ bytes. IfOk result (IsNextFile shelf.old below bytes shelf.new)) }
     ensures fault { IfSome (R.remaining (inner_of reader.old)) (λ bytes. IfErr result (IsFileFault shelf.old below bytes)) }
+    ensures read { (level : ℕ) → result ≡ Err (FolderFault.File level FileFault.Read) → Grew (faults_of reader.old) (faults_of reader.new) }
     ensures meaning { OnOk result (TellsTruth shelf.new) }
     ensures levels { OnOk result (length shelf.new ≡ length shelf.old + 1) }
     ensures named { IfErr result (Names (length shelf.old)) }
