@@ -1,4 +1,5 @@
 //! Positions, and the moves from them.
+
 ghost use Rattle.std.specs.Prelude.{◌≡◌, ℕ, ◌+◌, ◌<◌, ◌≤◌, ◌↔◌, Contains, IsTrue, ℤ, IsNone, IsOk, IfOk, IfErr, List, sum, slice_index};
 ghost use Rattle.std.specs.List.Sorted.{IsStrictlyIncreasing};
 ghost use Rattle.awari_board.specs.BoardFault.{IsFaulty};

@@ -1,4 +1,5 @@
 //! Capturing, pit by pit backward.
+
 ghost use Rattle.std.specs.Prelude.{◌≡◌, ◌+◌, ◌<◌, ◌≤◌, ◌↔◌, [], false, length, sum};
 ghost use Rattle.awari_board.specs.Rules.{captured_pits, captured_stones, emptied, is_takeable, run};
 

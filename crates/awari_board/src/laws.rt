@@ -1,5 +1,6 @@
 //! What follows from the rules for every position. Each law is proved, and a caller has it by
 //! calling its function, which does nothing.
+
 ghost use Rattle.std.specs.Prelude.{◌≡◌, ◌+◌, ◌↔◌, List, [], ◌∷◌, true, ℕ, sum, pos, neg_ℤ};
 ghost use Rattle.awari_board.specs.BoardFault.{IsFaulty};
 ghost use Rattle.awari_board.specs.MoveFault.{IsDue};

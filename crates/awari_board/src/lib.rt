@@ -20,5 +20,5 @@ pub use laws::{
     moves_keep_boards, one_board_fault_is_due, one_fault_is_due, tests_decide, worked_examples,
 };
 pub use moves::{MoveFault, Moved};
-pub use sides::turned;
+pub use sides::{SIDE, turned};
 pub use text::BoardFault;

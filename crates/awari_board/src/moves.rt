@@ -1,4 +1,5 @@
 //! What playing a pit answers.
+
 ghost use Rattle.std.specs.Prelude.{◌≡◌};
 ghost use Rattle.awari_board.specs.MoveFault.{number_of};
 
@@ -32,7 +33,7 @@ pub enum MoveFault {
 }
 
 impl MoveFault {
-    /// The fault's number, by which the product's refusals are told apart.
+    /// The number of this refusal, 4 to 7.
     pub fn number(self) -> u8
         ensures { result ≡ number_of self }
     {

@@ -1,8 +1,9 @@
 //! The two sides of a board: the mover's pits 0 to 5, and the opponent's 6 to 11.
+
 ghost use Rattle.std.specs.Prelude.{◌≡◌, ◌≤◌, sum};
 ghost use Rattle.awari_board.specs.Rules.{other_stones, own_stones, turned};
 
-/// How many pits a player has.
+/// How many pits a player has: the mover's are 0 to 5, and the opponent's follow them.
 pub const SIDE: u8 = 6;
 
 /// The stones in the mover's pits.

@@ -1,4 +1,5 @@
 //! Sowing, stone by stone.
+
 ghost use Rattle.std.specs.Prelude.{◌≡◌, ℕ, ◌+◌, ◌%◌, ◌<◌, ◌≤◌, slice_index, sum};
 ghost use Rattle.awari_board.specs.Rules.{landing, last_pit, sown};
 

@@ -1,4 +1,5 @@
 //! Boards as text, as `0,0,0,0,0,12/4,0,0,0,0,0`.
+
 ghost use Rattle.std.specs.Prelude.{◌≡◌, ◌≢◌, All, false, true, ℕ, ◌+◌, ◌*◌, ◌++◌, ◌<◌, ◌≤◌, ◌↔◌, IsTrue, IsNone, IfNone, IfSome, drop, length, slice_index, sum};
 ghost use Rattle.arrayvec.specs.ArrayVec.{array_vec_len};
 ghost use Rattle.awari_board.specs.BoardFault.{IsFaulty, number_of};
@@ -26,7 +27,7 @@ pub enum BoardFault {
 }
 
 impl BoardFault {
-    /// The fault's number, by which the product's refusals are told apart.
+    /// The number of this refusal, 1 to 3.
     pub fn number(self) -> u8
         ensures { result ≡ number_of self }
     {

@@ -1,4 +1,5 @@
 //! Why a level is not built.
+
 ghost use Rattle.std.specs.Prelude.{◌≡◌};
 ghost use Rattle.awari_build.specs.BuildFault.{number_of};
 
@@ -23,7 +24,7 @@ pub enum BuildFault {
 }
 
 impl BuildFault {
-    /// The fault's number, by which the product's refusals are told apart.
+    /// The number of this refusal, 51 to 58.
     pub fn number(self) -> u8
         ensures { result ≡ number_of self }
     {

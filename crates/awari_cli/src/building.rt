@@ -20,19 +20,14 @@ use std::io::Write;
 use std::path::Path;
 use std::rt::Files;
 use std::sync::Arc;
-use thiserror::Error;
 
 /// What is told of a level that was built. Printed, it is its line without the line feed.
-#[derive(Clone, Copy, Debug, PartialEq, Eq)]
-pub struct BuiltLevel {
-    /// The stones on each board.
-    pub level: u8,
-    /// How many boards there are.
-    pub boards: u32,
-    /// How many of them are won, even and lost for the mover.
-    pub counts: Counts,
-    /// The greatest distance, in plies.
-    pub limit: u32,
+#[derive(Clone, Copy)]
+struct BuiltLevel {
+    level: u8,
+    boards: u32,
+    counts: Counts,
+    limit: u32,
 }
 
 impl fmt::Display for BuiltLevel {
@@ -69,12 +64,10 @@ impl fmt::Display for Shares {
     }
 }
 
-/// Why a level is not built, or not saved.
-#[derive(Clone, Copy, Debug, PartialEq, Eq, Error)]
-pub enum BuildingFault {
-    #[error("{fault}")]
+/// Why a level is not built, or not saved. Printed, it is the refusal.
+#[derive(Clone, Copy)]
+enum BuildingFault {
     Build { fault: BuildFault },
-    #[error("{fault}")]
     Folder { fault: FolderFault },
 }
 
@@ -104,18 +97,14 @@ impl<T: Drop> From<AllocFailed<T>> for BuildingFault {
     }
 }
 
-/// Printed, a fault is its refusal.
-#[derive(Clone, Copy)]
-struct Refusal(BuildingFault);
-
-impl fmt::Display for Refusal {
+impl fmt::Display for BuildingFault {
     ghost use Rattle.std.specs.Prelude.{Some};
     ghost use Rattle.awari_cli.specs.Building.{building_fault_text};
 
-    ghost output = { λ refused. Some (building_fault_text refused.0) };
+    ghost output = { λ fault. Some (building_fault_text fault) };
 
     fn fmt<W: fmt::Write>(&self, f: &mut fmt::Formatter<W>) -> fmt::Result {
-        match self.0 {
+        match *self {
             BuildingFault::Build { fault } => write!(f, "refused {}", OfBuild(fault)),
             BuildingFault::Folder { fault } => write!(f, "refused {}", OfFolder(fault)),
         }
@@ -162,7 +151,7 @@ pub fn run_build<F: Files, W: Write>(
                     )
                 }
                 Err(fault) => {
-                    print(writer, &Refusal(BuildingFault::Folder { fault }));
+                    print(writer, &BuildingFault::Folder { fault });
                     1
                 }
             }
@@ -194,7 +183,7 @@ fn build_up<F: Files, W: Write>(
                 }
             }
             Err(fault) => {
-                print(writer, &Refusal(fault));
+                print(writer, &fault);
                 return 1;
             }
         }

@@ -21,7 +21,6 @@ use std::fmt;
 use std::io::Write;
 use std::path::Path;
 use std::rt::Files;
-use thiserror::Error;
 
 /// A level of a folder that is right. Printed, it is its line without the line feed.
 #[derive(Clone, Copy)]
@@ -83,17 +82,14 @@ fn hex_digit(value: u8) -> char
     })
 }
 
-/// Why a folder gives no entry of a board.
-#[derive(Clone, Copy, Debug, PartialEq, Eq, Error)]
-pub enum LookUpFault {
+/// Why a folder gives no entry of a board. Printed, it is the refusal.
+#[derive(Clone, Copy)]
+enum LookUpFault {
     /// The text is no board.
-    #[error("{fault}")]
     Board { fault: BoardFault },
     /// The folder is not loaded.
-    #[error("{fault}")]
     Folder { fault: FolderFault },
     /// 59: the folder has only so many levels, and the board has at least as many stones.
-    #[error("there are {levels} levels")]
     NotYet { levels: u8 },
 }
 
@@ -123,18 +119,14 @@ impl From<NotYet> for LookUpFault {
     }
 }
 
-/// Printed, a fault is its refusal.
-#[derive(Clone, Copy)]
-struct Refusal(LookUpFault);
-
-impl fmt::Display for Refusal {
+impl fmt::Display for LookUpFault {
     ghost use Rattle.std.specs.Prelude.{Some};
     ghost use Rattle.awari_cli.specs.Folders.{look_up_fault_text};
 
-    ghost output = { λ refused. Some (look_up_fault_text refused.0) };
+    ghost output = { λ fault. Some (look_up_fault_text fault) };
 
     fn fmt<W: fmt::Write>(&self, f: &mut fmt::Formatter<W>) -> fmt::Result {
-        match self.0 {
+        match *self {
             LookUpFault::Board { fault } => write!(f, "refused {}", OfBoard(fault)),
             LookUpFault::Folder { fault } => write!(f, "refused {}", OfFolder(fault)),
             LookUpFault::NotYet { levels } => write!(f, "refused 59 NotYet levels {levels}"),
@@ -214,7 +206,7 @@ pub fn run_ask<F: Files, W: Write>(
             }
         }
         Err(fault) => {
-            print(writer, &Refusal(fault));
+            print(writer, &fault);
             1
         }
     }
@@ -229,7 +221,7 @@ pub fn run_verify<F: Files, W: Write>(files: &F, alloc: Global, folder: &str, wr
     let stored = match load(files, alloc, Path::new(folder)) {
         Ok(stored) => stored,
         Err(fault) => {
-            print(writer, &Refusal(LookUpFault::Folder { fault }));
+            print(writer, &LookUpFault::Folder { fault });
             return 1;
         }
     };

@@ -12,9 +12,6 @@ mod requests;
 mod runs;
 
 pub use awari_check::check;
-pub use building::{BuildingFault, BuiltLevel};
-pub use folders::LookUpFault;
 pub use judgements::{JudgeFault, Judged, Judgement, judge};
-pub use lines::NoLine;
 pub use playing::{PlayFault, Played, play_on};
 pub use runs::run;

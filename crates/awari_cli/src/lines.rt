@@ -15,7 +15,6 @@ use std::fmt;
 use std::io::Write;
 use std::path::Path;
 use std::rt::Files;
-use thiserror::Error;
 
 /// The entry of a board, and the line of play from it. Printed, it is the value and the line, in
 /// three lines without the last line feed.
@@ -57,17 +56,14 @@ impl fmt::Display for Moves<'_> {
     }
 }
 
-/// Why there is no line of a board.
-#[derive(Clone, Copy, Debug, PartialEq, Eq, Error)]
-pub enum NoLine {
+/// Why there is no line of a board. Printed, it is the refusal.
+#[derive(Clone, Copy)]
+enum NoLine {
     /// The text is no board.
-    #[error("{fault}")]
     Board { fault: BoardFault },
     /// The folder is not loaded.
-    #[error("{fault}")]
     Folder { fault: FolderFault },
     /// The levels have no line, or there is no room for it.
-    #[error("{fault}")]
     Line { fault: LineFault },
 }
 
@@ -95,18 +91,14 @@ impl From<LineFault> for NoLine {
     }
 }
 
-/// Printed, a fault is its refusal.
-#[derive(Clone, Copy)]
-struct Refusal(NoLine);
-
-impl fmt::Display for Refusal {
+impl fmt::Display for NoLine {
     ghost use Rattle.std.specs.Prelude.{Some};
     ghost use Rattle.awari_cli.specs.Lines.{no_line_text};
 
-    ghost output = { λ refused. Some (no_line_text refused.0) };
+    ghost output = { λ fault. Some (no_line_text fault) };
 
     fn fmt<W: fmt::Write>(&self, f: &mut fmt::Formatter<W>) -> fmt::Result {
-        match self.0 {
+        match *self {
             NoLine::Board { fault } => write!(f, "refused {}", OfBoard(fault)),
             NoLine::Folder { fault } => write!(f, "refused {}", OfFolder(fault)),
             NoLine::Line { fault } => write!(f, "refused {}", OfLine(fault)),
@@ -147,7 +139,7 @@ pub fn run_line<F: Files, W: Write>(
     match line_of(files, alloc, folder, board.as_bytes()) {
         Ok(found) => { if print(writer, &found) { 0 } else { 1 } }
         Err(fault) => {
-            print(writer, &Refusal(fault));
+            print(writer, &fault);
             1
         }
     }

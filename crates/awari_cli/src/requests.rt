@@ -7,7 +7,7 @@ use std::alloc::Global;
 use std::convert::AsStr;
 
 /// What the words ask for.
-#[derive(Clone, Copy, Debug, PartialEq, Eq)]
+#[derive(Clone, Copy)]
 pub enum Request<'a> {
     /// `check`: whether the tables on standard input are right.
     Check,

@@ -1,4 +1,5 @@
 //! The commands of the program, on words and streams in memory.
+
 use awari_board::Board;
 use awari_cli::{check, run};
 use awari_rank::successor;

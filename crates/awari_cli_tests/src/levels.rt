@@ -1,4 +1,5 @@
 //! The commands `build`, `verify`, `ask` and `line`.
+
 use crate::commands::{expect_run, level_2_line};
 use awari_board::Board;
 use awari_build::build_alone;

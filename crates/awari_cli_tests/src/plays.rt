@@ -1,4 +1,5 @@
 //! The commands `move` and `judge`, on words.
+
 use crate::commands::expect_run;
 
 const ORIGIN_IS_LEFT_OUT: &str = "12,0,0,0,0,0/0,0,0,0,0,0";

@@ -49,8 +49,8 @@ impl FileFault {
     ghost use Rattle.awari_file.specs.FileFault.{number_of};
 
     /// The number of this refusal, 60 to 70.
-    pub fn number(&self) -> u8
-        ensures { result ≡ number_of self.now }
+    pub fn number(self) -> u8
+        ensures { result ≡ number_of self }
     {
         match self {
             FileFault::Truncated => 60,

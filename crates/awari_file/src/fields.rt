@@ -11,6 +11,7 @@ ghost use Rattle.awari_file.specs.Reading.{Gives, field, number_if, any_number, 
 use crate::contents::Header;
 use crate::faults::FileFault;
 use crate::sizes::ENTRY_LEN;
+use awari_board::SIDE;
 use awari_rank::size;
 use awari_table::{Entry, HIGHEST_LEVEL};
 
@@ -142,7 +143,7 @@ pub(crate) fn entry_at(bytes: &[u8], short: FileFault) -> Result<(Entry, &[u8]),
     };
     let plan = match front[1] {
         NO_PLAN => None,
-        pit if pit < 6 => Some(pit),
+        pit if pit < SIDE => Some(pit),
         _ => return Err(FileFault::EntryForm),
     };
     let entry = Entry {

@@ -33,8 +33,8 @@ impl FolderFault {
     ghost use Rattle.awari_folder.specs.FolderFault.{number_of};
 
     /// The number of this refusal, 80 to 84.
-    pub fn number(&self) -> u8
-        ensures { result ≡ number_of self.now }
+    pub fn number(self) -> u8
+        ensures { result ≡ number_of self }
     {
         match self {
             FolderFault::Below { .. } => 80,

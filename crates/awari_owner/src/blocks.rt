@@ -1,4 +1,5 @@
 //! The cells of a block, and the heap of its fresh boards: those that are settled and not spread.
+
 ghost use Rattle.std.specs.Prelude.{◌≡◌, ℕ, ◌+◌, ◌-◌, ◌<◌, ◌≤◌, ◌∷◌, [], true, length, vec_len, slice_set, slice_index_or, ◌^◌};
 ghost use Rattle.std.specs.BinaryHeap.{heap_items, heap_len, heap_capacity};
 ghost use Rattle.awari_owner.specs.Cells.{Fits, Keeps, SettlesTimely, is_settled, status_of};

@@ -1,4 +1,5 @@
 //! What is kept of each board of a block.
+
 ghost use Rattle.std.specs.Prelude.{◌≡◌, ℕ, false, ◌+◌, ◌-◌, ◌^◌, ◌<◌, ◌≤◌, ◌↔◌, IsTrue, pos, neg_ℤ, ◌≤ℤ◌};
 ghost use Rattle.awari_owner.specs.Tally.{Open, has_pit, with_pit};
 ghost use Rattle.awari_owner.specs.Cells.{status_of, is_settled, Fits, Keeps, SettlesTimely};

@@ -1,4 +1,5 @@
 //! Why an owner refuses.
+
 ghost use Rattle.std.specs.Prelude.{◌≡◌};
 ghost use Rattle.awari_owner.specs.OwnerFault.{number_of};
 
@@ -23,7 +24,7 @@ pub enum OwnerFault {
 }
 
 impl OwnerFault {
-    /// The fault's number, by which the product's refusals are told apart.
+    /// The number of this refusal, 30 to 33.
     pub fn number(self) -> u8
         ensures { result ≡ number_of self }
     {

@@ -1,4 +1,5 @@
 //! What follows of a level whose notes were all heard.
+
 ghost use Rattle.std.specs.Prelude.{◌≡◌, ℕ, ℤ, List, [], sum};
 ghost use Rattle.awari_board.specs.Rules.{IsBoard};
 ghost use Rattle.awari_rank.specs.Rank.{rank_of};

@@ -1,4 +1,5 @@
 //! The notes that an owner has still to send.
+
 ghost use Rattle.std.specs.Prelude.{◌≡◌, ◌≤◌, ◌<◌, ◌↔◌, [], All, IfOk, IsTrue, replicate};
 ghost use Rattle.awari_owner.specs.Outboxes.{Outboxes as OutboxesView};
 

@@ -1,4 +1,5 @@
 //! One owner's part of a level, and what is asked of it between two spreads.
+
 ghost use Rattle.std.specs.Prelude.{◌≡◌, ◌≢◌, ℕ, ℤ, ◌+◌, ◌-◌, ◌^◌, ◌<◌, ◌≤◌, ◌∷◌, ◌↔◌, List, IsTrue, OnOk, OnErr, IfOk, IfErr, IfSome, All, sum, true, false, length, []};
 ghost use Rattle.awari_rank.specs.Rank.{size_of};
 ghost use Rattle.awari_owner.specs.Tally.{has_pit};
@@ -21,7 +22,7 @@ use crate::outboxes::Outboxes;
 use crate::places::{Place, first_rank};
 use crate::scans::scanned_block;
 use crate::spreads::{hear_own, kind_of};
-use awari_board::moves_keep_boards;
+use awari_board::{SIDE, moves_keep_boards};
 use awari_rank::{rank, ranks_tell_boards_apart, size, unrank};
 use awari_table::{Shelf, shelves_are_certificates};
 use std::alloc::Global;
@@ -264,7 +265,7 @@ impl Part {
         if note.level != place.level || note.gain != place.gain || place.gain > place.level {
             return false;
         }
-        if note.dist != place.wave || note.pit >= 6 || !self.holds(note.target) {
+        if note.dist != place.wave || note.pit >= SIDE || !self.holds(note.target) {
             return false;
         }
         self.leaves(note.target, note.pit)

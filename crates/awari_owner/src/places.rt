@@ -1,4 +1,5 @@
 //! Where a part stands, and where its block begins.
+
 ghost use Rattle.std.specs.Prelude.{◌≡◌, ◌≤◌};
 ghost use Rattle.awari_owner.specs.Scan.{first_rank};
 

@@ -1,18 +1,19 @@
 //! What is known of a board before any note is heard: how many quiet moves it has, and what its
 //! best capture gains by the shelf.
+
 ghost use Rattle.std.specs.Prelude.{◌≡◌, ◌<◌, ◌≤◌, ◌+◌, ℕ, ℤ, pos, ◌-ℤ◌, List, [], None, IfOk, length, sum, vec_len};
+ghost use Rattle.std.specs.BinaryHeap.{heap_items, heap_capacity, IsHeap};
 ghost use Rattle.awari_board.specs.Rules.{IsBoard, IsEnd, IsEnded, IsMove};
 ghost use Rattle.awari_rank.specs.Rank.{size_of};
 ghost use Rattle.awari_table.specs.Images.{table_of};
 ghost use Rattle.awari_table.specs.declared.TheConstants.{HIGHEST_LEVEL};
 ghost use Rattle.awari_owner.specs.Cells.{IsWithin};
-ghost use Rattle.std.specs.BinaryHeap.{heap_items, heap_capacity, IsHeap};
 ghost use Rattle.awari_owner.specs.Blocks.{due_cmp};
 ghost use Rattle.awari_owner.specs.Scan.{AreScanned, IsOutlook, IsRanged, IsScanned};
 
 use crate::blocks::Due;
 use crate::cells::{Cell, Mark};
-use awari_board::{Board, Moved};
+use awari_board::{Board, Moved, SIDE};
 use awari_rank::{ranks_tell_boards_apart, successor, unrank};
 use awari_table::Shelf;
 use std::alloc::{AllocError, Global};
@@ -92,7 +93,7 @@ fn scanned(shelf: &Shelf, board: &Board) -> Cell
         quiet: 0,
         best: None,
     };
-    for pit in 0..6 {
+    for pit in 0..SIDE {
         seen = with_pit(seen, shelf, board, pit);
     }
     cell_of(board, seen)

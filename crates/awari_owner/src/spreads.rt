@@ -1,4 +1,5 @@
 //! What the boards of a block hear of a board that is spread.
+
 ghost use Rattle.std.specs.Prelude.{◌≡◌, ℕ, ℤ, ◌+◌, ◌-◌, ◌^◌, ◌<◌, ◌≤◌, ◌∷◌, [], List, length, sum, vec_len, false};
 ghost use Rattle.std.specs.BinaryHeap.{heap_items, heap_capacity};
 ghost use Rattle.awari_rank.specs.Rank.{rank_of};

@@ -1,4 +1,5 @@
 //! The shelf that the tests stand on.
+
 ghost use Rattle.std.specs.Prelude.{◌≡◌, IfOk, length};
 
 use awari_build::build_alone;

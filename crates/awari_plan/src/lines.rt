@@ -38,7 +38,7 @@ pub enum LineFault {
 impl LineFault {
     ghost use Rattle.awari_plan.specs.LineFault.{number_of};
 
-    /// The fault's number, by which the product's refusals are told apart.
+    /// The number of this refusal, 56 or 57.
     pub fn number(self) -> u8
         ensures { result ≡ number_of self }
     {

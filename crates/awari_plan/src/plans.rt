@@ -7,7 +7,7 @@ ghost use Rattle.awari_table.specs.Images.{entry_of, table_of};
 ghost use Rattle.awari_plan.specs.Plan.{IsLowest, Serves};
 ghost use Rattle.awari_plan.specs.Planning.{Gains, IsPlanned, SameSettled, topped};
 
-use awari_board::{Board, Moved};
+use awari_board::{Board, Moved, SIDE};
 use awari_rank::{rank, size, successor, unrank};
 use awari_table::{Entry, Shelf};
 
@@ -40,7 +40,7 @@ fn lowest_plan(shelf: &Shelf, entries: &[Entry], board: &Board, rank: u32) -> Op
     ensures { IsLowest (table_of (topped shelf.now entries.now)) board.now result }
 {
     let own = entries[rank as usize];
-    for pit in 0..6 {
+    for pit in 0..SIDE {
         if serves(shelf, entries, board, own, pit) {
             return Some(pit);
         }

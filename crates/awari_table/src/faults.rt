@@ -31,8 +31,8 @@ impl TableFault {
     ghost use Rattle.awari_table.specs.TableFault.{number_of};
 
     /// The number of this refusal, 10 to 15.
-    pub fn number(&self) -> u8
-        ensures { result ≡ number_of self.now }
+    pub fn number(self) -> u8
+        ensures { result ≡ number_of self }
     {
         match self {
             TableFault::Line { .. } => 10,

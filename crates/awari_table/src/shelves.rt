@@ -29,7 +29,7 @@ pub struct NotYet {
 
 impl NotYet {
     /// The number of this refusal, 59.
-    pub fn number(&self) -> u8
+    pub fn number(self) -> u8
         ensures { result ≡ 59 }
     {
         59

@@ -1,4 +1,5 @@
 //! The rules at worked positions.
+
 use awari_board::{Board, MoveFault, Moved};
 
 #[test]

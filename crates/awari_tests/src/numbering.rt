@@ -1,4 +1,5 @@
 //! The numbering at worked positions, and over whole levels.
+
 use awari_board::Board;
 use awari_rank::{rank, size, successor, unrank};
 

@@ -1,4 +1,5 @@
 //! Worked plays: where they stand, and their outcomes.
+
 use awari_board::{Board, MoveFault};
 use awari_game::Game;
 

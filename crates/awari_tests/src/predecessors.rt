@@ -1,4 +1,5 @@
 //! Boards as text, the pits that can be played, and quiet moves backward.
+
 use awari_board::{Board, BoardFault};
 use awari_unmove::Unmoves;
 use std::test::Fail;

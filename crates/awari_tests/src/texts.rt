@@ -1,4 +1,5 @@
 //! The text of tables, read level by level.
+
 use awari_table::{TableFault, TableText};
 use std::test::Fail;
 

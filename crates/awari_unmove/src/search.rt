@@ -1,12 +1,10 @@
 //! The search for quiet moves backward: stone by stone taken back into a pit, and pit by pit.
+
 ghost use Rattle.std.specs.Prelude.{◌≡◌, ℕ, ◌+◌, ◌<◌, ◌≤◌, ◌↔◌, ◌∷◌, [], IsTrue, true, false, None, ◌*◌, sum, MatchOption};
 ghost use Rattle.awari_board.specs.Rules.{IsLegal, captured_stones, landing};
 ghost use Rattle.awari_unmove.specs.Undoing.{IsUndoing, TakesBack, unmove, unmoves_after};
 
-use awari_board::{Board, capture};
-
-/// How many pits the mover has.
-const OWN_PITS: u8 = 6;
+use awari_board::{Board, SIDE, capture};
 
 /// Goes on to the next quiet move backward, if there is one.
 pub fn next_unmove(
@@ -21,7 +19,7 @@ pub fn next_unmove(
         ((unmoves_after back.now pit.old stones.old ≡ []) × (unmoves_after back.now pit.new stones.new ≡ []))
         (λ pair. unmoves_after back.now pit.old stones.old ≡ pair ∷ unmoves_after back.now pit.new stones.new) }
 {
-    while *pit < OWN_PITS {
+    while *pit < SIDE {
         match step(back, pit, stones, left) {
             Some(found) => return Some(found),
             None => {}

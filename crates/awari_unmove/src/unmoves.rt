@@ -1,4 +1,5 @@
 //! The predecessors of a board, as an iterator.
+
 ghost use Rattle.std.specs.Prelude.{◌≤◌, length};
 ghost use Rattle.std.specs.Iterator.{YieldsFirst, item_count};
 ghost use Rattle.awari_unmove.specs.Predecessors.{IsPredecessors};

@@ -1,4 +1,5 @@
 //! What follows from the definitions of faults, for every shelf and image.
+
 ghost use Rattle.std.specs.Prelude.{◌≡◌, List};
 ghost use Rattle.awari_table.specs.declared.images.Image.{Image};
 ghost use Rattle.awari_table.specs.Shelves.{Consistent};

@@ -5,11 +5,9 @@ ghost use Rattle.awari_table.specs.Certificate.{Table, IsRight};
 ghost use Rattle.awari_verify.specs.Sights.{Sees, planned_of, gain_of, IsNearer, KeepsRange, KeepsEnd, KeepsPlan, KeepsGain, KeepsPlanGain, KeepsEven, KeepsUneven, KeepsWinning, KeepsLosing, KeepsDistance};
 ghost use Rattle.awari_verify.specs.FirstFailure.{BreaksFirst};
 
+use awari_board::SIDE;
 use awari_table::Entry;
 use std::fmt;
-
-/// The pits of the player to move.
-const SIDE: u8 = 6;
 
 /// The rules of a table, in the order in which they are judged. V1 to V6 are judged of each board,
 /// and V7 of the image as a whole. Printed, a rule is its name.

@@ -8,7 +8,7 @@ ghost use Rattle.awari_verify.specs.VerifyFault.{IsShaped};
 ghost use Rattle.awari_verify.specs.Sights.{Sees, SeesMove, SeesEnd};
 
 use crate::rules::{Reached, Seen};
-use awari_board::{Board, Moved};
+use awari_board::{Board, Moved, SIDE};
 use awari_rank::rank;
 use awari_table::{Entry, Image, Shelf};
 
@@ -22,7 +22,7 @@ pub fn seen_at(shelf: &Shelf, image: &Image, board: &Board, rank: u32) -> Seen
     ensures { Sees (table_of (shelf.now ++ image.now ∷ [])) board.now result }
 {
     let mut moves = [None; 6];
-    for pit in 0..6u8 {
+    for pit in 0..SIDE {
         moves[pit as usize] = reached(shelf, image, board, pit);
     }
     Seen {

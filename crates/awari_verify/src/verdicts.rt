@@ -33,8 +33,8 @@ impl VerifyFault {
     ghost use Rattle.awari_verify.specs.VerifyFault.{number_of};
 
     /// The number of this refusal, 20 to 22.
-    pub fn number(&self) -> u8
-        ensures { result ≡ number_of self.now }
+    pub fn number(self) -> u8
+        ensures { result ≡ number_of self }
     {
         match self {
             VerifyFault::WrongLevel => 20,
