@@ -41,17 +41,24 @@ fn levels_0_to_1(
 ) -> Result<String, AllocError> {
     let mut text = format!(in alloc; "level 0 limit 0\n0 - 0\nlevel 1 limit {limit}\n")?;
     for rank in 0..12u32 {
-        let right = if rank < 6 {
-            "-1 - 0"
-        } else if rank == 6 {
-            "-1 5 1"
+        let entry = if rank == changed {
+            line
         } else {
-            "1 - 0"
+            level_1_line(rank)
         };
-        text.push_str(if rank == changed { line } else { right })?;
+        text.push_str(entry)?;
         text.push_str("\n")?;
     }
     Ok(text)
+}
+
+/// The entry of a board of level 1.
+fn level_1_line(rank: u32) -> &'static str {
+    match rank {
+        0..=5 => "-1 - 0",
+        6 => "-1 5 1",
+        _ => "1 - 0",
+    }
 }
 
 /// The entry of a board of level 2. Each such board has at most one legal move, so these are worked
@@ -80,19 +87,21 @@ pub fn level_2_line(alloc: Global, board: &Board) -> Result<String, AllocError> 
     }
 }
 
+/// Limits of level 1 and lines for one of its ranks, with what is printed of each and the status.
+const CHECKED: [(u32, u32, &str, &str, u8); 8] = [
+    (1, 6, "-1 5 1", "yes levels 2 limit 1\n", 0),
+    (2, 6, "-1 5 2", "yes levels 2 limit 2\n", 0),
+    (1, 6, "-1 5 0", "no level 1 rank 6 rule V6\n", 1),
+    (1, 6, "1 5 1", "no level 1 rank 6 rule V5\n", 1),
+    (1, 6, "-1 4 1", "no level 1 rank 6 rule V3\n", 1),
+    (2, 6, "-1 5 1", "no level 1 rank 0 rule V7\n", 1),
+    (1, 11, "-128 - 0", "no level 1 rank 6 rule V4\n", 1),
+    (1, 0, "-2 - 0", "no level 1 rank 0 rule V1\n", 1),
+];
+
 #[test]
 fn checks_levels_0_and_1(rt: HostRuntime) -> Result<(), Fail> {
-    let cases: [(u32, u32, &str, &str, u8); 8] = [
-        (1, 6, "-1 5 1", "yes levels 2 limit 1\n", 0),
-        (2, 6, "-1 5 2", "yes levels 2 limit 2\n", 0),
-        (1, 6, "-1 5 0", "no level 1 rank 6 rule V6\n", 1),
-        (1, 6, "1 5 1", "no level 1 rank 6 rule V5\n", 1),
-        (1, 6, "-1 4 1", "no level 1 rank 6 rule V3\n", 1),
-        (2, 6, "-1 5 1", "no level 1 rank 0 rule V7\n", 1),
-        (1, 11, "-128 - 0", "no level 1 rank 6 rule V4\n", 1),
-        (1, 0, "-2 - 0", "no level 1 rank 0 rule V1\n", 1),
-    ];
-    for (limit, rank, line, printed, status) in cases {
+    for (limit, rank, line, printed, status) in CHECKED {
         let text = levels_0_to_1(rt.alloc(), limit, rank, line)?;
         expect_check(&rt, rt.alloc(), text.as_bytes(), printed, status);
     }

@@ -6,7 +6,7 @@ use awari_build::build_alone;
 use awari_rank::successor;
 use awari_table::{Entry, HIGHEST_LEVEL, Shelf};
 use sha2::{Digest, Sha256};
-use std::alloc::Global;
+use std::alloc::{AllocError, Global};
 use std::process::Abort;
 use std::rt::Files;
 use std::sync::Arc;
@@ -36,7 +36,8 @@ level 1 boards 12 won 5 even 0 lost 7 limit 1
 level 2 boards 78 won 24 even 13 lost 41 limit 9
 ";
 
-/// Counts and limits as a program found them which shares nothing with this one.
+/// Counts and limits of level 3, and of the levels above it, as a program found them which shares
+/// nothing with this one.
 const LEVEL_3: &str = "level 3 boards 364 won 121 even 64 lost 179 limit 28\n";
 
 const LEVELS_3_TO_6: &str = "\
@@ -291,16 +292,21 @@ fn built(alloc: Global) -> Result<Shelf, Fail> {
     Ok(shelf)
 }
 
+/// An entry as a table spells it.
+fn entry_line(alloc: Global, entry: Entry) -> Result<String, AllocError> {
+    let Entry { value, plan, dist } = entry;
+    match plan {
+        Some(pit) => format!(in alloc; "{value} {pit} {dist}"),
+        None => format!(in alloc; "{value} - {dist}"),
+    }
+}
+
 #[test]
 fn level_2_is_the_one_worked_by_hand(rt: HostRuntime) -> Result<(), Fail> {
     let shelf = built(rt.alloc())?;
     let mut board = Board::new([0, 0, 0, 0, 0, 0, 0, 0, 0, 0, 0, 2]);
     for _rank in 0..78 {
-        let Entry { value, plan, dist } = shelf.entry(&board)?;
-        let line = match plan {
-            Some(pit) => format!(in rt.alloc(); "{value} {pit} {dist}")?,
-            None => format!(in rt.alloc(); "{value} - {dist}")?,
-        };
+        let line = entry_line(rt.alloc(), shelf.entry(&board)?)?;
         assert_eq!(rt; line.as_str(), level_2_line(rt.alloc(), &board)?.as_str());
         assert_eq!(rt; board.stones(), 2);
         if let Some(next) = successor(&board) {

@@ -16,13 +16,16 @@ fn empty_folder(files: &(impl Files + AllocGlobal), folder: &str) -> io::Result<
     fs::create_dir(files, folder)
 }
 
-/// Lays a file into the folder.
+/// Lays a file into the folder, none where it has no byte.
 fn lay(
     files: &(impl Files + AllocGlobal),
     folder: &str,
     name: &str,
     file: &[u8],
 ) -> io::Result<()> {
+    if file.is_empty() {
+        return Ok(());
+    }
     let path = Path::new(folder).join(files.alloc(), name)?;
     fs::write(files, path.as_path(), file)
 }
@@ -56,11 +59,8 @@ fn refusal(
     second: &[u8],
 ) -> io::Result<Option<FolderFault>> {
     empty_folder(files, folder)?;
-    if !first.is_empty() {
-        lay(files, folder, "level_00.awdb", first)?;
-    }
-    if !second.is_empty() {
-        lay(files, folder, "level_01.awdb", second)?;
+    for (name, file) in [("level_00.awdb", first), ("level_01.awdb", second)] {
+        lay(files, folder, name, file)?;
     }
     Ok(loaded(files, folder).err())
 }

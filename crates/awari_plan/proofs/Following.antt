@@ -1,7 +1,6 @@
 -- A play by the plans of both sides, a ply more at a time.
-use Rattle.std.proofs.Common.{◌≡◌, ℕ, zero, suc, ◌^◌, ◌+◌, ◌*◌, ◌-◌, ◌<◌, ◌≤◌, ◌==◌, if◌then◌else◌, min, Bool, true, false, List, [], ◌∷◌, ◌++◌, length, sum, take, ℤ, ◌≤ℤ◌, Option, Some, sym, ap, ◌∙◌, subst, arith, inl, inr, length-append}
+use Rattle.std.proofs.Common.{◌≡◌, ℕ, zero, suc, ◌^◌, ◌+◌, ◌*◌, ◌-◌, ◌<◌, ◌≤◌, ◌==◌, if◌then◌else◌, min, Bool, true, false, List, [], ◌∷◌, ◌++◌, length, sum, take, ℤ, Option, Some, sym, ap, ◌∙◌, subst, arith, inl, inr, length-append}
 use Rattle.std.proofs.lemmas.Bool.{cases_lt}
-use Rattle.std.proofs.lemmas.Int.{ints}
 use Rattle.std.proofs.lemmas.List.{take-append-le, take_all}
 use Rattle.awari_board.specs.Rules.{IsBoard, IsLegal, captured, next_board}
 use Rattle.awari_game.specs.Plays.{Standing, start, after, IsPlay, IsOutcome, Follows}
@@ -13,6 +12,7 @@ use Rattle.awari_table.specs.Shelves.{IsShelf}
 use Rattle.awari_table.proofs.CertificateLemmas.{IsCertificate-shelf}
 use Rattle.awari_theory.specs.Secures.{Secures}
 use Rattle.awari_theory.specs.Truth.{TellsTruth}
+use Rattle.awari_theory.proofs.Comes.{same_number}
 use Rattle.awari_theory.proofs.Moves.{stones_kept, move_of}
 use Rattle.awari_theory.proofs.Sides.{quiet_none}
 use Rattle.awari_theory.proofs.Truths.{TellsTruth-shelf}
@@ -144,9 +144,6 @@ best_line-end t levels limit board seen moves o way out =
       ends = out way.shows.standing way.shows.shown;
       no_sooner = way.no_sooner;
     }
-
-same_number : (a b : ℤ) → a ≤ℤ b → b ≤ℤ a → b ≡ a
-same_number a b h k = omega (arith, ints)
 
 secured : (levels : List Image) (board : List ℕ) → IsShelf levels → IsBoard board → sum board < length levels → Secures (table_of levels) (greatest_limit (take (sum board + 1) levels)) board
 unfolding TellsTruth

@@ -6,6 +6,7 @@ use awari_rank::{size, unrank};
 use awari_table::{Counts, Entries, Entry, Image, NotYet, Shelf};
 use awari_verify::{Rule, VerifyFault, fault_of, verify};
 use std::alloc::Global;
+use std::process::Abort;
 use std::sync::Arc;
 use std::test::Fail;
 
@@ -185,30 +186,36 @@ fn accepts_the_first_levels(rt: HostRuntime) -> Result<(), Fail> {
     Ok(())
 }
 
+/// Levels and ranks, and value, plan and distance of the boards.
+const KNOWN: [(u8, u32, i8, Option<u8>, u32); 4] = [
+    (0, 0, 0, None, 0),
+    (1, 5, -1, None, 0),
+    (1, 6, -1, Some(5), 1),
+    (1, 11, 1, None, 0),
+];
+
+/// Looks the known boards up.
+fn expect_entries(rt: &impl Abort, shelf: &Shelf) {
+    for (stones, rank, value, plan, dist) in KNOWN {
+        assert!(rt; stones < 2 && rank < size(stones));
+        let found = shelf.entry(&unrank(stones, rank));
+        assert_eq!(rt; found, Ok(entry(value, plan, dist)), "rank {rank}");
+    }
+}
+
 #[test]
 fn answers_the_entry_of_a_board(rt: HostRuntime) -> Result<(), Fail> {
     let shelf = two_levels(rt.alloc())?;
+    expect_entries(&rt, &shelf);
     let shared = shelf.share()?;
     assert_eq!(rt; shared.levels(), 2);
-    for (stones, rank, found) in [
-        (0, 0, entry(0, None, 0)),
-        (1, 5, entry(-1, None, 0)),
-        (1, 6, entry(-1, Some(5), 1)),
-        (1, 11, entry(1, None, 0)),
-    ] {
-        assert!(rt; rank < size(stones));
-        let board = unrank(stones, rank);
-        assert_eq!(rt;
-            shelf.entry(&board),
-            Ok(found),
-            "rank {rank} of level {stones}"
-        );
-        assert_eq!(rt;
-            shared.entry(&board),
-            Ok(found),
-            "shared, rank {rank} of level {stones}"
-        );
-    }
+    expect_entries(&rt, &shared);
+    Ok(())
+}
+
+#[test]
+fn has_no_entry_of_a_level_above(rt: HostRuntime) -> Result<(), Fail> {
+    let shelf = two_levels(rt.alloc())?;
     let above = Board::new([1, 0, 0, 0, 0, 0, 1, 0, 0, 0, 0, 0]);
     let refusal = NotYet { levels: 2 };
     assert_eq!(rt; shelf.entry(&above), Err(refusal));
@@ -300,12 +307,18 @@ fn refuses_a_circle_of_won_and_lost_boards(rt: HostRuntime) -> Result<(), Fail> 
 #[test]
 fn takes_the_greatest_distance_as_limit(rt: HostRuntime) -> Result<(), Fail> {
     let shelf = two_levels(rt.alloc())?;
-    let mut entries = level_2(rt.alloc())?;
+    let entries = level_2(rt.alloc())?;
     for limit in [8, 10] {
         let answer = fault_found(rt.alloc(), &shelf, limit, &entries)?;
         assert_eq!(rt; answer, refused(0, Rule::V7), "limit {limit}");
     }
-    // Distances need not be the least.
+    Ok(())
+}
+
+#[test]
+fn takes_distances_that_are_not_the_least(rt: HostRuntime) -> Result<(), Fail> {
+    let shelf = two_levels(rt.alloc())?;
+    let mut entries = level_2(rt.alloc())?;
     for slot in entries.iter_mut() {
         slot.dist = slot.dist.saturating_mul(2);
     }

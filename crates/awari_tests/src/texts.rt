@@ -1,6 +1,8 @@
 //! The text of tables, read level by level.
 
 use awari_table::{TableFault, TableText};
+use std::alloc::Global;
+use std::process::Abort;
 use std::test::Fail;
 
 const LEVELS_0_TO_1: &[u8] =
@@ -22,53 +24,60 @@ fn reads_two_levels(rt: HostRuntime) -> Result<(), Fail> {
     Ok(())
 }
 
-#[test]
-fn answers_the_first_fault_again_and_again(rt: HostRuntime) {
-    let cases: [(&[u8], TableFault); 21] = [
-        (b"level 0 limit 0", TableFault::Short),
-        (b"level 0 limit 0\n", TableFault::Short),
-        (b"level 0 limit 0\n0 - 0", TableFault::Short),
-        (b"level 13 limit 0", TableFault::Short),
-        (b"\n", TableFault::Line { line: 1 }),
-        (b"level 0 limit 00\n", TableFault::Line { line: 1 }),
-        (
-            b"level 0 limit 0\r\n0 - 0\r\n",
-            TableFault::Line { line: 1 },
-        ),
-        (b"level 0  limit 0\n", TableFault::Line { line: 1 }),
-        (b"level 0 limit 4294967296\n", TableFault::Line { line: 1 }),
-        (b"level 256 limit 0\n", TableFault::Line { line: 1 }),
-        (b"level 255 limit 0\n", TableFault::High { line: 1 }),
-        (b"level 13 limit 0\n", TableFault::High { line: 1 }),
-        (b"level 12 limit 0\n", TableFault::Order { line: 1 }),
-        (b"level 1 limit 1\n", TableFault::Order { line: 1 }),
-        (b"level 0 limit 0\n-0 - 0\n", TableFault::Line { line: 2 }),
-        (b"level 0 limit 0\n00 - 0\n", TableFault::Line { line: 2 }),
-        (b"level 0 limit 0\n128 - 0\n", TableFault::Line { line: 2 }),
-        (b"level 0 limit 0\n-129 - 0\n", TableFault::Line { line: 2 }),
-        (b"level 0 limit 0\n-128 6 0\n", TableFault::Line { line: 2 }),
-        (
-            b"level 0 limit 0\n0 - 0\n0 - 0\n",
-            TableFault::Line { line: 3 },
-        ),
-        (
-            b"level 0 limit 0\n-128 5 4294967295\nlevel 0 limit 0\n",
-            TableFault::Order { line: 3 },
-        ),
-    ];
-    for (text, fault) in cases {
-        let mut reader = TableText::new(rt.alloc(), text);
-        let mut met = None;
-        for _ in 0..4 {
-            match reader.next() {
-                Ok(image) => assert!(rt; met.is_none() && image.is_some()),
-                Err(other) => {
-                    assert_eq!(rt; other, fault);
-                    met = Some(other);
-                }
+/// Texts, and the first fault of each.
+const FAULTY: [(&[u8], TableFault); 21] = [
+    (b"level 0 limit 0", TableFault::Short),
+    (b"level 0 limit 0\n", TableFault::Short),
+    (b"level 0 limit 0\n0 - 0", TableFault::Short),
+    (b"level 13 limit 0", TableFault::Short),
+    (b"\n", TableFault::Line { line: 1 }),
+    (b"level 0 limit 00\n", TableFault::Line { line: 1 }),
+    (
+        b"level 0 limit 0\r\n0 - 0\r\n",
+        TableFault::Line { line: 1 },
+    ),
+    (b"level 0  limit 0\n", TableFault::Line { line: 1 }),
+    (b"level 0 limit 4294967296\n", TableFault::Line { line: 1 }),
+    (b"level 256 limit 0\n", TableFault::Line { line: 1 }),
+    (b"level 255 limit 0\n", TableFault::High { line: 1 }),
+    (b"level 13 limit 0\n", TableFault::High { line: 1 }),
+    (b"level 12 limit 0\n", TableFault::Order { line: 1 }),
+    (b"level 1 limit 1\n", TableFault::Order { line: 1 }),
+    (b"level 0 limit 0\n-0 - 0\n", TableFault::Line { line: 2 }),
+    (b"level 0 limit 0\n00 - 0\n", TableFault::Line { line: 2 }),
+    (b"level 0 limit 0\n128 - 0\n", TableFault::Line { line: 2 }),
+    (b"level 0 limit 0\n-129 - 0\n", TableFault::Line { line: 2 }),
+    (b"level 0 limit 0\n-128 6 0\n", TableFault::Line { line: 2 }),
+    (
+        b"level 0 limit 0\n0 - 0\n0 - 0\n",
+        TableFault::Line { line: 3 },
+    ),
+    (
+        b"level 0 limit 0\n-128 5 4294967295\nlevel 0 limit 0\n",
+        TableFault::Order { line: 3 },
+    ),
+];
+
+/// Reads the text until it is refused, and three times more.
+fn expect_fault(rt: &impl Abort, alloc: Global, text: &[u8], fault: TableFault) {
+    let mut reader = TableText::new(alloc, text);
+    let mut met = None;
+    for _ in 0..4 {
+        match reader.next() {
+            Ok(image) => assert!(rt; met.is_none() && image.is_some()),
+            Err(other) => {
+                assert_eq!(rt; other, fault);
+                met = Some(other);
             }
         }
-        assert!(rt; met.is_some());
+    }
+    assert!(rt; met.is_some());
+}
+
+#[test]
+fn answers_the_first_fault_again_and_again(rt: HostRuntime) {
+    for (text, fault) in FAULTY {
+        expect_fault(&rt, rt.alloc(), text, fault);
     }
 }
 

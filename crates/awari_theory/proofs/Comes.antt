@@ -58,7 +58,7 @@ rest t levels limit most cert (suc n) s h room =
           (x ∷ xs, to, o, (legal, play), out, ((λ mine. plan), first), ((λ mine. plan), second))
     ]
 
-same_number : (a b : ℤ) → a ≤ℤ b → b ≤ℤ a → b ≡ a
+pub same_number : (a b : ℤ) → a ≤ℤ b → b ≤ℤ a → b ≡ a
 same_number a b h k = omega (arith, ints)
 
 pub comes : (t : Table) (levels limit : ℕ) → IsCertificate t levels limit → (p : List ℕ) → IsBoard p → sum p < levels → Comes t limit p
