@@ -1,6 +1,6 @@
 //! A level built by one part, in one thread.
 
-ghost use Rattle.std.specs.Prelude.{◌≡◌, ◌≤◌, ◌<◌, ◌+◌, ◌⊎◌, ◌↔◌, ◌++◌, ◌∷◌, [], ℕ, ℤ, List, length, IfOk, IfErr, OnOk, Err, Some};
+ghost use Rattle.std.specs.Prelude.{◌≡◌, ◌≢◌, ◌≤◌, ◌<◌, ◌+◌, ◌⊎◌, ◌↔◌, ◌++◌, ◌∷◌, [], ℕ, ℤ, List, length, IfOk, IfErr, OnOk, Err, Some};
 ghost use Rattle.awari_owner.specs.Part.{IsLeastDue, unspread};
 ghost use Rattle.awari_owner.specs.Scan.{IsWhole};
 ghost use Rattle.awari_build.specs.Sound.{IsSound};
@@ -8,23 +8,28 @@ ghost use Rattle.awari_table.specs.Images.{table_of};
 ghost use Rattle.awari_table.specs.Shelves.{Consistent};
 ghost use Rattle.awari_table.specs.declared.TheConstants.{HIGHEST_LEVEL};
 ghost use Rattle.awari_theory.specs.Truth.{TellsTruth};
+ghost use Rattle.awari_verify.specs.declared.rules.Rule.{Rule};
 
 use crate::faults::BuildFault;
 use awari_owner::{Outboxes, Part};
-use awari_plan::finish;
+use awari_plan::{finish, finished_levels_are_consistent};
 use awari_table::{HIGHEST_LEVEL, Level, Shelf};
 use awari_verify::{VerifyFault, verify};
 use std::alloc::Global;
 use std::slice;
 
 /// The shelf's next level, built by one part. It always returns. Refused are a shelf that has all
-/// levels, as 51 `TooHigh`, want of memory as 53 `Memory`, a distance that can't be stored as
-/// 58 `Far`, and what the verifier refuses as 54 `Refused`. It takes memory for the part, eight bytes
-/// a board and eight for the order in which boards are spread, and for the entries.
+/// levels, as 51 `TooHigh`, want of memory as 53 `Memory`, and a distance that can't be stored as
+/// 58 `Far`. What the verifier refuses would be 54 `Refused`, and never comes. It takes memory for
+/// the part, eight bytes a board and eight for the order in which boards are spread, and for the
+/// entries.
 pub fn build_alone(alloc: Global, shelf: &Shelf) -> Result<Level, BuildFault>
     ensures consistent { IfOk result (λ level. Consistent shelf.now level) }
     ensures meaning { IfOk result (λ level. TellsTruth (shelf.now ++ level ∷ [])) }
     ensures too_high { (result ≡ Err BuildFault.TooHigh) ↔ (HIGHEST_LEVEL < length shelf.now) }
+
+    // What is built is right: the verifier never refuses it.
+    ensures right { (rank : ℕ) (rule : Rule) → result ≢ Err (BuildFault.Refused rank rule) }
 {
     if shelf.levels() > HIGHEST_LEVEL {
         return Err(BuildFault::TooHigh);
@@ -33,6 +38,7 @@ pub fn build_alone(alloc: Global, shelf: &Shelf) -> Result<Level, BuildFault>
     let Ok(image) = finish(alloc, shelf, slice::from_ref(&part)) else {
         return Err(BuildFault::Memory);
     };
+    finished_levels_are_consistent();
     match verify(shelf, image) {
         Ok(level) => Ok(level),
         Err(VerifyFault::Refused { rank, rule }) => Err(BuildFault::Refused { rank, rule }),

@@ -59,9 +59,8 @@ fn refusal(
     second: &[u8],
 ) -> io::Result<Option<FolderFault>> {
     empty_folder(files, folder)?;
-    for (name, file) in [("level_00.awdb", first), ("level_01.awdb", second)] {
-        lay(files, folder, name, file)?;
-    }
+    lay(files, folder, "level_00.awdb", first)?;
+    lay(files, folder, "level_01.awdb", second)?;
     Ok(loaded(files, folder).err())
 }
 

@@ -3,3 +3,4 @@ pub mod Tables
 pub mod Blocks
 pub mod Whole
 pub mod Following
+pub mod Consistency

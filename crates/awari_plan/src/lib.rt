@@ -3,8 +3,10 @@
 #![tactic(auto)]
 
 mod finishing;
+mod laws;
 mod lines;
 mod plans;
 
 pub use finishing::finish;
+pub use laws::finished_levels_are_consistent;
 pub use lines::{Line, LineFault, best_line};
