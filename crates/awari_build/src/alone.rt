@@ -1,14 +1,13 @@
 //! A level built by one part, in one thread.
 
-ghost use Rattle.std.specs.Prelude.{◌≡◌, ◌≢◌, ◌≤◌, ◌<◌, ◌+◌, ◌⊎◌, ◌↔◌, ◌++◌, ◌∷◌, [], ℕ, ℤ, List, length, IfOk, IfErr, OnOk, Err, Some};
+ghost use Rattle.std.specs.Prelude.{◌≡◌, ◌≤◌, ◌<◌, ◌+◌, ◌⊎◌, ◌↔◌, ◌++◌, ◌∷◌, [], ℕ, ℤ, List, length, IfOk, IfErr, OnOk, Err, Some};
 ghost use Rattle.awari_owner.specs.Part.{IsLeastDue, unspread};
 ghost use Rattle.awari_owner.specs.Scan.{IsWhole};
 ghost use Rattle.awari_build.specs.Sound.{IsSound};
 ghost use Rattle.awari_table.specs.Images.{table_of};
-ghost use Rattle.awari_table.specs.Shelves.{Consistent};
+ghost use Rattle.awari_table.specs.Shelves.{Consistent, IsShelf};
 ghost use Rattle.awari_table.specs.declared.TheConstants.{HIGHEST_LEVEL};
 ghost use Rattle.awari_theory.specs.Truth.{TellsTruth};
-ghost use Rattle.awari_verify.specs.declared.rules.Rule.{Rule};
 
 use crate::faults::BuildFault;
 use awari_owner::{Outboxes, Part};
@@ -28,14 +27,28 @@ pub fn build_alone(alloc: Global, shelf: &Shelf) -> Result<Level, BuildFault>
     ensures meaning { IfOk result (λ level. TellsTruth (shelf.now ++ level ∷ [])) }
     ensures too_high { (result ≡ Err BuildFault.TooHigh) ↔ (HIGHEST_LEVEL < length shelf.now) }
 
-    // What is built is right: the verifier never refuses it.
-    ensures right { (rank : ℕ) (rule : Rule) → result ≢ Err (BuildFault.Refused rank rule) }
+    // What is built is right, so the verifier never refuses it.
+    ensures fault { IfErr result (λ fault. (fault ≡ BuildFault.TooHigh) ⊎ (fault ≡ BuildFault.Memory) ⊎ (fault ≡ BuildFault.Far)) }
 {
     if shelf.levels() > HIGHEST_LEVEL {
         return Err(BuildFault::TooHigh);
     }
     let part = settled_part(alloc, shelf)?;
-    let Ok(image) = finish(alloc, shelf, slice::from_ref(&part)) else {
+    level_of(alloc, shelf, &part)
+}
+
+/// The level that a part with all its boards has settled.
+fn level_of(alloc: Global, shelf: &Shelf, part: &Part) -> Result<Level, BuildFault>
+    requires shelf { IsShelf shelf.now }
+    requires low { length shelf.now ≤ HIGHEST_LEVEL }
+    requires whole { IsWhole part.now × (part.now.level ≡ length shelf.now) }
+    requires closed { (part.now.gain ≡ 1) × (part.now.fresh ≡ []) }
+    requires sound { IsSound (table_of shelf.now).value part.now }
+    ensures consistent { IfOk result (λ level. Consistent shelf.now level) }
+    ensures meaning { IfOk result (λ level. TellsTruth (shelf.now ++ level ∷ [])) }
+    ensures memory { IfErr result (λ fault. fault ≡ BuildFault.Memory) }
+{
+    let Ok(image) = finish(alloc, shelf, slice::from_ref(part)) else {
         return Err(BuildFault::Memory);
     };
     finished_levels_are_consistent();
