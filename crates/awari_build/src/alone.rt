@@ -1,7 +1,7 @@
 //! A level built by one part, in one thread.
 
-ghost use Rattle.std.specs.Prelude.{◌≡◌, ◌≤◌, ◌<◌, ◌+◌, ◌⊎◌, ◌↔◌, ◌++◌, ◌∷◌, [], ℕ, ℤ, List, length, IfOk, IfErr, OnOk, Err, Some};
-ghost use Rattle.awari_owner.specs.Part.{IsLeastDue, unspread};
+ghost use Rattle.std.specs.Prelude.{◌≡◌, ◌≤◌, ◌<◌, ◌+◌, ◌⊎◌, ◌↔◌, ◌++◌, ◌∷◌, [], ℕ, ℤ, List, length, IfOk, IfErr, Err, Some};
+ghost use Rattle.awari_owner.specs.Part.{InBlock, IsLeastDue, settled_at, unspread};
 ghost use Rattle.awari_owner.specs.Scan.{IsWhole};
 ghost use Rattle.awari_build.specs.Sound.{IsSound};
 ghost use Rattle.awari_table.specs.Images.{table_of};
@@ -10,7 +10,7 @@ ghost use Rattle.awari_table.specs.declared.TheConstants.{HIGHEST_LEVEL};
 ghost use Rattle.awari_theory.specs.Truth.{TellsTruth};
 
 use crate::faults::BuildFault;
-use awari_owner::{Outboxes, Part};
+use awari_owner::{Outboxes, Part, distances_fit};
 use awari_plan::{finish, finished_levels_are_consistent};
 use awari_table::{HIGHEST_LEVEL, Level, Shelf};
 use awari_verify::{VerifyFault, verify};
@@ -18,17 +18,16 @@ use std::alloc::Global;
 use std::slice;
 
 /// The shelf's next level, built by one part. It always returns. Refused are a shelf that has all
-/// levels, as 51 `TooHigh`, want of memory as 53 `Memory`, and a distance that can't be stored as
-/// 58 `Far`. What the verifier refuses would be 54 `Refused`, and never comes. It takes memory for
-/// the part, eight bytes a board and eight for the order in which boards are spread, and for the
-/// entries.
+/// levels, as 51 `TooHigh`, and want of memory as 53 `Memory`. What the verifier refuses would be
+/// 54 `Refused`, and never comes. It takes memory for the part, eight bytes a board and eight for
+/// the order in which boards are spread, and for the entries.
 pub fn build_alone(alloc: Global, shelf: &Shelf) -> Result<Level, BuildFault>
     ensures consistent { IfOk result (λ level. Consistent shelf.now level) }
     ensures meaning { IfOk result (λ level. TellsTruth (shelf.now ++ level ∷ [])) }
     ensures too_high { (result ≡ Err BuildFault.TooHigh) ↔ (HIGHEST_LEVEL < length shelf.now) }
 
-    // What is built is right, so the verifier never refuses it.
-    ensures fault { IfErr result (λ fault. (fault ≡ BuildFault.TooHigh) ⊎ (fault ≡ BuildFault.Memory) ⊎ (fault ≡ BuildFault.Far)) }
+    // What is built is right, so the verifier never refuses it, and distances are never too great.
+    ensures fault { IfErr result (λ fault. (fault ≡ BuildFault.TooHigh) ⊎ (fault ≡ BuildFault.Memory)) }
 {
     if shelf.levels() > HIGHEST_LEVEL {
         return Err(BuildFault::TooHigh);
@@ -65,7 +64,7 @@ fn settled_part(alloc: Global, shelf: &Shelf) -> Result<Part, BuildFault>
     ensures whole { IfOk result (λ part. IsWhole part × (part.level ≡ length shelf.now)) }
     ensures closed { IfOk result (λ part. (part.gain ≡ 1) × (part.fresh ≡ [])) }
     ensures sound { IfOk result (IsSound (table_of shelf.now).value) }
-    ensures fault { IfErr result (λ fault. (fault ≡ BuildFault.Memory) ⊎ (fault ≡ BuildFault.Far)) }
+    ensures memory { IfErr result (λ fault. fault ≡ BuildFault.Memory) }
 {
     let Ok(mut part) = Part::scan(alloc, shelf, 1, 0) else {
         return Err(BuildFault::Memory);
@@ -75,41 +74,45 @@ fn settled_part(alloc: Global, shelf: &Shelf) -> Result<Part, BuildFault>
     };
     while part.gain() > 1 {
         part.open_gain(part.gain() - 1);
-        spread_all(&mut part, &mut outboxes)?;
+        spread_all(&mut part, &mut outboxes);
     }
     Ok(part)
 }
 
 /// Spreads all boards that are settled at the open gain, the nearest ones first.
-fn spread_all(part: &mut Part, outboxes: &mut Outboxes) -> Result<(), BuildFault>
+fn spread_all(part: &mut Part, outboxes: &mut Outboxes)
     requires whole { IsWhole part.old }
+    requires low { part.old.level ≤ HIGHEST_LEVEL }
+    requires sound { (value : List ℕ → ℤ) × IsSound value part.old }
     ensures whole { IsWhole part.new × (part.new.level ≡ part.old.level) × (part.new.gain ≡ part.old.gain) }
-    ensures idle { OnOk result (part.new.fresh ≡ []) }
-    ensures sound { OnOk result ((value : List ℕ → ℤ) → IsSound value part.old → IsSound value part.new) }
-    ensures far { IfErr result (λ fault. fault ≡ BuildFault.Far) }
+    ensures idle { part.new.fresh ≡ [] }
+    ensures sound { (value : List ℕ → ℤ) → IsSound value part.old → IsSound value part.new }
 {
     while let Some(dist) = part.due() {
-        spread_nearest(part, outboxes, dist)?;
+        spread_nearest(part, outboxes, dist);
     }
-    Ok(())
 }
 
 /// Spreads the first fresh board, which is of this distance.
-fn spread_nearest(part: &mut Part, outboxes: &mut Outboxes, dist: u32) -> Result<(), BuildFault>
+fn spread_nearest(part: &mut Part, outboxes: &mut Outboxes, dist: u32)
     requires whole { IsWhole part.old }
+    requires low { part.old.level ≤ HIGHEST_LEVEL }
     requires least { IsLeastDue part.old (Some dist) }
     requires timely { part.old.wave ≤ dist }
+    requires settled { (rank : ℕ) × (v : ℤ) × InBlock part.old rank × (settled_at part.old rank ≡ Some (v, dist)) }
+    requires sound { (value : List ℕ → ℤ) × IsSound value part.old }
     ensures whole { IsWhole part.new × (part.new.level ≡ part.old.level) × (part.new.gain ≡ part.old.gain) }
-    ensures fewer { OnOk result (unspread part.new + 1 ≡ unspread part.old) }
-    ensures sound { OnOk result ((value : List ℕ → ℤ) → IsSound value part.old → IsSound value part.new) }
-    ensures far { IfErr result (λ fault. fault ≡ BuildFault.Far) }
+    ensures fewer { unspread part.new + 1 ≡ unspread part.old }
+    ensures sound { (value : List ℕ → ℤ) → IsSound value part.old → IsSound value part.new }
 {
+    // That a distance can be one more is what this call tells the proof.
+    distances_fit();
     if part.wave() < dist {
         part.open_wave(dist);
     }
     match part.spread_one(outboxes) {
-        Ok(true) => Ok(()),
+        Ok(true) => {}
         Ok(false) => unreachable!(),
-        Err(_) => Err(BuildFault::Far),
+        Err(_) => unreachable!(),
     }
 }

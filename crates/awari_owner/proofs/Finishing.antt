@@ -216,7 +216,7 @@ module _ (value : List ℕ → ℤ) (n w : ℕ) (cell : List ℕ → Cell) (note
 
 -- ---- a part that has the whole level
 
-settled_status : (s : Status) (v : ℤ) (d : ℕ) → settled_by s ≡ Some (v, d) → s ≡ Settled v d
+pub settled_status : (s : Status) (v : ℤ) (d : ℕ) → settled_by s ≡ Some (v, d) → s ≡ Settled v d
 settled_status (Ended g) v d e = absurd (false≢true (ap is_some e))
 settled_status (Open l b f) v d e = absurd (false≢true (ap is_some e))
 settled_status (Settled u k) v d e =

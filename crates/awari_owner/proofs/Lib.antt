@@ -12,3 +12,4 @@ pub mod Scanning
 pub mod Firsts
 pub mod Sending
 pub mod Finishing
+pub mod Distances

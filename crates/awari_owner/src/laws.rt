@@ -1,11 +1,11 @@
 //! What follows of a level whose notes were all heard.
 
-ghost use Rattle.std.specs.Prelude.{◌≡◌, ℕ, ℤ, List, [], sum};
+ghost use Rattle.std.specs.Prelude.{◌≡◌, ℕ, ℤ, ◌-◌, ◌^◌, ◌<◌, ◌≤◌, List, [], Some, sum};
 ghost use Rattle.awari_board.specs.Rules.{IsBoard};
 ghost use Rattle.awari_rank.specs.Rank.{rank_of};
 ghost use Rattle.awari_owner.specs.Tally.{Cell};
 ghost use Rattle.awari_owner.specs.Finish.{IsQuietLevel, IsRightAt};
-ghost use Rattle.awari_owner.specs.Part.{Part, IsTallied, cell_at};
+ghost use Rattle.awari_owner.specs.Part.{Part, InBlock, IsTallied, cell_at, settled_at};
 ghost use Rattle.awari_owner.specs.Scan.{IsWhole};
 ghost use Rattle.awari_owner.specs.Spread.{HearsOwn};
 ghost use Rattle.awari_owner.specs.declared.notes.Note.{Note};
@@ -23,4 +23,12 @@ pub fn idle_parts_are_right()
     ensures { (value : List ℕ → ℤ) (part : Part) (notes : List Note) → IsWhole part → part.gain ≡ 1 → part.fresh ≡ []
         → IsTallied value part notes → HearsOwn part notes
         → (p : List ℕ) → IsBoard p → sum p ≡ part.level → IsRightAt value (λ q. cell_at part (rank_of q)) p }
+{}
+
+/// In a part that has all boards of its level a distance is below the greatest that can be stored:
+/// for each smaller one from 1 on there is a settled board, and a level has not so many boards.
+pub fn distances_fit()
+    ensures { (value : List ℕ → ℤ) (part : Part) (notes : List Note) → IsWhole part → part.level ≤ 24
+        → IsTallied value part notes → HearsOwn part notes
+        → (rank : ℕ) (v : ℤ) (dist : ℕ) → InBlock part rank → settled_at part rank ≡ Some (v, dist) → dist < 2 ^ 32 - 1 }
 {}

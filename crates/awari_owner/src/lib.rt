@@ -20,7 +20,7 @@ mod scans;
 mod spreads;
 
 pub use faults::OwnerFault;
-pub use laws::{idle_parts_are_right, quiet_levels_are_right};
+pub use laws::{distances_fit, idle_parts_are_right, quiet_levels_are_right};
 pub use notes::{Kind, Note};
 pub use outboxes::{Batch, Outboxes};
 pub use parts::Part;

@@ -134,11 +134,12 @@ impl Part {
         self.fresh.is_empty()
     }
 
-    /// The least distance of a fresh board in plies, none where no board is fresh. It is not below
-    /// the open one.
+    /// The least distance of a fresh board in plies, none where no board is fresh. It is that of a
+    /// settled board of the block, and not below the open one.
     pub fn due(&self) -> Option<u32>
         ensures least { IsLeastDue self.now result }
         ensures timely { IfSome result (λ dist. self.now.wave ≤ dist) }
+        ensures settled { IfSome result (λ dist. (rank : ℕ) × (v : ℤ) × InBlock self.now rank × (settled_at self.now rank ≡ Some (v, dist))) }
     {
         match self.fresh.peek() {
             Some(due) => Some(due.0.0),

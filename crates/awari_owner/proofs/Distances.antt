@@ -1,0 +1,194 @@
+-- No distance is greater than the number of boards: a settled board has a settled one behind it at each smaller distance.
+use Rattle.std.proofs.Common.{Option, Some, is_some, length, ◌≡◌, ℕ, zero, suc, ◌+◌, ◌-◌, ◌^◌, ◌<◌, ◌≤◌, ◌⊎◌, inl, inr, Bool, true, false, if◌then◌else◌, cond, max, nat_le, List, [], ◌∷◌, get_or, sum, ℤ, refl, sym, ap, subst, ◌∙◌, arith}
+use Rattle.std.specs.Prelude.{count_by}
+use Rattle.std.proofs.lemmas.Bool.{false≢true, cases_lt}
+use Rattle.std.proofs.lemmas.Bool.Decides.{nat_tests}
+use Rattle.std.proofs.lemmas.List.Sums.{count_by-le-length, sum_by-cons}
+use Rattle.awari_board.specs.Rules.{IsBoard}
+use Rattle.awari_rank.specs.Tuples.{total, ways}
+use Rattle.awari_rank.specs.Rank.{rank_of, size_of}
+use Rattle.awari_rank.proofs.Counting.{ways-suc}
+use Rattle.awari_rank.proofs.Examples.{highest}
+use Rattle.awari_rank.proofs.Ranking.{rank_of-below}
+use Rattle.awari_rank.proofs.Reaching.{board_reached}
+use Rattle.awari_board.proofs.Keeping.{IsBoard-next, sum-from_IsMove}
+use Rattle.awari_owner.specs.Notes.{Has, is_won, far_of}
+use Rattle.awari_owner.specs.Tally.{Settled, IsDistance, IsStatus}
+use Rattle.awari_owner.specs.Cells.{is_settled, status_by, status_of}
+use Rattle.awari_owner.specs.Blocks.{no_cell}
+use Rattle.awari_owner.specs.Finish.{dist_by}
+use Rattle.awari_owner.specs.Part.{Part, InBlock, IsTallied, cell_at, notes_for, settled_by, settled_at, stored_at}
+use Rattle.awari_owner.specs.Scan.{IsWhole}
+use Rattle.awari_owner.specs.Spread.{HearsOwn}
+use Rattle.awari_owner.specs.declared.cells.Cell.{Cell}
+use Rattle.awari_owner.specs.declared.cells.Mark.{Mark}
+use Rattle.awari_owner.specs.declared.cells.Mark.TheVariants as mark
+use Rattle.awari_owner.specs.declared.notes.Note.{Note}
+use Rattle.awari_owner.proofs.Finishing.{settled_status}
+
+-- ---- how many boards a level has
+
+total-grows : (f : ℕ → ℕ) (a b : ℕ) → a ≤ b → total f a ≤ total f b
+unfolding total
+total-grows f a zero h = subst (λ n. total f n ≤ total f 0) (let none : 0 ≡ a = omega (arith, h) in none) (omega arith)
+total-grows f a (suc b) h = elim (cases_lt b a) [
+  | inl same ↦ subst (λ n. total f n ≤ total f (suc b)) (let all : suc b ≡ a = omega (arith, h, same) in all) (omega arith)
+  | inr less ↦ let before = total-grows f a b less in omega (arith, before)
+]
+
+size_of-grows : (n : ℕ) → n ≤ 24 → size_of n ≤ size_of 24
+unfolding size_of
+size_of-grows n h =
+    let more = total-grows (ways 11) (n + 1) (24 + 1) (omega (arith, h)) in
+    omega (arith, more, ways-suc 11 n, ways-suc 11 24)
+
+-- ---- the board behind one
+
+far_attained : (notes : List Note) → (far_of notes ≡ 0) ⊎ ((m : Note) × Has notes m × (m.dist ≡ far_of notes))
+far_attained [] = inl refl
+far_attained (k ∷ notes) = elim (far_attained notes) [
+  | inl none ↦ elim (either (is_won k.kind) k.dist (far_of notes)) [
+    | inl rest ↦ inl (rest ∙ none)
+    | inr first ↦ inr (k, inl refl, sym first)
+  ]
+  | inr some ↦ elim (either (is_won k.kind) k.dist (far_of notes)) [
+    | inl rest ↦ inr (some.0, inr some.1, some.2 ∙ sym rest)
+    | inr first ↦ inr (k, inl refl, sym first)
+  ]
+]
+  where
+    either : (b : Bool) (d far : ℕ) → ((if b then max d far else far) ≡ far) ⊎ ((if b then max d far else far) ≡ d)
+    either false d far = inl refl
+    either true d far = elim (cases_lt d far) [ inl lt ↦ inl (omega (arith, lt)) | inr ge ↦ inr (omega (arith, ge)) ]
+
+-- a distance above 1 is one more than a note's
+behind : (value : List ℕ → ℤ) (p : List ℕ) (notes : List Note) (t : ℕ) (v : ℤ) (d : ℕ) → IsStatus value p notes t (Settled v d)
+    → (d ≤ 1) ⊎ ((m : Note) × Has notes m × (d ≡ m.dist + 1))
+behind value p notes t v d (inl ended) = inl (omega (arith, ended.2))
+behind value p notes t v d (inr going) = at going.1.distance
+  where
+    at : IsDistance value p notes v d → (d ≤ 1) ⊎ ((m : Note) × Has notes m × (d ≡ m.dist + 1))
+    at (inl capture) = inl (omega (arith, capture.2))
+    at (inr (inl note)) = inr (note.2.0, note.2.1, note.2.3)
+    at (inr (inr lost)) = elim (far_attained notes) [
+      | inl none ↦ inl (omega (arith, none, lost.1))
+      | inr some ↦ inr (some.0, some.1, omega (arith, some.2, lost.1))
+    ]
+
+stored_dist : (c : Cell) (v : ℤ) (d : ℕ) → settled_by (status_of c) ≡ Some (v, d) → c.dist ≡ d
+stored_dist c v d e = at c.mark c.left c.score c.dist e
+  where
+    at : (m : Mark) (left : ℕ) (score : ℤ) (dist : ℕ) → settled_by (status_by m left score dist) ≡ Some (v, d) → dist ≡ d
+    at mark.Settled left score dist e = ap dist_by (settled_status (Settled score dist) v d e)
+    at mark.Ended left score dist e = absurd (false≢true (ap is_some e))
+    at mark.Quiet left score dist e = absurd (false≢true (ap is_some e))
+    at mark.Capturing left score dist e = absurd (false≢true (ap is_some e))
+
+-- a settled cell of this distance
+pub settled_cell : (c : Cell) (d : ℕ) → is_settled c.mark ≡ true → c.dist ≡ d → settled_by (status_of c) ≡ Some (c.score, d)
+settled_cell c d settled near = at c.mark settled c.score c.left c.dist near
+  where
+    at : (m : Mark) → is_settled m ≡ true → (score : ℤ) (left dist : ℕ) → dist ≡ d → settled_by (status_by m left score dist) ≡ Some (score, d)
+    at mark.Settled e score left dist near = ap (λ n. Some (score, n)) near
+    at mark.Ended e score left dist near = absurd (false≢true e)
+    at mark.Quiet e score left dist near = absurd (false≢true e)
+    at mark.Capturing e score left dist near = absurd (false≢true e)
+
+-- ---- as many boards as distances
+
+count-cons : (P : Cell → Bool) (c : Cell) (cells : List Cell) → count_by P (c ∷ cells) ≡ cond (P c) 1 0 + count_by P cells
+count-cons P c cells = sum_by-cons (λ (d : Cell). cond (P d) 1 0) c cells
+
+count_all : (P Q : Cell → Bool) (cells : List Cell) → ((c : Cell) → P c ≡ true → Q c ≡ true) → count_by P cells ≤ count_by Q cells
+count_all P Q [] all = omega arith
+count_all P Q (c ∷ cells) all =
+    let rest = count_all P Q cells all in
+    let first = one (P c) (Q c) (all c) in
+    omega (arith, rest, first, count-cons P c cells, count-cons Q c cells)
+  where
+    one : (a b : Bool) → (a ≡ true → b ≡ true) → cond a 1 0 ≤ cond b 1 0
+    one false b h = omega arith
+    one true false h = absurd (false≢true (h refl))
+    one true true h = omega arith
+
+-- more are counted, where one is that was not
+count_more : (P Q : Cell → Bool) (cells : List Cell) (i : ℕ) → ((c : Cell) → P c ≡ true → Q c ≡ true) → i < length cells
+    → P (get_or cells i no_cell) ≡ false → Q (get_or cells i no_cell) ≡ true → count_by P cells + 1 ≤ count_by Q cells
+count_more P Q [] i all inside not_yet now = absurd (omega (arith, inside))
+count_more P Q (c ∷ cells) zero all inside not_yet now =
+    let rest = count_all P Q cells all in
+    let none : ◌≡◌ {A = ℕ} (cond (P c) 1 0) 0 = ap (λ (b : Bool). cond b 1 0) not_yet in
+    let one : ◌≡◌ {A = ℕ} (cond (Q c) 1 0) 1 = ap (λ (b : Bool). cond b 1 0) now in
+    omega (arith, rest, none, one, count-cons P c cells, count-cons Q c cells)
+count_more P Q (c ∷ cells) (suc i) all inside not_yet now =
+    let rest = count_more P Q cells i all (omega (arith, inside)) not_yet now in
+    let first = count_all P Q (c ∷ []) all in
+    omega (arith, rest, first, count-cons P c cells, count-cons Q c cells, count-cons P c [], count-cons Q c [])
+
+-- where each number from 1 to n is the distance of a cell, there are n cells at least
+as_many : (cells : List Cell) (n : ℕ) → ((k : ℕ) → 1 ≤ k → k ≤ n → (i : ℕ) × (i < length cells) × ((get_or cells i no_cell).dist ≡ k))
+    → n ≤ count_by (λ (c : Cell). nat_le c.dist n) cells
+as_many cells zero each = omega arith
+as_many cells (suc n) each =
+    let before = as_many cells n (λ k low high. each k low (omega (arith, high))) in
+    let (i, inside, is) = each (suc n) (omega arith) (omega arith) in
+    let more = count_more (λ (c : Cell). nat_le c.dist n) (λ (c : Cell). nat_le c.dist (suc n)) cells i
+    (λ c h. up c.dist n h) inside (not_yet (get_or cells i no_cell).dist n is) (now (get_or cells i no_cell).dist n is) in
+    omega (arith, before, more)
+  where
+    up : (d n : ℕ) → nat_le d n ≡ true → nat_le d (suc n) ≡ true
+    up d n h = grind (arith, nat_tests)
+
+    not_yet : (d n : ℕ) → d ≡ suc n → nat_le d n ≡ false
+    not_yet d n h = grind (arith, nat_tests)
+
+    now : (d n : ℕ) → d ≡ suc n → nat_le d (suc n) ≡ true
+    now d n h = grind (arith, nat_tests)
+
+-- ---- a part that has the whole level
+
+module _ (value : List ℕ → ℤ) (part : Part) (notes : List Note) (whole : IsWhole part) (few : part.level ≤ 24) (tallied : IsTallied value part notes) (own : HearsOwn part notes) where
+  inside : (p : List ℕ) → IsBoard p → sum p ≡ part.level → InBlock part (rank_of p)
+  inside p is stones =
+      let low = rank_of-below p is.pits in
+      let size : size_of (sum p) ≡ length part.cells = ap size_of stones ∙ sym whole.all in
+      (omega (arith, whole.start), omega (arith, whole.start, low, size))
+
+  -- a settled board of this distance
+  abbrev SettledAt : ℕ → Type 0
+  SettledAt d = (rank : ℕ) × (v : ℤ) × InBlock part rank × (settled_at part rank ≡ Some (v, d))
+
+  one_nearer : (d : ℕ) → 1 ≤ d → SettledAt (d + 1) → SettledAt d
+  one_nearer d some (rank, v, held, settled) =
+      let (p, is, stones, ranked) = board_reached part.level rank few (omega (arith, held.0, held.1, whole.start, whole.all)) in
+      let here : settled_at part (rank_of p) ≡ Some (v, d + 1) = subst (λ r. settled_at part r ≡ Some (v, d + 1)) (sym ranked) settled in
+      let tally = tallied p is stones (inside p is stones) in
+      let status = subst (IsStatus value p (notes_for (rank_of p) notes) part.gain) (settled_status (cell_at part (rank_of p)).status v (d + 1) here) tally.status in
+      elim (behind value p (notes_for (rank_of p) notes) part.gain v (d + 1) status) [
+        | inl near ↦ absurd (omega (arith, near, some))
+        | inr note ↦
+            let (q, quiet) = tally.quiet note.0 note.1 in
+            let kept = sum-from_IsMove p note.0.pit 0 q is.pits quiet in
+            let next = IsBoard-next p note.0.pit 0 q is quiet in
+            let there = inside q next (omega (arith, kept, stones)) in
+            let (u, e, spread, told) = own.true_notes p note.0.pit q is stones (inside p is stones) there quiet note.0 note.1 refl in
+            let same : e ≡ d = omega (arith, told.same_dist, note.2) in
+            (rank_of q, u, there, subst (λ n. settled_at part (rank_of q) ≡ Some (u, n)) same spread.0)
+      ]
+
+  all_nearer : (n k : ℕ) → 1 ≤ k → SettledAt (n + k) → SettledAt k
+  all_nearer zero k some settled = let same : 0 + k ≡ k = omega arith in subst SettledAt same settled
+  all_nearer (suc n) k some settled =
+      let next : suc n + k ≡ (n + k) + 1 = omega arith in
+      all_nearer n k some (one_nearer (n + k) (omega (arith, some)) (subst SettledAt next settled))
+
+  pub distances_fit : (rank : ℕ) (v : ℤ) (d : ℕ) → InBlock part rank → settled_at part rank ≡ Some (v, d) → d < 2 ^ 32 - 1
+  distances_fit rank v d held settled =
+      let many = as_many part.cells d (λ k low high. at k low (omega (arith, high)) (d - k) (omega (arith, high))) in
+      let all = count_by-le-length (λ (c : Cell). nat_le c.dist d) part.cells in
+      omega (arith, many, all, whole.all, size_of-grows part.level few, highest)
+    where
+      at : (k : ℕ) → 1 ≤ k → k ≤ d → (n : ℕ) → d ≡ n + k → (i : ℕ) × (i < length part.cells) × ((get_or part.cells i no_cell).dist ≡ k)
+      at k low high n is =
+          let (r, u, there, has) = all_nearer n k low (subst SettledAt is (rank, v, held, settled)) in
+          (r - part.start, there.1, stored_dist (stored_at part r) u k has)
