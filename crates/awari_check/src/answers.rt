@@ -1,14 +1,16 @@
 //! What the program prints.
 
-ghost use Rattle.std.specs.Prelude.{◌≡◌, IfSome};
+ghost use Rattle.std.specs.Prelude.{◌≡◌, ◌≢◌, ◌↔◌, IfSome};
+ghost use Rattle.awari_table.specs.Counts.{inner_of, faults_of, Grew};
+ghost use Rattle.awari_check.specs.declared.answers.Answer.TheVariants as answer;
 ghost use Rattle.awari_check.specs.Answer.{IsAnswer};
 
 use crate::checks::{CheckFault, check};
-use awari_table::TableFault;
+use awari_table::{Counted, TableFault};
 use awari_verify::VerifyFault;
 use std::alloc::Global;
 use std::fmt;
-use std::io::{ErrorKind, Read};
+use std::io::Read;
 
 /// What `check` has to say of its input. Printed, it is the line without its line feed.
 #[derive(Clone, Copy, Debug, PartialEq, Eq)]
@@ -99,24 +101,33 @@ impl fmt::Display for OfLevel {
     }
 }
 
-/// The answer for the bytes that the reader has left, all of which it takes.
-pub fn check_input<R: Read>(alloc: Global, reader: &mut R) -> Answer
-    ensures { IfSome (R.remaining reader.old) (λ bytes. IsAnswer bytes result) }
+/// The answer for the bytes that the reader has left, all of which it takes: 14 where the reader
+/// gave a fault, and 15 where there is no room for what it gave.
+pub fn check_input<R: Read>(alloc: Global, reader: &mut Counted<R>) -> Answer
+    ensures answer { IfSome (R.remaining (inner_of reader.old)) (λ bytes. IsAnswer bytes result) }
+
+    // 14 comes where the reader gave a fault, and only there.
+    ensures read { (result ≡ answer.Read) ↔ Grew (faults_of reader.old) (faults_of reader.new) }
 {
+    let one_more = reader.faults().saturating_add(1);
     let mut bytes = Vec::new(alloc);
-    match reader.read_to_end(&mut bytes) {
+    let taken = reader.read_to_end(&mut bytes);
+    if reader.faults() >= one_more {
+        return Answer::Read;
+    }
+    match taken {
         Ok(_) => answer_of(alloc, bytes.as_slice()),
-        Err(error) if error.kind() == ErrorKind::OutOfMemory => Answer::Fault {
+        Err(_) => Answer::Fault {
             fault: CheckFault::Table {
                 fault: TableFault::Memory,
             },
         },
-        Err(_) => Answer::Read,
     }
 }
 
 fn answer_of(alloc: Global, bytes: &[u8]) -> Answer
-    ensures { IsAnswer bytes.now result }
+    ensures answer { IsAnswer bytes.now result }
+    ensures told { result ≢ answer.Read }
 {
     match check(alloc, bytes) {
         Ok(shelf) => Answer::Yes {

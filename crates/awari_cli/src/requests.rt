@@ -1,5 +1,9 @@
 //! The words that the program understands.
 
+ghost use Rattle.std.specs.Prelude.{IfSome, IsNone};
+ghost use Rattle.clap.specs.Matches.{found_of};
+ghost use Rattle.awari_cli.specs.Requests.{IsRequestOf, IsNoRequest};
+
 use awari_table::HIGHEST_LEVEL;
 use clap::builder::ValueParser;
 use clap::{Arg, ArgMatches, Command, Error, value_parser};
@@ -57,7 +61,10 @@ pub fn request_of<'a, S: AsStr>(
     })
 }
 
-fn requested<'a>(name: &str, given: &ArgMatches<'a>) -> Option<Request<'a>> {
+fn requested<'a>(name: &str, given: &ArgMatches<'a>) -> Option<Request<'a>>
+    ensures asked { IfSome result (IsRequestOf name.now (found_of given.now)) }
+    ensures none { IsNone result → IsNoRequest name.now (found_of given.now) }
+{
     match name {
         "check" => Some(Request::Check),
         "move" => Some(Request::Move {

@@ -16,6 +16,7 @@ use crate::playing::{Played, play_on};
 use crate::printing::print;
 use crate::requests::{Request, request_of};
 use awari_check::check_input;
+use awari_table::Counted;
 use std::alloc::Global;
 use std::convert::AsStr;
 use std::io::{Read, Write};
@@ -85,7 +86,7 @@ fn run_check<R: Read, W: Write>(alloc: Global, reader: &mut R, writer: &mut W) -
     ensures status { result ≤ 1 }
     ensures yes { result ≡ 0 → PrintsYes (R.remaining reader.old) (W.contents writer.old) (W.contents writer.new) }
 {
-    let answer = check_input(alloc, reader);
+    let answer = check_input(alloc, &mut Counted::new(reader));
     if print(writer, &answer) {
         answer.status()
     } else {

@@ -263,6 +263,20 @@ fn a_second_file_at_fault_is_refused(rt: HostRuntime) -> Result<(), Fail> {
 }
 
 #[test]
+fn a_text_is_read_before_the_folder(rt: HostRuntime) -> Result<(), Fail> {
+    let folder = "awari_cli_test_both";
+    empty_folder(&rt, folder)?;
+    fs::write(&rt, "awari_cli_test_both/level_00.awdb", b"AWDB")?;
+    let printed = "refused 81 File level 0: 60 Truncated\n";
+    expect_ask(&rt, folder, "1,2,3", "refused 1 Shape\n", 1);
+    expect_ask(&rt, folder, CYCLE, printed, 1);
+    expect_line(&rt, folder, "1,2,3", "refused 1 Shape\n", 1);
+    expect_line(&rt, folder, CYCLE, printed, 1);
+    fs::remove_dir_all(&rt, folder)?;
+    Ok(())
+}
+
+#[test]
 fn another_level_is_not_level_0(rt: HostRuntime) -> Result<(), Fail> {
     let folder = "awari_cli_test_first";
     let first = "awari_cli_test_first/level_00.awdb";

@@ -1,0 +1,43 @@
+-- Which request a command's name and the values given to it make. A private function alone goes by this: no public contract does.
+use Rattle.std.specs.Prelude.{◌≡◌, ◌≢◌, ◌⊎◌, ℕ, ◌<◌, ◌^◌, List, [], Some, None, codes, option_map, unwrap_or}
+use Rattle.std.specs.Str.Parse.{IsNumeral, digits_value, without_leading_plus}
+use Rattle.clap.specs.Matches.{first_value, one_text}
+use Rattle.clap.specs.declared.parser.matches.Found.{Found}
+use Rattle.awari_cli.specs.declared.requests.Request.{Request}
+use Rattle.awari_cli.specs.declared.requests.Request.TheVariants.{Check, Move, Judge, Build, Verify, Ask, Line}
+
+-- the first value of this name is this text
+abbrev pub Gives : Found → List ℕ → List ℕ → Type 0
+Gives given id text = first_value given id ≡ Some text
+
+abbrev pub Lacks : Found → List ℕ → Type 0
+Lacks given id = first_value given id ≡ None
+
+-- there is a first value of this name, and it spells the number
+abbrev pub Spells : Found → List ℕ → ℕ → Type 0
+Spells given id n = (one_text given id ≢ None) × ((t : List ℕ) → one_text given id ≡ Some t → n ≡ digits_value 10 (without_leading_plus t))
+
+-- the first value of this name spells no number of so many bits
+abbrev pub SpellsNone : ℕ → Found → List ℕ → Type 0
+SpellsNone bits given id = (t : List ℕ) → one_text given id ≡ Some t → IsNumeral 10 (without_leading_plus t) → digits_value 10 (without_leading_plus t) < 2 ^ bits → ⊥
+
+-- The request is that of the command's name, with the values that were given for each of its names.
+abbrev pub IsRequestOf : List ℕ → Found → Request → Type 0
+IsRequestOf name given Check = name ≡ codes "check"
+IsRequestOf name given (Move board pit) = (name ≡ codes "move") × Gives given (codes "BOARD") board.now × Spells given (codes "PIT") pit
+IsRequestOf name given (Judge board limit moves) = (name ≡ codes "judge") × Gives given (codes "BOARD") board.now × Spells given (codes "LIMIT") limit
+    × (moves.now ≡ unwrap_or (first_value given (codes "MOVES")) [])
+IsRequestOf name given (Build top folder) = (name ≡ codes "build") × Spells given (codes "TOP") top × (option_map (λ f. f.now) folder ≡ first_value given (codes "folder"))
+IsRequestOf name given (Verify folder) = (name ≡ codes "verify") × Gives given (codes "FOLDER") folder.now
+IsRequestOf name given (Ask folder board) = (name ≡ codes "ask") × Gives given (codes "FOLDER") folder.now × Gives given (codes "BOARD") board.now
+IsRequestOf name given (Line folder board) = (name ≡ codes "line") × Gives given (codes "FOLDER") folder.now × Gives given (codes "BOARD") board.now
+
+-- The name is no command's, or a value that its command needs is not there.
+pub record IsNoRequest (name : List ℕ) (given : Found) : Type 0 where
+  pub check : name ≡ codes "check" → ⊥
+  pub moved : name ≡ codes "move" → Lacks given (codes "BOARD") ⊎ SpellsNone 8 given (codes "PIT")
+  pub judge : name ≡ codes "judge" → Lacks given (codes "BOARD") ⊎ SpellsNone 32 given (codes "LIMIT")
+  pub build : name ≡ codes "build" → SpellsNone 8 given (codes "TOP")
+  pub verify : name ≡ codes "verify" → Lacks given (codes "FOLDER")
+  pub ask : name ≡ codes "ask" → Lacks given (codes "FOLDER") ⊎ Lacks given (codes "BOARD")
+  pub line : name ≡ codes "line" → Lacks given (codes "FOLDER") ⊎ Lacks given (codes "BOARD")
