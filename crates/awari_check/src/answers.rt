@@ -1,14 +1,15 @@
 //! What the program prints.
 
-ghost use Rattle.std.specs.Prelude.{◌≡◌, IfSome};
+ghost use Rattle.std.specs.Prelude.{◌≡◌, ◌≢◌, ◌<◌, ◌↔◌, IfSome};
 ghost use Rattle.awari_check.specs.Answer.{IsAnswer};
+ghost use Rattle.awari_table.specs.Counts.{faults_of, inner_of};
 
 use crate::checks::{CheckFault, check};
-use awari_table::TableFault;
+use awari_table::{Counted, TableFault};
 use awari_verify::VerifyFault;
 use std::alloc::Global;
 use std::fmt;
-use std::io::{ErrorKind, Read};
+use std::io::Read;
 
 /// What `check` has to say of its input. Printed, it is the line without its line feed.
 #[derive(Clone, Copy, Debug, PartialEq, Eq)]
@@ -103,20 +104,35 @@ impl fmt::Display for OfLevel {
 pub fn check_input<R: Read>(alloc: Global, reader: &mut R) -> Answer
     ensures { IfSome (R.remaining reader.old) (λ bytes. IsAnswer bytes result) }
 {
+    answer_left(alloc, &mut Counted::new(reader))
+}
+
+/// The answer for the bytes that the reader has left, which is 14 exactly where it answers a fault.
+/// Where they are too many for memory, it is 15.
+fn answer_left<R: Read>(alloc: Global, reader: &mut Counted<R>) -> Answer
+    ensures answer { IfSome (R.remaining (inner_of reader.old)) (λ bytes. IsAnswer bytes result) }
+    ensures read { (result ≡ Answer.Read) ↔ (faults_of reader.old < faults_of reader.new) }
+{
+    let before = reader.faults();
     let mut bytes = Vec::new(alloc);
-    match reader.read_to_end(&mut bytes) {
+    let taken = reader.read_to_end(&mut bytes);
+    if reader.faults() > before {
+        return Answer::Read;
+    }
+    match taken {
         Ok(_) => answer_of(alloc, bytes.as_slice()),
-        Err(error) if error.kind() == ErrorKind::OutOfMemory => Answer::Fault {
+        Err(_) => Answer::Fault {
             fault: CheckFault::Table {
                 fault: TableFault::Memory,
             },
         },
-        Err(_) => Answer::Read,
     }
 }
 
+/// The answer for these bytes.
 fn answer_of(alloc: Global, bytes: &[u8]) -> Answer
-    ensures { IsAnswer bytes.now result }
+    ensures answer { IsAnswer bytes.now result }
+    ensures known { result ≢ Answer.Read }
 {
     match check(alloc, bytes) {
         Ok(shelf) => Answer::Yes {
