@@ -115,6 +115,7 @@ fn answer_left<R: Read>(alloc: Global, reader: &mut Counted<R>) -> Answer
 {
     let before = reader.faults();
     let mut bytes = Vec::new(alloc);
+    // Want of memory is an error here too, so the reader's own are counted.
     let taken = reader.read_to_end(&mut bytes);
     if reader.faults() > before {
         return Answer::Read;

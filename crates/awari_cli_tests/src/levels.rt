@@ -215,6 +215,7 @@ fn a_line_is_played(rt: HostRuntime) -> Result<(), Fail> {
     Ok(())
 }
 
+/// Takes seconds as `rt test` compiles it, and longer than `rt try --test` waits.
 #[test]
 fn the_highest_level_is_loaded(rt: HostRuntime) -> Result<(), Fail> {
     let folder = "awari_cli_test_highest";
