@@ -1,9 +1,11 @@
 //! The commands `verify` and `ask`: the levels in a folder verified, and asked for an entry.
 
-ghost use Rattle.std.specs.Prelude.{◌≡◌, ◌≤◌, ◌<◌, ℕ, List, true, length, sum, IfOk};
+ghost use Rattle.std.specs.Prelude.{◌≡◌, ◌≤◌, ◌<◌, ◌↔◌, ℕ, List, true, length, sum, Err, IfOk};
 ghost use Rattle.std.specs.Io.KnownBytes.{Appends};
+ghost use Rattle.awari_board.specs.BoardFault.{IsFaulty};
 ghost use Rattle.awari_board.specs.Rules.{IsBoard};
 ghost use Rattle.awari_board.specs.Text.{text_of};
+ghost use Rattle.awari_board.specs.declared.text.BoardFault.{BoardFault};
 ghost use Rattle.awari_table.specs.Images.{entry_of};
 ghost use Rattle.awari_table.specs.Shelves.{IsShelf};
 ghost use Rattle.awari_table.specs.declared.images.Image.{Image};
@@ -13,7 +15,7 @@ ghost use Rattle.awari_cli.specs.declared.folders.LookUpFault.TheVariants as loo
 use crate::printing::print;
 use crate::refusals::{OfBoard, OfFolder};
 use arrayvec::ArrayString;
-use awari_board::{Board, BoardFault};
+use awari_board::{Board, BoardFault, one_board_fault_is_due};
 use awari_folder::{FolderFault, load};
 use awari_table::{Entry, NotYet, Shelf};
 use std::alloc::Global;
@@ -170,15 +172,18 @@ impl fmt::Display for Plan {
 }
 
 /// The entry of the board that `text` spells, as the levels in the folder have it. The text is read
-/// before the folder is.
+/// before the folder is: where it is no board it is refused for that, whatever the folder holds.
 fn look_up<F: Files>(
     files: &F,
     alloc: Global,
     folder: &str,
     text: &[u8],
 ) -> Result<Entry, LookUpFault>
-    ensures { IfOk result (IsEntryOf text.now) }
+    ensures entry { IfOk result (IsEntryOf text.now) }
+    ensures board { (fault : BoardFault) → (result ≡ Err (look_up.Board fault)) ↔ IsFaulty text.now fault }
 {
+    // That a text has one fault at most is what this call tells the proof.
+    one_board_fault_is_due();
     let board = Board::parse(text)?;
     let shelf = load(files, alloc, Path::new(folder))?.shelf;
     // That the levels are a shelf is what this call tells the proof.

@@ -1,12 +1,14 @@
 //! The command `line`: a play in which both sides follow the plans of the levels in a folder.
 
-ghost use Rattle.std.specs.Prelude.{◌≡◌, ◌≤◌, IfOk};
+ghost use Rattle.std.specs.Prelude.{◌≡◌, ◌≤◌, ◌↔◌, Err, IfOk};
+ghost use Rattle.awari_board.specs.BoardFault.{IsFaulty};
+ghost use Rattle.awari_board.specs.declared.text.BoardFault.{BoardFault};
 ghost use Rattle.awari_cli.specs.Lines.{IsLineOf, PrintsLine};
 ghost use Rattle.awari_cli.specs.declared.lines.NoLine.TheVariants as no_line;
 
 use crate::printing::print;
 use crate::refusals::{OfBoard, OfFolder, OfLine};
-use awari_board::{Board, BoardFault};
+use awari_board::{Board, BoardFault, one_board_fault_is_due};
 use awari_folder::{FolderFault, load};
 use awari_plan::{Line, LineFault, best_line};
 use awari_table::Entry;
@@ -107,15 +109,19 @@ impl fmt::Display for NoLine {
 }
 
 /// The line of play from the board that `text` spells, by the plans of the levels in the folder and
-/// their limit. The text is read before the folder is.
+/// their limit. The text is read before the folder is: where it is no board it is refused for that,
+/// whatever the folder holds.
 fn line_of<F: Files>(
     files: &F,
     alloc: Global,
     folder: &str,
     text: &[u8],
 ) -> Result<ValuedLine, NoLine>
-    ensures { IfOk result (λ found. IsLineOf text.now found.entry.value found.line.moves.items found.line.outcome) }
+    ensures line { IfOk result (λ found. IsLineOf text.now found.entry.value found.line.moves.items found.line.outcome) }
+    ensures board { (fault : BoardFault) → (result ≡ Err (no_line.Board fault)) ↔ IsFaulty text.now fault }
 {
+    // That a text has one fault at most is what this call tells the proof.
+    one_board_fault_is_due();
     let board = Board::parse(text)?;
     let shelf = load(files, alloc, Path::new(folder))?.shelf;
     let line = best_line(alloc, &shelf, board, shelf.limit())?;

@@ -47,6 +47,17 @@ level 5 boards 4368 won 2161 even 0 lost 2207 limit 60
 level 6 boards 12376 won 5707 even 1545 lost 5124 limit 64
 ";
 
+/// Counts and limits as the plain program of `bench/plain` finds them, which shares no code with this
+/// one.
+const LEVELS_7_TO_12: &str = "\
+level 7 boards 31824 won 14944 even 4483 lost 12397 limit 63
+level 8 boards 75582 won 37806 even 8333 lost 29443 limit 73
+level 9 boards 167960 won 85273 even 20449 lost 62238 limit 97
+level 10 boards 352716 won 157790 even 93737 lost 101189 limit 87
+level 11 boards 705432 won 371898 even 93142 lost 240392 limit 127
+level 12 boards 1352078 won 714572 even 197753 lost 439753 limit 184
+";
+
 #[test]
 fn levels_are_built(rt: HostRuntime) {
     let words = ["awari", "build", "2"];
@@ -206,6 +217,34 @@ fn a_line_is_played(rt: HostRuntime) -> Result<(), Fail> {
     Ok(())
 }
 
+/// Takes seconds as `rt test` compiles it, and longer than `rt try --test` waits.
+#[test]
+fn the_highest_level_is_loaded(rt: HostRuntime) -> Result<(), Fail> {
+    let folder = "awari_cli_test_highest";
+    empty_folder(&rt, folder)?;
+    expect_build(&rt, folder, "2", LEVELS_0_TO_2);
+    expect_build(&rt, folder, "6", LEVELS_3_TO_6);
+    expect_build(&rt, folder, "12", LEVELS_7_TO_12);
+    // The mover has no stone, so the play has ended.
+    expect_ask(&rt, folder, "0,0,0,0,0,0/12,0,0,0,0,0", "-12 - 0\n", 0);
+    fs::remove_dir_all(&rt, folder)?;
+    Ok(())
+}
+
+#[test]
+fn a_board_is_read_before_the_folder(rt: HostRuntime) -> Result<(), Fail> {
+    let folder = "awari_cli_test_order";
+    empty_folder(&rt, folder)?;
+    fs::write(&rt, "awari_cli_test_order/level_00.awdb", b"AWDB")?;
+    let printed = "refused 81 File level 0: 60 Truncated\n";
+    expect_ask(&rt, folder, CYCLE, printed, 1);
+    expect_line(&rt, folder, CYCLE, printed, 1);
+    expect_ask(&rt, folder, "1,2,3", "refused 1 Shape\n", 1);
+    expect_line(&rt, folder, "1,2,3", "refused 1 Shape\n", 1);
+    fs::remove_dir_all(&rt, folder)?;
+    Ok(())
+}
+
 /// The file with these bytes from this place on, and its digest made right.
 fn changed(alloc: Global, file: &[u8], from: usize, bytes: &[u8]) -> Result<Vec<u8>, Fail> {
     let mut new = file.to_vec(alloc)?;
@@ -258,20 +297,6 @@ fn a_second_file_at_fault_is_refused(rt: HostRuntime) -> Result<(), Fail> {
         b"AWDB",
         "refused 81 File level 1: 60 Truncated\n",
     )?;
-    fs::remove_dir_all(&rt, folder)?;
-    Ok(())
-}
-
-#[test]
-fn a_text_is_read_before_the_folder(rt: HostRuntime) -> Result<(), Fail> {
-    let folder = "awari_cli_test_both";
-    empty_folder(&rt, folder)?;
-    fs::write(&rt, "awari_cli_test_both/level_00.awdb", b"AWDB")?;
-    let printed = "refused 81 File level 0: 60 Truncated\n";
-    expect_ask(&rt, folder, "1,2,3", "refused 1 Shape\n", 1);
-    expect_ask(&rt, folder, CYCLE, printed, 1);
-    expect_line(&rt, folder, "1,2,3", "refused 1 Shape\n", 1);
-    expect_line(&rt, folder, CYCLE, printed, 1);
     fs::remove_dir_all(&rt, folder)?;
     Ok(())
 }

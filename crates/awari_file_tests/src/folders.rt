@@ -51,6 +51,19 @@ fn save_both(
     Ok((below, digest))
 }
 
+/// The refusal to save level 0.
+fn save_refusal(
+    files: &(impl Files + AllocGlobal),
+    folder: &str,
+) -> Result<Option<FolderFault>, Fail> {
+    let folder = Path::new(folder);
+    let shelf = right_shelf(files.alloc())?;
+    if shelf.levels() == 0 {
+        return Err(Fail::new("levels"));
+    }
+    Ok(save(files, files.alloc(), folder, shelf.level(0), [0; 32]).err())
+}
+
 /// The refusal of a folder with these files of levels 0 and 1, an empty slice for none.
 fn refusal(
     files: &(impl Files + AllocGlobal),
@@ -69,12 +82,23 @@ fn a_folder_without_files_has_no_level(rt: HostRuntime) -> Result<(), Fail> {
     let folder = "awari_folder_test_empty";
     let _ = fs::remove_dir_all(&rt, folder);
     assert_eq!(rt; loaded(&rt, folder), Ok((0, [0; 32])));
-    let shelf = right_shelf(rt.alloc())?;
-    assert!(rt; shelf.levels() > 0);
-    let refused = save(&rt, rt.alloc(), Path::new(folder), shelf.level(0), [0; 32]);
-    assert_eq!(rt; refused.err(), Some(FolderFault::Open { level: 0 }));
+    let refused = save_refusal(&rt, folder)?;
+    assert_eq!(rt; refused, Some(FolderFault::Open { level: 0 }));
     empty_folder(&rt, folder)?;
     assert_eq!(rt; loaded(&rt, folder), Ok((0, [0; 32])));
+    fs::remove_dir_all(&rt, folder)?;
+    Ok(())
+}
+
+#[test]
+fn a_file_that_cannot_take_its_name_is_removed(rt: HostRuntime) -> Result<(), Fail> {
+    let folder = "awari_folder_test_taken";
+    empty_folder(&rt, folder)?;
+    // A folder has the name.
+    fs::create_dir(&rt, "awari_folder_test_taken/level_00.awdb")?;
+    let refused = save_refusal(&rt, folder)?;
+    assert_eq!(rt; refused, Some(FolderFault::Open { level: 0 }));
+    assert_eq!(rt; fs::read_dir(&rt, folder)?.count(), 1);
     fs::remove_dir_all(&rt, folder)?;
     Ok(())
 }

@@ -2,8 +2,8 @@ use Rattle.std.proofs.Common.{rules, ◌∙◌, ap, sym, refl, arith, ◌+◌, s
 use Rattle.awari_table.proofs.CertificateLemmas.{greatest_limit-take}
 use Rattle.awari_cli.proofs.lines.line_of.Goals as goal
 
-pub returns : goal.returns
-returns g c = record {
+pub returns-clause-line : goal.returns-clause-line
+returns-clause-line g c = record {
   images = c.in_ok-shelf.field-0.shelf;
   board = c.in_ok-board.board;
   right = search rules;

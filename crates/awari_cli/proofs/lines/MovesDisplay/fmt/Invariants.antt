@@ -1,4 +1,4 @@
-use Rattle.std.proofs.Common.{◌≡◌, ℕ, List, take}
+use Rattle.std.proofs.Common.{take}
 use Rattle.std.specs.Fmt.{HasWritten, IsPlainFormatter}
 use Rattle.awari_cli.specs.Lines.{moves_text}
 use Rattle.awari_cli.proofs.lines.MovesDisplay.fmt.Given as goal
