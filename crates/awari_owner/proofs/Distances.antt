@@ -1,5 +1,5 @@
 -- No distance is greater than the number of boards: a settled board has a settled one behind it at each smaller distance.
-use Rattle.std.proofs.Common.{Option, Some, is_some, length, ◌≡◌, ℕ, zero, suc, ◌+◌, ◌-◌, ◌^◌, ◌<◌, ◌≤◌, ◌⊎◌, inl, inr, Bool, true, false, if◌then◌else◌, cond, max, nat_le, List, [], ◌∷◌, get_or, sum, ℤ, refl, sym, ap, subst, ◌∙◌, arith}
+use Rattle.std.proofs.Common.{Some, is_some, length, ◌≡◌, ℕ, zero, suc, ◌+◌, ◌-◌, ◌^◌, ◌<◌, ◌≤◌, ◌⊎◌, inl, inr, Bool, true, false, if◌then◌else◌, cond, max, nat_le, List, [], ◌∷◌, get_or, sum, ℤ, refl, sym, ap, subst, ◌∙◌, arith}
 use Rattle.std.specs.Prelude.{count_by}
 use Rattle.std.proofs.lemmas.Bool.{false≢true, cases_lt}
 use Rattle.std.proofs.lemmas.Bool.Decides.{nat_tests}
@@ -158,6 +158,9 @@ module _ (value : List ℕ → ℤ) (part : Part) (notes : List Note) (whole : I
   abbrev SettledAt : ℕ → Type 0
   SettledAt d = (rank : ℕ) × (v : ℤ) × InBlock part rank × (settled_at part rank ≡ Some (v, d))
 
+  at_dist : (rank : ℕ) (v : ℤ) (a b : ℕ) → a ≡ b → settled_at part rank ≡ Some (v, a) → settled_at part rank ≡ Some (v, b)
+  at_dist rank v a b same settled = subst (λ d. settled_at part rank ≡ Some (v, d)) same settled
+
   one_nearer : (d : ℕ) → 1 ≤ d → SettledAt (d + 1) → SettledAt d
   one_nearer d some (rank, v, held, settled) =
       let (p, is, stones, ranked) = board_reached part.level rank few (omega (arith, held.0, held.1, whole.start, whole.all)) in
@@ -173,7 +176,7 @@ module _ (value : List ℕ → ℤ) (part : Part) (notes : List Note) (whole : I
             let there = inside q next (omega (arith, kept, stones)) in
             let (u, e, spread, told) = own.true_notes p note.0.pit q is stones (inside p is stones) there quiet note.0 note.1 refl in
             let same : e ≡ d = omega (arith, told.same_dist, note.2) in
-            (rank_of q, u, there, subst (λ n. settled_at part (rank_of q) ≡ Some (u, n)) same spread.0)
+            (rank_of q, u, there, at_dist (rank_of q) u e d same spread.0)
       ]
 
   all_nearer : (n k : ℕ) → 1 ≤ k → SettledAt (n + k) → SettledAt k

@@ -1,6 +1,6 @@
 -- A finished level is consistent over the shelf.
-use Rattle.std.proofs.Common.{◌≡◌, ℕ, zero, suc, ◌+◌, ◌-◌, ◌<◌, ◌≤◌, ◌==◌, ◌⊎◌, inl, inr, Bool, true, false, if◌then◌else◌, List, [], ◌∷◌, ◌++◌, length, get_or, sum, ℤ, pos, negsuc, neg_ℤ, ◌≤ℤ◌, ◌<ℤ◌, refl, sym, ap, ◌∙◌, subst, arith}
-use Rattle.std.specs.Prelude.{◌≢◌, ◌-ℤ◌, Option, Some, None, IfSome}
+use Rattle.std.proofs.Common.{◌≡◌, ℕ, zero, suc, ◌+◌, ◌<◌, ◌≤◌, ◌==◌, ◌⊎◌, inl, inr, Bool, true, false, if◌then◌else◌, List, [], ◌∷◌, ◌++◌, length, get_or, sum, ℤ, pos, negsuc, neg_ℤ, ◌≤ℤ◌, ◌<ℤ◌, refl, sym, ap, ◌∙◌, subst, arith}
+use Rattle.std.specs.Prelude.{◌-ℤ◌, Option, Some, None, IfSome}
 use Rattle.std.proofs.lemmas.Bool.{false≢true}
 use Rattle.std.proofs.lemmas.Int.{ints}
 use Rattle.awari_board.specs.Rules.{IsBoard, IsMove, IsLegal, IsEnd, IsEnded, own_stones}
@@ -13,10 +13,10 @@ use Rattle.awari_table.specs.declared.TheConstants.{HIGHEST_LEVEL}
 use Rattle.awari_table.specs.declared.images.Entry.{Entry}
 use Rattle.awari_table.specs.declared.images.Image.{Image}
 use Rattle.awari_table.specs.Certificate.{Table, IsRight, DistancesFall}
-use Rattle.awari_table.specs.Images.{entry_of, table_of, no_entry}
+use Rattle.awari_table.specs.Images.{table_of, no_entry}
 use Rattle.awari_table.specs.Shelves.{Consistent}
 use Rattle.awari_table.proofs.EntryLemmas.{entry_of-append, entry_of-rank}
-use Rattle.awari_owner.specs.Tally.{Status, Ended, Open, Settled, Cell}
+use Rattle.awari_owner.specs.Tally.{Status, Ended, Open, Settled}
 use Rattle.awari_owner.specs.Cells.{IsWithin}
 use Rattle.awari_owner.specs.Finish.{value_by, dist_by, gains, IsRightAt}
 use Rattle.awari_owner.specs.Part.{Part, InBlock, cell_at, settled_by}

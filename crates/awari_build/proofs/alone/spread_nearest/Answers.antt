@@ -1,6 +1,5 @@
-use Rattle.std.proofs.Common.{◌≡◌, ◌-◌, ◌^◌, ◌<◌, ◌≤◌, ℕ, ℤ, List, Ok, Some, ap, sym, subst, ◌∙◌, arith}
+use Rattle.std.proofs.Common.{◌≡◌, ℕ, ℤ, List, Ok, Some, ap, sym, subst, ◌∙◌, arith}
 use Rattle.awari_owner.specs.Part.{Part, InBlock, settled_at}
-use Rattle.awari_table.specs.declared.TheConstants.{HIGHEST_LEVEL}
 use Rattle.awari_build.specs.Sound.{IsSound}
 use Rattle.awari_build.proofs.Stepping.{sound_opened, sound_spread}
 use Rattle.awari_build.proofs.alone.spread_nearest.Goals as goal
