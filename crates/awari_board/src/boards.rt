@@ -151,6 +151,7 @@ impl Board {
     /// tried in this order, are a pit above 5 as 4 `NoPit`, any pit where the play has ended as
     /// 7 `Ended`, an empty pit as 5 `EmptyPit`, and a pit that leaves a bare opponent bare as
     /// 6 `MustFeed`.
+    #[inline(always)]
     pub fn play(&self, pit: u8) -> Result<Moved, MoveFault>
         ensures ok { IsOk result ↔ IsLegal self.now pit }
         ensures moved { IfOk result (λ m. IsMove self.now pit m.captured m.board) }

@@ -55,13 +55,13 @@ fn gave_up() -> Error
 }
 
 impl<R: Read> Read for Counted<R> {
-    ghost use Rattle.awari_table.specs.Counts.{faults_of, one_more};
+    ghost use Rattle.awari_table.specs.Counts.{inner_of, faults_of, one_more};
 
-    ghost remaining = { λ c. R.remaining c.inner };
+    ghost remaining = { λ c. R.remaining (inner_of c) };
 
     fn read(&mut self, buf: &mut [u8]) -> io::Result<usize>
         ensures bound { ReadsAtMost result buf.new }
-        ensures bytes { ReadConsumes (R.remaining self.old.inner) (R.remaining self.new.inner) result buf.new }
+        ensures bytes { ReadConsumes (R.remaining (inner_of self.old)) (R.remaining (inner_of self.new)) result buf.new }
         ensures ok { OnOk result (faults_of self.new ≡ faults_of self.old) }
         ensures err { OnErr result (faults_of self.new ≡ one_more (faults_of self.old)) }
         ensures never_less { faults_of self.old ≤ faults_of self.new }
@@ -84,13 +84,13 @@ impl<R: Read> Read for Counted<R> {
 }
 
 impl<W: Write> Write for Counted<W> {
-    ghost use Rattle.awari_table.specs.Counts.{faults_of, one_more, Grew};
+    ghost use Rattle.awari_table.specs.Counts.{inner_of, faults_of, one_more};
 
-    ghost contents = { λ c. W.contents c.inner };
+    ghost contents = { λ c. W.contents (inner_of c) };
 
     fn write(&mut self, buf: &[u8]) -> io::Result<usize>
         ensures bound { WritesAtMost result buf.now }
-        ensures bytes { WriteAppends (W.contents self.old.inner) (W.contents self.new.inner) result buf.now }
+        ensures bytes { WriteAppends (W.contents (inner_of self.old)) (W.contents (inner_of self.new)) result buf.now }
         ensures ok { IfOk result (λ n. 0 < n → faults_of self.new ≡ faults_of self.old) }
         ensures empty { OnOk result (length buf.now ≡ 0 → faults_of self.new ≡ faults_of self.old) }
         ensures none { result ≡ Ok 0 → 0 < length buf.now → faults_of self.new ≡ one_more (faults_of self.old) }
@@ -119,7 +119,7 @@ impl<W: Write> Write for Counted<W> {
     }
 
     fn flush(&mut self) -> io::Result<()>
-        ensures bytes { Keeps (W.contents self.old.inner) (W.contents self.new.inner) }
+        ensures bytes { Keeps (W.contents (inner_of self.old)) (W.contents (inner_of self.new)) }
         ensures ok { OnOk result (faults_of self.new ≡ faults_of self.old) }
         ensures err { OnErr result (faults_of self.new ≡ one_more (faults_of self.old)) }
         ensures never_less { faults_of self.old ≤ faults_of self.new }
@@ -141,10 +141,11 @@ impl<W: Write> Write for Counted<W> {
     }
 
     fn write_all(&mut self, buf: &[u8]) -> io::Result<()>
-        ensures bytes { OnOk result (Appends (W.contents self.old.inner) (W.contents self.new.inner) buf.now) }
+        ensures bytes { OnOk result (Appends (W.contents (inner_of self.old)) (W.contents (inner_of self.new)) buf.now) }
         ensures ok { OnOk result (faults_of self.new ≡ faults_of self.old) }
-        ensures err { OnErr result (Grew (faults_of self.old) (faults_of self.new)) }
+        ensures err { OnErr result (faults_of self.new ≡ one_more (faults_of self.old)) }
         ensures never_less { faults_of self.old ≤ faults_of self.new }
+        ensures retried { IfErr result (λ e. error_kind e ≢ ErrorKind.Interrupted) }
     {
         let mut rest = buf;
         while !rest.is_empty() {
