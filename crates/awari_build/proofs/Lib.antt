@@ -1,1 +1,2 @@
 pub mod Stepping
+pub mod Whole

@@ -1,7 +1,8 @@
 //! A level built by one part, in one thread.
 
 ghost use Rattle.std.specs.Prelude.{◌≡◌, ◌≤◌, ◌<◌, ◌+◌, ◌⊎◌, ◌↔◌, ◌++◌, ◌∷◌, [], ℕ, ℤ, List, length, IfOk, IfErr, Err, Some};
-ghost use Rattle.awari_owner.specs.Part.{InBlock, IsLeastDue, settled_at, unspread};
+ghost use Rattle.awari_owner.specs.Level.{IsClosed};
+ghost use Rattle.awari_owner.specs.Part.{IsLeastDue, unspread};
 ghost use Rattle.awari_owner.specs.Scan.{IsWhole};
 ghost use Rattle.awari_build.specs.Sound.{IsSound};
 ghost use Rattle.awari_table.specs.Images.{table_of};
@@ -13,20 +14,18 @@ use crate::faults::BuildFault;
 use awari_owner::{Outboxes, Part, distances_fit};
 use awari_plan::{finish, finished_levels_are_consistent};
 use awari_table::{HIGHEST_LEVEL, Level, Shelf};
-use awari_verify::{VerifyFault, verify};
 use std::alloc::Global;
 use std::slice;
 
 /// The shelf's next level, built by one part. It always returns. Refused are a shelf that has all
-/// levels, as 51 `TooHigh`, and want of memory as 53 `Memory`. What the verifier refuses would be
-/// 54 `Refused`, and never comes. It takes memory for the part, eight bytes a board and eight for
-/// the order in which boards are spread, and for the entries.
+/// levels, as 51 `TooHigh`, and want of memory as 53 `Memory`. It takes memory for the part, eight
+/// bytes a board and eight for the order in which boards are spread, and for the entries.
+///
+/// That the level is right is proved, and nothing verifies it when the program runs.
 pub fn build_alone(alloc: Global, shelf: &Shelf) -> Result<Level, BuildFault>
     ensures consistent { IfOk result (λ level. Consistent shelf.now level) }
     ensures meaning { IfOk result (λ level. TellsTruth (shelf.now ++ level ∷ [])) }
     ensures too_high { (result ≡ Err BuildFault.TooHigh) ↔ (HIGHEST_LEVEL < length shelf.now) }
-
-    // What is built is right, so the verifier never refuses it, and distances are never too great.
     ensures fault { IfErr result (λ fault. (fault ≡ BuildFault.TooHigh) ⊎ (fault ≡ BuildFault.Memory)) }
 {
     if shelf.levels() > HIGHEST_LEVEL {
@@ -41,20 +40,16 @@ fn level_of(alloc: Global, shelf: &Shelf, part: &Part) -> Result<Level, BuildFau
     requires shelf { IsShelf shelf.now }
     requires low { length shelf.now ≤ HIGHEST_LEVEL }
     requires whole { IsWhole part.now × (part.now.level ≡ length shelf.now) }
-    requires closed { (part.now.gain ≡ 1) × (part.now.fresh ≡ []) }
+    requires closed { IsClosed part.now }
     requires sound { IsSound (table_of shelf.now).value part.now }
     ensures consistent { IfOk result (λ level. Consistent shelf.now level) }
     ensures meaning { IfOk result (λ level. TellsTruth (shelf.now ++ level ∷ [])) }
     ensures memory { IfErr result (λ fault. fault ≡ BuildFault.Memory) }
 {
-    let Ok(image) = finish(alloc, shelf, slice::from_ref(part)) else {
-        return Err(BuildFault::Memory);
-    };
     finished_levels_are_consistent();
-    match verify(shelf, image) {
-        Ok(level) => Ok(level),
-        Err(VerifyFault::Refused { rank, rule }) => Err(BuildFault::Refused { rank, rule }),
-        Err(_) => unreachable!(),
+    match finish(alloc, shelf, slice::from_ref(part)) {
+        Ok(image) => Ok(Level::new(image)),
+        Err(_) => Err(BuildFault::Memory),
     }
 }
 
@@ -62,7 +57,7 @@ fn level_of(alloc: Global, shelf: &Shelf, part: &Part) -> Result<Level, BuildFau
 fn settled_part(alloc: Global, shelf: &Shelf) -> Result<Part, BuildFault>
     requires low { length shelf.now ≤ HIGHEST_LEVEL }
     ensures whole { IfOk result (λ part. IsWhole part × (part.level ≡ length shelf.now)) }
-    ensures closed { IfOk result (λ part. (part.gain ≡ 1) × (part.fresh ≡ [])) }
+    ensures closed { IfOk result IsClosed }
     ensures sound { IfOk result (IsSound (table_of shelf.now).value) }
     ensures memory { IfErr result (λ fault. fault ≡ BuildFault.Memory) }
 {
@@ -99,7 +94,6 @@ fn spread_nearest(part: &mut Part, outboxes: &mut Outboxes, dist: u32)
     requires low { part.old.level ≤ HIGHEST_LEVEL }
     requires least { IsLeastDue part.old (Some dist) }
     requires timely { part.old.wave ≤ dist }
-    requires settled { (rank : ℕ) × (v : ℤ) × InBlock part.old rank × (settled_at part.old rank ≡ Some (v, dist)) }
     requires sound { (value : List ℕ → ℤ) × IsSound value part.old }
     ensures whole { IsWhole part.new × (part.new.level ≡ part.old.level) × (part.new.gain ≡ part.old.gain) }
     ensures fewer { unspread part.new + 1 ≡ unspread part.old }

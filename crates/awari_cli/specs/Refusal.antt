@@ -6,7 +6,7 @@ use Rattle.awari_board.specs.declared.moves.MoveFault.TheVariants.{NoPit, Ended,
 use Rattle.awari_board.specs.declared.text.BoardFault.{BoardFault}
 use Rattle.awari_board.specs.declared.text.BoardFault.TheVariants.{Shape, Number, TooMany}
 use Rattle.awari_build.specs.declared.faults.BuildFault.{BuildFault}
-use Rattle.awari_build.specs.declared.faults.BuildFault.TheVariants.{TooHigh, Far}
+use Rattle.awari_build.specs.declared.faults.BuildFault.TheVariants.{TooHigh}
 use Rattle.awari_build.specs.declared.faults.BuildFault.TheVariants as build
 use Rattle.awari_file.specs.declared.faults.FileFault.{FileFault}
 use Rattle.awari_file.specs.declared.faults.FileFault.TheVariants as file
@@ -15,7 +15,6 @@ use Rattle.awari_folder.specs.declared.faults.FolderFault.TheVariants as folder
 use Rattle.awari_plan.specs.declared.lines.LineFault.{LineFault}
 use Rattle.awari_plan.specs.declared.lines.LineFault.TheVariants as line
 use Rattle.awari_verify.specs.Rule.{rule_name}
-use Rattle.awari_verify.specs.declared.rules.Rule.{Rule}
 use Rattle.awari_verify.specs.declared.verdicts.VerifyFault.{VerifyFault}
 use Rattle.awari_verify.specs.declared.verdicts.VerifyFault.TheVariants.{WrongLevel, WrongSize}
 use Rattle.awari_verify.specs.declared.verdicts.VerifyFault.TheVariants as verify
@@ -31,19 +30,14 @@ move_fault_text EmptyPit = codes "5 EmptyPit"
 move_fault_text MustFeed = codes "6 MustFeed"
 move_fault_text Ended = codes "7 Ended"
 
-abbrev pub refused_text : ℕ → Rule → List ℕ
-refused_text rank rule = codes " Refused rank " ++ decimal rank ++ codes " rule " ++ rule_name rule
-
 abbrev pub image_fault_text : VerifyFault → List ℕ
 image_fault_text WrongLevel = codes "20 WrongLevel"
 image_fault_text WrongSize = codes "21 WrongSize"
-image_fault_text (verify.Refused rank rule) = codes "22" ++ refused_text rank rule
+image_fault_text (verify.Refused rank rule) = codes "22 Refused rank " ++ decimal rank ++ codes " rule " ++ rule_name rule
 
 abbrev pub build_fault_text : BuildFault → List ℕ
 build_fault_text TooHigh = codes "51 TooHigh"
 build_fault_text build.Memory = codes "53 Memory"
-build_fault_text (build.Refused rank rule) = codes "54" ++ refused_text rank rule
-build_fault_text Far = codes "58 Far"
 
 abbrev pub line_fault_text : LineFault → List ℕ
 line_fault_text (line.NotYet levels) = codes "56 NotYet levels " ++ decimal levels

@@ -82,10 +82,6 @@ impl fmt::Display for OfBuild {
         match self.0 {
             BuildFault::TooHigh => f.write_str("51 TooHigh"),
             BuildFault::Memory => f.write_str("53 Memory"),
-            BuildFault::Refused { rank, rule } => {
-                write!(f, "54 Refused rank {rank} rule {rule}")
-            }
-            BuildFault::Far => f.write_str("58 Far"),
         }
     }
 }

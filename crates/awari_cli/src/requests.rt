@@ -265,8 +265,7 @@ EmptyPit at 2`. A byte of MOVES that is no digit is no pit. The status is 0, or
 1 for a refusal.";
 
 const BUILD_HELP: &str = "\
-Each level is built over those below it, and judged by the rules before it is
-told of. It prints a line for each level, in order:
+Each level is built over those below it. It prints a line for each level, in order:
 
     level L boards S won A even B lost C limit K
 
@@ -276,7 +275,6 @@ saves nothing. With one it begins above the levels that are there, which are
 verified first, and saves each level as level_LL.awdb before its line.
 
     refused 53 Memory         there is not enough memory
-    refused 58 Far            a distance is greater than can be stored
     refused 80 and higher     the folder, as `awari help verify` says
 
 The status is 0, or 1 for a refusal; the lines before it stand.";

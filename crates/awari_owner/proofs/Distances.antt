@@ -1,46 +1,27 @@
 -- No distance is greater than the number of boards: a settled board has a settled one behind it at each smaller distance.
-use Rattle.std.proofs.Common.{Some, is_some, length, ◌≡◌, ℕ, zero, suc, ◌+◌, ◌-◌, ◌^◌, ◌<◌, ◌≤◌, ◌⊎◌, inl, inr, Bool, true, false, if◌then◌else◌, cond, max, nat_le, List, [], ◌∷◌, get_or, sum, ℤ, refl, sym, ap, subst, ◌∙◌, arith}
+use Rattle.std.proofs.Common.{Option, Some, is_some, length, ◌≡◌, ℕ, zero, suc, ◌+◌, ◌-◌, ◌^◌, ◌<◌, ◌≤◌, ◌⊎◌, inl, inr, Bool, true, false, if◌then◌else◌, cond, max, nat_le, List, [], ◌∷◌, get_or, ℤ, refl, sym, ap, subst, ◌∙◌, arith}
 use Rattle.std.specs.Prelude.{count_by}
 use Rattle.std.proofs.lemmas.Bool.{false≢true, cases_lt}
 use Rattle.std.proofs.lemmas.Bool.Decides.{nat_tests}
 use Rattle.std.proofs.lemmas.List.Sums.{count_by-le-length, sum_by-cons}
-use Rattle.awari_board.specs.Rules.{IsBoard}
-use Rattle.awari_rank.specs.Tuples.{total, ways}
 use Rattle.awari_rank.specs.Rank.{rank_of, size_of}
-use Rattle.awari_rank.proofs.Counting.{ways-suc}
 use Rattle.awari_rank.proofs.Examples.{highest}
 use Rattle.awari_rank.proofs.Ranking.{rank_of-below}
-use Rattle.awari_rank.proofs.Reaching.{board_reached}
-use Rattle.awari_board.proofs.Keeping.{IsBoard-next, sum-from_IsMove}
+use Rattle.awari_rank.proofs.Reaching.{board_reached, size_of-grows}
 use Rattle.awari_owner.specs.Notes.{Has, is_won, far_of}
 use Rattle.awari_owner.specs.Tally.{Settled, IsDistance, IsStatus}
+use Rattle.awari_owner.specs.Tally as tally
 use Rattle.awari_owner.specs.Cells.{is_settled, status_by, status_of}
-use Rattle.awari_owner.specs.Blocks.{no_cell}
+use Rattle.awari_owner.specs.Blocks.{no_cell, cell_in}
 use Rattle.awari_owner.specs.Finish.{dist_by}
-use Rattle.awari_owner.specs.Part.{Part, InBlock, IsTallied, cell_at, notes_for, settled_by, settled_at, stored_at}
-use Rattle.awari_owner.specs.Scan.{IsWhole}
-use Rattle.awari_owner.specs.Spread.{HearsOwn}
+use Rattle.awari_owner.specs.Part.{Part, InBlock, cell_at, notes_for, settled_by, settled_at}
+use Rattle.awari_owner.specs.Level.{AreWhole, AreTold, IsSpreadNote, all_cells, known_at, no_part, part_at}
 use Rattle.awari_owner.specs.declared.cells.Cell.{Cell}
 use Rattle.awari_owner.specs.declared.cells.Mark.{Mark}
 use Rattle.awari_owner.specs.declared.cells.Mark.TheVariants as mark
 use Rattle.awari_owner.specs.declared.notes.Note.{Note}
 use Rattle.awari_owner.proofs.Finishing.{settled_status}
-
--- ---- how many boards a level has
-
-total-grows : (f : ℕ → ℕ) (a b : ℕ) → a ≤ b → total f a ≤ total f b
-unfolding total
-total-grows f a zero h = subst (λ n. total f n ≤ total f 0) (let none : 0 ≡ a = omega (arith, h) in none) (omega arith)
-total-grows f a (suc b) h = elim (cases_lt b a) [
-  | inl same ↦ subst (λ n. total f n ≤ total f (suc b)) (let all : suc b ≡ a = omega (arith, h, same) in all) (omega arith)
-  | inr less ↦ let before = total-grows f a b less in omega (arith, before)
-]
-
-size_of-grows : (n : ℕ) → n ≤ 24 → size_of n ≤ size_of 24
-unfolding size_of
-size_of-grows n h =
-    let more = total-grows (ways 11) (n + 1) (24 + 1) (omega (arith, h)) in
-    omega (arith, more, ways-suc 11 n, ways-suc 11 24)
+use Rattle.awari_owner.proofs.Levels.{block_at, cells_in_all, holds, known_there, next_board_is, of_level}
 
 -- ---- the board behind one
 
@@ -145,38 +126,39 @@ as_many cells (suc n) each =
     now : (d n : ℕ) → d ≡ suc n → nat_le d (suc n) ≡ true
     now d n h = grind (arith, nat_tests)
 
--- ---- a part that has the whole level
+-- ---- the parts that have all boards of a level
 
-module _ (value : List ℕ → ℤ) (part : Part) (notes : List Note) (whole : IsWhole part) (few : part.level ≤ 24) (tallied : IsTallied value part notes) (own : HearsOwn part notes) where
-  inside : (p : List ℕ) → IsBoard p → sum p ≡ part.level → InBlock part (rank_of p)
-  inside p is stones =
-      let low = rank_of-below p is.pits in
-      let size : size_of (sum p) ≡ length part.cells = ap size_of stones ∙ sym whole.all in
-      (omega (arith, whole.start), omega (arith, whole.start, low, size))
+module _ (value : List ℕ → ℤ) (level : ℕ) (parts : List Part) (whole : AreWhole level parts) (few : level ≤ 24) (told : AreTold value parts) where
+  -- what is known of the board of this rank, if it is settled
+  abbrev known : ℕ → Option (ℤ × ℕ)
+  known rank = settled_by (known_at parts rank).status
 
   -- a settled board of this distance
   abbrev SettledAt : ℕ → Type 0
-  SettledAt d = (rank : ℕ) × (v : ℤ) × InBlock part rank × (settled_at part rank ≡ Some (v, d))
-
-  at_dist : (rank : ℕ) (v : ℤ) (a b : ℕ) → a ≡ b → settled_at part rank ≡ Some (v, a) → settled_at part rank ≡ Some (v, b)
-  at_dist rank v a b same settled = subst (λ d. settled_at part rank ≡ Some (v, d)) same settled
+  SettledAt d = (rank : ℕ) × (v : ℤ) × (rank < size_of level) × (known rank ≡ Some (v, d))
 
   one_nearer : (d : ℕ) → 1 ≤ d → SettledAt (d + 1) → SettledAt d
-  one_nearer d some (rank, v, held, settled) =
-      let (p, is, stones, ranked) = board_reached part.level rank few (omega (arith, held.0, held.1, whole.start, whole.all)) in
-      let here : settled_at part (rank_of p) ≡ Some (v, d + 1) = subst (λ r. settled_at part r ≡ Some (v, d + 1)) (sym ranked) settled in
-      let tally = tallied p is stones (inside p is stones) in
-      let status = subst (IsStatus value p (notes_for (rank_of p) notes) part.gain) (settled_status (cell_at part (rank_of p)).status v (d + 1) here) tally.status in
+  one_nearer d some (rank, v, below, settled) =
+      let (p, is, stones, ranked) = board_reached level rank few below in
+      let (i, inside, held) = holds level parts whole p is stones in
+      let (notes, tallied, hears) = told i no_part inside in
+      let part = part_at parts i in
+      let on_level = stones ∙ sym (of_level level parts whole i inside) in
+      let here : settled_at part (rank_of p) ≡ Some (v, d + 1) =
+      ap (λ (c : tally.Cell). settled_by c.status) (sym (known_there level parts whole i inside (rank_of p) held)) ∙ ap known ranked ∙ settled in
+      let said = tallied p is on_level held in
+      let status = subst (IsStatus value p (notes_for (rank_of p) notes) part.gain) (settled_status (cell_at part (rank_of p)).status v (d + 1) here) said.status in
       elim (behind value p (notes_for (rank_of p) notes) part.gain v (d + 1) status) [
         | inl near ↦ absurd (omega (arith, near, some))
         | inr note ↦
-            let (q, quiet) = tally.quiet note.0 note.1 in
-            let kept = sum-from_IsMove p note.0.pit 0 q is.pits quiet in
-            let next = IsBoard-next p note.0.pit 0 q is quiet in
-            let there = inside q next (omega (arith, kept, stones)) in
-            let (u, e, spread, told) = own.true_notes p note.0.pit q is stones (inside p is stones) there quiet note.0 note.1 refl in
-            let same : e ≡ d = omega (arith, told.same_dist, note.2) in
-            (rank_of q, u, there, at_dist (rank_of q) u e d same spread.0)
+            let (q, quiet) = said.quiet note.0 note.1 in
+            let next = next_board_is level parts whole p note.0.pit q is stones quiet in
+            let (j, inside_j, held_j) = holds level parts whole q next.0 next.1 in
+            let (u, e, spread, of) = hears j no_part inside_j p note.0.pit q is on_level held held_j quiet note.0 note.1 refl in
+            let same : e ≡ d = omega (arith, of.same_dist, note.2) in
+            let there : known (rank_of q) ≡ Some (u, e) = ap (λ (c : tally.Cell). settled_by c.status) (known_there level parts whole j inside_j (rank_of q) held_j) ∙ spread.0 in
+            let low = rank_of-below q next.0.pits in
+            (rank_of q, u, subst (λ n. rank_of q < size_of n) next.1 low, subst (λ k. known (rank_of q) ≡ Some (u, k)) same there)
       ]
 
   all_nearer : (n k : ℕ) → 1 ≤ k → SettledAt (n + k) → SettledAt k
@@ -185,13 +167,27 @@ module _ (value : List ℕ → ℤ) (part : Part) (notes : List Note) (whole : I
       let next : suc n + k ≡ (n + k) + 1 = omega arith in
       all_nearer n k some (one_nearer (n + k) (omega (arith, some)) (subst SettledAt next settled))
 
-  pub distances_fit : (rank : ℕ) (v : ℤ) (d : ℕ) → InBlock part rank → settled_at part rank ≡ Some (v, d) → d < 2 ^ 32 - 1
-  distances_fit rank v d held settled =
-      let many = as_many part.cells d (λ k low high. at k low (omega (arith, high)) (d - k) (omega (arith, high))) in
-      let all = count_by-le-length (λ (c : Cell). nat_le c.dist d) part.cells in
-      omega (arith, many, all, whole.all, size_of-grows part.level few, highest)
+  pub known_fits : (rank : ℕ) (v : ℤ) (d : ℕ) → rank < size_of level → known rank ≡ Some (v, d) → d < 2 ^ 32 - 1
+  known_fits rank v d below settled =
+      let cells = cells_in_all level 0 (size_of level) parts whole in
+      let many = as_many (all_cells parts) d (λ k low high. at k low (omega (arith, high)) (d - k) (omega (arith, high))) in
+      let all = count_by-le-length (λ (c : Cell). nat_le c.dist d) (all_cells parts) in
+      omega (arith, many, all, cells, size_of-grows level 24 few, highest)
     where
-      at : (k : ℕ) → 1 ≤ k → k ≤ d → (n : ℕ) → d ≡ n + k → (i : ℕ) × (i < length part.cells) × ((get_or part.cells i no_cell).dist ≡ k)
+      at : (k : ℕ) → 1 ≤ k → k ≤ d → (n : ℕ) → d ≡ n + k → (i : ℕ) × (i < length (all_cells parts)) × ((get_or (all_cells parts) i no_cell).dist ≡ k)
       at k low high n is =
-          let (r, u, there, has) = all_nearer n k low (subst SettledAt is (rank, v, held, settled)) in
-          (r - part.start, there.1, stored_dist (stored_at part r) u k has)
+          let (r, u, there, has) = all_nearer n k low (subst SettledAt is (rank, v, below, settled)) in
+          let cells = cells_in_all level 0 (size_of level) parts whole in
+          (r - 0, omega (arith, cells, there), stored_dist (cell_in 0 (all_cells parts) r) u k has)
+
+  -- no settled distance is the greatest that can be stored
+  pub distances_fit : (i : ℕ) → i < length parts → (rank : ℕ) (v : ℤ) (d : ℕ) → InBlock (part_at parts i) rank → settled_at (part_at parts i) rank ≡ Some (v, d) → d < 2 ^ 32 - 1
+  distances_fit i inside rank v d held settled =
+      let last = (block_at level 0 (size_of level) parts whole i inside).last in
+      known_fits rank v d (omega (arith, held.0, held.1, last)) (ap (λ (c : tally.Cell). settled_by c.status) (known_there level parts whole i inside rank held) ∙ settled)
+
+  -- and none of a note of a spread board
+  pub notes_fit : (i : ℕ) → i < length parts → (part : Part) (m : Note) → IsSpreadNote (part_at parts i) part m → m.dist < 2 ^ 32 - 1
+  notes_fit i inside part m (p, q, v, d, is, stones, held_p, held_q, spread, note) =
+      let fits = distances_fit i inside (rank_of q) v d held_q spread.0 in
+      omega (arith, fits, note.same_dist)

@@ -1,21 +1,17 @@
--- A quiet level at gain 1 keeps the rules of an image at each board.
-use Rattle.std.proofs.Common.{Option, Some, is_some, length, ◌≡◌, ℕ, ◌<◌, ◌≤◌, ◌==◌, ◌⊎◌, inl, inr, Bool, true, false, not, ◌&&◌, ◌||◌, cond, List, [], ◌∷◌, sum, ℤ, pos, neg_ℤ, ◌≤ℤ◌, ◌<ℤ◌, refl, sym, ap, subst, ◌∙◌, arith}
+-- A board at which all notes were heard keeps the rules of an image, at gain 1.
+use Rattle.std.proofs.Common.{Option, Some, is_some, ◌≡◌, ℕ, ◌<◌, ◌≤◌, ◌==◌, ◌⊎◌, inl, inr, Bool, true, false, not, ◌&&◌, ◌||◌, cond, List, [], ◌∷◌, sum, ℤ, pos, neg_ℤ, ◌≤ℤ◌, ◌<ℤ◌, refl, sym, ap, subst, ◌∙◌, arith}
 use Rattle.std.proofs.lemmas.Bool.Decides.{nat_tests}
 use Rattle.std.proofs.lemmas.Bool.{false≢true}
 use Rattle.std.proofs.lemmas.Int.{ints}
-use Rattle.awari_board.specs.Rules.{IsBoard, IsMove, IsEnd, IsEnded, captured, next_board, own_stones}
+use Rattle.awari_board.specs.Rules.{IsMove, IsEnd, IsEnded, captured, next_board, own_stones}
 use Rattle.awari_owner.specs.Notes.{IsQuietMove, Has, is_won, gain_by, is_won_at}
 use Rattle.awari_board.specs.Tests.{is_legal}
-use Rattle.awari_owner.specs.Tally.{Status, Ended, Open, Settled, Cell, is_left, left_of, Captures, Knows, IsOpen, IsSettledAs, IsDistance, IsStatus, IsTally}
-use Rattle.awari_owner.specs.Finish.{value_by, dist_by, IsQuietLevel, gains, IsRightAt}
+use Rattle.awari_owner.specs.Tally.{Status, Ended, Open, Settled, Cell, is_left, left_of, Captures, Knows, IsOpen, IsSettledAs, IsDistance, IsStatus}
+use Rattle.awari_owner.specs.Finish.{value_by, dist_by, IsQuietAt, gains, IsRightAt}
 use Rattle.awari_owner.specs.declared.notes.Note.{Note}
 use Rattle.awari_owner.specs.declared.notes.Kind.{Kind}
 use Rattle.awari_owner.specs.declared.notes.Kind.TheVariants.{Won, Lost}
-use Rattle.awari_rank.specs.Rank.{rank_of, size_of}
-use Rattle.awari_owner.specs.Blocks.{Due, times_due}
-use Rattle.awari_owner.specs.Part.{Part, InBlock, IsTallied, cell_at, notes_for, settled_by}
-use Rattle.awari_owner.specs.Scan.{IsWhole}
-use Rattle.awari_owner.specs.Spread.{HearsOwn, IsSpread}
+use Rattle.awari_owner.specs.Part.{settled_by}
 use Rattle.awari_owner.proofs.Basics.{won_note, far_of-won, count_by-none, count_by-some}
 use Rattle.awari_owner.proofs.Legality.{quiet_counted, counted_quiet}
 
@@ -43,22 +39,21 @@ no_zero_gain : (k : Kind) (g : ℕ) → 1 ≤ g → gain_by k g ≡ pos 0 → �
 no_zero_gain Won g h e = omega (arith, ints)
 no_zero_gain Lost g h e = omega (arith, ints)
 
-module _ (value : List ℕ → ℤ) (n w : ℕ) (cell : List ℕ → Cell) (notes : List ℕ → List Note) (level : IsQuietLevel value n w cell notes)
-    (p : List ℕ) (board : IsBoard p) (stones : sum p ≡ n) where
+module _ (value : List ℕ → ℤ) (cell : List ℕ → Cell) (p : List ℕ) (notes : List Note) (heard : IsQuietAt value cell p notes) where
   -- where no quiet move is left, each has a Won note
-  won_at : left_of p (notes p) ≡ 0 → (x : ℕ) (q : List ℕ) → IsQuietMove p x q
-      → (m : Note) × Has (notes p) m × (is_won m.kind ≡ true) × (v : ℤ) × (d : ℕ) × ((cell q).status ≡ Settled v d) × (m.dist ≡ d)
+  won_at : left_of p notes ≡ 0 → (x : ℕ) (q : List ℕ) → IsQuietMove p x q
+      → (m : Note) × Has notes m × (is_won m.kind ≡ true) × (v : ℤ) × (d : ℕ) × ((cell q).status ≡ Settled v d) × (m.dist ≡ d)
   won_at none x q quiet =
       let counted = quiet_counted p x 0 q quiet refl in
-      let note = won_note (notes p) x (flip (is_legal p x && (captured p x == 0)) (is_won_at (notes p) x) counted (count_by-none (is_left p (notes p)) none x quiet.legal.own)) in
-      let told = level.true_notes p board stones note.0 note.1 in
+      let note = won_note notes x (flip (is_legal p x && (captured p x == 0)) (is_won_at notes x) counted (count_by-none (is_left p notes) none x quiet.legal.own)) in
+      let told = heard.true_notes note.0 note.1 in
       let same : told.0 ≡ q = one_next p note.0.pit x told.0 q told.3 quiet note.2 in
       (note.0, note.1, note.3, told.1, told.2, subst (λ (r : List ℕ). (cell r).status ≡ Settled told.1 told.2) same told.4, told.6)
     where
       flip : (a b : Bool) → a ≡ true → (a && not b) ≡ false → b ≡ true
       flip a b e f = grind arith
 
-  right_settled : (v : ℤ) (d : ℕ) → (cell p).status ≡ Settled v d → (IsEnded p → ⊥) → IsSettledAs value p (notes p) 1 v d → IsRightAt value cell p
+  right_settled : (v : ℤ) (d : ℕ) → (cell p).status ≡ Settled v d → (IsEnded p → ⊥) → IsSettledAs value p notes 1 v d → IsRightAt value cell p
   right_settled v d is going s = record {
     ends = λ g end. absurd (going end.stuck);
     no_more = λ x c q u move gain. subst (λ z. u ≤ℤ value_by z) (sym is) (most x c q u move gain);
@@ -68,17 +63,17 @@ module _ (value : List ℕ → ℤ) (n w : ℕ) (cell : List ℕ → Cell) (note
     losing = λ neg x q quiet. subst (λ z. dist_by (cell q).status < dist_by z) (sym is) (nearer (subst (λ z. value_by z <ℤ pos 0) is neg) s.reached s.distance x q quiet);
   }
     where
-      nonzero : v ≡ pos 0 → (pos 1 ≤ℤ v) ⊎ ((v ≤ℤ neg_ℤ (pos 1)) × (left_of p (notes p) ≡ 0)) → ⊥
+      nonzero : v ≡ pos 0 → (pos 1 ≤ℤ v) ⊎ ((v ≤ℤ neg_ℤ (pos 1)) × (left_of p notes ≡ 0)) → ⊥
       nonzero z (inl high) = omega (arith, ints)
       nonzero z (inr low) = let l = low.0 in omega (arith, ints)
 
-      some : IsDistance value p (notes p) v d → 1 ≤ d
+      some : IsDistance value p notes v d → 1 ≤ d
       some (inl capture) = omega (arith, capture.2)
       some (inr (inl note)) = omega (arith, note.2.3)
       some (inr (inr lost)) = omega (arith, lost.1)
 
       quiet_most : (x : ℕ) (q : List ℕ) (s' : Status) → (cell q).status ≡ s' → IsQuietMove p x q → neg_ℤ (value_by s') ≤ℤ v
-      quiet_most x q (Settled u e) at quiet = let m = level.all_notes p board stones x q u e quiet at in s.most (neg_ℤ u) (inr (m.0, m.1, sym m.3))
+      quiet_most x q (Settled u e) at quiet = let m = heard.all_notes x q u e quiet at in s.most (neg_ℤ u) (inr (m.0, m.1, sym m.3))
       quiet_most x q (Ended g) at quiet = elim s.reached [
         | inl high ↦ omega (arith, ints)
         | inr low ↦ absurd (let won = won_at low.1 x q quiet in unsettled (sym at ∙ won.5))
@@ -104,9 +99,9 @@ module _ (value : List ℕ → ℤ) (n w : ℕ) (cell : List ℕ → Cell) (note
       by_capture : Captures value p v → Plan
       by_capture k = (k.0, k.1, k.2, k.3, inl (k.4, ap value_by is ∙ k.5), λ _. inl k.4)
 
-      by_note : (m : Note) → Has (notes p) m → v ≡ gain_by m.kind m.gain → (pos 0 <ℤ v → m.dist < d) → Plan
+      by_note : (m : Note) → Has notes m → v ≡ gain_by m.kind m.gain → (pos 0 <ℤ v → m.dist < d) → Plan
       by_note m has e near =
-          let told = level.true_notes p board stones m has in (
+          let told = heard.true_notes m has in (
             m.pit,
             0,
             told.0,
@@ -116,19 +111,19 @@ module _ (value : List ℕ → ℤ) (n w : ℕ) (cell : List ℕ → Cell) (note
                 let dq : dist_by (cell told.0).status ≡ told.2 = ap dist_by told.4 in let dp : dist_by (cell p).status ≡ d = ap dist_by is in omega (arith, less, dq, dp, told.6)),
           )
 
-      plan : IsDistance value p (notes p) v d → Plan
+      plan : IsDistance value p notes v d → Plan
       plan (inl capture) = by_capture capture.1
       plan (inr (inl note)) = by_note note.2.0 note.2.1 (sym note.2.2) (λ _. omega (arith, note.2.3))
       plan (inr (inr lost)) = elim s.known [ inl capture ↦ by_capture capture | inr m ↦ by_note m.0 m.1 m.2 (λ positive. let l = lost.0 in absurd (omega (arith, ints))) ]
 
-      nearer : v <ℤ pos 0 → (pos 1 ≤ℤ v) ⊎ ((v ≤ℤ neg_ℤ (pos 1)) × (left_of p (notes p) ≡ 0)) → IsDistance value p (notes p) v d → (x : ℕ) (q : List ℕ) → IsQuietMove p x q → dist_by (cell q).status < d
+      nearer : v <ℤ pos 0 → (pos 1 ≤ℤ v) ⊎ ((v ≤ℤ neg_ℤ (pos 1)) × (left_of p notes ≡ 0)) → IsDistance value p notes v d → (x : ℕ) (q : List ℕ) → IsQuietMove p x q → dist_by (cell q).status < d
       nearer neg (inl high) far x q quiet = absurd (omega (arith, ints))
       nearer neg (inr low) (inl capture) x q quiet = absurd (let k = capture.0 in omega (arith, ints))
       nearer neg (inr low) (inr (inl note)) x q quiet = absurd (let k = note.0 in omega (arith, ints))
       nearer neg (inr low) (inr (inr lost)) x q quiet =
           let won = won_at low.1 x q quiet in
           let dq : dist_by (cell q).status ≡ won.4 = ap dist_by won.5 in
-          let within = far_of-won (notes p) won.0 won.1 won.2 in omega (arith, dq, within, won.6, lost.1)
+          let within = far_of-won notes won.0 won.1 won.2 in omega (arith, dq, within, won.6, lost.1)
 
   right_ended : (gain : ℤ) → IsEnd p gain → ((g : ℤ) → IsEnd p g → value_by (cell p).status ≡ g) → dist_by (cell p).status ≡ 0 → IsRightAt value cell p
   right_ended gain end valued near = record {
@@ -140,7 +135,7 @@ module _ (value : List ℕ → ℤ) (n w : ℕ) (cell : List ℕ → Cell) (note
     losing = λ neg x q quiet. absurd (end.stuck x quiet.legal);
   }
 
-  right_open : (left : ℕ) (best : Option ℤ) (far : ℕ) → (cell p).status ≡ Open left best far → (IsEnded p → ⊥) → IsOpen value p (notes p) 1 → IsRightAt value cell p
+  right_open : (left : ℕ) (best : Option ℤ) (far : ℕ) → (cell p).status ≡ Open left best far → (IsEnded p → ⊥) → IsOpen value p notes 1 → IsRightAt value cell p
   right_open left best far is going h = record {
     ends = λ g end. absurd (going end.stuck);
     no_more = λ x c q u move gain. subst (λ z. u ≤ℤ value_by z) (sym is) (most x c q u move gain);
@@ -150,8 +145,8 @@ module _ (value : List ℕ → ℤ) (n w : ℕ) (cell : List ℕ → Cell) (note
     losing = λ neg x q quiet. absurd (let k = subst (λ z. value_by z <ℤ pos 0) is neg in omega (arith, ints, k));
   }
     where
-      opened : (m : Note) → Has (notes p) m → 1 ≤ m.gain
-      opened = (level.tallied p board stones).opened
+      opened : (m : Note) → Has notes m → 1 ≤ m.gain
+      opened = heard.tallied.1.opened
 
       most : (x c : ℕ) (q : List ℕ) (u : ℤ) → IsMove p x c q → gains value cell c q u → u ≤ℤ pos 0
       most x c q u move (inl capture) = let b = h.below u (inl (x, c, q, move, capture.0, capture.1)) in omega (arith, ints, b)
@@ -161,7 +156,7 @@ module _ (value : List ℕ → ℤ) (n w : ℕ) (cell : List ℕ → Cell) (note
           at (Ended g) e = omega (arith, ints)
           at (Open l b f) e = omega (arith, ints)
           at (Settled v d) e =
-              let m = level.all_notes p board stones x q v d (subst (λ k. IsMove p x k q) quiet.0 move) e in
+              let m = heard.all_notes x q v d (subst (λ k. IsMove p x k q) quiet.0 move) e in
               let b = h.below (neg_ℤ v) (inr (m.0, m.1, sym m.3)) in omega (arith, ints, b)
 
       Plan : Type 0
@@ -173,33 +168,33 @@ module _ (value : List ℕ → ℤ) (n w : ℕ) (cell : List ℕ → Cell) (note
       parts : (a b : Bool) → (a && not b) ≡ true → (a ≡ true) × (b ≡ false)
       parts a b e = grind arith
 
-      plan : (0 < left_of p (notes p)) ⊎ ((v : ℤ) × Knows value p (notes p) v × (neg_ℤ (pos 1) <ℤ v)) → Plan
+      plan : (0 < left_of p notes) ⊎ ((v : ℤ) × Knows value p notes v × (neg_ℤ (pos 1) <ℤ v)) → Plan
       plan (inl some) =
-          let found = count_by-some (is_left p (notes p)) some in
-          let tests = parts (is_legal p found.0 && (captured p found.0 == 0)) (is_won_at (notes p) found.0) found.2 in
+          let found = count_by-some (is_left p notes) some in
+          let tests = parts (is_legal p found.0 && (captured p found.0 == 0)) (is_won_at notes found.0) found.2 in
           let quiet = counted_quiet p found.0 tests.0 in
           (found.0, 0, next_board p found.0, quiet, inr (refl, ap value_by is ∙ at found.0 quiet tests.1 (cell (next_board p found.0)).status refl), λ k. absurd (never k))
         where
-          at : (x : ℕ) → IsQuietMove p x (next_board p x) → is_won_at (notes p) x ≡ false → (s : Status) → (cell (next_board p x)).status ≡ s → pos 0 ≡ neg_ℤ (value_by s)
+          at : (x : ℕ) → IsQuietMove p x (next_board p x) → is_won_at notes x ≡ false → (s : Status) → (cell (next_board p x)).status ≡ s → pos 0 ≡ neg_ℤ (value_by s)
           at x quiet unwon (Ended g) e = refl
           at x quiet unwon (Open l b f) e = refl
           at x quiet unwon (Settled v d) e =
-              let m = level.all_notes p board stones x (next_board p x) v d quiet e in
+              let m = heard.all_notes x (next_board p x) v d quiet e in
               let low : gain_by m.0.kind m.0.gain <ℤ pos 1 = h.below (gain_by m.0.kind m.0.gain) (inr (m.0, m.1, refl)) in
               let won = small_gain m.0.kind m.0.gain (opened m.0 m.1) low in
-              absurd (false≢true (sym unwon ∙ subst (λ y. is_won_at (notes p) y ≡ true) m.2 (heard_won (notes p) m.0 m.1 (ap is_won won))))
+              absurd (false≢true (sym unwon ∙ subst (λ y. is_won_at notes y ≡ true) m.2 (heard_won notes m.0 m.1 (ap is_won won))))
       plan (inr known) = at known.1
         where
           zero_is : known.0 ≡ pos 0
           zero_is = let b = h.below known.0 known.1 in let a = known.2 in omega (arith, ints, b, a)
 
-          at : Knows value p (notes p) known.0 → Plan
+          at : Knows value p notes known.0 → Plan
           at (inl k) = (k.0, k.1, k.2, k.3, inl (k.4, ap value_by is ∙ sym zero_is ∙ k.5), λ j. absurd (never j))
           at (inr m) = absurd (no_zero_gain m.0.kind m.0.gain (opened m.0 m.1) (sym m.2 ∙ zero_is))
 
-  -- a quiet level at gain 1 is right at each board
+  -- where all notes were heard at gain 1 a board is right
   pub quiet_right : IsRightAt value cell p
-  quiet_right = at (cell p).status refl (level.tallied p board stones).status
+  quiet_right = at (cell p).status refl heard.tallied.1.status
     where
       no_stones : (g : ℤ) → IsEnd p g → sum p < 1 → pos 0 ≡ g
       no_stones g end few = let none : sum p ≡ 0 = omega arith in sym (end.gains ∙ by (own_stones p == 0) (sum p) none)
@@ -208,13 +203,11 @@ module _ (value : List ℕ → ℤ) (n w : ℕ) (cell : List ℕ → Cell) (note
           by true k e = ap (λ z. neg_ℤ (pos z)) e
           by false k e = ap pos e
 
-      at : (s : Status) → (cell p).status ≡ s → IsStatus value p (notes p) 1 s → IsRightAt value cell p
+      at : (s : Status) → (cell p).status ≡ s → IsStatus value p notes 1 s → IsRightAt value cell p
       at (Ended gain) is h = right_ended gain h.0 (λ g end. ap value_by is ∙ no_stones g end h.1) (ap dist_by is)
       at (Open left best far) is h = right_open left best far is h.0 h.2
       at (Settled v d) is (inl ended) = right_ended v ended.0 (λ g end. ap value_by is ∙ ended.0.gains ∙ sym end.gains) (ap dist_by is ∙ ended.2)
       at (Settled v d) is (inr going) = right_settled v d is going.0 going.1
-
--- ---- a part that has the whole level
 
 pub settled_status : (s : Status) (v : ℤ) (d : ℕ) → settled_by s ≡ Some (v, d) → s ≡ Settled v d
 settled_status (Ended g) v d e = absurd (false≢true (ap is_some e))
@@ -227,27 +220,3 @@ settled_status (Settled u k) v d e =
   where
     some_one : (a b : ℤ × ℕ) → Some a ≡ Some b → a ≡ b
     some_one a b e = cc
-
-pub part_quiet : (value : List ℕ → ℤ) (part : Part) (notes : List Note) → ((p : List ℕ) → IsBoard p → rank_of p < size_of (sum p))
-    → ((p : List ℕ) (x : ℕ) (q : List ℕ) → IsBoard p → IsMove p x 0 q → IsBoard q × (sum q ≡ sum p)) → IsWhole part → part.gain ≡ 1 → part.fresh ≡ []
-    → IsTallied value part notes → HearsOwn part notes
-    → IsQuietLevel value part.level part.wave (λ q. cell_at part (rank_of q)) (λ q. notes_for (rank_of q) notes)
-part_quiet value part notes below keeps whole one none tallied own = record {
-  tallied = λ p is stones. subst (λ t. IsTally value (cell_at part (rank_of p)) p (notes_for (rank_of p) notes) t part.wave) one (tallied p is stones (inside p is stones));
-  true_notes = λ p is stones m has.
-      let quiet = (tallied p is stones (inside p is stones)).quiet m has in
-      let kept = keeps p m.pit quiet.0 is quiet.1 in
-      let told = own.true_notes p m.pit quiet.0 is stones (inside p is stones) (inside quiet.0 kept.0 (kept.1 ∙ stones)) quiet.1 m has refl in
-      (quiet.0, told.0, told.1, quiet.1, settled_status (cell_at part (rank_of quiet.0)).status told.0 told.1 told.2.0, told.3.gain, told.3.same_dist);
-  all_notes = λ p is stones x q v d quiet settled.
-      let kept = keeps p x q is quiet in
-      let spread : IsSpread part (rank_of q) v d = (ap settled_by settled, ap (λ (fs : List Due). times_due fs (rank_of q)) none) in
-      let told = own.all_notes p x q v d is stones (inside p is stones) (inside q kept.0 (kept.1 ∙ stones)) quiet spread in
-      (told.0, told.1, told.2.pit, told.2.gain, told.2.same_dist);
-}
-  where
-    inside : (p : List ℕ) → IsBoard p → sum p ≡ part.level → InBlock part (rank_of p)
-    inside p is stones =
-        let low = below p is in
-        let size : size_of (sum p) ≡ length part.cells = ap size_of stones ∙ sym whole.all in
-        (omega (arith, whole.start), omega (arith, whole.start, low, size))

@@ -9,11 +9,11 @@ use Rattle.std.specs.List.Sorted.{IsPermutation}
 use Rattle.awari_board.specs.Rules.{IsBoard}
 use Rattle.awari_rank.specs.Rank.{rank_of}
 use Rattle.awari_unmove.specs.Predecessors.{IsPredecessors}
-use Rattle.awari_owner.specs.Notes.{IsQuietMove}
+use Rattle.awari_owner.specs.Notes.{IsQuietMove, IsNoteOf}
 use Rattle.awari_owner.specs.Cells.{IsEither, IsWithin, Fits, FitsBy, is_settled}
 use Rattle.awari_owner.specs.Blocks.{Due, due_rank, due_dist, due_cmp, cell_in, times_due, is_settled_in, IsDueAs, IsBlock, JoinNewlySettled, KeepSettled}
 use Rattle.awari_owner.specs.Part.{Part, InBlock, IsTallied, part_of, stored_at}
-use Rattle.awari_owner.specs.Spread.{Source, Tells, kind_of, with_all_own, LeavesFresh, Spreads}
+use Rattle.awari_owner.specs.Spread.{Source, Tells, kind_of, note_to, with_all_own, LeavesFresh, Spreads, SpreadsOne}
 use Rattle.awari_owner.specs.declared.cells.Cell.{Cell}
 use Rattle.awari_owner.specs.declared.cells.Mark.{Mark}
 use Rattle.awari_owner.specs.declared.cells.Mark.TheVariants.{Ended, Quiet, Capturing, Settled}
@@ -21,7 +21,7 @@ use Rattle.awari_owner.specs.declared.notes.Kind.{Kind}
 use Rattle.awari_owner.specs.declared.places.Place.{Place}
 use Rattle.awari_owner.proofs.BlockLemmas.{first_due}
 use Rattle.awari_owner.proofs.Spreading.{IsInjective, AreSources, sources_of, unheard_sources, joined_but}
-use Rattle.awari_owner.proofs.Hearing.{settled_value, hears_first}
+use Rattle.awari_owner.proofs.Hearing.{settled_value, first_spreads, hears_first, note_fits}
 
 -- no board is fresh before a gain is open that the level has
 pub gain_low : (place : Place) (c : Cell) → Fits place c → is_settled c.mark ≡ true → IsEither place.gain c.score → place.gain ≤ place.level
@@ -67,11 +67,10 @@ module _ (place : Place) (cells cells' : List Cell) (fresh rest after : List Due
     told = λ value notes own tallied.
         subst (λ (k : Kind). IsTallied value new (with_all_own old k notes sources)) same
         (told value notes (unheard_sources old kind notes q sources injective own are level inside often) tallied);
-    hears = λ notes own. hears_first old new notes q sources (stored_at old (rank_of q)).score injective are
-        (λ p x r board quiet. (boards p x r board quiet, omega (arith, stones p x r board quiet))) is level one
-        (subst (λ r. IsEither place.gain (cell_in place.start cells r).score) (sym ranked) due.2.valued)
-        (settled_value (stored_at old (rank_of q)) (subst (λ r. is_settled (cell_in place.start cells r).mark ≡ true) (sym ranked) due.4) ∙ ap (λ d. Some ((stored_at old (rank_of q)).score, d)) near)
-        inside few refl refl len stays leaves own;
+    becomes = becomes;
+    gives = gives;
+    hears = λ notes own. hears_first old new notes q sources (kind_of (stored_at old (rank_of q)).score) (stored_at old (rank_of q)).score place.wave injective are
+        (λ p x r board quiet. (boards p x r board quiet, omega (arith, stones p x r board quiet))) becomes gives own;
   }
     where
       old : Part
@@ -108,3 +107,11 @@ module _ (place : Place) (cells cells' : List Cell) (fresh rest after : List Due
 
       leaves : LeavesFresh old new (rank_of q)
       leaves = subst (LeavesFresh old new) (sym ranked) (joined_but place.start place.start cells cells' fresh rest after f g some at at' moved joined)
+
+      becomes : SpreadsOne old new q (stored_at old (rank_of q)).score place.wave
+      becomes = first_spreads old new q (stored_at old (rank_of q)).score is level
+          (settled_value (stored_at old (rank_of q)) (subst (λ r. is_settled (cell_in place.start cells r).mark ≡ true) (sym ranked) due.4) ∙ ap (λ d. Some ((stored_at old (rank_of q)).score, d)) near)
+          inside few refl refl len stays leaves
+
+      gives : (y : Source) → IsQuietMove y.0 y.1 q → sum y.0 ≡ place.level → IsNoteOf q (stored_at old (rank_of q)).score place.wave y.0 y.1 (note_to old (kind_of (stored_at old (rank_of q)).score) y)
+      gives y quiet st = note_fits old q (stored_at old (rank_of q)).score y one (subst (λ r. IsEither place.gain (cell_in place.start cells r).score) (sym ranked) due.2.valued) st quiet

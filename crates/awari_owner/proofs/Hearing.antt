@@ -14,7 +14,7 @@ use Rattle.awari_owner.specs.declared.cells.Mark.{Mark}
 use Rattle.awari_owner.specs.declared.cells.Mark.TheVariants.{Ended, Quiet, Capturing, Settled}
 use Rattle.std.proofs.lemmas.Bool.{false≢true}
 use Rattle.awari_owner.specs.Blocks.{is_settled_in, times_due, cell_in, KeepSettled}
-use Rattle.awari_owner.specs.Spread.{Source, HearsOwn, IsSpread, LeavesFresh, kind_of, is_held, note_to, with_own, with_all_own}
+use Rattle.awari_owner.specs.Spread.{Source, HearsOwn, IsSpread, LeavesFresh, kind_of, is_held, note_to, with_own, with_all_own, SpreadsOne}
 use Rattle.awari_owner.specs.declared.notes.Kind.{Kind}
 use Rattle.awari_owner.proofs.Spreading.{IsInjective, AreSources, held_is}
 use Rattle.awari_owner.specs.declared.notes.Note.{Note}
@@ -339,28 +339,41 @@ note_fits old q score y one either stones quiet = record {
         ap (λ b. gain_by (cond b Won Lost) old.gain) e
         ∙ elim either [ inl up ↦ absurd (let low = unpositive score e in omega (arith, ints, low, up)) | inr down ↦ omega (arith, ints, down) ]
 
--- the moves heard that stay in the block are those to spread boards, also once the first fresh board is spread
-pub hears_first : (old new : Part) (notes : List Note) (q : List ℕ) (sources : List Source) (score : ℤ) → IsInjective → AreSources q sources
-    → ((p : List ℕ) (x : ℕ) (r : List ℕ) → IsBoard p → IsQuietMove p x r → IsBoard r × (sum r ≡ sum p))
-    → IsBoard q → sum q ≡ old.level → 1 ≤ old.gain → IsEither old.gain score → settled_at old (rank_of q) ≡ Some (score, old.wave) → InBlock old (rank_of q) → times_due old.fresh (rank_of q) ≤ 1
+-- the first fresh board becomes spread, and no other
+pub first_spreads : (old new : Part) (q : List ℕ) (score : ℤ) → IsBoard q → sum q ≡ old.level → settled_at old (rank_of q) ≡ Some (score, old.wave) → InBlock old (rank_of q) → times_due old.fresh (rank_of q) ≤ 1
     → new.level ≡ old.level → new.start ≡ old.start → length new.cells ≡ length old.cells → KeepSettled old.start old.cells new.cells → LeavesFresh old new (rank_of q)
-    → HearsOwn old notes → HearsOwn new (with_all_own old (kind_of score) notes sources)
-hears_first old new notes q sources score injective are keeps is_q stones one either settled held few level start len stays leaves own =
-    hears_spread old new notes q sources (kind_of score) score old.wave injective own are keeps is_q stones level inside
-    (λ r in_r. let i = inside r in_r in held_is old.start r (length old.cells) i.0 i.1)
-    (λ r v d in_r spread. spread_forth old new (rank_of q) start stays leaves r v d (inside r in_r).0 spread.0 (inl spread.1))
-    (spread_forth old new (rank_of q) start stays leaves (rank_of q) score old.wave held.0 settled (inr (refl, few)))
-    (λ r u e in_r spread. elim (spread_back old new (rank_of q) start stays leaves r u e (inside r in_r).0 spread) [
-      | inl before ↦ inl before
-      | inr here ↦ inr (
-          let now : settled_at new (rank_of q) ≡ Some (score, old.wave) = settled_still old new start stays (rank_of q) score old.wave held.0 settled in
-          let both = pairs (u, e) (score, old.wave) (sym here.1 ∙ ap (settled_at new) (sym here.0) ∙ now) in
-          (sym here.0, both.0, both.1))
-    ])
-    (λ y quiet st. note_fits old q score y one either st quiet)
+    → SpreadsOne old new q score old.wave
+first_spreads old new q score is_q stones settled held few level start len stays leaves = record {
+  block = record { level = level; start = start; size = len };
+  board = is_q;
+  stones = stones;
+  held = held;
+  forth = λ r u e in_r spread. spread_forth old new (rank_of q) start stays leaves r u e in_r.0 spread.0 (inl spread.1);
+  now = spread_forth old new (rank_of q) start stays leaves (rank_of q) score old.wave held.0 settled (inr (refl, few));
+  back = λ r u e in_r spread. elim (spread_back old new (rank_of q) start stays leaves r u e in_r.0 spread) [
+    | inl before ↦ inl before
+    | inr here ↦ inr (
+        let now : settled_at new (rank_of q) ≡ Some (score, old.wave) = settled_still old new start stays (rank_of q) score old.wave held.0 settled in
+        let both = pairs (u, e) (score, old.wave) (sym here.1 ∙ ap (settled_at new) (sym here.0) ∙ now) in
+        (sym here.0, both.0, both.1))
+  ];
+}
   where
-    inside : (r : ℕ) → InBlock new r → InBlock old r
-    inside r in_r = let a = in_r.0 in let b = in_r.1 in (omega (arith, a, start), omega (arith, b, start, len))
-
     pairs : (a b : ℤ × ℕ) → Some a ≡ Some b → (a.0 ≡ b.0) × (a.1 ≡ b.1)
     pairs a b same = let both : a ≡ b = cc in (ap (λ (c : ℤ × ℕ). c.0) both, ap (λ (c : ℤ × ℕ). c.1) both)
+
+-- the moves heard that stay in the block are those to spread boards, also once the first fresh board is spread
+pub hears_first : (old new : Part) (notes : List Note) (q : List ℕ) (sources : List Source) (kind : Kind) (v : ℤ) (d : ℕ) → IsInjective → AreSources q sources
+    → ((p : List ℕ) (x : ℕ) (r : List ℕ) → IsBoard p → IsQuietMove p x r → IsBoard r × (sum r ≡ sum p))
+    → SpreadsOne old new q v d → ((y : Source) → IsQuietMove y.0 y.1 q → sum y.0 ≡ old.level → IsNoteOf q v d y.0 y.1 (note_to old kind y))
+    → HearsOwn old notes → HearsOwn new (with_all_own old kind notes sources)
+hears_first old new notes q sources kind v d injective are keeps one gives own =
+    hears_spread old new notes q sources kind v d injective own are keeps one.board one.stones one.block.level inside
+    (λ r in_r. let i = inside r in_r in held_is old.start r (length old.cells) i.0 i.1)
+    (λ r u e in_r spread. one.forth r u e (inside r in_r) spread)
+    one.now
+    (λ r u e in_r spread. one.back r u e (inside r in_r) spread)
+    gives
+  where
+    inside : (r : ℕ) → InBlock new r → InBlock old r
+    inside r in_r = let a = in_r.0 in let b = in_r.1 in (omega (arith, a, one.block.start), omega (arith, b, one.block.start, one.block.size))

@@ -12,4 +12,6 @@ pub mod Scanning
 pub mod Firsts
 pub mod Sending
 pub mod Finishing
+pub mod Levels
 pub mod Distances
+pub mod Between

@@ -1,6 +1,6 @@
 -- What a quiet level says of its boards once all gains are closed.
-use Rattle.std.specs.Prelude.{◌≡◌, ℕ, ◌<◌, ◌≤◌, ◌⊎◌, List, sum, ℤ, pos, neg_ℤ, ◌-ℤ◌, ◌≤ℤ◌, ◌<ℤ◌}
-use Rattle.awari_board.specs.Rules.{IsBoard, IsMove, IsEnd, IsEnded}
+use Rattle.std.specs.Prelude.{◌≡◌, ℕ, ◌<◌, ◌≤◌, ◌⊎◌, List, ℤ, pos, neg_ℤ, ◌-ℤ◌, ◌≤ℤ◌, ◌<ℤ◌}
+use Rattle.awari_board.specs.Rules.{IsMove, IsEnd, IsEnded}
 use Rattle.awari_owner.specs.Notes.{IsQuietMove, Has, gain_by}
 use Rattle.awari_owner.specs.Tally.{Status, Ended, Open, Settled, Cell, IsTally}
 use Rattle.awari_owner.specs.declared.notes.Note.{Note}
@@ -16,13 +16,13 @@ dist_by (Ended gain) = 0
 dist_by (Open left best far) = 0
 dist_by (Settled value dist) = dist
 
--- All notes of the settled boards of the level of n stones were heard, and no others, at gain 1.
-pub record IsQuietLevel (value : List ℕ → ℤ) (n w : ℕ) (cell : List ℕ → Cell) (notes : List ℕ → List Note) : Type 0 where
-  pub tallied : (p : List ℕ) → IsBoard p → sum p ≡ n → IsTally value (cell p) p (notes p) 1 w
-  pub true_notes : (p : List ℕ) → IsBoard p → sum p ≡ n → (m : Note) → Has (notes p) m
+-- All notes of the settled boards that the quiet moves of p lead to were heard at p, and no others, at gain 1.
+pub record IsQuietAt (value : List ℕ → ℤ) (cell : List ℕ → Cell) (p : List ℕ) (notes : List Note) : Type 0 where
+  pub tallied : (w : ℕ) × IsTally value (cell p) p notes 1 w
+  pub true_notes : (m : Note) → Has notes m
       → (q : List ℕ) × (v : ℤ) × (d : ℕ) × IsQuietMove p m.pit q × ((cell q).status ≡ Settled v d) × (gain_by m.kind m.gain ≡ neg_ℤ v) × (m.dist ≡ d)
-  pub all_notes : (p : List ℕ) → IsBoard p → sum p ≡ n → (x : ℕ) (q : List ℕ) (v : ℤ) (d : ℕ) → IsQuietMove p x q → (cell q).status ≡ Settled v d
-      → (m : Note) × Has (notes p) m × (m.pit ≡ x) × (gain_by m.kind m.gain ≡ neg_ℤ v) × (m.dist ≡ d)
+  pub all_notes : (x : ℕ) (q : List ℕ) (v : ℤ) (d : ℕ) → IsQuietMove p x q → (cell q).status ≡ Settled v d
+      → (m : Note) × Has notes m × (m.pit ≡ x) × (gain_by m.kind m.gain ≡ neg_ℤ v) × (m.dist ≡ d)
 
 -- what a move gains, where boards of fewer stones have this value
 abbrev pub gains : (List ℕ → ℤ) → (List ℕ → Cell) → ℕ → List ℕ → ℤ → Type 0

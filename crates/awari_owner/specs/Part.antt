@@ -1,5 +1,5 @@
 -- One owner's part of a level, and what it keeps of the notes that it heard.
-use Rattle.std.specs.Prelude.{◌≡◌, ℕ, ◌+◌, ◌-◌, ◌<◌, ◌≤◌, ◌==◌, List, [], length, filter, sum, ℤ, Option, Some, None, All, Any, slice_set}
+use Rattle.std.specs.Prelude.{◌≡◌, ℕ, ◌+◌, ◌-◌, ◌^◌, ◌<◌, ◌≤◌, ◌==◌, List, [], length, filter, sum, ℤ, Option, Some, None, All, Any, slice_set}
 use Rattle.awari_board.specs.Rules.{IsBoard}
 use Rattle.awari_rank.specs.Rank.{rank_of}
 use Rattle.awari_owner.specs.Notes.{IsQuietMove}
@@ -81,6 +81,10 @@ settled_at part rank = settled_by (cell_at part rank).status
 abbrev pub IsLeastDue : Part → Option ℕ → Type 0
 IsLeastDue part None = part.fresh ≡ []
 IsLeastDue part (Some dist) = Any (λ f. due_dist f ≡ dist) part.fresh × All (λ f. dist ≤ due_dist f) part.fresh
+
+-- some board of the block is settled with the greatest distance that can be stored
+abbrev pub HasFarthest : Part → Type 0
+HasFarthest part = (rank : ℕ) × (v : ℤ) × InBlock part rank × (settled_at part rank ≡ Some (v, 2 ^ 32 - 1))
 
 -- how many boards are not spread: those that are not settled, and the fresh ones
 abbrev pub unspread : Part → ℕ

@@ -1,5 +1,5 @@
--- The notes that a settled board gives to the boards of its own block.
-use Rattle.std.specs.Prelude.{◌≡◌, ℕ, ◌+◌, ◌-◌, ◌<◌, ◌≤◌, ◌&&◌, Bool, false, ◌==◌, nat_le, nat_lt, if◌then◌else◌, List, ◌∷◌, ◌++◌, length, fold, sum, All, ℤ, pos, int_lt, Some}
+-- The notes that a settled board gives to the boards of its own block, and what a part hears of the boards of another.
+use Rattle.std.specs.Prelude.{◌≡◌, ℕ, ◌+◌, ◌-◌, ◌<◌, ◌≤◌, ◌⊎◌, ◌&&◌, Bool, false, ◌==◌, nat_le, nat_lt, if◌then◌else◌, List, ◌∷◌, ◌++◌, length, fold, sum, All, ℤ, pos, int_lt, Some}
 use Rattle.awari_board.specs.Rules.{IsBoard}
 use Rattle.awari_rank.specs.Rank.{rank_of}
 use Rattle.awari_owner.specs.Notes.{IsQuietMove, Has, is_heard_at, IsNoteOf}
@@ -50,12 +50,21 @@ Tells old new kind sources =
 abbrev pub IsSpread : Part → ℕ → ℤ → ℕ → Type 0
 IsSpread part rank v d = (settled_at part rank ≡ Some (v, d)) × (times_due part.fresh rank ≡ 0)
 
--- Of the moves that stay in the block, those to spread boards were heard, as they are, and no others.
-pub record HearsOwn (part : Part) (notes : List Note) : Type 0 where
-  pub true_notes : (p : List ℕ) (x : ℕ) (q : List ℕ) → IsBoard p → sum p ≡ part.level → InBlock part (rank_of p) → InBlock part (rank_of q) → IsQuietMove p x q
-      → (m : Note) → Has (notes_for (rank_of p) notes) m → m.pit ≡ x → (v : ℤ) × (d : ℕ) × IsSpread part (rank_of q) v d × IsNoteOf q v d p x m
-  pub all_notes : (p : List ℕ) (x : ℕ) (q : List ℕ) (v : ℤ) (d : ℕ) → IsBoard p → sum p ≡ part.level → InBlock part (rank_of p) → InBlock part (rank_of q) → IsQuietMove p x q
-      → IsSpread part (rank_of q) v d → (m : Note) × Has (notes_for (rank_of p) notes) m × IsNoteOf q v d p x m
+-- Of the moves from boards of the part to boards of the source, what was heard is of spread boards, as they are.
+abbrev pub HearsTruth : Part → Part → List Note → Type 0
+HearsTruth source part notes =
+    (p : List ℕ) (x : ℕ) (q : List ℕ) → IsBoard p → sum p ≡ part.level → InBlock part (rank_of p) → InBlock source (rank_of q) → IsQuietMove p x q
+    → (m : Note) → Has (notes_for (rank_of p) notes) m → m.pit ≡ x → (v : ℤ) × (d : ℕ) × IsSpread source (rank_of q) v d × IsNoteOf q v d p x m
+
+-- Of the moves from boards of the part to boards of the source, those to spread boards were heard, as they are, and no others.
+pub record Hears (source part : Part) (notes : List Note) : Type 0 where
+  pub true_notes : HearsTruth source part notes
+  pub all_notes : (p : List ℕ) (x : ℕ) (q : List ℕ) (v : ℤ) (d : ℕ) → IsBoard p → sum p ≡ part.level → InBlock part (rank_of p) → InBlock source (rank_of q) → IsQuietMove p x q
+      → IsSpread source (rank_of q) v d → (m : Note) × Has (notes_for (rank_of p) notes) m × IsNoteOf q v d p x m
+
+-- and of the moves that stay in the block
+abbrev pub HearsOwn : Part → List Note → Type 0
+HearsOwn part notes = Hears part part notes
 
 -- the kind of the notes of a settled board
 abbrev pub kind_of : ℤ → Kind
@@ -74,12 +83,31 @@ LeavesFresh old new rank =
     (r : ℕ) → times_due new.fresh r + (if is_settled_in old.start old.cells r then 1 else 0) + (if rank == r then 1 else 0)
     ≡ times_due old.fresh r + (if is_settled_in new.start new.cells r then 1 else 0)
 
+-- the block is the same
+pub record SameBlock (old new : Part) : Type 0 where
+  pub level : new.level ≡ old.level
+  pub start : new.start ≡ old.start
+  pub size : length new.cells ≡ length old.cells
+
+-- q is the one board of the block that becomes spread, with value v and distance d
+pub record SpreadsOne (old new : Part) (q : List ℕ) (v : ℤ) (d : ℕ) : Type 0 where
+  pub block : SameBlock old new
+  pub board : IsBoard q
+  pub stones : sum q ≡ old.level
+  pub held : InBlock old (rank_of q)
+  pub forth : (r : ℕ) (u : ℤ) (e : ℕ) → InBlock old r → IsSpread old r u e → IsSpread new r u e
+  pub now : IsSpread new (rank_of q) v d
+  pub back : (r : ℕ) (u : ℤ) (e : ℕ) → InBlock old r → IsSpread new r u e → IsSpread old r u e ⊎ ((r ≡ rank_of q) × (u ≡ v) × (e ≡ d))
+
 -- The first fresh board q is spread: the notes that it gives to boards of the block are heard, and no others.
 pub record Spreads (old new : Part) (q : List ℕ) (sources : List Source) : Type 0 where
   pub board : IsBoard q
   pub stones : sum q ≡ old.level
   pub first : IsFirst old (rank_of q)
   pub predecessors : IsPredecessors q sources
+  pub becomes : SpreadsOne old new q (stored_at old (rank_of q)).score old.wave
+  pub gives : (y : Source) → IsQuietMove y.0 y.1 q → sum y.0 ≡ old.level
+      → IsNoteOf q (stored_at old (rank_of q)).score old.wave y.0 y.1 (note_to old (kind_of (stored_at old (rank_of q)).score) y)
   pub leaves : LeavesFresh old new (rank_of q)
   pub told : (value : List ℕ → ℤ) (notes : List Note) → HearsOwn old notes → IsTallied value old notes
       → IsTallied value new (with_all_own old (kind_of (stored_at old (rank_of q)).score) notes sources)

@@ -4,8 +4,8 @@
 //! of its block. Gains are opened from the greatest inward to 1, and within a gain distances from 0
 //! on. A board that is settled tells the boards whose quiet moves lead to it that its mover has won
 //! or lost that gain, which may settle those. What a cell has to know of the notes that its board
-//! heard is defined in `specs/Tally.antt`, and `specs/Finish.antt` says what is right once all are
-//! heard.
+//! heard is defined in `specs/Tally.antt`; `specs/Level.antt` says what the parts of a level heard
+//! together, and `specs/Finish.antt` what is right once all is heard.
 #![tactic(auto)]
 
 mod blocks;
@@ -20,7 +20,10 @@ mod scans;
 mod spreads;
 
 pub use faults::OwnerFault;
-pub use laws::{distances_fit, idle_parts_are_right, quiet_levels_are_right};
+pub use laws::{
+    closed_parts_are_right, distances_fit, one_part_hears_all, quiet_boards_are_right,
+    scanned_parts_are_whole, sound_parts_are_told, steps_keep_sound,
+};
 pub use notes::{Kind, Note};
 pub use outboxes::{Batch, Outboxes};
 pub use parts::Part;

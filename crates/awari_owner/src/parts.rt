@@ -5,7 +5,7 @@ ghost use Rattle.awari_rank.specs.Rank.{size_of};
 ghost use Rattle.awari_owner.specs.Tally.{has_pit};
 ghost use Rattle.awari_owner.specs.Cells.{IsWithin, IsBeyond};
 ghost use Rattle.awari_owner.specs.Blocks.{due_dist, KeepSettled};
-ghost use Rattle.awari_owner.specs.Part.{Part as PartView, InBlock, Leaves, IsExpected, IsTallied, stored_at, PutsCell, SameLevel, JoinsFresh, settled_at, IsLeastDue, unspread};
+ghost use Rattle.awari_owner.specs.Part.{Part as PartView, InBlock, Leaves, IsExpected, IsTallied, stored_at, PutsCell, SameLevel, JoinsFresh, settled_at, IsLeastDue, HasFarthest, unspread};
 ghost use Rattle.awari_owner.specs.OwnerFault.{IsFaultOf};
 ghost use Rattle.awari_owner.specs.Scan.{IsScan, IsWhole};
 ghost use Rattle.awari_owner.specs.Spread.{HearsOwn, Source, Spreads};
@@ -233,7 +233,7 @@ impl Part {
         ensures due { result ≡ Ok false → IsLeastDue self.old (Some self.old.wave) → ⊥ }
         ensures same { SameLevel self.old self.new × (length self.new.cells ≡ length self.old.cells) }
         ensures stays { KeepSettled self.old.start self.old.cells self.new.cells }
-        ensures far { IfErr result (λ fault. (fault ≡ OwnerFault.Far) × (self.old.wave ≡ 2 ^ 32 - 1) × IsLeastDue self.old (Some self.old.wave)) }
+        ensures far { IfErr result (λ fault. (fault ≡ OwnerFault.Far) × (self.old.wave ≡ 2 ^ 32 - 1) × IsLeastDue self.old (Some self.old.wave) × HasFarthest self.old) }
         ensures err { OnErr result (self.new ≡ self.old) }
         ensures sends { outboxes.new ≡ outboxes.old }
     {

@@ -1,13 +1,18 @@
 -- The entries of blocks put one after another.
-use Rattle.std.proofs.Common.{◌≡◌, ℕ, ◌+◌, ◌-◌, ◌<◌, ◌≤◌, List, [], ◌∷◌, ◌++◌, length, get_or, Option, Some, None, ℤ, refl, sym, ap, ◌∙◌, subst, arith, inl, inr, length-append, take, drop, suc, add-one}
+use Rattle.std.proofs.Common.{◌≡◌, ℕ, ◌+◌, ◌-◌, ◌<◌, ◌≤◌, List, [], ◌∷◌, ◌++◌, length, get_or, Option, Some, None, ℤ, refl, sym, ap, ◌∙◌, subst, arith, inl, inr, length-append, sum, take, drop, zero, suc, add-one}
 use Rattle.std.proofs.Math.ListN.{get_or-append}
 use Rattle.std.proofs.Math.Seq.{get_or-append_seam, drop-cons}
 use Rattle.std.proofs.lemmas.List.{take_more, take_all, drop_all}
 use Rattle.std.proofs.lemmas.Bool.{cases_lt}
-use Rattle.awari_owner.specs.Part.{Part, InBlock, settled_at}
+use Rattle.awari_owner.specs.Part.{Part, InBlock, settled_at, settled_by}
 use Rattle.awari_table.specs.declared.images.Entry.{Entry}
 use Rattle.awari_table.specs.Images.{no_entry}
-use Rattle.awari_plan.specs.Finished.{AreBlocks, HasSettled, HasAllSettled}
+use Rattle.awari_board.specs.Rules.{IsBoard}
+use Rattle.awari_rank.specs.Rank.{rank_of}
+use Rattle.awari_owner.specs.Level.{AreBlocks, AreWhole, known_at, part_at}
+use Rattle.awari_owner.specs.Tally.{Cell}
+use Rattle.awari_owner.proofs.Levels.{holds, known_there}
+use Rattle.awari_plan.specs.Finished.{HasSettled, HasAllSettled}
 use Rattle.awari_plan.specs.Planning.{PushesBlock, SameSettled}
 
 pub pushes_none : (part : Part) (old : List Entry) → PushesBlock part old old 0
@@ -79,7 +84,7 @@ pub next_block : (level low high : ℕ) (parts : List Part) (i : ℕ) (part : Pa
     → (part.start ≡ low) × AreBlocks level (low + length part.cells) high (drop (i + 1) parts)
 next_block level low high parts i part rest inside is =
     let (here, after) = subst (AreBlocks level low high) (next_is parts i part inside is) rest in
-    (here.3, after)
+    (here.1, after)
 
 -- the blocks put so far, and one more
 pub record ArePut (level high : ℕ) (parts : List Part) (i : ℕ) (entries : List Entry) : Type 0 where
@@ -100,3 +105,18 @@ put_more level high parts i part old now before inside is pushed =
 
 pub put_all : (level high : ℕ) (parts : List Part) (i : ℕ) (entries : List Entry) → ArePut level high parts i entries → length parts ≤ i → (length entries ≡ high) × HasAllSettled parts entries
 put_all level high parts i entries all past = (subst (AreBlocks level (length entries) high) (drop_all i parts past) all.rest, subst (λ ps. HasAllSettled ps entries) (take_all i parts past) all.done)
+
+-- what one of the parts has settled
+pub settled_there : (parts : List Part) (entries : List Entry) → HasAllSettled parts entries → (i : ℕ) → i < length parts → (rank : ℕ) → InBlock (part_at parts i) rank
+    → HasSettled (settled_at (part_at parts i) rank) (get_or entries rank no_entry)
+settled_there [] entries has i inside rank held = absurd (omega (arith, inside))
+settled_there (part ∷ parts) entries has zero inside rank held = has.0 rank held
+settled_there (part ∷ parts) entries has (suc i) inside rank held = settled_there parts entries has.1 i (omega (arith, inside)) rank held
+
+-- what the level has settled
+pub finished_there : (level : ℕ) (parts : List Part) → AreWhole level parts → (entries : List Entry) → HasAllSettled parts entries → (p : List ℕ) → IsBoard p → sum p ≡ level
+    → HasSettled (settled_by (known_at parts (rank_of p)).status) (get_or entries (rank_of p) no_entry)
+finished_there level parts whole entries has p is stones =
+    let (i, inside, held) = holds level parts whole p is stones in
+    subst (λ (c : Cell). HasSettled (settled_by c.status) (get_or entries (rank_of p) no_entry)) (sym (known_there level parts whole i inside (rank_of p) held))
+    (settled_there parts entries has i inside (rank_of p) held)

@@ -8,7 +8,6 @@ use Rattle.awari_board.specs.Tests.{is_ended}
 use Rattle.awari_board.proofs.Legal.{ended_is}
 use Rattle.awari_board.proofs.Keeping.{IsBoard-next, sum-from_IsMove}
 use Rattle.awari_rank.specs.Rank.{rank_of, size_of}
-use Rattle.awari_rank.proofs.Ranking.{rank_of-below}
 use Rattle.awari_table.specs.declared.TheConstants.{HIGHEST_LEVEL}
 use Rattle.awari_table.specs.declared.images.Entry.{Entry}
 use Rattle.awari_table.specs.declared.images.Image.{Image}
@@ -16,11 +15,11 @@ use Rattle.awari_table.specs.Certificate.{Table, IsRight, DistancesFall}
 use Rattle.awari_table.specs.Images.{table_of, no_entry}
 use Rattle.awari_table.specs.Shelves.{Consistent}
 use Rattle.awari_table.proofs.EntryLemmas.{entry_of-append, entry_of-rank}
-use Rattle.awari_owner.specs.Tally.{Status, Ended, Open, Settled}
+use Rattle.awari_owner.specs.Tally.{Status, Ended, Open, Settled, Cell}
 use Rattle.awari_owner.specs.Cells.{IsWithin}
 use Rattle.awari_owner.specs.Finish.{value_by, dist_by, gains, IsRightAt}
-use Rattle.awari_owner.specs.Part.{Part, InBlock, cell_at, settled_by}
-use Rattle.awari_owner.specs.Scan.{IsWhole, IsRanged}
+use Rattle.awari_owner.specs.Part.{Part, settled_by}
+use Rattle.awari_owner.specs.Scan.{IsRanged}
 use Rattle.awari_plan.specs.Finished.{HasSettled, IsFinished}
 use Rattle.awari_plan.specs.Plan.{Serves, IsLowest}
 use Rattle.awari_plan.proofs.Serving.{own_serves}
@@ -47,25 +46,23 @@ lowest_there t p x (Some y) h serves = (y, refl, h.0.2.legal)
 lowest_serves : (t : Table) (p : List ℕ) (x : ℕ) (o : Option ℕ) → IsLowest t p o → o ≡ Some x → Serves t p x
 lowest_serves t p x o h is = (subst (λ o. IsLowest t p o) is h).0
 
-module _ (shelf : List Image) (part : Part) (image : Image) (whole : IsWhole part) (same_level : part.level ≡ length shelf)
+module _ (shelf : List Image) (cell : List ℕ → Cell) (parts : List Part) (image : Image)
     (ranged : IsRanged (table_of shelf).value (length shelf))
-    (right : (p : List ℕ) → IsBoard p → sum p ≡ length shelf → IsRightAt (table_of shelf).value (λ q. cell_at part (rank_of q)) p)
-    (finished : IsFinished shelf (part ∷ []) image) where
+    (right : (p : List ℕ) → IsBoard p → sum p ≡ length shelf → IsRightAt (table_of shelf).value cell p)
+    (has_settled : (p : List ℕ) → IsBoard p → sum p ≡ length shelf → HasSettled (settled_by (cell p).status) (get_or image.entries (rank_of p) no_entry))
+    (finished : IsFinished shelf parts image) where
   abbrev table : Table
   table = table_of (shelf ++ image ∷ [])
 
   abbrev value_at : List ℕ → ℤ
-  value_at p = value_by (cell_at part (rank_of p)).status
+  value_at p = value_by (cell p).status
 
   abbrev dist_at : List ℕ → ℕ
-  dist_at p = dist_by (cell_at part (rank_of p)).status
+  dist_at p = dist_by (cell p).status
 
   has : (p : List ℕ) → IsBoard p → sum p ≡ length shelf → (table.value p ≡ value_at p) × (table.dist p ≡ dist_at p)
   has p is stones =
-      let below : rank_of p < size_of (sum p) = rank_of-below p is.pits in
-      let many : length part.cells ≡ size_of (sum p) = whole.all ∙ ap size_of (same_level ∙ sym stones) in
-      let inside : InBlock part (rank_of p) = (omega (arith, whole.start), omega (arith, whole.start, below, many)) in
-      let there = has_value (cell_at part (rank_of p)).status (get_or image.entries (rank_of p) no_entry) (finished.settled.0 (rank_of p) inside) in
+      let there = has_value (cell p).status (get_or image.entries (rank_of p) no_entry) (has_settled p is stones) in
       let found = entry_of-rank shelf image p (rank_of p) stones refl in
       (ap (λ (e : Entry). e.value) found ∙ there.0, ap (λ (e : Entry). e.dist) found ∙ there.1)
 
@@ -77,7 +74,7 @@ module _ (shelf : List Image) (part : Part) (image : Image) (whole : IsWhole par
 
   -- what a move gains by the table
   gained : (p : List ℕ) (x c : ℕ) (q : List ℕ) → IsBoard p → sum p ≡ length shelf → IsMove p x c q
-      → gains (table_of shelf).value (λ r. cell_at part (rank_of r)) c q (pos c -ℤ table.value q)
+      → gains (table_of shelf).value cell c q (pos c -ℤ table.value q)
   gained p x zero q is stones move =
       let next = next_is p x q is stones move in
       let there = (has q next.0 next.1).0 in
@@ -87,7 +84,7 @@ module _ (shelf : List Image) (part : Part) (image : Image) (whole : IsWhole par
       inl (omega arith, ap (λ v. pos (suc c) -ℤ v) (below q (omega (arith, kept, stones))))
 
   gained_back : (p : List ℕ) (x c : ℕ) (q : List ℕ) → IsBoard p → sum p ≡ length shelf → IsMove p x c q
-      → gains (table_of shelf).value (λ r. cell_at part (rank_of r)) c q (value_at p) → (pos c -ℤ table.value q) ≡ table.value p
+      → gains (table_of shelf).value cell c q (value_at p) → (pos c -ℤ table.value q) ≡ table.value p
   gained_back p x zero q is stones move (inl some) = absurd (omega (arith, some.0))
   gained_back p x zero q is stones move (inr quiet) =
       let next = next_is p x q is stones move in
@@ -153,7 +150,7 @@ module _ (shelf : List Image) (part : Part) (image : Image) (whole : IsWhole par
   within_next : (k : ℕ) → AreWithin k → AreWithin (suc k)
   within_next k before p is stones near = go (is_ended p) refl
     where
-      moved : (c : ℕ) (x : ℕ) (q : List ℕ) → IsMove p x c q → gains (table_of shelf).value (λ r. cell_at part (rank_of r)) c q (value_at p)
+      moved : (c : ℕ) (x : ℕ) (q : List ℕ) → IsMove p x c q → gains (table_of shelf).value cell c q (value_at p)
           → (pos 0 <ℤ value_at p → (0 < c) ⊎ (dist_at q < dist_at p)) → IsWithin (length shelf) (value_at p)
       moved (suc c) x q move (inl some) falls =
           let kept = sum-from_IsMove p x (suc c) q is.pits move in

@@ -1,5 +1,5 @@
 -- The image of a level whose gains are all closed.
-use Rattle.std.specs.Prelude.{◌≡◌, ℕ, ◌+◌, List, [], ◌∷◌, ◌++◌, length, sum, ℤ, pos, Option, Some, None, slice_index_or}
+use Rattle.std.specs.Prelude.{◌≡◌, ℕ, List, [], ◌∷◌, ◌++◌, length, sum, ℤ, pos, Option, Some, None, slice_index_or}
 use Rattle.awari_board.specs.Rules.{IsBoard}
 use Rattle.awari_rank.specs.Rank.{size_of}
 use Rattle.awari_table.specs.declared.images.Entry.{Entry}
@@ -7,13 +7,6 @@ use Rattle.awari_table.specs.declared.images.Image.{Image}
 use Rattle.awari_table.specs.Images.{table_of, greatest_dist, no_entry}
 use Rattle.awari_owner.specs.Part.{Part, InBlock, settled_at}
 use Rattle.awari_plan.specs.Plan.{IsLowest}
-
--- The blocks of these parts are the boards of the level from rank `low` up to, not including, rank `high`, one block after the
--- other. The last gain is open in each, and no board is fresh.
-abbrev pub AreBlocks : ℕ → ℕ → ℕ → List Part → Type 0
-AreBlocks level low high [] = low ≡ high
-AreBlocks level low high (part ∷ parts) =
-    ((part.level ≡ level) × (part.gain ≡ 1) × (part.fresh ≡ []) × (part.start ≡ low)) × AreBlocks level (low + length part.cells) high parts
 
 -- the entry has value and distance of a settled board, and 0 and 0 for any other
 abbrev pub HasSettled : Option (ℤ × ℕ) → Entry → Type 0

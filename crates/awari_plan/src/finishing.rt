@@ -1,9 +1,10 @@
 //! The image of a level, of what its parts have settled.
 
-ghost use Rattle.std.specs.Prelude.{◌≡◌, ◌≤◌, ◌<◌, ◌+◌, IfOk, OnOk, length};
+ghost use Rattle.std.specs.Prelude.{◌≡◌, ◌≤◌, ◌<◌, ◌+◌, All, IfOk, OnOk, length};
 ghost use Rattle.awari_rank.specs.Rank.{size_of};
 ghost use Rattle.awari_table.specs.Images.{greatest_dist};
-ghost use Rattle.awari_plan.specs.Finished.{AreBlocks, HasAllSettled, IsFinished};
+ghost use Rattle.awari_owner.specs.Level.{AreWhole, IsClosed};
+ghost use Rattle.awari_plan.specs.Finished.{HasAllSettled, IsFinished};
 ghost use Rattle.awari_plan.specs.Planning.{PushesBlock};
 ghost use Rattle.awari_table.specs.declared.TheConstants.{HIGHEST_LEVEL};
 
@@ -21,7 +22,8 @@ use std::alloc::{AllocError, Global};
 /// the entries, and is refused only where that is.
 pub fn finish(alloc: Global, shelf: &Shelf, parts: &[Part]) -> Result<Image, AllocError>
     requires low { length shelf.now ≤ HIGHEST_LEVEL }
-    requires blocks { AreBlocks (length shelf.now) 0 (size_of (length shelf.now)) parts.now }
+    requires whole { AreWhole (length shelf.now) parts.now }
+    requires closed { All IsClosed parts.now }
     ensures { IfOk result (IsFinished shelf.now parts.now) }
 {
     let mut entries = settled_entries(alloc, shelf.levels(), parts)?;
@@ -36,7 +38,7 @@ pub fn finish(alloc: Global, shelf: &Shelf, parts: &[Part]) -> Result<Image, All
 /// The entries of the level with no plans.
 fn settled_entries(alloc: Global, level: u8, parts: &[Part]) -> Result<Vec<Entry>, AllocError>
     requires low { level ≤ 24 }
-    requires blocks { AreBlocks level 0 (size_of level) parts.now }
+    requires whole { AreWhole level parts.now }
     ensures sized { IfOk result (λ entries. length entries.items ≡ size_of level) }
     ensures settled { IfOk result (λ entries. HasAllSettled parts.now entries.items) }
 {

@@ -4,7 +4,7 @@ use Rattle.std.proofs.lemmas.Bool.{cases_lt}
 use Rattle.awari_board.specs.Rules.{IsBoard}
 use Rattle.awari_rank.specs.Tuples.{total, ways, fewer}
 use Rattle.awari_rank.specs.Rank.{rank_of, size_of}
-use Rattle.awari_rank.proofs.Counting.{ways-suc, ways-zero, ways-none}
+use Rattle.awari_rank.proofs.Counting.{total-grows, ways-suc, ways-zero, ways-none}
 use Rattle.awari_rank.proofs.Ranking.{larger, rank_of-larger, smaller_of-larger, sum-cons}
 
 -- the term of a sum that a number below the sum falls into
@@ -57,3 +57,10 @@ unfolding size_of
 size_of-positive n =
     let stones : sum (n ∷ replicate 11 0) ≡ n = omega (arith, sum-cons n (replicate 11 0)) in
     omega (arith, smaller_of-larger (n ∷ replicate 11 0), ap (ways 12) stones)
+
+-- a level of more stones has no fewer boards
+pub size_of-grows : (a b : ℕ) → a ≤ b → size_of a ≤ size_of b
+unfolding size_of
+size_of-grows a b h =
+    let more = total-grows (ways 11) (a + 1) (b + 1) (omega (arith, h)) in
+    omega (arith, more, ways-suc 11 a, ways-suc 11 b)

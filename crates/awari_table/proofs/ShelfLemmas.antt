@@ -1,6 +1,6 @@
 -- Shelves with a level more.
-use Rattle.std.proofs.Common.{◌≡◌, ℕ, ◌+◌, ◌<◌, ◌≤◌, List, [], ◌∷◌, ◌++◌, length, take, get_or, map, Option, Some, IsSome, sum, max, slice_get, arith, rules, length-append, below_more}
-use Rattle.std.proofs.lemmas.List.{take-append-le, take_more, map-append, length-take, take-take, get_or-take}
+use Rattle.std.proofs.Common.{◌≡◌, ℕ, ◌+◌, ◌<◌, ◌≤◌, ◌∙◌, List, [], ◌∷◌, ◌++◌, All, length, take, get_or, map, Option, Some, IsSome, subst, sum, max, slice_get, arith, rules, length-append, below_more}
+use Rattle.std.proofs.lemmas.List.{take-append-le, take_more, map-append, length-take, take-take, get_or-take, get_or_default}
 use Rattle.std.proofs.lemmas.List.Elements.{All-push}
 use Rattle.std.proofs.lemmas.List.Sums.{fold_more}
 use Rattle.std.proofs.Math.ListN.{get_or-append}
@@ -8,9 +8,12 @@ use Rattle.std.proofs.Math.Seq.{take-append_seam, get_or-append_seam}
 use Rattle.std.specs.declared.sync.Arc.{Arc}
 use Rattle.awari_table.specs.declared.images.Image.{Image}
 use Rattle.std.proofs.lemmas.Option.{get_or_from_slice_get, slice_get_within}
-use Rattle.awari_rank.specs.Rank.{rank_of}
+use Rattle.awari_rank.specs.Rank.{rank_of, size_of}
+use Rattle.awari_rank.proofs.Reaching.{board_reached}
 use Rattle.awari_table.specs.declared.images.Entry.{Entry}
-use Rattle.awari_table.specs.Images.{no_image, no_entry, entry_of, greatest_limit}
+use Rattle.awari_table.specs.Certificate.{IsRight}
+use Rattle.awari_table.specs.Images.{HasOwnPlan, IsLevel, no_image, no_entry, entry_of, greatest_limit, table_of}
+use Rattle.awari_table.proofs.EntryLemmas.{entry_of-rank}
 use Rattle.awari_table.specs.Shelves.{Consistent, IsShelf}
 use Rattle.awari_table.specs.Slots.{image_in, HoldsShelf}
 
@@ -65,3 +68,27 @@ take-read xs i x found =
 pub greatest_limit-read : (levels : List Image) (i : ℕ) (image : Image) → slice_get levels i ≡ Some image → greatest_limit (take (i + 1) levels) ≡ max (greatest_limit (take i levels)) image.limit
 greatest_limit-read levels i image found =
     rw (fold_more (λ most j. max most j.limit) 0 levels i image (slice_get_within levels i image found), get_or_from_slice_get levels i image image found)
+
+-- a right board has an own plan, which is that of the entry at its rank
+pub HasOwnPlan-top : (levels : List Image) (image : Image) (p : List ℕ) (rank : ℕ) → sum p ≡ length levels → rank_of p ≡ rank → IsRight (table_of (levels ++ image ∷ [])) p → HasOwnPlan (get_or image.entries rank no_entry)
+HasOwnPlan-top levels image p rank top ranked right =
+    subst (λ (e : Entry). HasOwnPlan e) (entry_of-rank levels image p rank top ranked) right.in_range.2
+
+-- in a consistent image every plan is an own pit
+plans_from_right : (levels : List Image) (image : Image) → Consistent levels image → All HasOwnPlan image.entries
+plans_from_right levels image consistent k d lt =
+    let sized = consistent.sized in
+    let low = consistent.low in
+    let within : k < size_of image.level = omega arith in
+    let at = board_reached image.level k (omega arith) within in
+    let ranked = at.3 in
+    rw (get_or_default image.entries k d no_entry lt)
+    (HasOwnPlan-top levels image at.0 k (at.2 ∙ consistent.next) at.3 (consistent.right at.0 at.1 at.2))
+
+-- a consistent image is one of a level
+pub IsLevel-consistent : (levels : List Image) (image : Image) → Consistent levels image → IsLevel image
+IsLevel-consistent levels image consistent = record {
+  low = omega (arith, consistent.low);
+  sized = consistent.sized;
+  plans = plans_from_right levels image consistent;
+}

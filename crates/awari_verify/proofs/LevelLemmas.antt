@@ -15,30 +15,6 @@ use Rattle.awari_table.proofs.EntryLemmas.{entry_of-rank}
 use Rattle.awari_verify.specs.FirstFailure.{RightBetween}
 use Rattle.awari_verify.specs.VerifyFault.{IsShaped}
 
--- a right board has an own plan, which is that of the entry at its rank
-pub HasOwnPlan-top : (levels : List Image) (image : Image) (p : List ℕ) (rank : ℕ) → sum p ≡ length levels → rank_of p ≡ rank → IsRight (table_of (levels ++ image ∷ [])) p → HasOwnPlan (get_or image.entries rank no_entry)
-HasOwnPlan-top levels image p rank top ranked right =
-    subst (λ (e : Entry). HasOwnPlan e) (entry_of-rank levels image p rank top ranked) right.in_range.2
-
--- in a consistent image every plan is an own pit
-plans_from_right : (levels : List Image) (image : Image) → Consistent levels image → All HasOwnPlan image.entries
-plans_from_right levels image consistent k d lt =
-    let sized = consistent.sized in
-    let low = consistent.low in
-    let within : k < size_of image.level = omega arith in
-    let at = board_reached image.level k (omega arith) within in
-    let ranked = at.3 in
-    rw (get_or_default image.entries k d no_entry lt)
-    (HasOwnPlan-top levels image at.0 k (at.2 ∙ consistent.next) at.3 (consistent.right at.0 at.1 at.2))
-
--- a consistent image is one of a level
-pub IsLevel-consistent : (levels : List Image) (image : Image) → Consistent levels image → IsLevel image
-IsLevel-consistent levels image consistent = record {
-  low = omega (arith, consistent.low);
-  sized = consistent.sized;
-  plans = plans_from_right levels image consistent;
-}
-
 -- an image in which every board is right, and the limit, is consistent
 pub Consistent-right : (levels : List Image) (image : Image) → IsShaped levels image
     → RightBetween (table_of (levels ++ image ∷ [])) image.level 0 (size_of image.level) → image.limit ≡ greatest_dist image.entries → Consistent levels image

@@ -1,6 +1,6 @@
 use Rattle.std.proofs.Common.{length, sym, subst, ap}
 use Rattle.awari_rank.specs.Rank.{size_of}
-use Rattle.awari_plan.specs.Finished.{AreBlocks}
+use Rattle.awari_owner.specs.Level.{AreBlocks}
 use Rattle.awari_plan.proofs.Blocks.{next_block, put_more, put_all}
 use Rattle.awari_plan.proofs.finishing.settled_entries.Goals as goal
 
@@ -9,7 +9,7 @@ push_block-requires c = record { next = (next_block _ _ _ _ _ _ c.loop-part.inva
 
 pub loop-part-init : goal.loop-part-init
 loop-part-init c = record {
-  rest = subst (λ n. AreBlocks c.args.level n (size_of c.args.level) c.args.parts.now) (sym (ap (λ xs. length xs) c.in_ok-entries.ensures.items)) c.requires.blocks;
+  rest = subst (λ n. AreBlocks c.args.level n (size_of c.args.level) c.args.parts.now) (sym (ap (λ xs. length xs) c.in_ok-entries.ensures.items)) c.requires.whole;
   below = tt;
   done = tt;
 }

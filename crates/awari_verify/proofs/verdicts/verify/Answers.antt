@@ -1,5 +1,5 @@
 use Rattle.std.proofs.Common.{refl}
-use Rattle.awari_verify.proofs.LevelLemmas.{IsLevel-consistent}
+use Rattle.awari_table.proofs.ShelfLemmas.{IsLevel-consistent}
 use Rattle.awari_verify.proofs.verdicts.verify.Goals as goal
 
 pub new-requires : goal.new-requires

@@ -1,10 +1,11 @@
 use Rattle.std.proofs.Common.{◌≡◌, ◌+◌, ◌<◌, ◌∙◌, ℕ, List, Some, length, subst, sym, refl, rules, arith, heap_items}
 use Rattle.std.specs.BinaryHeap.{heap_capacity}
 use Rattle.std.proofs.lemmas.List.{get_or_default}
-use Rattle.awari_owner.specs.Blocks.{IsBlock, no_cell, cell_in, due_rank}
-use Rattle.awari_owner.specs.Part.{Part, part_of, IsLeastDue}
+use Rattle.awari_owner.specs.Blocks.{IsBlock, no_cell, cell_in, due_dist, due_rank}
+use Rattle.awari_owner.specs.Part.{Part, part_of, IsLeastDue, HasFarthest}
 use Rattle.awari_owner.specs.Spread.{Source, Spreads}
 use Rattle.awari_owner.proofs.BlockLemmas.{first_due, popped}
+use Rattle.awari_owner.proofs.Distances.{settled_cell}
 use Rattle.awari_owner.proofs.Gains.{nearest}
 use Rattle.awari_owner.proofs.Firsts.{gain_low, spread_by}
 use Rattle.awari_owner.specs.declared.faults.OwnerFault.TheVariants.{Far}
@@ -31,8 +32,12 @@ returns-then-dist-clause-far c =
       (0, c.in-Some.first.now, some, sym c.in-Some.ensures.lookup, refl),
       nearest c.in-Some.first.now (heap_items c.self.inside.fresh) (c.in-Some.ensures.greatest c.self.invariant.block.ordered),
     ) in
-    subst (λ (o : Part). (Far ≡ Far) × (o.wave ≡ 4294967295) × IsLeastDue o (Some o.wave)) c.self.view_is
-    (refl, sym c.if-dist-self.false ∙ c.if-dist.true, subst (λ d. IsLeastDue old (Some d)) c.if-dist-self.false least)
+    let due = first_due c.self.inside.place c.self.inside.cells.items (heap_items c.self.inside.fresh) (heap_capacity c.self.inside.fresh) c.self.invariant.block some c.in-Some.first.now c.in-Some.ensures.lookup in
+    let cell = cell_in c.self.inside.place.start c.self.inside.cells.items (due_rank c.in-Some.first.now) in
+    let dist : due_dist c.in-Some.first.now ≡ 4294967295 = c.if-dist.true in
+    let farthest : HasFarthest old = (due_rank c.in-Some.first.now, cell.score, (due.0, due.1), settled_cell cell 4294967295 due.4 (due.2.near ∙ dist)) in
+    subst (λ (o : Part). (Far ≡ Far) × (o.wave ≡ 4294967295) × IsLeastDue o (Some o.wave) × HasFarthest o) c.self.view_is
+    (refl, sym c.if-dist-self.false ∙ c.if-dist.true, subst (λ d. IsLeastDue old (Some d)) c.if-dist-self.false least, farthest)
 
 pub returns-clause-spread : goal.returns-clause-spread
 returns-clause-spread c = λ _.
