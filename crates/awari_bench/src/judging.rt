@@ -8,7 +8,7 @@ use std::alloc::{AllocError, Global};
 use std::io;
 use std::sync::Arc;
 
-/// Builds all levels, and has each judged so many times beside the builder's own judgement. Counts
+/// Builds all levels, and has each judged so many times by the verifier. Counts
 /// the judgements, and the boards of those that are a yes.
 pub fn judgements(alloc: Global, rounds: u32) -> io::Result<Counted> {
     let mut counted = Counted::NONE;
