@@ -289,7 +289,11 @@ fn kinds_of(calls: u32, bad: Bad) -> [Option<ErrorKind>; 4] {
 #[test]
 fn faults_keep_their_kind(rt: HostRuntime) {
     for (kind, calls, expected) in KINDS {
-        assert_eq!(rt; kinds_of(calls, Bad::Fault(kind)), [expected; 4], "{calls} times");
+        assert_eq!(rt;
+            kinds_of(calls, Bad::Fault(kind)),
+            [expected; 4],
+            "{calls} times"
+        );
     }
     let none_taken = [None, None, None, Some(ErrorKind::WriteZero)];
     assert_eq!(rt; kinds_of(1, Bad::Nothing), none_taken);
