@@ -77,10 +77,12 @@ fn settled_part(alloc: Global, shelf: &Shelf) -> Result<Part, BuildFault>
 /// Spreads all boards that are settled at the open gain, the nearest ones first.
 fn spread_all(part: &mut Part, outboxes: &mut Outboxes)
     requires whole { IsWhole part.old }
+    requires alone { (outboxes.old.owner ≡ 0) × (length outboxes.old.queues ≡ 1) }
     requires low { part.old.level ≤ HIGHEST_LEVEL }
     requires sound { (value : List ℕ → ℤ) × IsSound value part.old }
     ensures whole { IsWhole part.new × (part.new.level ≡ part.old.level) × (part.new.gain ≡ part.old.gain) }
     ensures idle { part.new.fresh ≡ [] }
+    ensures alone { (outboxes.new.owner ≡ 0) × (length outboxes.new.queues ≡ 1) }
     ensures sound { (value : List ℕ → ℤ) → IsSound value part.old → IsSound value part.new }
 {
     while let Some(dist) = part.due() {
@@ -91,12 +93,14 @@ fn spread_all(part: &mut Part, outboxes: &mut Outboxes)
 /// Spreads the first fresh board, which is of this distance.
 fn spread_nearest(part: &mut Part, outboxes: &mut Outboxes, dist: u32)
     requires whole { IsWhole part.old }
+    requires alone { (outboxes.old.owner ≡ 0) × (length outboxes.old.queues ≡ 1) }
     requires low { part.old.level ≤ HIGHEST_LEVEL }
     requires least { IsLeastDue part.old (Some dist) }
     requires timely { part.old.wave ≤ dist }
     requires sound { (value : List ℕ → ℤ) × IsSound value part.old }
     ensures whole { IsWhole part.new × (part.new.level ≡ part.old.level) × (part.new.gain ≡ part.old.gain) }
     ensures fewer { unspread part.new + 1 ≡ unspread part.old }
+    ensures alone { (outboxes.new.owner ≡ 0) × (length outboxes.new.queues ≡ 1) }
     ensures sound { (value : List ℕ → ℤ) → IsSound value part.old → IsSound value part.new }
 {
     // That a distance can be one more is what this call tells the proof.

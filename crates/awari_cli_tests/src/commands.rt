@@ -183,7 +183,7 @@ fn words_that_are_not_understood(rt: HostRuntime) {
 
 /// A stream of which each read and each write is a fault.
 #[derive(Clone, Copy)]
-struct Broken;
+pub struct Broken;
 
 impl Read for Broken {
     fn read(&mut self, _buf: &mut [u8]) -> io::Result<usize> {

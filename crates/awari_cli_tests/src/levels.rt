@@ -4,7 +4,7 @@ use crate::commands::{expect_run, level_2_line};
 use awari_board::Board;
 use awari_build::build_alone;
 use awari_rank::successor;
-use awari_table::{Entry, HIGHEST_LEVEL, Shelf};
+use awari_table::{Entry, HIGHEST_LEVEL, Level, Shelf};
 use sha2::{Digest, Sha256};
 use std::alloc::{AllocError, Global};
 use std::process::Abort;
@@ -318,10 +318,10 @@ fn another_level_is_not_level_0(rt: HostRuntime) -> Result<(), Fail> {
     Ok(())
 }
 
-/// Levels 0 to 2, built.
-fn built(alloc: Global) -> Result<Shelf, Fail> {
+/// So many levels, built.
+fn built(alloc: Global, levels: u8) -> Result<Shelf, Fail> {
     let mut shelf = Shelf::empty();
-    for _level in 0..3 {
+    for _level in 0..levels {
         let level = build_alone(alloc, &shelf)?;
         if shelf.levels() > HIGHEST_LEVEL {
             return Err(Fail::new("levels"));
@@ -342,7 +342,7 @@ fn entry_line(alloc: Global, entry: Entry) -> Result<String, AllocError> {
 
 #[test]
 fn level_2_is_the_one_worked_by_hand(rt: HostRuntime) -> Result<(), Fail> {
-    let shelf = built(rt.alloc())?;
+    let shelf = built(rt.alloc(), 3)?;
     let mut board = Board::new([0, 0, 0, 0, 0, 0, 0, 0, 0, 0, 0, 2]);
     for _rank in 0..78 {
         let line = entry_line(rt.alloc(), shelf.entry(&board)?)?;
@@ -354,5 +354,55 @@ fn level_2_is_the_one_worked_by_hand(rt: HostRuntime) -> Result<(), Fail> {
     }
     assert_eq!(rt; board.stones(), 2);
     assert_eq!(rt; successor(&board), None);
+    Ok(())
+}
+
+/// Puts the block of a level behind the text, with this line for its first board.
+fn push_block(
+    alloc: Global,
+    text: &mut String,
+    level: &Level,
+    first: &str,
+) -> Result<(), AllocError> {
+    let (number, limit) = (level.number(), level.limit());
+    text.push_str(format!(in alloc; "level {number} limit {limit}\n{first}\n")?.as_str())?;
+    for entry in level.entries().iter().skip(1) {
+        text.push_str(entry_line(alloc, *entry)?.as_str())?;
+        text.push_str("\n")?;
+    }
+    Ok(())
+}
+
+/// The text of levels 0 to 3, with this line for the first board of level 3, on which the opponent
+/// has all stones in pit 11.
+fn levels_0_to_3(alloc: Global, first: &str) -> Result<String, Fail> {
+    let shelf = built(alloc, 4)?;
+    let mut text = String::new(alloc);
+    for (number, line) in [(0, "0 - 0"), (1, "-1 - 0"), (2, "-2 - 0"), (3, first)] {
+        if number < shelf.levels() {
+            push_block(alloc, &mut text, shelf.level(number), line)?;
+        }
+    }
+    Ok(text)
+}
+
+#[test]
+fn levels_above_2_are_checked(rt: HostRuntime) -> Result<(), Fail> {
+    for (first, printed, status) in [
+        ("-3 - 0", "yes levels 4 limit 28\n", 0),
+        ("-2 - 0", "no level 3 rank 0 rule V2\n", 1),
+        ("4 - 0", "no level 3 rank 0 rule V1\n", 1),
+    ] {
+        let text = levels_0_to_3(rt.alloc(), first)?;
+        let words = ["awari", "check"];
+        expect_run(
+            &rt,
+            rt.alloc(),
+            words.as_slice(),
+            text.as_bytes(),
+            printed,
+            status,
+        );
+    }
     Ok(())
 }

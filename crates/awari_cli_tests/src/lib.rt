@@ -4,6 +4,10 @@
 #[cfg(test)]
 mod commands;
 #[cfg(test)]
+mod documents;
+#[cfg(test)]
 mod levels;
 #[cfg(test)]
 mod plays;
+#[cfg(test)]
+mod words;

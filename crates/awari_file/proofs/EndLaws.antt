@@ -6,11 +6,11 @@ use Rattle.std.proofs.lemmas.Bool.{eqb-true, eqb-false, ne_eqb}
 use Rattle.sha2.specs.Sha256.{sha256}
 use Rattle.awari_file.specs.declared.faults.FileFault.{FileFault}
 use Rattle.awari_file.specs.declared.faults.FileFault.TheVariants as faults
-use Rattle.awari_file.specs.Reading.{◌>>=◌, field, digest_if, end_at, Fails}
+use Rattle.awari_file.specs.Reading.{◌>>=◌, field, digest_if, end_at, Fails, IsOwn}
 use Rattle.awari_file.specs.Source as source
-use Rattle.awari_file.specs.Source.{StopsIn, IsSoundEnd}
+use Rattle.awari_file.specs.Source.{StopsIn, HasFault, IsSoundEnd}
 use Rattle.awari_file.proofs.FieldLaws.{IsField, followed_by, field-is}
-use Rattle.awari_file.proofs.FileLaws.{IsWhy, test_own, piece_fails, fails_along, read_stops}
+use Rattle.awari_file.proofs.FileLaws.{IsWhy, test_own, piece_fails, piece_own, fails_along, read_stops}
 use Rattle.awari_file.proofs.Steps.{consumes_some, why_is}
 
 pub digest-is : (computed : List ℕ) → IsField (List ℕ) 32 (field 32 (digest_if computed))
@@ -105,3 +105,27 @@ end_stops_behind s front left body computed digest over a b same known took h no
     let whole : end_at body faults.Truncated front ≡ Ok digest =
     digest_whole s front [] front body computed digest over same (sym (append-nil front)) h ∙ ap (λ (l : List ℕ). ended (Ok (digest, l ++ []))) (nothing_over over none) in
     record { came = front; rest = rest; known_is = b-is; parts = parts; kind = inr (rw whole refl) }
+
+over_trails : (digest over : List ℕ) → eqb (length (over ++ [])) 0 ≡ false → ended (Ok (digest, over ++ [])) ≡ Err faults.Trailing
+over_trails digest over some = rw some refl
+
+-- a fault of the digest, and something behind it
+pub end_whole : (s e : FileFault) (front left body computed : List ℕ) (a b : Option (List ℕ)) (old new : ℕ) → computed ≡ sha256 body → a ≡ Some left → Consumes a b front
+    → (length front < 33 → source.IsWhy s b old new) → IsOwn e → field 32 (digest_if computed) s front ≡ Err e → StopsIn (HasFault e (end_at body)) left b
+end_whole s e front left body computed a b old new same known took why own h =
+    let (rest, b-is, parts) = consumes_some a b left front known took in
+    let failed = piece_own (List ℕ) 32 (field 32 (digest_if computed)) (digest-is computed) s e front rest (λ lt. why_is s b rest old new b-is (why (omega arith))) own h in
+    record {
+      came = front;
+      rest = rest;
+      known_is = b-is;
+      parts = parts;
+      kind = end_is body front ∙ ap ended (ap (λ (c : List ℕ). field 32 (digest_if c) faults.Truncated front) (sym same) ∙ failed);
+    }
+
+pub end_whole_behind : (s e : FileFault) (front left body computed digest over : List ℕ) (a b : Option (List ℕ)) → computed ≡ sha256 body → a ≡ Some left → Consumes a b front
+    → field 32 (digest_if computed) s front ≡ Ok (digest, over) → eqb (length over) 0 ≡ false → faults.Trailing ≡ e → StopsIn (HasFault e (end_at body)) left b
+end_whole_behind s e front left body computed digest over a b same known took h some is =
+    let (rest, b-is, parts) = consumes_some a b left front known took in
+    let whole = digest_whole s front [] front body computed digest over same (sym (append-nil front)) h in
+    record { came = front; rest = rest; known_is = b-is; parts = parts; kind = whole ∙ over_trails digest over (more_left over [] some) ∙ ap (λ (d : FileFault). Err d) is }

@@ -69,10 +69,10 @@ done x = Ok x
 pub ok_is : {A : Type 0} (x y : A) → done x ≡ done y → x ≡ y
 ok_is x y e = cc
 
-abbrev fails : {A : Type 0} → FileFault → Result A FileFault
+abbrev pub fails : {A : Type 0} → FileFault → Result A FileFault
 fails e = Err e
 
-err_is : {A : Type 0} (d e : FileFault) → fails {A = A} d ≡ fails e → d ≡ e
+pub err_is : {A : Type 0} (d e : FileFault) → fails {A = A} d ≡ fails e → d ≡ e
 err_is d e h = cc
 
 pub field-is : (Y : Type 0) (n : ℕ) (made : List ℕ → Result Y FileFault) → MakesOwn made → IsField Y n (field n made)

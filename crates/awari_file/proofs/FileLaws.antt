@@ -160,6 +160,30 @@ pub read_stops : (Y : Type 0) (n : ℕ) (f : Reader Y) → IsField Y n f → (s 
 read_stops Y n f is s bytes h =
     elim (is.early s faults.Truncated faults.Read bytes [] h) [ inl same ↦ same.1 | inr own ↦ absurd own.0 ]
 
+why_not_own : (s : FileFault) (left : List ℕ) → IsWhy s left → IsOwn s → ⊥
+why_not_own faults.Truncated left why own = own
+why_not_own faults.Read left why own = own
+why_not_own faults.Memory left why own = own
+why_not_own faults.Magic left why own = why
+why_not_own faults.Version left why own = why
+why_not_own faults.LevelOutOfRange left why own = why
+why_not_own faults.Count left why own = why
+why_not_own faults.EntryForm left why own = why
+why_not_own faults.Digest left why own = why
+why_not_own faults.Trailing left why own = why
+why_not_own faults.Write left why own = why
+
+-- a fault of a field's own is that of what came
+pub piece_own : (Y : Type 0) (n : ℕ) (f : Reader Y) → IsField Y n f → (s e : FileFault) (front left : List ℕ) → (length front < n → IsWhy s left) → IsOwn e → f s front ≡ Err e → f faults.Truncated front ≡ Err e
+piece_own Y n f is s e front left why own h =
+    elim (cases_lt (length front) n) [
+      | inl lt ↦ elim (is.early s faults.Truncated e front [] h) [
+        | inl same ↦ absurd (why_not_own s left (why lt) (subst IsOwn same.0 own))
+        | inr stays ↦ ap (f faults.Truncated) (sym (append-nil front)) ∙ stays.1
+      ]
+      | inr le ↦ ap (f faults.Truncated) (sym (append-nil front)) ∙ is.whole s faults.Truncated front [] le ∙ ap (followed_by []) h
+    ]
+
 -- what has the fault of a part has it too
 pub fails_along : {A B : Type 0} (e : FileFault) (a : Result A FileFault) (b : Result B FileFault) → (a ≡ Err e → b ≡ Err e) → Fails e a → Fails e b
 fails_along faults.Read a b along h = tt

@@ -5,12 +5,12 @@ use Rattle.sha2.specs.Hashers.{Holds256}
 use Rattle.sha2.specs.declared.Sha256.{Sha256}
 use Rattle.awari_file.specs.declared.faults.FileFault.{FileFault}
 use Rattle.awari_file.specs.declared.faults.FileFault.TheVariants as faults
-use Rattle.awari_file.specs.Reading.{Fails}
+use Rattle.awari_file.specs.Reading.{Fails, IsOwn}
 use Rattle.awari_file.specs.Source as source
-use Rattle.awari_file.specs.Source.{IsAt, StopsIn, Unfinished}
+use Rattle.awari_file.specs.Source.{IsAt, StopsIn, Unfinished, HasFault}
 use Rattle.awari_file.specs.FileText.{IsBytes}
 use Rattle.awari_file.proofs.FieldLaws.{Reader, IsField}
-use Rattle.awari_file.proofs.FileLaws.{IsWhy, piece_fails, piece_gives, read_stops, early_from_short}
+use Rattle.awari_file.proofs.FileLaws.{IsWhy, piece_fails, piece_gives, piece_own, read_stops, early_from_short}
 
 abbrev some : List ℕ → Option (List ℕ)
 some xs = Some xs
@@ -78,6 +78,13 @@ pub step_stops : (Y : Type 0) (n : ℕ) (f : Reader Y) → IsField Y n f → (s 
 step_stops Y n f is s front whole left a b hasher here took h =
     let (rest, b-is, parts) = consumes_some a b left front here.known_is took in
     record { came = front; rest = rest; known_is = b-is; parts = parts; kind = read_stops Y n f is s front h }
+
+-- a fault of a field's own in the piece that came
+pub step_whole : (Y : Type 0) (n : ℕ) (f : Reader Y) → IsField Y n f → (s e : FileFault) (front whole left : List ℕ) (a b : Option (List ℕ)) (hasher : Sha256) (old new : ℕ)
+    → IsAt whole left a hasher → Consumes a b front → (length front < n → source.IsWhy s b old new) → IsOwn e → f s front ≡ Err e → StopsIn (HasFault e f) left b
+step_whole Y n f is s e front whole left a b hasher old new here took why own h =
+    let (rest, b-is, parts) = consumes_some a b left front here.known_is took in
+    record { came = front; rest = rest; known_is = b-is; parts = parts; kind = piece_own Y n f is s e front rest (λ lt. why_is s b rest old new b-is (why lt)) own h }
 
 not_the_readers : (s : FileFault) → s ≡ faults.Truncated → s ≡ faults.Read → ⊥
 not_the_readers s early read = absurd cc

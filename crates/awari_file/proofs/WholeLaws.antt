@@ -12,7 +12,7 @@ use Rattle.awari_file.specs.declared.faults.FileFault.{FileFault}
 use Rattle.awari_file.specs.declared.faults.FileFault.TheVariants.{Truncated}
 use Rattle.awari_file.specs.Reading.{◌>>=◌, header_at, entries_at, end_at, file_in, Fails}
 use Rattle.awari_file.specs.FileText.{IsBytes}
-use Rattle.awari_file.specs.Source.{IsAt, Answers, StopsIn, Unfinished, IsSoundEnd, IsSoundSoFar}
+use Rattle.awari_file.specs.Source.{IsAt, Answers, StopsIn, Unfinished, HasFault, IsRefused, IsSoundEnd, IsSoundSoFar}
 use Rattle.awari_file.proofs.Steps.{IsBytes-append}
 use Rattle.awari_file.proofs.FieldLaws.{took}
 use Rattle.awari_file.proofs.FileLaws.{fails_along, header-is, entries-is}
@@ -143,3 +143,42 @@ stops_in_end xs h rest n es left done known size header entries parts stop =
 
 pub known_stops : (a b : Option (List ℕ)) → ((xs : List ℕ) → a ≡ Some xs → StopsIn IsSoundSoFar xs b) → IfSome a (λ xs. StopsIn IsSoundSoFar xs b)
 known_stops a b f = known_intro a (λ xs. StopsIn IsSoundSoFar xs b) f
+
+-- ---- the fault of what came
+
+pub fault_in_header : (e : FileFault) (xs : List ℕ) (known : Option (List ℕ)) → StopsIn (HasFault e header_at) xs known → StopsIn (IsRefused e) xs known
+unfolding file_in
+fault_in_header e xs known stop = record { came = stop.came; rest = stop.rest; known_is = stop.known_is; parts = stop.parts; kind = rw stop.kind refl }
+
+pub fault_in_entries : (e : FileFault) (xs : List ℕ) (h : Header) (rest : List ℕ) (n : ℕ) (known : Option (List ℕ)) → n ≡ size_of h.level → header_at Truncated xs ≡ Ok (h, rest) → StopsIn (HasFault e (entries_at n)) rest known → StopsIn (IsRefused e) xs known
+fault_in_entries e xs h rest n known size header stop =
+    let t = took Header 52 header_at header-is Truncated Truncated xs (h, rest) header in
+    let came = t.front ++ stop.came in
+    record {
+      came = came;
+      rest = stop.rest;
+      known_is = stop.known_is;
+      parts = t.parts ∙ ap (λ (l : List ℕ). t.front ++ l) stop.parts ∙ sym (append_assoc t.front stop.came stop.rest);
+      kind = after_header came h stop.came (t.again stop.came) ∙ ap (λ (k : ℕ). after_entries came h (entries_at k Truncated stop.came)) (sym size) ∙ ap (after_entries came h) stop.kind;
+    }
+
+pub fault_in_end : (e : FileFault) (xs : List ℕ) (h : Header) (rest : List ℕ) (n : ℕ) (es : List Entry) (left done : List ℕ) (known : Option (List ℕ)) → n ≡ size_of h.level → header_at Truncated xs ≡ Ok (h, rest) → entries_at n Truncated rest ≡ Ok (es, left) → xs ≡ done ++ left
+    → StopsIn (HasFault e (end_at done)) left known → StopsIn (IsRefused e) xs known
+fault_in_end e xs h rest n es left done known size header entries parts stop =
+    let t = took Header 52 header_at header-is Truncated Truncated xs (h, rest) header in
+    let u = took (List Entry) (6 * n) (entries_at n) (entries-is n) Truncated Truncated rest (es, left) entries in
+    let cut : xs ≡ (t.front ++ u.front) ++ left = t.parts ∙ ap (λ (l : List ℕ). t.front ++ l) u.parts ∙ sym (append_assoc t.front u.front left) in
+    let same : done ≡ t.front ++ u.front = sym (before_is xs done left parts) ∙ before_is xs (t.front ++ u.front) left cut in
+    let came = done ++ stop.came in
+    let again : header_at Truncated came ≡ Ok (h, u.front ++ stop.came) =
+    ap (λ (d : List ℕ). header_at Truncated (d ++ stop.came)) same ∙ ap (header_at Truncated) (append_assoc t.front u.front stop.came) ∙ t.again (u.front ++ stop.came) in
+    record {
+      came = came;
+      rest = stop.rest;
+      known_is = stop.known_is;
+      parts = parts ∙ ap (λ (l : List ℕ). done ++ l) stop.parts ∙ sym (append_assoc done stop.came stop.rest);
+      kind = at_the_end came h (u.front ++ stop.came) n es stop.came done size again (u.again stop.came) refl ∙ ap (after_end h es) stop.kind;
+    }
+
+pub known_fault : (e : FileFault) (a b : Option (List ℕ)) → ((xs : List ℕ) → a ≡ Some xs → StopsIn (IsRefused e) xs b) → IfSome a (λ xs. StopsIn (IsRefused e) xs b)
+known_fault e a b f = known_intro a (λ xs. StopsIn (IsRefused e) xs b) f

@@ -28,6 +28,14 @@ pub record StopsIn (P : List ℕ → Type 0) (left : List ℕ) (known : Option (
 abbrev pub Unfinished : {Y : Type 0} → (FileFault → List ℕ → Result Y FileFault) → List ℕ → Type 0
 Unfinished f came = f faults.Truncated came ≡ Err faults.Truncated
 
+-- what came of a field has this fault
+abbrev pub HasFault : {Z : Type 0} → FileFault → (FileFault → List ℕ → Result Z FileFault) → List ℕ → Type 0
+HasFault e f came = f faults.Truncated came ≡ Err e
+
+-- what came of a file has this fault
+abbrev pub IsRefused : FileFault → List ℕ → Type 0
+IsRefused e came = file_in came ≡ Err e
+
 -- What came of a file has no fault, but that it ends early, or is whole.
 abbrev pub IsSoundSoFar : List ℕ → Type 0
 IsSoundSoFar came = (file_in came ≡ Err faults.Truncated) ⊎ IsOk (file_in came)

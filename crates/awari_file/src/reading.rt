@@ -7,10 +7,11 @@ ghost use Rattle.awari_table.specs.declared.TheConstants.{HIGHEST_LEVEL};
 ghost use Rattle.awari_table.specs.Counts.{inner_of, faults_of, Grew};
 ghost use Rattle.awari_table.specs.declared.images.Image.{Image};
 ghost use Rattle.sha2.specs.Hashers.{Holds256};
+ghost use Rattle.awari_file.specs.declared.faults.FileFault.{FileFault};
 ghost use Rattle.awari_file.specs.declared.sizes.TheConstants.{BUFFERED};
 ghost use Rattle.awari_file.specs.FileText.{IsBytes, HasFile, IsFileOf, file_text, found_of};
-ghost use Rattle.awari_file.specs.Reading.{header_at, entries_at, end_at, file_in};
-ghost use Rattle.awari_file.specs.Source.{IsAt, StopsIn, Unfinished, IsSoundEnd, IsSoundSoFar, Advances, Adds, AddsAt, Answers};
+ghost use Rattle.awari_file.specs.Reading.{header_at, entries_at, end_at, file_in, IsOwn};
+ghost use Rattle.awari_file.specs.Source.{IsAt, StopsIn, Unfinished, HasFault, IsRefused, IsSoundEnd, IsSoundSoFar, Advances, Adds, AddsAt, Answers};
 
 use crate::contents::{Header, Loaded};
 use crate::faults::FileFault;
@@ -30,6 +31,8 @@ fn read_header<R: Read>(reader: &mut Counted<R>, hasher: &mut Sha256) -> Result<
         → Advances (λ h. h) header_at whole left (R.remaining (inner_of reader.new)) hasher.new result }
     ensures stops { (whole left : List ℕ) → IsAt whole left (R.remaining (inner_of reader.old)) hasher.old
         → result ≡ Err FileFault.Read → StopsIn (Unfinished header_at) left (R.remaining (inner_of reader.new)) }
+    ensures whole { (whole left : List ℕ) (fault : FileFault) → IsAt whole left (R.remaining (inner_of reader.old)) hasher.old
+        → IsOwn fault → result ≡ Err fault → StopsIn (HasFault fault header_at) left (R.remaining (inner_of reader.new)) }
     ensures low { IfOk result (λ h. h.level ≤ HIGHEST_LEVEL) }
     ensures clean { OnOk result (faults_of reader.new ≡ faults_of reader.old) }
     ensures early { result ≡ Err FileFault.Truncated → faults_of reader.new ≡ faults_of reader.old }
@@ -79,6 +82,8 @@ fn read_some<R: Read>(
         → AddsAt entries.old.items entries.new.items count whole left (R.remaining (inner_of reader.new)) hasher.new result }
     ensures stops { (whole left : List ℕ) → IsAt whole left (R.remaining (inner_of reader.old)) hasher.old
         → result ≡ Err FileFault.Read → StopsIn (Unfinished (entries_at count)) left (R.remaining (inner_of reader.new)) }
+    ensures whole { (whole left : List ℕ) (fault : FileFault) → IsAt whole left (R.remaining (inner_of reader.old)) hasher.old
+        → IsOwn fault → result ≡ Err fault → StopsIn (HasFault fault (entries_at count)) left (R.remaining (inner_of reader.new)) }
     ensures len { OnOk result (vec_len entries.new ≡ vec_len entries.old + count) }
     ensures capacity { vec_capacity entries.new ≡ vec_capacity entries.old }
     ensures clean { OnOk result (faults_of reader.new ≡ faults_of reader.old) }
@@ -107,6 +112,8 @@ fn read_entries<R: Read>(
         → AddsAt entries.old.items entries.new.items count whole left (R.remaining (inner_of reader.new)) hasher.new result }
     ensures stops { (whole left : List ℕ) → IsAt whole left (R.remaining (inner_of reader.old)) hasher.old
         → result ≡ Err FileFault.Read → StopsIn (Unfinished (entries_at count)) left (R.remaining (inner_of reader.new)) }
+    ensures whole { (whole left : List ℕ) (fault : FileFault) → IsAt whole left (R.remaining (inner_of reader.old)) hasher.old
+        → IsOwn fault → result ≡ Err fault → StopsIn (HasFault fault (entries_at count)) left (R.remaining (inner_of reader.new)) }
     ensures clean { OnOk result (faults_of reader.new ≡ faults_of reader.old) }
     ensures early { result ≡ Err FileFault.Truncated → faults_of reader.new ≡ faults_of reader.old }
     ensures read { result ≡ Err FileFault.Read → Grew (faults_of reader.old) (faults_of reader.new) }
@@ -128,6 +135,8 @@ fn read_end<R: Read>(reader: &mut Counted<R>, hasher: Sha256) -> Result<[u8; 32]
         → Answers (λ d. d) result (end_at body FileFault.Truncated left) }
     ensures stops { (left body : List ℕ) → R.remaining (inner_of reader.old) ≡ Some left → Holds256 hasher body
         → result ≡ Err FileFault.Read → StopsIn (IsSoundEnd body) left (R.remaining (inner_of reader.new)) }
+    ensures whole { (left body : List ℕ) (fault : FileFault) → R.remaining (inner_of reader.old) ≡ Some left → Holds256 hasher body
+        → IsOwn fault → result ≡ Err fault → StopsIn (HasFault fault (end_at body)) left (R.remaining (inner_of reader.new)) }
     ensures bytes { OnOk result (IfSome (R.remaining (inner_of reader.old)) IsBytes) }
     ensures clean { OnOk result (faults_of reader.new ≡ faults_of reader.old) }
     ensures early { result ≡ Err FileFault.Truncated → faults_of reader.new ≡ faults_of reader.old }
@@ -157,6 +166,8 @@ fn read_all<R: Read>(alloc: Global, reader: &mut Counted<R>) -> Result<Loaded, F
     ensures read { result ≡ Err FileFault.Read → Grew (faults_of reader.old) (faults_of reader.new) }
     ensures in_order { result ≡ Err FileFault.Read
         → IfSome (R.remaining (inner_of reader.old)) (λ bytes. StopsIn IsSoundSoFar bytes (R.remaining (inner_of reader.new))) }
+    ensures whole { (fault : FileFault) → IsOwn fault → result ≡ Err fault
+        → IfSome (R.remaining (inner_of reader.old)) (λ bytes. StopsIn (IsRefused fault) bytes (R.remaining (inner_of reader.new))) }
     ensures memory { result ≡ Err FileFault.Memory
         → IfSome (R.remaining (inner_of reader.old)) (λ bytes. IsOk (header_at FileFault.Truncated bytes)) }
 {
@@ -205,6 +216,11 @@ pub fn read_image<R: Read>(alloc: Global, reader: &mut Counted<R>) -> Result<Loa
     // With 68, what came before has no fault of its own.
     ensures in_order { result ≡ Err FileFault.Read
         → IfSome (R.remaining (inner_of reader.old)) (λ bytes. StopsIn IsSoundSoFar bytes (R.remaining (inner_of reader.new))) }
+
+    // With 61 to 67, it is the fault of what came: the field that has it came whole, and with 67 a
+    // byte behind the digest.
+    ensures whole { (fault : FileFault) → IsOwn fault → result ≡ Err fault
+        → IfSome (R.remaining (inner_of reader.old)) (λ bytes. StopsIn (IsRefused fault) bytes (R.remaining (inner_of reader.new))) }
 
     // With 69, the header is right.
     ensures memory { result ≡ Err FileFault.Memory

@@ -2,11 +2,12 @@
 
 ghost use Rattle.std.specs.Prelude.{◌≡◌, IfOk};
 
-use crate::levels::{digest_in, right_files, right_shelf};
+use crate::levels::{changed, digest_in, right_files, right_shelf};
 use awari_file::{read_image, write_level};
 use awari_table::{Counted, Level};
 use std::alloc::Global;
 use std::io::{self, Error, ErrorKind, Read, Write};
+use std::process::Abort;
 use std::test::Fail;
 
 /// What a stream answers at a bad call.
@@ -134,7 +135,7 @@ fn write_slowly(level: &Level, below: [u8; 32], sink: &mut Sink) -> (u8, u64) {
 fn each_read_fails_in_turn(rt: HostRuntime) -> Result<(), Fail> {
     let (_, file, _) = right_files(rt.alloc())?;
     for k in 1..160u32 {
-        let calls = Calls::new(k, 1, Bad::Fault(ErrorKind::Other));
+        let calls = Calls::new(k, 1, Bad::Fault(ErrorKind::WouldBlock));
         let expected = if k <= 157 { (68, 1) } else { (0, 0) };
         assert_eq!(rt; read_slowly(rt.alloc(), &file, calls), expected, "call {k}");
     }
@@ -162,7 +163,7 @@ fn each_write_fails_in_turn(rt: HostRuntime) -> Result<(), Fail> {
     assert!(rt; shelf.levels() == 3);
     let level = shelf.level(1);
     for k in 1..160u32 {
-        for bad in [Bad::Fault(ErrorKind::Other), Bad::Nothing] {
+        for bad in [Bad::Fault(ErrorKind::BrokenPipe), Bad::Nothing] {
             let mut sink = Sink {
                 calls: Calls::new(k, 1, bad),
                 taken: 0,
@@ -207,4 +208,93 @@ fn flushes_are_passed_on(rt: HostRuntime) {
         assert_eq!(rt; writer.faults(), faults, "{times} times");
         assert_eq!(rt; sink.flushes, made, "{times} times");
     }
+}
+
+/// Places of the file of level 1 and bytes that are wrong there, with the call at which a fault of the
+/// reader overtakes the fault of that field, which is the call for the field's last byte.
+const OVERTAKEN: [(usize, u8, u32, u8); 8] = [
+    (0, b'B', 4, 61),
+    (4, 1, 6, 62),
+    (6, 13, 7, 63),
+    (7, 1, 8, 62),
+    (8, 1, 16, 64),
+    (53, 6, 58, 65),
+    (119, 6, 124, 65),
+    (124, 0, 156, 66),
+];
+
+/// A wrong file is read by a reader that fails at the call for the last byte of the field with the
+/// fault, and by one that fails at the call after it.
+fn expect_overtaken(rt: &impl Abort, alloc: Global, bytes: &[u8], last: u32, fault: u8) {
+    let bad = Bad::Fault(ErrorKind::UnexpectedEof);
+    let found = read_slowly(alloc, bytes, Calls::new(last, 1, bad));
+    assert_eq!(rt; found, (68, 1), "call {last}");
+    let (found, _) = read_slowly(alloc, bytes, Calls::new(last.saturating_add(1), 1, bad));
+    assert_eq!(rt; found, fault, "call {last}");
+}
+
+#[test]
+fn a_field_is_judged_once_it_is_whole(rt: HostRuntime) -> Result<(), Fail> {
+    let (_, file, _) = right_files(rt.alloc())?;
+    for (place, byte, last, fault) in OVERTAKEN {
+        let bytes = changed(rt.alloc(), &file, place, byte)?;
+        expect_overtaken(&rt, rt.alloc(), &bytes, last, fault);
+    }
+    // The byte behind the digest.
+    let mut longer = file.to_vec(rt.alloc())?;
+    longer.push(0)?;
+    expect_overtaken(&rt, rt.alloc(), &longer, 157, 67);
+    Ok(())
+}
+
+/// Kinds of a fault, how many calls answer it, and of which kind a fault comes of it.
+const KINDS: [(ErrorKind, u32, Option<ErrorKind>); 5] = [
+    (ErrorKind::WouldBlock, 1, Some(ErrorKind::WouldBlock)),
+    (ErrorKind::UnexpectedEof, 1, Some(ErrorKind::UnexpectedEof)),
+    (ErrorKind::Other, 1, Some(ErrorKind::Other)),
+    (ErrorKind::Interrupted, 1000, None),
+    (ErrorKind::Interrupted, 1001, Some(ErrorKind::Other)),
+];
+
+/// A sink that answers such a fault in its first calls.
+fn sink(calls: u32, bad: Bad) -> Sink {
+    Sink {
+        calls: Calls::new(1, calls, bad),
+        taken: 0,
+        flushes: 0,
+    }
+}
+
+fn kind_of<T: Drop>(answer: io::Result<T>) -> Option<ErrorKind> {
+    match answer {
+        Ok(_) => None,
+        Err(error) => Some(error.kind()),
+    }
+}
+
+/// The kind of the fault of each call in turn: `read`, `write`, `flush` and `write_all`.
+fn kinds_of(calls: u32, bad: Bad) -> [Option<ErrorKind>; 4] {
+    let mut reader = Counted::new(Slow {
+        bytes: b"x",
+        calls: Calls::new(1, calls, bad),
+    });
+    [
+        kind_of(reader.read(&mut [0])),
+        kind_of(Counted::new(sink(calls, bad)).write(b"x")),
+        kind_of(Counted::new(sink(calls, bad)).flush()),
+        kind_of(Counted::new(sink(calls, bad)).write_all(b"x")),
+    ]
+}
+
+#[test]
+fn faults_keep_their_kind(rt: HostRuntime) {
+    for (kind, calls, expected) in KINDS {
+        assert_eq!(rt;
+            kinds_of(calls, Bad::Fault(kind)),
+            [expected; 4],
+            "{calls} times"
+        );
+    }
+    let none_taken = [None, None, None, Some(ErrorKind::WriteZero)];
+    assert_eq!(rt; kinds_of(1, Bad::Nothing), none_taken);
 }

@@ -15,3 +15,4 @@ pub mod Finishing
 pub mod Levels
 pub mod Distances
 pub mod Between
+pub mod Sharing

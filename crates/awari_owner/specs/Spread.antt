@@ -1,12 +1,14 @@
 -- The notes that a settled board gives to the boards of its own block, and what a part hears of the boards of another.
 use Rattle.std.specs.Prelude.{◌≡◌, ℕ, ◌+◌, ◌-◌, ◌<◌, ◌≤◌, ◌⊎◌, ◌&&◌, Bool, false, ◌==◌, nat_le, nat_lt, if◌then◌else◌, List, ◌∷◌, ◌++◌, length, fold, sum, All, ℤ, pos, int_lt, Some}
 use Rattle.awari_board.specs.Rules.{IsBoard}
-use Rattle.awari_rank.specs.Rank.{rank_of}
+use Rattle.awari_rank.specs.Rank.{rank_of, size_of}
 use Rattle.awari_owner.specs.Notes.{IsQuietMove, Has, is_heard_at, IsNoteOf}
 use Rattle.awari_unmove.specs.Predecessors.{IsPredecessors}
 use Rattle.awari_owner.specs.Blocks.{times_due, due_dist, due_rank, is_settled_in}
 use Rattle.awari_owner.specs.declared.notes.Kind.TheVariants.{Won, Lost}
 use Rattle.awari_owner.specs.Part.{Part, InBlock, IsTallied, notes_for, settled_at, stored_at}
+use Rattle.awari_owner.specs.Scan.{first_rank}
+use Rattle.awari_owner.specs.Outboxes.{Outboxes}
 use Rattle.awari_owner.specs.declared.notes.Note.{Note}
 use Rattle.awari_owner.specs.declared.notes.Kind.{Kind}
 
@@ -113,3 +115,11 @@ pub record Spreads (old new : Part) (q : List ℕ) (sources : List Source) : Typ
       → IsTallied value new (with_all_own old (kind_of (stored_at old (rank_of q)).score) notes sources)
   pub hears : (notes : List Note) → HearsOwn old notes
       → HearsOwn new (with_all_own old (kind_of (stored_at old (rank_of q)).score) notes sources)
+
+-- ---- what is sent to other owners
+
+-- the block of the part is that of the outboxes' owner
+pub record IsPartOf (part : Part) (outboxes : Outboxes) : Type 0 where
+  pub owner : outboxes.owner < length outboxes.queues
+  pub start : part.start ≡ first_rank (size_of part.level) (length outboxes.queues) outboxes.owner
+  pub end : part.start + length part.cells ≡ first_rank (size_of part.level) (length outboxes.queues) (outboxes.owner + 1)

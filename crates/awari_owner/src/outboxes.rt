@@ -1,7 +1,7 @@
 //! The notes that an owner has still to send.
 
 ghost use Rattle.std.specs.Prelude.{◌≡◌, ◌≤◌, ◌<◌, ◌↔◌, [], All, IfOk, IsTrue, replicate};
-ghost use Rattle.awari_owner.specs.Outboxes.{Outboxes as OutboxesView};
+ghost use Rattle.awari_owner.specs.Outboxes.{AreOutboxes, Outboxes as OutboxesView};
 
 use crate::notes::Note;
 use arrayvec::ArrayVec;
@@ -15,7 +15,8 @@ pub const MOST_NOTES: usize = 32;
 /// Notes that are sent at once.
 pub type Batch = ArrayVec<Note, MOST_NOTES>;
 
-/// What an owner has still to send: a queue of batches for each owner, its own being empty.
+/// What an owner has still to send: a queue of batches for each owner, its own being empty. Each
+/// batch has a note.
 #[derive(Drop)]
 pub struct Outboxes {
     owner: u8,
@@ -24,11 +25,13 @@ pub struct Outboxes {
 
 impl Model for Outboxes {
     ghost use Rattle.std.specs.Prelude.{map};
-    ghost use Rattle.awari_owner.specs.Outboxes.{Outboxes as OutboxesView};
+    ghost use Rattle.awari_owner.specs.Outboxes.{AreOutboxes, Outboxes as OutboxesView};
 
     ghost Value = { OutboxesView };
 
     ghost view = { λ o. record { owner = o.owner; queues = map (λ q. map (λ b. b.items) q.items) o.queues.items } };
+
+    ghost invariant = { λ o. AreOutboxes (record { owner = o.owner; queues = map (λ q. map (λ b. b.items) q.items) o.queues.items }) };
 }
 
 impl Outboxes {
@@ -46,9 +49,11 @@ impl Outboxes {
         Ok(Outboxes { owner, queues })
     }
 
-    /// Whether nothing is to be sent.
+    /// Whether nothing is to be sent. Nothing ever is to the owner itself, and a batch has 1 to 32
+    /// notes.
     pub fn is_empty(&self) -> bool
-        ensures { IsTrue result ↔ All (λ q. q ≡ []) self.now.queues }
+        ensures empty { IsTrue result ↔ All (λ q. q ≡ []) self.now.queues }
+        ensures sound { AreOutboxes self.now }
     {
         for queue in &self.queues {
             if !queue.is_empty() {

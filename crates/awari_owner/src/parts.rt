@@ -8,7 +8,7 @@ ghost use Rattle.awari_owner.specs.Blocks.{due_dist, KeepSettled};
 ghost use Rattle.awari_owner.specs.Part.{Part as PartView, InBlock, Leaves, IsExpected, IsTallied, stored_at, PutsCell, SameLevel, JoinsFresh, settled_at, IsLeastDue, HasFarthest, unspread};
 ghost use Rattle.awari_owner.specs.OwnerFault.{IsFaultOf};
 ghost use Rattle.awari_owner.specs.Scan.{IsScan, IsWhole};
-ghost use Rattle.awari_owner.specs.Spread.{HearsOwn, Source, Spreads};
+ghost use Rattle.awari_owner.specs.Spread.{HearsOwn, IsPartOf, Source, Spreads};
 ghost use Rattle.awari_table.specs.Images.{table_of};
 ghost use Rattle.awari_table.specs.declared.TheConstants.{HIGHEST_LEVEL};
 ghost use Rattle.awari_owner.specs.declared.faults.OwnerFault.{OwnerFault};
@@ -224,9 +224,11 @@ impl Part {
     /// It is false where no board is fresh, or the first is farther. Refused as 32 `Far` where its
     /// distance is the greatest that can be stored, and then nothing changes.
     ///
-    /// The block has all boards of the level, so there is nothing to send. It takes no memory.
+    /// The outboxes are those of the part's owner. The block has all boards of the level, so there is
+    /// nothing to send. It takes no memory.
     pub fn spread_one(&mut self, outboxes: &mut Outboxes) -> Result<bool, OwnerFault>
         requires whole { IsWhole self.old }
+        requires part { IsPartOf self.old outboxes.old }
         ensures spread { result ≡ Ok true → (q : List ℕ) × (sources : List Source) × Spreads self.old self.new q sources }
         ensures unspread { result ≡ Ok true → unspread self.new + 1 ≡ unspread self.old }
         ensures none { result ≡ Ok false → self.new ≡ self.old }

@@ -1,6 +1,8 @@
 //! Notes put to the second of three owners of level 1, whose block has the ranks 4 to 7. The boards of
 //! ranks 4, 5 and 7 are ended, and that of rank 6 has one move, which is quiet and leads to rank 11.
 
+ghost use Rattle.std.specs.Prelude.{◌≡◌, ◌<◌, IfOk};
+
 use crate::shelves::one_level;
 use awari_owner::{Kind, Note, OwnerFault, Part};
 use std::alloc::Global;
@@ -72,6 +74,37 @@ fn refuses_strangers(rt: HostRuntime) -> Result<(), Fail> {
         },
     ] {
         assert_eq!(rt; part.take(stranger), Err(OwnerFault::Stranger));
+    }
+    Ok(())
+}
+
+/// The part of the seventh of twelve owners, whose one board is that of rank 6. Nothing settles it
+/// before it hears a note, so any distance can be opened.
+fn seventh_of_twelve(alloc: Global, wave: u32) -> Result<Part, Fail>
+    requires { 0 < wave }
+    ensures { IfOk result (λ part. part.wave ≡ wave) }
+{
+    let shelf = one_level(alloc)?;
+    let mut part = Part::scan(alloc, &shelf, 12, 6)?;
+    part.open_gain(1);
+    if !part.idle() {
+        return Err("a fresh board".into());
+    }
+    part.open_wave(wave);
+    Ok(part)
+}
+
+#[test]
+fn refuses_the_greatest_distance(rt: HostRuntime) -> Result<(), Fail> {
+    for (wave, answer, settled) in [
+        (u32::MAX, Err(OwnerFault::Far), None),
+        (u32::MAX - 1, Ok(()), Some((-1, u32::MAX))),
+    ] {
+        let mut part = seventh_of_twelve(rt.alloc(), wave)?;
+        let note = Note { dist: wave, ..NOTE };
+        assert_eq!(rt; part.take(note), answer);
+        assert_eq!(rt; part.block(), (6, 7));
+        assert_eq!(rt; part.settled(6), settled);
     }
     Ok(())
 }

@@ -1,10 +1,10 @@
 //! A reader or a writer whose faults are counted, so that one who is lent it can be asked afterwards
 //! whether a refusal was the stream's.
 
-ghost use Rattle.std.specs.Prelude.{◌≡◌, ◌≢◌, ◌≤◌, ◌<◌, Ok, IfOk, IfErr, OnOk, OnErr, length};
+ghost use Rattle.std.specs.Prelude.{◌≡◌, ◌≢◌, ◌≤◌, ◌<◌, ℕ, List, Option, IfOk, IfErr, OnOk, OnErr, length, take};
 ghost use Rattle.std.specs.IoError.{error_kind};
 ghost use Rattle.std.specs.Io.{ReadsAtMost, WritesAtMost};
-ghost use Rattle.std.specs.Io.KnownBytes.{ReadConsumes, WriteAppends, Keeps, Appends};
+ghost use Rattle.std.specs.Io.KnownBytes.{ReadConsumes, WriteAppends, Keeps, Appends, Consumes, IsAtEnd};
 
 use std::io::{self, Error, ErrorKind, Read, Write};
 
@@ -43,6 +43,7 @@ impl<T> Counted<T> {
     fn add_fault(&mut self)
         ensures inner { inner_of self.new ≡ inner_of self.old }
         ensures count { faults_of self.new ≡ one_more (faults_of self.old) }
+        ensures never_less { faults_of self.old ≤ faults_of self.new }
     {
         self.count = self.count.saturating_add(1);
     }
@@ -52,6 +53,98 @@ fn gave_up() -> Error
     ensures { error_kind result ≡ ErrorKind.Other }
 {
     Error::other("interrupted 1001 times in a row")
+}
+
+/// A call of a reader or a writer.
+trait Call<T> {
+    type Answer;
+
+    /// The bytes that the stream has left, or holds.
+    ghost bytes: { T → Option (List ℕ) };
+
+    /// What such an answer says of those bytes, before and after, and of the room for what is read.
+    ghost gives: { Option (List ℕ) → Option (List ℕ) → Self → List ℕ → Self.Answer → Type 0 };
+
+    /// Makes the call. What is read goes to `room`, and nothing else does.
+    fn make(&self, stream: &mut T, room: &mut [u8]) -> io::Result<Self::Answer>
+        ensures given { IfOk result (λ answer. gives (bytes stream.old) (bytes stream.new) self.now room.new answer) }
+        ensures kept { OnErr result (Keeps (bytes stream.old) (bytes stream.new)) };
+}
+
+#[derive(Drop)]
+struct Reading;
+
+impl<R: Read> Call<R> for Reading {
+    type Answer = usize;
+
+    ghost bytes = { R.remaining };
+
+    ghost gives = { λ old new call room n. (n ≤ length room) × (n ≡ length (take n room)) × Consumes old new (take n room) × (n ≡ 0 → 0 < length room → IsAtEnd new) };
+
+    fn make(&self, stream: &mut R, room: &mut [u8]) -> io::Result<usize> {
+        stream.read(room)
+    }
+}
+
+/// The bytes to be written.
+#[derive(Drop)]
+struct Writing<'a>(&'a [u8]);
+
+impl<W: Write> Call<W> for Writing<'_> {
+    type Answer = usize;
+
+    ghost bytes = { W.contents };
+
+    ghost gives = { λ old new call room n. (n ≤ length call.0.now) × Appends old new (take n call.0.now) };
+
+    fn make(&self, stream: &mut W, _room: &mut [u8]) -> io::Result<usize> {
+        stream.write(self.0)
+    }
+}
+
+#[derive(Drop)]
+struct Flushing;
+
+impl<W: Write> Call<W> for Flushing {
+    type Answer = ();
+
+    ghost bytes = { W.contents };
+
+    ghost gives = { λ old new call room answer. Keeps old new };
+
+    fn make(&self, stream: &mut W, _room: &mut [u8]) -> io::Result<()> {
+        stream.flush()
+    }
+}
+
+impl<T> Counted<T> {
+    ghost use Rattle.awari_table.specs.Counts.{inner_of, faults_of, one_more};
+
+    /// Makes the call, and again while it is interrupted, 1001 times at most in all. A fault is
+    /// counted.
+    fn repeat<C: Call<T>>(&mut self, call: &C, room: &mut [u8]) -> io::Result<C::Answer>
+        ensures given { IfOk result (λ answer. (mid : Option (List ℕ)) × Keeps (C.bytes (inner_of self.old)) mid
+            × C.gives mid (C.bytes (inner_of self.new)) call.now room.new answer) }
+        ensures kept { OnErr result (Keeps (C.bytes (inner_of self.old)) (C.bytes (inner_of self.new))) }
+        ensures ok { OnOk result (faults_of self.new ≡ faults_of self.old) }
+        ensures err { OnErr result (faults_of self.new ≡ one_more (faults_of self.old)) }
+        ensures never_less { faults_of self.old ≤ faults_of self.new }
+        ensures retried { IfErr result (λ e. error_kind e ≢ ErrorKind.Interrupted) }
+    {
+        for _ in 0..TURNS {
+            match call.make(&mut self.inner, room) {
+                Ok(answer) => return Ok(answer),
+                Err(e) => {
+                    if e.kind() != ErrorKind::Interrupted {
+                        self.add_fault();
+                        return Err(e);
+                    }
+                }
+            }
+        }
+        self.add_fault();
+        Err(gave_up())
+    }
 }
 
 impl<R: Read> Read for Counted<R> {
@@ -67,19 +160,7 @@ impl<R: Read> Read for Counted<R> {
         ensures never_less { faults_of self.old ≤ faults_of self.new }
         ensures retried { IfErr result (λ e. error_kind e ≢ ErrorKind.Interrupted) }
     {
-        for _ in 0..TURNS {
-            match self.inner.read(buf) {
-                Ok(n) => return Ok(n),
-                Err(e) => {
-                    if e.kind() != ErrorKind::Interrupted {
-                        self.add_fault();
-                        return Err(e);
-                    }
-                }
-            }
-        }
-        self.add_fault();
-        Err(gave_up())
+        self.repeat(&Reading, buf)
     }
 }
 
@@ -98,24 +179,11 @@ impl<W: Write> Write for Counted<W> {
         ensures never_less { faults_of self.old ≤ faults_of self.new }
         ensures retried { IfErr result (λ e. error_kind e ≢ ErrorKind.Interrupted) }
     {
-        for _ in 0..TURNS {
-            match self.inner.write(buf) {
-                Ok(n) => {
-                    if n == 0 && !buf.is_empty() {
-                        self.add_fault();
-                    }
-                    return Ok(n);
-                }
-                Err(e) => {
-                    if e.kind() != ErrorKind::Interrupted {
-                        self.add_fault();
-                        return Err(e);
-                    }
-                }
-            }
+        let count = self.repeat(&Writing(buf), &mut [])?;
+        if count == 0 && !buf.is_empty() {
+            self.add_fault();
         }
-        self.add_fault();
-        Err(gave_up())
+        Ok(count)
     }
 
     fn flush(&mut self) -> io::Result<()>
@@ -125,19 +193,7 @@ impl<W: Write> Write for Counted<W> {
         ensures never_less { faults_of self.old ≤ faults_of self.new }
         ensures retried { IfErr result (λ e. error_kind e ≢ ErrorKind.Interrupted) }
     {
-        for _ in 0..TURNS {
-            match self.inner.flush() {
-                Ok(()) => return Ok(()),
-                Err(e) => {
-                    if e.kind() != ErrorKind::Interrupted {
-                        self.add_fault();
-                        return Err(e);
-                    }
-                }
-            }
-        }
-        self.add_fault();
-        Err(gave_up())
+        self.repeat(&Flushing, &mut [])
     }
 
     fn write_all(&mut self, buf: &[u8]) -> io::Result<()>

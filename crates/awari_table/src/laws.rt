@@ -2,12 +2,18 @@
 
 ghost use Rattle.std.specs.Prelude.{◌≡◌, ◌≢◌, ◌++◌, ℕ, List, length, take};
 ghost use Rattle.awari_table.specs.declared.images.Image.{Image};
+ghost use Rattle.awari_table.specs.declared.TheConstants.{HIGHEST_LEVEL};
 ghost use Rattle.awari_table.specs.Certificate.{IsCertificate};
 ghost use Rattle.awari_table.specs.Images.{table_of, greatest_limit};
 ghost use Rattle.awari_table.specs.Shelves.{IsShelf};
 ghost use Rattle.awari_table.specs.declared.faults.TableFault.{TableFault};
 ghost use Rattle.awari_table.specs.Spelling.{block, table_text, IsImage, AreImages};
 ghost use Rattle.awari_table.specs.TableFault.{IsDueAt};
+
+/// The highest level of which tables are made, read and written is that of twelve stones.
+pub fn highest_level_is_12()
+    ensures { HIGHEST_LEVEL ≡ 12 }
+{}
 
 /// The levels of a shelf are a certificate: every board of every level keeps the rules by the one
 /// table of all levels, and no distance is above the greatest limit.

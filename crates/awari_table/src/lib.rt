@@ -17,7 +17,8 @@ pub use counted::Counted;
 pub use faults::TableFault;
 pub use images::{Counts, Entries, Entry, Image};
 pub use laws::{
-    fronts_are_shelves, one_text_fault_is_due, shelves_are_certificates, texts_tell_images_apart,
+    fronts_are_shelves, highest_level_is_12, one_text_fault_is_due, shelves_are_certificates,
+    texts_tell_images_apart,
 };
 pub use levels::Level;
 pub use shelves::{NotYet, Shelf};

@@ -3,7 +3,7 @@
 
 use awari_board::Board;
 use awari_rank::{size, unrank};
-use awari_table::{Counts, Entries, Entry, Image, NotYet, Shelf};
+use awari_table::{Counts, Entries, Entry, HIGHEST_LEVEL, Image, NotYet, Shelf};
 use awari_verify::{Rule, VerifyFault, fault_of, verify};
 use std::alloc::Global;
 use std::process::Abort;
@@ -243,6 +243,17 @@ fn refuses_another_level_or_size(rt: HostRuntime) -> Result<(), Fail> {
     let fault = verify(&shelf, image(rt.alloc(), 0, 0, &[])?).err();
     assert_eq!(rt; fault, Some(VerifyFault::WrongSize));
     assert_eq!(rt; VerifyFault::WrongSize.number(), 21);
+    Ok(())
+}
+
+#[test]
+fn refuses_a_level_above_the_highest(rt: HostRuntime) -> Result<(), Fail> {
+    let shelf = two_levels(rt.alloc())?;
+    for level in [12, 13, 255] {
+        let fault = verify(&shelf, image(rt.alloc(), level, 0, &[])?).err();
+        assert_eq!(rt; fault, Some(VerifyFault::WrongLevel), "level {level}");
+    }
+    assert_eq!(rt; HIGHEST_LEVEL, 12);
     Ok(())
 }
 

@@ -14,6 +14,7 @@ loop-part-preserved c =
     record {
       whole = spread.whole.0;
       level = spread.whole.1 ∙ c.open_gain.ensures.same.0 ∙ before.level;
+      alone = spread.alone;
       idle = spread.idle;
       sound = spread.sound _ (sound_opened _ _ _ c.open_gain.ensures.opened c.open_gain.ensures.hears before.sound);
     }

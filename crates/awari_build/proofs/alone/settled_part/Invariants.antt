@@ -8,6 +8,7 @@ abbrev pub invariant-loop-part : goal.invariant-loop-part
 invariant-loop-part l = record {
   whole : IsWhole l.part;
   level : l.part.level ≡ length l.shelf;
+  alone : (l.outboxes.owner ≡ 0) × (length l.outboxes.queues ≡ 1);
   idle : l.part.fresh ≡ [];
   sound : IsSound (table_of l.shelf).value l.part;
 }

@@ -1,4 +1,4 @@
-use Rattle.std.proofs.Common.{◌≡◌, ℕ, ℤ, List}
+use Rattle.std.proofs.Common.{◌≡◌, ℕ, ℤ, List, length}
 use Rattle.awari_owner.specs.Part.{unspread}
 use Rattle.awari_owner.specs.Scan.{IsWhole}
 use Rattle.awari_build.specs.Sound.{IsSound}
@@ -7,6 +7,7 @@ use Rattle.awari_build.proofs.alone.spread_all.Given as goal
 abbrev pub invariant-loop-dist : goal.invariant-loop-dist
 invariant-loop-dist l = record {
   whole : IsWhole l.part;
+  alone : (l.outboxes.owner ≡ 0) × (length l.outboxes.queues ≡ 1);
   level : l.part.level ≡ l.fn.part.level;
   gain : l.part.gain ≡ l.fn.part.gain;
   sound : (value : List ℕ → ℤ) → IsSound value l.fn.part → IsSound value l.part;

@@ -1,5 +1,7 @@
 use Rattle.std.proofs.Common.{ℕ, ℤ, List, Ok, ap, sym, subst, ◌∙◌, arith}
 use Rattle.awari_owner.specs.Part.{Part, HasFarthest}
+use Rattle.awari_owner.specs.Scan.{IsWhole}
+use Rattle.awari_owner.proofs.Sharing.{whole_part}
 use Rattle.awari_build.specs.Sound.{IsSound}
 use Rattle.awari_build.proofs.Stepping.{sound_opened, sound_spread}
 use Rattle.awari_build.proofs.Whole.{whole_fits}
@@ -19,6 +21,14 @@ unreachable-requires-in-Err c =
     let (rank, v, held, settled) = farthest in
     let f = fits rank v 4294967295 held settled in
     omega (arith, f)
+
+pub spread_one-requires-clause-part : goal.spread_one-requires-clause-part
+spread_one-requires-clause-part c =
+    let opened : IsWhole c.if-wave-dist.part = elim c.if-wave-dist.branch [
+      | then-wave-dist w ↦ subst (λ (p : Part). IsWhole p) (sym w.part-is) (subst (λ (p : Part). IsWhole p) (sym w.open_wave.ensures.wave) (record { start = c.requires.whole.start; all = c.requires.whole.all }))
+      | else-wave-dist w ↦ subst (λ (p : Part). IsWhole p) (sym w.part-is) c.requires.whole
+    ] in
+    whole_part c.if-wave-dist.part c.args.outboxes.now opened c.requires.alone.0 c.requires.alone.1
 
 pub returns-clause-sound : goal.returns-clause-sound
 returns-clause-sound c = λ value sound.

@@ -1,7 +1,8 @@
 use Rattle.std.proofs.Common.{◌≡◌, ◌∙◌, ◌++◌, List, Ok, Err, sym, ap}
 use Rattle.std.proofs.lemmas.Result.{err_from_is_err_and}
 use Rattle.awari_table.specs.declared.images.Entry.{Entry}
-use Rattle.awari_file.proofs.WholeLaws.{known_bytes, bytes_at, both_bytes, known_header, known_fails, known_gives, start_at, header_bad, entries_bad, end_bad, all_ok, loaded_of, known_stops, stops_in_header, stops_in_entries, stops_in_end}
+use Rattle.awari_file.proofs.WholeLaws.{known_bytes, bytes_at, both_bytes, known_header, known_fails, known_gives, start_at, header_bad, entries_bad, end_bad, all_ok, loaded_of, known_stops, stops_in_header, stops_in_entries, stops_in_end, known_fault, fault_in_header, fault_in_entries, fault_in_end}
+use Rattle.awari_file.specs.Reading.{IsOwn}
 use Rattle.awari_file.proofs.Steps.{fault_was}
 use Rattle.awari_file.specs.declared.faults.FileFault.{FileFault}
 use Rattle.awari_file.specs.declared.faults.FileFault.TheVariants.{Read}
@@ -88,3 +89,31 @@ returns-in_err-digest-clause-in_order g c = λ is.
     let (new, left, items, at2, entries) = c.in_ok-read_entries.ensures.parsed xs rest at in
     stops_in_end xs c.in_ok-header.header rest c.size-count.result new left at2.done _ c.size-count.ensures.boards header entries at2.parts
     (c.in_err-digest.ensures.stops left at2.done at2.known_is at2.holds (ap (λ (e : FileFault). Err e) same)))
+
+pub returns-in_err-header-clause-whole : goal.returns-in_err-header-clause-whole
+returns-in_err-header-clause-whole g c = λ e own is.
+    let p = err_from_is_err_and c.from_residual.result c.from_residual.ensures.1 in
+    let same : c.in_err-header.field-0.0 ≡ e = sym p.2 ∙ fault_was c.from_residual.result p.0 e p.1 is in
+    known_fault e _ _ (λ xs known.
+    let start = start_at xs _ c.new-hasher.result c.new-hasher.ensures known in
+    fault_in_header e xs _ (c.in_err-header.ensures.whole xs xs e start own (ap (λ (d : FileFault). Err d) same)))
+
+pub returns-in_err-read_entries-clause-whole : goal.returns-in_err-read_entries-clause-whole
+returns-in_err-read_entries-clause-whole g c = λ e own is.
+    let p = err_from_is_err_and c.from_residual-in_err-read_entries.result c.from_residual-in_err-read_entries.ensures.1 in
+    let same : c.in_err-read_entries.field-0.0 ≡ e = sym p.2 ∙ fault_was c.from_residual-in_err-read_entries.result p.0 e p.1 is in
+    known_fault e _ _ (λ xs known.
+    let start = start_at xs _ c.new-hasher.result c.new-hasher.ensures known in
+    let (rest, at, header) = c.in_ok-header.ensures.parsed xs xs start in
+    fault_in_entries e xs c.in_ok-header.header rest c.size-count.result _ c.size-count.ensures.boards header (c.in_err-read_entries.ensures.whole xs rest e at own (ap (λ (d : FileFault). Err d) same)))
+
+pub returns-in_err-digest-clause-whole : goal.returns-in_err-digest-clause-whole
+returns-in_err-digest-clause-whole g c = λ e own is.
+    let p = err_from_is_err_and c.from_residual-in_err-digest.result c.from_residual-in_err-digest.ensures.1 in
+    let same : c.in_err-digest.field-0.0 ≡ e = sym p.2 ∙ fault_was c.from_residual-in_err-digest.result p.0 e p.1 is in
+    known_fault e _ _ (λ xs known.
+    let start = start_at xs _ c.new-hasher.result c.new-hasher.ensures known in
+    let (rest, at, header) = c.in_ok-header.ensures.parsed xs xs start in
+    let (new, left, items, at2, entries) = c.in_ok-read_entries.ensures.parsed xs rest at in
+    fault_in_end e xs c.in_ok-header.header rest c.size-count.result new left at2.done _ c.size-count.ensures.boards header entries at2.parts
+    (c.in_err-digest.ensures.whole left at2.done e at2.known_is at2.holds own (ap (λ (d : FileFault). Err d) same)))

@@ -44,6 +44,22 @@ returns-in_err-read_some-clause-stops g c = λ whole left here is.
       kind = some_end Truncated new c.loop-left.left a Truncated stop.came (entries_at c.args.count Truncated (taken ++ stop.came)) le (so_far stop.came) stop.kind;
     }
 
+pub returns-in_err-read_some-clause-whole : goal.returns-in_err-read_some-clause-whole
+returns-in_err-read_some-clause-whole g c = λ whole left e here own is.
+    let p = err_from_is_err_and c.from_residual.result c.from_residual.ensures.1 in
+    let same : c.in_err-read_some.field-0.0 ≡ e = sym p.2 ∙ fault_was c.from_residual.result p.0 e p.1 is in
+    let (new, rest, taken, items, at, parts, so_far) = c.loop-left.invariant.read whole left here in
+    let a = c.min-some.result in
+    let le : a ≤ c.loop-left.left = omega (arith, c.min-some.ensures) in
+    let stop = c.in_err-read_some.ensures.whole whole rest e at own (ap (λ (d : FileFault). Err d) same) in
+    record {
+      came = taken ++ stop.came;
+      rest = stop.rest;
+      known_is = stop.known_is;
+      parts = parts ∙ ap (λ (l : List ℕ). taken ++ l) stop.parts ∙ sym (append_assoc taken stop.came stop.rest);
+      kind = some_end e new c.loop-left.left a Truncated stop.came (entries_at c.args.count Truncated (taken ++ stop.came)) le (so_far stop.came) stop.kind;
+    }
+
 pub loop-left-preserved : goal.loop-left-preserved
 loop-left-preserved g c =
     let a = c.min-some.result in

@@ -5,7 +5,7 @@ use Rattle.awari_file.specs.declared.faults.FileFault.{FileFault}
 use Rattle.awari_file.specs.declared.faults.FileFault.TheVariants as faults
 use Rattle.awari_file.specs.Reading.{header_at}
 use Rattle.awari_file.proofs.FileLaws.{header-is, read_from_short, memory_from_short}
-use Rattle.awari_file.proofs.Steps.{step_fails, step_gives, step_early, step_stops, fault_was}
+use Rattle.awari_file.proofs.Steps.{step_fails, step_gives, step_early, step_stops, step_whole, fault_was}
 use Rattle.awari_file.proofs.SpellLaws.{IsBytes-take}
 use Rattle.awari_file.proofs.reading.read_header.Goals as goal
 
@@ -58,3 +58,12 @@ returns-in_err-header-clause-early g c = λ is.
     let front = take c.fill-came.result.count c.fill-came.new.buf in
     let same : c.in_err-header.field-0.0 ≡ faults.Truncated = sym p.2 ∙ fault_was c.from_residual.result p.0 faults.Truncated p.1 is in
     step_early Header 52 header_at header-is c.fill-came.result.short front _ _ c.fill-came.ensures.calm (c.in_err-header.ensures.value ∙ ap (λ (e : FileFault). Err e) same)
+
+pub returns-in_err-header-clause-whole : goal.returns-in_err-header-clause-whole
+returns-in_err-header-clause-whole g c = λ whole left e here own is.
+    let p = err_from_is_err_and c.from_residual.result c.from_residual.ensures.1 in
+    let front = take c.fill-came.result.count c.fill-came.new.buf in
+    let size = length-take c.fill-came.result.count c.fill-came.new.buf in
+    let same : c.in_err-header.field-0.0 ≡ e = sym p.2 ∙ fault_was c.from_residual.result p.0 e p.1 is in
+    step_whole Header 52 header_at header-is c.fill-came.result.short e front whole left _ _ c.args.hasher.now _ _ here c.fill-came.ensures.bytes
+    (λ lt. c.fill-came.ensures.why (omega (arith, size))) own (c.in_err-header.ensures.value ∙ ap (λ (d : FileFault). Err d) same)

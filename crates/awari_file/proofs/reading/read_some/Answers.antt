@@ -5,7 +5,7 @@ use Rattle.awari_file.specs.declared.faults.FileFault.{FileFault}
 use Rattle.awari_file.specs.declared.faults.FileFault.TheVariants as faults
 use Rattle.awari_file.specs.Reading.{entries_at}
 use Rattle.awari_file.proofs.FileLaws.{entries-is, read_from_short, memory_from_short}
-use Rattle.awari_file.proofs.Steps.{step_fails, step_gives, step_early, step_stops, fault_was}
+use Rattle.awari_file.proofs.Steps.{step_fails, step_gives, step_early, step_stops, step_whole, fault_was}
 use Rattle.awari_file.proofs.SpellLaws.{IsBytes-take}
 use Rattle.awari_file.proofs.reading.read_some.Goals as goal
 
@@ -68,3 +68,13 @@ returns-in_err-push_entries-clause-early g c = λ is.
     let front = take c.fill-came.result.count c.fill-came.new.buf in
     let same : c.in_err-push_entries.field-0.0 ≡ faults.Truncated = sym p.2 ∙ fault_was c.from_residual.result p.0 faults.Truncated p.1 is in
     step_early (List Entry) (6 * n) (entries_at n) (entries-is n) c.fill-came.result.short front _ _ c.fill-came.ensures.calm (c.in_err-push_entries.ensures.added ∙ ap (λ (e : FileFault). Err e) same)
+
+pub returns-in_err-push_entries-clause-whole : goal.returns-in_err-push_entries-clause-whole
+returns-in_err-push_entries-clause-whole g c = λ whole left e here own is.
+    let p = err_from_is_err_and c.from_residual.result c.from_residual.ensures.1 in
+    let n = c.args.count in
+    let front = take c.fill-came.result.count c.fill-came.new.buf in
+    let size = length-take c.fill-came.result.count c.fill-came.new.buf in
+    let same : c.in_err-push_entries.field-0.0 ≡ e = sym p.2 ∙ fault_was c.from_residual.result p.0 e p.1 is in
+    step_whole (List Entry) (6 * n) (entries_at n) (entries-is n) c.fill-came.result.short e front whole left _ _ c.args.hasher.now _ _ here c.fill-came.ensures.bytes
+    (λ lt. c.fill-came.ensures.why (omega (arith, size))) own (c.in_err-push_entries.ensures.added ∙ ap (λ (d : FileFault). Err d) same)

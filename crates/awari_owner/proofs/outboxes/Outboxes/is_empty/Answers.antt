@@ -12,8 +12,8 @@ loop-queue-preserved c =
     ∙ seen_empty _ _ c.self.inside.queues.items c.loop-queue.queue-index c.queue-item.result (search rules)
     (c.queue-item.is ∙ ap (λ l. get_or l c.loop-queue.queue-index c.queue-item.result) c.deref-queue-items.ensures.value) (none_left c.queue-item.result.items none))
 
-pub returns-then-not-is_empty : goal.returns-then-not-is_empty
-returns-then-not-is_empty c = (
+pub returns-then-not-is_empty-clause-empty : goal.returns-then-not-is_empty-clause-empty
+returns-then-not-is_empty-clause-empty c = (
   λ never. absurd cc,
   λ all.
       let long : length c.args.self.now.queues ≡ length c.self.inside.queues.items = ap (λ (o : Outboxes). length o.queues) (sym c.self.view_is) ∙ seen_length _ _ c.self.inside.queues.items in
@@ -25,8 +25,8 @@ returns-then-not-is_empty c = (
       absurd (some (ap length none)),
 )
 
-pub returns : goal.returns
-returns c =
+pub returns-clause-empty : goal.returns-clause-empty
+returns-clause-empty c =
     let long : length c.args.self.now.queues ≡ length c.self.inside.queues.items = ap (λ (o : Outboxes). length o.queues) (sym c.self.view_is) ∙ seen_length _ _ c.self.inside.queues.items in
     let end : length c.self.inside.queues.items ≤ c.loop-queue.queue-index = search rules in
     (λ _ k d h. get_or_default c.args.self.now.queues k d [] h ∙ c.loop-queue.invariant k (omega (arith, h, long, end)), λ _. search rules)
