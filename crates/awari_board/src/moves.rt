@@ -4,6 +4,7 @@ ghost use Rattle.std.specs.Prelude.{◌≡◌};
 ghost use Rattle.awari_board.specs.MoveFault.{number_of};
 
 use crate::boards::Board;
+use std::fmt;
 use thiserror::Error;
 
 /// A move that was played.
@@ -15,20 +16,17 @@ pub struct Moved {
     pub captured: u8,
 }
 
-/// Why a pit can't be played. A fault is answered only where none of those above it is due.
+/// Why a pit can't be played. A fault is answered only where none of those above it is due. Printed,
+/// it is its number and its name.
 #[derive(Clone, Copy, Debug, PartialEq, Eq, Error)]
 pub enum MoveFault {
     /// 4: the mover's pits are 0 to 5.
-    #[error("there is no such pit")]
     NoPit,
     /// 7: no pit can be played, so the play has ended.
-    #[error("the play has ended")]
     Ended,
     /// 5: the pit holds no stones.
-    #[error("the pit is empty")]
     EmptyPit,
     /// 6: the opponent has no stones, and this pit sows none there while another does.
-    #[error("the opponent has no stones and must be fed")]
     MustFeed,
 }
 
@@ -42,6 +40,23 @@ impl MoveFault {
             MoveFault::Ended => 7,
             MoveFault::EmptyPit => 5,
             MoveFault::MustFeed => 6,
+        }
+    }
+}
+
+impl fmt::Display for MoveFault {
+    ghost use Rattle.std.specs.Prelude.{Some};
+    ghost use Rattle.awari_board.specs.MoveFault.{fault_text};
+
+    ghost output = { λ fault. Some (fault_text fault) };
+
+    fn fmt<W: fmt::Write>(&self, f: &mut fmt::Formatter<W>) -> fmt::Result {
+        let number = self.number();
+        match *self {
+            MoveFault::NoPit => write!(f, "{number} NoPit"),
+            MoveFault::Ended => write!(f, "{number} Ended"),
+            MoveFault::EmptyPit => write!(f, "{number} EmptyPit"),
+            MoveFault::MustFeed => write!(f, "{number} MustFeed"),
         }
     }
 }

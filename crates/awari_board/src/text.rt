@@ -7,22 +7,21 @@ ghost use Rattle.awari_board.specs.Text.{IsReadAs, IsShaped, digits, is_separato
 
 use crate::sides::SIDE;
 use arrayvec::ArrayVec;
+use std::fmt;
 use thiserror::Error;
 
 /// What parts the twelve pits of a text.
 const MARKS: [u8; 11] = *b",,,,,/,,,,,";
 
-/// Why a text is no board. A fault is answered only where none of those above it is due.
+/// Why a text is no board. A fault is answered only where none of those above it is due. Printed, it
+/// is its number and its name.
 #[derive(Clone, Copy, Debug, PartialEq, Eq, Error)]
 pub enum BoardFault {
     /// 1: the text is not twelve fields, parted by five commas, a slash and five commas.
-    #[error("the text is not twelve fields parted by commas and a slash")]
     Shape,
     /// 2: a field is not `0`, nor one or two digits of which the first is not 0.
-    #[error("a field is no number below 100 without a leading zero")]
     Number,
     /// 3: the numbers come to more than 48.
-    #[error("there are more than 48 stones")]
     TooMany,
 }
 
@@ -35,6 +34,22 @@ impl BoardFault {
             BoardFault::Shape => 1,
             BoardFault::Number => 2,
             BoardFault::TooMany => 3,
+        }
+    }
+}
+
+impl fmt::Display for BoardFault {
+    ghost use Rattle.std.specs.Prelude.{Some};
+    ghost use Rattle.awari_board.specs.BoardFault.{fault_text};
+
+    ghost output = { λ fault. Some (fault_text fault) };
+
+    fn fmt<W: fmt::Write>(&self, f: &mut fmt::Formatter<W>) -> fmt::Result {
+        let number = self.number();
+        match *self {
+            BoardFault::Shape => write!(f, "{number} Shape"),
+            BoardFault::Number => write!(f, "{number} Number"),
+            BoardFault::TooMany => write!(f, "{number} TooMany"),
         }
     }
 }

@@ -3,39 +3,27 @@ use Rattle.std.specs.Prelude.{◌≡◌, ℕ, List, ◌++◌, ⊤, length, codes
 use Rattle.std.specs.Fmt.{decimal}
 use Rattle.std.specs.Io.KnownBytes.{Appends}
 use Rattle.awari_table.specs.declared.images.Image.{Image}
-use Rattle.awari_table.specs.declared.faults.TableFault.{TableFault}
-use Rattle.awari_table.specs.declared.faults.TableFault.TheVariants.{Line, Order, High, Short, Memory}
+use Rattle.awari_table.specs.declared.faults.TableFault.TheVariants.{Memory}
 use Rattle.awari_table.specs.Images.{greatest_limit}
-use Rattle.awari_verify.specs.declared.verdicts.VerifyFault.{VerifyFault}
-use Rattle.awari_verify.specs.declared.verdicts.VerifyFault.TheVariants.{WrongLevel, WrongSize, Refused}
+use Rattle.awari_table.specs.TableFault.{fault_text as table_fault_text}
+use Rattle.awari_verify.specs.declared.verdicts.VerifyFault.TheVariants.{Refused}
 use Rattle.awari_verify.specs.Rule.{rule_name}
+use Rattle.awari_verify.specs.VerifyFault.{fault_text as verify_fault_text}
 use Rattle.awari_check.specs.declared.checks.CheckFault.{CheckFault}
 use Rattle.awari_check.specs.declared.checks.CheckFault.TheVariants.{Table, Verify}
 use Rattle.awari_check.specs.declared.answers.Answer.{Answer}
 use Rattle.awari_check.specs.declared.answers.Answer.TheVariants.{Yes, Fault, Read}
 use Rattle.awari_check.specs.CheckFault.{IsShelfText, IsCheckFault}
 
--- a refusal's number, its name, and its fields, each with its name
-abbrev pub table_fault_text : TableFault → List ℕ
-table_fault_text (Line line) = codes "10 Line line " ++ decimal line
-table_fault_text (Order line) = codes "11 Order line " ++ decimal line
-table_fault_text (High line) = codes "12 High line " ++ decimal line
-table_fault_text Short = codes "13 Short"
-table_fault_text Memory = codes "15 Memory"
-
--- what a check prints of a level that is not right
-abbrev pub verify_fault_text : ℕ → VerifyFault → List ℕ
-verify_fault_text level WrongLevel = codes "refused 20 WrongLevel"
-verify_fault_text level WrongSize = codes "refused 21 WrongSize"
-verify_fault_text level (Refused rank rule) = codes "no level " ++ decimal level ++ codes " rank " ++ decimal rank ++ codes " rule " ++ rule_name rule
-
-abbrev pub check_fault_text : CheckFault → List ℕ
-check_fault_text (Table fault) = codes "refused " ++ table_fault_text fault
-check_fault_text (Verify level fault) = verify_fault_text level fault
+-- a level that breaks a rule is told as a no, and whatever else is at fault as a refusal
+abbrev pub check_text : CheckFault → List ℕ
+check_text (Verify level (Refused rank rule)) = codes "no level " ++ decimal level ++ codes " rank " ++ decimal rank ++ codes " rule " ++ rule_name rule
+check_text (Verify level fault) = codes "refused " ++ verify_fault_text fault
+check_text (Table fault) = codes "refused " ++ table_fault_text fault
 
 abbrev pub answer_text : Answer → List ℕ
 answer_text (Yes levels limit) = codes "yes levels " ++ decimal levels ++ codes " limit " ++ decimal limit
-answer_text (Fault fault) = check_fault_text fault
+answer_text (Fault fault) = check_text fault
 answer_text Read = codes "refused 14 Read"
 
 -- 0 for a yes, and 1 for a no or a refusal

@@ -47,56 +47,15 @@ impl fmt::Display for Answer {
     fn fmt<W: fmt::Write>(&self, f: &mut fmt::Formatter<W>) -> fmt::Result {
         match *self {
             Answer::Yes { levels, limit } => write!(f, "yes levels {levels} limit {limit}"),
-            Answer::Fault {
-                fault: CheckFault::Table { fault },
-            } => write!(f, "refused {}", OfText(fault)),
-            Answer::Fault {
-                fault: CheckFault::Verify { level, fault },
-            } => write!(f, "{}", OfLevel(level, fault)),
+            Answer::Fault { fault } => match fault {
+                CheckFault::Verify {
+                    level,
+                    fault: VerifyFault::Refused { rank, rule },
+                } => write!(f, "no level {level} rank {rank} rule {rule}"),
+                CheckFault::Verify { fault, .. } => write!(f, "refused {fault}"),
+                CheckFault::Table { fault } => write!(f, "refused {fault}"),
+            },
             Answer::Read => f.write_str("refused 14 Read"),
-        }
-    }
-}
-
-/// A refusal of a text: its number, its name and its fields.
-#[derive(Clone, Copy)]
-struct OfText(TableFault);
-
-impl fmt::Display for OfText {
-    ghost use Rattle.std.specs.Prelude.{Some};
-    ghost use Rattle.awari_check.specs.Answer.{table_fault_text};
-
-    ghost output = { λ refused. Some (table_fault_text refused.0) };
-
-    fn fmt<W: fmt::Write>(&self, f: &mut fmt::Formatter<W>) -> fmt::Result {
-        match self.0 {
-            TableFault::Line { line } => write!(f, "10 Line line {line}"),
-            TableFault::Order { line } => write!(f, "11 Order line {line}"),
-            TableFault::High { line } => write!(f, "12 High line {line}"),
-            TableFault::Short => f.write_str("13 Short"),
-            TableFault::Memory => f.write_str("15 Memory"),
-        }
-    }
-}
-
-/// What is said of a level that is not right.
-#[derive(Clone, Copy)]
-struct OfLevel(u8, VerifyFault);
-
-impl fmt::Display for OfLevel {
-    ghost use Rattle.std.specs.Prelude.{Some};
-    ghost use Rattle.awari_check.specs.Answer.{verify_fault_text};
-
-    ghost output = { λ refused. Some (verify_fault_text refused.0 refused.1) };
-
-    fn fmt<W: fmt::Write>(&self, f: &mut fmt::Formatter<W>) -> fmt::Result {
-        let level = self.0;
-        match self.1 {
-            VerifyFault::WrongLevel => f.write_str("refused 20 WrongLevel"),
-            VerifyFault::WrongSize => f.write_str("refused 21 WrongSize"),
-            VerifyFault::Refused { rank, rule } => {
-                write!(f, "no level {level} rank {rank} rule {rule}")
-            }
         }
     }
 }

@@ -13,18 +13,32 @@ ghost use Rattle.awari_theory.specs.Truth.{TellsTruth};
 use awari_table::{Image, Shelf, TableFault, TableText};
 use awari_verify::{VerifyFault, verify};
 use std::alloc::{AllocFailed, Global};
+use std::fmt;
 use std::sync::Arc;
 use thiserror::Error;
 
-/// The first fault of bytes that are not the text of tables that are right.
+/// The first fault of bytes that are not the text of tables that are right. Printed, it is the fault
+/// inside it, behind the level that is not right.
 #[derive(Clone, Copy, Debug, PartialEq, Eq, Error)]
 pub enum CheckFault {
     /// The text is at fault, or there was no room for a level.
-    #[error("{fault}")]
     Table { fault: TableFault },
     /// The text of the level is right, and the level is not.
-    #[error("level {level}: {fault}")]
     Verify { level: u8, fault: VerifyFault },
+}
+
+impl fmt::Display for CheckFault {
+    ghost use Rattle.std.specs.Prelude.{Some};
+    ghost use Rattle.awari_check.specs.CheckFault.{fault_text};
+
+    ghost output = { λ fault. Some (fault_text fault) };
+
+    fn fmt<W: fmt::Write>(&self, f: &mut fmt::Formatter<W>) -> fmt::Result {
+        match *self {
+            CheckFault::Table { fault } => write!(f, "{fault}"),
+            CheckFault::Verify { level, fault } => write!(f, "level {level}: {fault}"),
+        }
+    }
 }
 
 impl From<TableFault> for CheckFault {

@@ -3,11 +3,12 @@ use Rattle.std.specs.Prelude.{◌≡◌, ◌<◌, ℕ, List, ◌++◌, ◌∷◌
 use Rattle.std.specs.Fmt.{decimal}
 use Rattle.std.specs.List.{flat_map}
 use Rattle.std.specs.Io.KnownBytes.{Appends}
+use Rattle.awari_build.specs.BuildFault.{fault_text as build_fault_text}
+use Rattle.awari_folder.specs.FolderFault.{fault_text as folder_fault_text}
 use Rattle.awari_table.specs.Images.{won_boards, even_boards, lost_boards}
 use Rattle.awari_table.specs.Shelves.{IsShelf}
 use Rattle.awari_table.specs.declared.images.Counts.{Counts}
 use Rattle.awari_table.specs.declared.images.Image.{Image}
-use Rattle.awari_cli.specs.Refusal.{build_fault_text, folder_fault_text}
 use Rattle.awari_cli.specs.declared.building.BuiltLevel.{BuiltLevel}
 use Rattle.awari_cli.specs.declared.building.BuildingFault.{BuildingFault}
 use Rattle.awari_cli.specs.declared.building.BuildingFault.TheVariants.{Build, Folder}
@@ -40,9 +41,10 @@ level_line image = told_text (record {
 abbrev pub level_lines : List Image → List ℕ
 level_lines images = flat_map (λ image. level_line image ++ 10 ∷ []) images
 
+-- the fault inside it
 abbrev pub building_fault_text : BuildingFault → List ℕ
-building_fault_text (Build fault) = codes "refused " ++ build_fault_text fault
-building_fault_text (Folder fault) = codes "refused " ++ folder_fault_text fault
+building_fault_text (Build fault) = build_fault_text fault
+building_fault_text (Folder fault) = folder_fault_text fault
 
 -- Where it is known what the writer holds, what was written are the lines of right levels, over some that were there, up to
 -- level `top` at least.

@@ -3,13 +3,15 @@ use Rattle.std.specs.Prelude.{◌≡◌, ℕ, ◌+◌, ◌/◌, ◌%◌, ◌<◌
 use Rattle.std.specs.Fmt.{decimal, signed_decimal}
 use Rattle.std.specs.List.{flat_map}
 use Rattle.std.specs.Io.KnownBytes.{Appends}
+use Rattle.awari_board.specs.BoardFault.{fault_text as board_fault_text}
 use Rattle.awari_board.specs.Rules.{IsBoard}
 use Rattle.awari_board.specs.Text.{text_of}
+use Rattle.awari_folder.specs.FolderFault.{fault_text as folder_fault_text}
 use Rattle.awari_table.specs.Images.{entry_of}
+use Rattle.awari_table.specs.NotYet.{fault_text as not_yet_text}
 use Rattle.awari_table.specs.Shelves.{IsShelf}
 use Rattle.awari_table.specs.declared.images.Entry.{Entry}
 use Rattle.awari_table.specs.declared.images.Image.{Image}
-use Rattle.awari_cli.specs.Refusal.{board_fault_text, folder_fault_text}
 use Rattle.awari_cli.specs.declared.folders.LookUpFault.{LookUpFault}
 use Rattle.awari_cli.specs.declared.folders.LookUpFault.TheVariants.{Board, Folder, NotYet}
 use Rattle.awari_cli.specs.declared.folders.RightLevel.{RightLevel}
@@ -56,7 +58,8 @@ IsEntryOf text e = (images : List Image) × (board : List ℕ) × IsShelf images
 abbrev pub PrintsEntry : List ℕ → Option (List ℕ) → Option (List ℕ) → Type 0
 PrintsEntry text before after = (e : Entry) × IsEntryOf text e × Appends before after (entry_text e ++ 10 ∷ [])
 
+-- the fault inside it
 abbrev pub look_up_fault_text : LookUpFault → List ℕ
-look_up_fault_text (Board fault) = codes "refused " ++ board_fault_text fault
-look_up_fault_text (Folder fault) = codes "refused " ++ folder_fault_text fault
-look_up_fault_text (NotYet levels) = codes "refused 59 NotYet levels " ++ decimal levels
+look_up_fault_text (Board fault) = board_fault_text fault
+look_up_fault_text (Folder fault) = folder_fault_text fault
+look_up_fault_text (NotYet fault) = not_yet_text fault

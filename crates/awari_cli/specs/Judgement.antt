@@ -2,14 +2,13 @@
 use Rattle.std.specs.Prelude.{◌≡◌, ℕ, ◌+◌, ◌-◌, ◌&&◌, nat_le, if◌then◌else◌, min, List, ◌++◌, ◌∷◌, [], length, map, codes, ℤ, Option, Some, None, Result, Ok, Err, ◌↔◌}
 use Rattle.std.specs.Fmt.{decimal, signed_decimal}
 use Rattle.std.specs.Io.KnownBytes.{Appends}
-use Rattle.awari_board.specs.BoardFault.{IsFaulty}
-use Rattle.awari_board.specs.MoveFault.{IsDue}
+use Rattle.awari_board.specs.BoardFault.{IsFaulty, fault_text as board_fault_text}
+use Rattle.awari_board.specs.MoveFault.{IsDue, fault_text as move_fault_text}
 use Rattle.awari_board.specs.Rules.{IsBoard}
 use Rattle.awari_board.specs.Text.{text_of}
 use Rattle.awari_board.specs.declared.moves.MoveFault.{MoveFault}
 use Rattle.awari_game.specs.Plays.{Standing, start, IsPlay, IsOutcome}
 use Rattle.awari_game.specs.Shown.{greatest_u64}
-use Rattle.awari_cli.specs.Refusal.{board_fault_text, move_fault_text}
 use Rattle.awari_cli.specs.declared.judgements.Judgement.{Judgement}
 use Rattle.awari_cli.specs.declared.judgements.JudgeFault.{JudgeFault}
 use Rattle.awari_cli.specs.declared.judgements.JudgeFault.TheVariants.{Board, Move}
@@ -57,10 +56,14 @@ outcome_text (Some outcome) = signed_decimal outcome
 abbrev pub judgement_text : Judgement → List ℕ
 judgement_text j = codes "board " ++ text_of j.board ++ codes "\nrunning " ++ signed_decimal j.running ++ codes "\nquiet " ++ decimal j.quiet ++ codes "\noutcome " ++ outcome_text j.outcome
 
+-- the fault inside it, and the number of the move
+abbrev pub judge_fault_text : JudgeFault → List ℕ
+judge_fault_text (Board fault) = board_fault_text fault
+judge_fault_text (Move fault number) = move_fault_text fault ++ codes " at " ++ decimal number
+
 abbrev pub judge_text : Result Judgement JudgeFault → List ℕ
 judge_text (Ok judgement) = judgement_text judgement
-judge_text (Err (Board fault)) = codes "refused " ++ board_fault_text fault
-judge_text (Err (Move fault number)) = codes "refused " ++ move_fault_text fault ++ codes " at " ++ decimal number
+judge_text (Err fault) = codes "refused " ++ judge_fault_text fault
 
 -- Where it is known what the writer holds, what was written is the judgement of the play of these moves, and the line feed.
 abbrev pub PrintsJudgement : List ℕ → ℕ → List ℕ → Option (List ℕ) → Option (List ℕ) → Type 0

@@ -1,4 +1,3 @@
-pub mod Refusal
 pub mod Playing
 pub mod Judgement
 pub mod Done

@@ -3,13 +3,15 @@ use Rattle.std.specs.Prelude.{◌≡◌, ℕ, ◌<◌, List, ◌++◌, ◌∷◌
 use Rattle.std.specs.Fmt.{decimal, signed_decimal}
 use Rattle.std.specs.List.{flat_map}
 use Rattle.std.specs.Io.KnownBytes.{Appends}
+use Rattle.awari_board.specs.BoardFault.{fault_text as board_fault_text}
 use Rattle.awari_board.specs.Rules.{IsBoard}
 use Rattle.awari_board.specs.Text.{text_of}
+use Rattle.awari_folder.specs.FolderFault.{fault_text as folder_fault_text}
 use Rattle.awari_plan.specs.BestLine.{IsBestLine}
+use Rattle.awari_plan.specs.LineFault.{fault_text as line_fault_text}
 use Rattle.awari_table.specs.Images.{entry_of, greatest_limit, table_of}
 use Rattle.awari_table.specs.Shelves.{IsShelf}
 use Rattle.awari_table.specs.declared.images.Image.{Image}
-use Rattle.awari_cli.specs.Refusal.{board_fault_text, folder_fault_text, line_fault_text}
 use Rattle.awari_cli.specs.declared.lines.NoLine.{NoLine}
 use Rattle.awari_cli.specs.declared.lines.NoLine.TheVariants.{Board, Folder, Line}
 
@@ -38,7 +40,8 @@ abbrev pub PrintsLine : List ℕ → Option (List ℕ) → Option (List ℕ) →
 PrintsLine text before after = (value : ℤ) × (moves : List ℕ) × (outcome : ℤ) × IsLineOf text value moves outcome
     × Appends before after (line_text value moves outcome ++ 10 ∷ [])
 
+-- the fault inside it
 abbrev pub no_line_text : NoLine → List ℕ
-no_line_text (Board fault) = codes "refused " ++ board_fault_text fault
-no_line_text (Folder fault) = codes "refused " ++ folder_fault_text fault
-no_line_text (Line fault) = codes "refused " ++ line_fault_text fault
+no_line_text (Board fault) = board_fault_text fault
+no_line_text (Folder fault) = folder_fault_text fault
+no_line_text (Line fault) = line_fault_text fault

@@ -2,12 +2,11 @@
 use Rattle.std.specs.Prelude.{◌≡◌, ℕ, List, ◌++◌, ◌∷◌, [], codes, Option, Result, Ok, Err}
 use Rattle.std.specs.Fmt.{decimal}
 use Rattle.std.specs.Io.KnownBytes.{Appends}
-use Rattle.awari_board.specs.BoardFault.{IsFaulty}
-use Rattle.awari_board.specs.MoveFault.{IsDue}
+use Rattle.awari_board.specs.BoardFault.{IsFaulty, fault_text as board_fault_text}
+use Rattle.awari_board.specs.MoveFault.{IsDue, fault_text as move_fault_text}
 use Rattle.awari_board.specs.Rules.{IsBoard, IsMove}
 use Rattle.awari_board.specs.Text.{text_of}
 use Rattle.awari_board.specs.declared.moves.Moved.{Moved}
-use Rattle.awari_cli.specs.Refusal.{board_fault_text, move_fault_text}
 use Rattle.awari_cli.specs.declared.playing.PlayFault.{PlayFault}
 use Rattle.awari_cli.specs.declared.playing.PlayFault.TheVariants.{Board, Move}
 
@@ -20,10 +19,14 @@ abbrev pub IsPlayFault : List ℕ → ℕ → PlayFault → Type 0
 IsPlayFault text pit (Board fault) = IsFaulty text fault
 IsPlayFault text pit (Move fault) = (board : List ℕ) × IsBoard board × (text ≡ text_of board) × IsDue board pit fault
 
+-- the fault inside it
+abbrev pub play_fault_text : PlayFault → List ℕ
+play_fault_text (Board fault) = board_fault_text fault
+play_fault_text (Move fault) = move_fault_text fault
+
 abbrev pub play_text : Result Moved PlayFault → List ℕ
 play_text (Ok moved) = text_of moved.board ++ 32 ∷ decimal moved.captured
-play_text (Err (Board fault)) = codes "refused " ++ board_fault_text fault
-play_text (Err (Move fault)) = codes "refused " ++ move_fault_text fault
+play_text (Err fault) = codes "refused " ++ play_fault_text fault
 
 -- Where it is known what the writer holds, what was written is the move from this pit of the board that the text spells, and the
 -- line feed.

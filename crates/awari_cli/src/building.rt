@@ -8,8 +8,7 @@ ghost use Rattle.awari_table.specs.Shelves.{Consistent, IsShelf};
 ghost use Rattle.awari_cli.specs.Building.{IsToldOf, PrintsLevels, level_lines};
 ghost use Rattle.awari_cli.specs.declared.building.BuildingFault.TheVariants as building_fault;
 
-use crate::printing::print;
-use crate::refusals::{OfBuild, OfFolder};
+use crate::printing::{Refused, print};
 use awari_build::{BuildFault, build_alone};
 use awari_folder::{FolderFault, load, save};
 use awari_rank::size;
@@ -64,7 +63,7 @@ impl fmt::Display for Shares {
     }
 }
 
-/// Why a level is not built, or not saved. Printed, it is the refusal.
+/// Why a level is not built, or not saved. Printed, it is the fault inside it.
 #[derive(Clone, Copy)]
 enum BuildingFault {
     Build { fault: BuildFault },
@@ -105,8 +104,8 @@ impl fmt::Display for BuildingFault {
 
     fn fmt<W: fmt::Write>(&self, f: &mut fmt::Formatter<W>) -> fmt::Result {
         match *self {
-            BuildingFault::Build { fault } => write!(f, "refused {}", OfBuild(fault)),
-            BuildingFault::Folder { fault } => write!(f, "refused {}", OfFolder(fault)),
+            BuildingFault::Build { fault } => write!(f, "{fault}"),
+            BuildingFault::Folder { fault } => write!(f, "{fault}"),
         }
     }
 }
@@ -151,7 +150,7 @@ pub fn run_build<F: Files, W: Write>(
                     )
                 }
                 Err(fault) => {
-                    print(writer, &BuildingFault::Folder { fault });
+                    print(writer, &Refused(fault));
                     1
                 }
             }
@@ -183,7 +182,7 @@ fn build_up<F: Files, W: Write>(
                 }
             }
             Err(fault) => {
-                print(writer, &fault);
+                print(writer, &Refused(fault));
                 return 1;
             }
         }

@@ -12,8 +12,7 @@ ghost use Rattle.awari_table.specs.declared.images.Image.{Image};
 ghost use Rattle.awari_cli.specs.Folders.{IsEntryOf, PrintsFolder, PrintsEntry, digest_text, hex_digit, right_lines};
 ghost use Rattle.awari_cli.specs.declared.folders.LookUpFault.TheVariants as look_up;
 
-use crate::printing::print;
-use crate::refusals::{OfBoard, OfFolder};
+use crate::printing::{Refused, print};
 use arrayvec::ArrayString;
 use awari_board::{Board, BoardFault, one_board_fault_is_due};
 use awari_folder::{FolderFault, load};
@@ -84,7 +83,7 @@ fn hex_digit(value: u8) -> char
     })
 }
 
-/// Why a folder gives no entry of a board. Printed, it is the refusal.
+/// Why a folder gives no entry of a board. Printed, it is the fault inside it.
 #[derive(Clone, Copy)]
 enum LookUpFault {
     /// The text is no board.
@@ -92,7 +91,7 @@ enum LookUpFault {
     /// The folder is not loaded.
     Folder { fault: FolderFault },
     /// 59: the folder has only so many levels, and the board has at least as many stones.
-    NotYet { levels: u8 },
+    NotYet { fault: NotYet },
 }
 
 impl From<BoardFault> for LookUpFault {
@@ -112,12 +111,10 @@ impl From<FolderFault> for LookUpFault {
 }
 
 impl From<NotYet> for LookUpFault {
-    ghost from_gives = { λ not_yet e. e ≡ look_up.NotYet not_yet.levels };
+    ghost from_gives = { λ fault e. e ≡ look_up.NotYet fault };
 
-    fn from(not_yet: NotYet) -> Self {
-        LookUpFault::NotYet {
-            levels: not_yet.levels,
-        }
+    fn from(fault: NotYet) -> Self {
+        LookUpFault::NotYet { fault }
     }
 }
 
@@ -129,9 +126,9 @@ impl fmt::Display for LookUpFault {
 
     fn fmt<W: fmt::Write>(&self, f: &mut fmt::Formatter<W>) -> fmt::Result {
         match *self {
-            LookUpFault::Board { fault } => write!(f, "refused {}", OfBoard(fault)),
-            LookUpFault::Folder { fault } => write!(f, "refused {}", OfFolder(fault)),
-            LookUpFault::NotYet { levels } => write!(f, "refused 59 NotYet levels {levels}"),
+            LookUpFault::Board { fault } => write!(f, "{fault}"),
+            LookUpFault::Folder { fault } => write!(f, "{fault}"),
+            LookUpFault::NotYet { fault } => write!(f, "{fault}"),
         }
     }
 }
@@ -211,7 +208,7 @@ pub fn run_ask<F: Files, W: Write>(
             }
         }
         Err(fault) => {
-            print(writer, &fault);
+            print(writer, &Refused(fault));
             1
         }
     }
@@ -226,7 +223,7 @@ pub fn run_verify<F: Files, W: Write>(files: &F, alloc: Global, folder: &str, wr
     let stored = match load(files, alloc, Path::new(folder)) {
         Ok(stored) => stored,
         Err(fault) => {
-            print(writer, &LookUpFault::Folder { fault });
+            print(writer, &Refused(fault));
             return 1;
         }
     };

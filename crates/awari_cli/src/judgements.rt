@@ -6,7 +6,6 @@ ghost use Rattle.awari_game.specs.Shown.{IsShown};
 ghost use Rattle.awari_cli.specs.declared.judgements.JudgeFault.TheVariants as judge_fault;
 ghost use Rattle.awari_cli.specs.Judgement.{IsJudgement, IsJudgeFault, pit_named};
 
-use crate::refusals::{OfBoard, OfMove};
 use awari_board::{Board, BoardFault, MoveFault};
 use awari_game::Game;
 use std::fmt;
@@ -25,15 +24,27 @@ pub struct Judgement {
     pub outcome: Option<i16>,
 }
 
-/// Why a play could not be judged.
+/// Why a play could not be judged. Printed, it is the fault inside it, and the number of the move.
 #[derive(Clone, Copy, Debug, PartialEq, Eq, Error)]
 pub enum JudgeFault {
     /// The text is no board.
-    #[error("{fault}")]
     Board { fault: BoardFault },
     /// The move of this number, counted from 1, can't be played.
-    #[error("move {number}: {fault}")]
     Move { fault: MoveFault, number: usize },
+}
+
+impl fmt::Display for JudgeFault {
+    ghost use Rattle.std.specs.Prelude.{Some};
+    ghost use Rattle.awari_cli.specs.Judgement.{judge_fault_text};
+
+    ghost output = { λ fault. Some (judge_fault_text fault) };
+
+    fn fmt<W: fmt::Write>(&self, f: &mut fmt::Formatter<W>) -> fmt::Result {
+        match *self {
+            JudgeFault::Board { fault } => write!(f, "{fault}"),
+            JudgeFault::Move { fault, number } => write!(f, "{fault} at {number}"),
+        }
+    }
 }
 
 impl From<BoardFault> for JudgeFault {
@@ -106,10 +117,7 @@ impl fmt::Display for Judged {
     fn fmt<W: fmt::Write>(&self, f: &mut fmt::Formatter<W>) -> fmt::Result {
         match self.0 {
             Ok(judgement) => write!(f, "{judgement}"),
-            Err(JudgeFault::Board { fault }) => write!(f, "refused {}", OfBoard(fault)),
-            Err(JudgeFault::Move { fault, number }) => {
-                write!(f, "refused {} at {number}", OfMove(fault))
-            }
+            Err(fault) => write!(f, "refused {fault}"),
         }
     }
 }

@@ -7,7 +7,6 @@ mod judgements;
 mod lines;
 mod playing;
 mod printing;
-mod refusals;
 mod requests;
 mod runs;
 

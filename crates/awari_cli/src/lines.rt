@@ -6,8 +6,7 @@ ghost use Rattle.awari_board.specs.declared.text.BoardFault.{BoardFault};
 ghost use Rattle.awari_cli.specs.Lines.{IsLineOf, PrintsLine};
 ghost use Rattle.awari_cli.specs.declared.lines.NoLine.TheVariants as no_line;
 
-use crate::printing::print;
-use crate::refusals::{OfBoard, OfFolder, OfLine};
+use crate::printing::{Refused, print};
 use awari_board::{Board, BoardFault, one_board_fault_is_due};
 use awari_folder::{FolderFault, load};
 use awari_plan::{Line, LineFault, best_line};
@@ -58,7 +57,7 @@ impl fmt::Display for Moves<'_> {
     }
 }
 
-/// Why there is no line of a board. Printed, it is the refusal.
+/// Why there is no line of a board. Printed, it is the fault inside it.
 #[derive(Clone, Copy)]
 enum NoLine {
     /// The text is no board.
@@ -101,9 +100,9 @@ impl fmt::Display for NoLine {
 
     fn fmt<W: fmt::Write>(&self, f: &mut fmt::Formatter<W>) -> fmt::Result {
         match *self {
-            NoLine::Board { fault } => write!(f, "refused {}", OfBoard(fault)),
-            NoLine::Folder { fault } => write!(f, "refused {}", OfFolder(fault)),
-            NoLine::Line { fault } => write!(f, "refused {}", OfLine(fault)),
+            NoLine::Board { fault } => write!(f, "{fault}"),
+            NoLine::Folder { fault } => write!(f, "{fault}"),
+            NoLine::Line { fault } => write!(f, "{fault}"),
         }
     }
 }
@@ -145,7 +144,7 @@ pub fn run_line<F: Files, W: Write>(
     match line_of(files, alloc, folder, board.as_bytes()) {
         Ok(found) => { if print(writer, &found) { 0 } else { 1 } }
         Err(fault) => {
-            print(writer, &fault);
+            print(writer, &Refused(fault));
             1
         }
     }

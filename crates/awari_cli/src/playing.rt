@@ -4,20 +4,31 @@ ghost use Rattle.std.specs.Prelude.{◌≡◌, IfOk, IfErr};
 ghost use Rattle.awari_cli.specs.declared.playing.PlayFault.TheVariants as play_fault;
 ghost use Rattle.awari_cli.specs.Playing.{IsPlayed, IsPlayFault};
 
-use crate::refusals::{OfBoard, OfMove};
 use awari_board::{Board, BoardFault, MoveFault, Moved};
 use std::fmt;
 use thiserror::Error;
 
-/// Why no move was played.
+/// Why no move was played. Printed, it is the fault inside it.
 #[derive(Clone, Copy, Debug, PartialEq, Eq, Error)]
 pub enum PlayFault {
     /// The text is no board.
-    #[error("{fault}")]
     Board { fault: BoardFault },
     /// The pit can't be played.
-    #[error("{fault}")]
     Move { fault: MoveFault },
+}
+
+impl fmt::Display for PlayFault {
+    ghost use Rattle.std.specs.Prelude.{Some};
+    ghost use Rattle.awari_cli.specs.Playing.{play_fault_text};
+
+    ghost output = { λ fault. Some (play_fault_text fault) };
+
+    fn fmt<W: fmt::Write>(&self, f: &mut fmt::Formatter<W>) -> fmt::Result {
+        match *self {
+            PlayFault::Board { fault } => write!(f, "{fault}"),
+            PlayFault::Move { fault } => write!(f, "{fault}"),
+        }
+    }
 }
 
 impl From<BoardFault> for PlayFault {
@@ -60,8 +71,7 @@ impl fmt::Display for Played {
     fn fmt<W: fmt::Write>(&self, f: &mut fmt::Formatter<W>) -> fmt::Result {
         match self.0 {
             Ok(moved) => write!(f, "{} {}", moved.board, moved.captured),
-            Err(PlayFault::Board { fault }) => write!(f, "refused {}", OfBoard(fault)),
-            Err(PlayFault::Move { fault }) => write!(f, "refused {}", OfMove(fault)),
+            Err(fault) => write!(f, "refused {fault}"),
         }
     }
 }

@@ -3,6 +3,7 @@
 ghost use Rattle.std.specs.Prelude.{◌≡◌, ◌++◌, ◌∷◌, [], true, IfSome};
 ghost use Rattle.std.specs.Io.KnownBytes.{Appends};
 
+use std::fmt;
 use std::fmt::Display;
 use std::io::Write;
 
@@ -13,5 +14,20 @@ pub fn print<W: Write, T: Display>(writer: &mut W, lines: &T) -> bool
     match writeln!(writer, "{lines}") {
         Ok(()) => writer.flush().is_ok(),
         Err(_) => false,
+    }
+}
+
+/// A refusal. Printed, it is `refused` and the fault.
+#[derive(Clone, Copy)]
+pub struct Refused<T>(pub T);
+
+impl<T: Display> Display for Refused<T> {
+    ghost use Rattle.std.specs.Prelude.{Some, codes};
+    ghost use Rattle.std.specs.Fmt.{◌++?◌};
+
+    ghost output = { λ refused. Some (codes "refused ") ++? T.output refused.0 };
+
+    fn fmt<W: fmt::Write>(&self, f: &mut fmt::Formatter<W>) -> fmt::Result {
+        write!(f, "refused {}", self.0)
     }
 }

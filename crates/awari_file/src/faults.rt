@@ -4,44 +4,34 @@ ghost use Rattle.std.specs.Prelude.{◌≡◌};
 ghost use Rattle.awari_file.specs.declared.faults.FileFault.TheVariants.{Memory};
 
 use std::alloc::AllocError;
+use std::fmt;
 use thiserror::Error;
 
 /// Why the file of a level is not read or written. Reading answers the fault of the first field
-/// that has one, in the order of the bytes.
+/// that has one, in the order of the bytes. Printed, a fault is its number and its name.
 #[derive(Clone, Copy, Debug, PartialEq, Eq, Error)]
 pub enum FileFault {
     /// 60: the input ends within a field.
-    #[error("the file ends early")]
     Truncated,
     /// 61: it does not begin as the file of a level.
-    #[error("this is not the file of a level")]
     Magic,
     /// 62: it is of another version, or its eighth byte is not 0.
-    #[error("the file is of an unknown version")]
     Version,
     /// 63: its level is above the highest.
-    #[error("the file's level is above the highest")]
     LevelOutOfRange,
     /// 64: it names another number of entries than its level has boards.
-    #[error("the file does not have an entry for each board")]
     Count,
     /// 65: the plan of an entry is neither a pit nor none.
-    #[error("an entry of the file has no plan of any form")]
     EntryForm,
     /// 66: the digest is not that of the bytes before it.
-    #[error("the file's digest is wrong")]
     Digest,
     /// 67: something follows the digest.
-    #[error("the file goes on after its digest")]
     Trailing,
     /// 68: the reader answered a fault.
-    #[error("the file could not be read")]
     Read,
     /// 69: there was no room for the entries.
-    #[error("out of memory")]
     Memory,
     /// 70: the writer answered a fault, or took no byte.
-    #[error("the file could not be written")]
     Write,
 }
 
@@ -64,6 +54,30 @@ impl FileFault {
             FileFault::Read => 68,
             FileFault::Memory => 69,
             FileFault::Write => 70,
+        }
+    }
+}
+
+impl fmt::Display for FileFault {
+    ghost use Rattle.std.specs.Prelude.{Some};
+    ghost use Rattle.awari_file.specs.FileFault.{fault_text};
+
+    ghost output = { λ fault. Some (fault_text fault) };
+
+    fn fmt<W: fmt::Write>(&self, f: &mut fmt::Formatter<W>) -> fmt::Result {
+        let number = self.number();
+        match *self {
+            FileFault::Truncated => write!(f, "{number} Truncated"),
+            FileFault::Magic => write!(f, "{number} Magic"),
+            FileFault::Version => write!(f, "{number} Version"),
+            FileFault::LevelOutOfRange => write!(f, "{number} LevelOutOfRange"),
+            FileFault::Count => write!(f, "{number} Count"),
+            FileFault::EntryForm => write!(f, "{number} EntryForm"),
+            FileFault::Digest => write!(f, "{number} Digest"),
+            FileFault::Trailing => write!(f, "{number} Trailing"),
+            FileFault::Read => write!(f, "{number} Read"),
+            FileFault::Memory => write!(f, "{number} Memory"),
+            FileFault::Write => write!(f, "{number} Write"),
         }
     }
 }

@@ -1,7 +1,10 @@
--- The refusals: their numbers, and the level that they name.
-use Rattle.std.specs.Prelude.{◌≡◌, ◌≢◌, ◌≤◌, ℕ}
+-- The refusals: their numbers, what is printed of them, and the level that they name.
+use Rattle.std.specs.Prelude.{◌≡◌, ◌≢◌, ◌≤◌, ℕ, List, ◌++◌, codes}
+use Rattle.std.specs.Fmt.{decimal}
 use Rattle.awari_table.specs.declared.TheConstants.{HIGHEST_LEVEL}
+use Rattle.awari_file.specs.FileFault.{fault_text as file_fault_text}
 use Rattle.awari_file.specs.declared.faults.FileFault.TheVariants as file
+use Rattle.awari_verify.specs.VerifyFault.{fault_text as verify_fault_text}
 use Rattle.awari_folder.specs.declared.faults.FolderFault.{FolderFault}
 use Rattle.awari_folder.specs.declared.faults.FolderFault.TheVariants.{Below, File, Open, Verify, Memory}
 
@@ -11,6 +14,14 @@ number_of (File level fault) = 81
 number_of (Open level) = 82
 number_of (Verify level fault) = 83
 number_of Memory = 84
+
+-- what is printed of each: its number, its name, its level, and the fault inside it
+abbrev pub fault_text : FolderFault → List ℕ
+fault_text (Below level) = codes "80 Below level " ++ decimal level
+fault_text (File level fault) = codes "81 File level " ++ decimal level ++ codes ": " ++ file_fault_text fault
+fault_text (Open level) = codes "82 Open level " ++ decimal level
+fault_text (Verify level fault) = codes "83 Verify level " ++ decimal level ++ codes ": " ++ verify_fault_text fault
+fault_text Memory = codes "84 Memory"
 
 -- The refusal names this level. Want of memory names none, and is not told as a fault of a file.
 abbrev pub Names : ℕ → FolderFault → Type 0

@@ -6,26 +6,23 @@ ghost use Rattle.awari_folder.specs.declared.faults.FolderFault.TheVariants.{Mem
 use awari_file::FileFault;
 use awari_verify::VerifyFault;
 use std::alloc::{AllocError, AllocFailed};
+use std::fmt;
 use thiserror::Error;
 
 /// Why a folder is not loaded, or a level not saved. For each file in turn the faults are looked
-/// for in the order 82, 81, 80, 83.
+/// for in the order 82, 81, 80, 83. Printed, a fault is its number, its name, its level, and the fault
+/// inside it.
 #[derive(Clone, Copy, Debug, PartialEq, Eq, Error)]
 pub enum FolderFault {
     /// 80: the level's file was written over another file than that of the level below.
-    #[error("the file of level {level} stands over another file than that of the level below")]
     Below { level: u8 },
     /// 81: the level's file is not read or written.
-    #[error("the file of level {level}: {fault}")]
     File { level: u8, fault: FileFault },
     /// 82: the level's file is there and does not open, or could not be made.
-    #[error("the file of level {level} does not open")]
     Open { level: u8 },
     /// 83: the level's file was read, and what it says is not right.
-    #[error("level {level}: {fault}")]
     Verify { level: u8, fault: VerifyFault },
     /// 84: there was no room for a level, or for a name.
-    #[error("out of memory")]
     Memory,
 }
 
@@ -42,6 +39,25 @@ impl FolderFault {
             FolderFault::Open { .. } => 82,
             FolderFault::Verify { .. } => 83,
             FolderFault::Memory => 84,
+        }
+    }
+}
+
+impl fmt::Display for FolderFault {
+    ghost use Rattle.std.specs.Prelude.{Some};
+    ghost use Rattle.awari_folder.specs.FolderFault.{fault_text};
+
+    ghost output = { λ fault. Some (fault_text fault) };
+
+    fn fmt<W: fmt::Write>(&self, f: &mut fmt::Formatter<W>) -> fmt::Result {
+        match *self {
+            FolderFault::Below { level } => write!(f, "80 Below level {level}"),
+            FolderFault::File { level, fault } => write!(f, "81 File level {level}: {fault}"),
+            FolderFault::Open { level } => write!(f, "82 Open level {level}"),
+            FolderFault::Verify { level, fault } => {
+                write!(f, "83 Verify level {level}: {fault}")
+            }
+            FolderFault::Memory => write!(f, "84 Memory"),
         }
     }
 }

@@ -1,5 +1,6 @@
 -- Why a note is refused.
-use Rattle.std.specs.Prelude.{◌≡◌, ℕ, ◌-◌, ◌^◌, true, false}
+use Rattle.std.specs.Prelude.{◌≡◌, ℕ, ◌-◌, ◌^◌, true, false, List, ◌++◌, codes}
+use Rattle.std.specs.Fmt.{decimal}
 use Rattle.awari_owner.specs.Tally.{has_pit}
 use Rattle.awari_owner.specs.Part.{Part, IsExpected, stored_at}
 use Rattle.awari_owner.specs.declared.notes.Note.{Note}
@@ -12,6 +13,16 @@ number_of Stranger = 30
 number_of Doubled = 31
 number_of Far = 32
 number_of Memory = 33
+
+abbrev pub name_of : OwnerFault → List ℕ
+name_of Stranger = codes "Stranger"
+name_of Doubled = codes "Doubled"
+name_of Far = codes "Far"
+name_of Memory = codes "Memory"
+
+-- what is printed of each: its number and its name
+abbrev pub fault_text : OwnerFault → List ℕ
+fault_text fault = decimal (number_of fault) ++ codes " " ++ name_of fault
 
 -- The fault of a note. At most one is due, since each is tested only where those before it are not.
 abbrev pub IsFaultOf : Part → Note → OwnerFault → Type 0

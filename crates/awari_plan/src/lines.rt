@@ -12,6 +12,7 @@ use awari_board::Board;
 use awari_game::Game;
 use awari_table::{Entry, Shelf};
 use std::alloc::{AllocError, Global};
+use std::fmt;
 use thiserror::Error;
 
 /// A play from some board to its first outcome.
@@ -24,14 +25,12 @@ pub struct Line {
     pub outcome: i16,
 }
 
-/// Why there is no line.
+/// Why there is no line. Printed, it is its number, its name, and its field with its name.
 #[derive(Clone, Copy, Debug, PartialEq, Eq, Error)]
 pub enum LineFault {
     /// 56: the board's level is not on the shelf, which has this many levels.
-    #[error("only the levels below {levels} are there")]
     NotYet { levels: u8 },
     /// 57: a growth was refused.
-    #[error("out of memory")]
     Memory,
 }
 
@@ -45,6 +44,21 @@ impl LineFault {
         match self {
             LineFault::NotYet { .. } => 56,
             LineFault::Memory => 57,
+        }
+    }
+}
+
+impl fmt::Display for LineFault {
+    ghost use Rattle.std.specs.Prelude.{Some};
+    ghost use Rattle.awari_plan.specs.LineFault.{fault_text};
+
+    ghost output = { λ fault. Some (fault_text fault) };
+
+    fn fmt<W: fmt::Write>(&self, f: &mut fmt::Formatter<W>) -> fmt::Result {
+        let number = self.number();
+        match *self {
+            LineFault::NotYet { levels } => write!(f, "{number} NotYet levels {levels}"),
+            LineFault::Memory => write!(f, "{number} Memory"),
         }
     }
 }

@@ -4,6 +4,7 @@ pub mod Shelves
 pub mod Slots
 pub mod Spelling
 pub mod TableFault
+pub mod NotYet
 pub mod Place
 pub mod Reading
 pub mod Blocks

@@ -1,6 +1,7 @@
 -- Where a text has a fault. All of it is said by how images are spelled. A spelled line ends in its only line feed, so a first
 -- line that is not of a form is one that no spelling of that form begins.
-use Rattle.std.specs.Prelude.{◌≡◌, ◌≢◌, ◌⊎◌, ℕ, ◌+◌, ◌<◌, ◌≤◌, ◌^◌, Bool, true, false, List, ◌++◌, length, ◌==◌}
+use Rattle.std.specs.Prelude.{◌≡◌, ◌≢◌, ◌⊎◌, ℕ, ◌+◌, ◌<◌, ◌≤◌, ◌^◌, Bool, true, false, List, ◌++◌, length, ◌==◌, codes}
+use Rattle.std.specs.Fmt.{decimal}
 use Rattle.std.specs.List.{list_any, flat_map, AllByRecursion}
 use Rattle.awari_rank.specs.Rank.{size_of}
 use Rattle.awari_table.specs.declared.TheConstants.{HIGHEST_LEVEL}
@@ -15,6 +16,18 @@ number_of (Order line) = 11
 number_of (High line) = 12
 number_of Short = 13
 number_of Memory = 15
+
+-- its name, and each of its fields with its name
+abbrev pub name_and_fields : TableFault → List ℕ
+name_and_fields (Line line) = codes "Line line " ++ decimal line
+name_and_fields (Order line) = codes "Order line " ++ decimal line
+name_and_fields (High line) = codes "High line " ++ decimal line
+name_and_fields Short = codes "Short"
+name_and_fields Memory = codes "Memory"
+
+-- what is printed of each: its number, its name and its fields
+abbrev pub fault_text : TableFault → List ℕ
+fault_text fault = decimal (number_of fault) ++ codes " " ++ name_and_fields fault
 
 abbrev pub has_line_feed : List ℕ → Bool
 has_line_feed bytes = list_any (λ b. b == 10) bytes

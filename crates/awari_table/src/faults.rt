@@ -4,26 +4,23 @@ ghost use Rattle.std.specs.Prelude.{◌≡◌};
 ghost use Rattle.awari_table.specs.declared.faults.TableFault.TheVariants.{Memory};
 
 use std::alloc::AllocError;
+use std::fmt;
 use thiserror::Error;
 
 /// Why the text of a table is refused, at its first line that has a fault. Lines are numbered from
-/// 1. Of one line, the faults are looked for in the order of 13, 10, 12, 11.
+/// 1. Of one line, the faults are looked for in the order of 13, 10, 12, 11. Printed, a fault is its
+/// number, its name, and its field with its name.
 #[derive(Clone, Copy, Debug, PartialEq, Eq, Error)]
 pub enum TableFault {
     /// 10: the line has its line feed, and is not of the form that is due there.
-    #[error("line {line} is not of the form that is due")]
     Line { line: u64 },
     /// 11: the line is the header of a level up to the highest, and not of the next level.
-    #[error("line {line} is not the next level's header")]
     Order { line: u64 },
     /// 12: the line is the header of a level above the highest.
-    #[error("line {line} is the header of a level above the highest")]
     High { line: u64 },
     /// 13: the text ends before its last level is complete, or before a line feed.
-    #[error("the text ends early")]
     Short,
     /// 15: there was no room for a level.
-    #[error("out of memory")]
     Memory,
 }
 
@@ -40,6 +37,24 @@ impl TableFault {
             TableFault::High { .. } => 12,
             TableFault::Short => 13,
             TableFault::Memory => 15,
+        }
+    }
+}
+
+impl fmt::Display for TableFault {
+    ghost use Rattle.std.specs.Prelude.{Some};
+    ghost use Rattle.awari_table.specs.TableFault.{fault_text};
+
+    ghost output = { λ fault. Some (fault_text fault) };
+
+    fn fmt<W: fmt::Write>(&self, f: &mut fmt::Formatter<W>) -> fmt::Result {
+        let number = self.number();
+        match *self {
+            TableFault::Line { line } => write!(f, "{number} Line line {line}"),
+            TableFault::Order { line } => write!(f, "{number} Order line {line}"),
+            TableFault::High { line } => write!(f, "{number} High line {line}"),
+            TableFault::Short => write!(f, "{number} Short"),
+            TableFault::Memory => write!(f, "{number} Memory"),
         }
     }
 }

@@ -12,6 +12,7 @@ use arrayvec::ArrayVec;
 use awari_board::Board;
 use awari_rank::rank;
 use std::alloc::{AllocError, Global};
+use std::fmt;
 use std::marker::Model;
 use std::sync::Arc;
 use thiserror::Error;
@@ -19,9 +20,9 @@ use thiserror::Error;
 /// The levels from 0 to the highest.
 const SLOTS: usize = HIGHEST_LEVEL as usize + 1;
 
-/// The board's level is not on the shelf.
+/// The board's level is not on the shelf. Printed, it is its number, its name, and its field with its
+/// name.
 #[derive(Clone, Copy, Debug, PartialEq, Eq, Error)]
-#[error("only the levels below {levels} are there")]
 pub struct NotYet {
     /// How many levels the shelf has: those below this number.
     pub levels: u8,
@@ -33,6 +34,17 @@ impl NotYet {
         ensures { result ≡ 59 }
     {
         59
+    }
+}
+
+impl fmt::Display for NotYet {
+    ghost use Rattle.std.specs.Prelude.{Some};
+    ghost use Rattle.awari_table.specs.NotYet.{fault_text};
+
+    ghost output = { λ fault. Some (fault_text fault) };
+
+    fn fmt<W: fmt::Write>(&self, f: &mut fmt::Formatter<W>) -> fmt::Result {
+        write!(f, "59 NotYet levels {}", self.levels)
     }
 }
 

@@ -1,10 +1,12 @@
 -- Why an image is not the next level of a shelf.
-use Rattle.std.specs.Prelude.{◌≡◌, ◌≢◌, ◌⊎◌, ℕ, ◌≤◌, List, [], ◌∷◌, ◌++◌, length}
+use Rattle.std.specs.Prelude.{◌≡◌, ◌≢◌, ◌⊎◌, ℕ, ◌≤◌, List, [], ◌∷◌, ◌++◌, length, codes}
+use Rattle.std.specs.Fmt.{decimal}
 use Rattle.awari_rank.specs.Rank.{size_of}
 use Rattle.awari_table.specs.declared.TheConstants.{HIGHEST_LEVEL}
 use Rattle.awari_table.specs.declared.images.Image.{Image}
 use Rattle.awari_table.specs.Images.{table_of, greatest_dist}
 use Rattle.awari_verify.specs.FirstFailure.{RightBetween, IsRefusal}
+use Rattle.awari_verify.specs.Rule.{rule_name}
 use Rattle.awari_verify.specs.declared.rules.Rule.{Rule}
 use Rattle.awari_verify.specs.declared.rules.Rule.TheVariants.{V7}
 use Rattle.awari_verify.specs.declared.verdicts.VerifyFault.{VerifyFault}
@@ -14,6 +16,16 @@ abbrev pub number_of : VerifyFault → ℕ
 number_of WrongLevel = 20
 number_of WrongSize = 21
 number_of (Refused rank rule) = 22
+
+-- its name, and each of its fields with its name
+abbrev pub name_and_fields : VerifyFault → List ℕ
+name_and_fields WrongLevel = codes "WrongLevel"
+name_and_fields WrongSize = codes "WrongSize"
+name_and_fields (Refused rank rule) = codes "Refused rank " ++ decimal rank ++ codes " rule " ++ rule_name rule
+
+-- what is printed of each: its number, its name and its fields
+abbrev pub fault_text : VerifyFault → List ℕ
+fault_text fault = decimal (number_of fault) ++ codes " " ++ name_and_fields fault
 
 -- the image is of the level above the shelf, and has an entry for each board
 pub record IsShaped (shelf : List Image) (image : Image) : Type 0 where

@@ -11,21 +11,19 @@ use crate::rules::Rule;
 use crate::search::{Refusal, refusal_between};
 use awari_rank::size;
 use awari_table::{Entry, HIGHEST_LEVEL, Image, Level, Shelf};
+use std::fmt;
 use thiserror::Error;
 
 /// Why an image is not the next level of a shelf. A fault is looked for only where those before it
-/// are not due.
+/// are not due. Printed, it is its number, its name, and each field with its name.
 #[derive(Clone, Copy, Debug, PartialEq, Eq, Error)]
 pub enum VerifyFault {
     /// 20: the image is not of the shelf's next level, or of one above the highest.
-    #[error("the image is not of the shelf's next level")]
     WrongLevel,
     /// 21: the image has more entries, or fewer, than its level has boards.
-    #[error("the image does not have an entry for each board")]
     WrongSize,
     /// 22: the board of this rank is the first that breaks a rule, and this is the first rule that
     /// it breaks. Where each board keeps V1 to V6 and the limit is wrong, rank 0 and V7.
-    #[error("the board of rank {rank} breaks rule {rule}")]
     Refused { rank: u32, rule: Rule },
 }
 
@@ -40,6 +38,24 @@ impl VerifyFault {
             VerifyFault::WrongLevel => 20,
             VerifyFault::WrongSize => 21,
             VerifyFault::Refused { .. } => 22,
+        }
+    }
+}
+
+impl fmt::Display for VerifyFault {
+    ghost use Rattle.std.specs.Prelude.{Some};
+    ghost use Rattle.awari_verify.specs.VerifyFault.{fault_text};
+
+    ghost output = { λ fault. Some (fault_text fault) };
+
+    fn fmt<W: fmt::Write>(&self, f: &mut fmt::Formatter<W>) -> fmt::Result {
+        let number = self.number();
+        match *self {
+            VerifyFault::WrongLevel => write!(f, "{number} WrongLevel"),
+            VerifyFault::WrongSize => write!(f, "{number} WrongSize"),
+            VerifyFault::Refused { rank, rule } => {
+                write!(f, "{number} Refused rank {rank} rule {rule}")
+            }
         }
     }
 }
