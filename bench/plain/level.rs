@@ -43,11 +43,12 @@ struct Reached {
     nearer: bool,
 }
 
-/// What the legal moves of a board come to: the most that one gains, whether all come nearer, and
-/// the plan's move, if it is legal.
+/// What the legal moves of a board come to: the most that one gains, the fewest plies of those that
+/// gain the board's value, the most plies of all, and the plan's move, if it is legal.
 struct Seen {
     most: Option<i16>,
-    all_nearer: bool,
+    soonest: Option<u64>,
+    latest: u64,
     planned: Option<Reached>,
 }
 
@@ -55,7 +56,8 @@ fn seen(ways: &Ways, below: &[Level], entries: &[Entry], own: Entry, board: &Boa
     let stones = below.len();
     let mut seen = Seen {
         most: None,
-        all_nearer: true,
+        soonest: None,
+        latest: 0,
         planned: None,
     };
     for pit in 0..6 {
@@ -70,8 +72,15 @@ fn seen(ways: &Ways, below: &[Level], entries: &[Entry], own: Entry, board: &Boa
         let next = level[ways.rank_of(left, &next) as usize];
         let gain = i16::from(captured) - i16::from(next.value);
         let nearer = captured > 0 || next.dist < own.dist;
+        let plies = match captured {
+            0 => u64::from(next.dist) + 1,
+            _ => 1,
+        };
         seen.most = seen.most.max(Some(gain));
-        seen.all_nearer &= nearer;
+        seen.latest = seen.latest.max(plies);
+        if gain == i16::from(own.value) {
+            seen.soonest = Some(seen.soonest.map_or(plies, |fewest| fewest.min(plies)));
+        }
         if own.plan == Some(pit) {
             seen.planned = Some(Reached { gain, nearer });
         }
@@ -106,12 +115,12 @@ fn broken(
     if planned.gain != value {
         return Some(5);
     }
-    let falls = match value {
+    let least = match value {
         0 => dist == 0,
-        1.. => dist > 0 && planned.nearer,
-        _ => dist > 0 && seen.all_nearer,
+        1.. => seen.soonest == Some(u64::from(dist)) && planned.nearer,
+        _ => seen.latest == u64::from(dist),
     };
-    (!falls).then_some(6)
+    (!least).then_some(6)
 }
 
 /// The first rank and rule by which a level is refused above those below it.

@@ -5,6 +5,7 @@ ghost use Rattle.awari_owner.specs.Level.{IsClosed};
 ghost use Rattle.awari_owner.specs.Part.{IsLeastDue, unspread};
 ghost use Rattle.awari_owner.specs.Scan.{IsWhole};
 ghost use Rattle.awari_build.specs.Sound.{IsSound};
+ghost use Rattle.awari_plan.specs.Least.{IsPlannedLowest};
 ghost use Rattle.awari_table.specs.Images.{table_of};
 ghost use Rattle.awari_table.specs.Shelves.{Consistent, IsShelf};
 ghost use Rattle.awari_table.specs.declared.TheConstants.{HIGHEST_LEVEL};
@@ -25,6 +26,9 @@ use std::slice;
 pub fn build_alone(alloc: Global, shelf: &Shelf) -> Result<Level, BuildFault>
     ensures consistent { IfOk result (λ level. Consistent shelf.now level) }
     ensures meaning { IfOk result (λ level. TellsTruth (shelf.now ++ level ∷ [])) }
+
+    // Its plans are the lowest, so there is one level that it may be.
+    ensures planned { IfOk result (IsPlannedLowest shelf.now) }
     ensures too_high { (result ≡ Err BuildFault.TooHigh) ↔ (HIGHEST_LEVEL < length shelf.now) }
     ensures fault { IfErr result (λ fault. (fault ≡ BuildFault.TooHigh) ⊎ (fault ≡ BuildFault.Memory)) }
 {
@@ -44,6 +48,7 @@ fn level_of(alloc: Global, shelf: &Shelf, part: &Part) -> Result<Level, BuildFau
     requires sound { IsSound (table_of shelf.now).value part.now }
     ensures consistent { IfOk result (λ level. Consistent shelf.now level) }
     ensures meaning { IfOk result (λ level. TellsTruth (shelf.now ++ level ∷ [])) }
+    ensures planned { IfOk result (IsPlannedLowest shelf.now) }
     ensures memory { IfErr result (λ fault. fault ≡ BuildFault.Memory) }
 {
     finished_levels_are_consistent();

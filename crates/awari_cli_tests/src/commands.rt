@@ -90,7 +90,7 @@ pub fn level_2_line(alloc: Global, board: &Board) -> Result<String, AllocError> 
 /// Limits of level 1 and lines for one of its ranks, with what is printed of each and the status.
 const CHECKED: [(u32, u32, &str, &str, u8); 8] = [
     (1, 6, "-1 5 1", "yes levels 2 limit 1\n", 0),
-    (2, 6, "-1 5 2", "yes levels 2 limit 2\n", 0),
+    (2, 6, "-1 5 2", "no level 1 rank 6 rule V6\n", 1),
     (1, 6, "-1 5 0", "no level 1 rank 6 rule V6\n", 1),
     (1, 6, "1 5 1", "no level 1 rank 6 rule V5\n", 1),
     (1, 6, "-1 4 1", "no level 1 rank 6 rule V3\n", 1),

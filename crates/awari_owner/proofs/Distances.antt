@@ -20,27 +20,11 @@ use Rattle.awari_owner.specs.declared.cells.Cell.{Cell}
 use Rattle.awari_owner.specs.declared.cells.Mark.{Mark}
 use Rattle.awari_owner.specs.declared.cells.Mark.TheVariants as mark
 use Rattle.awari_owner.specs.declared.notes.Note.{Note}
+use Rattle.awari_owner.proofs.Basics.{far_attained}
 use Rattle.awari_owner.proofs.Finishing.{settled_status}
 use Rattle.awari_owner.proofs.Levels.{block_at, cells_in_all, holds, known_there, next_board_is, of_level}
 
 -- ---- the board behind one
-
-far_attained : (notes : List Note) → (far_of notes ≡ 0) ⊎ ((m : Note) × Has notes m × (m.dist ≡ far_of notes))
-far_attained [] = inl refl
-far_attained (k ∷ notes) = elim (far_attained notes) [
-  | inl none ↦ elim (either (is_won k.kind) k.dist (far_of notes)) [
-    | inl rest ↦ inl (rest ∙ none)
-    | inr first ↦ inr (k, inl refl, sym first)
-  ]
-  | inr some ↦ elim (either (is_won k.kind) k.dist (far_of notes)) [
-    | inl rest ↦ inr (some.0, inr some.1, some.2 ∙ sym rest)
-    | inr first ↦ inr (k, inl refl, sym first)
-  ]
-]
-  where
-    either : (b : Bool) (d far : ℕ) → ((if b then max d far else far) ≡ far) ⊎ ((if b then max d far else far) ≡ d)
-    either false d far = inl refl
-    either true d far = elim (cases_lt d far) [ inl lt ↦ inl (omega (arith, lt)) | inr ge ↦ inr (omega (arith, ge)) ]
 
 -- a distance above 1 is one more than a note's
 behind : (value : List ℕ → ℤ) (p : List ℕ) (notes : List Note) (t : ℕ) (v : ℤ) (d : ℕ) → IsStatus value p notes t (Settled v d)

@@ -1,10 +1,10 @@
 -- A board at which all notes were heard keeps the rules of an image, at gain 1.
-use Rattle.std.proofs.Common.{Option, Some, is_some, ◌≡◌, ℕ, ◌<◌, ◌≤◌, ◌==◌, ◌⊎◌, inl, inr, Bool, true, false, not, ◌&&◌, ◌||◌, cond, List, [], ◌∷◌, sum, ℤ, pos, neg_ℤ, ◌≤ℤ◌, ◌<ℤ◌, refl, sym, ap, subst, ◌∙◌, arith}
+use Rattle.std.proofs.Common.{Option, Some, is_some, ◌≡◌, ℕ, zero, suc, ◌+◌, ◌<◌, ◌≤◌, ◌==◌, ◌⊎◌, inl, inr, Bool, true, false, not, ◌&&◌, ◌||◌, cond, List, [], ◌∷◌, sum, ℤ, pos, neg_ℤ, ◌≤ℤ◌, ◌<ℤ◌, refl, sym, ap, subst, ◌∙◌, arith}
 use Rattle.std.proofs.lemmas.Bool.Decides.{nat_tests}
 use Rattle.std.proofs.lemmas.Bool.{false≢true}
 use Rattle.std.proofs.lemmas.Int.{ints}
 use Rattle.awari_board.specs.Rules.{IsMove, IsEnd, IsEnded, captured, next_board, own_stones}
-use Rattle.awari_owner.specs.Notes.{IsQuietMove, Has, is_won, gain_by, is_won_at}
+use Rattle.awari_owner.specs.Notes.{IsQuietMove, Has, is_won, gain_by, is_won_at, far_of}
 use Rattle.awari_board.specs.Tests.{is_legal}
 use Rattle.awari_owner.specs.Tally.{Status, Ended, Open, Settled, Cell, is_left, left_of, Captures, Knows, IsOpen, IsSettledAs, IsDistance, IsStatus}
 use Rattle.awari_owner.specs.Finish.{value_by, dist_by, IsQuietAt, gains, IsRightAt}
@@ -12,7 +12,9 @@ use Rattle.awari_owner.specs.declared.notes.Note.{Note}
 use Rattle.awari_owner.specs.declared.notes.Kind.{Kind}
 use Rattle.awari_owner.specs.declared.notes.Kind.TheVariants.{Won, Lost}
 use Rattle.awari_owner.specs.Part.{settled_by}
-use Rattle.awari_owner.proofs.Basics.{won_note, far_of-won, count_by-none, count_by-some}
+use Rattle.awari_table.specs.Certificate.{plies}
+use Rattle.awari_table.proofs.CertificateLemmas.{plies_cases, plies_taken}
+use Rattle.awari_owner.proofs.Basics.{won_note, far_of-won, far_attained, count_by-none, count_by-some}
 use Rattle.awari_owner.proofs.Legality.{quiet_counted, counted_quiet}
 
 -- two boards of one quiet move are one
@@ -39,6 +41,11 @@ no_zero_gain : (k : Kind) (g : ℕ) → 1 ≤ g → gain_by k g ≡ pos 0 → �
 no_zero_gain Won g h e = omega (arith, ints)
 no_zero_gain Lost g h e = omega (arith, ints)
 
+-- of a negative gain only a Won note
+below_won : (k : Kind) (g : ℕ) → gain_by k g <ℤ pos 0 → k ≡ Won
+below_won Won g low = refl
+below_won Lost g low = absurd (omega (arith, ints))
+
 module _ (value : List ℕ → ℤ) (cell : List ℕ → Cell) (p : List ℕ) (notes : List Note) (heard : IsQuietAt value cell p notes) where
   -- where no quiet move is left, each has a Won note
   won_at : left_of p notes ≡ 0 → (x : ℕ) (q : List ℕ) → IsQuietMove p x q
@@ -61,6 +68,8 @@ module _ (value : List ℕ → ℤ) (cell : List ℕ → Cell) (p : List ℕ) (n
     even = λ e. absurd (let z : v ≡ pos 0 = sym (ap value_by is) ∙ e in nonzero z s.reached);
     uneven = λ _ _. subst (λ z. 1 ≤ dist_by z) (sym is) (some s.distance);
     losing = λ neg x q quiet. subst (λ z. dist_by (cell q).status < dist_by z) (sym is) (nearer (subst (λ z. value_by z <ℤ pos 0) is neg) s.reached s.distance x q quiet);
+    won = λ _ up. subst WonAt (sym is) (won_by (subst (λ z. pos 0 <ℤ value_by z) is up) s.distance);
+    lost = λ _ down. subst LostAt (sym is) (lost_by (subst (λ z. value_by z <ℤ pos 0) is down) s.distance);
   }
     where
       nonzero : v ≡ pos 0 → (pos 1 ≤ℤ v) ⊎ ((v ≤ℤ neg_ℤ (pos 1)) × (left_of p notes ≡ 0)) → ⊥
@@ -125,6 +134,68 @@ module _ (value : List ℕ → ℤ) (cell : List ℕ → Cell) (p : List ℕ) (n
           let dq : dist_by (cell q).status ≡ won.4 = ap dist_by won.5 in
           let within = far_of-won notes won.0 won.1 won.2 in omega (arith, dq, within, won.6, lost.1)
 
+      WonAt : Status → Type 0
+      WonAt z =
+          ((x c : ℕ) × (q : List ℕ) × IsMove p x c q × gains value cell c q (value_by z) × (plies c (dist_by (cell q).status) ≡ dist_by z))
+          × ((x c : ℕ) (q : List ℕ) → IsMove p x c q → gains value cell c q (value_by z) → dist_by z ≤ plies c (dist_by (cell q).status))
+
+      LostAt : Status → Type 0
+      LostAt z =
+          ((x c : ℕ) × (q : List ℕ) × IsMove p x c q × (plies c (dist_by (cell q).status) ≡ dist_by z))
+          × ((x c : ℕ) (q : List ℕ) → IsMove p x c q → plies c (dist_by (cell q).status) ≤ dist_by z)
+
+      -- the move of a note, and its plies
+      noted : (m : Note) → Has notes m → (q : List ℕ) × IsMove p m.pit 0 q × (gain_by m.kind m.gain ≡ neg_ℤ (value_by (cell q).status)) × (dist_by (cell q).status ≡ m.dist)
+      noted m has = let told = heard.true_notes m has in (told.0, told.3, told.5 ∙ ap neg_ℤ (sym (ap value_by told.4)), ap dist_by told.4 ∙ sym told.6)
+
+      -- a quiet move that gains a positive value has a note of this gain
+      note_of : (x : ℕ) (q : List ℕ) (z : Status) → (cell q).status ≡ z → IsQuietMove p x q → pos 0 <ℤ v → v ≡ neg_ℤ (value_by z)
+          → (m : Note) × Has notes m × (gain_by m.kind m.gain ≡ v) × (m.dist ≡ dist_by z)
+      note_of x q (Settled u e) at quiet up gain = let m = heard.all_notes x q u e quiet at in (m.0, m.1, m.3 ∙ sym gain, m.4)
+      note_of x q (Ended g) at quiet up gain = absurd (omega (arith, ints, gain))
+      note_of x q (Open l b f) at quiet up gain = absurd (omega (arith, ints, gain))
+
+      won_by : pos 0 <ℤ v → IsDistance value p notes v d → WonAt (Settled v d)
+      won_by up (inl (_, (x, c, q, move, some, gain), one)) = (
+        (x, c, q, move, inl (some, gain), plies_taken c (dist_by (cell q).status) some ∙ sym one),
+        λ y k r other _. elim (plies_cases k (dist_by (cell r).status)) [ inl taken ↦ omega (arith, taken.1, one) | inr quiet ↦ omega (arith, quiet.1, one) ],
+      )
+      won_by up (inr (inl (_, none, (m, has, gain, far, nearest)))) =
+          let (q, quiet, gives, near) = noted m has in (
+            (m.pit, 0, q, quiet, inr (refl, sym gain ∙ gives), omega (arith, near, far)),
+            λ y k r other gained. elim gained [
+              | inl taken ↦ absurd (none (y, k, r, other, taken.0, taken.1))
+              | inr still ↦
+                  let plain = subst (λ i. IsMove p y i r) still.0 other in
+                  let (j, there, same, dist) = note_of y r (cell r).status refl plain up still.1 in
+                  let first = nearest j there same in
+                  subst (λ i. d ≤ plies i (dist_by (cell r).status)) (sym still.0) (omega (arith, far, first, dist))
+            ],
+          )
+      won_by up (inr (inr lost)) = absurd (let k = lost.0 in omega (arith, ints, k))
+
+      lost_by : v <ℤ pos 0 → IsDistance value p notes v d → LostAt (Settled v d)
+      lost_by down (inl capture) = absurd (let k = capture.0 in omega (arith, ints, k))
+      lost_by down (inr (inl note)) = absurd (let k = note.0 in omega (arith, ints, k))
+      lost_by down (inr (inr lost)) = (
+        elim (far_attained notes) [
+          | inr some ↦ let (q, quiet, gives, near) = noted some.0 some.1 in (some.0.pit, 0, q, quiet, omega (arith, near, some.2, lost.1))
+          | inl none ↦ elim s.known [
+            | inl (x, c, q, move, some, gain) ↦ (x, c, q, move, plies_taken c (dist_by (cell q).status) some ∙ omega (arith, none, lost.1))
+            | inr (m, has, gain) ↦
+                let (q, quiet, gives, near) = noted m has in
+                let least = far_of-won notes m has (ap is_won (below_won m.kind m.gain (subst (λ z. z <ℤ pos 0) gain down))) in
+                (m.pit, 0, q, quiet, omega (arith, near, none, least, lost.1))
+          ]
+        ],
+        λ x c q move. elim (plies_cases c (dist_by (cell q).status)) [
+          | inl taken ↦ omega (arith, taken.1, lost.1)
+          | inr still ↦
+              let near = nearer down s.reached s.distance x q (subst (λ i. IsMove p x i q) still.0 move) in
+              omega (arith, still.1, near)
+        ],
+      )
+
   right_ended : (gain : ℤ) → IsEnd p gain → ((g : ℤ) → IsEnd p g → value_by (cell p).status ≡ g) → dist_by (cell p).status ≡ 0 → IsRightAt value cell p
   right_ended gain end valued near = record {
     ends = λ g e. (valued g e, near);
@@ -133,6 +204,8 @@ module _ (value : List ℕ → ℤ) (cell : List ℕ → Cell) (p : List ℕ) (n
     even = λ _. near;
     uneven = λ going _. absurd (going end.stuck);
     losing = λ neg x q quiet. absurd (end.stuck x quiet.legal);
+    won = λ going. absurd (going end.stuck);
+    lost = λ going. absurd (going end.stuck);
   }
 
   right_open : (left : ℕ) (best : Option ℤ) (far : ℕ) → (cell p).status ≡ Open left best far → (IsEnded p → ⊥) → IsOpen value p notes 1 → IsRightAt value cell p
@@ -143,6 +216,8 @@ module _ (value : List ℕ → ℤ) (cell : List ℕ → Cell) (p : List ℕ) (n
     even = λ _. ap dist_by is;
     uneven = λ _ other. absurd (other (ap value_by is));
     losing = λ neg x q quiet. absurd (let k = subst (λ z. value_by z <ℤ pos 0) is neg in omega (arith, ints, k));
+    won = λ _ up. absurd (let k = subst (λ z. pos 0 <ℤ value_by z) is up in omega (arith, ints, k));
+    lost = λ _ down. absurd (let k = subst (λ z. value_by z <ℤ pos 0) is down in omega (arith, ints, k));
   }
     where
       opened : (m : Note) → Has notes m → 1 ≤ m.gain

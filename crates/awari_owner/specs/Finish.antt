@@ -1,6 +1,7 @@
 -- What a quiet level says of its boards once all gains are closed.
 use Rattle.std.specs.Prelude.{◌≡◌, ℕ, ◌<◌, ◌≤◌, ◌⊎◌, List, ℤ, pos, neg_ℤ, ◌-ℤ◌, ◌≤ℤ◌, ◌<ℤ◌}
 use Rattle.awari_board.specs.Rules.{IsMove, IsEnd, IsEnded}
+use Rattle.awari_table.specs.Certificate.{plies}
 use Rattle.awari_owner.specs.Notes.{IsQuietMove, Has, gain_by}
 use Rattle.awari_owner.specs.Tally.{Status, Ended, Open, Settled, Cell, IsTally}
 use Rattle.awari_owner.specs.declared.notes.Note.{Note}
@@ -38,3 +39,9 @@ pub record IsRightAt (value : List ℕ → ℤ) (cell : List ℕ → Cell) (p : 
   pub even : value_by (cell p).status ≡ pos 0 → dist_by (cell p).status ≡ 0
   pub uneven : (IsEnded p → ⊥) → (value_by (cell p).status ≡ pos 0 → ⊥) → 1 ≤ dist_by (cell p).status
   pub losing : value_by (cell p).status <ℤ pos 0 → (x : ℕ) (q : List ℕ) → IsQuietMove p x q → dist_by (cell q).status < dist_by (cell p).status
+  pub won : (IsEnded p → ⊥) → pos 0 <ℤ value_by (cell p).status
+      → ((x c : ℕ) × (q : List ℕ) × IsMove p x c q × gains value cell c q (value_by (cell p).status) × (plies c (dist_by (cell q).status) ≡ dist_by (cell p).status))
+      × ((x c : ℕ) (q : List ℕ) → IsMove p x c q → gains value cell c q (value_by (cell p).status) → dist_by (cell p).status ≤ plies c (dist_by (cell q).status))
+  pub lost : (IsEnded p → ⊥) → value_by (cell p).status <ℤ pos 0
+      → ((x c : ℕ) × (q : List ℕ) × IsMove p x c q × (plies c (dist_by (cell q).status) ≡ dist_by (cell p).status))
+      × ((x c : ℕ) (q : List ℕ) → IsMove p x c q → plies c (dist_by (cell q).status) ≤ dist_by (cell p).status)

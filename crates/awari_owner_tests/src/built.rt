@@ -1,28 +1,53 @@
-//! Levels that are built, put to the verifier, which nothing does when the program runs.
+//! Levels that are built, put to the verifier, which nothing does when the program runs, and levels
+//! with greater distances, brought down to the least ones.
 
-ghost use Rattle.std.specs.Prelude.{◌∷◌, ◌++◌, [], IfOk};
+ghost use Rattle.std.specs.Prelude.{IfOk};
 ghost use Rattle.awari_table.specs.Shelves.{Consistent};
 
 use awari_build::build_alone;
+use awari_plan::least;
 use awari_table::{Entries, Image, Level, Shelf};
-use awari_verify::verify;
-use std::alloc::Global;
+use awari_verify::{verify, verify_old};
+use std::alloc::{AllocError, Global};
 use std::process::Abort;
 use std::sync::Arc;
 use std::test::Fail;
 
-/// The shelf's next level as it is built, which the verifier takes, with all its entries.
+/// A copy of what the level says.
+fn image_of(alloc: Global, level: &Level) -> Result<Image, AllocError> {
+    Ok(Image {
+        level: level.number(),
+        limit: level.limit(),
+        entries: Entries::from(level.entries().to_vec(alloc)?),
+    })
+}
+
+/// A copy with each distance, and the limit, twice as great.
+fn doubled(alloc: Global, level: &Level) -> Result<Image, AllocError> {
+    let mut entries = level.entries().to_vec(alloc)?;
+    for entry in entries.iter_mut() {
+        entry.dist = entry.dist.saturating_mul(2);
+    }
+    Ok(Image {
+        level: level.number(),
+        limit: level.limit().saturating_mul(2),
+        entries: Entries::from(entries),
+    })
+}
+
+/// The shelf's next level as it is built. The verifier takes it with all its entries; and of its
+/// double, which keeps the old rules alone, `least` makes the same level again.
 fn verified_next(rt: &impl Abort, alloc: Global, shelf: &Shelf) -> Result<Level, Fail>
     ensures { IfOk result (Consistent shelf.now) }
 {
     let level = build_alone(alloc, shelf)?;
-    let image = Image {
-        level: level.number(),
-        limit: level.limit(),
-        entries: Entries::from(level.entries().to_vec(alloc)?),
-    };
-    let verified = verify(shelf, image)?;
+    let verified = verify(shelf, image_of(alloc, &level)?)?;
     assert_eq!(rt; verified.entries(), level.entries());
+    let farther = doubled(alloc, &level)?;
+    verify_old(shelf, &farther)?;
+    let nearer = least(shelf, farther);
+    assert_eq!(rt; nearer.limit, level.limit());
+    assert_eq!(rt; nearer.entries.as_slice(), level.entries());
     Ok(level)
 }
 

@@ -11,7 +11,9 @@ use Rattle.awari_rank.specs.Rank.{rank_of, size_of}
 use Rattle.awari_table.specs.declared.TheConstants.{HIGHEST_LEVEL}
 use Rattle.awari_table.specs.declared.images.Entry.{Entry}
 use Rattle.awari_table.specs.declared.images.Image.{Image}
-use Rattle.awari_table.specs.Certificate.{Table, IsRight, DistancesFall}
+use Rattle.awari_table.specs.Certificate.{Table, plies, IsRightBy, DistancesAreLeast}
+use Rattle.awari_table.specs.declared.rules.Distances.TheVariants.{Least}
+use Rattle.awari_table.proofs.CertificateLemmas.{plies_taken}
 use Rattle.awari_table.specs.Images.{table_of, no_entry}
 use Rattle.awari_table.specs.Shelves.{Consistent}
 use Rattle.awari_table.proofs.EntryLemmas.{entry_of-append, entry_of-rank}
@@ -31,19 +33,19 @@ has_value (Open left best far) e h = h
 has_value (Settled value dist) e h = h
 
 -- what the lowest plan says, if there is one, and if there is none
-lowest_own : (t : Table) (p : List ℕ) (o : Option ℕ) → IsLowest t p o → IfSome o (λ x. x < 6)
+pub lowest_own : (t : Table) (p : List ℕ) (o : Option ℕ) → IsLowest t p o → IfSome o (λ x. x < 6)
 lowest_own t p None h = tt
 lowest_own t p (Some x) h = own_serves t p x h.0
 
-lowest_ended : (t : Table) (p : List ℕ) (o : Option ℕ) → IsLowest t p o → IsEnded p → o ≡ None
+pub lowest_ended : (t : Table) (p : List ℕ) (o : Option ℕ) → IsLowest t p o → IsEnded p → o ≡ None
 lowest_ended t p None h stuck = refl
 lowest_ended t p (Some x) h stuck = absurd (stuck x h.0.2.legal)
 
-lowest_there : (t : Table) (p : List ℕ) (x : ℕ) (o : Option ℕ) → IsLowest t p o → Serves t p x → (y : ℕ) × (o ≡ Some y) × IsLegal p y
+pub lowest_there : (t : Table) (p : List ℕ) (x : ℕ) (o : Option ℕ) → IsLowest t p o → Serves t p x → (y : ℕ) × (o ≡ Some y) × IsLegal p y
 lowest_there t p x None h serves = absurd (h x serves)
 lowest_there t p x (Some y) h serves = (y, refl, h.0.2.legal)
 
-lowest_serves : (t : Table) (p : List ℕ) (x : ℕ) (o : Option ℕ) → IsLowest t p o → o ≡ Some x → Serves t p x
+pub lowest_serves : (t : Table) (p : List ℕ) (x : ℕ) (o : Option ℕ) → IsLowest t p o → o ≡ Some x → Serves t p x
 lowest_serves t p x o h is = (subst (λ o. IsLowest t p o) is h).0
 
 module _ (shelf : List Image) (cell : List ℕ → Cell) (parts : List Part) (image : Image)
@@ -115,26 +117,36 @@ module _ (shelf : List Image) (cell : List ℕ → Cell) (parts : List Part) (im
       let (x, c, q, move, gain, near) = (right p is stones).planned going in
       (x, (c, q, move, gained_back p x c q is stones move gain, nearer p x c q is stones move near))
 
-  losing : (p : List ℕ) → IsBoard p → sum p ≡ length shelf → table.value p <ℤ pos 0 → (x : ℕ) (q : List ℕ) → IsMove p x 0 q → table.dist q < table.dist p
-  losing p is stones lost x q move =
-      let next = next_is p x q is stones move in
-      let there = (has q next.0 next.1).1 in
-      let here = has p is stones in
-      let falls = (right p is stones).losing (subst (λ v. v <ℤ pos 0) here.0 lost) x q move in
-      omega (arith, falls, there, here.1)
+  -- the plies of a move are those by the cells
+  plies_at : (p : List ℕ) (x c : ℕ) (q : List ℕ) → IsBoard p → sum p ≡ length shelf → IsMove p x c q → plies c (table.dist q) ≡ plies c (dist_at q)
+  plies_at p x zero q is stones move = let next = next_is p x q is stones move in ap (plies 0) (has q next.0 next.1).1
+  plies_at p x (suc c) q is stones move = plies_taken (suc c) (table.dist q) (omega arith) ∙ sym (plies_taken (suc c) (dist_at q) (omega arith))
 
-  falls : (p : List ℕ) → IsBoard p → sum p ≡ length shelf → DistancesFall table p
-  falls p is stones =
+  least : (p : List ℕ) → IsBoard p → sum p ≡ length shelf → DistancesAreLeast table p
+  least p is stones =
       let here = has p is stones in
       let r = right p is stones in
       record {
         even = λ e. here.1 ∙ r.even (sym here.0 ∙ e);
-        uneven = λ going other. subst (λ d. 1 ≤ d) (sym here.1) (r.uneven going (λ e. other (here.0 ∙ e)));
+        won = λ going up.
+            let (some, all) = r.won going (subst (λ v. pos 0 <ℤ v) here.0 up) in
+            let (x, c, q, move, gain, takes) = some in (
+              (x, c, q, move, gained_back p x c q is stones move gain, plies_at p x c q is stones move ∙ takes ∙ sym here.1),
+              λ y d s other gains_too.
+                  let by_cells = all y d s other
+                  (subst (λ v. gains (table_of shelf).value cell d s v) (gains_too ∙ here.0) (gained p y d s is stones other)) in
+                  omega (arith, by_cells, here.1, plies_at p y d s is stones other),
+            );
+        lost = λ going down.
+            let (some, all) = r.lost going (subst (λ v. v <ℤ pos 0) here.0 down) in
+            let (x, c, q, move, takes) = some in (
+              (x, c, q, move, plies_at p x c q is stones move ∙ takes ∙ sym here.1),
+              λ y d s other. let by_cells = all y d s other in omega (arith, by_cells, here.1, plies_at p y d s is stones other),
+            );
         winning = λ won x c q plan move.
             let (d, s, serving, gain, near) = lowest_serves table p x (table.plan p) (finished.planned p is stones) plan in
             subst (λ n. (0 < n) ⊎ (table.dist q < table.dist p)) (serving.captures ∙ sym move.captures)
             (subst (λ b. (0 < d) ⊎ (table.dist b < table.dist p)) (serving.leaves ∙ sym move.leaves) (near won));
-        losing = losing p is stones;
       }
 
   -- an end gains all stones, either way
@@ -187,7 +199,7 @@ module _ (shelf : List Image) (cell : List ℕ → Cell) (parts : List Part) (im
   within zero p is stones near = absurd (omega (arith, near))
   within (suc k) p is stones near = within_next k (within k) p is stones near
 
-  rules : (p : List ℕ) → IsBoard p → sum p ≡ length shelf → IsRight table p
+  rules : (p : List ℕ) → IsBoard p → sum p ≡ length shelf → IsRightBy Least table p
   rules p is stones =
       let here = has p is stones in
       let r = right p is stones in
@@ -203,7 +215,7 @@ module _ (shelf : List Image) (cell : List ℕ → Cell) (parts : List Part) (im
             let (d, s, serving, gain, near) = lowest_serves table p x (table.plan p) lowest plan in
             subst (λ n. (pos n -ℤ table.value q) ≡ table.value p) (serving.captures ∙ sym move.captures)
             (subst (λ b. (pos d -ℤ table.value b) ≡ table.value p) (serving.leaves ∙ sym move.leaves) gain);
-        falls = falls p is stones;
+        distances = least p is stones;
       }
 
   pub consistent : length shelf ≤ HIGHEST_LEVEL → Consistent shelf image

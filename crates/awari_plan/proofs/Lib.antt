@@ -4,3 +4,6 @@ pub mod Blocks
 pub mod Whole
 pub mod Following
 pub mod Consistency
+pub mod Lowered
+pub mod Lowerings
+pub mod Alike

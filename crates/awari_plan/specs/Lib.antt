@@ -3,3 +3,5 @@ pub mod Finished
 pub mod Planning
 pub mod BestLine
 pub mod LineFault
+pub mod Least
+pub mod Lowering

@@ -67,7 +67,7 @@ fn push_block(entries: &mut Vec<Entry>, part: &Part) -> Result<(), AllocError>
 }
 
 /// The greatest distance of the entries, 0 where there is none.
-fn greatest(entries: &[Entry]) -> u32
+pub fn greatest(entries: &[Entry]) -> u32
     ensures { result ≡ greatest_dist entries.now }
 {
     entries.iter().fold(0, |most, entry| most.max(entry.dist))

@@ -5,8 +5,10 @@
 mod finishing;
 mod laws;
 mod lines;
+mod lowering;
 mod plans;
 
 pub use finishing::finish;
-pub use laws::finished_levels_are_consistent;
+pub use laws::{finished_levels_are_consistent, lowest_levels_are_one};
 pub use lines::{Line, LineFault, best_line};
+pub use lowering::least;

@@ -86,7 +86,7 @@ fn gains(own: Entry, captured: u8, reached: Entry) -> bool
 
 /// The entry of the board that a move leaves: the level's after a quiet move, and the shelf's after
 /// a capture.
-fn entry_after(shelf: &Shelf, entries: &[Entry], moved: &Moved) -> Entry
+pub fn entry_after(shelf: &Shelf, entries: &[Entry], moved: &Moved) -> Entry
     requires sized { length entries.now ≡ size_of (length shelf.now) }
     requires stones { sum moved.now.board + moved.now.captured ≡ length shelf.now }
     requires low { length shelf.now ≤ 24 }

@@ -1,9 +1,13 @@
 -- The table of a shelf is a certificate.
-use Rattle.std.proofs.Common.{◌≡◌, ℕ, zero, suc, ◌+◌, ◌<◌, ◌≤◌, List, [], ◌∷◌, length, take, get_or, sum, fold, max, sym, ap, refl, arith, inl, inr, ◌∙◌}
+use Rattle.std.proofs.Common.{◌≡◌, ℕ, zero, suc, ◌+◌, ◌<◌, ◌≤◌, ◌⊎◌, List, [], ◌∷◌, length, take, get_or, sum, fold, max, sym, ap, refl, arith, inl, inr, ◌∙◌, ℤ, pos, ◌<ℤ◌}
+use Rattle.std.proofs.lemmas.Int.{ints}
+use Rattle.std.proofs.lemmas.Bool.Decides.{nat_tests}
 use Rattle.std.proofs.lemmas.Bool.{cases_lt}
 use Rattle.std.proofs.lemmas.List.{take_more, get_or-take, get_or_past, length-take-le}
 use Rattle.awari_board.specs.Rules.{IsBoard, IsMove}
-use Rattle.awari_table.specs.Certificate.{Table, IsRight, IsCertificate}
+use Rattle.awari_table.specs.Certificate.{Table, plies, DistancesFall, DistancesAreLeast, DistancesAre, IsRightBy, IsCertificate}
+use Rattle.awari_table.specs.declared.rules.Distances.{Distances}
+use Rattle.awari_table.specs.declared.rules.Distances.TheVariants.{Falling, Least}
 use Rattle.awari_rank.specs.Rank.{rank_of}
 use Rattle.awari_table.specs.declared.images.Entry.{Entry}
 use Rattle.awari_table.specs.declared.images.Image.{Image}
@@ -17,20 +21,84 @@ record Agree (t u : Table) (p : List ℕ) : Type 0 where
   pub plan : t.plan p ≡ u.plan p
   pub dist : t.dist p ≡ u.dist p
 
+-- each move takes a ply at least
+pub plies_some : (c dist : ℕ) → 1 ≤ plies c dist
+plies_some c dist = grind (arith, nat_tests)
+
+pub plies_taken : (c dist : ℕ) → 0 < c → plies c dist ≡ 1
+plies_taken c dist some = grind (arith, nat_tests)
+
+pub plies_quiet : (c dist : ℕ) → c ≡ 0 → plies c dist ≡ dist + 1
+plies_quiet c dist none = grind (arith, nat_tests)
+
+-- a move captures, or takes one ply more than the distance that it leads to
+pub plies_cases : (c dist : ℕ) → ((0 < c) × (plies c dist ≡ 1)) ⊎ ((c ≡ 0) × (plies c dist ≡ dist + 1))
+plies_cases zero dist = inr (refl, refl)
+plies_cases (suc c) dist = inl (omega arith, plies_taken (suc c) dist (omega arith))
+
+sign_cases : (v : ℤ) → (pos 0 <ℤ v) ⊎ ((v <ℤ pos 0) ⊎ (v ≡ pos 0))
+sign_cases v = grind (arith, ints)
+
+-- distances that are the least fall
+pub DistancesFall-least : (t : Table) (p : List ℕ) → DistancesAreLeast t p → DistancesFall t p
+DistancesFall-least t p h = record {
+  even = h.even;
+  uneven = λ going other. elim (sign_cases (t.value p)) [
+    | inl up ↦ let (x, c, q, move, gain, takes) = (h.won going up).0 in omega (arith, plies_some c (t.dist q), takes)
+    | inr (inl down) ↦ let (x, c, q, move, takes) = (h.lost going down).0 in omega (arith, plies_some c (t.dist q), takes)
+    | inr (inr even) ↦ absurd (other even)
+  ];
+  winning = h.winning;
+  losing = λ down x q move. let later = (h.lost (λ stuck. stuck x move.legal) down).1 x 0 q move in omega (arith, later);
+}
+
+-- whatever is asked of distances, they fall
+pub IsRightBy-falling : (asked : Distances) (t : Table) (p : List ℕ) → IsRightBy asked t p → IsRightBy Falling t p
+IsRightBy-falling Falling t p r = r
+IsRightBy-falling Least t p r = record {
+  in_range = r.in_range;
+  ends = r.ends;
+  has_plan = r.has_plan;
+  no_more = r.no_more;
+  plan_gains = r.plan_gains;
+  distances = DistancesFall-least t p r.distances;
+}
+
 -- the rules at a board look at that board and at those that its moves lead to
-IsRight-local : (t u : Table) (p : List ℕ) → Agree t u p → ((x c : ℕ) (q : List ℕ) → IsMove p x c q → Agree t u q) → IsRight t p → IsRight u p
-IsRight-local t u p here next r = record {
+distances_local : (asked : Distances) (t u : Table) (p : List ℕ) → Agree t u p → ((x c : ℕ) (q : List ℕ) → IsMove p x c q → Agree t u q) → DistancesAre asked t p → DistancesAre asked u p
+distances_local Falling t u p here next r = record {
+  even = rw (← here.value, ← here.dist) r.even;
+  uneven = rw (← here.value, ← here.dist) r.uneven;
+  winning = λ up x c q is move. let there = next x c q move in rw (← here.dist, ← there.dist) (r.winning (rw here.value up) x c q (here.plan ∙ is) move);
+  losing = λ down x q move. let there = next x 0 q move in rw (← here.dist, ← there.dist) (r.losing (rw here.value down) x q move);
+}
+distances_local Least t u p here next r = record {
+  even = rw (← here.value, ← here.dist) r.even;
+  won = λ going up.
+      let (some, all) = r.won going (rw here.value up) in
+      let (x, c, q, move, gain, takes) = some in
+      let there = next x c q move in (
+        (x, c, q, move, rw (← here.value, ← there.value) gain, rw (← here.dist, ← there.dist) takes),
+        λ y d s other gains. let reached = next y d s other in rw (← here.dist, ← reached.dist) (all y d s other (rw (here.value, reached.value) gains)),
+      );
+  lost = λ going down.
+      let (some, all) = r.lost going (rw here.value down) in
+      let (x, c, q, move, takes) = some in
+      let there = next x c q move in (
+        (x, c, q, move, rw (← here.dist, ← there.dist) takes),
+        λ y d s other. let reached = next y d s other in rw (← here.dist, ← reached.dist) (all y d s other),
+      );
+  winning = λ up x c q is move. let there = next x c q move in rw (← here.dist, ← there.dist) (r.winning (rw here.value up) x c q (here.plan ∙ is) move);
+}
+
+IsRightBy-local : (asked : Distances) (t u : Table) (p : List ℕ) → Agree t u p → ((x c : ℕ) (q : List ℕ) → IsMove p x c q → Agree t u q) → IsRightBy asked t p → IsRightBy asked u p
+IsRightBy-local asked t u p here next r = record {
   in_range = rw (← here.value, ← here.plan) r.in_range;
   ends = rw (← here.value, ← here.plan, ← here.dist) r.ends;
   has_plan = rw (← here.plan) r.has_plan;
   no_more = λ x c q move. let there = next x c q move in rw (← here.value, ← there.value) (r.no_more x c q move);
   plan_gains = λ x c q is move. let there = next x c q move in rw (← here.value, ← there.value) (r.plan_gains x c q (here.plan ∙ is) move);
-  falls = record {
-    even = rw (← here.value, ← here.dist) r.falls.even;
-    uneven = rw (← here.value, ← here.dist) r.falls.uneven;
-    winning = λ up x c q is move. let there = next x c q move in rw (← here.dist, ← there.dist) (r.falls.winning (rw here.value up) x c q (here.plan ∙ is) move);
-    losing = λ down x q move. let there = next x 0 q move in rw (← here.dist, ← there.dist) (r.falls.losing (rw here.value down) x q move);
-  };
+  distances = distances_local asked t u p here next r.distances;
 }
 
 -- the levels below n say all of boards with fewer than n stones
@@ -44,12 +112,12 @@ Agree-take levels n p low =
     record { value = ap (λ (e : Entry). e.value) same; plan = ap (λ (e : Entry). e.plan) same; dist = ap (λ (e : Entry). e.dist) same }
 
 -- each level's boards are right by the whole table
-right_from_shelf : (levels : List Image) → IsShelf levels → (p : List ℕ) → IsBoard p → sum p < length levels → IsRight (table_of levels) p
+pub right_from_shelf : (levels : List Image) → IsShelf levels → (p : List ℕ) → IsBoard p → sum p < length levels → IsRightBy Least (table_of levels) p
 right_from_shelf levels shelf p board low =
     let level = shelf.consistent (sum p) low in
     let here : sum p ≡ (get_or levels (sum p) no_image).level = sym (level.next ∙ length-take-le (sum p) levels (omega arith)) in
-    let right : IsRight (table_of (take (sum p + 1) levels)) p = rw (take_more levels (sum p) no_image low) (level.right p board here) in
-    IsRight-local (table_of (take (sum p + 1) levels)) (table_of levels) p
+    let right : IsRightBy Least (table_of (take (sum p + 1) levels)) p = rw (take_more levels (sum p) no_image low) (level.right p board here) in
+    IsRightBy-local Least (table_of (take (sum p + 1) levels)) (table_of levels) p
     (Agree-take levels (sum p + 1) p (omega arith))
     (λ x c q move. let kept = sum-from_IsMove p x c q board.pits move in Agree-take levels (sum p + 1) q (omega arith))
     right
@@ -95,6 +163,6 @@ limited_from_shelf levels shelf p low =
 -- the theorem of the shelf
 pub IsCertificate-shelf : (levels : List Image) → IsShelf levels → IsCertificate (table_of levels) (length levels) (greatest_limit levels)
 IsCertificate-shelf levels shelf = record {
-  right = right_from_shelf levels shelf;
+  right = λ p board low. IsRightBy-falling Least (table_of levels) p (right_from_shelf levels shelf p board low);
   limited = λ p board low. limited_from_shelf levels shelf p low;
 }

@@ -1,6 +1,8 @@
 -- What a table has to say of each board: the rules V1 to V6, and a table that keeps them.
-use Rattle.std.specs.Prelude.{◌≡◌, ◌≢◌, ℕ, ◌<◌, ◌≤◌, ◌⊎◌, List, sum, ℤ, pos, neg_ℤ, ◌-ℤ◌, ◌≤ℤ◌, ◌<ℤ◌, Option, Some, None, IfSome}
+use Rattle.std.specs.Prelude.{◌≡◌, ◌≢◌, ℕ, ◌+◌, ◌<◌, ◌≤◌, ◌==◌, if◌then◌else◌, ◌⊎◌, List, sum, ℤ, pos, neg_ℤ, ◌-ℤ◌, ◌≤ℤ◌, ◌<ℤ◌, Option, Some, None, IfSome}
 use Rattle.awari_board.specs.Rules.{IsBoard, IsMove, IsLegal, IsEnd, IsEnded}
+use Rattle.awari_table.specs.declared.rules.Distances.{Distances}
+use Rattle.awari_table.specs.declared.rules.Distances.TheVariants.{Falling, Least}
 
 -- what a table says of each board
 pub record Table : Type 0 where
@@ -28,24 +30,62 @@ NoMoveGainsMore t p = (x c : ℕ) (q : List ℕ) → IsMove p x c q → (pos c -
 abbrev pub PlanGains : Table → List ℕ → Type 0
 PlanGains t p = (x c : ℕ) (q : List ℕ) → t.plan p ≡ Some x → IsMove p x c q → (pos c -ℤ t.value q) ≡ t.value p
 
--- V6: at value 0 the distance is 0; any other board that is not ended has at least 1; the plan of a positive board captures
--- or leads to a smaller distance; and each quiet move of a negative board leads to a smaller distance.
+-- V6, where distances have to fall: at value 0 the distance is 0; any other board that is not ended has at least 1; the plan of
+-- a positive board captures or leads to a smaller distance; and each quiet move of a negative board leads to a smaller distance.
 pub record DistancesFall (t : Table) (p : List ℕ) : Type 0 where
   pub even : t.value p ≡ pos 0 → t.dist p ≡ 0
   pub uneven : (IsEnded p → ⊥) → t.value p ≢ pos 0 → 1 ≤ t.dist p
   pub winning : pos 0 <ℤ t.value p → (x c : ℕ) (q : List ℕ) → t.plan p ≡ Some x → IsMove p x c q → (0 < c) ⊎ (t.dist q < t.dist p)
   pub losing : t.value p <ℤ pos 0 → (x : ℕ) (q : List ℕ) → IsMove p x 0 q → t.dist q < t.dist p
 
+-- how many plies a move takes: one where it captures, and else one more than the distance of the board that it leaves
+abbrev pub plies : ℕ → ℕ → ℕ
+plies c dist = if c == 0 then dist + 1 else 1
+
+-- a move gains the value, and takes so many plies
+abbrev pub GainsIn : Table → List ℕ → ℕ → Type 0
+GainsIn t p k = (x c : ℕ) × (q : List ℕ) × IsMove p x c q × ((pos c -ℤ t.value q) ≡ t.value p) × (plies c (t.dist q) ≡ k)
+
+-- each move that gains the value takes at least so many
+abbrev pub GainsNoSooner : Table → List ℕ → ℕ → Type 0
+GainsNoSooner t p k = (x c : ℕ) (q : List ℕ) → IsMove p x c q → (pos c -ℤ t.value q) ≡ t.value p → k ≤ plies c (t.dist q)
+
+-- a move takes so many plies, and each move takes at most so many
+abbrev pub MovesIn : Table → List ℕ → ℕ → Type 0
+MovesIn t p k = (x c : ℕ) × (q : List ℕ) × IsMove p x c q × (plies c (t.dist q) ≡ k)
+
+abbrev pub MovesNoLater : Table → List ℕ → ℕ → Type 0
+MovesNoLater t p k = (x c : ℕ) (q : List ℕ) → IsMove p x c q → plies c (t.dist q) ≤ k
+
+-- V6, where distances have to be the least: at value 0 the distance is 0; a positive board that is not ended has the least
+-- number of plies that a move takes which gains its value; a negative one has the greatest that a move takes; and the plan of a
+-- positive board captures or leads to a smaller distance.
+pub record DistancesAreLeast (t : Table) (p : List ℕ) : Type 0 where
+  pub even : t.value p ≡ pos 0 → t.dist p ≡ 0
+  pub won : (IsEnded p → ⊥) → pos 0 <ℤ t.value p → GainsIn t p (t.dist p) × GainsNoSooner t p (t.dist p)
+  pub lost : (IsEnded p → ⊥) → t.value p <ℤ pos 0 → MovesIn t p (t.dist p) × MovesNoLater t p (t.dist p)
+  pub winning : pos 0 <ℤ t.value p → (x c : ℕ) (q : List ℕ) → t.plan p ≡ Some x → IsMove p x c q → (0 < c) ⊎ (t.dist q < t.dist p)
+
+-- V6, by what is asked of distances
+abbrev pub DistancesAre : Distances → Table → List ℕ → Type 0
+DistancesAre Falling t p = DistancesFall t p
+DistancesAre Least t p = DistancesAreLeast t p
+
 -- all these rules, at one board
-pub record IsRight (t : Table) (p : List ℕ) : Type 0 where
+pub record IsRightBy (asked : Distances) (t : Table) (p : List ℕ) : Type 0 where
   pub in_range : InRange t p
   pub ends : EndIsRight t p
   pub has_plan : HasPlan t p
   pub no_more : NoMoveGainsMore t p
   pub plan_gains : PlanGains t p
-  pub falls : DistancesFall t p
+  pub distances : DistancesAre asked t p
 
--- all boards with fewer than `levels` stones are right, and no distance among them is above the limit
+-- the rules in force
+abbrev pub IsRight : Table → List ℕ → Type 0
+IsRight t p = IsRightBy Least t p
+
+-- All boards with fewer than `levels` stones are right, and no distance among them is above the limit. That distances fall is
+-- all that is asked of them.
 pub record IsCertificate (t : Table) (levels limit : ℕ) : Type 0 where
-  pub right : (p : List ℕ) → IsBoard p → sum p < levels → IsRight t p
+  pub right : (p : List ℕ) → IsBoard p → sum p < levels → IsRightBy Falling t p
   pub limited : (p : List ℕ) → IsBoard p → sum p < levels → t.dist p ≤ limit

@@ -10,6 +10,7 @@ mod images;
 mod laws;
 mod levels;
 mod lines;
+mod rules;
 mod shelves;
 mod text;
 
@@ -21,8 +22,12 @@ pub use laws::{
     texts_tell_images_apart,
 };
 pub use levels::Level;
+pub use rules::{Distances, plies};
 pub use shelves::{NotYet, Shelf};
 pub use text::TableText;
 
 /// The highest level that a shelf may hold, in stones. Every bound on a level goes by this one.
 pub const HIGHEST_LEVEL: u8 = 12;
+
+/// The highest level of tables whose distances only had to fall.
+pub const HIGHEST_FALLING_LEVEL: u8 = 12;

@@ -4,7 +4,7 @@
 use awari_board::Board;
 use awari_rank::{size, unrank};
 use awari_table::{Counts, Entries, Entry, HIGHEST_LEVEL, Image, NotYet, Shelf};
-use awari_verify::{Rule, VerifyFault, fault_of, verify};
+use awari_verify::{Rule, VerifyFault, fault_of, verify, verify_old};
 use std::alloc::Global;
 use std::process::Abort;
 use std::sync::Arc;
@@ -273,8 +273,8 @@ fn refuses_wrong_entries_of_level_1(rt: HostRuntime) -> Result<(), Fail> {
         (6, entry(1, Some(5), 1), 1, refused(6, Rule::V5)),
         (6, entry(-1, Some(5), 0), 1, refused(6, Rule::V6)),
         (6, entry(-1, Some(5), 1), 2, refused(0, Rule::V7)),
-        (6, entry(-1, Some(5), 2), 2, None),
-        (6, entry(-1, Some(5), u32::MAX), u32::MAX, None),
+        (6, entry(-1, Some(5), 2), 2, refused(6, Rule::V6)),
+        (6, entry(-1, Some(5), u32::MAX), u32::MAX, refused(6, Rule::V6)),
     ] {
         let mut entries = level_1();
         if let Some(slot) = entries.get_mut(place) {
@@ -327,14 +327,28 @@ fn takes_the_greatest_distance_as_limit(rt: HostRuntime) -> Result<(), Fail> {
 }
 
 #[test]
-fn takes_distances_that_are_not_the_least(rt: HostRuntime) -> Result<(), Fail> {
+fn asks_for_the_least_distances(rt: HostRuntime) -> Result<(), Fail> {
     let shelf = two_levels(rt.alloc())?;
     let mut entries = level_2(rt.alloc())?;
     for slot in entries.iter_mut() {
         slot.dist = slot.dist.saturating_mul(2);
     }
-    let level = verify(&shelf, image(rt.alloc(), 2, 18, &entries)?)?;
-    assert_eq!(rt; level.limit(), 18);
+    let answer = fault_found(rt.alloc(), &shelf, 18, &entries)?;
+    assert_eq!(rt; answer, refused(22, Rule::V6));
+    let doubled = image(rt.alloc(), 2, 18, &entries)?;
+    assert_eq!(rt; verify_old(&shelf, &doubled), Ok(()));
+    Ok(())
+}
+
+#[test]
+fn old_rules_ask_that_distances_fall(rt: HostRuntime) -> Result<(), Fail> {
+    let shelf = two_levels(rt.alloc())?;
+    let falling = false_circle(rt.alloc(), None)?;
+    let answer = verify_old(&shelf, &image(rt.alloc(), 2, 12, &falling)?).err();
+    assert_eq!(rt; answer, refused(72, Rule::V6));
+    let equal = false_circle(rt.alloc(), Some(5))?;
+    let answer = verify_old(&shelf, &image(rt.alloc(), 2, 9, &equal)?).err();
+    assert_eq!(rt; answer, refused(21, Rule::V6));
     Ok(())
 }
 

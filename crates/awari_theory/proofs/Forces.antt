@@ -2,7 +2,8 @@
 use Rattle.std.proofs.Common.{◌≡◌, ◌≢◌, ℕ, zero, suc, ◌+◌, ◌<◌, ◌≤◌, ◌⊎◌, inl, inr, Bool, true, false, List, sum, ℤ, pos, neg_ℤ, ◌-ℤ◌, ◌≤ℤ◌, ◌<ℤ◌, Option, Some, None, refl, sym, subst, arith}
 use Rattle.std.proofs.lemmas.Int.{ints}
 use Rattle.awari_board.specs.Rules.{IsMove, IsLegal, IsEnd, IsEnded, captured, next_board}
-use Rattle.awari_table.specs.Certificate.{Table, IsRight, IsCertificate}
+use Rattle.awari_table.specs.Certificate.{Table, IsRightBy, IsCertificate}
+use Rattle.awari_table.specs.declared.rules.Distances.TheVariants.{Falling}
 use Rattle.awari_theory.specs.Worth.{Forced}
 use Rattle.awari_theory.proofs.Moves.{stones_kept, next_is_board, move_of}
 use Rattle.awari_theory.proofs.Keeps.{IsCovered}
@@ -28,7 +29,7 @@ pub ended_or_planned : (t : Table) (levels limit : ℕ) → IsCertificate t leve
     → IsEnded p ⊎ ((IsEnded p → ⊥) × ((x : ℕ) × (t.plan p ≡ Some x) × IsLegal p x))
 ended_or_planned t levels limit cert p h = go (t.plan p) refl
   where
-    right : IsRight t p
+    right : IsRightBy Falling t p
     right = cert.right p h.board h.stones
 
     no_plan : IsEnded p → t.plan p ≡ None
@@ -41,7 +42,7 @@ ended_or_planned t levels limit cert p h = go (t.plan p) refl
         inr (not_ended, right.has_plan not_ended)
 
 -- the next board is covered, and has no more stones
-covered_move : (levels : ℕ) → (p : List ℕ) (x c : ℕ) (q : List ℕ) → IsCovered levels p → IsMove p x c q → IsCovered levels q × (sum q + c ≡ sum p)
+pub covered_move : (levels : ℕ) → (p : List ℕ) (x c : ℕ) (q : List ℕ) → IsCovered levels p → IsMove p x c q → IsCovered levels q × (sum q + c ≡ sum p)
 covered_move levels p x c q h move =
     let kept = stones_kept p x c q h.board move in
     let low = h.stones in
@@ -111,7 +112,7 @@ far_ended : (t : Table) (levels limit : ℕ) → IsCertificate t levels limit �
     → favours side (t.value p) → t.dist p ≤ 0 → IsEnded p
 far_ended t levels limit cert p h side good near =
     λ x legal.
-    let far = (cert.right p h.board h.stones).falls.uneven (λ ended. ended x legal) (favours_uneven side _ good) in
+    let far = (cert.right p h.board h.stones).distances.uneven (λ ended. ended x legal) (favours_uneven side _ good) in
     omega arith
 
 zero_or_more : (c : ℕ) → (c ≡ 0) ⊎ (0 < c)
@@ -146,7 +147,7 @@ reaches t levels limit top worth cert values (suc k) true n p h low good allowed
             captured p x,
             next_board p x,
             move,
-            elim (won_ply (captured p x) (t.value p) (t.value (next_board p x)) (t.dist p) (t.dist (next_board p x)) gains (right.falls.winning good x _ _ plan move)) [
+            elim (won_ply (captured p x) (t.value p) (t.value (next_board p x)) (t.dist p) (t.dist (next_board p x)) gains (right.distances.winning good x _ _ plan move)) [
               | inl taken ↦ inl (taken, t.value (next_board p x), values.has _ next.0 (omega (arith, next.1)), omega (arith, ints))
               | inr quiet ↦
                   let turned_value = quiet.2 in
@@ -170,7 +171,7 @@ reaches t levels limit top worth cert values (suc k) false n p h low good allowe
             elim (zero_or_more c) [
               | inr taken ↦ inl (taken, t.value q, values.has q next.0 (omega (arith, next.1)), omega (arith, ints))
               | inl none ↦
-                  let fell = right.falls.losing good x q (subst (λ z. IsMove p x z q) none move) in
+                  let fell = right.distances.losing good x q (subst (λ z. IsMove p x z q) none move) in
                   inr (
                     none,
                     reaches t levels limit top worth cert values k true n q next.0 (omega (arith, next.1))

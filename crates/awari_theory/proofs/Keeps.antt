@@ -32,8 +32,8 @@ ply_of t levels limit cert first s x h legal follows =
       near = cert.limited (next_board p x) next.board next.stones;
       no_more = right.no_more x _ _ move;
       gains = λ mine. right.plan_gains x _ _ (follows mine) move;
-      winning = λ mine good. right.falls.winning good x _ _ (follows mine) move;
-      losing = λ bad none. right.falls.losing bad x _ (record { legal = legal; captures = sym none; leaves = refl });
+      winning = λ mine good. right.distances.winning good x _ _ (follows mine) move;
+      losing = λ bad none. right.distances.losing bad x _ (record { legal = legal; captures = sym none; leaves = refl });
     }
 
 pub record Keeps (t : Table) (levels limit : ℕ) (first : Bool) (w : ℤ) (s : Standing) : Type 0 where

@@ -5,4 +5,5 @@ pub mod Nears
 pub mod Forces
 pub mod Comes
 pub mod Worths
+pub mod Leasts
 pub mod Truths

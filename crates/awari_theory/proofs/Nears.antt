@@ -68,7 +68,7 @@ not_even false false v h = omega (arith, ints)
 ended_at : (t : Table) (levels limit : ℕ) → IsCertificate t levels limit → (first : Bool) (s : Standing) → IsGood t levels first s → t.dist s.board ≡ 0 → IsEnded s.board
 ended_at t levels limit cert first s h far =
     λ x legal.
-    let some = (cert.right s.board h.covered.board h.covered.stones).falls.uneven (λ ended. ended x legal) (not_even first s.first_moves _ h.good) in
+    let some = (cert.right s.board h.covered.board h.covered.stones).distances.uneven (λ ended. ended x legal) (not_even first s.first_moves _ h.good) in
     omega arith
 
 good_from : (first : Bool) (v : ℤ) → ((first ≡ true) × (pos 0 <ℤ v)) ⊎ ((first ≡ false) × (v <ℤ pos 0)) → pos 0 <ℤ own first true v

@@ -115,7 +115,7 @@ bad_size : (v : ℤ) → v <ℤ pos 0 → (v ≡ neg_ℤ (pos (size v))) × (1 �
 bad_size (pos n) h = absurd (omega (arith, ints))
 bad_size (negsuc n) h = (refl, omega arith)
 
-value_cases : (v : ℤ) → (pos 0 <ℤ v) ⊎ ((v <ℤ pos 0) ⊎ (v ≡ pos 0))
+pub value_cases : (v : ℤ) → (pos 0 <ℤ v) ⊎ ((v <ℤ pos 0) ⊎ (v ≡ pos 0))
 value_cases v = grind (arith, ints)
 
 -- a covered board is worth its value, where boards with fewer stones are

@@ -1,4 +1,5 @@
 pub mod Secures
 pub mod Worth
+pub mod Least
 pub mod Promises
 pub mod Truth

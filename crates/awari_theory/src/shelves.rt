@@ -5,6 +5,7 @@ ghost use Rattle.awari_board.specs.Rules.{IsBoard};
 ghost use Rattle.awari_table.specs.declared.images.Image.{Image};
 ghost use Rattle.awari_table.specs.Images.{entry_of, table_of, greatest_limit};
 ghost use Rattle.awari_table.specs.Shelves.{IsShelf};
+ghost use Rattle.awari_theory.specs.Least.{IsLeastDistance};
 ghost use Rattle.awari_theory.specs.Secures.{Comes};
 ghost use Rattle.awari_theory.specs.Truth.{TellsTruth};
 
@@ -19,8 +20,17 @@ pub fn shelves_come_to_their_values()
         → Comes (table_of levels) (greatest_limit (take (sum board + 1) levels)) board }
 {}
 
-/// Two shelves say the same value of every board that both have.
+/// Two shelves say the same value and the same distance of every board that both have.
 pub fn shelves_agree()
-    ensures { (levels others : List Image) → IsShelf levels → IsShelf others → (board : List ℕ) → IsBoard board
+    ensures value { (levels others : List Image) → IsShelf levels → IsShelf others → (board : List ℕ) → IsBoard board
         → sum board < length levels → sum board < length others → (entry_of levels board).value ≡ (entry_of others board).value }
+    ensures dist { (levels others : List Image) → IsShelf levels → IsShelf others → (board : List ℕ) → IsBoard board
+        → sum board < length levels → sum board < length others → (entry_of levels board).dist ≡ (entry_of others board).dist }
+{}
+
+/// The distance of each board is the least, by what boards are worth and by moves alone.
+pub fn distances_are_least()
+    ensures is { (levels : List Image) → IsShelf levels → (board : List ℕ) → IsBoard board → sum board < length levels
+        → IsLeastDistance board (entry_of levels board).dist }
+    ensures unique { (board : List ℕ) (a b : ℕ) → IsLeastDistance board a → IsLeastDistance board b → a ≡ b }
 {}

@@ -1,13 +1,15 @@
 -- A rule at what is seen of a board is that rule of the table.
-use Rattle.std.proofs.Common.{◌≡◌, ◌↔◌, ◌⊎◌, ℕ, ◌<◌, List, length, get_or, Option, Some, None, IsSome, IsNone, IfSome, All, ℤ, pos, ◌-ℤ◌, ◌≤ℤ◌, ◌<ℤ◌, sym, refl, subst, inl, inr, ◌∙◌, arith}
+use Rattle.std.proofs.Common.{◌≡◌, ◌↔◌, ◌⊎◌, ℕ, ◌<◌, ◌≤◌, List, length, get_or, Option, Some, None, IsSome, IsSomeAnd, IsNone, IfSome, All, Any, ℤ, pos, ◌-ℤ◌, ◌≤ℤ◌, ◌<ℤ◌, sym, refl, subst, inl, inr, ◌∙◌, arith}
 use Rattle.std.proofs.lemmas.Bool.{false≢true, cases_lt}
 use Rattle.std.proofs.lemmas.List.{get_or_default, get_or_past}
 use Rattle.awari_board.specs.Rules.{IsLegal, IsMove, IsEnd}
 use Rattle.awari_board.specs.Rules.{IsEnded}
-use Rattle.awari_table.specs.Certificate.{Table, InRange, EndIsRight, HasPlan, NoMoveGainsMore, PlanGains, DistancesFall}
+use Rattle.awari_table.specs.Certificate.{Table, InRange, EndIsRight, HasPlan, NoMoveGainsMore, PlanGains, plies, GainsIn, GainsNoSooner, MovesIn, MovesNoLater, DistancesFall, DistancesAreLeast, DistancesAre}
+use Rattle.awari_table.specs.declared.rules.Distances.{Distances}
+use Rattle.awari_table.specs.declared.rules.Distances.TheVariants.{Falling, Least}
 use Rattle.awari_verify.specs.declared.rules.Reached.{Reached}
 use Rattle.awari_verify.specs.declared.rules.Seen.{Seen}
-use Rattle.awari_verify.specs.Sights.{SeesEnd, SeesMove, Sees, move_at, gain_of, IsNearer, KeepsRange, KeepsEnd, KeepsPlan, KeepsGain, KeepsPlanGain, KeepsDistance}
+use Rattle.awari_verify.specs.Sights.{SeesEnd, SeesMove, Sees, move_at, gain_of, IsNearer, KeepsRange, KeepsEnd, KeepsPlan, KeepsGain, KeepsPlanGain, KeepsFalling, plies_of, GainsJustIn, KeepsWon, KeepsLost, KeepsLeast, KeepsDistance}
 
 -- each pit is seen
 abbrev pub SeesMoves : Table → List ℕ → List (Option Reached) → Type 0
@@ -113,16 +115,16 @@ losing_any t p s h =
       λ k. e.1 (λ x c q move. elim (cases_lt 0 c) [ inl up ↦ inl up | inr none ↦ let zero_c : c ≡ 0 = omega arith in inr (k x q (rw zero_c at move)) ]),
     )
 
-distance_from : (t : Table) (p : List ℕ) (s : Seen) → Sees t p s → KeepsDistance s → DistancesFall t p
-distance_from t p s h k = record {
+falling_from : (t : Table) (p : List ℕ) (s : Seen) → Sees t p s → KeepsFalling s → DistancesFall t p
+falling_from t p s h k = record {
   even = rw (← h.value, ← h.dist) k.0;
   uneven = rw (← h.value, ← h.dist) (λ more uneven. k.1 (none_from_open p s.end h.at_end more) uneven);
   winning = rw (← h.value, ← h.plan, ← h.dist) (λ up. (winning_any t p s h).0 (k.2 up));
   losing = rw (← h.value, ← h.dist) (λ down. (losing_any t p s h).0 (k.3 down));
 }
 
-distance_to : (t : Table) (p : List ℕ) (s : Seen) → Sees t p s → DistancesFall t p → KeepsDistance s
-distance_to t p s h k =
+falling_to : (t : Table) (p : List ℕ) (s : Seen) → Sees t p s → DistancesFall t p → KeepsFalling s
+falling_to t p s h k =
     let winning : pos 0 <ℤ s.entry.value → (x c : ℕ) (q : List ℕ) → s.entry.plan ≡ Some x → IsMove p x c q → (0 < c) ⊎ (t.dist q < s.entry.dist) = rw (h.value, h.plan, h.dist) k.winning in
     let losing : s.entry.value <ℤ pos 0 → (x : ℕ) (q : List ℕ) → IsMove p x 0 q → t.dist q < s.entry.dist = rw (h.value, h.dist) k.losing in (
       rw (h.value, h.dist) k.even,
@@ -131,5 +133,77 @@ distance_to t p s h k =
       λ down. (losing_any t p s h).1 (losing down),
     )
 
-pub distance-iff : (t : Table) (p : List ℕ) (s : Seen) → Sees t p s → KeepsDistance s ↔ DistancesFall t p
-distance-iff t p s h = (distance_from t p s h, distance_to t p s h)
+-- some move is seen, where there is one
+moves_some : (t : Table) (p : List ℕ) (P : Reached → Type 0) (Q : ℕ → ℕ → List ℕ → Type 0) → Says t p P Q → (moves : List (Option Reached)) → length moves ≡ 6 → SeesMoves t p moves
+    → Any (λ o. IsSomeAnd o P) moves ↔ ((x c : ℕ) × (q : List ℕ) × IsMove p x c q × Q x c q)
+moves_some t p P Q says moves six sees = (
+  λ found. let (x, o, lt, is, holds) = found in to x (omega (arith, lt)) o (sees_at x o (omega (arith, lt)) is) holds,
+  λ found.
+      let (x, c, q, move, holds) = found in
+      let lt : x < 6 = move.legal.own in
+      (x, get_or moves x None, omega arith, get_or_default moves x (get_or moves x None) None (omega arith), from x (get_or moves x None) (sees x lt) c q move holds),
+)
+  where
+    sees_at : (x : ℕ) (o : Option Reached) → x < 6 → get_or moves x o ≡ o → SeesMove t p x o
+    sees_at x o lt is = subst (SeesMove t p x) (sym (get_or_default moves x o None (omega arith)) ∙ is) (sees x lt)
+
+    to : (x : ℕ) → x < 6 → (o : Option Reached) → SeesMove t p x o → IsSomeAnd o P → (x c : ℕ) × (q : List ℕ) × IsMove p x c q × Q x c q
+    to x lt None sees holds = absurd holds
+    to x lt (Some m) sees holds = (x, m.captured, sees.0, sees.1, (says x m sees.0 sees.2 sees.3).0 holds)
+
+    from : (x : ℕ) (o : Option Reached) → SeesMove t p x o → (c : ℕ) (q : List ℕ) → IsMove p x c q → Q x c q → IsSomeAnd o P
+    from x None sees c q move holds = absurd (sees move.legal)
+    from x (Some m) sees c q move holds =
+        (says x m sees.0 sees.2 sees.3).1
+        (subst (λ (d : ℕ). Q x d sees.0) (move.captures ∙ sym sees.1.captures) (subst (λ (r : List ℕ). Q x c r) (move.leaves ∙ sym sees.1.leaves) holds))
+
+just-says : (t : Table) (p : List ℕ) (value : ℤ) (dist : ℕ) → Says t p (GainsJustIn value dist) (λ x c q. ((pos c -ℤ t.value q) ≡ value) × (plies c (t.dist q) ≡ dist))
+just-says t p value dist x m q v d = rw (v, d) (λ k. k, λ k. k)
+
+sooner-says : (t : Table) (p : List ℕ) (value : ℤ) (dist : ℕ) → Says t p (λ m. gain_of m ≡ value → dist ≤ plies_of m) (λ x c q. (pos c -ℤ t.value q) ≡ value → dist ≤ plies c (t.dist q))
+sooner-says t p value dist x m q v d = rw (v, d) (λ k. k, λ k. k)
+
+takes-says : (t : Table) (p : List ℕ) (dist : ℕ) → Says t p (λ m. plies_of m ≡ dist) (λ x c q. plies c (t.dist q) ≡ dist)
+takes-says t p dist x m q v d = rw d (λ k. k, λ k. k)
+
+later-says : (t : Table) (p : List ℕ) (dist : ℕ) → Says t p (λ m. plies_of m ≤ dist) (λ x c q. plies c (t.dist q) ≤ dist)
+later-says t p dist x m q v d = rw d (λ k. k, λ k. k)
+
+won_any : (t : Table) (p : List ℕ) (s : Seen) → Sees t p s → KeepsWon s ↔ ((IsEnded p → ⊥) → pos 0 <ℤ t.value p → GainsIn t p (t.dist p) × GainsNoSooner t p (t.dist p))
+won_any t p s h =
+    let some = moves_some t p (GainsJustIn s.entry.value s.entry.dist) _ (just-says t p s.entry.value s.entry.dist) s.moves h.six h.moves in
+    let all = moves_any t p (λ m. gain_of m ≡ s.entry.value → s.entry.dist ≤ plies_of m) _ (sooner-says t p s.entry.value s.entry.dist) s.moves h.six h.moves in
+    rw (← h.value, ← h.dist) (
+      λ k more up. let both = k (none_from_open p s.end h.at_end more) up in let (x, c, q, move, just) = some.0 both.0 in ((x, c, q, move, just.0, just.1), all.0 both.1),
+      λ k none up. let both = k (open_from_none p s.end h.at_end none) up in let (x, c, q, move, gain, takes) = both.0 in (some.1 (x, c, q, move, (gain, takes)), all.1 both.1),
+    )
+
+lost_any : (t : Table) (p : List ℕ) (s : Seen) → Sees t p s → KeepsLost s ↔ ((IsEnded p → ⊥) → t.value p <ℤ pos 0 → MovesIn t p (t.dist p) × MovesNoLater t p (t.dist p))
+lost_any t p s h =
+    let some = moves_some t p (λ m. plies_of m ≡ s.entry.dist) _ (takes-says t p s.entry.dist) s.moves h.six h.moves in
+    let all = moves_any t p (λ m. plies_of m ≤ s.entry.dist) _ (later-says t p s.entry.dist) s.moves h.six h.moves in
+    rw (← h.value, ← h.dist) (
+      λ k more down. let both = k (none_from_open p s.end h.at_end more) down in (some.0 both.0, all.0 both.1),
+      λ k none down. let both = k (open_from_none p s.end h.at_end none) down in (some.1 both.0, all.1 both.1),
+    )
+
+least_from : (t : Table) (p : List ℕ) (s : Seen) → Sees t p s → KeepsLeast s → DistancesAreLeast t p
+least_from t p s h k = record {
+  even = rw (← h.value, ← h.dist) k.0;
+  won = (won_any t p s h).0 k.1;
+  lost = (lost_any t p s h).0 k.2;
+  winning = rw (← h.value, ← h.plan, ← h.dist) (λ up. (winning_any t p s h).0 (k.3 up));
+}
+
+least_to : (t : Table) (p : List ℕ) (s : Seen) → Sees t p s → DistancesAreLeast t p → KeepsLeast s
+least_to t p s h k =
+    let winning : pos 0 <ℤ s.entry.value → (x c : ℕ) (q : List ℕ) → s.entry.plan ≡ Some x → IsMove p x c q → (0 < c) ⊎ (t.dist q < s.entry.dist) = rw (h.value, h.plan, h.dist) k.winning in (
+      rw (h.value, h.dist) k.even,
+      (won_any t p s h).1 k.won,
+      (lost_any t p s h).1 k.lost,
+      λ up. (winning_any t p s h).1 (winning up),
+    )
+
+pub distance-iff : (asked : Distances) (t : Table) (p : List ℕ) (s : Seen) → Sees t p s → KeepsDistance asked s ↔ DistancesAre asked t p
+distance-iff Falling t p s h = (falling_from t p s h, falling_to t p s h)
+distance-iff Least t p s h = (least_from t p s h, least_to t p s h)

@@ -1,7 +1,9 @@
 -- What is seen of a board by a table, and which rules it keeps.
-use Rattle.std.specs.Prelude.{◌≡◌, ◌≢◌, ℕ, ◌<◌, ◌≤◌, ◌⊎◌, List, length, sum, ℤ, pos, neg_ℤ, ◌-ℤ◌, ◌≤ℤ◌, ◌<ℤ◌, Option, Some, None, IfSome, IsSome, IsNone, All, slice_index_or}
+use Rattle.std.specs.Prelude.{◌≡◌, ◌≢◌, ℕ, ◌<◌, ◌≤◌, ◌⊎◌, List, length, sum, ℤ, pos, neg_ℤ, ◌-ℤ◌, ◌≤ℤ◌, ◌<ℤ◌, Option, Some, None, IfSome, IsSome, IsSomeAnd, IsNone, All, Any, slice_index_or}
 use Rattle.awari_board.specs.Rules.{IsLegal, IsMove, IsEnd, IsEnded}
-use Rattle.awari_table.specs.Certificate.{Table}
+use Rattle.awari_table.specs.Certificate.{Table, plies}
+use Rattle.awari_table.specs.declared.rules.Distances.{Distances}
+use Rattle.awari_table.specs.declared.rules.Distances.TheVariants.{Falling, Least}
 use Rattle.awari_verify.specs.declared.rules.Reached.{Reached}
 use Rattle.awari_verify.specs.declared.rules.Seen.{Seen}
 
@@ -68,5 +70,30 @@ KeepsWinning s = pos 0 <ℤ s.entry.value → IfSome (planned_of s) (λ m. IsNea
 abbrev pub KeepsLosing : Seen → Type 0
 KeepsLosing s = s.entry.value <ℤ pos 0 → All (λ o. IfSome o (λ m. IsNearer m s.entry.dist)) s.moves
 
-abbrev pub KeepsDistance : Seen → Type 0
-KeepsDistance s = KeepsEven s × KeepsUneven s × KeepsWinning s × KeepsLosing s
+abbrev pub KeepsFalling : Seen → Type 0
+KeepsFalling s = KeepsEven s × KeepsUneven s × KeepsWinning s × KeepsLosing s
+
+-- the plies that a move takes
+abbrev pub plies_of : Reached → ℕ
+plies_of m = plies m.captured m.entry.dist
+
+-- a move that gains the value in so many plies
+abbrev pub GainsJustIn : ℤ → ℕ → Reached → Type 0
+GainsJustIn value dist m = (gain_of m ≡ value) × (plies_of m ≡ dist)
+
+abbrev pub KeepsWon : Seen → Type 0
+KeepsWon s =
+    IsNone s.end → pos 0 <ℤ s.entry.value
+    → Any (λ o. IsSomeAnd o (GainsJustIn s.entry.value s.entry.dist)) s.moves × All (λ o. IfSome o (λ m. gain_of m ≡ s.entry.value → s.entry.dist ≤ plies_of m)) s.moves
+
+abbrev pub KeepsLost : Seen → Type 0
+KeepsLost s =
+    IsNone s.end → s.entry.value <ℤ pos 0
+    → Any (λ o. IsSomeAnd o (λ m. plies_of m ≡ s.entry.dist)) s.moves × All (λ o. IfSome o (λ m. plies_of m ≤ s.entry.dist)) s.moves
+
+abbrev pub KeepsLeast : Seen → Type 0
+KeepsLeast s = KeepsEven s × KeepsWon s × KeepsLost s × KeepsWinning s
+
+abbrev pub KeepsDistance : Distances → Seen → Type 0
+KeepsDistance Falling s = KeepsFalling s
+KeepsDistance Least s = KeepsLeast s

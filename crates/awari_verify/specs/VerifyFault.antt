@@ -2,9 +2,11 @@
 use Rattle.std.specs.Prelude.{◌≡◌, ◌≢◌, ◌⊎◌, ℕ, ◌≤◌, List, [], ◌∷◌, ◌++◌, length, codes}
 use Rattle.std.specs.Fmt.{decimal}
 use Rattle.awari_rank.specs.Rank.{size_of}
-use Rattle.awari_table.specs.declared.TheConstants.{HIGHEST_LEVEL}
 use Rattle.awari_table.specs.declared.images.Image.{Image}
+use Rattle.awari_table.specs.declared.rules.Distances.{Distances}
+use Rattle.awari_table.specs.declared.rules.Distances.TheVariants.{Least}
 use Rattle.awari_table.specs.Images.{table_of, greatest_dist}
+use Rattle.awari_table.specs.Shelves.{highest_by}
 use Rattle.awari_verify.specs.FirstFailure.{RightBetween, IsRefusal}
 use Rattle.awari_verify.specs.Rule.{rule_name}
 use Rattle.awari_verify.specs.declared.rules.Rule.{Rule}
@@ -28,21 +30,25 @@ abbrev pub fault_text : VerifyFault → List ℕ
 fault_text fault = decimal (number_of fault) ++ codes " " ++ name_and_fields fault
 
 -- the image is of the level above the shelf, and has an entry for each board
-pub record IsShaped (shelf : List Image) (image : Image) : Type 0 where
+pub record IsShaped (asked : Distances) (shelf : List Image) (image : Image) : Type 0 where
   pub next : image.level ≡ length shelf
-  pub low : image.level ≤ HIGHEST_LEVEL
+  pub low : image.level ≤ highest_by asked
   pub sized : length image.entries ≡ size_of image.level
 
 -- every board is right, and the limit is not the greatest distance
-pub record IsWrongLimit (shelf : List Image) (image : Image) (rank : ℕ) (rule : Rule) : Type 0 where
+pub record IsWrongLimit (asked : Distances) (shelf : List Image) (image : Image) (rank : ℕ) (rule : Rule) : Type 0 where
   pub named : rule ≡ V7
   pub at_0 : rank ≡ 0
-  pub right : RightBetween (table_of (shelf ++ image ∷ [])) image.level 0 (size_of image.level)
+  pub right : RightBetween asked (table_of (shelf ++ image ∷ [])) image.level 0 (size_of image.level)
   pub wrong : image.limit ≢ greatest_dist image.entries
 
 -- The fault of the image over the shelf. Each excludes the others, and that the image is consistent.
+abbrev pub IsDueBy : Distances → List Image → Image → VerifyFault → Type 0
+IsDueBy asked shelf image WrongLevel = (image.level ≡ length shelf) × (image.level ≤ highest_by asked) → ⊥
+IsDueBy asked shelf image WrongSize = (image.level ≡ length shelf) × (image.level ≤ highest_by asked) × (length image.entries ≢ size_of image.level)
+IsDueBy asked shelf image (Refused rank rule) =
+    IsShaped asked shelf image × (IsRefusal asked (table_of (shelf ++ image ∷ [])) image.level 0 (size_of image.level) rank rule ⊎ IsWrongLimit asked shelf image rank rule)
+
+-- by the rules in force
 abbrev pub IsDue : List Image → Image → VerifyFault → Type 0
-IsDue shelf image WrongLevel = (image.level ≡ length shelf) × (image.level ≤ HIGHEST_LEVEL) → ⊥
-IsDue shelf image WrongSize = (image.level ≡ length shelf) × (image.level ≤ HIGHEST_LEVEL) × (length image.entries ≢ size_of image.level)
-IsDue shelf image (Refused rank rule) =
-    IsShaped shelf image × (IsRefusal (table_of (shelf ++ image ∷ [])) image.level 0 (size_of image.level) rank rule ⊎ IsWrongLimit shelf image rank rule)
+IsDue shelf image fault = IsDueBy Least shelf image fault

@@ -9,4 +9,4 @@ mod verdicts;
 
 pub use laws::one_fault_is_due;
 pub use rules::Rule;
-pub use verdicts::{VerifyFault, fault_of, verify};
+pub use verdicts::{VerifyFault, fault_of, verify, verify_old};

@@ -1,12 +1,12 @@
 //! The rules of a table, judged of what was seen of one board.
 
-ghost use Rattle.std.specs.Prelude.{◌≡◌, ◌↔◌, ℕ, List, IsTrue, MatchOption};
-ghost use Rattle.awari_table.specs.Certificate.{Table, IsRight};
-ghost use Rattle.awari_verify.specs.Sights.{Sees, planned_of, gain_of, IsNearer, KeepsRange, KeepsEnd, KeepsPlan, KeepsGain, KeepsPlanGain, KeepsEven, KeepsUneven, KeepsWinning, KeepsLosing, KeepsDistance};
+ghost use Rattle.std.specs.Prelude.{◌≡◌, ◌≤◌, ◌↔◌, ℕ, List, IsTrue, IfSome, IsSomeAnd, All, Any, MatchOption};
+ghost use Rattle.awari_table.specs.Certificate.{Table, IsRightBy};
+ghost use Rattle.awari_verify.specs.Sights.{Sees, planned_of, gain_of, IsNearer, KeepsRange, KeepsEnd, KeepsPlan, KeepsGain, KeepsPlanGain, KeepsEven, KeepsUneven, KeepsWinning, KeepsLosing, KeepsFalling, plies_of, GainsJustIn, KeepsWon, KeepsLost, KeepsLeast, KeepsDistance};
 ghost use Rattle.awari_verify.specs.FirstFailure.{BreaksFirst};
 
 use awari_board::SIDE;
-use awari_table::Entry;
+use awari_table::{Distances, Entry, plies};
 use std::fmt;
 
 /// The rules of a table, in the order in which they are judged. V1 to V6 are judged of each board,
@@ -23,7 +23,11 @@ pub enum Rule {
     V4,
     /// The plan gains the value.
     V5,
-    /// Distances fall: value 0 has distance 0, any other board that is not ended at least 1, the
+    /// Distances are the least: value 0 has distance 0, a positive board that is not ended the least
+    /// number of plies that a move takes which gains its value, and a negative one the greatest that a
+    /// move takes, where a capture takes one ply, and a quiet move one more than the distance that it
+    /// leads to; and the plan of a positive board captures or goes to a smaller distance. By the old
+    /// rules they only fall: value 0 has distance 0, any other board that is not ended at least 1, the
     /// plan of a positive board captures or goes to a smaller distance, and every quiet move of a
     /// negative board goes to a smaller distance.
     V6,
@@ -70,8 +74,8 @@ pub struct Seen {
 }
 
 /// The first of V1 to V6 that the board breaks.
-pub fn first_broken_rule(seen: &Seen) -> Option<Rule>
-    ensures { (t : Table) (p : List ℕ) → Sees t p seen.now → MatchOption result (IsRight t p) (BreaksFirst t p) }
+pub fn first_broken_rule(asked: Distances, seen: &Seen) -> Option<Rule>
+    ensures { (t : Table) (p : List ℕ) → Sees t p seen.now → MatchOption result (IsRightBy asked t p) (BreaksFirst asked t p) }
 {
     if !keeps_range(seen) {
         return Some(Rule::V1);
@@ -88,7 +92,7 @@ pub fn first_broken_rule(seen: &Seen) -> Option<Rule>
     if !keeps_plan_gain(seen) {
         return Some(Rule::V5);
     }
-    if !keeps_distance(seen) {
+    if !keeps_distance(asked, seen) {
         return Some(Rule::V6);
     }
     None
@@ -146,8 +150,17 @@ fn keeps_plan_gain(seen: &Seen) -> bool
     }
 }
 
-fn keeps_distance(seen: &Seen) -> bool
-    ensures { IsTrue result ↔ KeepsDistance seen.now }
+fn keeps_distance(asked: Distances, seen: &Seen) -> bool
+    ensures { IsTrue result ↔ KeepsDistance asked seen.now }
+{
+    match asked {
+        Distances::Falling => keeps_falling(seen),
+        Distances::Least => keeps_least(seen),
+    }
+}
+
+fn keeps_falling(seen: &Seen) -> bool
+    ensures { IsTrue result ↔ KeepsFalling seen.now }
 {
     keeps_even(seen) && keeps_uneven(seen) && keeps_winning(seen) && keeps_losing(seen)
 }
@@ -190,6 +203,97 @@ fn keeps_losing(seen: &Seen) -> bool
         }
     }
     true
+}
+
+fn keeps_least(seen: &Seen) -> bool
+    ensures { IsTrue result ↔ KeepsLeast seen.now }
+{
+    keeps_even(seen) && keeps_won(seen) && keeps_lost(seen) && keeps_winning(seen)
+}
+
+fn keeps_won(seen: &Seen) -> bool
+    ensures { IsTrue result ↔ KeepsWon seen.now }
+{
+    if seen.end.is_some() || seen.entry.value <= 0 {
+        return true;
+    }
+    some_gains_in(seen) && none_gains_sooner(seen)
+}
+
+/// Whether a move gains the value in as many plies as the distance.
+fn some_gains_in(seen: &Seen) -> bool
+    ensures { IsTrue result ↔ Any (λ o. IsSomeAnd o (GainsJustIn seen.now.entry.value seen.now.entry.dist)) seen.now.moves }
+{
+    for reached in &seen.moves {
+        if let Some(reached) = reached {
+            if gain_of(reached) == i16::from(seen.entry.value)
+                && plies_of(reached) == u64::from(seen.entry.dist)
+            {
+                return true;
+            }
+        }
+    }
+    false
+}
+
+/// Whether each move that gains the value takes at least as many plies as the distance.
+fn none_gains_sooner(seen: &Seen) -> bool
+    ensures { IsTrue result ↔ All (λ o. IfSome o (λ m. gain_of m ≡ seen.now.entry.value → seen.now.entry.dist ≤ plies_of m)) seen.now.moves }
+{
+    for reached in &seen.moves {
+        if let Some(reached) = reached {
+            if gain_of(reached) == i16::from(seen.entry.value)
+                && plies_of(reached) < u64::from(seen.entry.dist)
+            {
+                return false;
+            }
+        }
+    }
+    true
+}
+
+fn keeps_lost(seen: &Seen) -> bool
+    ensures { IsTrue result ↔ KeepsLost seen.now }
+{
+    if seen.end.is_some() || seen.entry.value >= 0 {
+        return true;
+    }
+    some_takes(seen) && none_takes_longer(seen)
+}
+
+/// Whether a move takes as many plies as the distance.
+fn some_takes(seen: &Seen) -> bool
+    ensures { IsTrue result ↔ Any (λ o. IsSomeAnd o (λ m. plies_of m ≡ seen.now.entry.dist)) seen.now.moves }
+{
+    for reached in &seen.moves {
+        if let Some(reached) = reached {
+            if plies_of(reached) == u64::from(seen.entry.dist) {
+                return true;
+            }
+        }
+    }
+    false
+}
+
+/// Whether each move takes at most as many plies as the distance.
+fn none_takes_longer(seen: &Seen) -> bool
+    ensures { IsTrue result ↔ All (λ o. IfSome o (λ m. plies_of m ≤ seen.now.entry.dist)) seen.now.moves }
+{
+    for reached in &seen.moves {
+        if let Some(reached) = reached {
+            if plies_of(reached) > u64::from(seen.entry.dist) {
+                return false;
+            }
+        }
+    }
+    true
+}
+
+/// How many plies the move takes.
+fn plies_of(reached: &Reached) -> u64
+    ensures { result ≡ plies_of reached.now }
+{
+    plies(reached.captured, reached.entry.dist)
 }
 
 /// The plan's move, if the plan is legal.

@@ -9,7 +9,7 @@ ghost use Rattle.awari_verify.specs.FirstFailure.{RightBetween, IsRefusal};
 use crate::rules::{Rule, first_broken_rule};
 use crate::sights::seen_at;
 use awari_rank::{successor, unrank};
-use awari_table::{Image, Shelf};
+use awari_table::{Distances, Image, Shelf};
 
 /// A board that breaks a rule, by its rank, and the first rule that it breaks.
 #[derive(Clone, Copy)]
@@ -22,20 +22,26 @@ pub struct Refusal {
 ///
 /// Only the first board is found by its rank: each other is the successor of the one before, which
 /// takes far less time.
-pub fn refusal_between(shelf: &Shelf, image: &Image, low: u32, high: u32) -> Option<Refusal>
-    requires shaped { IsShaped shelf.now image.now }
+pub fn refusal_between(
+    asked: Distances,
+    shelf: &Shelf,
+    image: &Image,
+    low: u32,
+    high: u32,
+) -> Option<Refusal>
+    requires shaped { IsShaped asked shelf.now image.now }
     requires order { low ≤ high }
     requires within { high ≤ size_of image.now.level }
     ensures { MatchOption result
-        (RightBetween (table_of (shelf.now ++ image.now ∷ [])) image.now.level low high)
-        (λ r. IsRefusal (table_of (shelf.now ++ image.now ∷ [])) image.now.level low high r.rank r.rule) }
+        (RightBetween asked (table_of (shelf.now ++ image.now ∷ [])) image.now.level low high)
+        (λ r. IsRefusal asked (table_of (shelf.now ++ image.now ∷ [])) image.now.level low high r.rank r.rule) }
 {
     if low == high {
         return None;
     }
     let mut board = unrank(image.level, low);
     for rank in low..high {
-        match first_broken_rule(&seen_at(shelf, image, &board, rank)) {
+        match first_broken_rule(asked, &seen_at(shelf, image, &board, rank)) {
             Some(rule) => return Some(Refusal { rank, rule }),
             None => {}
         }

@@ -10,12 +10,12 @@ ghost use Rattle.awari_verify.specs.Sights.{Sees, SeesMove, SeesEnd};
 use crate::rules::{Reached, Seen};
 use awari_board::{Board, Moved, SIDE};
 use awari_rank::rank;
-use awari_table::{Entry, Image, Shelf};
+use awari_table::{Distances, Entry, Image, Shelf};
 
 /// What the image says of the board, which is that of this rank, and what image and shelf say of
 /// the boards that its moves lead to. Each is looked up once.
 pub fn seen_at(shelf: &Shelf, image: &Image, board: &Board, rank: u32) -> Seen
-    requires shaped { IsShaped shelf.now image.now }
+    requires shaped { IsShaped Distances.Least shelf.now image.now }
     requires stones { sum board.now ≡ image.now.level }
     requires ranked { rank_of board.now ≡ rank }
     requires below { rank < size_of image.now.level }
@@ -35,7 +35,7 @@ pub fn seen_at(shelf: &Shelf, image: &Image, board: &Board, rank: u32) -> Seen
 
 /// The move of this pit, if it is legal.
 fn reached(shelf: &Shelf, image: &Image, board: &Board, pit: u8) -> Option<Reached>
-    requires shaped { IsShaped shelf.now image.now }
+    requires shaped { IsShaped Distances.Least shelf.now image.now }
     requires stones { sum board.now ≡ image.now.level }
     ensures { SeesMove (table_of (shelf.now ++ image.now ∷ [])) board.now pit result }
 {
@@ -55,7 +55,7 @@ fn reached(shelf: &Shelf, image: &Image, board: &Board, pit: u8) -> Option<Reach
 /// The entry of the board that a move leaves: it is the image's after a quiet move, and the shelf's
 /// after a capture.
 fn entry_after(shelf: &Shelf, image: &Image, moved: &Moved) -> Entry
-    requires shaped { IsShaped shelf.now image.now }
+    requires shaped { IsShaped Distances.Least shelf.now image.now }
     requires stones { sum moved.now.board + moved.now.captured ≡ image.now.level }
     ensures { result ≡ entry_of (shelf.now ++ image.now ∷ []) moved.now.board }
 {

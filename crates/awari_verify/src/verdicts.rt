@@ -1,16 +1,18 @@
 //! Whether an image may stand as the next level of a shelf.
 
-ghost use Rattle.std.specs.Prelude.{◌≡◌, ◌↔◌, [], ◌∷◌, ◌++◌, IsOk, IfOk, IfErr, IsNone, IfSome};
+ghost use Rattle.std.specs.Prelude.{◌≡◌, ◌≤◌, ◌↔◌, [], ◌∷◌, ◌++◌, IsOk, IfOk, IfErr, IsNone, IfSome};
 ghost use Rattle.awari_rank.specs.Rank.{size_of};
 ghost use Rattle.awari_table.specs.Images.{greatest_dist};
-ghost use Rattle.awari_table.specs.Shelves.{Consistent, IsShelf};
+ghost use Rattle.awari_table.specs.Shelves.{Consistent, ConsistentBy, IsShelf, highest_by};
 ghost use Rattle.awari_theory.specs.Truth.{TellsTruth};
-ghost use Rattle.awari_verify.specs.VerifyFault.{IsShaped, IsDue};
+ghost use Rattle.awari_verify.specs.VerifyFault.{IsShaped, IsDue, IsDueBy};
 
 use crate::rules::Rule;
 use crate::search::{Refusal, refusal_between};
 use awari_rank::size;
-use awari_table::{Entry, HIGHEST_LEVEL, Image, Level, Shelf};
+use awari_table::{
+    Distances, Entry, HIGHEST_FALLING_LEVEL, HIGHEST_LEVEL, Image, Level, Shelf,
+};
 use std::fmt;
 use thiserror::Error;
 
@@ -89,11 +91,33 @@ pub fn fault_of(shelf: &Shelf, image: &Image) -> Option<VerifyFault>
     ensures none { IsNone result ↔ Consistent shelf.now image.now }
     ensures fault { IfSome result (IsDue shelf.now image.now) }
 {
-    let boards = match boards_of(shelf, image) {
+    fault_by(Distances::Least, shelf, image)
+}
+
+/// Ok where the image is consistent over the shelf by the old rules, of levels up to
+/// `HIGHEST_FALLING_LEVEL`, which ask that distances fall, and not that they are the least. What is
+/// refused is refused as [`verify`] does, by these rules. It takes no memory.
+pub fn verify_old(shelf: &Shelf, image: &Image) -> Result<(), VerifyFault>
+    ensures ok { IsOk result ↔ ConsistentBy Distances.Falling shelf.now image.now }
+    ensures fault { IfErr result (IsDueBy Distances.Falling shelf.now image.now) }
+{
+    match fault_by(Distances::Falling, shelf, image) {
+        Some(fault) => Err(fault),
+        None => Ok(()),
+    }
+}
+
+/// Why the image is not the shelf's next level, by the rules that ask this of distances.
+fn fault_by(asked: Distances, shelf: &Shelf, image: &Image) -> Option<VerifyFault>
+    ensures none { IsNone result ↔ ConsistentBy asked shelf.now image.now }
+    ensures fault { IfSome result (IsDueBy asked shelf.now image.now) }
+    ensures shelf { IsShelf shelf.now }
+{
+    let boards = match boards_of(asked, shelf, image) {
         Ok(boards) => boards,
         Err(fault) => return Some(fault),
     };
-    match refusal_between(shelf, image, 0, boards) {
+    match refusal_between(asked, shelf, image, 0, boards) {
         Some(Refusal { rank, rule }) => Some(VerifyFault::Refused { rank, rule }),
         None if image.limit != greatest_dist(image.entries.as_slice()) => {
             Some(VerifyFault::Refused {
@@ -106,12 +130,12 @@ pub fn fault_of(shelf: &Shelf, image: &Image) -> Option<VerifyFault>
 }
 
 /// The number of boards, if the image is of the shelf's next level and has an entry for each.
-fn boards_of(shelf: &Shelf, image: &Image) -> Result<u32, VerifyFault>
-    ensures ok { IfOk result (λ n. IsShaped shelf.now image.now × (n ≡ size_of image.now.level)) }
-    ensures err { IfErr result (IsDue shelf.now image.now) }
+fn boards_of(asked: Distances, shelf: &Shelf, image: &Image) -> Result<u32, VerifyFault>
+    ensures ok { IfOk result (λ n. IsShaped asked shelf.now image.now × (n ≡ size_of image.now.level)) }
+    ensures err { IfErr result (IsDueBy asked shelf.now image.now) }
     ensures shelf { IsShelf shelf.now }
 {
-    if image.level != shelf.levels() || image.level > HIGHEST_LEVEL {
+    if image.level != shelf.levels() || image.level > highest_by(asked) {
         return Err(VerifyFault::WrongLevel);
     }
     let boards = size(image.level);
@@ -119,6 +143,17 @@ fn boards_of(shelf: &Shelf, image: &Image) -> Result<u32, VerifyFault>
         return Err(VerifyFault::WrongSize);
     }
     Ok(boards)
+}
+
+/// The highest level that these rules are for.
+fn highest_by(asked: Distances) -> u8
+    ensures is { result ≡ highest_by asked }
+    ensures low { result ≤ 24 }
+{
+    match asked {
+        Distances::Falling => HIGHEST_FALLING_LEVEL,
+        Distances::Least => HIGHEST_LEVEL,
+    }
 }
 
 /// The greatest distance, 0 for none.

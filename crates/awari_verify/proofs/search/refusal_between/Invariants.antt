@@ -7,7 +7,7 @@ use Rattle.awari_verify.proofs.search.refusal_between.Given as goal
 
 abbrev pub invariant-loop-rank : goal.invariant-loop-rank
 invariant-loop-rank l = record {
-  right : RightBetween (table_of (l.shelf ++ l.image ∷ [])) l.image.level l.low l.rank;
+  right : RightBetween l.asked (table_of (l.shelf ++ l.image ∷ [])) l.image.level l.low l.rank;
   is_board : IsBoard l.board;
   stones : sum l.board ≡ l.image.level;
   ranked : l.rank < l.high → rank_of l.board ≡ l.rank;
