@@ -1,16 +1,27 @@
-//! The verifier alone, which `bench/run` times by the difference that more rounds make.
+//! Levels that were built, judged again or lowered again, which `bench/run` times by the difference
+//! that more rounds make.
 
 use crate::counting::Counted;
 use awari_build::build_alone;
+use awari_plan::least;
 use awari_table::{Entries, HIGHEST_LEVEL, Image, Level, Shelf};
-use awari_verify::verify;
+use awari_verify::{verify, verify_old};
 use std::alloc::{AllocError, Global};
 use std::io;
 use std::sync::Arc;
 
-/// Builds all levels, and has each judged so many times by the verifier. Counts
-/// the judgements, and the boards of those that are a yes.
-pub fn judgements(alloc: Global, rounds: u32) -> io::Result<Counted> {
+/// What is done with each level.
+#[derive(Clone, Copy)]
+pub enum Work {
+    /// The verifier judges what it says.
+    Judge,
+    /// All its distances are doubled, and brought down to the least again.
+    Lower,
+}
+
+/// Builds all levels, and does the work with each so many times. Counts how often it went well, and
+/// the boards of these levels.
+pub fn all_levels(alloc: Global, work: Work, rounds: u32) -> io::Result<Counted> {
     let mut counted = Counted::NONE;
     let mut shelf = Shelf::empty();
     for _level in 0..=HIGHEST_LEVEL {
@@ -18,14 +29,45 @@ pub fn judgements(alloc: Global, rounds: u32) -> io::Result<Counted> {
             return Ok(counted);
         };
         for _round in 0..rounds {
-            let image = image_of(alloc, &level)?;
-            if let Ok(judged) = verify(&shelf, image) {
-                counted.add(judged.entries().len() as u64);
+            let went_well = match work {
+                Work::Judge => is_judged_right(alloc, &shelf, &level)?,
+                Work::Lower => is_lowered(alloc, &shelf, &level)?,
+            };
+            if went_well {
+                counted.add(level.entries().len() as u64);
             }
         }
         shelf.push(Arc::new(alloc, level)?);
     }
     Ok(counted)
+}
+
+/// Whether the verifier takes what the level says.
+fn is_judged_right(alloc: Global, shelf: &Shelf, level: &Level) -> Result<bool, AllocError> {
+    Ok(verify(shelf, image_of(alloc, level)?).is_ok())
+}
+
+/// Whether the level comes out again when its distances, doubled, are brought down. That they keep
+/// the older rules is judged first.
+fn is_lowered(alloc: Global, shelf: &Shelf, level: &Level) -> Result<bool, AllocError> {
+    let farther = doubled(alloc, level)?;
+    if verify_old(shelf, &farther).is_err() {
+        return Ok(false);
+    }
+    Ok(least(shelf, farther).entries.as_slice() == level.entries())
+}
+
+/// A copy with each distance, and the limit, twice as great.
+fn doubled(alloc: Global, level: &Level) -> Result<Image, AllocError> {
+    let mut entries = level.entries().to_vec(alloc)?;
+    for entry in entries.iter_mut() {
+        entry.dist = entry.dist.saturating_mul(2);
+    }
+    Ok(Image {
+        level: level.number(),
+        limit: level.limit().saturating_mul(2),
+        entries: Entries::from(entries),
+    })
 }
 
 /// A copy of what the level says.

@@ -1,14 +1,14 @@
 //! Goes over a level of ten stones by the hot calls. With no words it makes one round of each and
 //! prints what it counted, which another program has to count too; `bench/run` times it with the
-//! name of a call and a number of rounds. The call `verify` is that of all levels, which are built
-//! first.
+//! name of a call and a number of rounds. The calls `verify` and `least` are of all levels, which are
+//! built first.
 #![tactic(auto)]
 
 mod counting;
 mod judging;
 
 use crate::counting::Counted;
-use crate::judging::judgements;
+use crate::judging::{Work, all_levels};
 use awari_board::Board;
 use awari_rank::{rank, size, successor, unrank};
 use std::{env, io};
@@ -104,10 +104,14 @@ fn main(rt: HostRuntime) -> io::Result<()> {
     match words.as_slice() {
         [_, call, rounds] => {
             let rounds = rounds.as_str().parse().unwrap_or(1);
-            if call.as_str() == "verify" {
-                print_counted(&rt, "verify", judgements(rt.alloc(), rounds)?)
-            } else {
-                report(&rt, call.as_str(), rounds)
+            match call.as_str() {
+                "verify" => {
+                    print_counted(&rt, "verify", all_levels(rt.alloc(), Work::Judge, rounds)?)
+                }
+                "least" => {
+                    print_counted(&rt, "least", all_levels(rt.alloc(), Work::Lower, rounds)?)
+                }
+                call => report(&rt, call, rounds),
             }
         }
         _ => {
