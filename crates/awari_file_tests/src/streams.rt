@@ -257,7 +257,7 @@ const KINDS: [(ErrorKind, u32, Option<ErrorKind>); 5] = [
 ];
 
 /// A sink that answers such a fault in its first calls.
-fn sink(calls: u32, bad: Bad) -> Sink {
+fn failing_sink(calls: u32, bad: Bad) -> Sink {
     Sink {
         calls: Calls::new(1, calls, bad),
         taken: 0,
@@ -280,9 +280,9 @@ fn kinds_of(calls: u32, bad: Bad) -> [Option<ErrorKind>; 4] {
     });
     [
         kind_of(reader.read(&mut [0])),
-        kind_of(Counted::new(sink(calls, bad)).write(b"x")),
-        kind_of(Counted::new(sink(calls, bad)).flush()),
-        kind_of(Counted::new(sink(calls, bad)).write_all(b"x")),
+        kind_of(Counted::new(failing_sink(calls, bad)).write(b"x")),
+        kind_of(Counted::new(failing_sink(calls, bad)).flush()),
+        kind_of(Counted::new(failing_sink(calls, bad)).write_all(b"x")),
     ]
 }
 
