@@ -15,3 +15,11 @@ pub fn print<W: Write, T: Display>(writer: &mut W, lines: &T) -> bool
         Err(_) => false,
     }
 }
+
+/// Writes a refusal, and gives the status that goes with it, whether the writer took it or not.
+pub fn refuse<W: Write, T: Display>(writer: &mut W, fault: &T) -> u8
+    ensures { result ≡ 1 }
+{
+    print(writer, fault);
+    1
+}

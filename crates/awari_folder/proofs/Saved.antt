@@ -24,9 +24,12 @@ one_longer shelf image = length-append shelf (image ∷ []) ∙ omega arith
 -- Files are held where the names below the level have what they had.
 held_still : (old new : ℕ → Option (List ℕ)) (n : ℕ) (shelf : List Image) (digest : List ℕ) → ((i : ℕ) → i < n → new i ≡ old i) → HoldLevels old n shelf digest → HoldLevels new n shelf digest
 held_still old new zero shelf digest same held = held
-held_still old new (suc n) shelf digest same (lower, below, held, next) =
-    (lower, below, held_still old new n lower below (λ i low. same i (omega (arith, low))) held,
-      subst (λ o. IsSomeAnd o (λ bytes. IsNextFile lower below bytes shelf digest)) (sym (same n (omega arith))) next)
+held_still old new (suc n) shelf digest same (lower, below, held, next) = (
+  lower,
+  below,
+  held_still old new n lower below (λ i low. same i (omega (arith, low))) held,
+  subst (λ o. IsSomeAnd o (λ bytes. IsNextFile lower below bytes shelf digest)) (sym (same n (omega arith))) next,
+)
 
 -- The file of a level that is right over the shelf is its next file.
 pub next_file : (shelf : List Image) (below : List ℕ) (image : Image) → Consistent shelf image → HasFile 1 image below
@@ -54,8 +57,8 @@ named_now : (old new : ℕ → Option (Option (List ℕ))) (names : ℕ → Opti
     → new level ≡ Some (Some bytes) → AreNames new (with_name names level bytes)
 named_now old new names level bytes are others own n =
     ⊎_elim (λ same. ap new same.1 ∙ own ∙ ap Some (sym (ap (with_name names level bytes) same.1 ∙ with_own names level bytes)))
-      (λ other. others n other.1 ∙ are n ∙ ap Some (sym (with_other names level bytes n other.1)))
-      (eqb_tells n level)
+    (λ other. others n other.1 ∙ are n ∙ ap Some (sym (with_other names level bytes n other.1)))
+    (eqb_tells n level)
 
 becomes_own : (old new : Option (Option (List ℕ))) (name : Option (List ℕ)) (bytes : List ℕ) → old ≡ Some name → Becomes old new (Some bytes) → new ≡ Some (Some bytes)
 becomes_own old new name bytes is becomes = subst (λ o. Becomes o new (Some bytes)) is becomes
@@ -68,12 +71,17 @@ holds_more old new shelf below image digest (names, are, held) right has others 
     let level = image.level in
     let text = file_text 1 image below in
     let after = with_name names level text in
-    let at : after (length shelf) ≡ Some text = ap after (sym right.next) ∙ with_own names level text in
-    (after, named_now old new names level text are others own,
-      subst (λ n. HoldLevels after n (shelf ++ image ∷ []) digest) (sym (one_longer shelf image))
-        (shelf, below, held_still names after (length shelf) shelf below (λ i low. with_other names level text i (λ e. omega (arith, low, e, right.next))) held,
-          subst (λ o. IsSomeAnd o (λ bytes. IsNextFile shelf below bytes (shelf ++ image ∷ []) digest)) (sym at)
-            (subst (IsNextFile shelf below text (shelf ++ image ∷ [])) (sym ends) (next_file shelf below image right has))))
+    let at : after (length shelf) ≡ Some text = ap after (sym right.next) ∙ with_own names level text in (
+      after,
+      named_now old new names level text are others own,
+      subst (λ n. HoldLevels after n (shelf ++ image ∷ []) digest) (sym (one_longer shelf image)) (
+        shelf,
+        below,
+        held_still names after (length shelf) shelf below (λ i low. with_other names level text i (λ e. omega (arith, low, e, right.next))) held,
+        subst (λ o. IsSomeAnd o (λ bytes. IsNextFile shelf below bytes (shelf ++ image ∷ []) digest)) (sym at)
+            (subst (IsNextFile shelf below text (shelf ++ image ∷ [])) (sym ends) (next_file shelf below image right has)),
+      ),
+    )
 
 -- The same, once a file that was written from its start was brought to the disk and got the level's name.
 pub holds_saved : {D : Type 0} (contents kept : D → Option (List ℕ)) (old mid new : ℕ → Option (Option (List ℕ))) (number : ℕ) (below : List ℕ) (image : Image) (digest : List ℕ) (fresh done : D)
@@ -155,16 +163,16 @@ held_is_one names zero shelf other digest end one two = (two.0 ∙ sym one.0, tw
 held_is_one names (suc n) shelf other digest end (lower, below, held, next) (lesser, under, holds, follows) =
     let same = held_is_one names n lower lesser below under held holds in
     name_is_one lower below shelf other digest end (names n) next
-      (subst (λ l. IsSomeAnd (names n) (λ bytes. IsNextFile l below bytes other end)) same.0 (subst (λ d. IsSomeAnd (names n) (λ bytes. IsNextFile lesser d bytes other end)) same.1 follows))
+    (subst (λ l. IsSomeAnd (names n) (λ bytes. IsNextFile l below bytes other end)) same.0 (subst (λ d. IsSomeAnd (names n) (λ bytes. IsNextFile lesser d bytes other end)) same.1 follows))
 
 -- A shelf that is stored is not shorter than one that is held.
 not_shorter : (names : ℕ → Option (List ℕ)) (shelf other : List Image) (digest end : List ℕ) → IsStored names shelf digest → HoldLevels names (length other) other end → length other ≤ length shelf
 not_shorter names shelf other digest end stored held =
     ⊎_elim (λ low.
-        let there = held_there names (length other) other end (length shelf) held low in
-        ⊎_elim (λ none. none_is_some _ there.0 none there.1) (λ high. absurd (omega (arith, high, low, held_low names (length other) other end held))) stored.end)
-      (λ high. high)
-      (cases_lt (length shelf) (length other))
+    let there = held_there names (length other) other end (length shelf) held low in
+    ⊎_elim (λ none. none_is_some _ there.0 none there.1) (λ high. absurd (omega (arith, high, low, held_low names (length other) other end held))) stored.end)
+    (λ high. high)
+    (cases_lt (length shelf) (length other))
 
 pub stored_is_one : (names : ℕ → Option (List ℕ)) (shelf other : List Image) (digest end : List ℕ) → IsStored names shelf digest → IsStored names other end → (other ≡ shelf) × (end ≡ digest)
 stored_is_one names shelf other digest end one two =

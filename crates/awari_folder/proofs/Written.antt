@@ -14,4 +14,4 @@ pub whole_of : {D : Type 0} (contents kept : D → Option (List ℕ)) (given sta
     → IsWhole (contents after) (kept after) text
 whole_of contents kept given start written back after text same returned empty appended synced =
     whole (contents start) (contents written) (contents after) (kept after) text (ap contents same ∙ empty) appended
-        (subst (λ d. IfSome (contents d) (λ bytes. IsWhole (contents after) (kept after) bytes)) returned synced)
+    (subst (λ d. IfSome (contents d) (λ bytes. IsWhole (contents after) (kept after) bytes)) returned synced)

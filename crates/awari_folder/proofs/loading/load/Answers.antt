@@ -33,7 +33,7 @@ loop-level-preserved g c =
       truth = c.in_ok-digest-in-Ok-Some.ensures.meaning;
       levels = c.in_ok-digest-in-Ok-Some.ensures.levels ∙ ap (λ n. n + 1) i.levels;
       held = λ names are. next_level names c.loop-level.level c.loop-level.shelf c.loop-level.digest c.put_on.new.shelf c.in_ok-digest-in-Ok-Some.digest (i.held names are)
-        (of_name g.F.File.Read.remaining _ _ _ c.in-Ok-Some.file (λ bytes. IsNextFile c.loop-level.shelf c.loop-level.digest bytes c.put_on.new.shelf c.in_ok-digest-in-Ok-Some.digest)
+          (of_name g.F.File.Read.remaining _ _ _ c.in-Ok-Some.file (λ bytes. IsNextFile c.loop-level.shelf c.loop-level.digest bytes c.put_on.new.shelf c.in_ok-digest-in-Ok-Some.digest)
           c.new.ensures.inner (i.stands c.loop-level.level ∙ are c.loop-level.level) (subst (λ o. Opens g.F.File.Read.remaining (g.F.Folder.stands c.loop-level.folder c.loop-level.level) o) c.in-Ok-Some.field-0-is c.in-Ok-Some.ensures.opened)
           c.in_ok-digest-in-Ok-Some.ensures.ok);
       stands = λ n. e.stands n ∙ i.stands n;

@@ -20,17 +20,17 @@ returns-clause-crash g c =
     let may_leave = g.F.Folder.may_leave in
     let removed = c.remove_new.ensures.crash in
     elim c.match-write_whole.branch [
-      in-Ok-write_whole+in-Err-Refused-replace w ↦
-        left_then stand _ P _ (may_leave w.replace.new.self) _
+      | in-Ok-write_whole+in-Err-Refused-replace w ↦
+          left_then stand _ P _ (may_leave w.replace.new.self) _
           (left_by_save g.F.New.Write.contents g.F.New.Draft.kept (g.F.Folder.stands c.args.folder.now) _ _ _ _ _ _ _ _ c.number-number.ensures.number c.in-Ok.ensures.empty
-            w.in-Ok-write_whole.ensures.whole c.create.ensures.crash w.replace.ensures.crash)
+          w.in-Ok-write_whole.ensures.whole c.create.ensures.crash w.replace.ensures.crash)
           (subst (λ f. LeavesNoMore (may_leave f) (may_leave c.remove_new.new.self)) w.folder-is removed)
       | in-Ok-write_whole+in-Err-Memory-replace w ↦
-        left_then stand _ P _ (may_leave w.replace.new.self) _
+          left_then stand _ P _ (may_leave w.replace.new.self) _
           (left_by_save g.F.New.Write.contents g.F.New.Draft.kept (g.F.Folder.stands c.args.folder.now) _ _ _ _ _ _ _ _ c.number-number.ensures.number c.in-Ok.ensures.empty
-            w.in-Ok-write_whole.ensures.whole c.create.ensures.crash w.replace.ensures.crash)
+          w.in-Ok-write_whole.ensures.whole c.create.ensures.crash w.replace.ensures.crash)
           (subst (λ f. LeavesNoMore (may_leave f) (may_leave c.remove_new.new.self)) w.folder-is removed)
       | in-Err w ↦
-        left_none stand _ P _ _
+          left_none stand _ P _ _
           (λ n left end. c.create.ensures.crash n left (subst (λ f. LeavesNoMore (may_leave f) (may_leave c.remove_new.new.self)) w.folder-is removed n left end))
     ]
