@@ -1,3 +1,4 @@
 pub mod JudgeLaws
 pub mod BuildLaws
 pub mod FolderLaws
+pub mod FolderBuilds

@@ -1,5 +1,5 @@
 -- The command `build`: what is printed of the levels that were built.
-use Rattle.std.specs.Prelude.{◌≡◌, ◌<◌, ℕ, List, ◌++◌, ◌∷◌, [], length, codes, Option}
+use Rattle.std.specs.Prelude.{◌≡◌, ◌<◌, ◌≤◌, ◌⊎◌, ℕ, List, ◌++◌, ◌∷◌, [], length, codes, Option, Some}
 use Rattle.std.specs.Fmt.{decimal}
 use Rattle.std.specs.List.{flat_map}
 use Rattle.std.specs.Io.KnownBytes.{Appends}
@@ -9,6 +9,8 @@ use Rattle.awari_table.specs.Images.{won_boards, even_boards, lost_boards}
 use Rattle.awari_table.specs.Shelves.{IsShelf}
 use Rattle.awari_table.specs.declared.images.Counts.{Counts}
 use Rattle.awari_table.specs.declared.images.Image.{Image}
+use Rattle.awari_file.specs.FileText.{file_text}
+use Rattle.awari_folder.specs.Contents.{AreNames, HoldsIn, IsStored, LeavesNoMore, Same}
 use Rattle.awari_cli.specs.declared.building.BuiltLevel.{BuiltLevel}
 use Rattle.awari_cli.specs.declared.building.BuildingFault.{BuildingFault}
 use Rattle.awari_cli.specs.declared.building.BuildingFault.TheVariants.{Build, Folder}
@@ -46,7 +48,33 @@ abbrev pub building_fault_text : BuildingFault → List ℕ
 building_fault_text (Build fault) = build_fault_text fault
 building_fault_text (Folder fault) = folder_fault_text fault
 
--- Where it is known what the writer holds, what was written are the lines of right levels, over some that were there, up to
--- level `top` at least.
-abbrev pub PrintsLevels : ℕ → Option (List ℕ) → Option (List ℕ) → Type 0
-PrintsLevels top before after = (below built : List Image) × IsShelf (below ++ built) × (top < length (below ++ built)) × Appends before after (level_lines built)
+-- Where it is known what a folder's names have: the levels below were stored in it, and now it holds those and the ones that
+-- were built on them.
+abbrev pub IsBuiltIn : (ℕ → Option (Option (List ℕ))) → (ℕ → Option (Option (List ℕ))) → List Image → List Image → Type 0
+IsBuiltIn old new below built = (names : ℕ → Option (List ℕ)) → AreNames old names
+    → (under digest : List ℕ) × IsStored names below under × HoldsIn new (below ++ built) digest
+
+-- Where it is known what the writer holds, what was written are the lines of right levels, over those that were stored in the
+-- folder, up to level `top` at least.
+abbrev pub PrintsLevels : ℕ → (ℕ → Option (Option (List ℕ))) → (ℕ → Option (Option (List ℕ))) → Option (List ℕ) → Option (List ℕ) → Type 0
+PrintsLevels top old new before after = (below built : List Image) × IsShelf (below ++ built) × (top < length (below ++ built)) × IsBuiltIn old new below built
+    × Appends before after (level_lines built)
+
+-- each of the levels below `low` and above `top` has what it had
+abbrev pub SameOutside : ℕ → ℕ → (ℕ → Option (Option (List ℕ))) → (ℕ → Option (Option (List ℕ))) → Type 0
+SameOutside low top old new = (n : ℕ) → (n < low) ⊎ (top < n) → new n ≡ old n
+
+-- the whole file of some image, over some digest
+abbrev pub IsFile : Option (List ℕ) → Type 0
+IsFile left = (image : Image) × (below : List ℕ) × (left ≡ Some (file_text 1 image below))
+
+-- A crash may leave nothing else than before, but under the names from level `low` on a whole file.
+abbrev pub LeavesFiles : ℕ → (ℕ → Option (List ℕ) → Type 0) → (ℕ → Option (List ℕ) → Type 0) → Type 0
+LeavesFiles low old new = (n : ℕ) (left : Option (List ℕ)) → new n left → old n left ⊎ ((low ≤ n) × IsFile left)
+
+-- Nothing is changed, or levels were stored and each of their files stays, as does what has the names above `top`; and a crash
+-- leaves what it might have left before, or a whole file under a name above those levels.
+abbrev pub KeepsLevels : ℕ → (ℕ → Option (List ℕ)) → (ℕ → Option (Option (List ℕ))) → (ℕ → Option (Option (List ℕ)))
+    → (ℕ → Option (List ℕ) → Type 0) → (ℕ → Option (List ℕ) → Type 0) → Type 0
+KeepsLevels top names old new left leaves = (Same old new × LeavesNoMore left leaves)
+    ⊎ ((below : List Image) × (under : List ℕ) × IsStored names below under × SameOutside (length below) top old new × LeavesFiles (length below) left leaves)

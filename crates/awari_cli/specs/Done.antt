@@ -1,6 +1,7 @@
 -- What the program has printed for a request where it ends with status 0.
 use Rattle.std.specs.Prelude.{ℕ, List, Option}
 use Rattle.awari_check.specs.Answer.{PrintsYes}
+use Rattle.awari_folder.specs.Contents.{nothing_known}
 use Rattle.awari_cli.specs.Building.{PrintsLevels}
 use Rattle.awari_cli.specs.Folders.{PrintsFolder, PrintsEntry}
 use Rattle.awari_cli.specs.Judgement.{PrintsJudgement}
@@ -10,12 +11,12 @@ use Rattle.awari_cli.specs.declared.requests.Request.{Request}
 use Rattle.awari_cli.specs.declared.requests.Request.TheVariants.{Check, Move, Judge, Build, Verify, Ask, Line}
 
 -- the yes for what the reader had left, the move, the judgement of the play, the lines of levels that were built or that lie in a
--- folder, the board's entry, or the line of play from it
+-- folder, the board's entry, or the line of play from it; of what a folder's names have nothing is known
 abbrev pub PrintsFor : Request → Option (List ℕ) → Option (List ℕ) → Option (List ℕ) → Type 0
 PrintsFor Check input before after = PrintsYes input before after
 PrintsFor (Move board pit) input before after = PrintsMove board.now pit before after
 PrintsFor (Judge board limit moves) input before after = PrintsJudgement board.now limit moves.now before after
-PrintsFor (Build top folder) input before after = PrintsLevels top before after
-PrintsFor (Verify folder) input before after = PrintsFolder before after
-PrintsFor (Ask folder board) input before after = PrintsEntry board.now before after
-PrintsFor (Line folder board) input before after = PrintsLine board.now before after
+PrintsFor (Build top folder) input before after = PrintsLevels top nothing_known nothing_known before after
+PrintsFor (Verify folder) input before after = PrintsFolder nothing_known before after
+PrintsFor (Ask folder board) input before after = PrintsEntry nothing_known board.now before after
+PrintsFor (Line folder board) input before after = PrintsLine nothing_known board.now before after

@@ -12,6 +12,7 @@ use Rattle.awari_table.specs.NotYet.{fault_text as not_yet_text}
 use Rattle.awari_table.specs.Shelves.{IsShelf}
 use Rattle.awari_table.specs.declared.images.Entry.{Entry}
 use Rattle.awari_table.specs.declared.images.Image.{Image}
+use Rattle.awari_folder.specs.Contents.{IsStoredIn}
 use Rattle.awari_cli.specs.declared.folders.LookUpFault.{LookUpFault}
 use Rattle.awari_cli.specs.declared.folders.LookUpFault.TheVariants.{Board, Folder, NotYet}
 use Rattle.awari_cli.specs.declared.folders.RightLevel.{RightLevel}
@@ -37,10 +38,11 @@ right_lines images = flat_map (λ image. right_text (record { level = image.leve
 abbrev pub summary_text : Summary → List ℕ
 summary_text summary = codes "levels " ++ decimal summary.levels ++ codes " digest " ++ digest_text summary.digest
 
--- Where it is known what the writer holds, what was written are the lines of right levels, and the line of them all.
-abbrev pub PrintsFolder : Option (List ℕ) → Option (List ℕ) → Type 0
-PrintsFolder before after = (images : List Image) × (summary : Summary) × IsShelf images × (summary.levels ≡ length images)
-    × Appends before after (right_lines images ++ (summary_text summary ++ 10 ∷ []))
+-- Where it is known what the writer holds, what was written are the lines of right levels, and the line of them all. They are
+-- those that the folder stores, where it is known what its names have.
+abbrev pub PrintsFolder : (ℕ → Option (Option (List ℕ))) → Option (List ℕ) → Option (List ℕ) → Type 0
+PrintsFolder stands before after = (images : List Image) × (summary : Summary) × IsShelf images × (summary.levels ≡ length images)
+    × IsStoredIn stands images summary.digest × Appends before after (right_lines images ++ (summary_text summary ++ 10 ∷ []))
 
 abbrev pub plan_text : Option ℕ → List ℕ
 plan_text None = codes "-"
@@ -49,14 +51,14 @@ plan_text (Some pit) = decimal pit
 abbrev pub entry_text : Entry → List ℕ
 entry_text e = signed_decimal e.value ++ codes " " ++ plan_text e.plan ++ codes " " ++ decimal e.dist
 
--- what right levels say of the board that the text spells
-abbrev pub IsEntryOf : List ℕ → Entry → Type 0
-IsEntryOf text e = (images : List Image) × (board : List ℕ) × IsShelf images × IsBoard board × (sum board < length images)
+-- what right levels say of the board that the text spells: those that the folder stores, where it is known what its names have
+abbrev pub IsEntryOf : (ℕ → Option (Option (List ℕ))) → List ℕ → Entry → Type 0
+IsEntryOf stands text e = (images : List Image) × (digest board : List ℕ) × IsShelf images × IsStoredIn stands images digest × IsBoard board × (sum board < length images)
     × (text ≡ text_of board) × (e ≡ entry_of images board)
 
 -- Where it is known what the writer holds, what was written is such an entry, and the line feed.
-abbrev pub PrintsEntry : List ℕ → Option (List ℕ) → Option (List ℕ) → Type 0
-PrintsEntry text before after = (e : Entry) × IsEntryOf text e × Appends before after (entry_text e ++ 10 ∷ [])
+abbrev pub PrintsEntry : (ℕ → Option (Option (List ℕ))) → List ℕ → Option (List ℕ) → Option (List ℕ) → Type 0
+PrintsEntry stands text before after = (e : Entry) × IsEntryOf stands text e × Appends before after (entry_text e ++ 10 ∷ [])
 
 -- the fault inside it
 abbrev pub look_up_fault_text : LookUpFault → List ℕ

@@ -12,14 +12,18 @@ use Rattle.awari_plan.specs.LineFault.{fault_text as line_fault_text}
 use Rattle.awari_table.specs.Images.{entry_of, greatest_limit, table_of}
 use Rattle.awari_table.specs.Shelves.{IsShelf}
 use Rattle.awari_table.specs.declared.images.Image.{Image}
+use Rattle.awari_folder.specs.Contents.{IsStoredIn}
 use Rattle.awari_cli.specs.declared.lines.NoLine.{NoLine}
 use Rattle.awari_cli.specs.declared.lines.NoLine.TheVariants.{Board, Folder, Line}
 
 -- Right levels say this value of the board that the text spells, and these moves are the play from it in which both sides follow
 -- their plans, by their greatest limit, up to the first outcome: which is the value.
-pub record IsLineOf (text : List ℕ) (value : ℤ) (moves : List ℕ) (outcome : ℤ) : Type 0 where
+-- They are those that the folder stores, where it is known what its names have.
+pub record IsLineOf (stands : ℕ → Option (Option (List ℕ))) (text : List ℕ) (value : ℤ) (moves : List ℕ) (outcome : ℤ) : Type 0 where
   pub images : List Image
+  pub digest : List ℕ
   pub board : List ℕ
+  pub stored : IsStoredIn stands images digest
   pub right : IsShelf images
   pub whole : IsBoard board
   pub known : sum board < length images
@@ -36,8 +40,8 @@ abbrev pub line_text : ℤ → List ℕ → ℤ → List ℕ
 line_text value moves outcome = codes "value " ++ signed_decimal value ++ codes "\nmoves" ++ moves_text moves ++ codes "\noutcome " ++ signed_decimal outcome
 
 -- Where it is known what the writer holds, what was written is such a line, and the line feed.
-abbrev pub PrintsLine : List ℕ → Option (List ℕ) → Option (List ℕ) → Type 0
-PrintsLine text before after = (value : ℤ) × (moves : List ℕ) × (outcome : ℤ) × IsLineOf text value moves outcome
+abbrev pub PrintsLine : (ℕ → Option (Option (List ℕ))) → List ℕ → Option (List ℕ) → Option (List ℕ) → Type 0
+PrintsLine stands text before after = (value : ℤ) × (moves : List ℕ) × (outcome : ℤ) × IsLineOf stands text value moves outcome
     × Appends before after (line_text value moves outcome ++ 10 ∷ [])
 
 -- the fault inside it

@@ -1,23 +1,23 @@
 //! The command `build`: levels built one on another.
 
-ghost use Rattle.std.specs.Prelude.{◌≡◌, ◌≤◌, ◌<◌, ◌++◌, ◌∷◌, [], ℕ, List, length, OnOk, IfOk};
+ghost use Rattle.std.specs.Prelude.{◌≡◌, ◌≤◌, ◌<◌, ◌++◌, ◌∷◌, [], ℕ, List, length, Option, OnOk, OnErr, IfOk, IsSome};
+ghost use Rattle.std.specs.Arc.{arc_value};
 ghost use Rattle.std.specs.Io.KnownBytes.{Appends};
 ghost use Rattle.awari_build.specs.declared.faults.BuildFault.TheVariants as build_fault;
 ghost use Rattle.awari_table.specs.declared.images.Image.{Image};
 ghost use Rattle.awari_table.specs.Shelves.{Consistent, IsShelf};
-ghost use Rattle.awari_cli.specs.Building.{IsToldOf, PrintsLevels, level_lines};
+ghost use Rattle.awari_folder.specs.Contents.{AreNames, HoldsIn, Same, SameBut, nothing_known};
+ghost use Rattle.awari_cli.specs.Building.{IsToldOf, KeepsLevels, LeavesFiles, PrintsLevels, SameOutside, level_lines};
 ghost use Rattle.awari_cli.specs.declared.building.BuildingFault.TheVariants as building_fault;
 
-use crate::printing::{Refused, print};
+use crate::printing::{Refused, print, refuse};
 use awari_build::{BuildFault, build_alone};
-use awari_folder::{FolderFault, load, save};
+use awari_folder::{Folder, FolderFault, load, save};
 use awari_rank::size;
 use awari_table::{Counts, Level, Shelf};
 use std::alloc::{AllocFailed, Global};
 use std::fmt;
 use std::io::Write;
-use std::path::Path;
-use std::rt::Files;
 use std::sync::Arc;
 
 /// What is told of a level that was built. Printed, it is its line without the line feed.
@@ -110,72 +110,50 @@ impl fmt::Display for BuildingFault {
     }
 }
 
-/// Builds the levels up to `top` above those of the folder, where there is one, and prints the line
-/// of each once it is saved there. A refusal is printed, and the lines before it stand.
-pub fn run_build<F: Files, W: Write>(
-    files: &F,
+/// Builds the levels up to `top` and prints the line of each. A refusal is printed, and the lines
+/// before it stand.
+pub fn run_build<W: Write>(alloc: Global, top: u8, writer: &mut W) -> u8
+    ensures status { result ≤ 1 }
+    ensures built { result ≡ 0 → PrintsLevels top nothing_known nothing_known (W.contents writer.old) (W.contents writer.new) }
+{
+    build_up(alloc, top, &mut Shelf::empty(), writer)
+}
+
+/// Builds the levels up to `top` above those of the folder, and prints the line of each once it is
+/// saved there. A refusal is printed, and the lines before it stand.
+pub fn run_build_in<F: Folder, W: Write>(
+    folder: &mut F,
     alloc: Global,
     top: u8,
-    folder: Option<&str>,
     writer: &mut W,
 ) -> u8
     ensures status { result ≤ 1 }
-    ensures built { result ≡ 0 → PrintsLevels top (W.contents writer.old) (W.contents writer.new) }
+    ensures built { result ≡ 0
+        → PrintsLevels top (F.stands folder.old) (F.stands folder.new) (W.contents writer.old) (W.contents writer.new) }
+
+    // A folder that is at fault stays as it was, and no level that is there is written again.
+    ensures keeps { (names : ℕ → Option (List ℕ)) → AreNames (F.stands folder.old) names
+        → KeepsLevels top names (F.stands folder.old) (F.stands folder.new) (F.may_leave folder.old) (F.may_leave folder.new) }
 {
-    let mut digest = [0u8; 32];
-    match folder {
-        None => build_up(
-            files,
-            alloc,
-            top,
-            &mut Shelf::empty(),
-            None,
-            &mut digest,
-            writer,
-        ),
-        Some(folder) => {
-            let folder = Path::new(folder);
-            match load(files, alloc, folder) {
-                Ok(stored) => {
-                    let mut shelf = stored.shelf;
-                    digest = stored.digest;
-                    build_up(
-                        files,
-                        alloc,
-                        top,
-                        &mut shelf,
-                        Some(folder),
-                        &mut digest,
-                        writer,
-                    )
-                }
-                Err(fault) => {
-                    print(writer, &Refused(fault));
-                    1
-                }
-            }
-        }
-    }
+    let stored = match load(folder, alloc) {
+        Ok(stored) => stored,
+        Err(fault) => return refuse(writer, fault),
+    };
+    let mut shelf = stored.shelf;
+    let mut digest = stored.digest;
+    let status = build_up_in(folder, alloc, top, &mut shelf, &mut digest, writer);
+    status
 }
 
-/// Builds the levels above the shelf up to `top`, saves each where there is a folder, of whose last
-/// file this is the digest, and prints its line.
-fn build_up<F: Files, W: Write>(
-    files: &F,
-    alloc: Global,
-    top: u8,
-    shelf: &mut Shelf,
-    folder: Option<Path<'_>>,
-    digest: &mut [u8; 32],
-    writer: &mut W,
-) -> u8
+/// Builds the levels above the shelf up to `top`, and prints the line of each.
+fn build_up<W: Write>(alloc: Global, top: u8, shelf: &mut Shelf, writer: &mut W) -> u8
     ensures status { result ≤ 1 }
     ensures shelf { result ≡ 0 → IsShelf shelf.new × (top < length shelf.new) }
     ensures built { result ≡ 0 → (built : List Image) × (shelf.new ≡ shelf.old ++ built)
         × Appends (W.contents writer.old) (W.contents writer.new) (level_lines built) }
 {
     while shelf.levels() <= top {
-        match build_next(files, alloc, shelf, folder, digest) {
+        match build_next(alloc, shelf) {
             Ok(told) => {
                 if !print(writer, &told) {
                     return 1;
@@ -190,24 +168,80 @@ fn build_up<F: Files, W: Write>(
     0
 }
 
-/// Builds the level above the shelf, saves it where there is a folder, and puts it on top.
-fn build_next<F: Files>(
-    files: &F,
+/// Builds the levels above the shelf up to `top`, saves each in the folder, of whose last file this
+/// is the digest, and prints its line.
+fn build_up_in<F: Folder, W: Write>(
+    folder: &mut F,
+    alloc: Global,
+    top: u8,
+    shelf: &mut Shelf,
+    digest: &mut [u8; 32],
+    writer: &mut W,
+) -> u8
+    ensures status { result ≤ 1 }
+    ensures shelf { result ≡ 0 → IsShelf shelf.new × (top < length shelf.new) }
+    ensures built { result ≡ 0 → (built : List Image) × (shelf.new ≡ shelf.old ++ built)
+        × Appends (W.contents writer.old) (W.contents writer.new) (level_lines built) }
+    ensures holds { HoldsIn (F.stands folder.old) shelf.old digest.old → result ≡ 0 → HoldsIn (F.stands folder.new) shelf.new digest.new }
+    ensures same { SameOutside (length shelf.old) top (F.stands folder.old) (F.stands folder.new) }
+    ensures crash { (names : ℕ → Option (List ℕ)) → AreNames (F.stands folder.old) names
+        → LeavesFiles (length shelf.old) (F.may_leave folder.old) (F.may_leave folder.new) }
+{
+    while shelf.levels() <= top {
+        match save_next(folder, alloc, shelf, digest) {
+            Ok(told) => {
+                if !print(writer, &told) {
+                    return 1;
+                }
+            }
+            Err(fault) => {
+                print(writer, &Refused(fault));
+                return 1;
+            }
+        }
+    }
+    0
+}
+
+/// Builds the level above the shelf, and puts it on top.
+fn build_next(alloc: Global, shelf: &mut Shelf) -> Result<BuiltLevel, BuildingFault>
+    ensures built { IfOk result (λ told. (image : Image) × (shelf.new ≡ shelf.old ++ image ∷ []) × IsToldOf image told) }
+{
+    let level = built_level(alloc, shelf)?;
+    let told = told_of(&level);
+    shelf.push(level);
+    Ok(told)
+}
+
+/// Builds the level above the shelf, saves it, and puts it on top. The file comes last of what may be
+/// refused, so a level that is saved is told of.
+fn save_next<F: Folder>(
+    folder: &mut F,
     alloc: Global,
     shelf: &mut Shelf,
-    folder: Option<Path<'_>>,
     digest: &mut [u8; 32],
 ) -> Result<BuiltLevel, BuildingFault>
     ensures built { IfOk result (λ told. (image : Image) × (shelf.new ≡ shelf.old ++ image ∷ []) × IsToldOf image told) }
+    ensures holds { HoldsIn (F.stands folder.old) shelf.old digest.old → OnOk result (HoldsIn (F.stands folder.new) shelf.new digest.new) }
+    ensures others { SameBut (length shelf.old) (F.stands folder.old) (F.stands folder.new) }
+    ensures err { OnErr result (Same (F.stands folder.old) (F.stands folder.new)) }
+    ensures crash { IsSome (F.stands folder.old (length shelf.old)) → LeavesFiles (length shelf.old) (F.may_leave folder.old) (F.may_leave folder.new) }
+{
+    let level = built_level(alloc, shelf)?;
+    let own = save(folder, &level, *digest)?;
+    *digest = own;
+    let told = told_of(&level);
+    shelf.push(level);
+    Ok(told)
+}
+
+/// The level above the shelf, built, with the room that it takes on a shelf.
+fn built_level(alloc: Global, shelf: &Shelf) -> Result<Arc<Level>, BuildingFault>
+    ensures { IfOk result (λ level. Consistent shelf.now (arc_value level)) }
 {
     let level = build_alone(alloc, shelf)?;
-    if let Some(folder) = folder {
-        let own = save(files, alloc, folder, &level, *digest)?;
-        *digest = own;
-    }
-    let told = told_of(&level);
-    shelf.push(Arc::new(alloc, level)?);
-    Ok(told)
+    let shared = Arc::new(alloc, level)?;
+    Ok(shared)
 }
 
 /// What is told of the level.

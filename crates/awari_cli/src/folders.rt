@@ -9,19 +9,18 @@ ghost use Rattle.awari_board.specs.declared.text.BoardFault.{BoardFault};
 ghost use Rattle.awari_table.specs.Images.{entry_of};
 ghost use Rattle.awari_table.specs.Shelves.{IsShelf};
 ghost use Rattle.awari_table.specs.declared.images.Image.{Image};
+ghost use Rattle.awari_folder.specs.Contents.{Same};
 ghost use Rattle.awari_cli.specs.Folders.{IsEntryOf, PrintsFolder, PrintsEntry, digest_text, hex_digit, right_lines};
 ghost use Rattle.awari_cli.specs.declared.folders.LookUpFault.TheVariants as look_up;
 
 use crate::printing::{Refused, print};
 use arrayvec::ArrayString;
 use awari_board::{Board, BoardFault, one_board_fault_is_due};
-use awari_folder::{FolderFault, load};
+use awari_folder::{Folder, FolderFault, load};
 use awari_table::{Entry, NotYet, Shelf};
 use std::alloc::Global;
 use std::fmt;
 use std::io::Write;
-use std::path::Path;
-use std::rt::Files;
 
 /// A level of a folder that is right. Printed, it is its line without the line feed.
 #[derive(Clone, Copy)]
@@ -170,36 +169,32 @@ impl fmt::Display for Plan {
 
 /// The entry of the board that `text` spells, as the levels in the folder have it. The text is read
 /// before the folder is: where it is no board it is refused for that, whatever the folder holds.
-fn look_up<F: Files>(
-    files: &F,
-    alloc: Global,
-    folder: &str,
-    text: &[u8],
-) -> Result<Entry, LookUpFault>
-    ensures entry { IfOk result (IsEntryOf text.now) }
+fn look_up<F: Folder>(folder: &mut F, alloc: Global, text: &[u8]) -> Result<Entry, LookUpFault>
+    ensures entry { IfOk result (IsEntryOf (F.stands folder.old) text.now) }
+    ensures same { Same (F.stands folder.old) (F.stands folder.new) }
     ensures board { (fault : BoardFault) → (result ≡ Err (look_up.Board fault)) ↔ IsFaulty text.now fault }
 {
     // That a text has one fault at most is what this call tells the proof.
     one_board_fault_is_due();
     let board = Board::parse(text)?;
-    let shelf = load(files, alloc, Path::new(folder))?.shelf;
+    let shelf = load(folder, alloc)?.shelf;
     // That the levels are a shelf is what this call tells the proof.
     let _levels = shelf.levels();
     Ok(shelf.entry(&board)?)
 }
 
 /// Prints the entry of a board, or the refusal.
-pub fn run_ask<F: Files, W: Write>(
-    files: &F,
+pub fn run_ask<F: Folder, W: Write>(
+    folder: &mut F,
     alloc: Global,
-    folder: &str,
     board: &str,
     writer: &mut W,
 ) -> u8
     ensures status { result ≤ 1 }
-    ensures found { result ≡ 0 → PrintsEntry board.now (W.contents writer.old) (W.contents writer.new) }
+    ensures found { result ≡ 0 → PrintsEntry (F.stands folder.old) board.now (W.contents writer.old) (W.contents writer.new) }
+    ensures same { Same (F.stands folder.old) (F.stands folder.new) }
 {
-    match look_up(files, alloc, folder, board.as_bytes()) {
+    match look_up(folder, alloc, board.as_bytes()) {
         Ok(entry) => {
             if print(writer, &EntryLine(entry)) {
                 0
@@ -216,11 +211,12 @@ pub fn run_ask<F: Files, W: Write>(
 
 /// Verifies the levels of a folder, and prints a line for each and one for all. A refusal is
 /// printed alone.
-pub fn run_verify<F: Files, W: Write>(files: &F, alloc: Global, folder: &str, writer: &mut W) -> u8
+pub fn run_verify<F: Folder, W: Write>(folder: &mut F, alloc: Global, writer: &mut W) -> u8
     ensures status { result ≤ 1 }
-    ensures verified { result ≡ 0 → PrintsFolder (W.contents writer.old) (W.contents writer.new) }
+    ensures verified { result ≡ 0 → PrintsFolder (F.stands folder.old) (W.contents writer.old) (W.contents writer.new) }
+    ensures same { Same (F.stands folder.old) (F.stands folder.new) }
 {
-    let stored = match load(files, alloc, Path::new(folder)) {
+    let stored = match load(folder, alloc) {
         Ok(stored) => stored,
         Err(fault) => {
             print(writer, &Refused(fault));

@@ -11,6 +11,9 @@ mod requests;
 mod runs;
 
 pub use awari_check::check;
+pub use building::run_build_in;
+pub use folders::{run_ask, run_verify};
 pub use judgements::{JudgeFault, Judged, Judgement, judge};
+pub use lines::run_line;
 pub use playing::{PlayFault, Played, play_on};
 pub use runs::run;

@@ -3,19 +3,18 @@
 ghost use Rattle.std.specs.Prelude.{◌≡◌, ◌≤◌, ◌↔◌, Err, IfOk};
 ghost use Rattle.awari_board.specs.BoardFault.{IsFaulty};
 ghost use Rattle.awari_board.specs.declared.text.BoardFault.{BoardFault};
+ghost use Rattle.awari_folder.specs.Contents.{Same};
 ghost use Rattle.awari_cli.specs.Lines.{IsLineOf, PrintsLine};
 ghost use Rattle.awari_cli.specs.declared.lines.NoLine.TheVariants as no_line;
 
 use crate::printing::{Refused, print};
 use awari_board::{Board, BoardFault, one_board_fault_is_due};
-use awari_folder::{FolderFault, load};
+use awari_folder::{Folder, FolderFault, load};
 use awari_plan::{Line, LineFault, best_line};
 use awari_table::Entry;
 use std::alloc::Global;
 use std::fmt;
 use std::io::Write;
-use std::path::Path;
-use std::rt::Files;
 
 /// The entry of a board, and the line of play from it. Printed, it is the value and the line, in
 /// three lines without the last line feed.
@@ -110,19 +109,15 @@ impl fmt::Display for NoLine {
 /// The line of play from the board that `text` spells, by the plans of the levels in the folder and
 /// their limit. The text is read before the folder is: where it is no board it is refused for that,
 /// whatever the folder holds.
-fn line_of<F: Files>(
-    files: &F,
-    alloc: Global,
-    folder: &str,
-    text: &[u8],
-) -> Result<ValuedLine, NoLine>
-    ensures line { IfOk result (λ found. IsLineOf text.now found.entry.value found.line.moves.items found.line.outcome) }
+fn line_of<F: Folder>(folder: &mut F, alloc: Global, text: &[u8]) -> Result<ValuedLine, NoLine>
+    ensures same { Same (F.stands folder.old) (F.stands folder.new) }
+    ensures line { IfOk result (λ found. IsLineOf (F.stands folder.old) text.now found.entry.value found.line.moves.items found.line.outcome) }
     ensures board { (fault : BoardFault) → (result ≡ Err (no_line.Board fault)) ↔ IsFaulty text.now fault }
 {
     // That a text has one fault at most is what this call tells the proof.
     one_board_fault_is_due();
     let board = Board::parse(text)?;
-    let shelf = load(files, alloc, Path::new(folder))?.shelf;
+    let shelf = load(folder, alloc)?.shelf;
     let line = best_line(alloc, &shelf, board, shelf.limit())?;
     match shelf.entry(&board) {
         Ok(entry) => Ok(ValuedLine { entry, line }),
@@ -131,17 +126,17 @@ fn line_of<F: Files>(
 }
 
 /// Prints the value of a board and the line of play from it, or the refusal.
-pub fn run_line<F: Files, W: Write>(
-    files: &F,
+pub fn run_line<F: Folder, W: Write>(
+    folder: &mut F,
     alloc: Global,
-    folder: &str,
     board: &str,
     writer: &mut W,
 ) -> u8
     ensures status { result ≤ 1 }
-    ensures found { result ≡ 0 → PrintsLine board.now (W.contents writer.old) (W.contents writer.new) }
+    ensures same { Same (F.stands folder.old) (F.stands folder.new) }
+    ensures found { result ≡ 0 → PrintsLine (F.stands folder.old) board.now (W.contents writer.old) (W.contents writer.new) }
 {
-    match line_of(files, alloc, folder, board.as_bytes()) {
+    match line_of(folder, alloc, board.as_bytes()) {
         Ok(found) => { if print(writer, &found) { 0 } else { 1 } }
         Err(fault) => {
             print(writer, &Refused(fault));

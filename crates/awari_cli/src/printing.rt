@@ -31,3 +31,11 @@ impl<T: Display> Display for Refused<T> {
         write!(f, "refused {}", self.0)
     }
 }
+
+/// Writes a refusal, and gives the status that goes with it, whether the writer took it or not.
+pub fn refuse<W: Write, T: Display + Copy>(writer: &mut W, fault: T) -> u8
+    ensures { result ≡ 1 }
+{
+    print(writer, &Refused(fault));
+    1
+}

@@ -272,10 +272,16 @@ Each level is built over those below it. It prints a line for each level, in ord
 with the number of its boards, how many of them the mover wins, holds even and
 loses, and the greatest distance. Without a folder it begins with level 0, and
 saves nothing. With one it begins above the levels that are there, which are
-verified first, and saves each level as level_LL.awdb before its line.
+verified first, and saves each level as level_LL.awdb before its line. Levels
+that are there are not written again. One builder at a time saves into a folder.
 
     refused 53 Memory         there is not enough memory
-    refused 80 and higher     the folder, as `awari help verify` says
+    refused 80, 83, 84        the folder, as `awari help verify` says
+    refused 81 File level L: ..   the file of a level that is there is not read,
+                              or, where it is 70 Write, the new one not written
+    refused 82 Open level L   a file that is there does not open; or to save the
+                              level, the folder is not there, another builder
+                              saves into it, or the file cannot be made
 
 The status is 0, or 1 for a refusal; the lines before it stand.";
 
@@ -292,7 +298,7 @@ or else one line, of the first file that is at fault:
                                     of the level below
     refused 81 File level L: ..     it is not read: what is wrong with its
                                     bytes, as docs/FORMATS.md says
-    refused 82 Open level L         it is there and does not open
+    refused 82 Open level L         it is there and does not open, or is no file
     refused 83 Verify level L: ..   what it says is not right: the first rank
                                     and rule
     refused 84 Memory               there is not enough memory

@@ -8,7 +8,7 @@ ghost use Rattle.awari_cli.specs.Judgement.{PrintsJudgement};
 ghost use Rattle.awari_cli.specs.Playing.{PrintsMove};
 ghost use Rattle.awari_cli.specs.declared.requests.Request.{Request};
 
-use crate::building::run_build;
+use crate::building::{run_build, run_build_in};
 use crate::folders::{run_ask, run_verify};
 use crate::judgements::{Judged, judge};
 use crate::lines::run_line;
@@ -16,10 +16,13 @@ use crate::playing::{Played, play_on};
 use crate::printing::print;
 use crate::requests::{Request, request_of};
 use awari_check::check_input;
+use awari_folder::HostFolder;
 use awari_table::Counted;
 use std::alloc::Global;
 use std::convert::AsStr;
+use std::fs::File;
 use std::io::{Read, Write};
+use std::path::Path;
 use std::rt::Files;
 
 /// Runs the command that the words name, of which the first is the program's own name. What it
@@ -27,7 +30,7 @@ use std::rt::Files;
 /// program ends with: 0 where it is done, 1 where it was refused or the writer gave a fault, and 2
 /// where the words were not understood, or asked for help. It takes memory for the words,
 /// and for what the commands read and build; want of it is a refusal.
-pub fn run<F: Files, S: AsStr, R: Read, W: Write, E: Write>(
+pub fn run<F: Files<File = File>, S: AsStr, R: Read, W: Write, E: Write>(
     files: &F,
     alloc: Global,
     words: &[S],
@@ -56,7 +59,7 @@ pub fn run<F: Files, S: AsStr, R: Read, W: Write, E: Write>(
     }
 }
 
-fn run_request<F: Files, R: Read, W: Write>(
+fn run_request<F: Files<File = File>, R: Read, W: Write>(
     files: &F,
     alloc: Global,
     request: Request<'_>,
@@ -74,11 +77,26 @@ fn run_request<F: Files, R: Read, W: Write>(
             limit,
             moves,
         } => run_judge(board, limit, moves, writer),
-        Request::Build { top, folder } => run_build(files, alloc, top, folder, writer),
-        Request::Verify { folder } => run_verify(files, alloc, folder, writer),
-        Request::Ask { folder, board } => run_ask(files, alloc, folder, board, writer),
-        Request::Line { folder, board } => run_line(files, alloc, folder, board, writer),
+        Request::Build { top, folder: None } => run_build(alloc, top, writer),
+        Request::Build {
+            top,
+            folder: Some(folder),
+        } => run_build_in(&mut host_folder(files, alloc, folder), alloc, top, writer),
+        Request::Verify { folder } => {
+            run_verify(&mut host_folder(files, alloc, folder), alloc, writer)
+        }
+        Request::Ask { folder, board } => {
+            run_ask(&mut host_folder(files, alloc, folder), alloc, board, writer)
+        }
+        Request::Line { folder, board } => {
+            run_line(&mut host_folder(files, alloc, folder), alloc, board, writer)
+        }
     }
+}
+
+/// The folder of this name.
+fn host_folder<'a, F>(files: &'a F, alloc: Global, folder: &'a str) -> HostFolder<'a, F> {
+    HostFolder::new(files, alloc, Path::new(folder))
 }
 
 /// Prints the answer for what the reader has left.

@@ -4,6 +4,7 @@ use awari_board::Board;
 use awari_cli::{check, run};
 use awari_rank::successor;
 use std::alloc::{AllocError, Global};
+use std::fs::File;
 use std::io;
 use std::io::{ErrorKind, Read, Write};
 use std::process::Abort;
@@ -12,7 +13,7 @@ use std::test::Fail;
 
 /// Runs the program on these words, and compares what it prints and its status.
 pub fn expect_run(
-    rt: &(impl Abort + Files),
+    rt: &(impl Abort + Files<File = File>),
     alloc: Global,
     words: &[&str],
     input: &[u8],
@@ -28,7 +29,13 @@ pub fn expect_run(
     assert_eq!(rt; errors.is_empty(), expected != 2, "{printed}");
 }
 
-fn expect_check(rt: &(impl Abort + Files), alloc: Global, input: &[u8], printed: &str, status: u8) {
+fn expect_check(
+    rt: &(impl Abort + Files<File = File>),
+    alloc: Global,
+    input: &[u8],
+    printed: &str,
+    status: u8,
+) {
     expect_run(rt, alloc, &["awari", "check"], input, printed, status);
 }
 

@@ -7,6 +7,7 @@ use awari_rank::successor;
 use awari_table::{Entry, HIGHEST_LEVEL, Level, Shelf};
 use sha2::{Digest, Sha256};
 use std::alloc::{AllocError, Global};
+use std::fs::File;
 use std::process::Abort;
 use std::rt::Files;
 use std::sync::Arc;
@@ -69,20 +70,30 @@ fn levels_are_built(rt: HostRuntime) {
 }
 
 /// Runs `build` on the folder.
-fn expect_build(rt: &(impl Abort + Files + AllocGlobal), folder: &str, top: &str, printed: &str) {
+fn expect_build(
+    rt: &(impl Abort + Files<File = File> + AllocGlobal),
+    folder: &str,
+    top: &str,
+    printed: &str,
+) {
     let words = ["awari", "build", top, "--folder", folder];
     expect_run(rt, rt.alloc(), words.as_slice(), b"", printed, 0);
 }
 
 /// Runs `verify` on the folder.
-fn expect_verify(rt: &(impl Abort + Files + AllocGlobal), folder: &str, printed: &str, status: u8) {
+fn expect_verify(
+    rt: &(impl Abort + Files<File = File> + AllocGlobal),
+    folder: &str,
+    printed: &str,
+    status: u8,
+) {
     let words = ["awari", "verify", folder];
     expect_run(rt, rt.alloc(), words.as_slice(), b"", printed, status);
 }
 
 /// Runs `ask` on the folder.
 fn expect_ask(
-    rt: &(impl Abort + Files + AllocGlobal),
+    rt: &(impl Abort + Files<File = File> + AllocGlobal),
     folder: &str,
     board: &str,
     printed: &str,
@@ -148,7 +159,7 @@ fn a_folder_is_asked(rt: HostRuntime) -> Result<(), Fail> {
 
 /// Runs `line` on the folder.
 fn expect_line(
-    rt: &(impl Abort + Files + AllocGlobal),
+    rt: &(impl Abort + Files<File = File> + AllocGlobal),
     folder: &str,
     board: &str,
     printed: &str,
@@ -260,7 +271,7 @@ fn changed(alloc: Global, file: &[u8], from: usize, bytes: &[u8]) -> Result<Vec<
 
 /// What `verify` prints where the second file is this.
 fn expect_refusal(
-    rt: &(impl Abort + Files + AllocGlobal),
+    rt: &(impl Abort + Files<File = File> + AllocGlobal),
     folder: &str,
     second: &str,
     file: &[u8],

@@ -1,14 +1,14 @@
 //! Writing the file of a level.
 
-ghost use Rattle.std.specs.Prelude.{◌≡◌, ◌≤◌, ◌++◌, length, IfErr, OnOk, OnErr, IfOk};
+ghost use Rattle.std.specs.Prelude.{◌≡◌, ◌≤◌, ◌++◌, length, All, IfErr, OnOk, OnErr, IfOk};
 ghost use Rattle.std.specs.List.{flat_map};
 ghost use Rattle.std.specs.Io.KnownBytes.{Appends};
 ghost use Rattle.sha2.specs.Sha256.{sha256};
 ghost use Rattle.awari_table.specs.declared.TheConstants.{HIGHEST_LEVEL};
 ghost use Rattle.awari_table.specs.Counts.{inner_of, faults_of, Grew};
 ghost use Rattle.awari_file.specs.declared.sizes.TheConstants.{BUFFERED};
-ghost use Rattle.awari_file.specs.FileText.{header_text, entry_text, body_text, file_text};
-ghost use Rattle.awari_file.specs.Source.{Puts};
+ghost use Rattle.awari_file.specs.FileText.{HasFile, header_text, entry_text, body_text, file_text};
+ghost use Rattle.awari_file.specs.Source.{FitsNumbers, Puts};
 
 use crate::faults::FileFault;
 use crate::fields::{MAGIC, NO_PLAN, VERSION};
@@ -35,8 +35,9 @@ fn header_of(level: u8, limit: u32, below: &[u8; 32]) -> [u8; 52]
 }
 
 /// What stands for an entry.
-fn bytes_of(entry: &Entry) -> [u8; 6]
-    ensures { result ≡ entry_text entry.now }
+fn bytes_of(entry: Entry) -> [u8; 6]
+    ensures text { result ≡ entry_text entry }
+    ensures fits { FitsNumbers entry }
 {
     let mut bytes = [0u8; ENTRY_LEN];
     bytes[0] = entry.value.cast_unsigned();
@@ -73,6 +74,7 @@ fn put_some<W: Write>(
 ) -> Result<(), FileFault>
     requires { length entries.now ≤ BUFFERED }
     ensures ok { OnOk result (Puts (W.contents (inner_of writer.old)) (W.contents (inner_of writer.new)) hasher.old hasher.new (flat_map entry_text entries.now)) }
+    ensures fit { All FitsNumbers entries.now }
     ensures err { OnErr result (Grew (faults_of writer.old) (faults_of writer.new)) }
     ensures write { IfErr result (λ e. e ≡ FileFault.Write) }
     ensures faults { faults_of writer.old ≤ faults_of writer.new }
@@ -80,7 +82,7 @@ fn put_some<W: Write>(
     let mut buf = [0u8; BUFFER_LEN];
     let mut len = 0;
     for entry in entries {
-        let bytes = bytes_of(entry);
+        let bytes = bytes_of(*entry);
         buf[len..len + ENTRY_LEN].copy_from_slice(&bytes);
         len += ENTRY_LEN;
     }
@@ -94,6 +96,7 @@ fn put_entries<W: Write>(
     entries: &[Entry],
 ) -> Result<(), FileFault>
     ensures ok { OnOk result (Puts (W.contents (inner_of writer.old)) (W.contents (inner_of writer.new)) hasher.old hasher.new (flat_map entry_text entries.now)) }
+    ensures fit { OnOk result (All FitsNumbers entries.now) }
     ensures err { OnErr result (Grew (faults_of writer.old) (faults_of writer.new)) }
     ensures write { IfErr result (λ e. e ≡ FileFault.Write) }
     ensures faults { faults_of writer.old ≤ faults_of writer.new }
@@ -119,6 +122,8 @@ pub fn write_level<W: Write>(
 ) -> Result<[u8; 32], FileFault>
     ensures written { OnOk result (Appends (W.contents (inner_of writer.old)) (W.contents (inner_of writer.new)) (file_text 1 level.now below)) }
     ensures digest { IfOk result (λ digest. digest ≡ sha256 (body_text 1 level.now below)) }
+    // What was written is a file that `read_image` reads.
+    ensures has { OnOk result (HasFile 1 level.now below) }
     ensures write { IfErr result (λ e. e ≡ FileFault.Write) }
     ensures grew { OnErr result (Grew (faults_of writer.old) (faults_of writer.new)) }
 {

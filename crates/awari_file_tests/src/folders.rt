@@ -2,8 +2,9 @@
 
 use crate::levels::{digest_in, digested, file_of, right_files, right_shelf};
 use awari_file::FileFault;
-use awari_folder::{FolderFault, load, save};
+use awari_folder::{FolderFault, HostFolder, load, save};
 use awari_verify::{Rule, VerifyFault};
+use std::fs::File;
 use std::os::unix::fs::symlink;
 use std::path::Path;
 use std::rt::Files;
@@ -14,6 +15,14 @@ use std::{fs, io};
 fn empty_folder(files: &(impl Files + AllocGlobal), folder: &str) -> io::Result<()> {
     let _ = fs::remove_dir_all(files, folder);
     fs::create_dir(files, folder)
+}
+
+/// The folder of this name.
+fn host<'a, F: Files<File = File> + AllocGlobal>(
+    files: &'a F,
+    folder: &'a str,
+) -> HostFolder<'a, F> {
+    HostFolder::new(files, files.alloc(), Path::new(folder))
 }
 
 /// Lays a file into the folder, none where it has no byte.
@@ -31,42 +40,44 @@ fn lay(
 }
 
 /// How many levels are loaded, and the digest.
-fn loaded(files: &(impl Files + AllocGlobal), folder: &str) -> Result<(u8, [u8; 32]), FolderFault> {
-    let stored = load(files, files.alloc(), Path::new(folder))?;
+fn loaded(
+    files: &(impl Files<File = File> + AllocGlobal),
+    folder: &str,
+) -> Result<(u8, [u8; 32]), FolderFault> {
+    let stored = load(&mut host(files, folder), files.alloc())?;
     Ok((stored.shelf.levels(), stored.digest))
 }
 
 /// Saves levels 0 and 1, and gives their digests.
 fn save_both(
-    files: &(impl Files + AllocGlobal),
+    files: &(impl Files<File = File> + AllocGlobal),
     folder: &str,
 ) -> Result<([u8; 32], [u8; 32]), Fail> {
-    let folder = Path::new(folder);
+    let mut folder = host(files, folder);
     let shelf = right_shelf(files.alloc())?;
     if shelf.levels() < 2 {
         return Err(Fail::new("levels"));
     }
-    let below = save(files, files.alloc(), folder, shelf.level(0), [0; 32])?;
-    let digest = save(files, files.alloc(), folder, shelf.level(1), below)?;
+    let below = save(&mut folder, shelf.level(0), [0; 32])?;
+    let digest = save(&mut folder, shelf.level(1), below)?;
     Ok((below, digest))
 }
 
 /// The refusal to save level 0.
 fn save_refusal(
-    files: &(impl Files + AllocGlobal),
+    files: &(impl Files<File = File> + AllocGlobal),
     folder: &str,
 ) -> Result<Option<FolderFault>, Fail> {
-    let folder = Path::new(folder);
     let shelf = right_shelf(files.alloc())?;
     if shelf.levels() == 0 {
         return Err(Fail::new("levels"));
     }
-    Ok(save(files, files.alloc(), folder, shelf.level(0), [0; 32]).err())
+    Ok(save(&mut host(files, folder), shelf.level(0), [0; 32]).err())
 }
 
 /// The refusal of a folder with these files of levels 0 and 1, an empty slice for none.
 fn refusal(
-    files: &(impl Files + AllocGlobal),
+    files: &(impl Files<File = File> + AllocGlobal),
     folder: &str,
     first: &[u8],
     second: &[u8],
@@ -166,6 +177,55 @@ fn level_0_is_looked_for_first(rt: HostRuntime) -> Result<(), Fail> {
         "level_00.awdb",
         "awari_folder_test_first/level_00.awdb",
     )?;
+    assert_eq!(rt; loaded(&rt, folder), Err(FolderFault::Open { level: 0 }));
+    fs::remove_dir_all(&rt, folder)?;
+    Ok(())
+}
+
+#[test]
+fn what_a_killed_save_left_is_removed(rt: HostRuntime) -> Result<(), Fail> {
+    let folder = "awari_folder_test_killed";
+    let (first, second, _) = right_files(rt.alloc())?;
+    empty_folder(&rt, folder)?;
+    lay(&rt, folder, "level_00.awdb.new", &second)?;
+    // A link to another file, which is not written to.
+    lay(&rt, folder, "other", b"other")?;
+    symlink(&rt, "other", "awari_folder_test_killed/level_01.awdb.new")?;
+    save_both(&rt, folder)?;
+    assert!(rt; fs::read(&rt, "awari_folder_test_killed/level_00.awdb")? == first);
+    assert!(rt; fs::read(&rt, "awari_folder_test_killed/level_01.awdb")? == second);
+    assert!(rt; fs::read(&rt, "awari_folder_test_killed/other")?.as_slice() == b"other".as_slice());
+    assert_eq!(rt; fs::read_dir(&rt, folder)?.count(), 3);
+    fs::remove_dir_all(&rt, folder)?;
+    Ok(())
+}
+
+#[test]
+fn one_builder_at_a_time_saves(rt: HostRuntime) -> Result<(), Fail> {
+    let folder = "awari_folder_test_two";
+    empty_folder(&rt, folder)?;
+    let shelf = right_shelf(rt.alloc())?;
+    assert!(rt; shelf.levels() > 0);
+    let mut first = host(&rt, folder);
+    assert!(rt; save(&mut first, shelf.level(0), [0; 32]).is_ok());
+    let refused = save_refusal(&rt, folder)?;
+    assert_eq!(rt; refused, Some(FolderFault::Open { level: 0 }));
+    // Who only reads does not wait.
+    assert_eq!(rt; loaded(&rt, folder)?.0, 1);
+    drop(first);
+    assert_eq!(rt; save_refusal(&rt, folder)?, None);
+    fs::remove_dir_all(&rt, folder)?;
+    Ok(())
+}
+
+#[test]
+fn what_is_no_file_is_not_opened(rt: HostRuntime) -> Result<(), Fail> {
+    let folder = "awari_folder_test_device";
+    empty_folder(&rt, folder)?;
+    symlink(&rt, "/dev/zero", "awari_folder_test_device/level_00.awdb")?;
+    assert_eq!(rt; loaded(&rt, folder), Err(FolderFault::Open { level: 0 }));
+    empty_folder(&rt, folder)?;
+    fs::create_dir(&rt, "awari_folder_test_device/level_00.awdb")?;
     assert_eq!(rt; loaded(&rt, folder), Err(FolderFault::Open { level: 0 }));
     fs::remove_dir_all(&rt, folder)?;
     Ok(())

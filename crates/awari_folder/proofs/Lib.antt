@@ -1,1 +1,5 @@
 pub mod Empty
+pub mod Written
+pub mod Opened
+pub mod Log
+pub mod Saved

@@ -1,2 +1,4 @@
 pub mod FolderFault
 pub mod NextFile
+pub mod Contents
+pub mod Log

@@ -1,11 +1,19 @@
 //! A folder with the files of levels: a shelf is loaded from one, and a level saved into one.
 #![tactic(auto)]
 
+mod calls;
 mod faults;
+mod host;
+mod laws;
 mod loading;
+mod memory;
 mod names;
 mod saving;
 
+pub use calls::{Draft, Folder, Refusal};
 pub use faults::FolderFault;
+pub use host::{HostDraft, HostFolder};
+pub use laws::{folders_hold_one_shelf, stored_shelves_are_loaded};
 pub use loading::{Stored, load};
+pub use memory::{MemoryDraft, MemoryFolder};
 pub use saving::save;

@@ -1,21 +1,19 @@
 //! A shelf from the files in a folder.
 
-ghost use Rattle.std.specs.Prelude.{◌≡◌, ℕ, ◌+◌, IfOk, IfErr, OnOk, IfSome, Err, length};
+ghost use Rattle.std.specs.Prelude.{◌≡◌, ℕ, ◌+◌, List, Option, IfOk, IfErr, OnOk, IfSome, Err, length, MatchResult};
 ghost use Rattle.awari_table.specs.Counts.{inner_of, faults_of, Grew};
 ghost use Rattle.awari_theory.specs.Truth.{TellsTruth};
 ghost use Rattle.awari_folder.specs.FolderFault.{Names, NamesLevel};
 ghost use Rattle.awari_folder.specs.NextFile.{IsNextFile, IsFileFault};
+ghost use Rattle.awari_folder.specs.Contents.{Same, Stays, LeavesNoMore, LeavesStill, IsOfFile, OpenIfRefused, AreNames, IsStored, IsFirstFault};
 
+use crate::calls::{Folder, Refusal};
 use crate::faults::FolderFault;
-use crate::names::path_of;
 use awari_file::{FileFault, Loaded, read_image};
 use awari_table::{Counted, HIGHEST_LEVEL, Image, Shelf};
 use awari_verify::verify;
 use std::alloc::Global;
-use std::fs;
-use std::io::{ErrorKind, Read};
-use std::path::Path;
-use std::rt::Files;
+use std::io::Read;
 use std::sync::Arc;
 
 /// What a folder holds.
@@ -35,40 +33,36 @@ pub struct Stored {
 /// where it is not read, 80 where it does not name the digest of the file before it, 83 where the
 /// level is not right over those below. It takes memory for names, entries and an `Arc` for each
 /// level; want of it is 84.
-pub fn load<R: Files>(files: &R, alloc: Global, folder: Path<'_>) -> Result<Stored, FolderFault>
+pub fn load<F: Folder>(folder: &mut F, alloc: Global) -> Result<Stored, FolderFault>
     // What the shelf says of each of its boards is the truth: following its plans secures the
     // value, soon, and the value is what the board is worth.
     ensures meaning { IfOk result (λ stored. TellsTruth stored.shelf) }
     ensures named { IfErr result NamesLevel }
+    // Where it is known what has the names: the levels up to the first that has no file, or the first fault.
+    ensures exact { (names : ℕ → Option (List ℕ)) → AreNames (F.stands folder.old) names
+        → MatchResult result (λ stored. IsStored names stored.shelf stored.digest) (IsFirstFault names) }
+    // 82 is told where the folder refused to open a file, and only there.
+    ensures refused { OpenIfRefused result (F.refusals folder.old) (F.refusals folder.new) }
+    // Nothing is changed.
+    ensures stands { Same (F.stands folder.old) (F.stands folder.new) }
+    ensures crash { LeavesNoMore (F.may_leave folder.old) (F.may_leave folder.new) }
+    ensures still { LeavesStill (F.may_leave folder.old) (F.may_leave folder.new) }
+    ensures clear { Stays (F.is_clear folder.old) (F.is_clear folder.new) }
+    ensures stuck { F.stuck folder.new ≡ F.stuck folder.old }
 {
     let mut shelf = Shelf::empty();
     let mut digest = [0u8; 32];
     for level in 0..=HIGHEST_LEVEL {
-        match open_level(files, alloc, folder, level)? {
-            Some(file) => {
+        match folder.open(level) {
+            Ok(Some(file)) => {
                 digest = put_on(alloc, &mut shelf, digest, &mut Counted::new(file))?;
             }
-            None => break,
+            Ok(None) => break,
+            Err(Refusal::Refused) => return Err(FolderFault::Open { level }),
+            Err(Refusal::Memory) => return Err(FolderFault::Memory),
         }
     }
     Ok(Stored { shelf, digest })
-}
-
-/// The file of a level, none where there is none.
-fn open_level<R: Files>(
-    files: &R,
-    alloc: Global,
-    folder: Path<'_>,
-    level: u8,
-) -> Result<Option<R::File>, FolderFault>
-    ensures { IfErr result (Names level) }
-{
-    let path = path_of(alloc, folder, level)?;
-    match fs::open(files, path.as_path()) {
-        Ok(file) => Ok(Some(file)),
-        Err(error) if error.kind() == ErrorKind::NotFound => Ok(None),
-        Err(_) => Err(FolderFault::Open { level }),
-    }
 }
 
 /// Reads the file of the shelf's next level and puts the level on top, if all is right. It gives
@@ -85,6 +79,7 @@ fn put_on<R: Read>(
     ensures meaning { OnOk result (TellsTruth shelf.new) }
     ensures levels { OnOk result (length shelf.new ≡ length shelf.old + 1) }
     ensures named { IfErr result (Names (length shelf.old)) }
+    ensures of_file { IfErr result IsOfFile }
 {
     let level = shelf.levels();
     let loaded = match read_image(alloc, reader) {

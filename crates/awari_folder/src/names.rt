@@ -18,3 +18,8 @@ pub(crate) fn path_of_new(
     let name = format!(in alloc; "level_{level:02}.awdb.new")?;
     folder.join(alloc, name.as_str())
 }
+
+/// The folder itself, for one that is named by nothing too.
+pub(crate) fn path_of_itself(alloc: Global, folder: Path<'_>) -> Result<PathBuf, AllocError> {
+    folder.join(alloc, ".")
+}

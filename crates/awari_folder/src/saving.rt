@@ -1,20 +1,18 @@
 //! A level as a file in a folder.
 
-ghost use Rattle.std.specs.Prelude.{◌≡◌, IfOk, IfErr};
+ghost use Rattle.std.specs.Prelude.{◌≡◌, ◌⊎◌, [], ◌∷◌, ◌++◌, List, Some, IfOk, IfErr, IfSome, OnOk, OnErr};
 ghost use Rattle.sha2.specs.Sha256.{sha256};
-ghost use Rattle.awari_file.specs.FileText.{body_text};
+ghost use Rattle.awari_table.specs.Counts.{Grew};
+ghost use Rattle.awari_table.specs.Shelves.{Consistent};
+ghost use Rattle.awari_table.specs.declared.images.Image.{Image};
+ghost use Rattle.awari_file.specs.FileText.{HasFile, body_text, file_text};
 ghost use Rattle.awari_folder.specs.FolderFault.{Names};
+ghost use Rattle.awari_folder.specs.Contents.{Same, SameBut, StaysBut, Becomes, LeavesToo, LeavesStill, IsWhole, OpenIfRefused, HoldsIn};
 
+use crate::calls::{Draft, Folder, Refusal};
 use crate::faults::FolderFault;
-use crate::names::{path_of, path_of_new};
 use awari_file::{FileFault, write_level};
 use awari_table::{Counted, Level};
-use std::alloc::Global;
-use std::fs;
-use std::fs::OpenFile;
-use std::io::Write;
-use std::path::Path;
-use std::rt::Files;
 
 /// Saves a level into a folder, over the file whose digest is `below`, zeros for level 0, and gives
 /// the digest of its file.
@@ -23,50 +21,81 @@ use std::rt::Files;
 /// disk, and takes its name. It is refused as 82 where the folder is not there or the file could
 /// not be made, and as 81 with 70 where it could not be written; then an old file stays as it was.
 /// It takes memory for names; want of it is 84.
-pub fn save<R: Files>(
-    files: &R,
-    alloc: Global,
-    folder: Path<'_>,
+pub fn save<F: Folder>(
+    folder: &mut F,
     level: &Level,
     below: [u8; 32],
 ) -> Result<[u8; 32], FolderFault>
     ensures digest { IfOk result (λ digest. digest ≡ sha256 (body_text 1 level.now below)) }
     ensures named { IfErr result (Names level.now.level) }
+    // The level's name has the level's file, and what has the other names stays.
+    ensures saved { OnOk result (Becomes (F.stands folder.old level.now.level) (F.stands folder.new level.now.level) (Some (file_text 1 level.now below))) }
+    ensures others { SameBut level.now.level (F.stands folder.old) (F.stands folder.new) }
+    // A folder that holds a shelf holds it with the level on top, where the level is right over it.
+    ensures next { (shelf : List Image) → HoldsIn (F.stands folder.old) shelf below → Consistent shelf level.now
+        → IfOk result (HoldsIn (F.stands folder.new) (shelf ++ level.now ∷ [])) }
+    // A refusal changes nothing.
+    ensures err { OnErr result (Same (F.stands folder.old) (F.stands folder.new)) }
+    // A crash at any moment leaves each name what it might have left before, and the level's that or its file, whole.
+    ensures crash { IfSome (F.stands folder.old level.now.level) (λ _.
+        LeavesToo level.now.level (λ c. c ≡ Some (file_text 1 level.now below)) (F.may_leave folder.old) (F.may_leave folder.new)) }
+    ensures still { LeavesStill (F.may_leave folder.old) (F.may_leave folder.new) }
+    // Nothing of the new file is left beside, or it could not be removed.
+    ensures ok { OnOk result (F.is_clear folder.new level.now.level) }
+    ensures clear { F.is_clear folder.old level.now.level → F.is_clear folder.new level.now.level ⊎ Grew (F.stuck folder.old) (F.stuck folder.new) }
+    ensures others_clear { StaysBut level.now.level (F.is_clear folder.old) (F.is_clear folder.new) }
+    // 82 is told where the folder refused to make the file or to give it its name, and only there.
+    ensures refused { OpenIfRefused result (F.refusals folder.old) (F.refusals folder.new) }
 {
     let number = level.number();
-    let path = path_of(alloc, folder, number)?;
-    let new = path_of_new(alloc, folder, number)?;
-    let Ok(file) = fs::create(files, new.as_path()) else {
-        return Err(FolderFault::Open { level: number });
+    let new = match folder.create(number) {
+        Ok(new) => new,
+        Err(Refusal::Refused) => return Err(FolderFault::Open { level: number }),
+        Err(Refusal::Memory) => return Err(FolderFault::Memory),
     };
-    let fault = match write_whole(level, below, file) {
-        Ok(digest) => match fs::rename(files, new.as_path(), path.as_path()) {
-            Ok(()) => return Ok(digest),
-            Err(_) => FolderFault::Open { level: number },
-        },
+    let fault = match write_whole(level, below, new) {
+        Ok(written) => {
+            let digest = written.digest;
+            match folder.replace(number, written.new) {
+                Ok(()) => return Ok(digest),
+                Err(Refusal::Refused) => FolderFault::Open { level: number },
+                Err(Refusal::Memory) => FolderFault::Memory,
+            }
+        }
         Err(fault) => FolderFault::File {
             level: number,
             fault,
         },
     };
     // What was written of the new file is of no use; that it could not be removed is no other fault.
-    let _ = fs::remove_file(files, new.as_path());
+    let _ = folder.remove_new(number);
     Err(fault)
 }
 
-/// Writes the file of a level, and sees it on the disk.
-fn write_whole<F: Write + OpenFile + Drop>(
+/// A file that was written and brought to the disk.
+#[derive(Drop)]
+struct Written<D> {
+    new: D,
+    /// The digest that it ends in.
+    digest: [u8; 32],
+}
+
+/// Writes the file of a level into one that is empty, and sees it on the disk.
+fn write_whole<D: Draft + Drop>(
     level: &Level,
     below: [u8; 32],
-    file: F,
-) -> Result<[u8; 32], FileFault>
-    ensures digest { IfOk result (λ digest. digest ≡ sha256 (body_text 1 level.now below)) }
+    new: D,
+) -> Result<Written<D>, FileFault>
+    ensures digest { IfOk result (λ done. done.digest ≡ sha256 (body_text 1 level.now below)) }
+    ensures has { OnOk result (HasFile 1 level.now below) }
+    ensures whole { IfOk result (λ done. D.contents new ≡ Some [] → IsWhole (D.contents done.new) (D.kept done.new) (file_text 1 level.now below)) }
     ensures fault { IfErr result (λ fault. fault ≡ FileFault.Write) }
 {
-    let mut file = file;
-    let digest = write_level(level, below, &mut Counted::new(&mut file))?;
-    match file.sync_all() {
-        Ok(()) => Ok(digest),
+    let mut writer = Counted::new(new);
+    let digest = write_level(level, below, &mut writer)?;
+    let mut new = writer.into_inner();
+    match new.sync() {
+        Ok(()) => Ok(Written { new, digest }),
         Err(_) => Err(FileFault::Write),
     }
 }

@@ -33,6 +33,13 @@ impl<T> Counted<T> {
         Counted { inner, count: 0 }
     }
 
+    /// The reader or writer itself, for the one who held it before.
+    pub fn into_inner(self) -> T
+        ensures { result ≡ inner_of self }
+    {
+        self.inner
+    }
+
     /// How many faults there were so far. It stays at the greatest u64.
     pub fn faults(&self) -> u64
         ensures { result ≡ faults_of self.now }

@@ -7,4 +7,4 @@ pub returns-then-print-clause-verified : goal.returns-then-print-clause-verified
 returns-then-print-clause-verified g c = λ _.
     let levels = c.print_levels.ensures c.if-not-print_levels.false in
     let summary : Summary = record { levels = c.levels-levels.result; digest = c.in-Ok.stored.digest } in
-    (c.in-Ok.stored.shelf, summary, levels.0, c.levels-levels.ensures.levels, Appends-trans _ _ _ (right_lines c.in-Ok.stored.shelf) _ levels.1 (c.print-2.ensures c.if-print.true))
+    (c.in-Ok.stored.shelf, summary, levels.0, c.levels-levels.ensures.levels, c.in-Ok.ensures.exact, Appends-trans _ _ _ (right_lines c.in-Ok.stored.shelf) _ levels.1 (c.print-2.ensures c.if-print.true))

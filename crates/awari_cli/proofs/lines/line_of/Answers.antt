@@ -5,7 +5,9 @@ use Rattle.awari_cli.proofs.lines.line_of.Goals as goal
 pub returns-clause-line : goal.returns-clause-line
 returns-clause-line g c = record {
   images = c.in_ok-shelf.field-0.shelf;
+  digest = c.in_ok-shelf.field-0.digest;
   board = c.in_ok-board.board;
+  stored = c.in_ok-shelf.ensures.exact;
   right = search rules;
   whole = search rules;
   known = c.in-Ok.ensures.known.0 refl;

@@ -1,4 +1,4 @@
-use Rattle.std.proofs.Common.{◌≡◌, ◌∙◌, ◌++◌, List, ℕ, [], ap, subst}
+use Rattle.std.proofs.Common.{arith, w8, ◌≡◌, ◌∙◌, ◌++◌, All, List, ℕ, [], ap, subst}
 use Rattle.std.specs.List.{flat_map}
 use Rattle.std.specs.Io.KnownBytes.{Appends}
 use Rattle.std.proofs.KnownBytes.{Appends-trans}
@@ -6,6 +6,9 @@ use Rattle.sha2.specs.Sha256.{sha256}
 use Rattle.awari_table.specs.declared.images.Entry.{Entry}
 use Rattle.awari_table.specs.Counts.{inner_of}
 use Rattle.awari_file.specs.FileText.{header_text, entry_text, body_text}
+use Rattle.awari_file.specs.Source.{FitsNumbers}
+use borrow.Author.Rules.{elem_Fits}
+use Rattle.awari_file.proofs.FitLaws.{has_file}
 use Rattle.awari_file.proofs.WriteLaws.{Puts-then, Puts-same}
 use Rattle.awari_file.proofs.writing.write_level.Goals as goal
 
@@ -31,3 +34,6 @@ returns-in-Ok-clause-digest g c =
     let entries : flat_map entry_text c.entries.result.now ≡ flat_map entry_text image.entries = ap (λ (es : List Entry). flat_map entry_text es) c.entries.ensures in
     let all = Puts-then _ _ _ _ _ _ _ _ (Puts-same _ _ _ _ _ _ header c.in_ok-put.ensures.ok) (Puts-same _ _ _ _ _ _ entries c.in_ok-put_entries.ensures.ok) in
     c.finalize-digest.ensures (body_text 1 image below) (all.holds [] c.new-hasher.ensures)
+
+pub returns-in-Ok-clause-has : goal.returns-in-Ok-clause-has
+returns-in-Ok-clause-has g c = has_file c.args.level.now c.args.below c.number.ensures.level (subst (All FitsNumbers) c.entries.ensures c.in_ok-put_entries.ensures.fit) (omega arith) (omega arith) (λ i. (elem_Fits w8 w8 c.args.below c.well_formed.1.0.0 i c.well_formed.1.0.1.1 tt).fits)

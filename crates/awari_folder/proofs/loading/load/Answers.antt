@@ -1,6 +1,45 @@
-use Rattle.std.proofs.Common.{ap, length}
+use Rattle.std.proofs.Common.{◌+◌, ap, length, refl, subst, ◌∙◌}
+use Rattle.std.proofs.lemmas.Result.{err_from_is_err_and}
 use Rattle.awari_folder.proofs.Empty.{truth_of_empty}
+use Rattle.awari_folder.proofs.Opened.{of_name, not_open, next_level}
+use Rattle.awari_folder.specs.NextFile.{IsNextFile}
+use Rattle.awari_folder.specs.Contents.{Opens}
 use Rattle.awari_folder.proofs.loading.load.Goals as goal
 
 pub loop-level-init : goal.loop-level-init
-loop-level-init g c = (truth_of_empty c.empty-shelf.result c.empty-shelf.ensures, ap length c.empty-shelf.ensures)
+loop-level-init g c = record {
+  truth = truth_of_empty c.empty-shelf.result c.empty-shelf.ensures;
+  levels = ap length c.empty-shelf.ensures;
+  held = λ names are. (c.empty-shelf.ensures, refl);
+  stands = λ n. refl;
+  crash = λ n o h. h;
+  still = λ n o h. h;
+  clear = λ n h. h;
+  refused = refl;
+  stuck = refl;
+}
+
+pub returns-in_err-digest-in-Ok-Some-clause-refused :
+    goal.returns-in_err-digest-in-Ok-Some-clause-refused
+returns-in_err-digest-in-Ok-Some-clause-refused g c =
+    let p = err_from_is_err_and c.from_residual.result c.from_residual.ensures.1 in
+    rw (p.1, p.2) (not_open _ _ _ c.in_err-digest-in-Ok-Some.ensures.of_file (c.in-Ok-Some.ensures.refused ∙ c.loop-level.invariant.refused))
+
+pub loop-level-preserved : goal.loop-level-preserved
+loop-level-preserved g c =
+    let i = c.loop-level.invariant in
+    let e = c.open.ensures in
+    record {
+      truth = c.in_ok-digest-in-Ok-Some.ensures.meaning;
+      levels = c.in_ok-digest-in-Ok-Some.ensures.levels ∙ ap (λ n. n + 1) i.levels;
+      held = λ names are. next_level names c.loop-level.level c.loop-level.shelf c.loop-level.digest c.put_on.new.shelf c.in_ok-digest-in-Ok-Some.digest (i.held names are)
+          (of_name g.F.File.Read.remaining _ _ _ c.in-Ok-Some.file (λ bytes. IsNextFile c.loop-level.shelf c.loop-level.digest bytes c.put_on.new.shelf c.in_ok-digest-in-Ok-Some.digest)
+          c.new.ensures.inner (i.stands c.loop-level.level ∙ are c.loop-level.level) (subst (λ o. Opens g.F.File.Read.remaining (g.F.Folder.stands c.loop-level.folder c.loop-level.level) o) c.in-Ok-Some.field-0-is c.in-Ok-Some.ensures.opened)
+          c.in_ok-digest-in-Ok-Some.ensures.ok);
+      stands = λ n. e.stands n ∙ i.stands n;
+      crash = λ n o h. i.crash n o (e.crash n o h);
+      still = λ n o h. e.still n o (i.still n o h);
+      clear = λ n h. e.clear n (i.clear n h);
+      refused = c.in-Ok-Some.ensures.refused ∙ i.refused;
+      stuck = e.stuck ∙ i.stuck;
+    }

@@ -1,0 +1,79 @@
+-- Levels that are built on those of a folder.
+use Rattle.std.proofs.Common.{rules, arith, ◌≡◌, ◌≢◌, ◌<◌, ◌≤◌, ◌+◌, ◌⊎◌, inl, inr, ⊎_elim, List, ℕ, [], ◌∷◌, ◌++◌, length, Option, Some, None, subst, length-append, ap, ◌∙◌}
+use Rattle.std.specs.Prelude.{IfSome, IsSome}
+use Rattle.std.proofs.lemmas.Bool.{cases_lt}
+use Rattle.awari_file.specs.FileText.{file_text}
+use Rattle.std.specs.Io.KnownBytes.{Appends}
+use Rattle.awari_folder.specs.Contents.{AreNames, HoldsIn, IsStoredIn, LeavesNoMore, LeavesToo, Same, nothing_known}
+use Rattle.awari_table.specs.Shelves.{IsShelf}
+use Rattle.awari_table.specs.declared.images.Image.{Image}
+use Rattle.awari_cli.specs.Building.{IsBuiltIn, KeepsLevels, PrintsLevels, SameOutside, LeavesFiles, level_lines}
+
+-- Nothing is said of a folder of which nothing is known.
+pub built_nowhere : (below built : List Image) → IsBuiltIn nothing_known nothing_known below built
+built_nowhere below built names are = no_name (names 0) (are 0)
+  where
+    no_name : {A : Type 0} (name : Option (List ℕ)) → nothing_known 0 ≡ Some name → A
+    no_name name e = absurd cc
+
+pub same_outside : (low top : ℕ) (old new : ℕ → Option (Option (List ℕ))) → ((n : ℕ) → n < low → new n ≡ old n) → ((n : ℕ) → low ≤ n → top < n → new n ≡ old n) → SameOutside low top old new
+same_outside low top old new below above n = ⊎_elim (below n) (λ high. ⊎_elim (below n) (λ up. above n up high) (cases_lt n low))
+
+files_of_save : (level : ℕ) (stand : Option (Option (List ℕ))) (image : Image) (below : List ℕ) (old new : ℕ → Option (List ℕ) → Type 0)
+    → IfSome stand (λ _. LeavesToo level (λ c. c ≡ Some (file_text 1 image below)) old new) → IsSome stand → LeavesFiles level old new
+files_of_save level (Some stand) image below old new leaves known n c left =
+    ⊎_elim (λ l. inl l) (λ r. inr (omega (arith, r.0), (image, below, r.1))) (leaves n c left)
+files_of_save level None image below old new leaves known n c left = search rules
+
+-- What a save may leave is a whole file.
+pub files_at : (stands : ℕ → Option (Option (List ℕ))) (level m : ℕ) (image : Image) (below : List ℕ) (old new : ℕ → Option (List ℕ) → Type 0)
+    → level ≡ m → IfSome (stands level) (λ _. LeavesToo level (λ c. c ≡ Some (file_text 1 image below)) old new) → IsSome (stands m) → LeavesFiles m old new
+files_at stands level m image below old new next leaves =
+    subst (λ k. IsSome (stands k) → LeavesFiles k old new) next (files_of_save level (stands level) image below old new leaves)
+
+pub more_files : (m k : ℕ) (first old new : ℕ → Option (List ℕ) → Type 0) → m ≤ k → LeavesFiles m first old → LeavesFiles k old new → LeavesFiles m first new
+more_files m k first old new low before after n c left =
+    ⊎_elim (λ l. before n c l) (λ r. inr (omega (arith, low, r.0), r.1)) (after n c left)
+
+pub is_known : (stand : Option (Option (List ℕ))) (name : Option (List ℕ)) → stand ≡ Some name → IsSome stand
+is_known stand name is = search rules
+
+pub longer_by_one : (less : List Image) (image : Image) (shelf : List Image) → shelf ≡ less ++ image ∷ [] → length shelf ≡ length less + 1
+longer_by_one less image shelf put = ap length put ∙ length-append less (image ∷ [])
+
+-- What is built on what was loaded, and printed.
+pub prints_on : (old mid new : ℕ → Option (Option (List ℕ))) (top : ℕ) (below shelf : List Image) (under digest : List ℕ) (before after : Option (List ℕ))
+    → IsStoredIn old below under → Same old mid → IsShelf shelf × (top < length shelf) → (HoldsIn mid below under → HoldsIn new shelf digest)
+    → (built : List Image) × (shelf ≡ below ++ built) × Appends before after (level_lines built) → PrintsLevels top old new before after
+prints_on old mid new top below shelf under digest before after stored same right holds (built, put, lines) = (
+  below,
+  built,
+  subst IsShelf put right.0,
+  subst (λ xs. top < length xs) put right.1,
+  (λ names are. (
+    under,
+    digest,
+    stored names are,
+    subst (λ xs. HoldsIn new xs digest) put (holds (names, (λ n. same n ∙ are n), (stored names are).levels)),
+  )),
+  lines,
+)
+
+pub keeps_on : (old mid new : ℕ → Option (Option (List ℕ))) (left middle leaves : ℕ → Option (List ℕ) → Type 0) (top : ℕ) (below : List Image) (under : List ℕ)
+    → IsStoredIn old below under → Same old mid → LeavesNoMore left middle → SameOutside (length below) top mid new
+    → ((names : ℕ → Option (List ℕ)) → AreNames mid names → LeavesFiles (length below) middle leaves)
+    → (names : ℕ → Option (List ℕ)) → AreNames old names → KeepsLevels top names old new left leaves
+keeps_on old mid new left middle leaves top below under stored same none outside files names are =
+    inr (
+      below,
+      under,
+      stored names are,
+      (λ n away. outside n away ∙ same n),
+      (λ n end leaving. ⊎_elim (λ l. inl (none n end l)) (λ r. inr r) (files names (λ n. same n ∙ are n) n end leaving)),
+    )
+
+-- Levels that are built on none, in no folder.
+pub prints_anew : (top : ℕ) (first shelf : List Image) (before after : Option (List ℕ)) → IsShelf shelf × (top < length shelf)
+    → (built : List Image) × (shelf ≡ first ++ built) × Appends before after (level_lines built) → PrintsLevels top nothing_known nothing_known before after
+prints_anew top first shelf before after right (built, put, lines) =
+    (first, built, subst IsShelf put right.0, subst (λ xs. top < length xs) put right.1, built_nowhere first built, lines)

@@ -1,0 +1,44 @@
+use Rattle.std.proofs.Common.{arith, ◌≡◌, ◌∙◌, ◌+◌, ◌≤◌, inl, inr, length, refl}
+use Rattle.awari_cli.proofs.BuildLaws.{built_none, built_more}
+use Rattle.awari_cli.proofs.FolderBuilds.{is_known, longer_by_one, more_files, same_outside}
+use Rattle.awari_cli.proofs.building.build_up_in.Goals as goal
+
+pub loop-alloc-init : goal.loop-alloc-init
+loop-alloc-init g c = record {
+  built = built_none _ _;
+  holds = λ held. held;
+  longer = omega arith;
+  high = λ n top low. low;
+  below = λ n low. refl;
+  above = λ n high. refl;
+  crash = λ names are n c left. inl left;
+}
+
+pub loop-alloc-preserved : goal.loop-alloc-preserved
+loop-alloc-preserved g c =
+    let i = c.loop-alloc.invariant in
+    let e = c.save_next.ensures in
+    let (image, put, tells) = c.in-Ok.ensures.built in
+    let size : length c.save_next.new.shelf ≡ length c.loop-alloc.shelf + 1 = longer_by_one c.loop-alloc.shelf image c.save_next.new.shelf put in
+    record {
+      built = built_more _ _ _ image c.in-Ok.told _ _ _ i.built put tells (c.print.ensures c.if-not-print.false);
+      holds = λ held. c.in-Ok.ensures.holds (i.holds held);
+      longer = omega (arith, size, i.longer);
+      high = λ n top low. omega (arith, size, top);
+      below = λ n low. e.others n (λ same. omega (arith, low, i.longer, same)) ∙ i.below n low;
+      above = λ n high. e.others n (λ same. omega (arith, high, size, same)) ∙ i.above n (omega (arith, high, size));
+      crash = λ names are. more_files _ _ _ _ _ i.longer (i.crash names are)
+          (e.crash (is_known _ (names (length c.loop-alloc.shelf)) (i.above (length c.loop-alloc.shelf) (omega arith) ∙ are (length c.loop-alloc.shelf))));
+    }
+
+pub returns-then-not-print-clause-crash : goal.returns-then-not-print-clause-crash
+returns-then-not-print-clause-crash g c = λ names are.
+    let i = c.loop-alloc.invariant in
+    more_files _ _ _ _ _ i.longer (i.crash names are)
+    (c.save_next.ensures.crash (is_known _ (names (length c.loop-alloc.shelf)) (i.above (length c.loop-alloc.shelf) (omega arith) ∙ are (length c.loop-alloc.shelf))))
+
+pub returns-in-Err-clause-crash : goal.returns-in-Err-clause-crash
+returns-in-Err-clause-crash g c = λ names are.
+    let i = c.loop-alloc.invariant in
+    more_files _ _ _ _ _ i.longer (i.crash names are)
+    (c.save_next.ensures.crash (is_known _ (names (length c.loop-alloc.shelf)) (i.above (length c.loop-alloc.shelf) (omega arith) ∙ are (length c.loop-alloc.shelf))))

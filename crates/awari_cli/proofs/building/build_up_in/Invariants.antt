@@ -1,0 +1,22 @@
+use Rattle.std.proofs.Common.{◌≡◌, ◌≤◌, ◌<◌, ◌-◌, ◌+◌, ℕ, List, Option, length}
+use Rattle.awari_folder.specs.Contents.{AreNames, HoldsIn}
+use Rattle.awari_cli.specs.Building.{LeavesFiles}
+use Rattle.awari_cli.proofs.BuildLaws.{IsBuilt}
+use Rattle.awari_cli.proofs.building.build_up_in.Given as goal
+
+abbrev pub invariant-loop-alloc : goal.invariant-loop-alloc
+invariant-loop-alloc g l =
+    let stands = g.F.Folder.stands in
+    let may_leave = g.F.Folder.may_leave in
+    record {
+      built : IsBuilt l.fn.shelf l.shelf (g.W.Write.contents l.fn.writer) (g.W.Write.contents l.writer);
+      holds : HoldsIn (stands l.fn.folder) l.fn.shelf l.fn.digest → HoldsIn (stands l.folder) l.shelf l.digest;
+      longer : length l.fn.shelf ≤ length l.shelf;
+      high : (n : ℕ) → l.top < n → length l.fn.shelf ≤ n → length l.shelf ≤ n;
+      below : (n : ℕ) → n < length l.fn.shelf → stands l.folder n ≡ stands l.fn.folder n;
+      above : (n : ℕ) → length l.shelf ≤ n → stands l.folder n ≡ stands l.fn.folder n;
+      crash : (names : ℕ → Option (List ℕ)) → AreNames (stands l.fn.folder) names → LeavesFiles (length l.fn.shelf) (may_leave l.fn.folder) (may_leave l.folder);
+    }
+
+abbrev pub decreases-loop-alloc : goal.decreases-loop-alloc
+decreases-loop-alloc g l = l.top + 1 - length l.shelf

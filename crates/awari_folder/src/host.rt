@@ -1,0 +1,186 @@
+//! The folder of the host: what its files hold is not known to any proof.
+
+ghost use Rattle.std.specs.Prelude.{ℕ, Some, None, Option, List, ⊤};
+
+use crate::calls::{Draft, Folder, Refusal};
+use crate::names::{path_of, path_of_itself, path_of_new};
+use std::alloc::Global;
+use std::fs::{self, File, OpenOptions, TryLockError};
+use std::io::{self, Error, ErrorKind, Write};
+use std::path::Path;
+use std::rt::Files;
+
+/// A folder of the host. From the first level that is saved on it is locked, so that one builder at
+/// a time writes into it; no reader waits for that.
+#[derive(Drop)]
+pub struct HostFolder<'a, R> {
+    files: &'a R,
+    alloc: Global,
+    path: Path<'a>,
+    lock: Option<File>,
+    refused: u64,
+    stuck: u64,
+}
+
+impl<'a, R> HostFolder<'a, R> {
+    /// The folder at this path, whether it is there or not. It takes memory for names.
+    pub fn new(files: &'a R, alloc: Global, path: Path<'a>) -> Self {
+        HostFolder {
+            files,
+            alloc,
+            path,
+            lock: None,
+            refused: 0,
+            stuck: 0,
+        }
+    }
+}
+
+/// The folder, open and locked. It is refused where the folder is not there, and where another has
+/// the lock. Where the file system knows no locks, it is open alone.
+fn locked<R: Files<File = File>>(
+    files: &R,
+    alloc: Global,
+    folder: Path<'_>,
+) -> Result<File, Refusal> {
+    let Ok(path) = path_of_itself(alloc, folder) else {
+        return Err(Refusal::Memory);
+    };
+    let Ok(place) = fs::open(files, path.as_path()) else {
+        return Err(Refusal::Refused);
+    };
+    match place.try_lock() {
+        Err(TryLockError::WouldBlock) => Err(Refusal::Refused),
+        Ok(()) | Err(TryLockError::Error(_)) => Ok(place),
+    }
+}
+
+/// Opens what is a file, and nothing that could keep its reader waiting, as a pipe does.
+fn open_file<R: Files>(files: &R, path: Path<'_>) -> io::Result<R::File> {
+    if !fs::metadata(files, path)?.is_file() {
+        return Err(Error::from(ErrorKind::Other));
+    }
+    fs::open(files, path)
+}
+
+/// Makes a file that was not there, in place of what a save that was killed may have left. What has
+/// the name is removed and not written to, so that no link is followed.
+fn create_file<R: Files>(files: &R, path: Path<'_>) -> io::Result<R::File> {
+    // Whatever could not be removed is met again at once.
+    let _ = fs::remove_file(files, path);
+    let mut how = OpenOptions::new();
+    how.write(true);
+    how.create_new(true);
+    how.open(files, path)
+}
+
+/// A new file of the host.
+#[derive(Drop)]
+pub struct HostDraft {
+    file: File,
+}
+
+impl Write for HostDraft {
+    fn write(&mut self, buf: &[u8]) -> io::Result<usize> {
+        self.file.write(buf)
+    }
+
+    fn flush(&mut self) -> io::Result<()> {
+        self.file.flush()
+    }
+}
+
+impl Draft for HostDraft {
+    ghost kept = { λ _. None };
+
+    fn sync(&mut self) -> Result<(), Refusal> {
+        match self.file.sync_all() {
+            Ok(()) => Ok(()),
+            Err(_) => Err(Refusal::Refused),
+        }
+    }
+}
+
+impl<R: Files<File = File>> Folder for HostFolder<'_, R> {
+    type File = File;
+
+    type New = HostDraft;
+
+    // Of the host's files nothing is known.
+    ghost stands = { λ _ _. None };
+
+    ghost may_leave = { λ _ _ _. ⊥ };
+
+    ghost is_clear = { λ _ _. ⊤ };
+
+    ghost refusals = { λ folder. folder.refused };
+
+    ghost stuck = { λ folder. folder.stuck };
+
+    fn open(&mut self, level: u8) -> Result<Option<File>, Refusal> {
+        let Ok(path) = path_of(self.alloc, self.path, level) else {
+            return Err(Refusal::Memory);
+        };
+        match open_file(self.files, path.as_path()) {
+            Ok(file) => Ok(Some(file)),
+            Err(error) if error.kind() == ErrorKind::NotFound => Ok(None),
+            Err(_) => {
+                self.refused = self.refused.saturating_add(1);
+                Err(Refusal::Refused)
+            }
+        }
+    }
+
+    fn create(&mut self, level: u8) -> Result<HostDraft, Refusal> {
+        let Ok(path) = path_of_new(self.alloc, self.path, level) else {
+            return Err(Refusal::Memory);
+        };
+        if self.lock.is_none() {
+            match locked(self.files, self.alloc, self.path) {
+                Ok(lock) => self.lock = Some(lock),
+                Err(Refusal::Memory) => return Err(Refusal::Memory),
+                Err(Refusal::Refused) => {
+                    self.refused = self.refused.saturating_add(1);
+                    return Err(Refusal::Refused);
+                }
+            }
+        }
+        match create_file(self.files, path.as_path()) {
+            Ok(file) => Ok(HostDraft { file }),
+            Err(_) => {
+                self.refused = self.refused.saturating_add(1);
+                Err(Refusal::Refused)
+            }
+        }
+    }
+
+    fn replace(&mut self, level: u8, _new: HostDraft) -> Result<(), Refusal> {
+        let Ok(path) = path_of(self.alloc, self.path, level) else {
+            return Err(Refusal::Memory);
+        };
+        let Ok(new) = path_of_new(self.alloc, self.path, level) else {
+            return Err(Refusal::Memory);
+        };
+        match fs::rename(self.files, new.as_path(), path.as_path()) {
+            Ok(()) => Ok(()),
+            Err(_) => {
+                self.refused = self.refused.saturating_add(1);
+                Err(Refusal::Refused)
+            }
+        }
+    }
+
+    fn remove_new(&mut self, level: u8) -> Result<(), Refusal> {
+        let Ok(new) = path_of_new(self.alloc, self.path, level) else {
+            self.stuck = self.stuck.saturating_add(1);
+            return Err(Refusal::Memory);
+        };
+        match fs::remove_file(self.files, new.as_path()) {
+            Ok(()) => Ok(()),
+            Err(_) => {
+                self.stuck = self.stuck.saturating_add(1);
+                Err(Refusal::Refused)
+            }
+        }
+    }
+}

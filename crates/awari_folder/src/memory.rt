@@ -1,0 +1,239 @@
+//! A folder in memory, of which chosen calls are refused.
+
+ghost use Rattle.std.specs.Prelude.{◌≡◌, ◌≢◌, ◌≤◌, ℕ, Some, None, Option, List, ⊤, option_map, ◌++◌, ◌∷◌, [], OnOk, OnErr, IfErr};
+ghost use Rattle.awari_folder.specs.Log.{named};
+
+use crate::calls::{Draft, Folder, Refusal};
+use std::alloc::Global;
+use std::collections::VecDeque;
+use std::io::{self, Error, ErrorKind, Write};
+
+/// A file that was given the name of a level.
+#[derive(Drop)]
+pub struct Put {
+    pub level: u8,
+    pub bytes: Vec<u8>,
+    pub synced: bool,
+}
+
+/// A new file in memory.
+#[derive(Drop)]
+pub struct MemoryDraft {
+    bytes: Vec<u8>,
+    synced: bool,
+    refuses_writes: bool,
+    refuses_sync: bool,
+}
+
+impl Write for MemoryDraft {
+    ghost contents = { λ d. Some d.bytes.items };
+
+    fn write(&mut self, buf: &[u8]) -> io::Result<usize> {
+        if self.refuses_writes {
+            return Err(Error::from(ErrorKind::Other));
+        }
+        self.synced = false;
+        self.bytes.write(buf)
+    }
+
+    fn flush(&mut self) -> io::Result<()> {
+        Ok(())
+    }
+}
+
+impl Draft for MemoryDraft {
+    ghost use Rattle.awari_folder.specs.Log.{kept_of};
+
+    ghost kept = { λ d. kept_of d.synced d.bytes.items };
+
+    fn sync(&mut self) -> Result<(), Refusal> {
+        if self.refuses_sync {
+            return Err(Refusal::Refused);
+        }
+        self.synced = true;
+        Ok(())
+    }
+}
+
+/// A folder in memory, for tests: any of its calls, or of those of a new file, can be made to be
+/// refused. It keeps each file that was ever given a name. It takes memory for what is written, and
+/// for each file.
+#[derive(Drop)]
+pub struct MemoryFolder {
+    alloc: Global,
+    puts: Vec<Put>,
+    beside: Option<u8>,
+    refuse_at: u32,
+    refuses_writes: bool,
+    refuses_sync: bool,
+    refused: u64,
+    stuck: u64,
+}
+
+impl MemoryFolder {
+    ghost use Rattle.awari_folder.specs.Log.{files_in, has_draft};
+
+    /// An empty folder, of which nothing is refused.
+    pub fn new(alloc: Global) -> MemoryFolder
+        ensures { (level : ℕ) → files_in result level ≡ None }
+    {
+        MemoryFolder {
+            alloc,
+            puts: Vec::new(alloc),
+            beside: None,
+            refuse_at: 0,
+            refuses_writes: false,
+            refuses_sync: false,
+            refused: 0,
+            stuck: 0,
+        }
+    }
+
+    /// From now on the call of this number is refused, 1 for the next, 0 for none.
+    pub fn refuse(&mut self, call: u32)
+        ensures { (level : ℕ) → files_in self.new level ≡ files_in self.old level }
+    {
+        self.refuse_at = call;
+    }
+
+    /// From now on new files refuse to be written, or to be brought to the disk.
+    pub fn refuse_files(&mut self, writes: bool, sync: bool)
+        ensures { (level : ℕ) → files_in self.new level ≡ files_in self.old level }
+    {
+        self.refuses_writes = writes;
+        self.refuses_sync = sync;
+    }
+
+    /// Whether something lies there of a new file that got no name.
+    pub fn has_draft(&self) -> bool
+        ensures { result ≡ has_draft self.now }
+    {
+        self.beside.is_some()
+    }
+
+    /// Says whether this call is refused.
+    fn is_refused(&mut self) -> bool
+        ensures puts { self.new.puts ≡ self.old.puts }
+        ensures beside { self.new.beside ≡ self.old.beside }
+        ensures refused { self.new.refused ≡ self.old.refused }
+        ensures stuck { self.new.stuck ≡ self.old.stuck }
+    {
+        if self.refuse_at == 0 {
+            return false;
+        }
+        self.refuse_at -= 1;
+        self.refuse_at == 0
+    }
+}
+
+/// Puts a file behind the others.
+fn put_behind(puts: &mut Vec<Put>, put: Put) -> Result<(), Refusal>
+    ensures ok { OnOk result (puts.new.items ≡ puts.old.items ++ put ∷ []) }
+    ensures err { OnErr result (puts.new.items ≡ puts.old.items) }
+    ensures memory { IfErr result (λ e. e ≡ Refusal.Memory) }
+{
+    match puts.push(put) {
+        Ok(()) => Ok(()),
+        Err(_) => Err(Refusal::Memory),
+    }
+}
+
+/// The newest file that was given the name of the level.
+fn newest(puts: &[Put], level: u8) -> Option<&[u8]>
+    ensures { option_map (λ bytes. bytes.now) result ≡ named puts.now level }
+{
+    let [put, newer @ ..] = puts else {
+        return None;
+    };
+    if let Some(bytes) = newest(newer, level) {
+        return Some(bytes);
+    }
+    if put.level == level {
+        return Some(put.bytes.as_slice());
+    }
+    None
+}
+
+impl Folder for MemoryFolder {
+    ghost use Rattle.awari_folder.specs.Log.{MayLeave};
+
+    type File = VecDeque<u8>;
+
+    type New = MemoryDraft;
+
+    ghost stands = { λ f n. Some (named f.puts.items n) };
+
+    ghost may_leave = { λ f n c. MayLeave f.puts.items n c };
+
+    ghost is_clear = { λ f n. f.beside ≢ Some n };
+
+    ghost refusals = { λ f. f.refused };
+
+    ghost stuck = { λ f. f.stuck };
+
+    fn open(&mut self, level: u8) -> Result<Option<VecDeque<u8>>, Refusal> {
+        if self.is_refused() {
+            self.refused = self.refused.saturating_add(1);
+            return Err(Refusal::Refused);
+        }
+        let Some(bytes) = newest(&self.puts, level) else {
+            return Ok(None);
+        };
+        match Vec::from_slice(self.alloc, bytes) {
+            Ok(copy) => Ok(Some(VecDeque::from(copy))),
+            Err(_) => Err(Refusal::Memory),
+        }
+    }
+
+    fn create(&mut self, level: u8) -> Result<MemoryDraft, Refusal> {
+        let is_taken = match self.beside {
+            Some(other) => other != level,
+            None => false,
+        };
+        if is_taken || self.is_refused() {
+            self.refused = self.refused.saturating_add(1);
+            return Err(Refusal::Refused);
+        }
+        self.beside = Some(level);
+        Ok(MemoryDraft {
+            bytes: Vec::new(self.alloc),
+            synced: false,
+            refuses_writes: self.refuses_writes,
+            refuses_sync: self.refuses_sync,
+        })
+    }
+
+    fn replace(&mut self, level: u8, new: MemoryDraft) -> Result<(), Refusal> {
+        let is_there = match self.beside {
+            Some(other) => other == level,
+            None => false,
+        };
+        if !is_there || self.is_refused() {
+            self.refused = self.refused.saturating_add(1);
+            return Err(Refusal::Refused);
+        }
+        let put = Put {
+            level,
+            bytes: new.bytes,
+            synced: new.synced,
+        };
+        put_behind(&mut self.puts, put)?;
+        self.beside = None;
+        Ok(())
+    }
+
+    fn remove_new(&mut self, level: u8) -> Result<(), Refusal> {
+        if self.is_refused() {
+            self.stuck = self.stuck.saturating_add(1);
+            return Err(Refusal::Refused);
+        }
+        let is_there = match self.beside {
+            Some(other) => other == level,
+            None => false,
+        };
+        if is_there {
+            self.beside = None;
+        }
+        Ok(())
+    }
+}
