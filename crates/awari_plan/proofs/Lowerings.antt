@@ -123,8 +123,8 @@ pub lowering-passed : (shelf : List Image) (old now : List Entry) (near rank : �
 lowering-passed shelf old now near rank fell h here =
     lowering-more shelf old now near rank
     (λ p is stones ranked.
-        let reads = ap (λ (e : Entry). e.dist) (entry_of-rank shelf (image_of shelf now) p rank stones ranked) in
-        below_near (table_of (topped shelf now)) p near (omega (arith, reads, here)) (h.below p is stones))
+    let reads = ap (λ (e : Entry). e.dist) (entry_of-rank shelf (image_of shelf now) p rank stones ranked) in
+    below_near (table_of (topped shelf now)) p near (omega (arith, reads, here)) (h.below p is stones))
     fell h
 
 module _ (shelf : List Image) (now : List Entry) (rank : ℕ) (board : List ℕ) (dist : ℕ) (inside : rank < length now) (is_board : IsBoard board) (on_level : sum board ≡ length shelf)
@@ -202,9 +202,9 @@ module _ (shelf : List Image) (now : List Entry) (rank : ℕ) (board : List ℕ)
           below_falls t u values p near held (subst (IsByMoves t p) (sym now_dist) (subst (λ b. IsByMoves t b dist) (is_here p is stones here) by))
     ];
     fell = (
-      let sums = sum_by-set (λ (e : Entry). e.dist) now rank put no_entry inside in
-      let before = no_more_plies shelf old now rank fell h.fell in
-      omega (arith, sums, before, less));
+        let sums = sum_by-set (λ (e : Entry). e.dist) now rank put no_entry inside in
+        let before = no_more_plies shelf old now rank fell h.fell in
+        omega (arith, sums, before, less));
   })
     where
       t : Table
@@ -230,9 +230,9 @@ module _ (shelf : List Image) (now : List Entry) (rank : ℕ) (board : List ℕ)
       subst (λ (es : List Entry). IsLowering shelf old es near (rank + 1) fell) (sym is)
       (lowering-more shelf old now near rank
       (λ p is stones here.
-          let entry = entry_of-rank shelf (image_of shelf now) p rank stones here in
-          let reads : (table_of (topped shelf now)).dist p ≡ (get_or now rank no_entry).dist = ap (λ (e : Entry). e.dist) entry in
-          below_by_moves (table_of (topped shelf now)) p dist (subst (λ b. IsByMoves (table_of (topped shelf now)) b dist) (is_here p is stones here) by) (omega (arith, reads, least)))
+      let entry = entry_of-rank shelf (image_of shelf now) p rank stones here in
+      let reads : (table_of (topped shelf now)).dist p ≡ (get_or now rank no_entry).dist = ap (λ (e : Entry). e.dist) entry in
+      below_by_moves (table_of (topped shelf now)) p dist (subst (λ b. IsByMoves (table_of (topped shelf now)) b dist) (is_here p is stones here) by) (omega (arith, reads, least)))
       fell h)
 
 -- the distance of the board of this rank fell

@@ -165,14 +165,14 @@ fn farthest(shelf: &Shelf, entries: &[Entry], board: &Board) -> u64
 fn nearer(own: Entry, nearest: u64, reached: Option<Reached>) -> u64
     ensures { IsNearerBy own.value nearest reached result }
 {
-    match reached {
-        Some(reached)
-            if i16::from(reached.captured) - i16::from(reached.entry.value) == i16::from(own.value) =>
-        {
-            nearest.min(plies(reached.captured, reached.entry.dist))
-        }
-        _ => nearest,
+    let Some(reached) = reached else {
+        return nearest;
+    };
+    let gain = i16::from(reached.captured) - i16::from(reached.entry.value);
+    if gain == i16::from(own.value) {
+        return nearest.min(plies(reached.captured, reached.entry.dist));
     }
+    nearest
 }
 
 /// The most plies so far, or those of this move, if they are more.

@@ -274,7 +274,12 @@ fn refuses_wrong_entries_of_level_1(rt: HostRuntime) -> Result<(), Fail> {
         (6, entry(-1, Some(5), 0), 1, refused(6, Rule::V6)),
         (6, entry(-1, Some(5), 1), 2, refused(0, Rule::V7)),
         (6, entry(-1, Some(5), 2), 2, refused(6, Rule::V6)),
-        (6, entry(-1, Some(5), u32::MAX), u32::MAX, refused(6, Rule::V6)),
+        (
+            6,
+            entry(-1, Some(5), u32::MAX),
+            u32::MAX,
+            refused(6, Rule::V6),
+        ),
     ] {
         let mut entries = level_1();
         if let Some(slot) = entries.get_mut(place) {

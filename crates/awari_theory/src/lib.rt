@@ -13,4 +13,6 @@ pub use laws::{
     plans_are_soon, plans_come_to_the_value, plans_secure, plays_end, values_are_worths,
     worths_are_unique,
 };
-pub use shelves::{distances_are_least, shelves_agree, shelves_come_to_their_values, shelves_tell_the_truth};
+pub use shelves::{
+    distances_are_least, shelves_agree, shelves_come_to_their_values, shelves_tell_the_truth,
+};

@@ -10,9 +10,7 @@ ghost use Rattle.awari_verify.specs.VerifyFault.{IsShaped, IsDue, IsDueBy};
 use crate::rules::Rule;
 use crate::search::{Refusal, refusal_between};
 use awari_rank::size;
-use awari_table::{
-    Distances, Entry, HIGHEST_FALLING_LEVEL, HIGHEST_LEVEL, Image, Level, Shelf,
-};
+use awari_table::{Distances, Entry, HIGHEST_FALLING_LEVEL, HIGHEST_LEVEL, Image, Level, Shelf};
 use std::fmt;
 use thiserror::Error;
 
