@@ -3,6 +3,7 @@
 use crate::commands::{Broken, expect_run};
 use awari_cli::run;
 use std::alloc::Global;
+use std::fs::File;
 use std::process::Abort;
 use std::rt::Files;
 use std::test::Fail;
@@ -33,7 +34,13 @@ const HYPHENS: [([&str; 4], &str, u8); 9] = [
 ];
 
 /// Runs the program on these words, of which empty ones are left out.
-fn expect(rt: &(impl Abort + Files), alloc: Global, words: [&str; 4], printed: &str, status: u8) {
+fn expect(
+    rt: &(impl Abort + Files<File = File>),
+    alloc: Global,
+    words: [&str; 4],
+    printed: &str,
+    status: u8,
+) {
     let [command, first, second, third] = words;
     if third.is_empty() {
         let words = ["awari", command, first, second];
@@ -72,7 +79,7 @@ fn numbers_in_other_forms(rt: HostRuntime) {
 }
 
 /// Whether the text that these words bring goes to the error stream, and has this in it.
-fn expect_usage(rt: &(impl Abort + Files), alloc: Global, words: &[&str], part: &str) {
+fn expect_usage(rt: &(impl Abort + Files<File = File>), alloc: Global, words: &[&str], part: &str) {
     let mut reader: &[u8] = b"";
     let mut output = Vec::new(alloc);
     let mut errors = Vec::new(alloc);
