@@ -380,7 +380,7 @@ fn prints_rules_and_faults(rt: HostRuntime) -> Result<(), Fail> {
     assert_eq!(rt; fault.number(), 22);
     assert_eq!(rt;
         fault.to_string(rt.alloc())?.as_str(),
-        "the board of rank 72 breaks rule V6"
+        "22 Refused rank 72 rule V6"
     );
     Ok(())
 }
