@@ -2,3 +2,4 @@ pub mod FolderFault
 pub mod NextFile
 pub mod Contents
 pub mod Log
+pub mod Host

@@ -1,5 +1,6 @@
 -- A folder in memory keeps each file that was ever given a name, the oldest first.
-use Rattle.std.specs.Prelude.{◌≡◌, ℕ, List, [], ◌∷◌, ◌⊎◌, Option, Some, None, if◌then◌else◌, ◌==◌, Bool, true, false, is_some}
+use Rattle.std.specs.Prelude.{◌≡◌, ◌≢◌, ℕ, List, [], ◌∷◌, ◌⊎◌, Option, Some, None, if◌then◌else◌, ◌==◌, Bool, true, false, is_some}
+use Rattle.awari_folder.specs.declared.memory.MemoryDraft.{MemoryDraft}
 use Rattle.awari_folder.specs.declared.memory.MemoryFolder.{MemoryFolder}
 use Rattle.awari_folder.specs.declared.memory.Put.{Put}
 use Rattle.awari_folder.specs.Contents.{IsLeftOf}
@@ -25,12 +26,36 @@ files_in folder level = named folder.puts.items level
 abbrev pub has_draft : MemoryFolder → Bool
 has_draft folder = is_some folder.beside
 
+-- nothing lies there of a new file of this level
+abbrev pub IsClearOf : MemoryFolder → ℕ → Type 0
+IsClearOf folder level = folder.beside ≢ Some level
+
+-- how many calls were refused, but those to remove a new file
+abbrev pub refusals_of : MemoryFolder → ℕ
+refusals_of folder = folder.refused
+
+-- how many calls to remove a new file came to nothing
+abbrev pub stuck_of : MemoryFolder → ℕ
+stuck_of folder = folder.stuck
+
+-- what was written into a new file
+abbrev pub bytes_of : MemoryDraft → List ℕ
+bytes_of draft = draft.bytes.items
+
 -- what of a file is on the disk for certain
 abbrev pub kept_of : Bool → List ℕ → Option (List ℕ)
 kept_of true bytes = Some bytes
 kept_of false bytes = None
 
+-- what of a new file is on the disk for certain
+abbrev pub kept_bytes_of : MemoryDraft → Option (List ℕ)
+kept_bytes_of draft = kept_of draft.synced draft.bytes.items
+
 -- under a name a crash may leave nothing, or what it leaves of a file that was given it
 abbrev pub MayLeave : List Put → ℕ → Option (List ℕ) → Type 0
 MayLeave [] n c = c ≡ None
 MayLeave (put ∷ puts) n c = MayLeave puts n c ⊎ ((n ≡ put.level) × IsLeftOf (kept_of put.synced put.bytes.items) c)
+
+-- what a crash may leave of a folder in memory
+abbrev pub MayLeaveOf : MemoryFolder → ℕ → Option (List ℕ) → Type 0
+MayLeaveOf folder = MayLeave folder.puts.items

@@ -1,6 +1,6 @@
 //! The folder of the host: what its files hold is not known to any proof.
 
-ghost use Rattle.std.specs.Prelude.{ℕ, Some, None, Option, List, ⊤};
+ghost use Rattle.std.specs.Prelude.{None, ⊤};
 
 use crate::calls::{Draft, Folder, Refusal};
 use crate::names::{path_of, path_of_itself, path_of_new};
@@ -102,6 +102,8 @@ impl Draft for HostDraft {
 }
 
 impl<R: Files<File = File>> Folder for HostFolder<'_, R> {
+    ghost use Rattle.awari_folder.specs.Host.{refusals_of, stuck_of};
+
     type File = File;
 
     type New = HostDraft;
@@ -113,9 +115,9 @@ impl<R: Files<File = File>> Folder for HostFolder<'_, R> {
 
     ghost is_clear = { λ _ _. ⊤ };
 
-    ghost refusals = { λ folder. folder.refused };
+    ghost refusals = { λ folder. refusals_of folder };
 
-    ghost stuck = { λ folder. folder.stuck };
+    ghost stuck = { λ folder. stuck_of folder };
 
     fn open(&mut self, level: u8) -> Result<Option<File>, Refusal> {
         let Ok(path) = path_of(self.alloc, self.path, level) else {

@@ -1,6 +1,6 @@
 //! A folder in memory, of which chosen calls are refused.
 
-ghost use Rattle.std.specs.Prelude.{◌≡◌, ◌≢◌, ◌≤◌, ℕ, Some, None, Option, List, ⊤, option_map, ◌++◌, ◌∷◌, [], OnOk, OnErr, IfErr};
+ghost use Rattle.std.specs.Prelude.{◌≡◌, ℕ, Some, None, option_map, ◌++◌, ◌∷◌, [], OnOk, OnErr, IfErr};
 ghost use Rattle.awari_folder.specs.Log.{named};
 
 use crate::calls::{Draft, Folder, Refusal};
@@ -26,7 +26,9 @@ pub struct MemoryDraft {
 }
 
 impl Write for MemoryDraft {
-    ghost contents = { λ d. Some d.bytes.items };
+    ghost use Rattle.awari_folder.specs.Log.{bytes_of};
+
+    ghost contents = { λ draft. Some (bytes_of draft) };
 
     fn write(&mut self, buf: &[u8]) -> io::Result<usize> {
         if self.refuses_writes {
@@ -42,9 +44,9 @@ impl Write for MemoryDraft {
 }
 
 impl Draft for MemoryDraft {
-    ghost use Rattle.awari_folder.specs.Log.{kept_of};
+    ghost use Rattle.awari_folder.specs.Log.{kept_bytes_of};
 
-    ghost kept = { λ d. kept_of d.synced d.bytes.items };
+    ghost kept = { λ draft. kept_bytes_of draft };
 
     fn sync(&mut self) -> Result<(), Refusal> {
         if self.refuses_sync {
@@ -155,21 +157,21 @@ fn newest(puts: &[Put], level: u8) -> Option<&[u8]>
 }
 
 impl Folder for MemoryFolder {
-    ghost use Rattle.awari_folder.specs.Log.{MayLeave};
+    ghost use Rattle.awari_folder.specs.Log.{files_in, MayLeaveOf, IsClearOf, refusals_of, stuck_of};
 
     type File = VecDeque<u8>;
 
     type New = MemoryDraft;
 
-    ghost stands = { λ f n. Some (named f.puts.items n) };
+    ghost stands = { λ f n. Some (files_in f n) };
 
-    ghost may_leave = { λ f n c. MayLeave f.puts.items n c };
+    ghost may_leave = { λ f n c. MayLeaveOf f n c };
 
-    ghost is_clear = { λ f n. f.beside ≢ Some n };
+    ghost is_clear = { λ f n. IsClearOf f n };
 
-    ghost refusals = { λ f. f.refused };
+    ghost refusals = { λ f. refusals_of f };
 
-    ghost stuck = { λ f. f.stuck };
+    ghost stuck = { λ f. stuck_of f };
 
     fn open(&mut self, level: u8) -> Result<Option<VecDeque<u8>>, Refusal> {
         if self.is_refused() {
