@@ -1,12 +1,13 @@
 //! The bytes of files, and what is answered where some are changed, missing or too many.
 
-use crate::levels::{changed, digest_in, digested, right_files, right_shelf};
-use awari_file::read_image;
+use crate::levels::{changed, digest_in, digested, right_file, right_shelf};
+use crate::plain::{level_of, put_on, read, verdict};
+use awari_file::{FileFault, Loaded};
 use awari_table::{Counted, Shelf};
-use awari_verify::{Rule, VerifyFault, verify};
+use awari_verify::{Rule, VerifyFault};
 use sha2::{Digest, Sha256};
 use std::alloc::Global;
-use std::sync::Arc;
+use std::process::Abort;
 use std::test::Fail;
 
 /// All but the digest of the file of level 0, as it was worked out by hand.
@@ -15,114 +16,193 @@ const LEVEL_0: [u8; 58] = [
     0, 0, 0, 0, 0, 0, 0, 0, 0, 0, 0, 0, 0, 0, 0, 0, 0, 0, 0, 0, 0, 0, 0, 0, 0, 0xff, 0, 0, 0, 0,
 ];
 
+/// What is read of the bytes.
+fn read_bytes(alloc: Global, bytes: &[u8]) -> Result<Loaded, FileFault> {
+    read(alloc, &mut Counted::new(bytes))
+}
+
 /// The number of the refusal, 0 for none.
 fn fault_of(alloc: Global, bytes: &[u8]) -> u8 {
-    match read_image(alloc, &mut Counted::new(bytes)) {
+    match read_bytes(alloc, bytes) {
         Ok(_) => 0,
         Err(fault) => fault.number(),
     }
 }
 
+/// How long the files of levels 0, 1 and 2 are, and how their digests begin.
+const FILES: [(u8, usize, [u8; 4]); 3] = [
+    (0, 90, [0x2b, 0x0a, 0x17, 0xa0]),
+    (1, 156, [0x04, 0x5e, 0xb0, 0xf4]),
+    (2, 552, [0x94, 0x22, 0x29, 0x8d]),
+];
+
 #[test]
-fn files_have_their_bytes(rt: HostRuntime) -> Result<(), Fail> {
-    let (first, second, third) = right_files(rt.alloc())?;
-    assert_eq!(rt; (first.len(), second.len(), third.len()), (90, 156, 552));
-    assert!(rt; first.starts_with(&LEVEL_0));
-    assert_eq!(rt; digest_in(&first), Sha256::digest(&LEVEL_0[..]));
-    assert!(rt; digest_in(&first).starts_with(&[0x2b, 0x0a, 0x17, 0xa0]));
-    assert!(rt; digest_in(&second).starts_with(&[0x04, 0x5e, 0xb0, 0xf4]));
-    assert!(rt; digest_in(&third).starts_with(&[0x94, 0x22, 0x29, 0x8d]));
-    let mut expected = Vec::new(rt.alloc());
-    expected.extend_from_slice(
+fn files_have_their_sizes_and_digests(rt: HostRuntime) -> Result<(), Fail> {
+    for (number, length, digest) in FILES {
+        let file = right_file(rt.alloc(), number)?;
+        assert_eq!(rt; file.len(), length, "level {number}");
+        assert!(rt; digest_in(&file).starts_with(&digest), "level {number}");
+    }
+    Ok(())
+}
+
+/// All but the digest of the file of level 1, over the file that ends in this digest.
+fn bytes_of_level_1(alloc: Global, below: [u8; 32]) -> Result<Vec<u8>, Fail> {
+    let mut bytes = Vec::new(alloc);
+    bytes.extend_from_slice(
         b"AWDB\x00\x01\x01\x00\x00\x00\x00\x00\x00\x00\x00\x0c\x00\x00\x00\x01",
     )?;
-    expected.extend_from_slice(&digest_in(&first))?;
+    bytes.extend_from_slice(&below)?;
     for rank in 0..12u8 {
-        expected.extend_from_slice(match rank {
+        bytes.extend_from_slice(match rank {
             0..=5 => b"\xff\xff\x00\x00\x00\x00",
             6 => b"\xff\x05\x00\x00\x00\x01",
             _ => b"\x01\xff\x00\x00\x00\x00",
         })?;
     }
+    Ok(bytes)
+}
+
+#[test]
+fn files_have_their_bytes(rt: HostRuntime) -> Result<(), Fail> {
+    let first = right_file(rt.alloc(), 0)?;
+    let second = right_file(rt.alloc(), 1)?;
+    assert!(rt; first.starts_with(&LEVEL_0));
+    assert_eq!(rt; digest_in(&first), Sha256::digest(&LEVEL_0[..]));
+    let expected = bytes_of_level_1(rt.alloc(), digest_in(&first))?;
     assert!(rt; second.starts_with(expected.as_slice()));
     Ok(())
 }
 
 #[test]
-fn files_are_read_again(rt: HostRuntime) -> Result<(), Fail> {
-    let shelf = right_shelf(rt.alloc())?;
-    let (first, second, _) = right_files(rt.alloc())?;
-    let loaded = read_image(rt.alloc(), &mut Counted::new(second.as_slice()))?;
-    assert_eq!(rt;
-        (loaded.below, loaded.digest),
-        (digest_in(&first), digest_in(&second))
-    );
-    assert_eq!(rt; (loaded.image.level, loaded.image.limit), (1, 1));
-    assert!(rt; shelf.levels() == 3 && loaded.image.entries.as_slice() == shelf.level(1).entries());
+fn digests_are_read_again(rt: HostRuntime) -> Result<(), Fail> {
+    let first = right_file(rt.alloc(), 0)?;
+    let second = right_file(rt.alloc(), 1)?;
+    let Loaded { below, digest, .. } = read_bytes(rt.alloc(), &second)?;
+    assert_eq!(rt; (below, digest), (digest_in(&first), digest_in(&second)));
     Ok(())
 }
 
 #[test]
-fn faults_come_in_the_order_of_the_bytes(rt: HostRuntime) -> Result<(), Fail> {
-    let (_, file, _) = right_files(rt.alloc())?;
-    let file = file.as_slice();
-    assert_eq!(rt; fault_of(rt.alloc(), b""), 60);
-    assert_eq!(rt; fault_of(rt.alloc(), b"AWD"), 60);
-    assert_eq!(rt; fault_of(rt.alloc(), b"AWDC"), 61);
+fn levels_are_read_again(rt: HostRuntime) -> Result<(), Fail> {
+    let shelf = right_shelf(rt.alloc())?;
+    let level = level_of(&shelf, 1)?;
+    let second = right_file(rt.alloc(), 1)?;
+    let image = read_bytes(rt.alloc(), &second)?.image;
+    assert_eq!(rt; (image.level, image.limit), (1, 1));
+    assert!(rt; image.entries.as_slice() == level.entries());
+    Ok(())
+}
+
+#[test]
+fn short_files_and_others_are_refused(rt: HostRuntime) {
     let cases = [
-        (5, 2, 62),
-        (7, 1, 62),
-        (6, 13, 63),
-        (15, 13, 64),
-        (53, 6, 65),
-        (53, 254, 65),
-        (52, 0xfe, 66),
+        (b"".as_slice(), 60),
+        (b"AWD".as_slice(), 60),
+        (b"AWDC".as_slice(), 61),
     ];
-    for (place, byte, fault) in cases {
-        let bytes = changed(rt.alloc(), file, place, byte)?;
-        assert_eq!(rt; fault_of(rt.alloc(), &bytes), fault, "byte {place}");
+    for (bytes, fault) in cases {
+        assert_eq!(rt; fault_of(rt.alloc(), bytes), fault);
     }
-    let mut longer = file.to_vec(rt.alloc())?;
+}
+
+/// Reads the file with this byte at this place, which has this fault.
+fn expect_fault(
+    rt: &impl Abort,
+    alloc: Global,
+    file: &[u8],
+    (place, byte): (usize, u8),
+    fault: u8,
+) -> Result<(), Fail> {
+    let bytes = changed(alloc, file, place, byte)?;
+    assert_eq!(rt; fault_of(alloc, &bytes), fault, "byte {place}");
+    Ok(())
+}
+
+/// Places of the file of level 1, a byte that is wrong there, and the fault.
+const WRONG: [(usize, u8, u8); 7] = [
+    (5, 2, 62),
+    (7, 1, 62),
+    (6, 13, 63),
+    (15, 13, 64),
+    (53, 6, 65),
+    (53, 254, 65),
+    (52, 0xfe, 66),
+];
+
+#[test]
+fn faults_come_in_the_order_of_the_bytes(rt: HostRuntime) -> Result<(), Fail> {
+    let file = right_file(rt.alloc(), 1)?;
+    for (place, byte, fault) in WRONG {
+        expect_fault(&rt, rt.alloc(), &file, (place, byte), fault)?;
+    }
+    Ok(())
+}
+
+#[test]
+fn a_byte_behind_the_digest_is_a_fault(rt: HostRuntime) -> Result<(), Fail> {
+    let mut longer = right_file(rt.alloc(), 1)?;
     longer.push(0)?;
     assert_eq!(rt; fault_of(rt.alloc(), &longer), 67);
     Ok(())
 }
 
-#[test]
-fn every_cut_and_every_changed_byte_is_met(rt: HostRuntime) -> Result<(), Fail> {
-    let (_, second, third) = right_files(rt.alloc())?;
-    for file in [second.as_slice(), third.as_slice()] {
-        for (place, byte) in file.iter().enumerate() {
-            let cut = file.get(..place).ok_or("a place in the file")?;
-            assert_eq!(rt; fault_of(rt.alloc(), cut), 60, "cut to {place}");
-            let is_plan = place >= 52 && place % 6 == 5 && place < file.len() - 32;
-            let expected = match place {
-                0..=3 => 61,
-                4 | 5 | 7 => 62,
-                6 | 8..=15 => 64,
-                _ if is_plan && *byte == 255 => 65,
-                _ => 66,
-            };
-            let bytes = changed(rt.alloc(), file, place, byte ^ 1)?;
-            assert_eq!(rt; fault_of(rt.alloc(), &bytes), expected, "byte {place}");
-        }
+/// The fault of a file of which one bit of the byte at this place is turned.
+fn fault_at(place: usize, byte: u8, length: usize) -> u8 {
+    let is_plan = place >= 52 && place % 6 == 5 && place < length.saturating_sub(32);
+    match place {
+        0..=3 => 61,
+        4 | 5 | 7 => 62,
+        6 | 8..=15 => 64,
+        _ if is_plan && byte == 255 => 65,
+        _ => 66,
+    }
+}
+
+/// Cuts the file at this place.
+fn expect_cut(rt: &impl Abort, alloc: Global, file: &[u8], place: usize) -> Result<(), Fail> {
+    let cut = file.get(..place).ok_or("a place in the file")?;
+    assert_eq!(rt; fault_of(alloc, cut), 60, "cut to {place}");
+    Ok(())
+}
+
+/// Cuts the file at each place, and turns a bit of each byte.
+fn expect_each_fault(rt: &impl Abort, alloc: Global, file: &[u8]) -> Result<(), Fail> {
+    for (place, byte) in file.iter().enumerate() {
+        expect_cut(rt, alloc, file, place)?;
+        let fault = fault_at(place, *byte, file.len());
+        expect_fault(rt, alloc, file, (place, byte ^ 1), fault)?;
     }
     Ok(())
 }
 
 #[test]
-fn values_are_for_the_verifier(rt: HostRuntime) -> Result<(), Fail> {
-    let (first, second, _) = right_files(rt.alloc())?;
+fn every_cut_and_every_changed_byte_is_met(rt: HostRuntime) -> Result<(), Fail> {
+    for number in 1..3u8 {
+        let file = right_file(rt.alloc(), number)?;
+        expect_each_fault(&rt, rt.alloc(), &file)?;
+    }
+    Ok(())
+}
+
+/// The shelf of the level of one file.
+fn shelf_of(alloc: Global, first: &[u8]) -> Result<Shelf, Fail> {
     let mut shelf = Shelf::empty();
-    let loaded = read_image(rt.alloc(), &mut Counted::new(first.as_slice()))?;
-    let level = verify(&shelf, loaded.image)?;
-    shelf.push(Arc::new(rt.alloc(), level)?);
+    put_on(alloc, &mut shelf, read_bytes(alloc, first)?.image)?;
+    Ok(shelf)
+}
+
+#[test]
+fn values_are_for_the_verifier(rt: HostRuntime) -> Result<(), Fail> {
+    let first = right_file(rt.alloc(), 0)?;
+    let second = right_file(rt.alloc(), 1)?;
+    let shelf = shelf_of(rt.alloc(), &first)?;
     let bytes = digested(rt.alloc(), &second, 52, 0xfe)?;
-    let loaded = read_image(rt.alloc(), &mut Counted::new(bytes.as_slice()))?;
+    let image = read_bytes(rt.alloc(), &bytes)?.image;
     let refused = VerifyFault::Refused {
         rank: 0,
         rule: Rule::V1,
     };
-    assert_eq!(rt; verify(&shelf, loaded.image).err(), Some(refused));
+    assert_eq!(rt; verdict(&shelf, image), Some(refused));
     Ok(())
 }

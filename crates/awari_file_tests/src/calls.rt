@@ -1,119 +1,166 @@
 //! Folders in memory, of which one call is refused.
 
-use crate::levels::{digest_in, right_files, right_shelf};
+use crate::levels::{digest_in, right_file, right_shelf, save_two};
+use crate::plain::{
+    has_draft, level_of, load_from, memory_folder, open, refuse, refuse_files, save_into,
+};
 use awari_file::FileFault;
-use awari_folder::{Folder, FolderFault, MemoryFolder, load, save};
-use awari_table::Shelf;
+use awari_folder::{FolderFault, MemoryFolder};
+use awari_table::Level;
+use std::alloc::Global;
 use std::io::Read;
 use std::process::Abort;
 use std::test::Fail;
 
-/// What is refused to save levels 0 and 1 where the call of this number is refused, and what is
-/// loaded afterwards.
+/// What is loaded from the folder: how many levels.
+fn levels_in(folder: &mut MemoryFolder, alloc: Global) -> Result<u8, FolderFault> {
+    Ok(load_from(folder, alloc)?.shelf.levels())
+}
+
+/// What is loaded from the folder: the digest of the last file.
+fn digest_of(folder: &mut MemoryFolder, alloc: Global) -> Result<[u8; 32], FolderFault> {
+    Ok(load_from(folder, alloc)?.digest)
+}
+
+/// The refusal to save a level.
+fn refusal_of(folder: &mut MemoryFolder, level: &Level, below: [u8; 32]) -> Option<FolderFault> {
+    save_into(folder, level, below).err()
+}
+
+/// What is refused to save two levels where the call of this number is refused, and what is loaded
+/// afterwards.
 fn saved(
     rt: &(impl Abort + AllocGlobal),
-    shelf: &Shelf,
+    levels: (&Level, &Level),
     below: [u8; 32],
     call: u32,
 ) -> (Option<FolderFault>, Option<FolderFault>, u8) {
-    let mut folder = MemoryFolder::new(rt.alloc());
-    folder.refuse(call);
-    assert!(rt; shelf.levels() == 3);
-    let zero = save(&mut folder, shelf.level(0), [0; 32]).err();
-    let one = save(&mut folder, shelf.level(1), below).err();
-    folder.refuse(0);
-    assert!(rt; !folder.has_draft());
-    let levels = match load(&mut folder, rt.alloc()) {
-        Ok(stored) => stored.shelf.levels(),
+    let mut folder = memory_folder(rt.alloc());
+    refuse(&mut folder, call);
+    let zero = refusal_of(&mut folder, levels.0, [0; 32]);
+    let one = refusal_of(&mut folder, levels.1, below);
+    refuse(&mut folder, 0);
+    assert!(rt; !has_draft(&folder));
+    let count = match levels_in(&mut folder, rt.alloc()) {
+        Ok(count) => count,
         Err(_) => 13,
     };
-    (zero, one, levels)
+    (zero, one, count)
+}
+
+/// The call that is refused, what is answered for it to the saving of levels 0 and 1, and how many
+/// levels the folder has then.
+const SAVES: [(u32, Option<FolderFault>, Option<FolderFault>, u8); 6] = [
+    (0, None, None, 2),
+    (1, Some(FolderFault::Open { level: 0 }), None, 0),
+    (2, Some(FolderFault::Open { level: 0 }), None, 0),
+    (3, None, Some(FolderFault::Open { level: 1 }), 1),
+    (4, None, Some(FolderFault::Open { level: 1 }), 1),
+    (5, None, None, 2),
+];
+
+/// Refuses each call of the saving of two levels in turn.
+fn refuse_each_save(rt: &(impl Abort + AllocGlobal), levels: (&Level, &Level), below: [u8; 32]) {
+    for (call, zero, one, count) in SAVES {
+        let found = saved(rt, levels, below, call);
+        assert_eq!(rt; found, (zero, one, count), "call {call}");
+    }
 }
 
 #[test]
 fn each_call_of_a_save_is_refused(rt: HostRuntime) -> Result<(), Fail> {
     let shelf = right_shelf(rt.alloc())?;
-    let (first, _, _) = right_files(rt.alloc())?;
-    let below = digest_in(&first);
-    let open = |level| Some(FolderFault::Open { level });
-    assert_eq!(rt; saved(&rt, &shelf, below, 0), (None, None, 2));
-    assert_eq!(rt; saved(&rt, &shelf, below, 1), (open(0), None, 0));
-    assert_eq!(rt; saved(&rt, &shelf, below, 2), (open(0), None, 0));
-    assert_eq!(rt; saved(&rt, &shelf, below, 3), (None, open(1), 1));
-    assert_eq!(rt; saved(&rt, &shelf, below, 4), (None, open(1), 1));
-    assert_eq!(rt; saved(&rt, &shelf, below, 5), (None, None, 2));
+    let first = right_file(rt.alloc(), 0)?;
+    let levels = (level_of(&shelf, 0)?, level_of(&shelf, 1)?);
+    refuse_each_save(&rt, levels, digest_in(&first));
     Ok(())
 }
 
 /// A folder of levels 0 and 1.
-fn folder_of_two(rt: &(impl Abort + AllocGlobal)) -> Result<MemoryFolder, Fail> {
-    let shelf = right_shelf(rt.alloc())?;
-    let mut folder = MemoryFolder::new(rt.alloc());
-    assert!(rt; shelf.levels() == 3);
-    let below = save(&mut folder, shelf.level(0), [0; 32])?;
-    save(&mut folder, shelf.level(1), below)?;
+fn folder_of_two(alloc: Global) -> Result<MemoryFolder, Fail> {
+    let shelf = right_shelf(alloc)?;
+    let mut folder = memory_folder(alloc);
+    save_two(&mut folder, &shelf)?;
     Ok(folder)
 }
 
-/// What is loaded from the folder: how many levels.
-fn levels_in(
-    rt: &(impl Abort + AllocGlobal),
-    folder: &mut MemoryFolder,
-) -> Result<u8, FolderFault> {
-    Ok(load(folder, rt.alloc())?.shelf.levels())
+/// Refuses each call of a load of levels 0 and 1 in turn.
+fn refuse_each_load(rt: &(impl Abort + AllocGlobal), folder: &mut MemoryFolder) {
+    for level in 0..3u8 {
+        refuse(folder, u32::from(level).saturating_add(1));
+        let refused = FolderFault::Open { level };
+        assert_eq!(rt; levels_in(folder, rt.alloc()), Err(refused));
+    }
+    refuse(folder, 4);
+    assert_eq!(rt; levels_in(folder, rt.alloc()), Ok(2));
 }
 
 #[test]
 fn each_call_of_a_load_is_refused(rt: HostRuntime) -> Result<(), Fail> {
-    let mut folder = folder_of_two(&rt)?;
-    let (_, second, _) = right_files(rt.alloc())?;
-    assert_eq!(rt; load(&mut folder, rt.alloc())?.digest, digest_in(&second));
-    for level in 0..3u8 {
-        folder.refuse(u32::from(level).saturating_add(1));
-        let refused = FolderFault::Open { level };
-        assert_eq!(rt; levels_in(&rt, &mut folder), Err(refused));
-    }
-    folder.refuse(4);
-    assert_eq!(rt; levels_in(&rt, &mut folder), Ok(2));
+    let mut folder = folder_of_two(rt.alloc())?;
+    let second = right_file(rt.alloc(), 1)?;
+    assert_eq!(rt; digest_of(&mut folder, rt.alloc())?, digest_in(&second));
+    refuse_each_load(&rt, &mut folder);
     Ok(())
 }
 
-/// The bytes of level 0's file, none where there is no file.
-fn first_file(
+/// Whether the folder has level 0's file with these bytes.
+fn has_first(folder: &mut MemoryFolder, alloc: Global, first: &[u8]) -> Result<bool, Fail> {
+    let Some(mut file) = open(folder, 0)? else {
+        return Ok(false);
+    };
+    let mut bytes = Vec::new(alloc);
+    file.read_to_end(&mut bytes)?;
+    Ok(bytes.as_slice() == first)
+}
+
+/// Has a save of level 0 over a wrong file refused, once for each that a new file can refuse.
+fn refuse_each_file(
     rt: &(impl Abort + AllocGlobal),
     folder: &mut MemoryFolder,
-) -> Result<Option<Vec<u8>>, Fail> {
-    let Ok(opened) = folder.open(0) else {
-        return Err(Fail::new("a folder"));
-    };
-    let Some(mut file) = opened else {
-        return Ok(None);
-    };
-    let mut bytes = Vec::new(rt.alloc());
-    file.read_to_end(&mut bytes)?;
-    Ok(Some(bytes))
+    level: &Level,
+    first: &[u8],
+) -> Result<(), Fail> {
+    let fault = FileFault::Write;
+    for (writes, sync) in [(true, false), (false, true)] {
+        refuse_files(folder, writes, sync);
+        let refused = refusal_of(folder, level, [1; 32]);
+        assert_eq!(rt; refused, Some(FolderFault::File { level: 0, fault }));
+        assert!(rt; has_first(folder, rt.alloc(), first)?);
+        assert!(rt; !has_draft(folder));
+    }
+    refuse_files(folder, false, false);
+    Ok(())
+}
+
+/// Has a save of level 0 over a wrong file refused, once for each call of it.
+fn refuse_each_call(
+    rt: &(impl Abort + AllocGlobal),
+    folder: &mut MemoryFolder,
+    level: &Level,
+    first: &[u8],
+) -> Result<(), Fail> {
+    for call in 1..3u32 {
+        refuse(folder, call);
+        let refused = refusal_of(folder, level, [1; 32]);
+        assert_eq!(rt; refused, Some(FolderFault::Open { level: 0 }));
+        assert!(rt; has_first(folder, rt.alloc(), first)?);
+    }
+    Ok(())
+}
+
+/// Sees that a folder keeps this file of level 0 where a save of the level is refused.
+fn expect_kept(rt: &(impl Abort + AllocGlobal), level: &Level, first: &[u8]) -> Result<(), Fail> {
+    let mut folder = folder_of_two(rt.alloc())?;
+    refuse_each_file(rt, &mut folder, level, first)?;
+    refuse_each_call(rt, &mut folder, level, first)?;
+    Ok(())
 }
 
 #[test]
 fn a_save_that_is_refused_keeps_the_old_file(rt: HostRuntime) -> Result<(), Fail> {
     let shelf = right_shelf(rt.alloc())?;
-    let (first, _, _) = right_files(rt.alloc())?;
-    assert!(rt; shelf.levels() == 3);
-    let mut folder = folder_of_two(&rt)?;
-    let fault = FileFault::Write;
-    for (writes, sync) in [(true, false), (false, true)] {
-        folder.refuse_files(writes, sync);
-        let refused = save(&mut folder, shelf.level(0), [1; 32]).err();
-        assert_eq!(rt; refused, Some(FolderFault::File { level: 0, fault }));
-        assert!(rt; first_file(&rt, &mut folder)? == Some(first.clone()?));
-        assert!(rt; !folder.has_draft());
-    }
-    folder.refuse_files(false, false);
-    for call in 1..3u32 {
-        folder.refuse(call);
-        let refused = save(&mut folder, shelf.level(0), [1; 32]).err();
-        assert_eq!(rt; refused, Some(FolderFault::Open { level: 0 }));
-        assert!(rt; first_file(&rt, &mut folder)? == Some(first.clone()?));
-    }
+    let first = right_file(rt.alloc(), 0)?;
+    expect_kept(&rt, level_of(&shelf, 0)?, &first)?;
     Ok(())
 }

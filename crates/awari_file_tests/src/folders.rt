@@ -1,12 +1,15 @@
 //! Folders of level files, right and wrong.
 
-use crate::levels::{digest_in, digested, file_of, right_files, right_shelf};
+use crate::levels::{digest_in, digested, file_of, right_file, right_shelf, save_two};
+use crate::plain::{level_of, load_from, save_into};
 use awari_file::FileFault;
-use awari_folder::{FolderFault, HostFolder, load, save};
+use awari_folder::{FolderFault, HostFolder};
+use awari_table::Level;
 use awari_verify::{Rule, VerifyFault};
 use std::fs::File;
 use std::os::unix::fs::symlink;
 use std::path::Path;
+use std::process::Abort;
 use std::rt::Files;
 use std::test::Fail;
 use std::{fs, io};
@@ -44,8 +47,34 @@ fn loaded(
     files: &(impl Files<File = File> + AllocGlobal),
     folder: &str,
 ) -> Result<(u8, [u8; 32]), FolderFault> {
-    let stored = load(&mut host(files, folder), files.alloc())?;
+    let stored = load_from(&mut host(files, folder), files.alloc())?;
     Ok((stored.shelf.levels(), stored.digest))
+}
+
+/// The folder is loaded as one of so many levels, of which the last one's file ends in this digest.
+fn expect_levels(
+    rt: &(impl Files<File = File> + AllocGlobal + Abort),
+    folder: &str,
+    levels: u8,
+    digest: [u8; 32],
+) {
+    assert_eq!(rt; loaded(rt, folder), Ok((levels, digest)));
+}
+
+/// The refusal to load the folder.
+fn load_refusal(
+    files: &(impl Files<File = File> + AllocGlobal),
+    folder: &str,
+) -> Option<FolderFault> {
+    loaded(files, folder).err()
+}
+
+/// The folder is refused for its file of level 0, which does not open.
+fn expect_not_opened(rt: &(impl Files<File = File> + AllocGlobal + Abort), folder: &str) {
+    assert_eq!(rt;
+        load_refusal(rt, folder),
+        Some(FolderFault::Open { level: 0 })
+    );
 }
 
 /// Saves levels 0 and 1, and gives their digests.
@@ -53,14 +82,17 @@ fn save_both(
     files: &(impl Files<File = File> + AllocGlobal),
     folder: &str,
 ) -> Result<([u8; 32], [u8; 32]), Fail> {
-    let mut folder = host(files, folder);
     let shelf = right_shelf(files.alloc())?;
-    if shelf.levels() < 2 {
-        return Err(Fail::new("levels"));
-    }
-    let below = save(&mut folder, shelf.level(0), [0; 32])?;
-    let digest = save(&mut folder, shelf.level(1), below)?;
-    Ok((below, digest))
+    save_two(&mut host(files, folder), &shelf)
+}
+
+/// The refusal to save this level, as level 0.
+fn refusal_of(
+    files: &(impl Files<File = File> + AllocGlobal),
+    folder: &str,
+    level: &Level,
+) -> Option<FolderFault> {
+    save_into(&mut host(files, folder), level, [0; 32]).err()
 }
 
 /// The refusal to save level 0.
@@ -69,10 +101,37 @@ fn save_refusal(
     folder: &str,
 ) -> Result<Option<FolderFault>, Fail> {
     let shelf = right_shelf(files.alloc())?;
-    if shelf.levels() == 0 {
-        return Err(Fail::new("levels"));
-    }
-    Ok(save(&mut host(files, folder), shelf.level(0), [0; 32]).err())
+    Ok(refusal_of(files, folder, level_of(&shelf, 0)?))
+}
+
+/// Level 0 cannot be saved into the folder: its file does not open.
+fn expect_not_saved(
+    rt: &(impl Files<File = File> + AllocGlobal + Abort),
+    folder: &str,
+) -> Result<(), Fail> {
+    let refused = save_refusal(rt, folder)?;
+    assert_eq!(rt; refused, Some(FolderFault::Open { level: 0 }));
+    Ok(())
+}
+
+/// A file of the host has these bytes.
+fn expect_file(
+    rt: &(impl Files + AllocGlobal + Abort),
+    path: &str,
+    bytes: &[u8],
+) -> io::Result<()> {
+    assert!(rt; fs::read(rt, path)?.as_slice() == bytes, "{path}");
+    Ok(())
+}
+
+/// The folder has so many files.
+fn expect_count(
+    rt: &(impl Files + AllocGlobal + Clone + Abort),
+    folder: &str,
+    count: usize,
+) -> io::Result<()> {
+    assert_eq!(rt; fs::read_dir(rt, folder)?.count(), count);
+    Ok(())
 }
 
 /// The refusal of a folder with these files of levels 0 and 1, an empty slice for none.
@@ -85,18 +144,29 @@ fn refusal(
     empty_folder(files, folder)?;
     lay(files, folder, "level_00.awdb", first)?;
     lay(files, folder, "level_01.awdb", second)?;
-    Ok(loaded(files, folder).err())
+    Ok(load_refusal(files, folder))
+}
+
+/// The refusal of a folder with the right file of level 0, and these bytes as that of level 1.
+fn refusal_of_second(
+    files: &(impl Files<File = File> + AllocGlobal),
+    folder: &str,
+    second: &[u8],
+) -> Result<Option<FolderFault>, Fail> {
+    let first = right_file(files.alloc(), 0)?;
+    let met = refusal(files, folder, &first, second)?;
+    fs::remove_dir_all(files, folder)?;
+    Ok(met)
 }
 
 #[test]
 fn a_folder_without_files_has_no_level(rt: HostRuntime) -> Result<(), Fail> {
     let folder = "awari_folder_test_empty";
     let _ = fs::remove_dir_all(&rt, folder);
-    assert_eq!(rt; loaded(&rt, folder), Ok((0, [0; 32])));
-    let refused = save_refusal(&rt, folder)?;
-    assert_eq!(rt; refused, Some(FolderFault::Open { level: 0 }));
+    expect_levels(&rt, folder, 0, [0; 32]);
+    expect_not_saved(&rt, folder)?;
     empty_folder(&rt, folder)?;
-    assert_eq!(rt; loaded(&rt, folder), Ok((0, [0; 32])));
+    expect_levels(&rt, folder, 0, [0; 32]);
     fs::remove_dir_all(&rt, folder)?;
     Ok(())
 }
@@ -107,9 +177,8 @@ fn a_file_that_cannot_take_its_name_is_removed(rt: HostRuntime) -> Result<(), Fa
     empty_folder(&rt, folder)?;
     // A folder has the name.
     fs::create_dir(&rt, "awari_folder_test_taken/level_00.awdb")?;
-    let refused = save_refusal(&rt, folder)?;
-    assert_eq!(rt; refused, Some(FolderFault::Open { level: 0 }));
-    assert_eq!(rt; fs::read_dir(&rt, folder)?.count(), 1);
+    expect_not_saved(&rt, folder)?;
+    expect_count(&rt, folder, 1)?;
     fs::remove_dir_all(&rt, folder)?;
     Ok(())
 }
@@ -117,67 +186,72 @@ fn a_file_that_cannot_take_its_name_is_removed(rt: HostRuntime) -> Result<(), Fa
 #[test]
 fn saved_levels_are_loaded(rt: HostRuntime) -> Result<(), Fail> {
     let folder = "awari_folder_test_saved";
-    let (first, second, _) = right_files(rt.alloc())?;
+    let first = right_file(rt.alloc(), 0)?;
+    let second = right_file(rt.alloc(), 1)?;
     empty_folder(&rt, folder)?;
     // The second time the files are replaced.
     for _ in 0..2u8 {
-        let (below, digest) = save_both(&rt, folder)?;
-        assert_eq!(rt; below, digest_in(&first));
-        assert_eq!(rt; digest, digest_in(&second));
-        assert_eq!(rt; loaded(&rt, folder), Ok((2, digest)));
+        let digests = save_both(&rt, folder)?;
+        assert_eq!(rt; digests, (digest_in(&first), digest_in(&second)));
+        expect_levels(&rt, folder, 2, digests.1);
     }
-    assert!(rt; fs::read(&rt, "awari_folder_test_saved/level_00.awdb")? == first);
-    assert!(rt; fs::read(&rt, "awari_folder_test_saved/level_01.awdb")? == second);
-    assert_eq!(rt; fs::read_dir(&rt, folder)?.count(), 2);
+    expect_file(&rt, "awari_folder_test_saved/level_00.awdb", &first)?;
+    expect_file(&rt, "awari_folder_test_saved/level_01.awdb", &second)?;
+    expect_count(&rt, folder, 2)?;
     fs::remove_dir_all(&rt, folder)?;
     Ok(())
 }
 
 #[test]
-fn the_first_wrong_file_is_refused(rt: HostRuntime) -> Result<(), Fail> {
-    let folder = "awari_folder_test_refused";
-    let (first, second, _) = right_files(rt.alloc())?;
+fn a_file_over_another_is_refused(rt: HostRuntime) -> Result<(), Fail> {
+    let second = right_file(rt.alloc(), 1)?;
     let unlinked = digested(rt.alloc(), &second, 20, 0)?;
-    let met = refusal(&rt, folder, &first, &unlinked)?;
+    let met = refusal_of_second(&rt, "awari_folder_test_below", &unlinked)?;
     assert_eq!(rt; met, Some(FolderFault::Below { level: 1 }));
+    Ok(())
+}
 
+#[test]
+fn a_wrong_level_is_refused(rt: HostRuntime) -> Result<(), Fail> {
+    let second = right_file(rt.alloc(), 1)?;
     let false_value = digested(rt.alloc(), &second, 52, 0xfe)?;
-    let met = refusal(&rt, folder, &first, &false_value)?;
+    let met = refusal_of_second(&rt, "awari_folder_test_wrong", &false_value)?;
     let fault = VerifyFault::Refused {
         rank: 0,
         rule: Rule::V1,
     };
     assert_eq!(rt; met, Some(FolderFault::Verify { level: 1, fault }));
+    Ok(())
+}
 
+#[test]
+fn a_file_that_was_cut_is_refused(rt: HostRuntime) -> Result<(), Fail> {
+    let second = right_file(rt.alloc(), 1)?;
     let cut = second.get(..155).ok_or("a longer file")?;
-    let met = refusal(&rt, folder, &first, cut)?;
+    let met = refusal_of_second(&rt, "awari_folder_test_cut", cut)?;
     let fault = FileFault::Truncated;
     assert_eq!(rt; met, Some(FolderFault::File { level: 1, fault }));
-    fs::remove_dir_all(&rt, folder)?;
     Ok(())
 }
 
 #[test]
 fn level_0_is_looked_for_first(rt: HostRuntime) -> Result<(), Fail> {
     let folder = "awari_folder_test_first";
-    let (_, second, _) = right_files(rt.alloc())?;
+    let second = right_file(rt.alloc(), 1)?;
     assert_eq!(rt; refusal(&rt, folder, b"", &second)?, None);
-    assert_eq!(rt; loaded(&rt, folder), Ok((0, [0; 32])));
+    expect_levels(&rt, folder, 0, [0; 32]);
+    fs::remove_dir_all(&rt, folder)?;
+    Ok(())
+}
 
+#[test]
+fn another_level_is_not_taken_for_level_0(rt: HostRuntime) -> Result<(), Fail> {
+    let folder = "awari_folder_test_other";
     let shelf = right_shelf(rt.alloc())?;
     let unlinked = file_of(rt.alloc(), &shelf, 1, [0; 32])?;
     let met = refusal(&rt, folder, &unlinked, b"")?;
     let fault = VerifyFault::WrongLevel;
     assert_eq!(rt; met, Some(FolderFault::Verify { level: 0, fault }));
-
-    // A file that is there and can't be opened: a link to itself.
-    empty_folder(&rt, folder)?;
-    symlink(
-        &rt,
-        "level_00.awdb",
-        "awari_folder_test_first/level_00.awdb",
-    )?;
-    assert_eq!(rt; loaded(&rt, folder), Err(FolderFault::Open { level: 0 }));
     fs::remove_dir_all(&rt, folder)?;
     Ok(())
 }
@@ -185,18 +259,33 @@ fn level_0_is_looked_for_first(rt: HostRuntime) -> Result<(), Fail> {
 #[test]
 fn what_a_killed_save_left_is_removed(rt: HostRuntime) -> Result<(), Fail> {
     let folder = "awari_folder_test_killed";
-    let (first, second, _) = right_files(rt.alloc())?;
+    let first = right_file(rt.alloc(), 0)?;
+    let second = right_file(rt.alloc(), 1)?;
     empty_folder(&rt, folder)?;
     lay(&rt, folder, "level_00.awdb.new", &second)?;
     // A link to another file, which is not written to.
     lay(&rt, folder, "other", b"other")?;
     symlink(&rt, "other", "awari_folder_test_killed/level_01.awdb.new")?;
     save_both(&rt, folder)?;
-    assert!(rt; fs::read(&rt, "awari_folder_test_killed/level_00.awdb")? == first);
-    assert!(rt; fs::read(&rt, "awari_folder_test_killed/level_01.awdb")? == second);
-    assert!(rt; fs::read(&rt, "awari_folder_test_killed/other")?.as_slice() == b"other".as_slice());
-    assert_eq!(rt; fs::read_dir(&rt, folder)?.count(), 3);
+    expect_file(&rt, "awari_folder_test_killed/level_00.awdb", &first)?;
+    expect_file(&rt, "awari_folder_test_killed/level_01.awdb", &second)?;
+    expect_file(&rt, "awari_folder_test_killed/other", b"other")?;
+    expect_count(&rt, folder, 3)?;
     fs::remove_dir_all(&rt, folder)?;
+    Ok(())
+}
+
+/// Saves level 0 as one builder, sees another one refused meanwhile, and lets the first go.
+fn save_beside_another(
+    rt: &(impl Files<File = File> + AllocGlobal + Abort),
+    folder: &str,
+    level: &Level,
+) -> Result<(), Fail> {
+    let mut first = host(rt, folder);
+    assert!(rt; save_into(&mut first, level, [0; 32]).is_ok());
+    expect_not_saved(rt, folder)?;
+    // Who only reads does not wait.
+    assert_eq!(rt; loaded(rt, folder)?.0, 1);
     Ok(())
 }
 
@@ -205,14 +294,7 @@ fn one_builder_at_a_time_saves(rt: HostRuntime) -> Result<(), Fail> {
     let folder = "awari_folder_test_two";
     empty_folder(&rt, folder)?;
     let shelf = right_shelf(rt.alloc())?;
-    assert!(rt; shelf.levels() > 0);
-    let mut first = host(&rt, folder);
-    assert!(rt; save(&mut first, shelf.level(0), [0; 32]).is_ok());
-    let refused = save_refusal(&rt, folder)?;
-    assert_eq!(rt; refused, Some(FolderFault::Open { level: 0 }));
-    // Who only reads does not wait.
-    assert_eq!(rt; loaded(&rt, folder)?.0, 1);
-    drop(first);
+    save_beside_another(&rt, folder, level_of(&shelf, 0)?)?;
     assert_eq!(rt; save_refusal(&rt, folder)?, None);
     fs::remove_dir_all(&rt, folder)?;
     Ok(())
@@ -223,10 +305,18 @@ fn what_is_no_file_is_not_opened(rt: HostRuntime) -> Result<(), Fail> {
     let folder = "awari_folder_test_device";
     empty_folder(&rt, folder)?;
     symlink(&rt, "/dev/zero", "awari_folder_test_device/level_00.awdb")?;
-    assert_eq!(rt; loaded(&rt, folder), Err(FolderFault::Open { level: 0 }));
+    expect_not_opened(&rt, folder);
+    // A link to itself.
+    empty_folder(&rt, folder)?;
+    symlink(
+        &rt,
+        "level_00.awdb",
+        "awari_folder_test_device/level_00.awdb",
+    )?;
+    expect_not_opened(&rt, folder);
     empty_folder(&rt, folder)?;
     fs::create_dir(&rt, "awari_folder_test_device/level_00.awdb")?;
-    assert_eq!(rt; loaded(&rt, folder), Err(FolderFault::Open { level: 0 }));
+    expect_not_opened(&rt, folder);
     fs::remove_dir_all(&rt, folder)?;
     Ok(())
 }

@@ -1,11 +1,10 @@
 //! The right tables of levels 0 to 2, and their files.
 
-use awari_file::write_level;
+use crate::plain::{level_of, next_image, put_on, save_into, write};
+use awari_folder::Folder;
 use awari_table::{Counted, Shelf, TableText};
-use awari_verify::verify;
 use sha2::{Digest, Sha256};
 use std::alloc::Global;
-use std::sync::Arc;
 use std::test::Fail;
 
 /// The text of levels 0 to 2, with `;` for each line feed. What each board of two stones is worth
@@ -20,20 +19,35 @@ level 0 limit 0;0 - 0;level 1 limit 1;-1 - 0;-1 - 0;-1 - 0;-1 - 0;-1 - 0;-1 - 0;
 -2 1 9;0 5 0;2 - 0;2 - 0;2 - 0;2 - 0;2 0 2;2 0 4;2 0 6;2 0 8;0 0 0;0 0 0;0 5 0;2 - 0;2 - 0;\
 2 - 0;2 - 0;2 - 0;";
 
-/// The shelf of levels 0 to 2.
-pub(crate) fn right_shelf(alloc: Global) -> Result<Shelf, Fail> {
+/// The text of levels 0 to 2, in lines.
+fn right_text(alloc: Global) -> Result<Vec<u8>, Fail> {
     let mut text = Vec::new(alloc);
     for byte in LEVELS.bytes() {
         text.push(if byte == b';' { b'\n' } else { byte })?;
     }
+    Ok(text)
+}
+
+/// The shelf of levels 0 to 2.
+pub(crate) fn right_shelf(alloc: Global) -> Result<Shelf, Fail> {
+    let text = right_text(alloc)?;
     let mut text = TableText::new(alloc, text.as_slice());
     let mut shelf = Shelf::empty();
     for _ in 0..3u8 {
-        let image = text.next()?.ok_or("a level")?;
-        let level = verify(&shelf, image)?;
-        shelf.push(Arc::new(alloc, level)?);
+        let image = next_image(&mut text)?;
+        put_on(alloc, &mut shelf, image)?;
     }
     Ok(shelf)
+}
+
+/// Saves levels 0 and 1 of the shelf into a folder, and gives their digests.
+pub(crate) fn save_two(
+    folder: &mut impl Folder,
+    shelf: &Shelf,
+) -> Result<([u8; 32], [u8; 32]), Fail> {
+    let below = save_into(folder, level_of(shelf, 0)?, [0; 32])?;
+    let digest = save_into(folder, level_of(shelf, 1)?, below)?;
+    Ok((below, digest))
 }
 
 /// The file of a level of the shelf, over a file that ends in this digest.
@@ -44,19 +58,22 @@ pub(crate) fn file_of(
     below: [u8; 32],
 ) -> Result<Vec<u8>, Fail> {
     let mut file = Vec::new(alloc);
-    if number < shelf.levels() {
-        write_level(shelf.level(number), below, &mut Counted::new(&mut file))?;
-    }
+    write(
+        level_of(shelf, number)?,
+        below,
+        &mut Counted::new(&mut file),
+    )?;
     Ok(file)
 }
 
-/// The files of levels 0, 1 and 2, each over the one before.
-pub(crate) fn right_files(alloc: Global) -> Result<(Vec<u8>, Vec<u8>, Vec<u8>), Fail> {
+/// The file of level 0, 1 or 2, each over the one before.
+pub(crate) fn right_file(alloc: Global, number: u8) -> Result<Vec<u8>, Fail> {
     let shelf = right_shelf(alloc)?;
-    let first = file_of(alloc, &shelf, 0, [0; 32])?;
-    let second = file_of(alloc, &shelf, 1, digest_in(&first))?;
-    let third = file_of(alloc, &shelf, 2, digest_in(&second))?;
-    Ok((first, second, third))
+    let mut file = file_of(alloc, &shelf, 0, [0; 32])?;
+    for level in 1..=number {
+        file = file_of(alloc, &shelf, level, digest_in(&file))?;
+    }
+    Ok(file)
 }
 
 /// The last 32 bytes of a file, zeros for a shorter one.

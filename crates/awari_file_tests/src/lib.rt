@@ -11,4 +11,6 @@ mod folders;
 #[cfg(test)]
 mod levels;
 #[cfg(test)]
+mod plain;
+#[cfg(test)]
 mod streams;

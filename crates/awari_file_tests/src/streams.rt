@@ -2,8 +2,8 @@
 
 ghost use Rattle.std.specs.Prelude.{◌≡◌, IfOk};
 
-use crate::levels::{changed, digest_in, right_files, right_shelf};
-use awari_file::{read_image, write_level};
+use crate::levels::{changed, digest_in, right_file, right_shelf};
+use crate::plain::{level_of, read, write};
 use awari_table::{Counted, Level};
 use std::alloc::Global;
 use std::io::{self, Error, ErrorKind, Read, Write};
@@ -114,7 +114,7 @@ impl Write for Sink {
 /// The number of the refusal of a slow reader, 0 for none, and the faults that were counted.
 fn read_slowly(alloc: Global, bytes: &[u8], calls: Calls) -> (u8, u64) {
     let mut reader = Counted::new(Slow { bytes, calls });
-    let number = match read_image(alloc, &mut reader) {
+    let number = match read(alloc, &mut reader) {
         Ok(_) => 0,
         Err(fault) => fault.number(),
     };
@@ -124,7 +124,7 @@ fn read_slowly(alloc: Global, bytes: &[u8], calls: Calls) -> (u8, u64) {
 /// The same of a slow writer.
 fn write_slowly(level: &Level, below: [u8; 32], sink: &mut Sink) -> (u8, u64) {
     let mut writer = Counted::new(sink);
-    let number = match write_level(level, below, &mut writer) {
+    let number = match write(level, below, &mut writer) {
         Ok(_) => 0,
         Err(fault) => fault.number(),
     };
@@ -133,17 +133,30 @@ fn write_slowly(level: &Level, below: [u8; 32], sink: &mut Sink) -> (u8, u64) {
 
 #[test]
 fn each_read_fails_in_turn(rt: HostRuntime) -> Result<(), Fail> {
-    let (_, file, _) = right_files(rt.alloc())?;
+    let file = right_file(rt.alloc(), 1)?;
     for k in 1..160u32 {
         let calls = Calls::new(k, 1, Bad::Fault(ErrorKind::WouldBlock));
         let expected = if k <= 157 { (68, 1) } else { (0, 0) };
         assert_eq!(rt; read_slowly(rt.alloc(), &file, calls), expected, "call {k}");
     }
-    // A fault of the bytes that came before the reader's comes first.
-    let calls = Calls::new(5, 1, Bad::Fault(ErrorKind::Other));
-    assert_eq!(rt; read_slowly(rt.alloc(), b"AWDC", calls), (61, 1));
-    let calls = Calls::new(4, 1, Bad::Fault(ErrorKind::Other));
-    assert_eq!(rt; read_slowly(rt.alloc(), b"AWDC", calls), (68, 1));
+    Ok(())
+}
+
+#[test]
+fn a_fault_of_the_bytes_comes_before_the_readers(rt: HostRuntime) {
+    for (call, expected) in [(5, (61, 1)), (4, (68, 1))] {
+        let calls = Calls::new(call, 1, Bad::Fault(ErrorKind::Other));
+        assert_eq!(rt;
+            read_slowly(rt.alloc(), b"AWDC", calls),
+            expected,
+            "call {call}"
+        );
+    }
+}
+
+#[test]
+fn interrupted_reads_are_made_again(rt: HostRuntime) -> Result<(), Fail> {
+    let file = right_file(rt.alloc(), 1)?;
     for (times, expected) in [(1000, (0, 0)), (1001, (68, 1))] {
         let calls = Calls::new(100, times, Bad::Fault(ErrorKind::Interrupted));
         assert_eq!(rt;
@@ -155,38 +168,57 @@ fn each_read_fails_in_turn(rt: HostRuntime) -> Result<(), Fail> {
     Ok(())
 }
 
+/// A sink of which some calls are bad.
+fn slow_sink(calls: Calls) -> Sink {
+    Sink {
+        calls,
+        taken: 0,
+        flushes: 0,
+    }
+}
+
+/// Writes into a sink that is bad at the call of this number.
+fn expect_write(rt: &impl Abort, level: &Level, below: [u8; 32], call: u32, bad: Bad) {
+    let mut sink = slow_sink(Calls::new(call, 1, bad));
+    let found = write_slowly(level, below, &mut sink);
+    let expected = if call <= 156 { (70, 1) } else { (0, 0) };
+    let taken = call.min(157).saturating_sub(1);
+    assert_eq!(rt;
+        (found, sink.taken, sink.flushes),
+        (expected, taken, 0),
+        "call {call}"
+    );
+}
+
 #[test]
 fn each_write_fails_in_turn(rt: HostRuntime) -> Result<(), Fail> {
     let shelf = right_shelf(rt.alloc())?;
-    let (first, _, _) = right_files(rt.alloc())?;
+    let level = level_of(&shelf, 1)?;
+    let first = right_file(rt.alloc(), 0)?;
     let below = digest_in(&first);
-    assert!(rt; shelf.levels() == 3);
-    let level = shelf.level(1);
     for k in 1..160u32 {
-        for bad in [Bad::Fault(ErrorKind::BrokenPipe), Bad::Nothing] {
-            let mut sink = Sink {
-                calls: Calls::new(k, 1, bad),
-                taken: 0,
-                flushes: 0,
-            };
-            let expected = if k <= 156 { (70, 1) } else { (0, 0) };
-            assert_eq!(rt; write_slowly(level, below, &mut sink), expected, "call {k}");
-            assert_eq!(rt; (sink.taken, sink.flushes), (k.min(157) - 1, 0), "call {k}");
-        }
-    }
-    for (times, expected) in [(1000, (0, 0)), (1001, (70, 1))] {
-        let mut sink = Sink {
-            calls: Calls::new(100, times, Bad::Fault(ErrorKind::Interrupted)),
-            taken: 0,
-            flushes: 0,
-        };
-        assert_eq!(rt;
-            write_slowly(level, below, &mut sink),
-            expected,
-            "{times} times"
-        );
+        expect_write(&rt, level, below, k, Bad::Fault(ErrorKind::BrokenPipe));
+        expect_write(&rt, level, below, k, Bad::Nothing);
     }
     Ok(())
+}
+
+#[test]
+fn interrupted_writes_are_made_again(rt: HostRuntime) -> Result<(), Fail> {
+    let shelf = right_shelf(rt.alloc())?;
+    let level = level_of(&shelf, 1)?;
+    for (times, expected) in [(1000, (0, 0)), (1001, (70, 1))] {
+        let calls = Calls::new(100, times, Bad::Fault(ErrorKind::Interrupted));
+        let found = write_slowly(level, [0; 32], &mut slow_sink(calls));
+        assert_eq!(rt; found, expected, "{times} times");
+    }
+    Ok(())
+}
+
+/// Flushes the sink: whether that went well, and the faults that were counted.
+fn flushed(sink: &mut Sink) -> (bool, u64) {
+    let mut writer = Counted::new(sink);
+    (writer.flush().is_ok(), writer.faults())
 }
 
 #[test]
@@ -198,15 +230,13 @@ fn flushes_are_passed_on(rt: HostRuntime) {
         (1001, ErrorKind::Interrupted, false, 1001, 1),
     ];
     for (times, kind, ok, made, faults) in cases {
-        let mut sink = Sink {
-            calls: Calls::new(1, times, Bad::Fault(kind)),
-            taken: 0,
-            flushes: 0,
-        };
-        let mut writer = Counted::new(&mut sink);
-        assert_eq!(rt; writer.flush().is_ok(), ok, "{times} times");
-        assert_eq!(rt; writer.faults(), faults, "{times} times");
-        assert_eq!(rt; sink.flushes, made, "{times} times");
+        let mut sink = slow_sink(Calls::new(1, times, Bad::Fault(kind)));
+        let found = flushed(&mut sink);
+        assert_eq!(rt;
+            (found, sink.flushes),
+            ((ok, faults), made),
+            "{times} times"
+        );
     }
 }
 
@@ -235,13 +265,17 @@ fn expect_overtaken(rt: &impl Abort, alloc: Global, bytes: &[u8], last: u32, fau
 
 #[test]
 fn a_field_is_judged_once_it_is_whole(rt: HostRuntime) -> Result<(), Fail> {
-    let (_, file, _) = right_files(rt.alloc())?;
+    let file = right_file(rt.alloc(), 1)?;
     for (place, byte, last, fault) in OVERTAKEN {
         let bytes = changed(rt.alloc(), &file, place, byte)?;
         expect_overtaken(&rt, rt.alloc(), &bytes, last, fault);
     }
-    // The byte behind the digest.
-    let mut longer = file.to_vec(rt.alloc())?;
+    Ok(())
+}
+
+#[test]
+fn the_byte_behind_the_digest_is_judged_once_it_is_there(rt: HostRuntime) -> Result<(), Fail> {
+    let mut longer = right_file(rt.alloc(), 1)?;
     longer.push(0)?;
     expect_overtaken(&rt, rt.alloc(), &longer, 157, 67);
     Ok(())
@@ -256,15 +290,7 @@ const KINDS: [(ErrorKind, u32, Option<ErrorKind>); 5] = [
     (ErrorKind::Interrupted, 1001, Some(ErrorKind::Other)),
 ];
 
-/// A sink that answers such a fault in its first calls.
-fn failing_sink(calls: u32, bad: Bad) -> Sink {
-    Sink {
-        calls: Calls::new(1, calls, bad),
-        taken: 0,
-        flushes: 0,
-    }
-}
-
+/// The kind of a fault, none where there is none.
 fn kind_of<T: Drop>(answer: io::Result<T>) -> Option<ErrorKind> {
     match answer {
         Ok(_) => None,
@@ -272,17 +298,31 @@ fn kind_of<T: Drop>(answer: io::Result<T>) -> Option<ErrorKind> {
     }
 }
 
+fn read_kind(calls: Calls) -> Option<ErrorKind> {
+    let mut reader = Counted::new(Slow { bytes: b"x", calls });
+    kind_of(reader.read(&mut [0]))
+}
+
+fn write_kind(calls: Calls) -> Option<ErrorKind> {
+    kind_of(Counted::new(slow_sink(calls)).write(b"x"))
+}
+
+fn flush_kind(calls: Calls) -> Option<ErrorKind> {
+    kind_of(Counted::new(slow_sink(calls)).flush())
+}
+
+fn write_all_kind(calls: Calls) -> Option<ErrorKind> {
+    kind_of(Counted::new(slow_sink(calls)).write_all(b"x"))
+}
+
 /// The kind of the fault of each call in turn: `read`, `write`, `flush` and `write_all`.
-fn kinds_of(calls: u32, bad: Bad) -> [Option<ErrorKind>; 4] {
-    let mut reader = Counted::new(Slow {
-        bytes: b"x",
-        calls: Calls::new(1, calls, bad),
-    });
+fn kinds_of(times: u32, bad: Bad) -> [Option<ErrorKind>; 4] {
+    let calls = Calls::new(1, times, bad);
     [
-        kind_of(reader.read(&mut [0])),
-        kind_of(Counted::new(failing_sink(calls, bad)).write(b"x")),
-        kind_of(Counted::new(failing_sink(calls, bad)).flush()),
-        kind_of(Counted::new(failing_sink(calls, bad)).write_all(b"x")),
+        read_kind(calls),
+        write_kind(calls),
+        flush_kind(calls),
+        write_all_kind(calls),
     ]
 }
 
