@@ -114,21 +114,31 @@ fn has_first(folder: &mut MemoryFolder, alloc: Global, first: &[u8]) -> Result<b
     Ok(bytes.as_slice() == first)
 }
 
-/// Has a save of level 0 over a wrong file refused, once for each that a new file can refuse.
+/// Has a save of level 0 over a wrong file refused, whose new file refuses this.
+fn refuse_file(
+    rt: &(impl Abort + AllocGlobal),
+    folder: &mut MemoryFolder,
+    level: &Level,
+    (writes, sync): (bool, bool),
+) {
+    refuse_files(folder, writes, sync);
+    let refused = refusal_of(folder, level, [1; 32]);
+    let fault = FileFault::Write;
+    assert_eq!(rt; refused, Some(FolderFault::File { level: 0, fault }));
+    assert!(rt; !has_draft(folder));
+}
+
+/// The same, once for each that a new file can refuse.
 fn refuse_each_file(
     rt: &(impl Abort + AllocGlobal),
     folder: &mut MemoryFolder,
     level: &Level,
     first: &[u8],
 ) -> Result<(), Fail> {
-    let fault = FileFault::Write;
-    for (writes, sync) in [(true, false), (false, true)] {
-        refuse_files(folder, writes, sync);
-        let refused = refusal_of(folder, level, [1; 32]);
-        assert_eq!(rt; refused, Some(FolderFault::File { level: 0, fault }));
-        assert!(rt; has_first(folder, rt.alloc(), first)?);
-        assert!(rt; !has_draft(folder));
-    }
+    refuse_file(rt, folder, level, (true, false));
+    assert!(rt; has_first(folder, rt.alloc(), first)?);
+    refuse_file(rt, folder, level, (false, true));
+    assert!(rt; has_first(folder, rt.alloc(), first)?);
     refuse_files(folder, false, false);
     Ok(())
 }

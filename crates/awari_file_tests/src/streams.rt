@@ -154,17 +154,17 @@ fn a_fault_of_the_bytes_comes_before_the_readers(rt: HostRuntime) {
     }
 }
 
+/// Reads the bytes, where the 100th call is interrupted so many times in a row.
+fn interrupted_read(alloc: Global, bytes: &[u8], times: u32) -> (u8, u64) {
+    let calls = Calls::new(100, times, Bad::Fault(ErrorKind::Interrupted));
+    read_slowly(alloc, bytes, calls)
+}
+
 #[test]
 fn interrupted_reads_are_made_again(rt: HostRuntime) -> Result<(), Fail> {
     let file = right_file(rt.alloc(), 1)?;
-    for (times, expected) in [(1000, (0, 0)), (1001, (68, 1))] {
-        let calls = Calls::new(100, times, Bad::Fault(ErrorKind::Interrupted));
-        assert_eq!(rt;
-            read_slowly(rt.alloc(), &file, calls),
-            expected,
-            "{times} times"
-        );
-    }
+    assert_eq!(rt; interrupted_read(rt.alloc(), &file, 1000), (0, 0));
+    assert_eq!(rt; interrupted_read(rt.alloc(), &file, 1001), (68, 1));
     Ok(())
 }
 
@@ -203,41 +203,36 @@ fn each_write_fails_in_turn(rt: HostRuntime) -> Result<(), Fail> {
     Ok(())
 }
 
+/// The same of a writer of this level.
+fn interrupted_write(level: &Level, times: u32) -> (u8, u64) {
+    let calls = Calls::new(100, times, Bad::Fault(ErrorKind::Interrupted));
+    write_slowly(level, [0; 32], &mut slow_sink(calls))
+}
+
 #[test]
 fn interrupted_writes_are_made_again(rt: HostRuntime) -> Result<(), Fail> {
     let shelf = right_shelf(rt.alloc())?;
     let level = level_of(&shelf, 1)?;
-    for (times, expected) in [(1000, (0, 0)), (1001, (70, 1))] {
-        let calls = Calls::new(100, times, Bad::Fault(ErrorKind::Interrupted));
-        let found = write_slowly(level, [0; 32], &mut slow_sink(calls));
-        assert_eq!(rt; found, expected, "{times} times");
-    }
+    assert_eq!(rt; interrupted_write(level, 1000), (0, 0));
+    assert_eq!(rt; interrupted_write(level, 1001), (70, 1));
     Ok(())
 }
 
-/// Flushes the sink: whether that went well, and the faults that were counted.
-fn flushed(sink: &mut Sink) -> (bool, u64) {
-    let mut writer = Counted::new(sink);
-    (writer.flush().is_ok(), writer.faults())
+/// Flushes a sink that answers such a fault in its first calls: whether that went well, the faults
+/// that were counted, and the flushes that came to the sink.
+fn flushed(times: u32, kind: ErrorKind) -> (bool, u64, u32) {
+    let mut sink = slow_sink(Calls::new(1, times, Bad::Fault(kind)));
+    let mut writer = Counted::new(&mut sink);
+    let (ok, faults) = (writer.flush().is_ok(), writer.faults());
+    (ok, faults, sink.flushes)
 }
 
 #[test]
 fn flushes_are_passed_on(rt: HostRuntime) {
-    let cases = [
-        (0, ErrorKind::Other, true, 1, 0),
-        (1, ErrorKind::Other, false, 1, 1),
-        (1000, ErrorKind::Interrupted, true, 1001, 0),
-        (1001, ErrorKind::Interrupted, false, 1001, 1),
-    ];
-    for (times, kind, ok, made, faults) in cases {
-        let mut sink = slow_sink(Calls::new(1, times, Bad::Fault(kind)));
-        let found = flushed(&mut sink);
-        assert_eq!(rt;
-            (found, sink.flushes),
-            ((ok, faults), made),
-            "{times} times"
-        );
-    }
+    assert_eq!(rt; flushed(0, ErrorKind::Other), (true, 0, 1));
+    assert_eq!(rt; flushed(1, ErrorKind::Other), (false, 1, 1));
+    assert_eq!(rt; flushed(1000, ErrorKind::Interrupted), (true, 0, 1001));
+    assert_eq!(rt; flushed(1001, ErrorKind::Interrupted), (false, 1, 1001));
 }
 
 /// Places of the file of level 1 and bytes that are wrong there, with the call at which a fault of the
