@@ -86,6 +86,7 @@ fn digests_are_read_again(rt: HostRuntime) -> Result<(), Fail> {
 #[test]
 fn levels_are_read_again(rt: HostRuntime) -> Result<(), Fail> {
     let shelf = right_shelf(rt.alloc())?;
+    assert_eq!(rt; shelf.levels(), 3);
     let level = level_of(&shelf, 1)?;
     let second = right_file(rt.alloc(), 1)?;
     let image = read_bytes(rt.alloc(), &second)?.image;
