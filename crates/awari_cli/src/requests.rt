@@ -101,13 +101,22 @@ fn command<'a>(alloc: Global) -> Result<Command<'a>, Error> {
         .after_help(AWARI_HELP)
         .arg_required_else_help(true)
         .subcommand_required(true)
-        .subcommand(check_command(alloc))?
-        .subcommand(move_command(alloc)?)?
-        .subcommand(judge_command(alloc)?)?
-        .subcommand(build_command(alloc)?)?
-        .subcommand(verify_command(alloc)?)?
-        .subcommand(ask_command(alloc)?)?
-        .subcommand(line_command(alloc)?)?;
+        .subcommand(check_command(alloc))?;
+    let awari = with_command(awari, move_command(alloc))?;
+    let awari = with_command(awari, judge_command(alloc))?;
+    let awari = with_command(awari, build_command(alloc))?;
+    let awari = with_command(awari, verify_command(alloc))?;
+    let awari = with_command(awari, ask_command(alloc))?;
+    with_command(awari, line_command(alloc))
+}
+
+/// The program with one more command, where there was room to make it.
+fn with_command<'a>(
+    awari: Command<'a>,
+    command: Result<Command<'a>, Error>,
+) -> Result<Command<'a>, Error> {
+    let command = command?;
+    let awari = awari.subcommand(command)?;
     Ok(awari)
 }
 
