@@ -86,7 +86,7 @@ due_settled P (f ∷ fresh) h = (
     less : (r : ℕ) → times_due fresh r ≤ (if P r then 1 else 0)
     less r = let more = h r in omega (arith, more, times_due-cons f fresh r)
 
-all_both : {X : Type 0} (P Q R : X → Type 0) (xs : List X) → ((x : X) → P x → Q x → R x) → AllByRecursion P xs → AllByRecursion Q xs → AllByRecursion R xs
+pub all_both : {X : Type 0} (P Q R : X → Type 0) (xs : List X) → ((x : X) → P x → Q x → R x) → AllByRecursion P xs → AllByRecursion Q xs → AllByRecursion R xs
 all_both P Q R [] f a b = tt
 all_both P Q R (x ∷ xs) f a b = (f x a.0 b.0, all_both P Q R xs f a.1 b.1)
 
@@ -251,20 +251,10 @@ put_unspread start cells fresh after rank c high step =
 
 -- ---- the first of the fresh boards
 
--- it is a settled board of the block, with its distance
-pub first_due : (place : Place) (cells : List Cell) (fresh : List Due) (capacity : ℕ) → IsBlock place cells fresh capacity → 0 < length fresh → (f : Due) → f ≡ get_or fresh 0 f
-    → (place.start ≤ due_rank f) × (due_rank f - place.start < length cells) × IsDueAs place f (cell_in place.start cells (due_rank f)) × (0 < times_due fresh (due_rank f))
-    × (is_settled (cell_in place.start cells (due_rank f)).mark ≡ true)
-first_due place cells [] capacity sound some f e = absurd (omega arith)
-first_due place cells (g ∷ fresh) capacity sound some f e =
-    let settled = subst (λ (h : Due). is_settled_in place.start cells (due_rank h) ≡ true) (sym e) (due_settled (is_settled_in place.start cells) (g ∷ fresh) sound.settled).0 in
-    let low = parts place.start (due_rank f) (is_settled (cell_in place.start cells (due_rank f)).mark) settled in (
-      low.0,
-      below (due_rank f - place.start) low.1,
-      subst (λ (h : Due). IsDueAs place h (cell_in place.start cells (due_rank h))) (sym e) (sound.due 0 g (omega arith)),
-      once (due_rank f) (subst (λ (h : Due). due_rank h ≡ due_rank f) e refl),
-      low.1,
-    )
+-- what is settled is in the block
+pub settled_inside : (start : ℕ) (cells : List Cell) (r : ℕ) → is_settled_in start cells r ≡ true
+    → (start ≤ r) × (r - start < length cells) × (is_settled (cell_in start cells r).mark ≡ true)
+settled_inside start cells r e = let (low, settled) = parts start r (is_settled (cell_in start cells r).mark) e in (low, below (r - start) settled, settled)
   where
     parts : (a b : ℕ) (d : Bool) → (nat_le a b && d) ≡ true → (a ≤ b) × (d ≡ true)
     parts a b d e = grind (arith, nat_tests)
@@ -275,6 +265,21 @@ first_due place cells (g ∷ fresh) capacity sound some f e =
         by_lt : (a b : ℕ) → (a < b → a < b) → (b ≤ a → a < b) → a < b
         by_lt a b f g = elim (cases_lt a b) [ inl h ↦ h | inr h ↦ g h ]
 
+-- it is a settled board of the block, with its distance
+pub first_due : (place : Place) (cells : List Cell) (fresh : List Due) (capacity : ℕ) → IsBlock place cells fresh capacity → 0 < length fresh → (f : Due) → f ≡ get_or fresh 0 f
+    → (place.start ≤ due_rank f) × (due_rank f - place.start < length cells) × IsDueAs place f (cell_in place.start cells (due_rank f)) × (0 < times_due fresh (due_rank f))
+    × (is_settled (cell_in place.start cells (due_rank f)).mark ≡ true)
+first_due place cells [] capacity sound some f e = absurd (omega arith)
+first_due place cells (g ∷ fresh) capacity sound some f e =
+    let settled = subst (λ (h : Due). is_settled_in place.start cells (due_rank h) ≡ true) (sym e) (due_settled (is_settled_in place.start cells) (g ∷ fresh) sound.settled).0 in
+    let inside = settled_inside place.start cells (due_rank f) settled in (
+      inside.0,
+      inside.1,
+      subst (λ (h : Due). IsDueAs place h (cell_in place.start cells (due_rank h))) (sym e) (sound.due 0 g (omega arith)),
+      once (due_rank f) (subst (λ (h : Due). due_rank h ≡ due_rank f) e refl),
+      inside.2,
+    )
+  where
     once : (r : ℕ) → due_rank g ≡ r → 0 < times_due (g ∷ fresh) r
     once r at = let more = times_due-cons g fresh r in let one : one_if (due_rank g == r) ≡ 1 = subst (λ z. one_if (due_rank g == z) ≡ 1) at (ap one_if (eqb_self (due_rank g))) in omega (arith, more, one)
 

@@ -1,14 +1,14 @@
 -- No distance is greater than the number of boards: a settled board has a settled one behind it at each smaller distance.
-use Rattle.std.proofs.Common.{Option, Some, is_some, length, ◌≡◌, ℕ, zero, suc, ◌+◌, ◌-◌, ◌^◌, ◌<◌, ◌≤◌, ◌⊎◌, inl, inr, Bool, true, false, if◌then◌else◌, cond, max, nat_le, List, [], ◌∷◌, get_or, ℤ, refl, sym, ap, subst, ◌∙◌, arith}
+use Rattle.std.proofs.Common.{Option, Some, is_some, length, ◌≡◌, ℕ, zero, suc, ◌+◌, ◌-◌, ◌^◌, ◌<◌, ◌≤◌, ◌⊎◌, inl, inr, Bool, true, false, cond, nat_le, List, [], ◌∷◌, get_or, ℤ, refl, sym, ap, subst, ◌∙◌, arith}
 use Rattle.std.specs.Prelude.{count_by}
-use Rattle.std.proofs.lemmas.Bool.{false≢true, cases_lt}
+use Rattle.std.proofs.lemmas.Bool.{false≢true}
 use Rattle.std.proofs.lemmas.Bool.Decides.{nat_tests}
 use Rattle.std.proofs.lemmas.List.Sums.{count_by-le-length, sum_by-cons}
 use Rattle.awari_rank.specs.Rank.{rank_of, size_of}
 use Rattle.awari_rank.proofs.Examples.{highest}
 use Rattle.awari_rank.proofs.Ranking.{rank_of-below}
 use Rattle.awari_rank.proofs.Reaching.{board_reached, size_of-grows}
-use Rattle.awari_owner.specs.Notes.{Has, is_won, far_of}
+use Rattle.awari_owner.specs.Notes.{Has}
 use Rattle.awari_owner.specs.Tally.{Settled, IsDistance, IsStatus}
 use Rattle.awari_owner.specs.Tally as tally
 use Rattle.awari_owner.specs.Cells.{is_settled, status_by, status_of}
@@ -172,6 +172,6 @@ module _ (value : List ℕ → ℤ) (level : ℕ) (parts : List Part) (whole : A
 
   -- and none of a note of a spread board
   pub notes_fit : (i : ℕ) → i < length parts → (part : Part) (m : Note) → IsSpreadNote (part_at parts i) part m → m.dist < 2 ^ 32 - 1
-  notes_fit i inside part m (p, q, v, d, is, stones, held_p, held_q, spread, note) =
+  notes_fit i inside part m (q, v, d, p, x, spread, held_q, is_q, is_p, stones, held_p, note) =
       let fits = distances_fit i inside (rank_of q) v d held_q spread.0 in
       omega (arith, fits, note.same_dist)

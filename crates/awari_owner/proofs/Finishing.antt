@@ -1,10 +1,10 @@
 -- A board at which all notes were heard keeps the rules of an image, at gain 1.
-use Rattle.std.proofs.Common.{Option, Some, is_some, ◌≡◌, ℕ, zero, suc, ◌+◌, ◌<◌, ◌≤◌, ◌==◌, ◌⊎◌, inl, inr, Bool, true, false, not, ◌&&◌, ◌||◌, cond, List, [], ◌∷◌, sum, ℤ, pos, neg_ℤ, ◌≤ℤ◌, ◌<ℤ◌, refl, sym, ap, subst, ◌∙◌, arith}
+use Rattle.std.proofs.Common.{Option, Some, is_some, ◌≡◌, ℕ, ◌<◌, ◌≤◌, ◌==◌, ◌⊎◌, inl, inr, Bool, true, false, not, ◌&&◌, ◌||◌, cond, List, [], ◌∷◌, sum, ℤ, pos, neg_ℤ, ◌≤ℤ◌, ◌<ℤ◌, refl, sym, ap, subst, ◌∙◌, arith}
 use Rattle.std.proofs.lemmas.Bool.Decides.{nat_tests}
 use Rattle.std.proofs.lemmas.Bool.{false≢true}
 use Rattle.std.proofs.lemmas.Int.{ints}
 use Rattle.awari_board.specs.Rules.{IsMove, IsEnd, IsEnded, captured, next_board, own_stones}
-use Rattle.awari_owner.specs.Notes.{IsQuietMove, Has, is_won, gain_by, is_won_at, far_of}
+use Rattle.awari_owner.specs.Notes.{IsQuietMove, Has, is_won, gain_by, is_won_at}
 use Rattle.awari_board.specs.Tests.{is_legal}
 use Rattle.awari_owner.specs.Tally.{Status, Ended, Open, Settled, Cell, is_left, left_of, Captures, Knows, IsOpen, IsSettledAs, IsDistance, IsStatus}
 use Rattle.awari_owner.specs.Finish.{value_by, dist_by, IsQuietAt, gains, IsRightAt}

@@ -1,5 +1,5 @@
 -- The first fresh board, and what its spread makes of the part.
-use Rattle.std.proofs.Common.{◌≡◌, ℕ, ◌+◌, ◌-◌, ◌<◌, ◌≤◌, Bool, false, true, inl, inr, if◌then◌else◌, Some, List, ◌∷◌, length, get_or, sum, All, refl, sym, ap, subst, ◌∙◌, arith}
+use Rattle.std.proofs.Common.{◌≡◌, ℕ, ◌+◌, ◌-◌, ◌^◌, ◌<◌, ◌≤◌, Bool, false, true, inl, inr, if◌then◌else◌, Some, List, ◌∷◌, length, get_or, sum, All, refl, sym, ap, subst, ◌∙◌, arith}
 use Rattle.std.proofs.lemmas.Int.{ints}
 use Rattle.std.proofs.lemmas.Bool.{false≢true}
 use Rattle.std.proofs.lemmas.Bool.Decides.{nat_tests}
@@ -11,8 +11,8 @@ use Rattle.awari_rank.specs.Rank.{rank_of}
 use Rattle.awari_unmove.specs.Predecessors.{IsPredecessors}
 use Rattle.awari_owner.specs.Notes.{IsQuietMove, IsNoteOf}
 use Rattle.awari_owner.specs.Cells.{IsEither, IsWithin, Fits, FitsBy, is_settled}
-use Rattle.awari_owner.specs.Blocks.{Due, due_rank, due_dist, due_cmp, cell_in, times_due, is_settled_in, IsDueAs, IsBlock, JoinNewlySettled, KeepSettled}
-use Rattle.awari_owner.specs.Part.{Part, InBlock, IsTallied, part_of, stored_at}
+use Rattle.awari_owner.specs.Blocks.{Due, due_rank, due_dist, due_cmp, cell_in, times_due, is_settled_in, no_cell, IsDueAs, IsBlock, JoinNewlySettled, KeepSettled}
+use Rattle.awari_owner.specs.Part.{Part, InBlock, IsTallied, part_of, stored_at, settled_at}
 use Rattle.awari_owner.specs.Spread.{Source, Tells, kind_of, note_to, with_all_own, LeavesFresh, Spreads, SpreadsOne}
 use Rattle.awari_owner.specs.declared.cells.Cell.{Cell}
 use Rattle.awari_owner.specs.declared.cells.Mark.{Mark}
@@ -51,27 +51,42 @@ first_of x fresh wave rank near at h =
     (λ y later. (let n = not_nearer x y later in omega (arith, n, near), λ same. let n = not_before x y later (same ∙ sym near) in omega (arith, n, at)))
     fresh (All-from_recursion _ fresh h)
 
+-- The board is settled at the open gain and distance, and its sources hear of this kind.
+pub record IsTold (part : Part) (q : List ℕ) (sources : List Source) (kind : Kind) : Type 0 where
+  pub either : IsEither part.gain (stored_at part (rank_of q)).score
+  pub settled : settled_at part (rank_of q) ≡ Some ((stored_at part (rank_of q)).score, part.wave)
+  pub kinds : kind ≡ kind_of (stored_at part (rank_of q)).score
+  pub are : AreSources q sources
+  pub level : sum q ≡ part.level
+
 module _ (place : Place) (cells cells' : List Cell) (fresh rest after : List Due) (capacity : ℕ) (f g : Due) (cell : Cell) (q : List ℕ) (sources : List Source) (kind : Kind) where
   pub spread_by : IsInjective → ((p : List ℕ) (x : ℕ) (r : List ℕ) → IsBoard p → IsQuietMove p x r → IsBoard r) → ((p : List ℕ) (x : ℕ) (r : List ℕ) → IsBoard p → IsQuietMove p x r → sum r + 0 ≡ sum p)
       → IsBlock place cells fresh capacity → 0 < length fresh → f ≡ get_or fresh 0 f → g ≡ get_or fresh 0 g → IsPermutation fresh (g ∷ rest) → IsUpperBound due_cmp f fresh
-      → due_dist f ≡ place.wave → 1 ≤ place.gain → IsBoard q → sum q ≡ place.level → rank_of q ≡ due_rank f → cell_in place.start cells (due_rank f) ≡ cell → kind ≡ kind_of cell.score
+      → due_dist f ≡ place.wave → place.wave < 2 ^ 32 - 1 → 1 ≤ place.gain → IsBoard q → sum q ≡ place.level → rank_of q ≡ due_rank f → cell_in place.start cells (due_rank f) ≡ cell → kind ≡ kind_of cell.score
       → IsPredecessors q sources → Tells (part_of place cells rest) (part_of place cells' after) kind sources
       → JoinNewlySettled place.start cells rest cells' after → KeepSettled place.start cells cells' → length cells' ≡ length cells
-      → Spreads (part_of place cells fresh) (part_of place cells' after) q sources
-  spread_by injective boards stones sound some at at' moved greatest wave one is level ranked was kinds predecessors told joined stays len = record {
-    board = is;
-    stones = level;
-    first = record { fresh = often; inside = inside; near = near; first = first_of f fresh place.wave (rank_of q) wave ranked greatest };
-    predecessors = predecessors;
-    leaves = leaves;
-    told = λ value notes own tallied.
-        subst (λ (k : Kind). IsTallied value new (with_all_own old k notes sources)) same
-        (told value notes (unheard_sources old kind notes q sources injective own are level inside often) tallied);
-    becomes = becomes;
-    gives = gives;
-    hears = λ notes own. hears_first old new notes q sources (kind_of (stored_at old (rank_of q)).score) (stored_at old (rank_of q)).score place.wave injective are
-        (λ p x r board quiet. (boards p x r board quiet, omega (arith, stones p x r board quiet))) becomes gives own;
-  }
+      → Spreads (part_of place cells fresh) (part_of place cells' after) q sources × IsTold (part_of place cells fresh) q sources kind
+  spread_by injective boards stones sound some at at' moved greatest wave near_wave one is level ranked was kinds predecessors told joined stays len = (
+    record {
+      board = is;
+      stones = level;
+      first = record { fresh = often; inside = inside; near = near; first = first_of f fresh place.wave (rank_of q) wave ranked greatest };
+      once = few;
+      opened = gain_low place (cell_in place.start cells (due_rank f)) (sound.fit (due_rank f - place.start) no_cell due.1) due.4 due.2.valued;
+      valued = either;
+      near = near_wave;
+      predecessors = predecessors;
+      leaves = leaves;
+      told = λ value notes own tallied.
+          subst (λ (k : Kind). IsTallied value new (with_all_own old k notes sources)) same
+          (told value notes (unheard_sources old kind notes q sources injective own are level inside often) tallied);
+      becomes = becomes;
+      gives = gives;
+      hears = λ notes own. hears_first old new notes q sources (kind_of (stored_at old (rank_of q)).score) (stored_at old (rank_of q)).score place.wave injective are
+          (λ p x r board quiet. (boards p x r board quiet, omega (arith, stones p x r board quiet))) becomes gives own;
+    },
+    record { either = either; settled = settled; kinds = same; are = are; level = level },
+  )
     where
       old : Part
       old = part_of place cells fresh
@@ -94,6 +109,12 @@ module _ (place : Place) (cells cells' : List Cell) (fresh rest after : List Due
 
       near : (stored_at old (rank_of q)).dist ≡ place.wave
       near = subst (λ r. (cell_in place.start cells r).dist ≡ place.wave) (sym ranked) (due.2.near ∙ wave)
+
+      either : IsEither place.gain (stored_at old (rank_of q)).score
+      either = subst (λ r. IsEither place.gain (cell_in place.start cells r).score) (sym ranked) due.2.valued
+
+      settled : settled_at old (rank_of q) ≡ Some ((stored_at old (rank_of q)).score, place.wave)
+      settled = settled_value (stored_at old (rank_of q)) (subst (λ r. is_settled (cell_in place.start cells r).mark ≡ true) (sym ranked) due.4) ∙ ap (λ d. Some ((stored_at old (rank_of q)).score, d)) near
 
       few : times_due fresh (rank_of q) ≤ 1
       few = let most = sound.settled (rank_of q) in at_most (is_settled_in place.start cells (rank_of q)) most

@@ -2,7 +2,7 @@
 use Rattle.std.specs.List.{AllZip}
 use Rattle.std.proofs.Math.Nat.{lt-div-mul-add, mul_comm}
 use Rattle.awari_owner.specs.Scan.{IsScan, first_rank}
-use Rattle.std.proofs.Common.{length, ◌≡◌, ℕ, zero, suc, ◌+◌, ◌-◌, ◌<◌, ◌≤◌, ◌==◌, inl, inr, Bool, true, false, cond, List, [], ◌∷◌, get_or, sum, ℤ, All, refl, sym, ap, subst, subst₂, ◌∙◌, arith, eqb-true, length-append, ◌/◌}
+use Rattle.std.proofs.Common.{length, ◌≡◌, ℕ, zero, suc, ◌+◌, ◌-◌, ◌<◌, ◌≤◌, ◌==◌, inl, inr, Bool, true, false, cond, List, [], ◌∷◌, get_or, sum, ℤ, All, refl, sym, ap, subst, subst₂, ◌∙◌, arith, eqb-true, ◌++◌, length-append, append-nil, ◌/◌}
 use Rattle.std.proofs.Math.ListN.{get_or-append}
 use Rattle.std.proofs.Math.Seq.{get_or-append_right}
 use Rattle.std.proofs.lemmas.Bool.{cases_lt, cases_eq, false≢true}
@@ -18,7 +18,7 @@ use Rattle.awari_owner.specs.Cells.{view_of}
 use Rattle.awari_owner.specs.Blocks.{Due, no_cell, times_due}
 use Rattle.awari_owner.specs.Part.{Part, InBlock, IsTallied, Leaves, cell_at, notes_for, settled_by}
 use Rattle.awari_owner.specs.Spread.{Hears, HearsTruth, HearsOwn, IsSpread, SameBlock}
-use Rattle.awari_owner.specs.Level.{AreBlocks, AreWhole, IsClosed, all_cells, known_at, AreHeard, AreTold, AreSound, no_part, part_at}
+use Rattle.awari_owner.specs.Level.{AreBlocks, AreWhole, IsClosed, all_cells, known_at, AreHeard, AreTold, AreSound, IsShare, no_part, part_at}
 use Rattle.awari_owner.specs.Finish.{IsQuietAt, IsRightAt}
 use Rattle.awari_owner.specs.declared.notes.Note.{Note}
 use Rattle.awari_owner.proofs.Finishing.{quiet_right, settled_status}
@@ -88,14 +88,14 @@ one_holder level low high (part ∷ parts) blocks (suc i) (suc j) in_i in_j r a 
     ap suc (one_holder level (low + length part.cells) high parts blocks.1 i j (omega (arith, in_i)) (omega (arith, in_j)) r a b)
 
 -- the blocks of all owners, each from its first rank to that of the next
-blocks_from : (level owners k : ℕ) (parts : List Part) → ((i : ℕ) → i < length parts → IsScan level owners (k + i) (part_at parts i))
+blocks_from : (level owners k : ℕ) (parts : List Part) → ((i : ℕ) → i < length parts → IsShare level owners (k + i) (part_at parts i))
     → AreBlocks level (first_rank (size_of level) owners k) (first_rank (size_of level) owners (k + length parts)) parts
 blocks_from level owners k [] each = let none : k ≡ k + 0 = omega arith in ap (first_rank (size_of level) owners) none
 blocks_from level owners k (part ∷ parts) each =
     let zeroth : k + 0 ≡ k = omega arith in
-    let first : IsScan level owners k part = subst (λ n. IsScan level owners n part) zeroth (each 0 (omega arith)) in
+    let first : IsShare level owners k part = subst (λ n. IsShare level owners n part) zeroth (each 0 (omega arith)) in
     let last : (k + 1) + length parts ≡ k + suc (length parts) = omega arith in
-    let rest = blocks_from level owners (k + 1) parts (λ i inside. subst (λ n. IsScan level owners n (part_at parts i)) (next i) (each (suc i) (omega (arith, inside)))) in
+    let rest = blocks_from level owners (k + 1) parts (λ i inside. subst (λ n. IsShare level owners n (part_at parts i)) (next i) (each (suc i) (omega (arith, inside)))) in
     let end : first_rank (size_of level) owners k + length part.cells ≡ first_rank (size_of level) owners (k + 1) = ap (λ n. n + length part.cells) (sym first.start) ∙ first.end in (
       (first.level, first.start),
       subst₂ (λ (a b : ℕ). AreBlocks level a b parts) (sym end) (ap (first_rank (size_of level) owners) last) rest,
@@ -104,19 +104,23 @@ blocks_from level owners k (part ∷ parts) each =
     next : (i : ℕ) → k + suc i ≡ (k + 1) + i
     next i = omega arith
 
-pub scanned_whole : (level owners : ℕ) (parts : List Part) → 1 ≤ owners → length parts ≡ owners → ((i : ℕ) → i < length parts → IsScan level owners i (part_at parts i)) → AreWhole level parts
-scanned_whole level owners parts some many each =
+pub shared_whole : (level owners : ℕ) (parts : List Part) → 1 ≤ owners → length parts ≡ owners → ((i : ℕ) → i < length parts → IsShare level owners i (part_at parts i)) → AreWhole level parts
+shared_whole level owners parts some many each =
     let low : first_rank (size_of level) owners 0 ≡ 0 = omega arith in
     let boards = size_of level in
     let more = lt-div-mul-add {a = boards + (owners - 1)} {b = owners} some in
     let turned = mul_comm owners ((boards + (owners - 1)) / owners) in
     let high : first_rank (size_of level) owners owners ≡ size_of level = omega (arith, more, turned, some) in
-    let all = blocks_from level owners 0 parts (λ i inside. subst (λ n. IsScan level owners n (part_at parts i)) (none i) (each i inside)) in
+    let all = blocks_from level owners 0 parts (λ i inside. subst (λ n. IsShare level owners n (part_at parts i)) (none i) (each i inside)) in
     let last : 0 + length parts ≡ owners = omega (arith, many) in
     subst₂ (λ (a b : ℕ). AreBlocks level a b parts) low (ap (first_rank (size_of level) owners) last ∙ high) all
   where
     none : (i : ℕ) → i ≡ 0 + i
     none i = omega arith
+
+pub scanned_whole : (level owners : ℕ) (parts : List Part) → 1 ≤ owners → length parts ≡ owners → ((i : ℕ) → i < length parts → IsScan level owners i (part_at parts i)) → AreWhole level parts
+scanned_whole level owners parts some many each =
+    shared_whole level owners parts some many (λ i inside. let scan = each i inside in record { level = scan.level; start = scan.start; end = scan.end })
 
 -- and they stay so where each part keeps its block
 pub blocks_still : (level low high : ℕ) (old new : List Part) → AllZip SameBlock old new → AreBlocks level low high old → AreBlocks level low high new
@@ -216,8 +220,19 @@ has_for rank (k ∷ notes) m has is = at (k.target == rank) refl (λ rest. has_f
     at false e more (inl same) = absurd (false≢true (sym e ∙ equal k.target rank (ap (λ (n : Note). n.target) (sym same) ∙ is)))
     at false e more (inr rest) = more rest
 
-module _ (value : List ℕ → ℤ) (level : ℕ) (parts : List Part) (whole : AreWhole level parts) (notes : ℕ → List Note) (taken sent : ℕ → ℕ → List Note)
-    (sound : AreSound value (length parts) (part_at parts) notes taken sent) where
+has_before : (xs ys : List Note) (m : Note) → Has xs m → Has (xs ++ ys) m
+has_before [] ys m has = absurd has
+has_before (k ∷ xs) ys m (inl same) = inl same
+has_before (k ∷ xs) ys m (inr rest) = inr (has_before xs ys m rest)
+
+module _ (value : List ℕ → ℤ) (level : ℕ) (parts : List Part) (coming taken : ℕ → ℕ → List Note) (some : 1 ≤ length parts)
+    (sound : AreSound value level (length parts) (part_at parts) coming taken) where
+  whole : AreWhole level parts
+  whole = shared_whole level (length parts) parts some refl sound.shares
+
+  abbrev noted : (j : ℕ) → j < length parts → List Note
+  noted j in_j = (sound.hears j in_j).notes
+
   -- a move to a board of another block leaves its own
   leaving : (i j : ℕ) → i < length parts → j < length parts → (i ≡ j → ⊥) → (p : List ℕ) (x : ℕ) (q : List ℕ) → IsBoard p → sum p ≡ (part_at parts j).level
       → InBlock (part_at parts i) (rank_of q) → IsQuietMove p x q → (target pit : ℕ) → target ≡ rank_of p → pit ≡ x → Leaves (part_at parts j) target pit
@@ -226,47 +241,52 @@ module _ (value : List ℕ → ℤ) (level : ℕ) (parts : List Part) (whole : A
       let move : IsQuietMove b x q = subst (λ (c : List ℕ). IsQuietMove c x q) same quiet in
       (q, subst (λ y. IsQuietMove b y q) (sym from) move, λ own. apart (one_holder level 0 (size_of level) parts whole i j in_i in_j (rank_of q) held own))
 
-  true_lines : (i j : ℕ) → i < length parts → j < length parts → HearsTruth (part_at parts i) (part_at parts j) (notes j)
+  true_lines : (i j : ℕ) → i < length parts → (in_j : j < length parts) → HearsTruth (part_at parts i) (part_at parts j) (noted j in_j)
   true_lines i j in_i in_j p x q is stones held_p held_q quiet m has pit = elim (cases_eq i j) [
     | inl same ↦ subst (λ k. (v : ℤ) × (d : ℕ) × IsSpread (part_at parts k) (rank_of q) v d × IsNoteOf q v d p x m) (sym same)
-        ((sound.own j in_j).true_notes p x q is stones held_p (subst (λ k. InBlock (part_at parts k) (rank_of q)) same held_q) quiet m has pit)
+        ((sound.hears j in_j).own.true_notes p x q is stones held_p (subst (λ k. InBlock (part_at parts k) (rank_of q)) same held_q) quiet m has pit)
     | inr apart ↦
-        let (heard, target) = has_in (rank_of p) (notes j) m has in
+        let (heard, target) = has_in (rank_of p) (noted j in_j) m has in
         let leaves = leaving i j in_i in_j apart p x q is stones held_q quiet m.target m.pit target pit in
-        let (k, in_k, other, took) = (sound.lines j in_j).from_taken m heard leaves in
-        let (b, r, v, d, is_b, stones_b, held_b, held_r, spread, note) = (sound.due k j in_k in_j other).none_else m (sound.in_order k j m in_k in_j other took) in
+        let held_m : InBlock (part_at parts j) m.target = subst (InBlock (part_at parts j)) (sym target) held_p in
+        let (k, in_k, other, took) = ((sound.hears j in_j).others m held_m leaves).0 heard in
+        let (r, v, d, b, y, spread, held_r, is_r, is_b, stones_b, held_b, note) = (sound.given k j in_k in_j other).true_notes m (has_before (taken k j) (coming k j) m took) in
         let board : b ≡ p = rank_fixes b p is_b.pits is.pits (stones_b ∙ sym stones) (sym note.target ∙ target) in
-        let next : r ≡ q = note.quiet.leaves ∙ ap (λ c. next_board c m.pit) board ∙ ap (next_board p) pit ∙ sym quiet.leaves in
+        let from : y ≡ x = sym note.pit ∙ pit in
+        let next : r ≡ q = note.quiet.leaves ∙ ap (λ c. next_board c y) board ∙ ap (next_board p) from ∙ sym quiet.leaves in
         let owner : k ≡ i = one_holder level 0 (size_of level) parts whole k i in_k in_i (rank_of q) (subst (λ (c : List ℕ). InBlock (part_at parts k) (rank_of c)) next held_r) held_q in
         let there : IsSpread (part_at parts k) (rank_of q) v d = subst (λ (c : List ℕ). IsSpread (part_at parts k) (rank_of c) v d) next spread in
-        let at_q : IsNoteOf q v d b m.pit m = subst (λ (c : List ℕ). IsNoteOf c v d b m.pit m) next note in
-        let at_p : IsNoteOf q v d p x m = subst₂ (λ (c : List ℕ) (y : ℕ). IsNoteOf q v d c y m) board pit at_q in
+        let at_q : IsNoteOf q v d b y m = subst (λ (c : List ℕ). IsNoteOf c v d b y m) next note in
+        let at_p : IsNoteOf q v d p x m = subst₂ (λ (c : List ℕ) (z : ℕ). IsNoteOf q v d c z m) board from at_q in
         (v, d, subst (λ l. IsSpread (part_at parts l) (rank_of q) v d) owner there, at_p)
   ]
 
   -- at any time what was heard is true
   pub sound_told : AreTold value parts
   sound_told = All-from_get_or (λ (part : Part). (ns : List Note) × IsTallied value part ns × All (λ source. HearsTruth source part ns) parts) parts no_part
-      (λ j in_j. (notes j, sound.tallied j in_j, All-from_get_or (λ (source : Part). HearsTruth source (part_at parts j) (notes j)) parts no_part (λ i in_i. true_lines i j in_i in_j)))
+      (λ j in_j. (noted j in_j, (sound.hears j in_j).tallied, All-from_get_or (λ (source : Part). HearsTruth source (part_at parts j) (noted j in_j)) parts no_part (λ i in_i. true_lines i j in_i in_j)))
 
-  module _ (arrived : (i j : ℕ) (m : Note) → i < length parts → j < length parts → (i ≡ j → ⊥) → Has (sent i j) m → Has (taken i j) m) where
-    all_lines : (i j : ℕ) → i < length parts → j < length parts → Hears (part_at parts i) (part_at parts j) (notes j)
+  module _ (arrived : (i j : ℕ) → i < length parts → j < length parts → (i ≡ j → ⊥) → coming i j ≡ []) where
+    all_lines : (i j : ℕ) → i < length parts → (in_j : j < length parts) → Hears (part_at parts i) (part_at parts j) (noted j in_j)
     all_lines i j in_i in_j = record {
       true_notes = true_lines i j in_i in_j;
       all_notes = λ p x q v d is stones held_p held_q quiet spread. elim (cases_eq i j) [
-        | inl same ↦ (sound.own j in_j).all_notes p x q v d is stones held_p (subst (λ k. InBlock (part_at parts k) (rank_of q)) same held_q) quiet
+        | inl same ↦ (sound.hears j in_j).own.all_notes p x q v d is stones held_p (subst (λ k. InBlock (part_at parts k) (rank_of q)) same held_q) quiet
             (subst (λ k. IsSpread (part_at parts k) (rank_of q) v d) same spread)
         | inr apart ↦
-            let (m, due, note) = (sound.due i j in_i in_j apart).all p x q v d is stones held_p held_q quiet spread in
-            let heard = (sound.lines j in_j).all_taken i m in_i apart (arrived i j m in_i in_j apart due) in
-            (m, has_for (rank_of p) (notes j) m heard note.target, note)
+            let (m, due, note) = (sound.given i j in_i in_j apart).all_notes q v d p x spread held_q is stones held_p quiet in
+            let took : Has (taken i j) m = subst (λ (l : List Note). Has l m) (ap (λ l. taken i j ++ l) (arrived i j in_i in_j apart) ∙ append-nil (taken i j)) due in
+            let leaves = leaving i j in_i in_j apart p x q is stones held_q quiet m.target m.pit note.target note.pit in
+            let held_m : InBlock (part_at parts j) m.target = subst (InBlock (part_at parts j)) (sym note.target) held_p in
+            let heard = ((sound.hears j in_j).others m held_m leaves).1 (i, in_i, apart, took) in
+            (m, has_for (rank_of p) (noted j in_j) m heard note.target, note)
       ];
     }
 
-    -- and where nothing is under way all was heard
+    -- and where nothing is on its way all was heard
     pub sound_heard : AreHeard value parts
     sound_heard = All-from_get_or (λ (part : Part). (ns : List Note) × IsTallied value part ns × All (λ source. Hears source part ns) parts) parts no_part
-        (λ j in_j. (notes j, sound.tallied j in_j, All-from_get_or (λ (source : Part). Hears source (part_at parts j) (notes j)) parts no_part (λ i in_i. all_lines i j in_i in_j)))
+        (λ j in_j. (noted j in_j, (sound.hears j in_j).tallied, All-from_get_or (λ (source : Part). Hears source (part_at parts j) (noted j in_j)) parts no_part (λ i in_i. all_lines i j in_i in_j)))
 
 -- ---- one part
 

@@ -10,9 +10,10 @@ pub mod Spreading
 pub mod Hearing
 pub mod Scanning
 pub mod Firsts
+pub mod Freshness
 pub mod Sending
+pub mod Queueing
+pub mod Sharing
 pub mod Finishing
 pub mod Levels
 pub mod Distances
-pub mod Between
-pub mod Sharing

@@ -32,10 +32,20 @@ abbrev pub IsInjective : Type 0
 IsInjective = (b c : List ℕ) → IsBoard b → IsBoard c → sum b ≡ sum c → rank_of b ≡ rank_of c → b ≡ c
 
 -- a source of another block changes nothing
-pub heard_elsewhere : (value : List ℕ → ℤ) (notes : List Note) (part : Part) (kind : Kind) (y : Source) → (rank_of y.0 < part.start) ⊎ (length part.cells ≤ rank_of y.0 - part.start)
+pub heard_outside : (value : List ℕ → ℤ) (notes : List Note) (part : Part) (kind : Kind) (y : Source) → is_held part (rank_of y.0) ≡ false
     → IsTallied value part notes → IsTallied value part (with_own part kind notes y)
-heard_elsewhere value notes part kind y out tallied =
-    subst (λ b. IsTallied value part (cond b (note_to part kind y ∷ notes) notes)) (sym (unheld_is part.start (rank_of y.0) (length part.cells) out)) tallied
+heard_outside value notes part kind y out tallied =
+    subst (λ b. IsTallied value part (cond b (note_to part kind y ∷ notes) notes)) (sym out) tallied
+
+-- what the test says of the block
+pub held_inside : (part : Part) (rank : ℕ) → is_held part rank ≡ true → InBlock part rank
+held_inside part rank e = (low part.start rank (length part.cells) e, high part.start rank (length part.cells) e)
+  where
+    low : (a b n : ℕ) → (nat_le a b && nat_lt (b - a) n) ≡ true → a ≤ b
+    low a b n e = grind (arith, nat_tests)
+
+    high : (a b n : ℕ) → (nat_le a b && nat_lt (b - a) n) ≡ true → b - a < n
+    high a b n e = grind (arith, nat_tests)
 
 -- a source of the block hears the note; its cell in the tally is silent at the pit
 pub heard_here : (value : List ℕ → ℤ) (notes : List Note) (part : Part) (kind : Kind) (y : Source) (cells : List Cell) (fresh : List Due) (cell next : Cell) → IsInjective → 1 ≤ part.gain

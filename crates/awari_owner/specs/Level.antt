@@ -1,5 +1,5 @@
 -- The parts of a level, all together.
-use Rattle.std.specs.Prelude.{◌≡◌, ◌≢◌, ℕ, ◌+◌, ◌-◌, ◌^◌, ◌<◌, ◌⊎◌, List, [], ◌∷◌, length, sum, ℤ, Some, All, slice_index_or}
+use Rattle.std.specs.Prelude.{◌≡◌, ℕ, ◌+◌, ◌-◌, ◌^◌, ◌<◌, ◌≤◌, ◌↔◌, List, [], ◌∷◌, ◌++◌, length, sum, ℤ, Some, All, slice_index_or}
 use Rattle.std.specs.List.{flat_map}
 use Rattle.awari_board.specs.Rules.{IsBoard}
 use Rattle.awari_rank.specs.Rank.{rank_of, size_of}
@@ -8,9 +8,9 @@ use Rattle.awari_owner.specs.Tally as tally
 use Rattle.awari_owner.specs.Cells.{view_of}
 use Rattle.awari_owner.specs.Blocks.{cell_in}
 use Rattle.awari_owner.specs.Part.{Part, InBlock, IsTallied, Leaves, settled_at}
-use Rattle.awari_owner.specs.Spread.{Source, note_to, HearsTruth, Hears, HearsOwn, IsSpread, SameBlock}
+use Rattle.awari_owner.specs.Scan.{first_rank}
+use Rattle.awari_owner.specs.Spread.{HearsTruth, Hears, HearsOwn, IsSpread}
 use Rattle.awari_owner.specs.declared.cells.Cell.{Cell}
-use Rattle.awari_owner.specs.declared.notes.Kind.{Kind}
 use Rattle.awari_owner.specs.declared.notes.Note.{Note}
 
 -- The blocks of these parts are the boards of the level from rank `low` up to, not including, rank `high`, one block after the
@@ -42,64 +42,63 @@ AreHeard value parts = All (λ part. (notes : List Note) × IsTallied value part
 abbrev pub AreTold : (List ℕ → ℤ) → List Part → Type 0
 AreTold value parts = All (λ part. (notes : List Note) × IsTallied value part notes × All (λ source. HearsTruth source part notes) parts) parts
 
--- ---- notes between the parts
-
--- m is the note that a spread board of the source gives to a board of the part
-abbrev pub IsSpreadNote : Part → Part → Note → Type 0
-IsSpreadNote source part m =
-    (p q : List ℕ) × (v : ℤ) × (d : ℕ) × IsBoard p × (sum p ≡ part.level) × InBlock part (rank_of p) × InBlock source (rank_of q)
-    × IsSpread source (rank_of q) v d × IsNoteOf q v d p m.pit m
-
--- these are the notes that the spread boards of the source give to boards of the part
-pub record AreSpreadNotes (source part : Part) (notes : List Note) : Type 0 where
-  pub none_else : (m : Note) → Has notes m → IsSpreadNote source part m
-  pub all : (p : List ℕ) (x : ℕ) (q : List ℕ) (v : ℤ) (d : ℕ) → IsBoard p → sum p ≡ part.level → InBlock part (rank_of p) → InBlock source (rank_of q) → IsQuietMove p x q
-      → IsSpread source (rank_of q) v d → (m : Note) × Has notes m × IsNoteOf q v d p x m
-
--- Of the moves that leave its block the owner, one of so many, heard the notes that it took from the others.
-pub record HearsTaken (owners owner : ℕ) (part : Part) (notes : List Note) (taken : ℕ → List Note) : Type 0 where
-  pub from_taken : (m : Note) → Has notes m → Leaves part m.target m.pit → (i : ℕ) × (i < owners) × (i ≢ owner) × Has (taken i) m
-  pub all_taken : (i : ℕ) (m : Note) → i < owners → i ≢ owner → Has (taken i) m → Has notes m
-
 abbrev pub no_part : Part
 no_part = record { level = 0; gain = 0; wave = 0; start = 0; cells = []; fresh = [] }
 
 abbrev pub part_at : List Part → ℕ → Part
 part_at parts i = slice_index_or parts i no_part
 
--- Of so many owners, j heard `notes j`; of these it took `taken i j` from the line of owner i, who made `sent i j` for it: what was
--- taken, and what is still under way, in its outbox or in the line.
-pub record AreSound (value : List ℕ → ℤ) (owners : ℕ) (part : ℕ → Part) (notes : ℕ → List Note) (taken sent : ℕ → ℕ → List Note) : Type 0 where
-  pub tallied : (j : ℕ) → j < owners → IsTallied value (part j) (notes j)
-  pub own : (j : ℕ) → j < owners → HearsOwn (part j) (notes j)
-  pub lines : (j : ℕ) → j < owners → HearsTaken owners j (part j) (notes j) (λ i. taken i j)
-  pub due : (i j : ℕ) → i < owners → j < owners → i ≢ j → AreSpreadNotes (part i) (part j) (sent i j)
-  pub in_order : (i j : ℕ) (m : Note) → i < owners → j < owners → i ≢ j → Has (taken i j) m → Has (sent i j) m
+-- ---- notes between the parts
 
--- ---- what the steps of the owners make of these
+-- m is a note that a spread board of the source gives to a board of the part
+abbrev pub IsSpreadNote : Part → Part → Note → Type 0
+IsSpreadNote source part m =
+    (q : List ℕ) × (v : ℤ) × (d : ℕ) × (p : List ℕ) × (x : ℕ)
+    × IsSpread source (rank_of q) v d × InBlock source (rank_of q) × IsBoard q × IsBoard p × (sum p ≡ part.level) × InBlock part (rank_of p) × IsNoteOf q v d p x m
 
--- all but one are the same
-abbrev pub SameBut : {X : Type 0} → ℕ → (ℕ → X) → (ℕ → X) → Type 0
-SameBut i old new = (k : ℕ) → k ≢ i → new k ≡ old k
+-- no two notes are of one move
+abbrev pub AreOfOtherMoves : List Note → Type 0
+AreOfOtherMoves [] = Unit {0}
+AreOfOtherMoves (m ∷ notes) = ((k : Note) → Has notes k → k.target ≡ m.target → k.pit ≡ m.pit → ⊥) × AreOfOtherMoves notes
 
--- the same boards are spread
-pub record SameSpread (old new : Part) : Type 0 where
-  pub block : SameBlock old new
-  pub forth : (r : ℕ) (v : ℤ) (d : ℕ) → InBlock old r → IsSpread old r v d → IsSpread new r v d
-  pub back : (r : ℕ) (v : ℤ) (d : ℕ) → InBlock old r → IsSpread new r v d → IsSpread old r v d
+-- The notes are those that the spread boards of the source give to boards of the part, each once, and no others.
+pub record AreSpreadNotes (source part : Part) (notes : List Note) : Type 0 where
+  pub true_notes : (m : Note) → Has notes m → IsSpreadNote source part m
+  pub all_notes : (q : List ℕ) (v : ℤ) (d : ℕ) (p : List ℕ) (x : ℕ) → IsSpread source (rank_of q) v d → InBlock source (rank_of q)
+      → IsBoard p → sum p ≡ part.level → InBlock part (rank_of p) → IsQuietMove p x q → (m : Note) × Has notes m × IsNoteOf q v d p x m
+  pub once : AreOfOtherMoves notes
 
--- m joins what owner j took from owner i
-pub record JoinsTaken (i j : ℕ) (m : Note) (old new : ℕ → ℕ → List Note) : Type 0 where
-  pub kept : (a b : ℕ) (n : Note) → Has (old a b) n → Has (new a b) n
-  pub joined : Has (new i j) m
-  pub only : (a b : ℕ) (n : Note) → Has (new a b) n → Has (old a b) n ⊎ ((a ≡ i) × (b ≡ j) × (n ≡ m))
+-- The cells are tallies of notes: of moves that stay in the block those to boards that were spread, and of moves that leave it
+-- those that were taken.
+pub record HearsTaken (value : List ℕ → ℤ) (part : Part) (WasTaken : Note → Type 0) : Type 0 where
+  pub notes : List Note
+  pub tallied : IsTallied value part notes
+  pub own : HearsOwn part notes
+  pub others : (m : Note) → InBlock part m.target → Leaves part m.target m.pit → Has notes m ↔ WasTaken m
 
--- the notes of these sources that are of the part's block join those that the source made for it
-pub record NotesJoin (source part : Part) (kind : Kind) (sources : List Source) (old new : List Note) : Type 0 where
-  pub kept : (m : Note) → Has old m → Has new m
-  pub joined : (k : ℕ) (y : Source) → k < length sources → InBlock part (rank_of (slice_index_or sources k y).0) → Has new (note_to source kind (slice_index_or sources k y))
-  pub only : (m : Note) → Has new m → Has old m
-      ⊎ ((k : ℕ) × (k < length sources) × ((y : Source) → InBlock part (rank_of (slice_index_or sources k y).0) × (m ≡ note_to source kind (slice_index_or sources k y))))
+-- the part has the boards of owner i, of so many, of the level of n stones
+pub record IsShare (n owners i : ℕ) (part : Part) : Type 0 where
+  pub level : part.level ≡ n
+  pub start : part.start ≡ first_rank (size_of n) owners i
+  pub end : part.start + length part.cells ≡ first_rank (size_of n) owners (i + 1)
+
+-- a note that is on its way is of the open gain and distance, and the distance can be one more
+pub record IsTimely (part : Part) (m : Note) : Type 0 where
+  pub gain : m.gain ≡ part.gain
+  pub opened : part.gain ≤ part.level
+  pub dist : m.dist ≡ part.wave
+  pub near : m.dist < 2 ^ 32 - 1
+
+-- What is true of all owners of a level at any time: the cells of each tell what the notes that it heard say, and what an owner
+-- gave to another is what was due. Of each ordered pair of owners there are the notes that were taken, and behind them those on
+-- their way.
+pub record AreSound (value : List ℕ → ℤ) (n owners : ℕ) (part : ℕ → Part) (coming taken : ℕ → ℕ → List Note) : Type 0 where
+  pub shares : (i : ℕ) → i < owners → IsShare n owners i (part i)
+  pub gain : (i : ℕ) → i < owners → (part i).gain ≡ (part 0).gain
+  pub wave : (i : ℕ) → i < owners → (part i).wave ≡ (part 0).wave
+  pub hears : (j : ℕ) → j < owners → HearsTaken value (part j) (λ m. (i : ℕ) × (i < owners) × (i ≡ j → ⊥) × Has (taken i j) m)
+  pub given : (i j : ℕ) → i < owners → j < owners → (i ≡ j → ⊥) → AreSpreadNotes (part i) (part j) (taken i j ++ coming i j)
+  pub timely : (i j : ℕ) → i < owners → j < owners → (i ≡ j → ⊥) → (m : Note) → Has (coming i j) m → IsTimely (part 0) m
 
 -- ---- distances
 

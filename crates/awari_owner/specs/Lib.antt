@@ -11,3 +11,4 @@ pub mod Level
 pub mod Finish
 pub mod Scan
 pub mod Outboxes
+pub mod Queues

@@ -4,8 +4,8 @@ use Rattle.awari_board.specs.Rules.{IsBoard}
 use Rattle.awari_rank.specs.Rank.{rank_of}
 use Rattle.awari_owner.specs.Notes.{IsQuietMove}
 use Rattle.awari_owner.specs.Tally as tally
-use Rattle.awari_owner.specs.Cells.{view_of}
-use Rattle.awari_owner.specs.Blocks.{Due, due_dist, cell_in, unsettled, JoinNewlySettled}
+use Rattle.awari_owner.specs.Cells.{view_of, IsEither}
+use Rattle.awari_owner.specs.Blocks.{Due, due_rank, due_dist, cell_in, times_due, unsettled, JoinNewlySettled}
 use Rattle.awari_owner.specs.declared.cells.Cell.{Cell}
 use Rattle.awari_owner.specs.declared.places.Place.{Place}
 use Rattle.awari_owner.specs.declared.notes.Note.{Note}
@@ -81,6 +81,15 @@ settled_at part rank = settled_by (cell_at part rank).status
 abbrev pub IsLeastDue : Part → Option ℕ → Type 0
 IsLeastDue part None = part.fresh ≡ []
 IsLeastDue part (Some dist) = Any (λ f. due_dist f ≡ dist) part.fresh × All (λ f. dist ≤ due_dist f) part.fresh
+
+-- a fresh board: a settled board of the block, of the open gain, either way, and not nearer than the open distance
+abbrev pub IsFreshIn : Part → Due → Type 0
+IsFreshIn part f = (v : ℤ) × InBlock part (due_rank f) × IsEither part.gain v × (settled_at part (due_rank f) ≡ Some (v, due_dist f)) × (part.wave ≤ due_dist f)
+
+-- the fresh boards are such, each once
+pub record AreFresh (part : Part) : Type 0 where
+  pub boards : All (IsFreshIn part) part.fresh
+  pub once : (rank : ℕ) → times_due part.fresh rank ≤ 1
 
 -- some board of the block is settled with the greatest distance that can be stored
 abbrev pub HasFarthest : Part → Type 0

@@ -1,14 +1,16 @@
--- The notes that a settled board gives to the boards of its own block, and what a part hears of the boards of another.
-use Rattle.std.specs.Prelude.{◌≡◌, ℕ, ◌+◌, ◌-◌, ◌<◌, ◌≤◌, ◌⊎◌, ◌&&◌, Bool, false, ◌==◌, nat_le, nat_lt, if◌then◌else◌, List, ◌∷◌, ◌++◌, length, fold, sum, All, ℤ, pos, int_lt, Some}
+-- The notes that a settled board gives to the boards of its own block, what a part hears of the boards of another, and what is sent.
+use Rattle.std.specs.Prelude.{◌≡◌, ℕ, ◌+◌, ◌-◌, ◌^◌, ◌<◌, ◌≤◌, ◌⊎◌, ◌&&◌, Bool, false, ◌==◌, nat_le, nat_lt, if◌then◌else◌, List, ◌∷◌, ◌++◌, [], ◌/◌, not, length, fold, filter, sum, All, ℤ, pos, int_lt, Some}
 use Rattle.awari_board.specs.Rules.{IsBoard}
 use Rattle.awari_rank.specs.Rank.{rank_of, size_of}
 use Rattle.awari_owner.specs.Notes.{IsQuietMove, Has, is_heard_at, IsNoteOf}
 use Rattle.awari_unmove.specs.Predecessors.{IsPredecessors}
+use Rattle.awari_owner.specs.Cells.{IsEither}
 use Rattle.awari_owner.specs.Blocks.{times_due, due_dist, due_rank, is_settled_in}
 use Rattle.awari_owner.specs.declared.notes.Kind.TheVariants.{Won, Lost}
 use Rattle.awari_owner.specs.Part.{Part, InBlock, IsTallied, notes_for, settled_at, stored_at}
 use Rattle.awari_owner.specs.Scan.{first_rank}
-use Rattle.awari_owner.specs.Outboxes.{Outboxes}
+use Rattle.awari_owner.specs.Outboxes.{Outboxes, queue_to, with_note, with_notes}
+use Rattle.awari_owner.specs.Queues.{Queue, queue_in}
 use Rattle.awari_owner.specs.declared.notes.Note.{Note}
 use Rattle.awari_owner.specs.declared.notes.Kind.{Kind}
 
@@ -106,6 +108,10 @@ pub record Spreads (old new : Part) (q : List ℕ) (sources : List Source) : Typ
   pub board : IsBoard q
   pub stones : sum q ≡ old.level
   pub first : IsFirst old (rank_of q)
+  pub once : times_due old.fresh (rank_of q) ≤ 1
+  pub opened : old.gain ≤ old.level
+  pub valued : IsEither old.gain (stored_at old (rank_of q)).score
+  pub near : old.wave < 2 ^ 32 - 1
   pub predecessors : IsPredecessors q sources
   pub becomes : SpreadsOne old new q (stored_at old (rank_of q)).score old.wave
   pub gives : (y : Source) → IsQuietMove y.0 y.1 q → sum y.0 ≡ old.level
@@ -118,8 +124,45 @@ pub record Spreads (old new : Part) (q : List ℕ) (sources : List Source) : Typ
 
 -- ---- what is sent to other owners
 
+-- whether the board of this rank is in the block of this owner, where so many boards are shared out
+abbrev pub is_in_block : ℕ → ℕ → ℕ → ℕ → Bool
+is_in_block boards owners owner rank = nat_le (first_rank boards owners owner) rank && nat_lt rank (first_rank boards owners (owner + 1))
+
 -- the block of the part is that of the outboxes' owner
 pub record IsPartOf (part : Part) (outboxes : Outboxes) : Type 0 where
   pub owner : outboxes.owner < length outboxes.queues
   pub start : part.start ≡ first_rank (size_of part.level) (length outboxes.queues) outboxes.owner
   pub end : part.start + length part.cells ≡ first_rank (size_of part.level) (length outboxes.queues) (outboxes.owner + 1)
+
+-- the notes that q, of this value and distance, gives to these sources: one to each, in their order
+abbrev pub AreNotesOf : List ℕ → ℤ → ℕ → List Source → List Note → Type 0
+AreNotesOf q v d [] [] = Unit {0}
+AreNotesOf q v d [] (m ∷ notes) = ⊥
+AreNotesOf q v d (y ∷ sources) [] = ⊥
+AreNotesOf q v d (y ∷ sources) (m ∷ notes) = IsNoteOf q v d y.0 y.1 m × AreNotesOf q v d sources notes
+
+-- The first fresh board q is of this value and distance, and gives a note to each of its sources. Those for boards of another
+-- block are put to the outbox of its owner, in order, and nothing else is.
+pub record Sends (part : Part) (q : List ℕ) (sources : List Source) (notes : List Note) (old new : Outboxes) : Type 0 where
+  pub settled : settled_at part (rank_of q) ≡ Some ((stored_at part (rank_of q)).score, part.wave)
+  pub gives : AreNotesOf q (stored_at part (rank_of q)).score part.wave sources notes
+  pub same_owner : new.owner ≡ old.owner
+  pub owners : length new.queues ≡ length old.queues
+  pub own : queue_to new old.owner ≡ queue_to old old.owner
+  pub sent : (to : ℕ) → to < length old.queues → (to ≡ old.owner → ⊥)
+      → queue_to new to ≡ with_notes (queue_to old to) (filter (λ m. is_in_block (size_of part.level) (length old.queues) to m.target) notes)
+
+-- a source of another block, in blocks of `span` boards, has its note put to that owner's queue
+abbrev pub goes_to : Part → ℕ → ℕ → Source → Bool
+goes_to part span to y = not (is_held part (rank_of y.0)) && (rank_of y.0 / span == to)
+
+abbrev pub with_sent : Part → ℕ → ℕ → Kind → List (List Note) → Source → List (List Note)
+with_sent part span to kind queue y = if goes_to part span to y then with_note queue (note_to part kind y) else queue
+
+abbrev pub with_all_sent : Part → ℕ → ℕ → Kind → List (List Note) → List Source → List (List Note)
+with_all_sent part span to kind queue sources = fold (with_sent part span to kind) queue sources
+
+-- the notes for these sources of other blocks are put to the queues of their owners
+abbrev pub PutsAll : Part → ℕ → Kind → List Queue → List Queue → List Source → Type 0
+PutsAll part span kind queues queues' sources =
+    (to : ℕ) → to < length queues → queue_in queues' to ≡ with_all_sent part span to kind (queue_in queues to) sources

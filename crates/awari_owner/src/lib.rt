@@ -16,14 +16,16 @@ mod notes;
 mod outboxes;
 mod parts;
 mod places;
+mod queues;
 mod scans;
 mod spreads;
 
 pub use faults::OwnerFault;
 pub use laws::{
     closed_parts_are_right, distances_fit, one_part_hears_all, quiet_boards_are_right,
-    scanned_parts_are_whole, sound_parts_are_told, steps_keep_sound,
+    scanned_parts_are_whole, sound_parts_are_told,
 };
 pub use notes::{Kind, Note};
-pub use outboxes::{Batch, Outboxes};
+pub use outboxes::Outboxes;
 pub use parts::Part;
+pub use queues::{Batch, MOST_NOTES};

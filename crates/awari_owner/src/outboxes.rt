@@ -1,37 +1,30 @@
 //! The notes that an owner has still to send.
 
-ghost use Rattle.std.specs.Prelude.{◌≡◌, ◌≤◌, ◌<◌, ◌↔◌, [], All, IfOk, IsTrue, replicate};
-ghost use Rattle.awari_owner.specs.Outboxes.{AreOutboxes, Outboxes as OutboxesView};
+ghost use Rattle.std.specs.Prelude.{◌≡◌, ◌≢◌, ◌≤◌, ◌<◌, ◌↔◌, ◌∷◌, [], All, List, IfOk, IfSome, IfNone, IsTrue, replicate, slice_set};
+ghost use Rattle.awari_owner.specs.Outboxes.{AreOutboxes, Outboxes as OutboxesView, queue_to};
+ghost use Rattle.awari_owner.specs.declared.notes.Note.{Note as NoteView};
 
-use crate::notes::Note;
-use arrayvec::ArrayVec;
+use crate::queues::{Batch, Queue};
 use std::alloc::{AllocError, Global};
-use std::collections::VecDeque;
 use std::marker::Model;
-
-/// How many notes are sent at once, at most.
-pub const MOST_NOTES: usize = 32;
-
-/// Notes that are sent at once.
-pub type Batch = ArrayVec<Note, MOST_NOTES>;
 
 /// What an owner has still to send: a queue of batches for each owner, its own being empty. Each
 /// batch has a note.
 #[derive(Drop)]
 pub struct Outboxes {
-    owner: u8,
-    queues: Vec<VecDeque<Batch>>,
+    pub(crate) owner: u8,
+    pub(crate) queues: Vec<Queue>,
 }
 
 impl Model for Outboxes {
-    ghost use Rattle.std.specs.Prelude.{map};
     ghost use Rattle.awari_owner.specs.Outboxes.{AreOutboxes, Outboxes as OutboxesView};
+    ghost use Rattle.awari_owner.specs.Queues.{batches_of};
 
     ghost Value = { OutboxesView };
 
-    ghost view = { λ o. record { owner = o.owner; queues = map (λ q. map (λ b. b.items) q.items) o.queues.items } };
+    ghost view = { λ o. record { owner = o.owner; queues = batches_of o.queues.items } };
 
-    ghost invariant = { λ o. AreOutboxes (record { owner = o.owner; queues = map (λ q. map (λ b. b.items) q.items) o.queues.items }) };
+    ghost invariant = { λ o. AreOutboxes (record { owner = o.owner; queues = batches_of o.queues.items }) };
 }
 
 impl Outboxes {
@@ -44,7 +37,7 @@ impl Outboxes {
     {
         let mut queues = Vec::with_capacity(alloc, owners as usize)?;
         for _owner in 0..owners {
-            queues.push(VecDeque::new(alloc))?;
+            queues.push(Queue::new(alloc))?;
         }
         Ok(Outboxes { owner, queues })
     }
@@ -61,5 +54,24 @@ impl Outboxes {
             }
         }
         true
+    }
+
+    /// A copy of the first batch that is to be sent to this owner. None where nothing is, and where
+    /// `to` is no other owner.
+    pub fn front(&self, to: u8) -> Option<Batch>
+        ensures some { IfSome result (λ batch. (rest : List (List NoteView)) × (queue_to self.now to ≡ batch.items ∷ rest)) }
+        ensures none { IfNone result (queue_to self.now to ≡ []) }
+        ensures other { queue_to self.now self.now.owner ≡ [] }
+    {
+        self.queues.get(to as usize)?.front()
+    }
+
+    /// Drops the first batch that is to be sent to this owner, of which there is one.
+    pub fn drop_front(&mut self, to: u8)
+        requires { queue_to self.old to ≢ [] }
+        ensures { (batch : List NoteView) × (rest : List (List NoteView)) × (queue_to self.old to ≡ batch ∷ rest)
+            × (self.new ≡ record self.old { queues = slice_set self.old.queues to rest }) }
+    {
+        self.queues[to as usize].drop_front();
     }
 }

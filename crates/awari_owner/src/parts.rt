@@ -1,14 +1,14 @@
 //! One owner's part of a level, and what is asked of it between two spreads.
 
-ghost use Rattle.std.specs.Prelude.{◌≡◌, ◌≢◌, ℕ, ℤ, ◌+◌, ◌-◌, ◌^◌, ◌<◌, ◌≤◌, ◌∷◌, ◌↔◌, List, IsTrue, OnOk, OnErr, IfOk, IfErr, IfSome, All, sum, true, false, length, []};
+ghost use Rattle.std.specs.Prelude.{◌≡◌, ◌≢◌, ◌⊎◌, ℕ, ℤ, ◌+◌, ◌-◌, ◌^◌, ◌<◌, ◌≤◌, ◌∷◌, ◌↔◌, List, IsTrue, OnOk, OnErr, IfOk, IfErr, IfSome, All, sum, true, false, length, []};
 ghost use Rattle.awari_rank.specs.Rank.{size_of};
 ghost use Rattle.awari_owner.specs.Tally.{has_pit};
 ghost use Rattle.awari_owner.specs.Cells.{IsWithin, IsBeyond};
 ghost use Rattle.awari_owner.specs.Blocks.{due_dist, KeepSettled};
-ghost use Rattle.awari_owner.specs.Part.{Part as PartView, InBlock, Leaves, IsExpected, IsTallied, stored_at, PutsCell, SameLevel, JoinsFresh, settled_at, IsLeastDue, HasFarthest, unspread};
+ghost use Rattle.awari_owner.specs.Part.{Part as PartView, InBlock, Leaves, IsExpected, IsTallied, stored_at, PutsCell, SameLevel, JoinsFresh, settled_at, IsLeastDue, AreFresh, HasFarthest, unspread};
 ghost use Rattle.awari_owner.specs.OwnerFault.{IsFaultOf};
 ghost use Rattle.awari_owner.specs.Scan.{IsScan, IsWhole};
-ghost use Rattle.awari_owner.specs.Spread.{HearsOwn, IsPartOf, Source, Spreads};
+ghost use Rattle.awari_owner.specs.Spread.{HearsOwn, IsPartOf, Sends, Source, Spreads};
 ghost use Rattle.awari_table.specs.Images.{table_of};
 ghost use Rattle.awari_table.specs.declared.TheConstants.{HIGHEST_LEVEL};
 ghost use Rattle.awari_owner.specs.declared.faults.OwnerFault.{OwnerFault};
@@ -19,9 +19,10 @@ use crate::cells::{Cell, Mark};
 use crate::faults::OwnerFault;
 use crate::notes::Note;
 use crate::outboxes::Outboxes;
-use crate::places::{Place, first_rank};
+use crate::places::{Place, block_length, first_rank};
+use crate::queues::reserve_others;
 use crate::scans::scanned_block;
-use crate::spreads::{hear_own, kind_of};
+use crate::spreads::{kind_of, tell_all};
 use awari_board::{SIDE, moves_keep_boards};
 use awari_rank::{rank, ranks_tell_boards_apart, size, unrank};
 use awari_table::{Shelf, shelves_are_certificates};
@@ -65,6 +66,7 @@ impl Part {
         ensures whole { owners ≡ 1 → IfOk result IsWhole }
         ensures tallied { IfOk result (λ part. IsTallied (table_of shelf.now).value part []) }
         ensures hears { IfOk result (λ part. HearsOwn part []) }
+        ensures fresh { IfOk result AreFresh }
         ensures memory { IfErr result (λ fault. fault ≡ OwnerFault.Memory) }
     {
         shelves_are_certificates();
@@ -161,6 +163,7 @@ impl Part {
         ensures joins { JoinsFresh self.old self.new }
         ensures stays { KeepSettled self.old.start self.old.cells self.new.cells }
         ensures unspread { unspread self.new ≡ unspread self.old }
+        ensures fresh { AreFresh self.new }
     {
         self.place = Place {
             gain,
@@ -177,6 +180,7 @@ impl Part {
         ensures opened { (value : List ℕ → ℤ) (notes : List NoteView) → IsTallied value self.old notes → IsTallied value self.new notes }
         ensures hears { (notes : List NoteView) → HearsOwn self.old notes → HearsOwn self.new notes }
         ensures wave { self.new ≡ record self.old { wave = dist } }
+        ensures fresh { AreFresh self.new }
     {
         self.place = Place {
             wave: dist,
@@ -193,7 +197,7 @@ impl Part {
         ensures puts { OnOk result (PutsCell self.old self.new note.target) }
         ensures stays { KeepSettled self.old.start self.old.cells self.new.cells }
         ensures unspread { unspread self.new ≡ unspread self.old }
-
+        ensures fresh { AreFresh self.new }
         ensures ok { OnOk result (IsExpected self.old note × (has_pit (stored_at self.old note.target).heard note.pit ≡ false) × (note.dist < 2 ^ 32 - 1)) }
         ensures refused { IfErr result (IsFaultOf self.old note) }
         ensures err { OnErr result (self.new ≡ self.old) }
@@ -224,20 +228,26 @@ impl Part {
     /// It is false where no board is fresh, or the first is farther. Refused as 32 `Far` where its
     /// distance is the greatest that can be stored, and then nothing changes.
     ///
-    /// The outboxes are those of the part's owner. The block has all boards of the level, so there is
-    /// nothing to send. It takes no memory.
+    /// The outboxes are those of the part's owner. Predecessors in the block hear of the board at once.
+    /// For each other one a note is put to the outbox of the owner of its block, in the order in which
+    /// [`Unmoves`](awari_unmove::Unmoves) gives them. Room for the notes is taken first, and refused as 33
+    /// `Memory`; then nothing changes. It takes none where there is no other owner.
     pub fn spread_one(&mut self, outboxes: &mut Outboxes) -> Result<bool, OwnerFault>
-        requires whole { IsWhole self.old }
         requires part { IsPartOf self.old outboxes.old }
-        ensures spread { result ≡ Ok true → (q : List ℕ) × (sources : List Source) × Spreads self.old self.new q sources }
+        ensures spread { result ≡ Ok true → (q : List ℕ) × (sources : List Source) × (notes : List NoteView)
+            × Spreads self.old self.new q sources × Sends self.old q sources notes outboxes.old outboxes.new }
         ensures unspread { result ≡ Ok true → unspread self.new + 1 ≡ unspread self.old }
         ensures none { result ≡ Ok false → self.new ≡ self.old }
         ensures due { result ≡ Ok false → IsLeastDue self.old (Some self.old.wave) → ⊥ }
+        ensures least { (result ≡ Ok false → ⊥) → IsLeastDue self.old (Some self.old.wave) }
         ensures same { SameLevel self.old self.new × (length self.new.cells ≡ length self.old.cells) }
         ensures stays { KeepSettled self.old.start self.old.cells self.new.cells }
-        ensures far { IfErr result (λ fault. (fault ≡ OwnerFault.Far) × (self.old.wave ≡ 2 ^ 32 - 1) × IsLeastDue self.old (Some self.old.wave) × HasFarthest self.old) }
-        ensures err { OnErr result (self.new ≡ self.old) }
-        ensures sends { outboxes.new ≡ outboxes.old }
+        ensures fresh { AreFresh self.new }
+        ensures fault { IfErr result (λ fault. ((fault ≡ OwnerFault.Far) × (self.old.wave ≡ 2 ^ 32 - 1) × IsLeastDue self.old (Some self.old.wave) × HasFarthest self.old)
+            ⊎ ((fault ≡ OwnerFault.Memory) × (1 < length outboxes.old.queues))) }
+        ensures err { OnErr result ((self.new ≡ self.old) × (outboxes.new ≡ outboxes.old)) }
+        ensures kept { result ≡ Ok false → outboxes.new ≡ outboxes.old }
+        ensures owner { (outboxes.new.owner ≡ outboxes.old.owner) × (length outboxes.new.queues ≡ length outboxes.old.queues) }
     {
         let Some(first) = self.fresh.peek() else {
             return Ok(false);
@@ -249,14 +259,26 @@ impl Part {
         if dist == u32::MAX {
             return Err(OwnerFault::Far);
         }
+        let Ok(()) = reserve_others(&mut outboxes.queues, outboxes.owner) else {
+            return Err(OwnerFault::Memory);
+        };
         moves_keep_boards();
         ranks_tell_boards_apart();
+        let span = block_length(size(self.place.level), outboxes.queues.len() as u8);
         let kind = kind_of(&self.cells[(rank - self.place.start) as usize]);
         let board = unrank(self.place.level, rank);
         let Some(_) = self.fresh.pop() else {
             unreachable!()
         };
-        hear_own(&mut self.cells, &mut self.fresh, self.place, kind, &board);
+        tell_all(
+            &mut self.cells,
+            &mut self.fresh,
+            &mut outboxes.queues,
+            span,
+            self.place,
+            kind,
+            &board,
+        );
         Ok(true)
     }
 

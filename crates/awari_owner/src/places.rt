@@ -1,6 +1,6 @@
 //! Where a part stands, and where its block begins.
 
-ghost use Rattle.std.specs.Prelude.{◌≡◌, ◌≤◌};
+ghost use Rattle.std.specs.Prelude.{◌≡◌, ◌≤◌, ◌+◌, ◌-◌, ◌/◌};
 ghost use Rattle.awari_owner.specs.Scan.{first_rank};
 
 /// The level, the open gain and distance, and where the block begins.
@@ -24,6 +24,14 @@ pub fn first_rank(boards: u32, owners: u8, owner: u8) -> u32
     ensures rank { result ≡ first_rank boards owners owner }
     ensures within { result ≤ boards }
 {
-    let length = (u64::from(boards) + (u64::from(owners) - 1)) / u64::from(owners);
-    (u64::from(owner) * length).min(u64::from(boards)) as u32
+    let length = block_length(boards, owners);
+    (u64::from(owner) * u64::from(length)).min(u64::from(boards)) as u32
+}
+
+/// How long the blocks are in which so many boards are shared out.
+pub fn block_length(boards: u32, owners: u8) -> u32
+    requires some { 1 ≤ owners }
+    ensures { result ≡ (boards + (owners - 1)) / owners }
+{
+    ((u64::from(boards) + (u64::from(owners) - 1)) / u64::from(owners)) as u32
 }

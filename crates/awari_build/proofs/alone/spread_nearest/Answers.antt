@@ -1,4 +1,4 @@
-use Rattle.std.proofs.Common.{ℕ, ℤ, List, Ok, ap, sym, subst, ◌∙◌, arith}
+use Rattle.std.proofs.Common.{ℕ, ℤ, List, Ok, inl, inr, ap, sym, subst, ◌∙◌, arith}
 use Rattle.awari_owner.specs.Part.{Part, HasFarthest}
 use Rattle.awari_owner.specs.Scan.{IsWhole}
 use Rattle.awari_owner.proofs.Sharing.{whole_part}
@@ -14,21 +14,25 @@ unreachable-requires-in-Err c =
     let (value, sound) = known in
     let low = c.requires.low in
     let fits = whole_fits value c.args.part.now c.distances_fit.ensures.settled (omega (arith, low)) c.requires.whole sound in
-    let farthest : HasFarthest c.args.part.now = elim c.if-wave-dist.branch [
-      | then-wave-dist w ↦ subst (λ (p : Part). HasFarthest p) (w.part-is ∙ w.open_wave.ensures.wave) c.in-Err.ensures.far.3
-      | else-wave-dist w ↦ subst (λ (p : Part). HasFarthest p) w.part-is c.in-Err.ensures.far.3
-    ] in
-    let (rank, v, held, settled) = farthest in
-    let f = fits rank v 4294967295 held settled in
-    omega (arith, f)
+    elim c.in-Err.ensures.fault [
+      | inl far ↦
+          let farthest : HasFarthest c.args.part.now = elim c.if-wave-dist.branch [
+            | then-wave-dist w ↦ subst (λ (p : Part). HasFarthest p) (w.part-is ∙ w.open_wave.ensures.wave) far.3
+            | else-wave-dist w ↦ subst (λ (p : Part). HasFarthest p) w.part-is far.3
+          ] in
+          let (rank, v, held, settled) = farthest in
+          let f = fits rank v 4294967295 held settled in
+          omega (arith, f)
+      | inr memory ↦ (let more = memory.1 in let alone = c.requires.alone.1 in omega (arith, more, alone))
+    ]
 
-pub spread_one-requires-clause-part : goal.spread_one-requires-clause-part
-spread_one-requires-clause-part c =
+pub spread_one-requires : goal.spread_one-requires
+spread_one-requires c =
     let opened : IsWhole c.if-wave-dist.part = elim c.if-wave-dist.branch [
       | then-wave-dist w ↦ subst (λ (p : Part). IsWhole p) (sym w.part-is) (subst (λ (p : Part). IsWhole p) (sym w.open_wave.ensures.wave) (record { start = c.requires.whole.start; all = c.requires.whole.all }))
       | else-wave-dist w ↦ subst (λ (p : Part). IsWhole p) (sym w.part-is) c.requires.whole
     ] in
-    whole_part c.if-wave-dist.part c.args.outboxes.now opened c.requires.alone.0 c.requires.alone.1
+    record { part = whole_part c.if-wave-dist.part c.args.outboxes.now opened c.requires.alone.0 c.requires.alone.1 }
 
 pub returns-clause-sound : goal.returns-clause-sound
 returns-clause-sound c = λ value sound.
@@ -36,5 +40,5 @@ returns-clause-sound c = λ value sound.
       | then-wave-dist w ↦ subst (λ (p : Part). IsSound value p) (sym w.part-is) (sound_opened value _ _ w.open_wave.ensures.opened w.open_wave.ensures.hears sound)
       | else-wave-dist w ↦ subst (λ (p : Part). IsSound value p) (sym w.part-is) sound
     ] in
-    let (q, sources, spreads) = c.in-Ok-true.ensures.spread (ap Ok c.in-Ok-true.field-0-test) in
+    let (q, sources, notes, spreads, sends) = c.in-Ok-true.ensures.spread (ap Ok c.in-Ok-true.field-0-test) in
     sound_spread value _ _ q sources spreads opened

@@ -1,5 +1,6 @@
-use Rattle.std.proofs.Common.{◌≡◌, [], map, replicate}
+use Rattle.std.proofs.Common.{◌≡◌, [], replicate}
+use Rattle.awari_owner.specs.Queues.{batches_of}
 use Rattle.awari_owner.proofs.outboxes.Outboxes.new.Given as goal
 
 abbrev pub invariant-loop-owner : goal.invariant-loop-owner
-invariant-loop-owner l = map (λ q. map (λ b. b.items) q.items) l.queues.items ≡ replicate l._owner []
+invariant-loop-owner l = batches_of l.queues.items ≡ replicate l._owner []

@@ -1,6 +1,8 @@
 use Rattle.std.proofs.Common.{◌≡◌, ◌+◌, ◌<◌, vec_len, refl, ap, subst, sym, ◌∙◌, rules, heap_items, length}
 use Rattle.awari_owner.specs.Part.{Part, part_of, IsTallied}
 use Rattle.awari_owner.specs.Spread.{HearsOwn}
+use Rattle.std.specs.BinaryHeap.{heap_capacity}
+use Rattle.awari_owner.proofs.Freshness.{fresh_of_block}
 use Rattle.awari_owner.proofs.Gains.{opened}
 use Rattle.awari_owner.proofs.Hearing.{hears_still}
 use Rattle.awari_owner.proofs.parts.Part.open_gain.Goals as goal
@@ -23,3 +25,6 @@ returns-clause-hears c = λ notes.
     let same : length c.open_cells.new.cells.items ≡ length c.self.inside.cells.items = search rules in
     subst (λ (o : Part). HearsOwn o notes → HearsOwn new notes) c.self.view_is
     (λ own. hears_still old new notes own refl refl same c.open_cells.ensures.stays c.open_cells.ensures.joined)
+
+pub returns-clause-fresh : goal.returns-clause-fresh
+returns-clause-fresh c = fresh_of_block _ c.open_cells.new.cells.items (heap_items c.open_cells.new.fresh) (heap_capacity c.open_cells.new.fresh) c.open_cells.ensures.sound

@@ -4,6 +4,8 @@ use Rattle.awari_owner.specs.Tally.{has_pit}
 use Rattle.awari_owner.specs.Blocks.{no_cell}
 use Rattle.awari_owner.specs.Part.{Part, part_of, IsExpected, IsTallied}
 use Rattle.awari_owner.specs.Spread.{HearsOwn}
+use Rattle.std.specs.BinaryHeap.{heap_capacity}
+use Rattle.awari_owner.proofs.Freshness.{fresh_of_block, fresh_of_part}
 use Rattle.awari_owner.proofs.Hearing.{hears_kept}
 use Rattle.awari_owner.proofs.Taking.{added_put, expected_takeable}
 use Rattle.awari_owner.specs.Cells.{status_of}
@@ -30,3 +32,15 @@ returns-clause-hears c = λ notes.
     ap length c.put.ensures.cells ∙ length-set c.self.inside.cells.items (c.args.note.target - c.self.inside.place.start) c.with_note-next.result in
     subst (λ (o : Part). HearsOwn o notes → HearsOwn new (c.args.note ∷ notes)) c.self.view_is
     (λ own. hears_kept old new notes c.args.note own due.leaves refl refl len c.put.ensures.stays c.put.ensures.joined)
+
+pub returns-then-not-expects-clause-fresh : goal.returns-then-not-expects-clause-fresh
+returns-then-not-expects-clause-fresh c = fresh_of_part c.self.inside.place c.self.inside.cells.items (heap_items c.self.inside.fresh) (heap_capacity c.self.inside.fresh) c.args.self.now c.self.view_is c.self.invariant.block
+
+pub returns-then-has_heard-clause-fresh : goal.returns-then-has_heard-clause-fresh
+returns-then-has_heard-clause-fresh c = fresh_of_part c.self.inside.place c.self.inside.cells.items (heap_items c.self.inside.fresh) (heap_capacity c.self.inside.fresh) c.args.self.now c.self.view_is c.self.invariant.block
+
+pub returns-then-note-clause-fresh : goal.returns-then-note-clause-fresh
+returns-then-note-clause-fresh c = fresh_of_part c.self.inside.place c.self.inside.cells.items (heap_items c.self.inside.fresh) (heap_capacity c.self.inside.fresh) c.args.self.now c.self.view_is c.self.invariant.block
+
+pub returns-clause-fresh : goal.returns-clause-fresh
+returns-clause-fresh c = fresh_of_block c.self.inside.place c.put.new.cells.items (heap_items c.put.new.fresh) (heap_capacity c.put.new.fresh) c.put.ensures.sound

@@ -1,0 +1,34 @@
+-- What the fresh boards of a part are.
+use Rattle.std.proofs.Common.{◌≡◌, ℕ, ◌≤◌, Bool, true, false, if◌then◌else◌, List, subst, arith}
+use Rattle.std.proofs.lemmas.List.Elements.{All-from_recursion, recursion_from_All}
+use Rattle.awari_owner.specs.Blocks.{Due, due_rank, due_dist, cell_in, is_settled_in, times_due, IsDueAs, IsBlock}
+use Rattle.awari_owner.specs.Part.{Part, AreFresh, IsFreshIn, part_of}
+use Rattle.awari_owner.specs.declared.cells.Cell.{Cell}
+use Rattle.awari_owner.specs.declared.places.Place.{Place}
+use Rattle.awari_owner.proofs.BlockLemmas.{all_both, due_settled, settled_inside}
+use Rattle.awari_owner.proofs.Distances.{settled_cell}
+
+-- they are settled boards of the block, each once
+pub fresh_of_block : (place : Place) (cells : List Cell) (fresh : List Due) (capacity : ℕ) → IsBlock place cells fresh capacity → AreFresh (part_of place cells fresh)
+fresh_of_block place cells fresh capacity sound = record {
+  boards = All-from_recursion (IsFreshIn (part_of place cells fresh)) fresh
+      (all_both (λ (f : Due). is_settled_in place.start cells (due_rank f) ≡ true) (λ (f : Due). IsDueAs place f (cell_in place.start cells (due_rank f))) (IsFreshIn (part_of place cells fresh)) fresh one
+      (due_settled (is_settled_in place.start cells) fresh sound.settled) (recursion_from_All _ fresh sound.due));
+  once = λ rank. at_most (is_settled_in place.start cells rank) (times_due fresh rank) (sound.settled rank);
+}
+  where
+    one : (f : Due) → is_settled_in place.start cells (due_rank f) ≡ true → IsDueAs place f (cell_in place.start cells (due_rank f)) → IsFreshIn (part_of place cells fresh) f
+    one f settled due =
+        let inside = settled_inside place.start cells (due_rank f) settled in
+        let cell = cell_in place.start cells (due_rank f) in
+        let timely = due.timely in
+        (cell.score, (inside.0, inside.1), due.valued, settled_cell cell (due_dist f) inside.2 due.near, omega (arith, timely, due.near))
+
+    at_most : (b : Bool) (n : ℕ) → n ≤ (if b then 1 else 0) → n ≤ 1
+    at_most true n h = h
+    at_most false n h = omega (arith, h)
+
+-- so they are where this is the part's block
+pub fresh_of_part : (place : Place) (cells : List Cell) (fresh : List Due) (capacity : ℕ) (part : Part) → part_of place cells fresh ≡ part → IsBlock place cells fresh capacity
+    → AreFresh part
+fresh_of_part place cells fresh capacity part same sound = subst AreFresh same (fresh_of_block place cells fresh capacity sound)

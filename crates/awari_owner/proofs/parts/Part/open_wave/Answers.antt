@@ -1,0 +1,12 @@
+use Rattle.std.proofs.Common.{rules, heap_items}
+use Rattle.std.specs.BinaryHeap.{heap_capacity}
+use Rattle.awari_owner.specs.Blocks.{IsBlock}
+use Rattle.awari_owner.specs.declared.places.Place.{Place}
+use Rattle.awari_owner.proofs.Freshness.{fresh_of_block}
+use Rattle.awari_owner.proofs.parts.Part.open_wave.Goals as goal
+
+pub returns-clause-fresh : goal.returns-clause-fresh
+returns-clause-fresh c =
+    let place : Place = record c.self.inside.place { wave = c.args.dist } in
+    let block : IsBlock place c.self.inside.cells.items (heap_items c.self.inside.fresh) (heap_capacity c.self.inside.fresh) = search rules in
+    fresh_of_block place c.self.inside.cells.items (heap_items c.self.inside.fresh) (heap_capacity c.self.inside.fresh) block
