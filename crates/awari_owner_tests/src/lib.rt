@@ -1,11 +1,15 @@
 //! Tests of parts of a level by public calls alone, on levels 0 and 1, where everything can be worked
-//! out by hand.
+//! out by hand, and of the levels that one part builds and that owners build by lists of events.
 #![tactic(auto)]
 
 #[cfg(test)]
 mod built;
 #[cfg(test)]
+mod cores;
+#[cfg(test)]
 mod notes;
+#[cfg(test)]
+mod outboxes;
 #[cfg(test)]
 mod parts;
 #[cfg(test)]

@@ -9,7 +9,7 @@ use std::alloc::Global;
 use std::test::Fail;
 
 /// Rank 6 hears that its pit 5 leads to a board that wins 1 stone.
-const NOTE: Note = Note {
+pub const NOTE: Note = Note {
     level: 1,
     target: 6,
     pit: 5,

@@ -17,3 +17,13 @@ pub fn one_level(alloc: Global) -> Result<Shelf, Fail>
     shelf.push(Arc::new(alloc, level)?);
     Ok(shelf)
 }
+
+/// The shelf of so many levels.
+pub fn levels_below(alloc: Global, count: u8) -> Result<Shelf, Fail> {
+    let mut shelf = Shelf::empty();
+    for _level in 0..count {
+        let level = build_alone(alloc, &shelf)?;
+        shelf.push(Arc::new(alloc, level)?);
+    }
+    Ok(shelf)
+}

@@ -1,0 +1,11 @@
+pub mod Lists
+pub mod Taking
+pub mod Spreading
+pub mod Steps
+pub mod Batches
+pub mod Opening
+pub mod Telling
+pub mod Effects
+pub mod Rounds
+pub mod Making
+pub mod Ending

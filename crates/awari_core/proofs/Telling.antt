@@ -1,0 +1,22 @@
+-- The parts of a sound core are sound, and where nothing waits nothing is on its way.
+use Rattle.std.proofs.Common.{◌≡◌, inl, inr, ℕ, ◌<◌, List, [], ◌++◌, length, get_or, All, refl, sym, ap, subst, ◌∙◌}
+use Rattle.std.proofs.lemmas.List.{get_or_past}
+use Rattle.std.proofs.lemmas.Bool.{cases_lt}
+use Rattle.awari_owner.specs.Outboxes.{queue_to}
+use Rattle.awari_owner.specs.declared.notes.Note.{Note}
+use Rattle.awari_core.specs.Core.{Core, Line, Sender, IsAllTaken, IsSilent, coming, coming_to, no_line, no_sender, sender_at}
+use Rattle.awari_core.specs.Sound.{notes_of}
+
+all_or : {X : Type 0} (P : X → Type 0) (xs : List X) (i : ℕ) (d : X) → P d → All P xs → P (get_or xs i d)
+all_or P xs i d none all = elim (cases_lt i (length xs)) [
+  | inl low ↦ all i d low
+  | inr high ↦ subst P (sym (get_or_past xs i d high)) none
+]
+
+pub silent_to : (s : Sender) (j : ℕ) → IsSilent s → coming_to s j ≡ []
+silent_to s j silent =
+    ap (λ l. l ++ queue_to s.outboxes j) (all_or (λ (l : Line). l.batches ≡ []) s.lines j no_line refl silent.lines)
+    ∙ all_or (λ (q : List (List Note)). q ≡ []) s.outboxes.queues j [] refl silent.outboxes
+
+pub nothing_comes : (core : Core) → IsAllTaken core → (i j : ℕ) → i < length core.senders → coming core i j ≡ []
+nothing_comes core all i j low = ap notes_of (silent_to (sender_at core i) j (all i no_sender low))

@@ -1,0 +1,3 @@
+pub mod CoreFault
+pub mod Sound
+pub mod Core

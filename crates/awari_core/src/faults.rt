@@ -1,0 +1,60 @@
+//! Why a core refuses.
+
+ghost use Rattle.std.specs.Prelude.{◌≡◌};
+ghost use Rattle.awari_core.specs.CoreFault.{number_of};
+
+use std::fmt;
+use thiserror::Error;
+
+/// Why a core is not made, an event is not taken, or nothing is opened or finished. Printed, it is
+/// its number and its name.
+#[derive(Clone, Copy, Debug, PartialEq, Eq, Error)]
+pub enum CoreFault {
+    /// 34: the event is not enabled.
+    NotEnabled,
+    /// 35: there are not 1 to 16 owners.
+    Owners,
+    /// 36: a line has not room for 1 to 256 batches.
+    Room,
+    /// 37: the shelf has all levels.
+    TooHigh,
+    /// 38: a growth was refused.
+    Memory,
+    /// 39: a board is fresh, something is under way, or a gain is open.
+    NotQuiet,
+}
+
+impl CoreFault {
+    /// The number of this refusal, 34 to 39.
+    pub fn number(self) -> u8
+        ensures { result ≡ number_of self }
+    {
+        match self {
+            CoreFault::NotEnabled => 34,
+            CoreFault::Owners => 35,
+            CoreFault::Room => 36,
+            CoreFault::TooHigh => 37,
+            CoreFault::Memory => 38,
+            CoreFault::NotQuiet => 39,
+        }
+    }
+}
+
+impl fmt::Display for CoreFault {
+    ghost use Rattle.std.specs.Prelude.{Some};
+    ghost use Rattle.awari_core.specs.CoreFault.{fault_text};
+
+    ghost output = { λ fault. Some (fault_text fault) };
+
+    fn fmt<W: fmt::Write>(&self, f: &mut fmt::Formatter<W>) -> fmt::Result {
+        let number = self.number();
+        match *self {
+            CoreFault::NotEnabled => write!(f, "{number} NotEnabled"),
+            CoreFault::Owners => write!(f, "{number} Owners"),
+            CoreFault::Room => write!(f, "{number} Room"),
+            CoreFault::TooHigh => write!(f, "{number} TooHigh"),
+            CoreFault::Memory => write!(f, "{number} Memory"),
+            CoreFault::NotQuiet => write!(f, "{number} NotQuiet"),
+        }
+    }
+}

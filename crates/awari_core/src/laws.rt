@@ -1,0 +1,54 @@
+//! What is kept.
+
+ghost use Rattle.std.specs.Prelude.{◌≡◌, ℕ, ℤ, ◌<◌, ◌≤◌, ◌^◌, ◌-◌, ◌∷◌, [], false, All, List, length, sum};
+ghost use Rattle.awari_board.specs.Rules.{IsBoard};
+ghost use Rattle.awari_rank.specs.Rank.{rank_of};
+ghost use Rattle.awari_owner.specs.Part.{Part, IsExpected, IsTallied, stored_at};
+ghost use Rattle.awari_owner.specs.Scan.{IsScan};
+ghost use Rattle.awari_owner.specs.Spread.{HearsOwn};
+ghost use Rattle.awari_owner.specs.Tally.{has_pit};
+ghost use Rattle.awari_owner.specs.declared.notes.Note.{Note};
+ghost use Rattle.awari_owner.specs.Level.{AreHeard, AreSound, AreWhole, DistancesFit};
+ghost use Rattle.awari_table.specs.Images.{table_of};
+ghost use Rattle.awari_core.specs.Core.{Core, Sound, IsAllTaken};
+ghost use Rattle.awari_core.specs.Sound.{IsSeenAs};
+
+use awari_owner::{distances_fit, sound_parts_are_told};
+use awari_rank::ranks_tell_boards_apart;
+
+/// The next note on a line is never refused.
+pub fn coming_notes_are_expected()
+    ensures { (value : List ℕ → ℤ) (n owners : ℕ) (part : ℕ → Part) (coming taken : ℕ → ℕ → List Note) → AreSound value n owners part coming taken
+        → (i j : ℕ) → i < owners → j < owners → (i ≡ j → ⊥) → (m : Note) (rest : List Note) → coming i j ≡ m ∷ rest
+        → IsExpected (part j) m × (has_pit (stored_at (part j) m.target).heard m.pit ≡ false) × (m.dist < 2 ^ 32 - 1) }
+{
+    ranks_tell_boards_apart();
+}
+
+/// Parts that were scanned are sound with nothing on its way.
+pub fn scanned_owners_are_sound()
+    ensures { (value : List ℕ → ℤ) (n owners : ℕ) (part : ℕ → Part) → 0 < owners
+        → ((i : ℕ) → i < owners → IsScan n owners i (part i)) → ((i : ℕ) → i < owners → IsTallied value (part i) []) → ((i : ℕ) → i < owners → HearsOwn (part i) [])
+        → AreSound value n owners part (λ _ _. []) (λ _ _. []) }
+{}
+
+/// A gain or a distance that is opened in all parts, with nothing on its way, keeps the owners sound.
+pub fn opening_keeps_owners_sound()
+    ensures { (value : List ℕ → ℤ) (n owners : ℕ) (part part' : ℕ → Part) (coming taken : ℕ → ℕ → List Note)
+        → ((i : ℕ) → i < owners → IsSeenAs (part i) (part' i)) → ((i : ℕ) → i < owners → (part' i).gain ≡ (part' 0).gain) → ((i : ℕ) → i < owners → (part' i).wave ≡ (part' 0).wave)
+        → ((i : ℕ) → i < owners → (notes : List Note) → IsTallied value (part i) notes → IsTallied value (part' i) notes)
+        → ((i : ℕ) → i < owners → (notes : List Note) → HearsOwn (part i) notes → HearsOwn (part' i) notes)
+        → ((i j : ℕ) → i < owners → j < owners → (i ≡ j → ⊥) → coming i j ≡ [])
+        → AreSound value n owners part coming taken → AreSound value n owners part' coming taken }
+{}
+
+/// The parts of a sound core are all boards of its level, and what they heard is true. So distances
+/// are below the greatest that can be stored; and once nothing is on its way, they heard all.
+pub fn sound_cores_are_told()
+    ensures whole { (core : Core) → Sound core → AreWhole (length core.shelf) core.parts }
+    ensures fit { (core : Core) → Sound core → All DistancesFit core.parts }
+    ensures heard { (core : Core) → Sound core → IsAllTaken core → AreHeard (table_of core.shelf).value core.parts }
+{
+    sound_parts_are_told();
+    distances_fit();
+}

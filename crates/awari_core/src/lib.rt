@@ -1,0 +1,19 @@
+//! A level that is built by any number of owners, as a list of events.
+#![tactic(auto)]
+
+mod cores;
+mod events;
+mod faults;
+mod hearing;
+mod laws;
+mod lines;
+mod openings;
+mod senders;
+
+pub use cores::{Core, MOST_OWNERS, MOST_ROOM, Ran};
+pub use events::Event;
+pub use faults::CoreFault;
+pub use laws::{
+    coming_notes_are_expected, opening_keeps_owners_sound, scanned_owners_are_sound,
+    sound_cores_are_told,
+};

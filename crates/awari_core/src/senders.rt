@@ -1,0 +1,128 @@
+//! What an owner sends by.
+
+ghost use Rattle.std.specs.Prelude.{◌≡◌, ◌≢◌, ◌≤◌, ◌<◌, ◌-◌, ◌^◌, ◌⊎◌, ◌∷◌, ◌++◌, ◌↔◌, [], ℕ, List, Some, OnErr, IfOk, IfErr, IfSome, IfNone, IsTrue, length, vec_len, All, replicate, true, false, slice_set, slice_index_or};
+ghost use Rattle.awari_owner.specs.Blocks.{KeepSettled};
+ghost use Rattle.awari_owner.specs.Part.{AreFresh, SameLevel, IsLeastDue, HasFarthest};
+ghost use Rattle.awari_owner.specs.Outboxes.{queue_to};
+ghost use Rattle.awari_owner.specs.Spread.{IsPartOf, Source, Spreads, Sends};
+ghost use Rattle.awari_owner.specs.declared.faults.OwnerFault.{OwnerFault};
+ghost use Rattle.awari_owner.specs.declared.notes.Note.{Note as NoteView};
+ghost use Rattle.awari_core.specs.Core.{IsLinked, IsSilent, Sender as SenderView, no_line, no_sender};
+
+use crate::lines::Line;
+use awari_owner::{Batch, Outboxes, OwnerFault, Part};
+use std::alloc::{AllocError, Global};
+use std::marker::Model;
+
+/// An owner's outboxes, and its lines to all owners.
+#[derive(Drop)]
+pub struct Sender {
+    outboxes: Outboxes,
+    lines: Vec<Line>,
+}
+
+impl Model for Sender {
+    ghost use Rattle.awari_core.specs.Core.{Sender as SenderView};
+
+    ghost Value = { SenderView };
+
+    ghost view = { λ s. record { outboxes = s.outboxes; lines = s.lines.items } };
+}
+
+impl Sender {
+    /// What this owner, one of `owners`, sends by, with nothing to send. Each line has room for
+    /// `room` batches, which is taken here.
+    pub fn new(alloc: Global, owners: u8, owner: u8, room: u32) -> Result<Sender, AllocError>
+        requires owners { (1 ≤ owners) × (owners ≤ 16) }
+        requires owner { owner < owners }
+        ensures { IfOk result (λ sender. sender ≡ record { outboxes = record { owner = owner; queues = replicate owners [] }; lines = replicate owners (record { batches = []; room = room }) }) }
+    {
+        let outboxes = Outboxes::new(alloc, owners, owner)?;
+        let mut lines = Vec::with_capacity(alloc, owners as usize)?;
+        for _to in 0..owners {
+            lines.push(Line::new(alloc, room)?)?;
+        }
+        Ok(Sender { outboxes, lines })
+    }
+
+    /// Spreads the first fresh board of the owner's part, if its distance is the open one.
+    pub fn spread(&mut self, part: &mut Part) -> Result<bool, OwnerFault>
+        requires part { IsPartOf part.old self.old.outboxes }
+        ensures spread { result ≡ Ok true → (q : List ℕ) × (sources : List Source) × (notes : List NoteView)
+            × Spreads part.old part.new q sources × Sends part.old q sources notes self.old.outboxes self.new.outboxes }
+        ensures none { result ≡ Ok false → (part.new ≡ part.old) × (self.new ≡ self.old) }
+        ensures due { result ≡ Ok false → IsLeastDue part.old (Some part.old.wave) → ⊥ }
+        ensures least { (result ≡ Ok false → ⊥) → IsLeastDue part.old (Some part.old.wave) }
+        ensures same { SameLevel part.old part.new × (length part.new.cells ≡ length part.old.cells) }
+        ensures stays { KeepSettled part.old.start part.old.cells part.new.cells }
+        ensures fresh { AreFresh part.new }
+        ensures numbered { (self.new.outboxes.owner ≡ self.old.outboxes.owner) × (length self.new.outboxes.queues ≡ length self.old.outboxes.queues) }
+        ensures lines { self.new.lines ≡ self.old.lines }
+        ensures err { OnErr result ((part.new ≡ part.old) × (self.new ≡ self.old)) }
+        ensures fault { IfErr result (λ fault. ((fault ≡ OwnerFault.Far) × HasFarthest part.old) ⊎ ((fault ≡ OwnerFault.Memory) × (1 < length self.old.outboxes.queues))) }
+    {
+        part.spread_one(&mut self.outboxes)
+    }
+
+    /// Puts the first batch of the outbox for this owner at the end of the line to it. It is false where
+    /// there is none, or no room on the line.
+    pub fn send(&mut self, to: u8) -> bool
+        requires { to < length self.old.lines }
+        ensures sent { result ≡ true → (batch : List NoteView) × (rest : List (List NoteView)) × (queue_to self.old.outboxes to ≡ batch ∷ rest)
+            × (self.new ≡ record {
+              outboxes = record self.old.outboxes { queues = slice_set self.old.outboxes.queues to rest };
+              lines = slice_set self.old.lines to (record (slice_index_or self.old.lines to no_line) { batches = (slice_index_or self.old.lines to no_line).batches ++ batch ∷ [] });
+            }) }
+        ensures enabled { IsTrue result ↔ ((queue_to self.old.outboxes to ≢ []) × (length (slice_index_or self.old.lines to no_line).batches < (slice_index_or self.old.lines to no_line).room)) }
+        ensures kept { result ≡ false → self.new ≡ self.old }
+    {
+        if !self.lines[to as usize].has_room() {
+            return false;
+        }
+        let Some(batch) = self.outboxes.front(to) else {
+            return false;
+        };
+        self.outboxes.drop_front(to);
+        self.lines[to as usize].push(batch);
+        true
+    }
+
+    /// Takes the first batch off the line to this owner.
+    pub fn pop(&mut self, to: u8) -> Option<Batch>
+        requires { to < length self.old.lines }
+        ensures some { IfSome result (λ batch. (rest : List (List NoteView)) × ((slice_index_or self.old.lines to no_line).batches ≡ batch.items ∷ rest)
+            × (self.new ≡ record self.old { lines = slice_set self.old.lines to (record (slice_index_or self.old.lines to no_line) { batches = rest }) })) }
+        ensures none { IfNone result (((slice_index_or self.old.lines to no_line).batches ≡ []) × (self.new ≡ self.old)) }
+    {
+        self.lines[to as usize].pop()
+    }
+
+    /// Whether nothing waits in the outboxes and on the lines.
+    pub fn is_silent(&self) -> bool
+        ensures { IsTrue result ↔ IsSilent self.now }
+    {
+        if !self.outboxes.is_empty() {
+            return false;
+        }
+        for line in &self.lines {
+            if !line.is_empty() {
+                return false;
+            }
+        }
+        true
+    }
+}
+
+/// What so many owners send by, with nothing to send.
+pub fn silent_senders(alloc: Global, owners: u8, room: u32) -> Result<Vec<Sender>, AllocError>
+    requires owners { (1 ≤ owners) × (owners ≤ 16) }
+    ensures count { IfOk result (λ senders. vec_len senders ≡ owners) }
+    ensures silent { IfOk result (λ senders. All IsSilent senders.items) }
+    ensures linked { IfOk result (λ senders. (i : ℕ) → i < owners → IsLinked owners room i (slice_index_or senders.items i no_sender)) }
+{
+    let mut senders = Vec::with_capacity(alloc, owners as usize)?;
+    for owner in 0..owners {
+        senders.push(Sender::new(alloc, owners, owner, room)?)?;
+    }
+    Ok(senders)
+}

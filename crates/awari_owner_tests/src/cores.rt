@@ -1,0 +1,254 @@
+//! Levels built by several owners, as lists of events.
+
+use crate::shelves::{levels_below, one_level};
+use awari_build::build_alone;
+use awari_core::{Core, CoreFault, Event, Ran};
+use awari_table::Shelf;
+use std::alloc::{AllocError, Global};
+use std::test::Fail;
+
+/// How often a test runs its events, at most.
+const MOST_TURNS: u32 = 1_000_000;
+
+/// How many events a random list has.
+const LIST_LENGTH: u32 = 256;
+
+/// What each random list begins with is so far from what the one before it began with.
+const STRIDE: u64 = 0x9e37_79b9_7f4a_7c15;
+
+/// The next of a row of numbers that are as good as random, and the same in each run.
+fn next_number(number: u64) -> u64 {
+    number
+        .wrapping_mul(6_364_136_223_846_793_005)
+        .wrapping_add(1_442_695_040_888_963_407)
+}
+
+/// An event that the number tells, mostly of owners that are there.
+fn event_of(number: u64, owners: u8) -> Event {
+    let most = u64::from(owners.max(1));
+    let from = ((number >> 32) % most) as u8;
+    let to = ((number >> 40) % most) as u8;
+    match (number >> 60) % 3 {
+        0 => Event::Spread(from),
+        1 => Event::Send(from, to),
+        _ => Event::Take(from, to),
+    }
+}
+
+/// A list of events from this number on.
+fn random_events(alloc: Global, owners: u8, number: u64) -> Result<Vec<Event>, AllocError> {
+    let mut events = Vec::with_capacity(alloc, LIST_LENGTH as usize)?;
+    let mut next = number;
+    for _event in 0..LIST_LENGTH {
+        next = next_number(next);
+        events.push(event_of(next, owners))?;
+    }
+    Ok(events)
+}
+
+/// Each owner spreads, each sends to each other one, and each takes of each other one.
+fn all_events(alloc: Global, owners: u8) -> Result<Vec<Event>, AllocError> {
+    let mut events = Vec::new(alloc);
+    for from in 0..owners {
+        events.push(Event::Spread(from))?;
+        for to in 0..owners {
+            events.push(Event::Send(from, to))?;
+            events.push(Event::Take(from, to))?;
+        }
+    }
+    Ok(events)
+}
+
+/// Opens the next distance, or the next gain where no board is fresh. It is true once all gains are
+/// closed.
+fn opens_last(core: &mut Core) -> bool {
+    match core.next_wave() {
+        Ok(None) => core.next_gain() == Ok(0),
+        _ => false,
+    }
+}
+
+/// Runs random lists until all gains are closed.
+fn close_by_chance(alloc: Global, core: &mut Core, owners: u8) -> Result<bool, AllocError> {
+    for turn in 0..MOST_TURNS {
+        let number = u64::from(turn).wrapping_mul(STRIDE);
+        core.run(&random_events(alloc, owners, number)?);
+        if opens_last(core) {
+            return Ok(true);
+        }
+    }
+    Ok(false)
+}
+
+/// Runs these events again and again until all gains are closed.
+fn close_by(core: &mut Core, events: &[Event]) -> bool {
+    for _turn in 0..MOST_TURNS {
+        core.run(events);
+        if opens_last(core) {
+            return true;
+        }
+    }
+    false
+}
+
+/// Whether the core, with all gains closed, gives the level that one part builds.
+fn is_level(alloc: Global, shelf: &Shelf, core: &Core) -> Result<bool, Fail> {
+    let image = core.finish(alloc)?;
+    let level = build_alone(alloc, shelf)?;
+    Ok(image.limit == level.limit() && image.entries.as_slice() == level.entries())
+}
+
+/// Whether owners who take events by chance build the level that one part builds.
+fn chance_builds(alloc: Global, shelf: &Shelf, owners: u8) -> Result<bool, Fail> {
+    let mut core = Core::new(alloc, shelf, owners, 1)?;
+    Ok(close_by_chance(alloc, &mut core, owners)? && is_level(alloc, shelf, &core)?)
+}
+
+#[test]
+fn level_1_is_built_by_two_owners(rt: HostRuntime) -> Result<(), Fail> {
+    let shelf = one_level(rt.alloc())?;
+    let mut core = Core::new(rt.alloc(), &shelf, 2, 1)?;
+    assert_eq!(rt; (core.gain(), core.wave(), core.quiet()), (1, 0, false));
+    assert_eq!(rt; core.finish(rt.alloc()).err(), Some(CoreFault::NotQuiet));
+    let spreads = [Event::Spread(0), Event::Spread(1)];
+    let mut ran = Ran {
+        taken: 0,
+        refused: 0,
+    };
+    for _turn in 0..6u8 {
+        let more = core.run(&spreads);
+        ran = Ran {
+            taken: ran.taken.saturating_add(more.taken),
+            refused: ran.refused.saturating_add(more.refused),
+        };
+    }
+    assert_eq!(rt;
+        ran,
+        Ran {
+            taken: 11,
+            refused: 1
+        }
+    );
+    assert_eq!(rt; core.next_gain(), Err(CoreFault::NotQuiet));
+    assert_eq!(rt; core.next_wave(), Ok(Some(1)));
+    assert_eq!(rt;
+        core.run(&[Event::Spread(1)]),
+        Ran {
+            taken: 1,
+            refused: 0
+        }
+    );
+    assert_eq!(rt; core.next_wave(), Ok(None));
+    assert_eq!(rt; (core.next_gain(), core.next_gain()), (Ok(0), Ok(0)));
+    assert!(rt; is_level(rt.alloc(), &shelf, &core)?);
+    Ok(())
+}
+
+#[test]
+fn a_batch_settles_a_board_of_another_owner(rt: HostRuntime) -> Result<(), Fail> {
+    let shelf = one_level(rt.alloc())?;
+    let mut core = Core::new(rt.alloc(), &shelf, 3, 1)?;
+    assert_eq!(rt; core.step(Event::Take(2, 1)), Err(CoreFault::NotEnabled));
+    let first = core.run(&[
+        Event::Spread(2),
+        Event::Spread(2),
+        Event::Spread(2),
+        Event::Spread(2),
+    ]);
+    assert_eq!(rt; first.taken, 4);
+    assert_eq!(rt; core.step(Event::Spread(2)), Err(CoreFault::NotEnabled));
+    assert_eq!(rt; core.step(Event::Send(2, 1)), Ok(()));
+    assert_eq!(rt; core.next_wave(), Err(CoreFault::NotQuiet));
+    assert_eq!(rt; core.step(Event::Take(2, 1)), Ok(()));
+    assert_eq!(rt; core.step(Event::Take(2, 1)), Err(CoreFault::NotEnabled));
+    for _board in 0..4u8 {
+        assert_eq!(rt; core.step(Event::Spread(0)), Ok(()));
+    }
+    for _board in 0..3u8 {
+        assert_eq!(rt; core.step(Event::Spread(1)), Ok(()));
+    }
+    assert_eq!(rt; core.step(Event::Spread(1)), Err(CoreFault::NotEnabled));
+    assert_eq!(rt; core.next_gain(), Err(CoreFault::NotQuiet));
+    assert_eq!(rt; core.next_wave(), Ok(Some(1)));
+    assert_eq!(rt; core.step(Event::Spread(1)), Ok(()));
+    assert_eq!(rt; (core.next_wave(), core.quiet()), (Ok(None), true));
+    assert_eq!(rt; core.next_gain(), Ok(0));
+    assert!(rt; is_level(rt.alloc(), &shelf, &core)?);
+    Ok(())
+}
+
+#[test]
+fn events_that_are_none_are_refused(rt: HostRuntime) -> Result<(), Fail> {
+    let shelf = one_level(rt.alloc())?;
+    let mut core = Core::new(rt.alloc(), &shelf, 3, 1)?;
+    let events = [
+        Event::Spread(3),
+        Event::Send(1, 1),
+        Event::Take(2, 2),
+        Event::Send(0, 3),
+        Event::Take(3, 0),
+        Event::Send(0, 1),
+    ];
+    assert_eq!(rt;
+        core.run(&events),
+        Ran {
+            taken: 0,
+            refused: 6
+        }
+    );
+    Ok(())
+}
+
+#[test]
+fn level_0_is_quiet_at_once(rt: HostRuntime) -> Result<(), Fail> {
+    let shelf = Shelf::empty();
+    let core = Core::new(rt.alloc(), &shelf, 16, 1)?;
+    assert_eq!(rt; (core.quiet(), core.gain()), (true, 0));
+    assert!(rt; is_level(rt.alloc(), &shelf, &core)?);
+    Ok(())
+}
+
+#[test]
+fn cores_are_refused_in_order(rt: HostRuntime) -> Result<(), Fail> {
+    let shelf = Shelf::empty();
+    assert_eq!(rt;
+        Core::new(rt.alloc(), &shelf, 17, 0).err(),
+        Some(CoreFault::Owners)
+    );
+    assert_eq!(rt;
+        Core::new(rt.alloc(), &shelf, 0, 1).err(),
+        Some(CoreFault::Owners)
+    );
+    assert_eq!(rt;
+        Core::new(rt.alloc(), &shelf, 2, 0).err(),
+        Some(CoreFault::Room)
+    );
+    assert_eq!(rt;
+        Core::new(rt.alloc(), &shelf, 2, 257).err(),
+        Some(CoreFault::Room)
+    );
+    Ok(())
+}
+
+#[test]
+fn chance_builds_levels_2_to_4(rt: HostRuntime) -> Result<(), Fail> {
+    for count in 2..5u8 {
+        let shelf = levels_below(rt.alloc(), count)?;
+        assert!(rt; chance_builds(rt.alloc(), &shelf, 2)?);
+        assert!(rt; chance_builds(rt.alloc(), &shelf, 3)?);
+        assert!(rt; chance_builds(rt.alloc(), &shelf, 16)?);
+    }
+    Ok(())
+}
+
+#[test]
+fn sixteen_owners_build_level_1_and_6(rt: HostRuntime) -> Result<(), Fail> {
+    let events = all_events(rt.alloc(), 16)?;
+    for count in [1, 6u8] {
+        let shelf = levels_below(rt.alloc(), count)?;
+        let mut core = Core::new(rt.alloc(), &shelf, 16, 1)?;
+        assert!(rt; close_by(&mut core, &events));
+        assert!(rt; is_level(rt.alloc(), &shelf, &core)?);
+    }
+    Ok(())
+}
