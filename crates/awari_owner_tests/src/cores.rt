@@ -5,6 +5,7 @@ use awari_build::build_alone;
 use awari_core::{Core, CoreFault, Event, Ran};
 use awari_table::Shelf;
 use std::alloc::{AllocError, Global};
+use std::process::Abort;
 use std::test::Fail;
 
 /// How often a test runs its events, at most.
@@ -104,63 +105,55 @@ fn chance_builds(alloc: Global, shelf: &Shelf, owners: u8) -> Result<bool, Fail>
     Ok(close_by_chance(alloc, &mut core, owners)? && is_level(alloc, shelf, &core)?)
 }
 
+/// Two owners of level 1 spread what is due at distance 0, 11 boards, and one try is refused.
+fn spread_by_two(rt: &impl Abort, core: &mut Core) {
+    let spreads = [Event::Spread(0), Event::Spread(1)];
+    let mut taken = 0usize;
+    let mut refused = 0usize;
+    for _turn in 0..6u8 {
+        let ran = core.run(&spreads);
+        taken = taken.saturating_add(ran.taken);
+        refused = refused.saturating_add(ran.refused);
+    }
+    assert_eq!(rt; (taken, refused), (11, 1));
+}
+
+/// The last board of level 1, which owner 1 has, is spread at distance 1, and all gains are closed.
+fn spread_the_last(rt: &impl Abort, core: &mut Core) {
+    assert_eq!(rt; core.next_gain(), Err(CoreFault::NotQuiet));
+    assert_eq!(rt; core.next_wave(), Ok(Some(1)));
+    assert_eq!(rt; core.step(Event::Spread(1)), Ok(()));
+    assert_eq!(rt; (core.next_wave(), core.quiet()), (Ok(None), true));
+    assert_eq!(rt; (core.next_gain(), core.next_gain()), (Ok(0), Ok(0)));
+}
+
 #[test]
 fn level_1_is_built_by_two_owners(rt: HostRuntime) -> Result<(), Fail> {
     let shelf = one_level(rt.alloc())?;
     let mut core = Core::new(rt.alloc(), &shelf, 2, 1)?;
     assert_eq!(rt; (core.gain(), core.wave(), core.quiet()), (1, 0, false));
     assert_eq!(rt; core.finish(rt.alloc()).err(), Some(CoreFault::NotQuiet));
-    let spreads = [Event::Spread(0), Event::Spread(1)];
-    let mut ran = Ran {
-        taken: 0,
-        refused: 0,
-    };
-    for _turn in 0..6u8 {
-        let more = core.run(&spreads);
-        ran = Ran {
-            taken: ran.taken.saturating_add(more.taken),
-            refused: ran.refused.saturating_add(more.refused),
-        };
-    }
-    assert_eq!(rt;
-        ran,
-        Ran {
-            taken: 11,
-            refused: 1
-        }
-    );
-    assert_eq!(rt; core.next_gain(), Err(CoreFault::NotQuiet));
-    assert_eq!(rt; core.next_wave(), Ok(Some(1)));
-    assert_eq!(rt;
-        core.run(&[Event::Spread(1)]),
-        Ran {
-            taken: 1,
-            refused: 0
-        }
-    );
-    assert_eq!(rt; core.next_wave(), Ok(None));
-    assert_eq!(rt; (core.next_gain(), core.next_gain()), (Ok(0), Ok(0)));
+    spread_by_two(&rt, &mut core);
+    spread_the_last(&rt, &mut core);
     assert!(rt; is_level(rt.alloc(), &shelf, &core)?);
     Ok(())
 }
 
-#[test]
-fn a_batch_settles_a_board_of_another_owner(rt: HostRuntime) -> Result<(), Fail> {
-    let shelf = one_level(rt.alloc())?;
-    let mut core = Core::new(rt.alloc(), &shelf, 3, 1)?;
+/// The third owner spreads its boards, and sends the second the one note that there is for it.
+fn send_the_note(rt: &impl Abort, core: &mut Core) {
     assert_eq!(rt; core.step(Event::Take(2, 1)), Err(CoreFault::NotEnabled));
-    let first = core.run(&[
-        Event::Spread(2),
-        Event::Spread(2),
-        Event::Spread(2),
-        Event::Spread(2),
-    ]);
-    assert_eq!(rt; first.taken, 4);
+    for _board in 0..4u8 {
+        assert_eq!(rt; core.step(Event::Spread(2)), Ok(()));
+    }
     assert_eq!(rt; core.step(Event::Spread(2)), Err(CoreFault::NotEnabled));
     assert_eq!(rt; core.step(Event::Send(2, 1)), Ok(()));
     assert_eq!(rt; core.next_wave(), Err(CoreFault::NotQuiet));
     assert_eq!(rt; core.step(Event::Take(2, 1)), Ok(()));
     assert_eq!(rt; core.step(Event::Take(2, 1)), Err(CoreFault::NotEnabled));
+}
+
+/// The other two spread what is due at distance 0.
+fn spread_the_rest(rt: &impl Abort, core: &mut Core) {
     for _board in 0..4u8 {
         assert_eq!(rt; core.step(Event::Spread(0)), Ok(()));
     }
@@ -168,11 +161,15 @@ fn a_batch_settles_a_board_of_another_owner(rt: HostRuntime) -> Result<(), Fail>
         assert_eq!(rt; core.step(Event::Spread(1)), Ok(()));
     }
     assert_eq!(rt; core.step(Event::Spread(1)), Err(CoreFault::NotEnabled));
-    assert_eq!(rt; core.next_gain(), Err(CoreFault::NotQuiet));
-    assert_eq!(rt; core.next_wave(), Ok(Some(1)));
-    assert_eq!(rt; core.step(Event::Spread(1)), Ok(()));
-    assert_eq!(rt; (core.next_wave(), core.quiet()), (Ok(None), true));
-    assert_eq!(rt; core.next_gain(), Ok(0));
+}
+
+#[test]
+fn a_batch_settles_a_board_of_another_owner(rt: HostRuntime) -> Result<(), Fail> {
+    let shelf = one_level(rt.alloc())?;
+    let mut core = Core::new(rt.alloc(), &shelf, 3, 1)?;
+    send_the_note(&rt, &mut core);
+    spread_the_rest(&rt, &mut core);
+    spread_the_last(&rt, &mut core);
     assert!(rt; is_level(rt.alloc(), &shelf, &core)?);
     Ok(())
 }

@@ -2,6 +2,7 @@
 //! boards are ended. The board of rank 11 has one predecessor, that of rank 6, which the second owner has.
 
 use crate::notes::NOTE;
+use crate::parts::spread_next;
 use crate::shelves::one_level;
 use awari_owner::{Outboxes, Part};
 use std::test::Fail;
@@ -15,7 +16,7 @@ fn a_note_waits_for_its_owner(rt: HostRuntime) -> Result<(), Fail> {
     assert_eq!(rt; (part.block(), part.due()), ((8, 12), Some(0)));
     for _board in 0..4u8 {
         assert!(rt; outboxes.is_empty());
-        assert_eq!(rt; part.spread_one(&mut outboxes), Ok(true));
+        spread_next(&rt, &mut part, &mut outboxes);
     }
     assert_eq!(rt; part.spread_one(&mut outboxes), Ok(false));
     // Nothing is sent to the first owner, to the third itself, or to a fourth.
