@@ -1,5 +1,5 @@
 -- From what the parts and senders of a core do to what the core does.
-use Rattle.std.proofs.Common.{◌≡◌, ℕ, ◌+◌, ◌-◌, ◌^◌, ◌<◌, inl, inr, List, [], ◌∷◌, ◌++◌, All, Some, length, get_or, set, refl, sym, ap, subst, subst₂, ◌∙◌, arith, get_or-set_same}
+use Rattle.std.proofs.Common.{◌≡◌, ℕ, ◌+◌, ◌-◌, ◌^◌, ◌<◌, Bool, false, IsTrue, inl, inr, List, [], ◌∷◌, ◌++◌, All, Some, length, get_or, set, refl, sym, ap, subst, subst₂, ◌∙◌, arith, get_or-set_same}
 use Rattle.std.proofs.lemmas.List.{get_or_default, set-get_or}
 use Rattle.awari_owner.specs.Blocks.{KeepSettled}
 use Rattle.awari_owner.specs.Level.{DistancesFit, no_part}
@@ -12,6 +12,9 @@ use Rattle.awari_core.specs.declared.faults.CoreFault.{CoreFault}
 use Rattle.awari_core.proofs.Steps.{taken_from}
 
 -- ---- what is read
+
+pub not_true : (b : Bool) → b ≡ false → IsTrue b → ⊥
+not_true b e t = grind arith
 
 pub sender_was : (senders : List Sender) (i : ℕ) (s : Sender) → i < length senders → s ≡ get_or senders i s → get_or senders i no_sender ≡ s
 sender_was senders i s high at = get_or_default senders i no_sender s high ∙ sym at

@@ -88,24 +88,6 @@ sound_gain old t parts sound quiet some count opened fresh = record {
     top : (t : ℕ) → 1 ≤ t → t ≡ max 1 t
     top t some = omega (arith, some)
 
--- the same parts once all gains are closed
-pub sound_closed : (old : Core) → Sound old → old.gain ≤ 1 → Sound (record old { gain = 0 })
-sound_closed old sound last = record {
-  shelf = sound.shelf;
-  low = sound.low;
-  some = sound.some;
-  few = sound.few;
-  senders = sound.senders;
-  linked = sound.linked;
-  gain = sound.gain ∙ one old.gain last;
-  fresh = sound.fresh;
-  taken = sound.taken;
-  sound = sound.sound;
-}
-  where
-    one : (g : ℕ) → g ≤ 1 → max 1 g ≡ max 1 0
-    one g last = omega (arith, last)
-
 -- ---- a distance more
 
 pub sound_wave : (old : Core) (dist : ℕ) (parts : List Part) → Sound old → IsAllTaken old → length parts ≡ length old.parts
@@ -135,9 +117,6 @@ sound_wave old dist parts sound taken count opened tallied own fresh = record {
 }
 
 -- ---- the least distance
-
-pub least_none : (parts : List Part) → IsLeastOf parts 0 None
-least_none parts i low = absurd (omega (arith, low))
 
 -- of one part more
 pub least_more : (parts : List Part) (count : ℕ) (p : Part) (a b least : Option ℕ) → get_or parts count no_part ≡ p → IsLeastOf parts count a → IsLeastDue p b → IsNearer a b least → IsLeastOf parts (count + 1) least

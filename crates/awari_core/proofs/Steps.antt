@@ -32,20 +32,6 @@ linked_set senders owners room i s count high linked here k low = elim (cases_eq
   | inr apart ↦ subst (IsLinked owners room k) (sym (get_or-set_other senders i k s no_sender apart)) (linked k low)
 ]
 
--- a sound owner has the part of its outboxes' owner
-pub part_of_owner : (core : Core) (i : ℕ) → i < length core.parts → Sound core → IsPartOf (part_at core i) (sender_at core i).outboxes
-part_of_owner core i high sound =
-    let share = sound.sound.shares i high in
-    let linked = sound.linked i high in
-    let level = share.level in
-    record {
-      owner = (let o = linked.owner in let q = linked.queues in omega (arith, o, q, high));
-      start = share.start ∙ subst (λ n. first_rank (size_of (length core.shelf)) (length core.parts) i ≡ first_rank (size_of n) (length (sender_at core i).outboxes.queues) (sender_at core i).outboxes.owner) (sym level)
-          (subst₂ (λ (a b : ℕ). first_rank (size_of (length core.shelf)) (length core.parts) i ≡ first_rank (size_of (length core.shelf)) a b) (sym linked.queues) (sym linked.owner) refl);
-      end = share.end ∙ subst (λ n. first_rank (size_of (length core.shelf)) (length core.parts) (i + 1) ≡ first_rank (size_of n) (length (sender_at core i).outboxes.queues) ((sender_at core i).outboxes.owner + 1)) (sym level)
-          (subst₂ (λ (a b : ℕ). first_rank (size_of (length core.shelf)) (length core.parts) (i + 1) ≡ first_rank (size_of (length core.shelf)) a (b + 1)) (sym linked.queues) (sym linked.owner) refl);
-    }
-
 -- ---- a spread
 
 notes_batches : (q : List (List Note)) (notes : List Note) → AreBatches q → AreBatches (with_notes q notes)

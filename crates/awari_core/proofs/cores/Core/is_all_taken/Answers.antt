@@ -1,11 +1,9 @@
-use Rattle.std.proofs.Common.{rules, ◌≡◌, ◌<◌, ◌≤◌, Bool, false, IsTrue, List, length, get_or, ap, sym, subst, ◌∙◌, arith, below_more}
+use Rattle.std.proofs.Common.{rules, ◌≡◌, ◌<◌, ◌≤◌, List, length, get_or, ap, sym, subst, ◌∙◌, arith, below_more}
 use Rattle.std.proofs.lemmas.List.{get_or_default}
 use Rattle.awari_core.specs.Core.{Core, IsSilent, Sender, no_sender}
+use Rattle.awari_core.proofs.Effects.{not_true}
 use Rattle.awari_core.proofs.Rounds.{all_below}
 use Rattle.awari_core.proofs.cores.Core.is_all_taken.Goals as goal
-
-not_true : (b : Bool) → b ≡ false → IsTrue b → ⊥
-not_true b e t = grind arith
 
 pub returns-then-not-is_silent : goal.returns-then-not-is_silent
 returns-then-not-is_silent c =

@@ -1,7 +1,7 @@
-use Rattle.std.proofs.Common.{rules, ◌≡◌, ◌<◌, [], List, Bool, false, IsTrue, length, get_or, set, ap, sym, subst, arith, ◌∙◌}
+use Rattle.std.proofs.Common.{rules, ◌≡◌, ◌<◌, [], List, length, get_or, set, ap, sym, subst, arith, ◌∙◌}
 use Rattle.awari_owner.specs.Outboxes.{queue_to}
 use Rattle.awari_core.specs.Core.{Core, Sender, Sound, DoesSend, IsBetween, line_at, no_line, sender_at}
-use Rattle.awari_core.proofs.Effects.{as_many, same_sender, sender_was}
+use Rattle.awari_core.proofs.Effects.{as_many, not_true, same_sender, sender_was}
 use Rattle.awari_core.proofs.Steps.{send_step, sent_by}
 use Rattle.awari_core.proofs.cores.Core.send.Goals as goal
 
@@ -12,9 +12,6 @@ invariant_of-self c =
     subst (λ (l : List Sender). Sound (record old { senders = l }))
     (sym (same_sender old.senders c.args.from c.index_mut.result.now c.send.new.self (as_many old c.args.from c.self.invariant between.0) c.index_mut.ensures.value (c.send.ensures.kept c.if-not-send.true)))
     c.self.invariant
-
-not_true : (b : Bool) → b ≡ false → IsTrue b → ⊥
-not_true b e t = grind arith
 
 pub returns-then-not-send-clause-sound : goal.returns-then-not-send-clause-sound
 returns-then-not-send-clause-sound c = invariant_of-self c
