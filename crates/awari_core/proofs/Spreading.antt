@@ -24,7 +24,7 @@ use Rattle.awari_core.proofs.Taking.{timely_still}
 
 -- ---- notes of a board
 
-source_of : (q : List ℕ) (v : ℤ) (w : ℕ) (sources : List Source) (notes : List Note) → AreNotesOf q v w sources notes → (m : Note) → Has notes m
+pub source_of : (q : List ℕ) (v : ℤ) (w : ℕ) (sources : List Source) (notes : List Note) → AreNotesOf q v w sources notes → (m : Note) → Has notes m
     → (j : ℕ) × (j < length sources) × ((d : Source) → IsNoteOf q v w (get_or sources j d).0 (get_or sources j d).1 m)
 source_of q v w [] [] are m has = absurd has
 source_of q v w [] (k ∷ notes) are m has = absurd are
@@ -32,7 +32,7 @@ source_of q v w (y ∷ sources) [] are m has = absurd has
 source_of q v w (y ∷ sources) (k ∷ notes) are m (inl e) = (0, omega arith, λ d. subst (IsNoteOf q v w y.0 y.1) (sym e) are.0)
 source_of q v w (y ∷ sources) (k ∷ notes) are m (inr has) = let (j, low, note) = source_of q v w sources notes are.1 m has in (suc j, omega (arith, low), note)
 
-note_of : (q : List ℕ) (v : ℤ) (w : ℕ) (sources : List Source) (notes : List Note) → AreNotesOf q v w sources notes → (j : ℕ) (d : Source) → j < length sources
+pub note_of : (q : List ℕ) (v : ℤ) (w : ℕ) (sources : List Source) (notes : List Note) → AreNotesOf q v w sources notes → (j : ℕ) (d : Source) → j < length sources
     → (m : Note) × Has notes m × IsNoteOf q v w (get_or sources j d).0 (get_or sources j d).1 m
 note_of q v w [] notes are j d h = absurd (omega (arith, h))
 note_of q v w (y ∷ sources) [] are j d h = absurd are
@@ -46,7 +46,7 @@ not_before_itself a b boards pits (inr more) =
     let less = more.1 in omega (arith, less, same)
 
 -- the notes of a board are of moves of their own
-notes_once : IsInjective → (q : List ℕ) (v : ℤ) (w : ℕ) (sources : List Source) (notes : List Note) → AreNotesOf q v w sources notes
+pub notes_once : IsInjective → (q : List ℕ) (v : ℤ) (w : ℕ) (sources : List Source) (notes : List Note) → AreNotesOf q v w sources notes
     → All (λ (y : Source). IsBoard y.0 × (sum y.0 ≡ sum q) × IsQuietMove y.0 y.1 q) sources → AllPairs ComesBefore sources → AreOfOtherMoves notes
 notes_once injective q v w [] [] are each pairs = tt
 notes_once injective q v w [] (m ∷ notes) are each pairs = absurd are
@@ -64,7 +64,7 @@ notes_once injective q v w (y ∷ sources) (m ∷ notes) are each pairs = (
 
 -- ---- a choice of notes
 
-Has-filter : (test : Note → Bool) (notes : List Note) (m : Note) → Has (filter test notes) m → Has notes m × (test m ≡ true)
+pub Has-filter : (test : Note → Bool) (notes : List Note) (m : Note) → Has (filter test notes) m → Has notes m × (test m ≡ true)
 Has-filter test [] m h = absurd h
 Has-filter test (k ∷ notes) m h = at (test k) refl h (Has-filter test notes m)
   where
@@ -73,7 +73,7 @@ Has-filter test (k ∷ notes) m h = at (test k) refl h (Has-filter test notes m)
     at true e (inr has) rest = let found = rest has in (inr found.0, found.1)
     at false e has rest = let found = rest has in (inr found.0, found.1)
 
-Has-chosen : (test : Note → Bool) (notes : List Note) (m : Note) → Has notes m → test m ≡ true → Has (filter test notes) m
+pub Has-chosen : (test : Note → Bool) (notes : List Note) (m : Note) → Has notes m → test m ≡ true → Has (filter test notes) m
 Has-chosen test [] m h e = absurd h
 Has-chosen test (k ∷ notes) m h e = at (test k) refl h (λ has. Has-chosen test notes m has e)
   where
@@ -83,7 +83,7 @@ Has-chosen test (k ∷ notes) m h e = at (test k) refl h (λ has. Has-chosen tes
     at false f (inl same) rest = absurd (false≢true (sym f ∙ ap test (sym same) ∙ e))
     at false f (inr has) rest = rest has
 
-filter_once : (test : Note → Bool) (notes : List Note) → AreOfOtherMoves notes → AreOfOtherMoves (filter test notes)
+pub filter_once : (test : Note → Bool) (notes : List Note) → AreOfOtherMoves notes → AreOfOtherMoves (filter test notes)
 filter_once test [] once = tt
 filter_once test (k ∷ notes) once = at (test k) (filter_once test notes once.1)
   where
@@ -93,7 +93,7 @@ filter_once test (k ∷ notes) once = at (test k) (filter_once test notes once.1
 
 -- ---- the notes of the own block
 
-own_before : (part : Part) (kind : Kind) (sources : List Source) (notes : List Note) (m : Note) → Has notes m → Has (with_all_own part kind notes sources) m
+pub own_before : (part : Part) (kind : Kind) (sources : List Source) (notes : List Note) (m : Note) → Has notes m → Has (with_all_own part kind notes sources) m
 own_before part kind [] notes m has = has
 own_before part kind (y ∷ sources) notes m has = own_before part kind sources (with_own part kind notes y) m (at (is_held part (rank_of y.0)))
   where
@@ -101,7 +101,7 @@ own_before part kind (y ∷ sources) notes m has = own_before part kind sources 
     at true = inr has
     at false = has
 
-own_cases : (part : Part) (kind : Kind) (sources : List Source) (notes : List Note) (m : Note) → Has (with_all_own part kind notes sources) m
+pub own_cases : (part : Part) (kind : Kind) (sources : List Source) (notes : List Note) (m : Note) → Has (with_all_own part kind notes sources) m
     → Has notes m ⊎ ((j : ℕ) × (j < length sources) × ((d : Source) → m ≡ note_to part kind (get_or sources j d)))
 own_cases part kind [] notes m has = inl has
 own_cases part kind (y ∷ sources) notes m has = elim (own_cases part kind sources (with_own part kind notes y) m has) [
@@ -115,7 +115,7 @@ own_cases part kind (y ∷ sources) notes m has = elim (own_cases part kind sour
     at true (inr h) = inl h
 
 -- the gain of the notes is the open one
-gain_is : (t g : ℕ) (v : ℤ) (kind : Kind) → IsEither t v → ((kind ≡ Won) × (pos 0 <ℤ v)) ⊎ ((kind ≡ Lost) × (v <ℤ pos 0)) → gain_by kind g ≡ neg_ℤ v → g ≡ t
+pub gain_is : (t g : ℕ) (v : ℤ) (kind : Kind) → IsEither t v → ((kind ≡ Won) × (pos 0 <ℤ v)) ⊎ ((kind ≡ Lost) × (v <ℤ pos 0)) → gain_by kind g ≡ neg_ℤ v → g ≡ t
 gain_is t g v kind either (inl won) is =
     let e : neg_ℤ (pos g) ≡ neg_ℤ v = ap (λ k. gain_by k g) (sym won.0) ∙ is in
     let sign = won.1 in

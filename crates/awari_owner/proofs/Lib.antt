@@ -9,6 +9,7 @@ pub mod Gains
 pub mod Spreading
 pub mod Hearing
 pub mod Scanning
+pub mod PieceLemmas
 pub mod Firsts
 pub mod Freshness
 pub mod Sending

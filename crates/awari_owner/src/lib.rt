@@ -14,6 +14,7 @@ mod faults;
 mod laws;
 mod notes;
 mod outboxes;
+mod parallel;
 mod parts;
 mod places;
 mod queues;

@@ -19,6 +19,7 @@ use crate::cells::{Cell, Mark};
 use crate::faults::OwnerFault;
 use crate::notes::Note;
 use crate::outboxes::Outboxes;
+use crate::parallel::scanned_block_parallel;
 use crate::places::{Place, block_length, first_rank};
 use crate::queues::reserve_others;
 use crate::scans::scanned_block;
@@ -29,6 +30,7 @@ use awari_table::{Shelf, shelves_are_certificates};
 use std::alloc::Global;
 use std::collections::BinaryHeap;
 use std::marker::Model;
+use std::thread::Threads;
 
 /// One owner's part of a level that is being built: what is known of each board of its block, and
 /// which of the settled ones are fresh, that is, not spread yet.
@@ -81,6 +83,45 @@ impl Part {
             start,
         };
         match scanned_block(alloc, shelf, start, end) {
+            Ok((cells, fresh)) => Ok(Part {
+                place,
+                cells,
+                fresh,
+            }),
+            Err(_) => Err(OwnerFault::Memory),
+        }
+    }
+
+    /// What [`Part::scan`] answers, found by as many threads as there are processors.
+    pub fn scan_parallel<R: Threads + Sync>(
+        rt: &R,
+        alloc: Global,
+        shelf: &Shelf,
+        owners: u8,
+        owner: u8,
+    ) -> Result<Part, OwnerFault>
+        requires owners { (1 ≤ owners) × (owners ≤ 16) }
+        requires owner { owner < owners }
+        requires low { length shelf.now ≤ HIGHEST_LEVEL }
+        ensures scanned { IfOk result (IsScan (length shelf.now) owners owner) }
+        ensures whole { owners ≡ 1 → IfOk result IsWhole }
+        ensures tallied { IfOk result (λ part. IsTallied (table_of shelf.now).value part []) }
+        ensures hears { IfOk result (λ part. HearsOwn part []) }
+        ensures fresh { IfOk result AreFresh }
+        ensures memory { IfErr result (λ fault. fault ≡ OwnerFault.Memory) }
+    {
+        shelves_are_certificates();
+        let level = shelf.levels();
+        let boards = size(level);
+        let start = first_rank(boards, owners, owner);
+        let end = first_rank(boards, owners, owner + 1);
+        let place = Place {
+            level,
+            gain: level + 1,
+            wave: 0,
+            start,
+        };
+        match scanned_block_parallel(rt, alloc, shelf, start, end) {
             Ok((cells, fresh)) => Ok(Part {
                 place,
                 cells,

@@ -81,6 +81,28 @@ fn scanned_cells(
     Ok(cells)
 }
 
+/// Scans the boards from rank `start` on, one for each cell.
+pub fn scan_cells(shelf: &Shelf, start: u32, cells: &mut [Cell])
+    requires low { length shelf.now ≤ HIGHEST_LEVEL }
+    requires ranged { IsRanged (table_of shelf.now).value (length shelf.now) }
+    requires within { start + length cells.old ≤ size_of (length shelf.now) }
+    ensures len { length cells.new ≡ length cells.old }
+    ensures scanned { AreScanned (table_of shelf.now).value (length shelf.now) start (start + length cells.old) cells.new }
+{
+    ranks_tell_boards_apart();
+    if cells.is_empty() {
+        return;
+    }
+    let mut board = unrank(shelf.levels(), start);
+    for k in 0..cells.len() {
+        cells[k] = scanned(shelf, &board);
+        match successor(&board) {
+            Some(next) => board = next,
+            None => return,
+        }
+    }
+}
+
 /// The cell of a board of the shelf's next level.
 fn scanned(shelf: &Shelf, board: &Board) -> Cell
     requires board { IsBoard board.now }

@@ -11,7 +11,7 @@ use Rattle.awari_table.specs.Shelves.{ConsistentBy}
 use Rattle.awari_verify.specs.declared.rules.Rule.{Rule}
 use Rattle.awari_verify.specs.declared.rules.Rule.TheVariants.{V1, V2, V3, V4, V5, V6, V7}
 use Rattle.awari_verify.specs.declared.verdicts.VerifyFault.{VerifyFault}
-use Rattle.awari_verify.specs.declared.verdicts.VerifyFault.TheVariants.{WrongLevel, WrongSize, Refused}
+use Rattle.awari_verify.specs.declared.verdicts.VerifyFault.TheVariants.{WrongLevel, WrongSize, Refused, Memory}
 use Rattle.awari_verify.specs.FirstFailure.{BreaksFirst, IsRefusal}
 use Rattle.awari_verify.specs.VerifyFault.{IsDueBy, IsWrongLimit}
 
@@ -34,6 +34,7 @@ inconsistent_from_fault asked shelf image (Refused rank rule) f c =
       | inl refusal ↦ wrong_from_breaks asked _ refusal.board rule refusal.breaks (c.right refusal.board refusal.is_board refusal.stones)
       | inr limit ↦ limit.wrong c.limited
     ]
+inconsistent_from_fault asked shelf image Memory f c = f
 
 -- a board has one first broken rule
 one_rule : (asked : Distances) (t : Table) (p : List ℕ) (r s : Rule) → BreaksFirst asked t p r → BreaksFirst asked t p s → r ≡ s
@@ -138,3 +139,7 @@ one_due asked shelf image (Refused rank rule) (Refused rank' rule') (_, inr a) (
     let ranks = a.at_0 ∙ sym b.at_0 in
     let rules = a.named ∙ sym b.named in
     cc
+one_due asked shelf image Memory other a b = absurd a
+one_due asked shelf image WrongLevel Memory a b = absurd b
+one_due asked shelf image WrongSize Memory a b = absurd b
+one_due asked shelf image (Refused rank rule) Memory a b = absurd b

@@ -2,3 +2,4 @@ pub mod Sights
 pub mod Rule
 pub mod FirstFailure
 pub mod VerifyFault
+pub mod Pieces

@@ -12,18 +12,20 @@ use Rattle.awari_verify.specs.Rule.{rule_name}
 use Rattle.awari_verify.specs.declared.rules.Rule.{Rule}
 use Rattle.awari_verify.specs.declared.rules.Rule.TheVariants.{V7}
 use Rattle.awari_verify.specs.declared.verdicts.VerifyFault.{VerifyFault}
-use Rattle.awari_verify.specs.declared.verdicts.VerifyFault.TheVariants.{WrongLevel, WrongSize, Refused}
+use Rattle.awari_verify.specs.declared.verdicts.VerifyFault.TheVariants.{WrongLevel, WrongSize, Refused, Memory}
 
 abbrev pub number_of : VerifyFault → ℕ
 number_of WrongLevel = 20
 number_of WrongSize = 21
 number_of (Refused rank rule) = 22
+number_of Memory = 23
 
 -- its name, and each of its fields with its name
 abbrev pub name_and_fields : VerifyFault → List ℕ
 name_and_fields WrongLevel = codes "WrongLevel"
 name_and_fields WrongSize = codes "WrongSize"
 name_and_fields (Refused rank rule) = codes "Refused rank " ++ decimal rank ++ codes " rule " ++ rule_name rule
+name_and_fields Memory = codes "Memory"
 
 -- what is printed of each: its number, its name and its fields
 abbrev pub fault_text : VerifyFault → List ℕ
@@ -48,6 +50,7 @@ IsDueBy asked shelf image WrongLevel = (image.level ≡ length shelf) × (image.
 IsDueBy asked shelf image WrongSize = (image.level ≡ length shelf) × (image.level ≤ highest_by asked) × (length image.entries ≢ size_of image.level)
 IsDueBy asked shelf image (Refused rank rule) =
     IsShaped asked shelf image × (IsRefusal asked (table_of (shelf ++ image ∷ [])) image.level 0 (size_of image.level) rank rule ⊎ IsWrongLimit asked shelf image rank rule)
+IsDueBy asked shelf image Memory = ⊥
 
 -- by the rules in force
 abbrev pub IsDue : List Image → Image → VerifyFault → Type 0

@@ -25,12 +25,14 @@ pub enum VerifyFault {
     /// 22: the board of this rank is the first that breaks a rule, and this is the first rule that
     /// it breaks. Where each board keeps V1 to V6 and the limit is wrong, rank 0 and V7.
     Refused { rank: u32, rule: Rule },
+    /// 23: a growth was refused. Only [`verify_parallel`](crate::verify_parallel) takes memory.
+    Memory,
 }
 
 impl VerifyFault {
     ghost use Rattle.awari_verify.specs.VerifyFault.{number_of};
 
-    /// The number of this refusal, 20 to 22.
+    /// The number of this refusal, 20 to 23.
     pub fn number(self) -> u8
         ensures { result ≡ number_of self }
     {
@@ -38,6 +40,7 @@ impl VerifyFault {
             VerifyFault::WrongLevel => 20,
             VerifyFault::WrongSize => 21,
             VerifyFault::Refused { .. } => 22,
+            VerifyFault::Memory => 23,
         }
     }
 }
@@ -56,6 +59,7 @@ impl fmt::Display for VerifyFault {
             VerifyFault::Refused { rank, rule } => {
                 write!(f, "{number} Refused rank {rank} rule {rule}")
             }
+            VerifyFault::Memory => write!(f, "{number} Memory"),
         }
     }
 }
@@ -128,7 +132,7 @@ fn fault_by(asked: Distances, shelf: &Shelf, image: &Image) -> Option<VerifyFaul
 }
 
 /// The number of boards, if the image is of the shelf's next level and has an entry for each.
-fn boards_of(asked: Distances, shelf: &Shelf, image: &Image) -> Result<u32, VerifyFault>
+pub fn boards_of(asked: Distances, shelf: &Shelf, image: &Image) -> Result<u32, VerifyFault>
     ensures ok { IfOk result (λ n. IsShaped asked shelf.now image.now × (n ≡ size_of image.now.level)) }
     ensures err { IfErr result (IsDueBy asked shelf.now image.now) }
     ensures shelf { IsShelf shelf.now }
@@ -155,7 +159,7 @@ fn highest_by(asked: Distances) -> u8
 }
 
 /// The greatest distance, 0 for none.
-fn greatest_dist(entries: &[Entry]) -> u32
+pub fn greatest_dist(entries: &[Entry]) -> u32
     ensures { result ≡ greatest_dist entries.now }
 {
     let mut most = 0u32;

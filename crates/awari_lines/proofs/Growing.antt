@@ -1,0 +1,189 @@
+-- One more owner.
+use Rattle.std.proofs.Common.{◌≡◌, ◌≢◌, ℕ, zero, suc, ◌+◌, ◌-◌, ◌<◌, ◌≤◌, List, [], ◌∷◌, ◌++◌, length, Option, Some, None, refl, sym, ap, subst, ◌∙◌, inl, inr, arith, get_or, set, vec_len, length-append, length-set, nat_lt, take, drop}
+use Rattle.std.proofs.lemmas.List.{take-append-le, take_all}
+use Rattle.std.proofs.lemmas.Bool.{cases_eq, cases_lt}
+use Rattle.std.proofs.lemmas.Bool.Decides.{nat_tests}
+use Rattle.std.proofs.lemmas.List.{get_or-set_same, get_or-set_other, get_or_append_left, get_or_default}
+use Rattle.std.proofs.Math.Seq.{get_or-append_seam}
+use Rattle.std.proofs.lemmas.Option.{slice_get-get_or}
+use Rattle.std.specs.List.{slice_get}
+use Rattle.awari_lines.specs.Seats.{seat_of}
+use Rattle.awari_lines.specs.declared.lines.Ends.{Ends}
+use Rattle.awari_lines.specs.declared.lines.Line.{Line}
+use Rattle.awari_lines.specs.Lines.{Connected, IsGrid, AllUnused, IsUnused, UnusedOn, PairedOn, Paired, line_of, owners_of}
+
+-- the first n owners have a line to the new one, for which it has the lines ms
+pub record ConnectedTo (es fs : List Ends) (ms : List Line) (n : ℕ) : Type 0 where
+  pub long : length fs ≡ length es
+  pub lines : length ms ≡ n
+  pub done : (k : ℕ) (d : Ends) (m : Line) → k < n → Connected (get_or es k d) (get_or fs k d) (get_or ms k m)
+  pub rest : (k : ℕ) (d : Ends) → n ≤ k → get_or fs k d ≡ get_or es k d
+
+pub connected_none : (es : List Ends) → ConnectedTo es es [] 0
+connected_none es = record { long = refl; lines = refl; done = λ k d m h. absurd (omega arith); rest = λ k d h. refl }
+
+pub connected_more : (es fs : List Ends) (ms : List Line) (n : ℕ) (x a b : Ends) (m : Line) → ConnectedTo es fs ms n → n < length es → a ≡ get_or fs n x → Connected a b m → ConnectedTo es (set fs n b) (ms ++ m ∷ []) (n + 1)
+connected_more es fs ms n x a b m s h is w =
+    let in_fs : n < length fs = (let p : length fs ≡ length es = s.long in omega arith) in
+    let at_new : (d : Line) → get_or (ms ++ m ∷ []) n d ≡ m = λ d. ap (λ k. get_or (ms ++ m ∷ []) k d) (sym s.lines) ∙ get_or-append_seam ms m [] d in
+    let was : (d : Ends) → get_or es n d ≡ a = λ d. sym (s.rest n d (omega arith)) ∙ (get_or_default fs n d x in_fs ∙ sym is) in
+    record {
+      long = length-set fs n b ∙ s.long;
+      lines = length-append ms (m ∷ []) ∙ (let p : length ms ≡ n = s.lines in omega arith);
+      done = λ k d o l. elim (cases_eq k n) [
+        | inl e ↦
+            (let R : ℕ → Type 0 = λ q. Connected (get_or es q d) (get_or (set fs n b) q d) (get_or (ms ++ m ∷ []) q o) in
+            subst R (sym e)
+            (subst (λ (u : Ends). Connected u (get_or (set fs n b) n d) (get_or (ms ++ m ∷ []) n o)) (sym (was d))
+            (subst (λ (u : Ends). Connected a u (get_or (ms ++ m ∷ []) n o)) (sym (get_or-set_same fs n b d in_fs))
+            (subst (λ (u : Line). Connected a b u) (sym (at_new o)) w))))
+        | inr ne ↦
+            (let low : k < n = omega (arith, ne) in
+            subst (λ (u : Ends). Connected (get_or es k d) u (get_or (ms ++ m ∷ []) k o)) (sym (get_or-set_other fs n k b d ne))
+            (subst (λ (u : Line). Connected (get_or es k d) (get_or fs k d) u) (sym (get_or_append_left ms (m ∷ []) o k (let p : length ms ≡ n = s.lines in omega arith))) (s.done k d o low)))
+      ];
+      rest = λ k d l. get_or-set_other fs n k b d (λ e. absurd (omega (arith, e))) ∙ s.rest k d (omega arith);
+    }
+
+pub connected_then : (es fs : List Ends) (ms ms' : List Line) (n : ℕ) (x a b : Ends) (m : Line) → ms' ≡ ms ++ m ∷ [] → ConnectedTo es fs ms n → n < length es → a ≡ get_or fs n x → Connected a b m → ConnectedTo es (set fs n b) ms' (n + 1)
+connected_then es fs ms ms' n x a b m e s h is w = subst (λ (l : List Line). ConnectedTo es (set fs n b) l (n + 1)) (sym e) (connected_more es fs ms n x a b m s h is w)
+
+slice_get-append : {X : Type 0} (xs ys : List X) (k : ℕ) → k < length xs → slice_get (xs ++ ys) k ≡ slice_get xs k
+slice_get-append [] ys k h = absurd (omega arith)
+slice_get-append (x ∷ xs) ys zero h = refl
+slice_get-append (x ∷ xs) ys (suc k) h = slice_get-append xs ys k (omega arith)
+
+slice_get-seam : {X : Type 0} (xs : List X) (y : X) (ys : List X) → slice_get (xs ++ y ∷ ys) (length xs) ≡ Some y
+slice_get-seam [] y ys = refl
+slice_get-seam (x ∷ xs) y ys = slice_get-seam xs y ys
+
+seat_in : (i j n : ℕ) → i ≢ j → i < n → j < n → seat_of i j + 1 < n
+seat_in i j n ne hi hj = grind (arith, nat_tests)
+
+seat_last : (i n : ℕ) → i < n → seat_of i n + 1 ≡ n
+seat_last i n h = grind (arith, nat_tests)
+
+seat_first : (i n : ℕ) → i < n → seat_of n i ≡ i
+seat_first i n h = grind (arith, nat_tests)
+
+line_kept : (a b : Ends) (m : Line) (j n : ℕ) → Connected a b m → owners_of a ≡ n → a.owner ≢ j → a.owner < n → j < n → line_of b j ≡ line_of a j
+line_kept a b m j n w long ne hi hj =
+    ap (λ o. slice_get b.lines.items (seat_of o j)) w.owner
+    ∙ (ap (λ l. slice_get l (seat_of a.owner j)) w.added
+    ∙ slice_get-append a.lines.items (w.line ∷ []) (seat_of a.owner j) (let p : seat_of a.owner j + 1 < n = seat_in a.owner j n ne hi hj in let q : length a.lines.items + 1 ≡ n = ap (λ k. k + 1) (sym a.lines.ok.0) ∙ long in omega arith))
+
+line_new : (a b : Ends) (m : Line) (n : ℕ) (w : Connected a b m) → owners_of a ≡ n → a.owner < n → line_of b n ≡ Some w.line
+line_new a b m n w long hi =
+    ap (λ o. slice_get b.lines.items (seat_of o n)) w.owner
+    ∙ (ap (λ l. slice_get l (seat_of a.owner n)) w.added
+    ∙ (ap (λ k. slice_get (a.lines.items ++ w.line ∷ []) k) (let p : seat_of a.owner n + 1 ≡ n = seat_last a.owner n hi in let q : length a.lines.items + 1 ≡ n = ap (λ k. k + 1) (sym a.lines.ok.0) ∙ long in omega arith)
+    ∙ slice_get-seam a.lines.items w.line []))
+
+unused_push : (ls : List Line) (l : Line) → ((k : ℕ) → UnusedOn (slice_get ls k)) → UnusedOn (Some l) → (k : ℕ) → UnusedOn (slice_get (ls ++ l ∷ []) k)
+unused_push [] l a h zero = h
+unused_push [] l a h (suc k) = tt
+unused_push (m ∷ ms) l a h zero = a zero
+unused_push (m ∷ ms) l a h (suc k) = unused_push ms l (λ j. a (suc j)) h k
+
+unused_each : (ls : List Line) → ((k : ℕ) (m : Line) → k < length ls → UnusedOn (Some (get_or ls k m))) → (k : ℕ) → UnusedOn (slice_get ls k)
+unused_each [] a k = tt
+unused_each (m ∷ ms) a zero = a zero m (omega arith)
+unused_each (m ∷ ms) a (suc k) = unused_each ms (λ j n h. a (suc j) n (omega arith)) k
+
+module _ (es fs : List Ends) (ms : List Line) (new : Ends) (g : IsGrid es) (s : ConnectedTo es fs ms (length es)) (owner : new.owner ≡ length es) (lines : new.lines.items ≡ ms) where
+  abbrev pub grown : List Ends
+  grown = fs ++ new ∷ []
+
+  length-grown : length grown ≡ length es + 1
+  length-grown = length-append fs (new ∷ []) ∙ (let p : length fs ≡ length es = s.long in omega arith)
+
+  grown_old : (i : ℕ) (d : Ends) → i < length es → get_or grown i d ≡ get_or fs i d
+  grown_old i d h = get_or_append_left fs (new ∷ []) d i (let p : length fs ≡ length es = s.long in omega arith)
+
+  grown_new : (d : Ends) → get_or grown (length es) d ≡ new
+  grown_new d = ap (λ k. get_or grown k d) (sym s.long) ∙ get_or-append_seam fs new [] d
+
+  some_line : (i : ℕ) → i < length es → (ls : List Line) → length ls ≡ length es → Line
+  some_line i h [] e = absurd (omega arith)
+  some_line i h (l ∷ ls) e = l
+
+  old_owner : (i : ℕ) (d : Ends) → i < length es → (get_or fs i d).owner ≡ i
+  old_owner i d h = (s.done i d (some_line i h ms s.lines) h).owner ∙ g.owner i d h
+
+  -- what holds at each place of the longer list
+  at_each : (P : ℕ → Ends → Type 0) → (d : Ends) → ((i : ℕ) → i < length es → P i (get_or fs i d)) → P (length es) new → (i : ℕ) → i < length grown → P i (get_or grown i d)
+  at_each P d old last i h =
+      elim (cases_lt i (length es)) [
+        | inl l ↦ subst (λ (u : Ends). P i u) (sym (grown_old i d l)) (old i l)
+        | inr l ↦
+            (let e : i ≡ length es = omega (arith, length-grown) in
+            let Q : ℕ → Type 0 = λ q. P q (get_or grown q d) in subst Q (sym e) (subst (λ (u : Ends). P (length es) u) (sym (grown_new d)) last))
+      ]
+
+  owners_old : (i : ℕ) (d : Ends) → i < length es → owners_of (get_or fs i d) ≡ length grown
+  owners_old i d h =
+      let w = s.done i d (some_line i h ms s.lines) h in
+      let p : vec_len (get_or es i d).lines + 1 ≡ length es = g.owners i d h in
+      let q : length (get_or fs i d).lines.items ≡ length (get_or es i d).lines.items + 1 = ap length w.added ∙ length-append (get_or es i d).lines.items (w.line ∷ []) in
+      let r : vec_len (get_or fs i d).lines ≡ length (get_or fs i d).lines.items = (get_or fs i d).lines.ok.0 in
+      let t : vec_len (get_or es i d).lines ≡ length (get_or es i d).lines.items = (get_or es i d).lines.ok.0 in
+      omega (arith, length-grown)
+
+  paired_old : (i j : ℕ) (d : Ends) → i < j → j < length es → Paired (get_or fs i d) (get_or fs j d)
+  paired_old i j d l h =
+      let li : i < length es = omega arith in
+      let wi = s.done i d (some_line i li ms s.lines) li in
+      let wj = s.done j d (some_line j h ms s.lines) h in
+      let oi : (get_or es i d).owner ≡ i = g.owner i d li in
+      let oj : (get_or es j d).owner ≡ j = g.owner j d h in
+      let one : line_of (get_or fs i d) (get_or es j d).owner ≡ line_of (get_or es i d) (get_or es j d).owner = line_kept (get_or es i d) (get_or fs i d) _ (get_or es j d).owner (length es) wi (g.owners i d li) (λ e. absurd (omega (arith, e))) (omega arith) (omega arith) in
+      let two : line_of (get_or fs j d) (get_or es i d).owner ≡ line_of (get_or es j d) (get_or es i d).owner = line_kept (get_or es j d) (get_or fs j d) _ (get_or es i d).owner (length es) wj (g.owners j d h) (λ e. absurd (omega (arith, e))) (omega arith) (omega arith) in
+      subst (λ (n : ℕ). PairedOn (line_of (get_or fs i d) n) (line_of (get_or fs j d) (get_or fs i d).owner)) (sym wj.owner)
+      (subst (λ (n : ℕ). PairedOn (line_of (get_or fs i d) (get_or es j d).owner) (line_of (get_or fs j d) n)) (sym wi.owner)
+      (subst (λ (u : Option Line). PairedOn u (line_of (get_or fs j d) (get_or es i d).owner)) (sym one)
+      (subst (λ (u : Option Line). PairedOn (line_of (get_or es i d) (get_or es j d).owner) u) (sym two) (g.paired i j d l h))))
+
+  paired_new : (i : ℕ) (d : Ends) → i < length es → Paired (get_or fs i d) new
+  paired_new i d h =
+      let m : Line = some_line i h ms s.lines in
+      let w = s.done i d m h in
+      let oi : (get_or es i d).owner ≡ i = g.owner i d h in
+      let one : line_of (get_or fs i d) new.owner ≡ Some w.line = ap (λ n. line_of (get_or fs i d) n) owner ∙ line_new (get_or es i d) (get_or fs i d) _ (length es) w (g.owners i d h) (omega arith) in
+      let two : line_of new (get_or fs i d).owner ≡ Some (get_or ms i m) =
+      ap (λ n. slice_get new.lines.items (seat_of new.owner n)) (old_owner i d h)
+      ∙ (ap (λ n. slice_get new.lines.items (seat_of n i)) owner
+      ∙ (ap (λ k. slice_get new.lines.items k) (seat_first i (length es) h)
+      ∙ (ap (λ l. slice_get l i) lines ∙ slice_get-get_or ms i m (let p : length ms ≡ length es = s.lines in omega arith)))) in
+      subst (λ (u : Option Line). PairedOn u (line_of new (get_or fs i d).owner)) (sym one) (subst (λ (u : Option Line). PairedOn (Some w.line) u) (sym two) w.paired)
+
+  pub grid_more : IsGrid grown
+  grid_more = record {
+    owner = λ i d h. at_each (λ k u. u.owner ≡ k) d (λ k l. old_owner k d l) owner i h;
+    owners = λ i d h. at_each (λ k u. owners_of u ≡ length grown) d (λ k l. owners_old k d l) (ap (λ k. k + 1) (new.lines.ok.0 ∙ (ap length lines ∙ s.lines)) ∙ sym length-grown) i h;
+    paired = λ i j d l h. (let li : i < length es = omega (arith, length-grown) in
+        subst (λ (u : Ends). Paired u (get_or grown j d)) (sym (grown_old i d li))
+        (at_each (λ k u. (i < k) → Paired (get_or fs i d) u) d (λ k lk il. paired_old i k d il lk) (λ il. paired_new i d li) j h l));
+  }
+
+  unused_old : AllUnused es → (i : ℕ) (d : Ends) → i < length es → IsUnused (get_or fs i d)
+  unused_old u i d h k =
+      let w = s.done i d (some_line i h ms s.lines) h in
+      subst (λ (l : List Line). UnusedOn (slice_get l k)) (sym w.added) (unused_push (get_or es i d).lines.items w.line (u i d h) w.unused k)
+
+  unused_new : IsUnused new
+  unused_new = subst (λ (l : List Line). (k : ℕ) → UnusedOn (slice_get l k)) (sym lines) (unused_each ms (λ k m h. (s.done k new m (let p : length ms ≡ length es = s.lines in omega arith)).unused_there))
+
+  pub unused_more : AllUnused es → AllUnused grown
+  unused_more u i d h = at_each (λ k e. IsUnused e) d (λ k l. unused_old u k d l) unused_new i h
+
+pub grid_then : (es fs gs : List Ends) (ms : List Line) (n : ℕ) (new : Ends) → gs ≡ fs ++ new ∷ [] → n ≡ length es → IsGrid es × AllUnused es → ConnectedTo es fs ms n → new.owner ≡ length es → new.lines.items ≡ ms → IsGrid gs × AllUnused gs
+grid_then es fs gs ms n new e long g s owner lines =
+    let t : ConnectedTo es fs ms (length es) = subst (λ (k : ℕ). ConnectedTo es fs ms k) long s in
+    subst (λ (l : List Ends). IsGrid l × AllUnused l) (sym e) (grid_more es fs ms new g.0 t owner lines, unused_more es fs ms new g.0 t owner lines g.1)
+
+-- what a loop over `iter_mut` leaves, where no element is missing
+refilled : (n : ℕ) (fs es : List Ends) → n ≡ length es → length fs ≡ length es → take n (fs ++ drop (length fs) es) ≡ fs
+refilled n fs es e long = take-append-le n fs (drop (length fs) es) (omega arith) ∙ take_all n fs (omega arith)
+
+pub grid_after : (es fs gs : List Ends) (ms : List Line) (n len : ℕ) (new : Ends) → gs ≡ take len (fs ++ drop (length fs) es) ++ new ∷ [] → len ≡ length es → n ≡ length es → IsGrid es × AllUnused es → ConnectedTo es fs ms n → new.owner ≡ length es → new.lines.items ≡ ms → IsGrid gs × AllUnused gs
+grid_after es fs gs ms n len new e whole long g s owner lines = grid_then es fs gs ms n new (e ∙ ap (λ l. l ++ new ∷ []) (refilled len fs es whole s.long)) long g s owner lines

@@ -1,0 +1,152 @@
+-- How far a settling has come.
+use Rattle.std.proofs.Common.{◌≡◌, ◌≢◌, ℕ, zero, suc, ◌+◌, ◌-◌, ◌<◌, ◌≤◌, List, [], ◌∷◌, ◌++◌, length, Option, Some, None, refl, sym, ap, subst, ◌∙◌, inl, inr, arith, get_or, IsTrue, ◌↔◌, Bool, true, ◌⊎◌}
+use Rattle.std.proofs.lemmas.Bool.{cases_eq, cases_lt}
+use Rattle.awari_lines.specs.declared.lines.Ends.{Ends}
+use Rattle.awari_lines.specs.declared.lines.Line.{Line}
+use Rattle.awari_lines.specs.Lines.{LookedAt, NothingWaits, IsExact, IsGrid, SameHistory, SameLines, sent_to, received_from, waiting_from, sent_on, received_on, waiting_on, line_of}
+use Rattle.awari_lines.proofs.Grids.{history_then, same_history}
+
+abbrev pub ExactOn : Option Line → Option Line → Type 0
+ExactOn l m = (received_on l ++ waiting_on l ≡ sent_on m) × (received_on m ++ waiting_on m ≡ sent_on l)
+
+abbrev pub QuietOn : Option Line → Option Line → Type 0
+QuietOn l m = (waiting_on l ≡ []) × (waiting_on m ≡ [])
+
+-- R holds of the lines between the owners x and y
+abbrev pub Between : (Option Line → Option Line → Type 0) → List Ends → ℕ → ℕ → Ends → Type 0
+Between R es x y d = R (line_of (get_or es x d) y) (line_of (get_or es y d) x)
+
+-- the pairs that were looked at
+abbrev pub IsDone : ℕ → ℕ → ℕ → ℕ → Type 0
+IsDone j i x y = (y < j) ⊎ ((y ≡ j) × (x < i))
+
+pub record SettledTo (es fs : List Ends) (empty : Bool) (j i : ℕ) : Type 0 where
+  pub grid : IsGrid fs
+  pub long : length fs ≡ length es
+  pub same : (k : ℕ) (d : Ends) → k < length es → SameHistory (get_or es k d) (get_or fs k d)
+  pub exact : (x y : ℕ) (d : Ends) → x < y → y < length es → IsDone j i x y → Between ExactOn fs x y d
+  pub flag : IsTrue empty ↔ ((x y : ℕ) (d : Ends) → x < y → y < length es → IsDone j i x y → Between QuietOn fs x y d)
+
+pub settled_none : (es : List Ends) → IsGrid es → SettledTo es es true 0 0
+settled_none es g = record {
+  grid = g;
+  long = refl;
+  same = λ k d h. same_history (get_or es k d);
+  exact = λ x y d l h w. elim w [ inl p ↦ absurd (omega arith) | inr p ↦ absurd (let q : x < 0 = p.1 in omega arith) ];
+  flag = ((λ t x y d l h w. elim w [ inl p ↦ absurd (omega arith) | inr p ↦ absurd (let q : x < 0 = p.1 in omega arith) ]), (λ a. refl));
+}
+
+some_ends : (es : List Ends) → 0 < length es → Ends
+some_ends [] h = absurd (omega arith)
+some_ends (e ∷ es) h = e
+
+-- the row of j is done
+pub settled_row : (es fs : List Ends) (empty : Bool) (j i : ℕ) → i ≡ j → SettledTo es fs empty j i → SettledTo es fs empty (j + 1) 0
+settled_row es fs empty j i e s =
+    let back : (x y : ℕ) → x < y → IsDone (j + 1) 0 x y → IsDone j i x y = λ x y l w. elim w [
+      | inl p ↦ elim (cases_eq y j) [ inl q ↦ inr (q, (let q' : y ≡ j = q in let e' : i ≡ j = e in omega arith)) | inr n ↦ inl (omega (arith, n)) ]
+      | inr p ↦ absurd (let q : x < 0 = p.1 in omega arith)
+    ] in
+    let on : (x y : ℕ) → IsDone j i x y → IsDone (j + 1) 0 x y = λ x y w. elim w [ inl p ↦ inl (omega arith) | inr p ↦ inl (let q : y ≡ j = p.0 in omega arith) ] in
+    record {
+      grid = s.grid;
+      long = s.long;
+      same = s.same;
+      exact = λ x y d l h w. s.exact x y d l h (back x y l w);
+      flag = ((λ t x y d l h w. s.flag.0 t x y d l h (back x y l w)), (λ a. s.flag.1 (λ x y d l h w. a x y d l h (on x y w))));
+    }
+
+module _ (es fs hs : List Ends) (empty quiet empty' : Bool) (j i : ℕ) (lt : i < j) (fits : j < length es) (s : SettledTo es fs empty j i) (long : length hs ≡ length fs) (w : LookedAt fs hs i j)
+    (flag : (d : Ends) → IsTrue quiet ↔ NothingWaits (get_or hs i d) (get_or hs j d)) (both : IsTrue empty' ↔ (IsTrue empty × IsTrue quiet)) where
+  owner_i : (d : Ends) → (get_or hs i d).owner ≡ i
+  owner_i d = w.grid.owner i d (let p : length hs ≡ length fs = long in let q : length fs ≡ length es = s.long in omega arith)
+
+  owner_j : (d : Ends) → (get_or hs j d).owner ≡ j
+  owner_j d = w.grid.owner j d (let p : length hs ≡ length fs = long in let q : length fs ≡ length es = s.long in omega arith)
+
+  here_exact : (d : Ends) → Between ExactOn hs i j d
+  here_exact d =
+      subst (λ (m : ℕ). ExactOn (line_of (get_or hs i d) m) (line_of (get_or hs j d) i)) (owner_j d)
+      (subst (λ (m : ℕ). ExactOn (line_of (get_or hs i d) (get_or hs j d).owner) (line_of (get_or hs j d) m)) (owner_i d) (w.exact d))
+
+  -- nothing waits between i and j, by the numbers
+  quiet_on : (d : Ends) → NothingWaits (get_or hs i d) (get_or hs j d) → Between QuietOn hs i j d
+  quiet_on d h =
+      subst (λ (m : ℕ). QuietOn (line_of (get_or hs i d) m) (line_of (get_or hs j d) i)) (owner_j d)
+      (subst (λ (m : ℕ). QuietOn (line_of (get_or hs i d) (get_or hs j d).owner) (line_of (get_or hs j d) m)) (owner_i d) h)
+
+  quiet_back : (d : Ends) → Between QuietOn hs i j d → NothingWaits (get_or hs i d) (get_or hs j d)
+  quiet_back d h =
+      subst (λ (m : ℕ). QuietOn (line_of (get_or hs i d) (get_or hs j d).owner) (line_of (get_or hs j d) m)) (sym (owner_i d))
+      (subst (λ (m : ℕ). QuietOn (line_of (get_or hs i d) m) (line_of (get_or hs j d) i)) (sym (owner_j d)) h)
+
+  -- the lines of a pair that was looked at before
+  stays : (R : Option Line → Option Line → Type 0) (x y : ℕ) (d : Ends) → x < y → y < length es → IsDone j i x y → Between R fs x y d → Between R hs x y d
+  stays R x y d l h done r =
+      let q : length fs ≡ length es = s.long in
+      let apart : ¬ ((x ≡ i) × (y ≡ j)) = λ e. elim done [ inl p ↦ absurd (let a : y ≡ j = e.1 in omega arith) | inr p ↦ absurd (let a : x ≡ i = e.0 in let b : x < i = p.1 in omega arith) ] in
+      let across : ¬ ((x ≡ j) × (y ≡ i)) = λ e. absurd (let a : x ≡ j = e.0 in let b : y ≡ i = e.1 in omega arith) in
+      let one : line_of (get_or hs x d) y ≡ line_of (get_or fs x d) y = w.others x y d (omega arith) (λ e. absurd (omega (arith, e))) apart across in
+      let two : line_of (get_or hs y d) x ≡ line_of (get_or fs y d) x = w.others y x d (omega arith) (λ e. absurd (omega (arith, e))) (λ e. across (e.1, e.0)) (λ e. apart (e.1, e.0)) in
+      subst (λ (u : Option Line). R u (line_of (get_or hs y d) x)) (sym one) (subst (λ (u : Option Line). R (line_of (get_or fs x d) y) u) (sym two) r)
+
+  stayed : (R : Option Line → Option Line → Type 0) (x y : ℕ) (d : Ends) → x < y → y < length es → IsDone j i x y → Between R hs x y d → Between R fs x y d
+  stayed R x y d l h done r =
+      let q : length fs ≡ length es = s.long in
+      let apart : ¬ ((x ≡ i) × (y ≡ j)) = λ e. elim done [ inl p ↦ absurd (let a : y ≡ j = e.1 in omega arith) | inr p ↦ absurd (let a : x ≡ i = e.0 in let b : x < i = p.1 in omega arith) ] in
+      let across : ¬ ((x ≡ j) × (y ≡ i)) = λ e. absurd (let a : x ≡ j = e.0 in let b : y ≡ i = e.1 in omega arith) in
+      let one : line_of (get_or hs x d) y ≡ line_of (get_or fs x d) y = w.others x y d (omega arith) (λ e. absurd (omega (arith, e))) apart across in
+      let two : line_of (get_or hs y d) x ≡ line_of (get_or fs y d) x = w.others y x d (omega arith) (λ e. absurd (omega (arith, e))) (λ e. across (e.1, e.0)) (λ e. apart (e.1, e.0)) in
+      subst (λ (u : Option Line). R u (line_of (get_or fs y d) x)) one (subst (λ (u : Option Line). R (line_of (get_or hs x d) y) u) two r)
+
+  -- a pair is done now where it is the last one or was done before
+  done_cases : (x y : ℕ) → IsDone j (i + 1) x y → ((x ≡ i) × (y ≡ j)) ⊎ IsDone j i x y
+  done_cases x y done = elim done [
+    | inl p ↦ inr (inl p)
+    | inr p ↦ elim (cases_eq x i) [ inl e ↦ inl (e, p.0) | inr n ↦ inr (inr (p.0, (let a : x < i + 1 = p.1 in omega (arith, n)))) ]
+  ]
+
+  done_more : (x y : ℕ) → IsDone j i x y → IsDone j (i + 1) x y
+  done_more x y done = elim done [ inl p ↦ inl p | inr p ↦ inr (p.0, (let a : x < i = p.1 in omega arith)) ]
+
+  at_last : (R : Option Line → Option Line → Type 0) (x y : ℕ) (d : Ends) → x ≡ i → y ≡ j → Between R hs i j d → Between R hs x y d
+  at_last R x y d e f r = subst (λ (a : ℕ). Between R hs a y d) (sym e) (subst (λ (b : ℕ). Between R hs i b d) (sym f) r)
+
+  pub settled_more : SettledTo es hs empty' j (i + 1)
+  settled_more = record {
+    grid = w.grid;
+    long = long ∙ s.long;
+    same = λ k d h. history_then (get_or es k d) (get_or fs k d) (get_or hs k d) (s.same k d h) (w.same k d (let q : length fs ≡ length es = s.long in omega arith));
+    exact = λ x y d l h done. elim (done_cases x y done) [
+      | inl e ↦ at_last ExactOn x y d e.0 e.1 (here_exact d)
+      | inr before ↦ stays ExactOn x y d l h before (s.exact x y d l h before)
+    ];
+    flag = (
+      (λ t x y d l h done. elim (done_cases x y done) [
+        | inl e ↦ at_last QuietOn x y d e.0 e.1 (quiet_on d ((flag d).0 (both.0 t).1))
+        | inr before ↦ stays QuietOn x y d l h before (s.flag.0 (both.0 t).0 x y d l h before)
+      ]),
+      (λ all. both.1 (
+        s.flag.1 (λ x y d l h before. stayed QuietOn x y d l h before (all x y d l h (done_more x y before))),
+        (let d : Ends = some_ends es (let q : j < length es = fits in omega arith) in (flag d).1 (quiet_back d (all i j d lt fits (inr (refl, omega arith))))),
+      )),
+    );
+  }
+
+-- all rows are done
+pub settled_exact : (es fs : List Ends) (empty : Bool) (j : ℕ) → length es ≤ j → SettledTo es fs empty j 0 → (x y : ℕ) (d : Ends) → x < length es → y < length es → x ≢ y
+    → received_from (get_or fs x d) y ++ waiting_from (get_or fs x d) y ≡ sent_to (get_or fs y d) x
+settled_exact es fs empty j long s x y d hx hy n =
+    elim (cases_lt x y) [
+      | inl l ↦ (s.exact x y d l hy (inl (omega arith))).0
+      | inr l ↦ (s.exact y x d (omega (arith, n)) hx (inl (omega arith))).1
+    ]
+
+pub settled_flag : (es fs : List Ends) (empty : Bool) (j : ℕ) → length es ≤ j → SettledTo es fs empty j 0 → IsTrue empty ↔ ((x y : ℕ) (d : Ends) → x < length es → y < length es → x ≢ y → waiting_from (get_or fs x d) y ≡ [])
+settled_flag es fs empty j long s = (
+  (λ t x y d hx hy n. elim (cases_lt x y) [
+    | inl l ↦ (s.flag.0 t x y d l hy (inl (omega arith))).0
+    | inr l ↦ (s.flag.0 t y x d (omega (arith, n)) hx (inl (omega arith))).1
+  ]),
+  (λ all. s.flag.1 (λ x y d l h w. (all x y d (omega arith) h (λ e. absurd (omega (arith, e))), all y x d h (omega arith) (λ e. absurd (omega (arith, e)))))),
+)

@@ -1,0 +1,136 @@
+-- What a contract sees of an owner's ends.
+use Rattle.std.specs.Prelude.{◌≡◌, ◌≢◌, ℕ, ◌+◌, ◌<◌, List, [], ◌∷◌, ◌++◌, length, Option, Some, None, slice_get, slice_index_or, vec_len}
+use Rattle.rtrb.specs.Ring.{sent, received, known_items, SameProducer, SameConsumer, IsPair}
+use Rattle.awari_lines.specs.declared.lines.Line.{Line}
+use Rattle.awari_lines.specs.declared.lines.Ends.{Ends}
+use Rattle.awari_owner.specs.declared.notes.Note.{Note}
+use Rattle.arrayvec.specs.ArrayVec.{ArrayVec}
+use Rattle.awari_lines.specs.Seats.{seat_of}
+
+-- a batch is the list of its notes
+abbrev pub Notes : Type 0
+Notes = ArrayVec Note
+
+-- how many owners the lines are among
+abbrev pub owners_of : Ends → ℕ
+owners_of e = vec_len e.lines + 1
+
+-- the number of an owner other than this one
+abbrev pub IsOther : Ends → ℕ → Type 0
+IsOther e j = (j ≢ e.owner) × (j < owners_of e)
+
+-- the line to the owner j
+abbrev pub line_of : Ends → ℕ → Option Line
+line_of e j = slice_get e.lines.items (seat_of e.owner j)
+
+abbrev pub sent_on : Option Line → List Notes
+sent_on None = []
+sent_on (Some l) = sent l.producer
+
+abbrev pub received_on : Option Line → List Notes
+received_on None = []
+received_on (Some l) = received l.consumer
+
+abbrev pub waiting_on : Option Line → List Notes
+waiting_on None = []
+waiting_on (Some l) = known_items l.consumer
+
+-- every batch that was sent to the owner j, oldest first
+abbrev pub sent_to : Ends → ℕ → List Notes
+sent_to e j = sent_on (line_of e j)
+
+-- every batch that was received from the owner j, oldest first
+abbrev pub received_from : Ends → ℕ → List Notes
+received_from e j = received_on (line_of e j)
+
+-- the batches that were seen to wait on the line from the owner j
+abbrev pub waiting_from : Ends → ℕ → List Notes
+waiting_from e j = waiting_on (line_of e j)
+
+-- the same ends of the same two rings
+abbrev pub SameRings : Option Line → Option Line → Type 0
+SameRings None None = Unit {0}
+SameRings None (Some m) = ⊥
+SameRings (Some l) None = ⊥
+SameRings (Some l) (Some m) = SameProducer l.producer m.producer × SameConsumer l.consumer m.consumer
+
+-- nothing was sent or received, and more may be seen to wait
+pub record LineLooked (l m : Line) : Type 0 where
+  pub producer : SameProducer l.producer m.producer
+  pub consumer : SameConsumer l.consumer m.consumer
+  pub sent : sent m.producer ≡ sent l.producer
+  pub received : received m.consumer ≡ received l.consumer
+
+-- the same owner's ends of the same lines
+pub record SameLines (a b : Ends) : Type 0 where
+  pub owner : b.owner ≡ a.owner
+  pub owners : vec_len b.lines ≡ vec_len a.lines
+  pub rings : (k : ℕ) → SameRings (slice_get a.lines.items k) (slice_get b.lines.items k)
+
+-- nothing has changed on the lines of other owners than j
+abbrev pub SameBut : Ends → Ends → ℕ → Type 0
+SameBut a b j = (k : ℕ) → k ≢ j → k ≢ a.owner → line_of b k ≡ line_of a k
+
+-- the two ends of each of the two rings between two owners
+abbrev pub PairedOn : Option Line → Option Line → Type 0
+PairedOn None m = ⊥
+PairedOn (Some l) None = ⊥
+PairedOn (Some l) (Some m) = IsPair l.producer m.consumer × IsPair m.producer l.consumer
+
+abbrev pub Paired : Ends → Ends → Type 0
+Paired a b = PairedOn (line_of a b.owner) (line_of b a.owner)
+
+-- nothing was sent or received
+abbrev pub UnusedOn : Option Line → Type 0
+UnusedOn None = Unit {0}
+UnusedOn (Some l) = (sent l.producer ≡ []) × (received l.consumer ≡ []) × (known_items l.consumer ≡ [])
+
+abbrev pub IsUnused : Ends → Type 0
+IsUnused e = (k : ℕ) → UnusedOn (slice_get e.lines.items k)
+
+-- the ends a became b by a line at the end, whose other owner has m for it
+pub record Connected (a b : Ends) (m : Line) : Type 0 where
+  pub owner : b.owner ≡ a.owner
+  pub line : Line
+  pub added : b.lines.items ≡ a.lines.items ++ line ∷ []
+  pub paired : PairedOn (Some line) (Some m)
+  pub unused : UnusedOn (Some line)
+  pub unused_there : UnusedOn (Some m)
+
+-- on the line to the owner j nothing was sent or received, and more may be seen to wait
+pub record Looked (a b : Ends) (j : ℕ) : Type 0 where
+  pub lines : SameLines a b
+  pub others : SameBut a b j
+  pub sent : sent_to b j ≡ sent_to a j
+  pub received : received_from b j ≡ received_from a j
+
+-- between two owners, what was received and then what waits is what was sent
+abbrev pub IsExact : Ends → Ends → Type 0
+IsExact a b =
+    (received_from a b.owner ++ waiting_from a b.owner ≡ sent_to b a.owner)
+    × (received_from b a.owner ++ waiting_from b a.owner ≡ sent_to a b.owner)
+
+abbrev pub NothingWaits : Ends → Ends → Type 0
+NothingWaits a b = (waiting_from a b.owner ≡ []) × (waiting_from b a.owner ≡ [])
+
+-- the ends of all owners, in the order of their numbers
+pub record IsGrid (es : List Ends) : Type 0 where
+  pub owner : (i : ℕ) (d : Ends) → i < length es → (slice_index_or es i d).owner ≡ i
+  pub owners : (i : ℕ) (d : Ends) → i < length es → owners_of (slice_index_or es i d) ≡ length es
+  pub paired : (i j : ℕ) (d : Ends) → i < j → j < length es → Paired (slice_index_or es i d) (slice_index_or es j d)
+
+abbrev pub AllUnused : List Ends → Type 0
+AllUnused es = (i : ℕ) (d : Ends) → i < length es → IsUnused (slice_index_or es i d)
+
+-- the same ends with the same history
+pub record SameHistory (a b : Ends) : Type 0 where
+  pub lines : SameLines a b
+  pub sent : (j : ℕ) → j ≢ a.owner → sent_to b j ≡ sent_to a j
+  pub received : (j : ℕ) → j ≢ a.owner → received_from b j ≡ received_from a j
+
+-- the owners i and j looked at the rings between them
+pub record LookedAt (es fs : List Ends) (i j : ℕ) : Type 0 where
+  pub grid : IsGrid fs
+  pub same : (k : ℕ) (d : Ends) → k < length es → SameHistory (slice_index_or es k d) (slice_index_or fs k d)
+  pub others : (x y : ℕ) (d : Ends) → x < length es → x ≢ y → ¬ ((x ≡ i) × (y ≡ j)) → ¬ ((x ≡ j) × (y ≡ i)) → line_of (slice_index_or fs x d) y ≡ line_of (slice_index_or es x d) y
+  pub exact : (d : Ends) → IsExact (slice_index_or fs i d) (slice_index_or fs j d)

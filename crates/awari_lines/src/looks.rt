@@ -1,0 +1,41 @@
+// What all lines hold, once all ends are in one thread.
+ghost use Rattle.std.specs.Prelude.{◌≡◌, ◌≢◌, ◌+◌, ◌<◌, ◌≤◌, ◌++◌, ◌↔◌, ℕ, [], length, slice_index_or, IsTrue};
+ghost use Rattle.awari_lines.specs.Lines.{IsGrid, LookedAt, NothingWaits, SameHistory, received_from, waiting_from, sent_to};
+ghost use Rattle.awari_lines.specs.declared.lines.Ends.{Ends as AnEnds};
+
+use crate::lines::Ends;
+
+/// Looks at every line. True where nothing waits on any.
+pub fn settle(all: &mut [Ends]) -> bool
+    requires { IsGrid all.old }
+    ensures grid { IsGrid all.new }
+    ensures same { (i : ℕ) (d : AnEnds) → i < length all.old → SameHistory (slice_index_or all.old i d) (slice_index_or all.new i d) }
+    ensures exact { (i j : ℕ) (d : AnEnds) → i < length all.old → j < length all.old → i ≢ j → received_from (slice_index_or all.new i d) j ++ waiting_from (slice_index_or all.new i d) j ≡ sent_to (slice_index_or all.new j d) i }
+    ensures flag { IsTrue result ↔ ((i j : ℕ) (d : AnEnds) → i < length all.old → j < length all.old → i ≢ j → waiting_from (slice_index_or all.new i d) j ≡ []) }
+{
+    let mut empty = true;
+    for j in 0..all.len() {
+        for i in 0..j {
+            let quiet = settle_pair(all, i, j);
+            empty = both(empty, quiet);
+        }
+    }
+    empty
+}
+
+// Looks at the two lines between two owners. True where nothing waits on them.
+fn settle_pair(all: &mut [Ends], i: usize, j: usize) -> bool
+    requires grid { IsGrid all.old }
+    requires pair { (i < j) × (j < length all.old) }
+    ensures looked { LookedAt all.old all.new i j }
+    ensures flag { (d : AnEnds) → IsTrue result ↔ NothingWaits (slice_index_or all.new i d) (slice_index_or all.new j d) }
+{
+    let (front, back) = all.split_at_mut(j);
+    front[i].look_beside(&mut back[0])
+}
+
+fn both(a: bool, b: bool) -> bool
+    ensures { IsTrue result ↔ (IsTrue a × IsTrue b) }
+{
+    a && b
+}

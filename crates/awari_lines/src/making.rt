@@ -1,0 +1,37 @@
+// The ends of all lines.
+ghost use Rattle.std.specs.Prelude.{◌≡◌, ◌+◌, ◌<◌, ◌≤◌, vec_len, IfOk, OnOk};
+ghost use Rattle.awari_lines.specs.Lines.{IsGrid, AllUnused};
+
+use crate::lines::Ends;
+use std::alloc::{AllocError, Global};
+
+/// The ends of one line for each ordered pair of different owners, each with room for `room` batches.
+pub fn grid(alloc: Global, owners: u8, room: u16) -> Result<Vec<Ends>, AllocError>
+    requires owners { (1 ≤ owners) × (owners ≤ 16) }
+    requires room { (1 ≤ room) × (room ≤ 256) }
+    ensures owners { IfOk result (λ all. vec_len all ≡ owners) }
+    ensures grid { IfOk result (λ all. IsGrid all.items) }
+    ensures unused { IfOk result (λ all. AllUnused all.items) }
+{
+    let mut all = Vec::new(alloc);
+    for owner in 0..owners {
+        add_owner(alloc, &mut all, owner, usize::from(room))?;
+    }
+    Ok(all)
+}
+
+// One more owner, with lines between it and each of the others.
+fn add_owner(alloc: Global, all: &mut Vec<Ends>, owner: u8, room: usize) -> Result<(), AllocError>
+    requires owner { owner ≡ vec_len all.old }
+    requires grid { IsGrid all.old.items × AllUnused all.old.items }
+    ensures owners { OnOk result (vec_len all.new ≡ vec_len all.old + 1) }
+    ensures grid { OnOk result (IsGrid all.new.items × AllUnused all.new.items) }
+{
+    let mut lines = Vec::with_capacity(alloc, all.len())?;
+    for other in all.iter_mut() {
+        let line = other.connect(alloc, room)?;
+        lines.push(line)?;
+    }
+    all.push(Ends { owner, lines })?;
+    Ok(())
+}

@@ -1,0 +1,35 @@
+use Rattle.std.proofs.Common.{◌≡◌, ◌-◌, ◌<◌, List, length, get_or, take, ap, subst, sym, ◌∙◌, rules, length-set}
+use Rattle.awari_owner.specs.Part.{stored_at}
+use Rattle.awari_owner.specs.declared.notes.Note.{Note}
+use Rattle.awari_phase.specs.Sound.{OwnerSound, with_taken}
+use Rattle.awari_phase.proofs.Keeping.{same_block, block_then}
+use Rattle.awari_phase.proofs.Batching.{no_note, read_at, sound_first, sound_last, sound_more}
+use Rattle.awari_phase.proofs.hearing.take_batch.Goals as goal
+
+pub loop-note-init : goal.loop-note-init
+loop-note-init c = record {
+  block = same_block c.args.part.now;
+  sound = λ value owner owners from taken given boxed apart s. sound_first value owner owners from c.args.part.now taken given boxed s;
+}
+
+pub loop-note-preserved : goal.loop-note-preserved
+loop-note-preserved c =
+    let k = c.loop-note.note-index in
+    let items : List Note = c.args.batch.now.items in
+    let low : k < length items = search rules in
+    let m : Note = get_or c.as_slice-note-items.result.now k no_note in
+    let at = read_at c.as_slice-note-items.result.now items k c.as_slice-note-items.ensures.value low in
+    let puts = c.in-Ok.ensures.puts in
+    let long : length c.take.new.self.cells ≡ length c.loop-note.part.cells = ap length puts.cells ∙ length-set c.loop-note.part.cells (m.target - c.loop-note.part.start) (stored_at c.take.new.self m.target) in
+    record {
+      block = block_then c.args.part.now c.loop-note.part c.take.new.self c.loop-note.invariant.block (record { level = puts.same; long = long });
+      sound = λ value owner owners from taken given boxed apart s.
+          subst (λ (b : List Note). OwnerSound value owner owners c.take.new.self (with_taken taken from b) given boxed) (sym at)
+          (sound_more c.loop-note.part c.take.new.self puts.same long c.in-Ok.ensures.stays puts.joins value owner owners from taken given boxed (take k items) m apart
+          (c.in-Ok.ensures.added value) c.in-Ok.ensures.hears (c.loop-note.invariant.sound value owner owners from taken given boxed apart s));
+    }
+
+pub returns-clause-sound : goal.returns-clause-sound
+returns-clause-sound c = λ value owner owners from taken given boxed apart s.
+    sound_last value owner owners from c.loop-note.part taken given boxed c.args.batch.now.items c.loop-note.note-index (search rules)
+    (c.loop-note.invariant.sound value owner owners from taken given boxed apart s)

@@ -1,0 +1,90 @@
+-- What a worker keeps of its owner.
+use Rattle.std.specs.Prelude.{◌≡◌, ◌≢◌, ℕ, ◌<◌, ◌≤◌, List, [], ◌++◌, length, map, All, ℤ, slice_index_or}
+use mathlib.Core.List.{IsPrefix}
+use Rattle.awari_lines.specs.Lines.{Notes, IsOther, IsGrid, SameLines, owners_of, sent_to, received_from}
+use Rattle.awari_lines.specs.declared.lines.Ends.{Ends}
+use Rattle.awari_owner.specs.declared.notes.Note.{Note}
+use Rattle.awari_owner.specs.Outboxes.{Outboxes}
+use Rattle.awari_owner.specs.Part.{Part}
+use Rattle.awari_phase.specs.Sound.{Batches, queue_to, OwnerSound, SameBlock, IsOpenBatch}
+use Rattle.awari_phase.specs.declared.owners.Owner.{Owner}
+
+abbrev pub items_of : Notes → List Note
+items_of b = b.items
+
+-- the batches that were taken from owner j
+abbrev pub taken_from : Ends → ℕ → Batches
+taken_from e j = map items_of (received_from e j)
+
+-- the batches that are for owner j: those that were sent, and then those that are to be
+abbrev pub given_to : Ends → Outboxes → ℕ → Batches
+given_to e o j = map items_of (sent_to e j) ++ queue_to o j
+
+abbrev pub IsSound : (List ℕ → ℤ) → Ends → Part → Outboxes → Type 0
+IsSound value e part o = OwnerSound value e.owner (owners_of e) part (taken_from e) (given_to e o) (queue_to o)
+
+-- The owner on the same lines, with the same block, gain and distance, is sound where it was; what it took and sent has only
+-- grown, and what it sent is of the open gain and distance where what it had to send was.
+pub record Keeps (e : Ends) (part : Part) (o : Outboxes) (e' : Ends) (part' : Part) (o' : Outboxes) : Type 0 where
+  pub lines : SameLines e e'
+  pub block : SameBlock part part'
+  pub owner : o'.owner ≡ o.owner
+  pub owners : length o'.queues ≡ length o.queues
+  pub received : (j : ℕ) → IsOther e j → IsPrefix (received_from e j) (received_from e' j)
+  pub sent : (j : ℕ) → IsOther e j → (gone : List Notes) × (sent_to e' j ≡ sent_to e j ++ gone) × ((value : List ℕ → ℤ) → IsSound value e part o → All (IsOpenBatch part) (map items_of gone))
+  pub sound : (value : List ℕ → ℤ) → IsSound value e part o → IsSound value e' part' o'
+
+abbrev pub Kept : Owner → Owner → Type 0
+Kept a b = Keeps a.ends a.part a.outboxes b.ends b.part b.outboxes
+
+abbrev pub ends_of : Owner → Ends
+ends_of o = o.ends
+
+-- the ends of all owners, in order
+abbrev pub all_ends : List Owner → List Ends
+all_ends os = map ends_of os
+
+-- what a look at the lines leaves as it is
+abbrev pub rest_of : Owner → Part × Outboxes
+rest_of o = (o.part, o.outboxes)
+
+-- The owner on the same lines, with the same block and gain, is sound where it was, and what it took and sent has only grown.
+pub record Grown (a b : Owner) : Type 0 where
+  pub lines : SameLines a.ends b.ends
+  pub level : b.part.level ≡ a.part.level
+  pub gain : b.part.gain ≡ a.part.gain
+  pub start : b.part.start ≡ a.part.start
+  pub long : length b.part.cells ≡ length a.part.cells
+  pub received : (j : ℕ) → IsOther a.ends j → IsPrefix (received_from a.ends j) (received_from b.ends j)
+  pub sent : (j : ℕ) → IsOther a.ends j → IsPrefix (sent_to a.ends j) (sent_to b.ends j)
+  pub sound : (value : List ℕ → ℤ) → IsSound value a.ends a.part a.outboxes → IsSound value b.ends b.part b.outboxes
+
+-- so it is of each owner, and they still stand on a grid
+pub record AllGrown (os ps : List Owner) : Type 0 where
+  pub many : length ps ≡ length os
+  pub each : (i : ℕ) (d : Owner) → i < length os → Grown (slice_index_or os i d) (slice_index_or ps i d)
+  pub grid : IsGrid (all_ends ps)
+
+-- nothing is to be sent
+abbrev pub AreSent : List Owner → Type 0
+AreSent os = (i : ℕ) (d : Owner) → i < length os → All (λ q. q ≡ []) (slice_index_or os i d).outboxes.queues
+
+-- on each line what was sent was received
+abbrev pub AreReceived : List Owner → Type 0
+AreReceived os = (i j : ℕ) (d : Ends) → i < length (all_ends os) → j < length (all_ends os) → i ≢ j → received_from (slice_index_or (all_ends os) i d) j ≡ sent_to (slice_index_or (all_ends os) j d) i
+
+-- the parts of the owners, in order
+abbrev pub parts_of : List Owner → List Part
+parts_of os = map (λ (o : Owner). o.part) os
+
+-- Each owner is sound, they stand on a grid, nothing is to be sent or waits on a line, and all parts are of one level with the
+-- same gain and distance open.
+pub record AreFinished (value : List ℕ → ℤ) (n : ℕ) (os : List Owner) : Type 0 where
+  pub some : 1 ≤ length os
+  pub grid : IsGrid (all_ends os)
+  pub sent : AreSent os
+  pub received : AreReceived os
+  pub sound : (i : ℕ) (d : Owner) → i < length os → IsSound value (slice_index_or os i d).ends (slice_index_or os i d).part (slice_index_or os i d).outboxes
+  pub level : (i : ℕ) (d : Owner) → i < length os → (slice_index_or os i d).part.level ≡ n
+  pub gain : (i : ℕ) (d : Owner) → i < length os → (slice_index_or os i d).part.gain ≡ (slice_index_or os 0 d).part.gain
+  pub wave : (i : ℕ) (d : Owner) → i < length os → (slice_index_or os i d).part.wave ≡ (slice_index_or os 0 d).part.wave

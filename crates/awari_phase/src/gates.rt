@@ -1,0 +1,14 @@
+//! What a worker enters at the start of each of its sweeps.
+
+/// A gate for the workers of a round.
+pub trait Gate {
+    /// The worker of this owner begins a sweep.
+    fn enter(&self, owner: u8);
+}
+
+/// The gate that does nothing.
+pub struct Open;
+
+impl Gate for Open {
+    fn enter(&self, _owner: u8) {}
+}

@@ -1,0 +1,22 @@
+//! How an owner hears what another one sent.
+
+ghost use Rattle.std.specs.Prelude.{◌≡◌, ℕ, ℤ, List, OnOk};
+ghost use Rattle.awari_phase.specs.Sound.{Batches, OwnerSound, SameBlock, with_taken, IsOtherOf};
+
+use awari_owner::{Batch, OwnerFault, Part};
+
+/// Hears all notes of a batch of another owner, in order, up to one that is refused.
+pub fn take_batch(part: &mut Part, batch: &Batch) -> Result<(), OwnerFault>
+    ensures block { SameBlock part.old part.new }
+    ensures sound { OnOk result ((value : List ℕ → ℤ) (owner owners from : ℕ) (taken given boxed : ℕ → Batches) → IsOtherOf owner owners from
+        → OwnerSound value owner owners part.old taken given boxed
+        → OwnerSound value owner owners part.new (with_taken taken from batch.now.items) given boxed) }
+{
+    for note in batch.as_slice() {
+        match part.take(*note) {
+            Ok(()) => {}
+            Err(fault) => return Err(fault),
+        }
+    }
+    Ok(())
+}

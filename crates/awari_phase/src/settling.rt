@@ -1,0 +1,47 @@
+//! What the lines hold, once all owners are in one thread.
+
+ghost use Rattle.std.specs.Prelude.{◌≡◌, ◌≢◌, ◌<◌, ◌++◌, ◌↔◌, ℕ, [], length, map, slice_index_or, IsTrue};
+ghost use Rattle.awari_lines.specs.Lines.{IsGrid, LookedAt, NothingWaits, SameHistory, received_from, waiting_from, sent_to};
+ghost use Rattle.awari_lines.specs.declared.lines.Ends.{Ends as AnEnds};
+ghost use Rattle.awari_phase.specs.Owners.{all_ends, rest_of};
+
+use crate::owners::Owner;
+
+/// Looks at every line. True where nothing waits on any.
+pub fn settle_owners(all: &mut [Owner]) -> bool
+    requires { IsGrid (all_ends all.old) }
+    ensures grid { IsGrid (all_ends all.new) }
+    ensures same { (i : ℕ) (d : AnEnds) → i < length (all_ends all.old) → SameHistory (slice_index_or (all_ends all.old) i d) (slice_index_or (all_ends all.new) i d) }
+    ensures rest { map rest_of all.new ≡ map rest_of all.old }
+    ensures exact { (i j : ℕ) (d : AnEnds) → i < length (all_ends all.old) → j < length (all_ends all.old) → i ≢ j → received_from (slice_index_or (all_ends all.new) i d) j ++ waiting_from (slice_index_or (all_ends all.new) i d) j ≡ sent_to (slice_index_or (all_ends all.new) j d) i }
+    ensures flag { IsTrue result ↔ ((i j : ℕ) (d : AnEnds) → i < length (all_ends all.old) → j < length (all_ends all.old) → i ≢ j → waiting_from (slice_index_or (all_ends all.new) i d) j ≡ []) }
+{
+    let mut empty = true;
+    for j in 0..all.len() {
+        for i in 0..j {
+            let quiet = settle_pair(all, i, j);
+            empty = both(empty, quiet);
+        }
+    }
+    empty
+}
+
+/// Looks at the two lines between two owners. True where nothing waits on them.
+fn settle_pair(all: &mut [Owner], i: usize, j: usize) -> bool
+    requires grid { IsGrid (all_ends all.old) }
+    requires pair { (i < j) × (j < length all.old) }
+    ensures looked { LookedAt (all_ends all.old) (all_ends all.new) i j }
+    ensures rest { map rest_of all.new ≡ map rest_of all.old }
+    ensures flag { (d : AnEnds) → IsTrue result ↔ NothingWaits (slice_index_or (all_ends all.new) i d) (slice_index_or (all_ends all.new) j d) }
+{
+    let (front, back) = all.split_at_mut(j);
+    let one = &mut front[i];
+    let other = &mut back[0];
+    one.ends.look_beside(&mut other.ends)
+}
+
+fn both(a: bool, b: bool) -> bool
+    ensures { IsTrue result ↔ (IsTrue a × IsTrue b) }
+{
+    a && b
+}

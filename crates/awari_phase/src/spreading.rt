@@ -1,0 +1,28 @@
+//! How an owner spreads a board.
+
+ghost use Rattle.std.specs.Prelude.{◌≡◌, ◌++◌, ℕ, ℤ, List, OnOk, length};
+ghost use Rattle.awari_owner.specs.Spread.{IsPartOf};
+ghost use Rattle.awari_phase.specs.Sound.{Batches, queue_to, OwnerSound, SameBlock};
+
+use awari_board::moves_keep_boards;
+use awari_owner::{Outboxes, OwnerFault, Part};
+use awari_rank::ranks_tell_boards_apart;
+
+/// Spreads the first fresh board, if it has the open distance.
+pub fn spread_one(part: &mut Part, outboxes: &mut Outboxes) -> Result<bool, OwnerFault>
+    requires { IsPartOf part.old outboxes.old }
+    ensures block { SameBlock part.old part.new }
+    ensures owner { (outboxes.new.owner ≡ outboxes.old.owner) × (length outboxes.new.queues ≡ length outboxes.old.queues) }
+    ensures sound { OnOk result ((value : List ℕ → ℤ) (taken sent : ℕ → Batches)
+        → OwnerSound value outboxes.old.owner (length outboxes.old.queues) part.old taken (λ j. sent j ++ queue_to outboxes.old j) (queue_to outboxes.old)
+        → OwnerSound value outboxes.old.owner (length outboxes.old.queues) part.new taken (λ j. sent j ++ queue_to outboxes.new j) (queue_to outboxes.new)) }
+{
+    moves_keep_boards();
+    ranks_tell_boards_apart();
+    match part.spread_one(outboxes) {
+        Ok(true) => {}
+        Ok(false) => return Ok(false),
+        Err(fault) => return Err(fault),
+    }
+    Ok(true)
+}

@@ -1,0 +1,80 @@
+//! The same round with a thread for each owner that is started by name, so that a start that fails is told.
+
+ghost use Rattle.std.specs.Prelude.{◌≡◌, ◌<◌, ◌≤◌, ℕ, None, IsNone, IfOk, length, slice_index_or, vec_len, ◌+◌, ◌++◌, ◌∷◌, [], Ok};
+ghost use Rattle.std.specs.declared.vec.Vec.{Vec as AVec};
+ghost use Rattle.std.specs.declared.alloc.Global.{Global};
+ghost use denote.Param.Send.{IsSync};
+ghost use Rattle.awari_phase.specs.Owners.{Kept};
+ghost use Rattle.awari_phase.specs.declared.owners.Owner.{Owner as AnOwner};
+
+use crate::faults::PhaseFault;
+use crate::gates::Gate;
+use crate::owners::Owner;
+use std::snapshot::Snapshot;
+use std::sync::Wait;
+use std::thread;
+use std::thread::{Promise, Threads};
+
+/// The owner that comes back is this one, further on, if it had no fault.
+#[derive(Drop)]
+struct KeptFrom(Snapshot<Owner>);
+
+impl Promise<Owner> for KeptFrom {
+    ghost kept_by = { λ p r. r.fault ≡ None → Kept p.0.value r };
+}
+
+/// Works by value.
+fn worked<G: Gate>(mut owner: Owner, gate: &G, sweeps: u32) -> Owner
+    ensures { result.fault ≡ None → Kept owner result }
+{
+    owner.work(gate, sweeps);
+    owner
+}
+
+/// Starts the last owner, then the others before it, and joins it whatever became of those.
+#[cycle(starts)]
+pub fn start_each<R: Threads + Wait + Sync, G: Gate + Sync>(
+    rt: &R,
+    mut owners: Vec<Owner>,
+    gate: &G,
+    sweeps: u32,
+) -> Result<Vec<Owner>, PhaseFault>
+    ensures len { IfOk result (λ all. vec_len all ≡ vec_len owners) }
+    ensures kept { IfOk result (λ all. (i : ℕ) (d : AnOwner) → i < vec_len owners → (slice_index_or all.items i d).fault ≡ None → Kept (slice_index_or owners.items i d) (slice_index_or all.items i d)) }
+{
+    let Some(owner) = owners.pop() else {
+        return Ok(owners);
+    };
+    thread::scope(
+        thread::scope_env(),
+        rt,
+        |scope| -> Result<Vec<Owner>, PhaseFault>
+            requires { IsSync R.row × IsSync G.row }
+            ensures { IfOk result (λ all. (vec_len all ≡ vec_len owners + 1) × ((i : ℕ) (d : AnOwner) → i < vec_len owners + 1 → (slice_index_or all.items i d).fault ≡ None
+                → Kept (slice_index_or (owners.items ++ owner ∷ []) i d) (slice_index_or all.items i d))) }
+        {
+            let promise = KeptFrom(Snapshot::of(&owner));
+            match scope.spawn_with(promise, move || worked(owner, gate, sweeps)) {
+                Ok(child) => {
+                    let others = start_each(rt, owners, gate, sweeps);
+                    with_last(others, child.join(rt))
+                }
+                Err(_) => Err(PhaseFault::NotStarted),
+            }
+        },
+    )
+}
+
+/// The owners with one more at the end.
+fn with_last(
+    others: Result<Vec<Owner>, PhaseFault>,
+    last: Owner,
+) -> Result<Vec<Owner>, PhaseFault>
+    ensures { IfOk result (λ all. (before : AVec AnOwner Global) × (others ≡ Ok before) × (all.items ≡ before.items ++ last ∷ [])) }
+{
+    let mut all = others?;
+    match all.push(last) {
+        Ok(()) => Ok(all),
+        Err(_) => Err(PhaseFault::Memory),
+    }
+}

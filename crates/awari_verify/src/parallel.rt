@@ -1,0 +1,149 @@
+//! The first refusal of a level, looked for by as many threads as there are processors.
+
+ghost use Rattle.std.specs.Prelude.{◌≡◌, ◌⊎◌, ◌<◌, ◌≤◌, ◌+◌, ◌*◌, ◌^◌, ◌++◌, ◌∷◌, [], ℕ, Option, IsOk, IfOk, IfErr, IfSome, IsNone, ◌↔◌, MatchOption, vec_len, slice_index_or, min};
+ghost use Rattle.awari_rank.specs.Rank.{size_of};
+ghost use Rattle.awari_table.specs.Images.{table_of};
+ghost use Rattle.awari_table.specs.Shelves.{Consistent};
+ghost use Rattle.awari_theory.specs.Truth.{TellsTruth};
+ghost use Rattle.awari_verify.specs.VerifyFault.{IsShaped, IsDue};
+ghost use Rattle.awari_verify.specs.FirstFailure.{RightBetween, IsRefusal};
+ghost use Rattle.awari_verify.specs.Pieces.{piece_start, IsFound};
+ghost use Rattle.awari_verify.specs.declared.verdicts.VerifyFault.{VerifyFault};
+ghost use Rattle.awari_verify.specs.declared.search.Refusal.{Refusal as ARefusal};
+
+use crate::rules::Rule;
+use crate::search::{Refusal, refusal_between};
+use crate::verdicts::{VerifyFault, boards_of, greatest_dist};
+use awari_table::{Distances, Image, Level, Shelf};
+use rayon::prelude::*;
+use std::alloc::{AllocError, Global};
+use std::thread::Threads;
+
+/// How many boards are judged in one go. A level of fewer is judged by one thread.
+const PIECE: u64 = 4096;
+
+/// What [`verify`](crate::verify) answers, found by as many threads as there are processors; or 23
+/// `Memory`, where room for what each piece of the level came to was refused.
+pub fn verify_parallel<R: Threads + Sync>(
+    rt: &R,
+    alloc: Global,
+    shelf: &Shelf,
+    image: Image,
+) -> Result<Level, VerifyFault>
+    ensures ok { IsOk result → Consistent shelf.now image }
+    ensures level { IfOk result (λ level. level ≡ image) }
+    ensures fault { IfErr result (λ fault. (fault ≡ VerifyFault.Memory) ⊎ IsDue shelf.now image fault) }
+
+    // What the shelf with the level on it says of each of its boards is the truth: following its
+    // plans secures the value, soon, and the value is what the board is worth.
+    ensures meaning { IfOk result (λ level. TellsTruth (shelf.now ++ level ∷ [])) }
+{
+    match fault_in_pieces(rt, alloc, shelf, &image) {
+        Ok(Some(fault)) => Err(fault),
+        Ok(None) => Ok(Level::new(image)),
+        Err(_) => Err(VerifyFault::Memory),
+    }
+}
+
+/// Why the image is not the shelf's next level, none where it may be.
+fn fault_in_pieces<R: Threads + Sync>(
+    rt: &R,
+    alloc: Global,
+    shelf: &Shelf,
+    image: &Image,
+) -> Result<Option<VerifyFault>, AllocError>
+    ensures meaning { IfOk result (λ fault. IsNone fault → TellsTruth (shelf.now ++ image.now ∷ [])) }
+    ensures none { IfOk result (λ fault. IsNone fault ↔ Consistent shelf.now image.now) }
+    ensures fault { IfOk result (λ fault. IfSome fault (IsDue shelf.now image.now)) }
+{
+    let boards = match boards_of(Distances::Least, shelf, image) {
+        Ok(boards) => boards,
+        Err(fault) => return Ok(Some(fault)),
+    };
+    match first_refusal(rt, alloc, shelf, image, boards)? {
+        Some(Refusal { rank, rule }) => Ok(Some(VerifyFault::Refused { rank, rule })),
+        None if image.limit != greatest_dist(image.entries.as_slice()) => {
+            Ok(Some(VerifyFault::Refused {
+                rank: 0,
+                rule: Rule::V7,
+            }))
+        }
+        None => Ok(None),
+    }
+}
+
+/// The first refusal among all boards of the level.
+fn first_refusal<R: Threads + Sync>(
+    rt: &R,
+    alloc: Global,
+    shelf: &Shelf,
+    image: &Image,
+    boards: u32,
+) -> Result<Option<Refusal>, AllocError>
+    requires shaped { IsShaped Distances.Least shelf.now image.now }
+    requires sized { boards ≡ size_of image.now.level }
+    ensures { IfOk result (λ first. MatchOption first
+        (RightBetween Distances.Least (table_of (shelf.now ++ image.now ∷ [])) image.now.level 0 boards)
+        (λ r. IsRefusal Distances.Least (table_of (shelf.now ++ image.now ∷ [])) image.now.level 0 boards r.rank r.rule)) }
+{
+    let pieces = found_in_pieces(rt, alloc, shelf, image, boards)?;
+    for found in &pieces {
+        match found {
+            Some(refusal) => return Ok(Some(*refusal)),
+            None => {}
+        }
+    }
+    Ok(None)
+}
+
+/// The first refusal of each piece of the level, in order.
+fn found_in_pieces<R: Threads + Sync>(
+    rt: &R,
+    alloc: Global,
+    shelf: &Shelf,
+    image: &Image,
+    boards: u32,
+) -> Result<Vec<Option<Refusal>>, AllocError>
+    requires shaped { IsShaped Distances.Least shelf.now image.now }
+    requires sized { boards ≡ size_of image.now.level }
+    ensures all { IfOk result (λ pieces. boards ≤ vec_len pieces * 4096) }
+    ensures each { IfOk result (λ pieces. (k : ℕ) (d : Option ARefusal) → k < vec_len pieces
+        → IsFound (table_of (shelf.now ++ image.now ∷ [])) image.now.level boards k (slice_index_or pieces.items k d)) }
+{
+    let pieces = (u64::from(boards) + (PIECE - 1)) / PIECE;
+    (0..pieces)
+        .into_par_iter()
+        .with_min_len(1)
+        .map(
+            |piece: u64| -> Option<Refusal>
+                requires { IsShaped Distances.Least shelf.now image.now × (boards ≡ size_of image.now.level) × (piece < 2 ^ 32) }
+                ensures { IsFound (table_of (shelf.entry.now ++ image.entry.now ∷ [])) image.entry.now.level boards piece result }
+            { found_in_piece(shelf, image, boards, piece) },
+        )
+        .collect(rt, alloc)
+}
+
+/// The first refusal of the piece of this number.
+fn found_in_piece(shelf: &Shelf, image: &Image, boards: u32, piece: u64) -> Option<Refusal>
+    requires shaped { IsShaped Distances.Least shelf.now image.now }
+    requires sized { boards ≡ size_of image.now.level }
+    requires piece { piece < 2 ^ 32 }
+    ensures { IsFound (table_of (shelf.now ++ image.now ∷ [])) image.now.level boards piece result }
+{
+    refusal_between(
+        Distances::Least,
+        shelf,
+        image,
+        start_of(boards, piece),
+        start_of(boards, piece + 1),
+    )
+}
+
+/// The rank of the first board of a piece, or the number of boards where there is none.
+fn start_of(boards: u32, piece: u64) -> u32
+    requires { piece ≤ 2 ^ 32 }
+    ensures start { result ≡ piece_start boards piece }
+    ensures within { result ≤ boards }
+{
+    (piece * PIECE).min(u64::from(boards)) as u32
+}
