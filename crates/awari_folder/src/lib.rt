@@ -14,6 +14,6 @@ pub use calls::{Draft, Folder, Refusal};
 pub use faults::FolderFault;
 pub use host::{HostDraft, HostFolder};
 pub use laws::{folders_hold_one_shelf, stored_shelves_are_loaded};
-pub use loading::{Stored, load};
+pub use loading::{Stored, load, load_parallel};
 pub use memory::{MemoryDraft, MemoryFolder};
 pub use saving::save;

@@ -5,16 +5,18 @@ ghost use Rattle.awari_table.specs.Counts.{inner_of, faults_of, Grew};
 ghost use Rattle.awari_theory.specs.Truth.{TellsTruth};
 ghost use Rattle.awari_folder.specs.FolderFault.{Names, NamesLevel};
 ghost use Rattle.awari_folder.specs.NextFile.{IsNextFile, IsFileFault};
+ghost use Rattle.awari_folder.specs.Judges.{Judges};
 ghost use Rattle.awari_folder.specs.Contents.{Same, Stays, LeavesNoMore, LeavesStill, IsOfFile, OpenIfRefused, AreNames, IsStored, IsFirstFault};
 
 use crate::calls::{Folder, Refusal};
 use crate::faults::FolderFault;
 use awari_file::{FileFault, Loaded, read_image};
-use awari_table::{Counted, HIGHEST_LEVEL, Image, Shelf};
-use awari_verify::verify;
+use awari_table::{Counted, HIGHEST_LEVEL, Image, Level, Shelf};
+use awari_verify::{VerifyFault, verify, verify_parallel};
 use std::alloc::Global;
 use std::io::Read;
 use std::sync::Arc;
+use std::thread::Threads;
 
 /// What a folder holds.
 #[derive(Drop)]
@@ -50,12 +52,72 @@ pub fn load<F: Folder>(folder: &mut F, alloc: Global) -> Result<Stored, FolderFa
     ensures clear { Stays (F.is_clear folder.old) (F.is_clear folder.new) }
     ensures stuck { F.stuck folder.new ≡ F.stuck folder.old }
 {
+    load_by(
+        &|shelf: &Shelf, image: Image| verify(shelf, image),
+        folder,
+        alloc,
+    )
+}
+
+/// What [`load`] answers, each level being verified by as many threads as there are processors.
+pub fn load_parallel<T: Threads + Sync, F: Folder>(
+    rt: &T,
+    folder: &mut F,
+    alloc: Global,
+) -> Result<Stored, FolderFault>
+    // What the shelf says of each of its boards is the truth: following its plans secures the
+    // value, soon, and the value is what the board is worth.
+    ensures meaning { IfOk result (λ stored. TellsTruth stored.shelf) }
+    ensures named { IfErr result NamesLevel }
+    // Where it is known what has the names: the levels up to the first that has no file, or the first fault.
+    ensures exact { (names : ℕ → Option (List ℕ)) → AreNames (F.stands folder.old) names
+        → MatchResult result (λ stored. IsStored names stored.shelf stored.digest) (IsFirstFault names) }
+    // 82 is told where the folder refused to open a file, and only there.
+    ensures refused { OpenIfRefused result (F.refusals folder.old) (F.refusals folder.new) }
+    // Nothing is changed.
+    ensures stands { Same (F.stands folder.old) (F.stands folder.new) }
+    ensures crash { LeavesNoMore (F.may_leave folder.old) (F.may_leave folder.new) }
+    ensures still { LeavesStill (F.may_leave folder.old) (F.may_leave folder.new) }
+    ensures clear { Stays (F.is_clear folder.old) (F.is_clear folder.new) }
+    ensures stuck { F.stuck folder.new ≡ F.stuck folder.old }
+{
+    load_by(
+        &|shelf: &Shelf, image: Image| verify_parallel(rt, alloc, shelf, image),
+        folder,
+        alloc,
+    )
+}
+
+/// Loads the levels of a folder, each verified by this judge.
+fn load_by<V: Fn(&Shelf, Image) -> Result<Level, VerifyFault>, F: Folder>(
+    judge: &V,
+    folder: &mut F,
+    alloc: Global,
+) -> Result<Stored, FolderFault>
+    requires callable { V.IsAlwaysCallable judge.now }
+    requires judges { Judges (V.post judge.now) }
+    // What the shelf says of each of its boards is the truth: following its plans secures the
+    // value, soon, and the value is what the board is worth.
+    ensures meaning { IfOk result (λ stored. TellsTruth stored.shelf) }
+    ensures named { IfErr result NamesLevel }
+    // Where it is known what has the names: the levels up to the first that has no file, or the first fault.
+    ensures exact { (names : ℕ → Option (List ℕ)) → AreNames (F.stands folder.old) names
+        → MatchResult result (λ stored. IsStored names stored.shelf stored.digest) (IsFirstFault names) }
+    // 82 is told where the folder refused to open a file, and only there.
+    ensures refused { OpenIfRefused result (F.refusals folder.old) (F.refusals folder.new) }
+    // Nothing is changed.
+    ensures stands { Same (F.stands folder.old) (F.stands folder.new) }
+    ensures crash { LeavesNoMore (F.may_leave folder.old) (F.may_leave folder.new) }
+    ensures still { LeavesStill (F.may_leave folder.old) (F.may_leave folder.new) }
+    ensures clear { Stays (F.is_clear folder.old) (F.is_clear folder.new) }
+    ensures stuck { F.stuck folder.new ≡ F.stuck folder.old }
+{
     let mut shelf = Shelf::empty();
     let mut digest = [0u8; 32];
     for level in 0..=HIGHEST_LEVEL {
         match folder.open(level) {
             Ok(Some(file)) => {
-                digest = put_on(alloc, &mut shelf, digest, &mut Counted::new(file))?;
+                digest = put_on(judge, alloc, &mut shelf, digest, &mut Counted::new(file))?;
             }
             Ok(None) => break,
             Err(Refusal::Refused) => return Err(FolderFault::Open { level }),
@@ -67,12 +129,15 @@ pub fn load<F: Folder>(folder: &mut F, alloc: Global) -> Result<Stored, FolderFa
 
 /// Reads the file of the shelf's next level and puts the level on top, if all is right. It gives
 /// the digest that the file ends in.
-fn put_on<R: Read>(
+fn put_on<V: Fn(&Shelf, Image) -> Result<Level, VerifyFault>, R: Read>(
+    judge: &V,
     alloc: Global,
     shelf: &mut Shelf,
     below: [u8; 32],
     reader: &mut Counted<R>,
 ) -> Result<[u8; 32], FolderFault>
+    requires callable { V.IsAlwaysCallable judge.now }
+    requires judges { Judges (V.post judge.now) }
     ensures ok { IfSome (R.remaining (inner_of reader.old)) (λ bytes. IfOk result (IsNextFile shelf.old below bytes shelf.new)) }
     ensures fault { IfSome (R.remaining (inner_of reader.old)) (λ bytes. IfErr result (IsFileFault shelf.old below bytes)) }
     ensures read { (level : ℕ) → result ≡ Err (FolderFault.File level FileFault.Read) → Grew (faults_of reader.old) (faults_of reader.new) }
@@ -91,11 +156,12 @@ fn put_on<R: Read>(
         return Err(FolderFault::Below { level });
     }
     let Loaded { image, digest, .. } = loaded;
-    match verify(shelf, image) {
+    match judge(shelf, image) {
         Ok(verified) => {
             shelf.push(Arc::new(alloc, verified)?);
             Ok(digest)
         }
+        Err(VerifyFault::Memory) => Err(FolderFault::Memory),
         Err(fault) => Err(FolderFault::Verify { level, fault }),
     }
 }

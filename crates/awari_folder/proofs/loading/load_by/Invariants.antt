@@ -1,7 +1,7 @@
 use Rattle.std.proofs.Common.{◌≡◌, ℕ, List, Option, length}
 use Rattle.awari_theory.specs.Truth.{TellsTruth}
 use Rattle.awari_folder.specs.Contents.{Same, Stays, LeavesNoMore, LeavesStill, AreNames, HoldLevels}
-use Rattle.awari_folder.proofs.loading.load.Given as goal
+use Rattle.awari_folder.proofs.loading.load_by.Given as goal
 
 abbrev pub invariant-loop-level : goal.invariant-loop-level
 invariant-loop-level g l =

@@ -4,7 +4,7 @@ use Rattle.awari_folder.proofs.Empty.{truth_of_empty}
 use Rattle.awari_folder.proofs.Opened.{of_name, not_open, next_level}
 use Rattle.awari_folder.specs.NextFile.{IsNextFile}
 use Rattle.awari_folder.specs.Contents.{Opens}
-use Rattle.awari_folder.proofs.loading.load.Goals as goal
+use Rattle.awari_folder.proofs.loading.load_by.Goals as goal
 
 pub loop-level-init : goal.loop-level-init
 loop-level-init g c = record {
