@@ -6,9 +6,15 @@ ghost use Rattle.awari_build.specs.BuildFault.{number_of};
 use std::fmt;
 use thiserror::Error;
 
-/// Why a level is not built. Printed, it is its number and its name.
+/// Why a level is not built. A fault is looked for only where those before it are not due. Printed,
+/// it is its number, its name, and the fault inside it.
 #[derive(Clone, Copy, Debug, PartialEq, Eq, Error)]
 pub enum BuildFault {
+    /// 50: there is no owner, or there are more than 16.
+    Owners,
+    /// 55: a line has room for no batch or for more than 256, or a round has no sweep or more than
+    /// 1000.
+    Pace,
     /// 51: the shelf has all levels up to the highest.
     TooHigh,
     /// 53: a growth was refused.
@@ -16,11 +22,13 @@ pub enum BuildFault {
 }
 
 impl BuildFault {
-    /// The number of this refusal, 51 or 53.
+    /// The number of this refusal, 50 to 53 or 55.
     pub fn number(self) -> u8
         ensures { result ≡ number_of self }
     {
         match self {
+            BuildFault::Owners => 50,
+            BuildFault::Pace => 55,
             BuildFault::TooHigh => 51,
             BuildFault::Memory => 53,
         }
@@ -36,6 +44,8 @@ impl fmt::Display for BuildFault {
     fn fmt<W: fmt::Write>(&self, f: &mut fmt::Formatter<W>) -> fmt::Result {
         let number = self.number();
         match *self {
+            BuildFault::Owners => write!(f, "{number} Owners"),
+            BuildFault::Pace => write!(f, "{number} Pace"),
             BuildFault::TooHigh => write!(f, "{number} TooHigh"),
             BuildFault::Memory => write!(f, "{number} Memory"),
         }

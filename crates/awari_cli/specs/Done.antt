@@ -16,7 +16,7 @@ abbrev pub PrintsFor : Request → Option (List ℕ) → Option (List ℕ) → O
 PrintsFor Check input before after = PrintsYes input before after
 PrintsFor (Move board pit) input before after = PrintsMove board.now pit before after
 PrintsFor (Judge board limit moves) input before after = PrintsJudgement board.now limit moves.now before after
-PrintsFor (Build top folder) input before after = PrintsLevels top nothing_known nothing_known before after
+PrintsFor (Build top folder pace) input before after = PrintsLevels top nothing_known nothing_known before after
 PrintsFor (Verify folder) input before after = PrintsFolder nothing_known before after
 PrintsFor (Ask folder board) input before after = PrintsEntry nothing_known board.now before after
 PrintsFor (Line folder board) input before after = PrintsLine nothing_known board.now before after

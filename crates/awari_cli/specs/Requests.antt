@@ -3,6 +3,7 @@ use Rattle.std.specs.Prelude.{◌≡◌, ◌≢◌, ◌⊎◌, ℕ, ◌<◌, ◌
 use Rattle.std.specs.Str.Parse.{IsNumeral, digits_value, without_leading_plus}
 use Rattle.clap.specs.Matches.{first_value, one_text}
 use Rattle.clap.specs.declared.parser.matches.Found.{Found}
+use Rattle.awari_build.specs.declared.paces.Pace.{Pace}
 use Rattle.awari_cli.specs.declared.requests.Request.{Request}
 use Rattle.awari_cli.specs.declared.requests.Request.TheVariants.{Check, Move, Judge, Build, Verify, Ask, Line}
 
@@ -21,13 +22,21 @@ Spells given id n = (one_text given id ≢ None) × ((t : List ℕ) → one_text
 abbrev pub SpellsNone : ℕ → Found → List ℕ → Type 0
 SpellsNone bits given id = (t : List ℕ) → one_text given id ≡ Some t → IsNumeral 10 (without_leading_plus t) → digits_value 10 (without_leading_plus t) < 2 ^ bits → ⊥
 
+-- the pace has the values of its three names
+abbrev pub IsPaceOf : Found → Pace → Type 0
+IsPaceOf given pace = Spells given (codes "owners") pace.owners × Spells given (codes "room") pace.room × Spells given (codes "sweeps") pace.sweeps
+
+-- one of them is not there, or spells no number
+abbrev pub IsNoPace : Found → Type 0
+IsNoPace given = SpellsNone 8 given (codes "owners") ⊎ SpellsNone 32 given (codes "room") ⊎ SpellsNone 32 given (codes "sweeps")
+
 -- The request is that of the command's name, with the values that were given for each of its names.
 abbrev pub IsRequestOf : List ℕ → Found → Request → Type 0
 IsRequestOf name given Check = name ≡ codes "check"
 IsRequestOf name given (Move board pit) = (name ≡ codes "move") × Gives given (codes "BOARD") board.now × Spells given (codes "PIT") pit
 IsRequestOf name given (Judge board limit moves) = (name ≡ codes "judge") × Gives given (codes "BOARD") board.now × Spells given (codes "LIMIT") limit
     × (moves.now ≡ unwrap_or (first_value given (codes "MOVES")) [])
-IsRequestOf name given (Build top folder) = (name ≡ codes "build") × Spells given (codes "TOP") top × (option_map (λ f. f.now) folder ≡ first_value given (codes "folder"))
+IsRequestOf name given (Build top folder pace) = (name ≡ codes "build") × Spells given (codes "TOP") top × (option_map (λ f. f.now) folder ≡ first_value given (codes "folder")) × IsPaceOf given pace
 IsRequestOf name given (Verify folder) = (name ≡ codes "verify") × Gives given (codes "FOLDER") folder.now
 IsRequestOf name given (Ask folder board) = (name ≡ codes "ask") × Gives given (codes "FOLDER") folder.now × Gives given (codes "BOARD") board.now
 IsRequestOf name given (Line folder board) = (name ≡ codes "line") × Gives given (codes "FOLDER") folder.now × Gives given (codes "BOARD") board.now
@@ -37,7 +46,7 @@ pub record IsNoRequest (name : List ℕ) (given : Found) : Type 0 where
   pub check : name ≡ codes "check" → ⊥
   pub moved : name ≡ codes "move" → Lacks given (codes "BOARD") ⊎ SpellsNone 8 given (codes "PIT")
   pub judge : name ≡ codes "judge" → Lacks given (codes "BOARD") ⊎ SpellsNone 32 given (codes "LIMIT")
-  pub build : name ≡ codes "build" → SpellsNone 8 given (codes "TOP")
+  pub build : name ≡ codes "build" → SpellsNone 8 given (codes "TOP") ⊎ IsNoPace given
   pub verify : name ≡ codes "verify" → Lacks given (codes "FOLDER")
   pub ask : name ≡ codes "ask" → Lacks given (codes "FOLDER") ⊎ Lacks given (codes "BOARD")
   pub line : name ≡ codes "line" → Lacks given (codes "FOLDER") ⊎ Lacks given (codes "BOARD")

@@ -11,14 +11,16 @@ ghost use Rattle.awari_cli.specs.Building.{IsToldOf, KeepsLevels, LeavesFiles, P
 ghost use Rattle.awari_cli.specs.declared.building.BuildingFault.TheVariants as building_fault;
 
 use crate::printing::{Refused, print, refuse};
-use awari_build::{BuildFault, build_alone};
-use awari_folder::{Folder, FolderFault, load, save};
+use awari_build::{BuildFault, Pace, build_alone, build_level};
+use awari_folder::{Folder, FolderFault, load_parallel, save};
+use awari_phase::Open;
 use awari_rank::size;
 use awari_table::{Counts, Level, Shelf};
 use std::alloc::{AllocFailed, Global};
 use std::fmt;
 use std::io::Write;
-use std::sync::Arc;
+use std::sync::{Arc, Wait};
+use std::thread::Threads;
 
 /// What is told of a level that was built. Printed, it is its line without the line feed.
 #[derive(Clone, Copy)]
@@ -112,19 +114,27 @@ impl fmt::Display for BuildingFault {
 
 /// Builds the levels up to `top` and prints the line of each. A refusal is printed, and the lines
 /// before it stand.
-pub fn run_build<W: Write>(alloc: Global, top: u8, writer: &mut W) -> u8
+pub fn run_build<T: Threads + Wait + Sync, W: Write>(
+    rt: &T,
+    alloc: Global,
+    top: u8,
+    pace: Pace,
+    writer: &mut W,
+) -> u8
     ensures status { result ≤ 1 }
     ensures built { result ≡ 0 → PrintsLevels top nothing_known nothing_known (W.contents writer.old) (W.contents writer.new) }
 {
-    build_up(alloc, top, &mut Shelf::empty(), writer)
+    build_up(rt, alloc, top, pace, &mut Shelf::empty(), writer)
 }
 
 /// Builds the levels up to `top` above those of the folder, and prints the line of each once it is
 /// saved there. A refusal is printed, and the lines before it stand.
-pub fn run_build_in<F: Folder, W: Write>(
+pub fn run_build_in<T: Threads + Wait + Sync, F: Folder, W: Write>(
+    rt: &T,
     folder: &mut F,
     alloc: Global,
     top: u8,
+    pace: Pace,
     writer: &mut W,
 ) -> u8
     ensures status { result ≤ 1 }
@@ -135,25 +145,41 @@ pub fn run_build_in<F: Folder, W: Write>(
     ensures keeps { (names : ℕ → Option (List ℕ)) → AreNames (F.stands folder.old) names
         → KeepsLevels top names (F.stands folder.old) (F.stands folder.new) (F.may_leave folder.old) (F.may_leave folder.new) }
 {
-    let stored = match load(folder, alloc) {
+    let stored = match load_parallel(rt, folder, alloc) {
         Ok(stored) => stored,
         Err(fault) => return refuse(writer, fault),
     };
     let mut shelf = stored.shelf;
     let mut digest = stored.digest;
-    let status = build_up_in(folder, alloc, top, &mut shelf, &mut digest, writer);
+    let status = build_up_in(
+        rt,
+        folder,
+        alloc,
+        top,
+        pace,
+        &mut shelf,
+        &mut digest,
+        writer,
+    );
     status
 }
 
 /// Builds the levels above the shelf up to `top`, and prints the line of each.
-fn build_up<W: Write>(alloc: Global, top: u8, shelf: &mut Shelf, writer: &mut W) -> u8
+fn build_up<T: Threads + Wait + Sync, W: Write>(
+    rt: &T,
+    alloc: Global,
+    top: u8,
+    pace: Pace,
+    shelf: &mut Shelf,
+    writer: &mut W,
+) -> u8
     ensures status { result ≤ 1 }
     ensures shelf { result ≡ 0 → IsShelf shelf.new × (top < length shelf.new) }
     ensures built { result ≡ 0 → (built : List Image) × (shelf.new ≡ shelf.old ++ built)
         × Appends (W.contents writer.old) (W.contents writer.new) (level_lines built) }
 {
     while shelf.levels() <= top {
-        match build_next(alloc, shelf) {
+        match build_next(rt, alloc, pace, shelf) {
             Ok(told) => {
                 if !print(writer, &told) {
                     return 1;
@@ -170,10 +196,12 @@ fn build_up<W: Write>(alloc: Global, top: u8, shelf: &mut Shelf, writer: &mut W)
 
 /// Builds the levels above the shelf up to `top`, saves each in the folder, of whose last file this
 /// is the digest, and prints its line.
-fn build_up_in<F: Folder, W: Write>(
+fn build_up_in<T: Threads + Wait + Sync, F: Folder, W: Write>(
+    rt: &T,
     folder: &mut F,
     alloc: Global,
     top: u8,
+    pace: Pace,
     shelf: &mut Shelf,
     digest: &mut [u8; 32],
     writer: &mut W,
@@ -188,7 +216,7 @@ fn build_up_in<F: Folder, W: Write>(
         → LeavesFiles (length shelf.old) (F.may_leave folder.old) (F.may_leave folder.new) }
 {
     while shelf.levels() <= top {
-        match save_next(folder, alloc, shelf, digest) {
+        match save_next(rt, folder, alloc, pace, shelf, digest) {
             Ok(told) => {
                 if !print(writer, &told) {
                     return 1;
@@ -204,10 +232,15 @@ fn build_up_in<F: Folder, W: Write>(
 }
 
 /// Builds the level above the shelf, and puts it on top.
-fn build_next(alloc: Global, shelf: &mut Shelf) -> Result<BuiltLevel, BuildingFault>
+fn build_next<T: Threads + Wait + Sync>(
+    rt: &T,
+    alloc: Global,
+    pace: Pace,
+    shelf: &mut Shelf,
+) -> Result<BuiltLevel, BuildingFault>
     ensures built { IfOk result (λ told. (image : Image) × (shelf.new ≡ shelf.old ++ image ∷ []) × IsToldOf image told) }
 {
-    let level = built_level(alloc, shelf)?;
+    let level = built_level(rt, alloc, pace, shelf)?;
     let told = told_of(&level);
     shelf.push(level);
     Ok(told)
@@ -215,9 +248,11 @@ fn build_next(alloc: Global, shelf: &mut Shelf) -> Result<BuiltLevel, BuildingFa
 
 /// Builds the level above the shelf, saves it, and puts it on top. The file comes last of what may be
 /// refused, so a level that is saved is told of.
-fn save_next<F: Folder>(
+fn save_next<T: Threads + Wait + Sync, F: Folder>(
+    rt: &T,
     folder: &mut F,
     alloc: Global,
+    pace: Pace,
     shelf: &mut Shelf,
     digest: &mut [u8; 32],
 ) -> Result<BuiltLevel, BuildingFault>
@@ -227,7 +262,7 @@ fn save_next<F: Folder>(
     ensures err { OnErr result (Same (F.stands folder.old) (F.stands folder.new)) }
     ensures crash { IsSome (F.stands folder.old (length shelf.old)) → LeavesFiles (length shelf.old) (F.may_leave folder.old) (F.may_leave folder.new) }
 {
-    let level = built_level(alloc, shelf)?;
+    let level = built_level(rt, alloc, pace, shelf)?;
     let own = save(folder, &level, *digest)?;
     *digest = own;
     let told = told_of(&level);
@@ -235,11 +270,21 @@ fn save_next<F: Folder>(
     Ok(told)
 }
 
-/// The level above the shelf, built, with the room that it takes on a shelf.
-fn built_level(alloc: Global, shelf: &Shelf) -> Result<Arc<Level>, BuildingFault>
+/// The level above the shelf, built by so many owners or, where there are to be none, by one part,
+/// with the room that it takes on a shelf.
+fn built_level<T: Threads + Wait + Sync>(
+    rt: &T,
+    alloc: Global,
+    pace: Pace,
+    shelf: &Shelf,
+) -> Result<Arc<Level>, BuildingFault>
     ensures { IfOk result (λ level. Consistent shelf.now (arc_value level)) }
 {
-    let level = build_alone(alloc, shelf)?;
+    let level = if pace.owners == 0 {
+        build_alone(alloc, shelf)?
+    } else {
+        build_level(rt, alloc, shelf, pace, &Open)?
+    };
     let shared = Arc::new(alloc, level)?;
     Ok(shared)
 }

@@ -16,11 +16,12 @@ ghost use Rattle.awari_cli.specs.declared.folders.LookUpFault.TheVariants as loo
 use crate::printing::{Refused, print};
 use arrayvec::ArrayString;
 use awari_board::{Board, BoardFault, one_board_fault_is_due};
-use awari_folder::{Folder, FolderFault, load};
+use awari_folder::{Folder, FolderFault, load_parallel};
 use awari_table::{Entry, NotYet, Shelf};
 use std::alloc::Global;
 use std::fmt;
 use std::io::Write;
+use std::thread::Threads;
 
 /// A level of a folder that is right. Printed, it is its line without the line feed.
 #[derive(Clone, Copy)]
@@ -169,7 +170,12 @@ impl fmt::Display for Plan {
 
 /// The entry of the board that `text` spells, as the levels in the folder have it. The text is read
 /// before the folder is: where it is no board it is refused for that, whatever the folder holds.
-fn look_up<F: Folder>(folder: &mut F, alloc: Global, text: &[u8]) -> Result<Entry, LookUpFault>
+fn look_up<T: Threads + Sync, F: Folder>(
+    rt: &T,
+    folder: &mut F,
+    alloc: Global,
+    text: &[u8],
+) -> Result<Entry, LookUpFault>
     ensures entry { IfOk result (IsEntryOf (F.stands folder.old) text.now) }
     ensures same { Same (F.stands folder.old) (F.stands folder.new) }
     ensures board { (fault : BoardFault) → (result ≡ Err (look_up.Board fault)) ↔ IsFaulty text.now fault }
@@ -177,14 +183,15 @@ fn look_up<F: Folder>(folder: &mut F, alloc: Global, text: &[u8]) -> Result<Entr
     // That a text has one fault at most is what this call tells the proof.
     one_board_fault_is_due();
     let board = Board::parse(text)?;
-    let shelf = load(folder, alloc)?.shelf;
+    let shelf = load_parallel(rt, folder, alloc)?.shelf;
     // That the levels are a shelf is what this call tells the proof.
     let _levels = shelf.levels();
     Ok(shelf.entry(&board)?)
 }
 
 /// Prints the entry of a board, or the refusal.
-pub fn run_ask<F: Folder, W: Write>(
+pub fn run_ask<T: Threads + Sync, F: Folder, W: Write>(
+    rt: &T,
     folder: &mut F,
     alloc: Global,
     board: &str,
@@ -194,7 +201,7 @@ pub fn run_ask<F: Folder, W: Write>(
     ensures found { result ≡ 0 → PrintsEntry (F.stands folder.old) board.now (W.contents writer.old) (W.contents writer.new) }
     ensures same { Same (F.stands folder.old) (F.stands folder.new) }
 {
-    match look_up(folder, alloc, board.as_bytes()) {
+    match look_up(rt, folder, alloc, board.as_bytes()) {
         Ok(entry) => {
             if print(writer, &EntryLine(entry)) {
                 0
@@ -211,12 +218,17 @@ pub fn run_ask<F: Folder, W: Write>(
 
 /// Verifies the levels of a folder, and prints a line for each and one for all. A refusal is
 /// printed alone.
-pub fn run_verify<F: Folder, W: Write>(folder: &mut F, alloc: Global, writer: &mut W) -> u8
+pub fn run_verify<T: Threads + Sync, F: Folder, W: Write>(
+    rt: &T,
+    folder: &mut F,
+    alloc: Global,
+    writer: &mut W,
+) -> u8
     ensures status { result ≤ 1 }
     ensures verified { result ≡ 0 → PrintsFolder (F.stands folder.old) (W.contents writer.old) (W.contents writer.new) }
     ensures same { Same (F.stands folder.old) (F.stands folder.new) }
 {
-    let stored = match load(folder, alloc) {
+    let stored = match load_parallel(rt, folder, alloc) {
         Ok(stored) => stored,
         Err(fault) => {
             print(writer, &Refused(fault));

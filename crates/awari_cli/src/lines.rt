@@ -9,12 +9,13 @@ ghost use Rattle.awari_cli.specs.declared.lines.NoLine.TheVariants as no_line;
 
 use crate::printing::{Refused, print};
 use awari_board::{Board, BoardFault, one_board_fault_is_due};
-use awari_folder::{Folder, FolderFault, load};
+use awari_folder::{Folder, FolderFault, load_parallel};
 use awari_plan::{Line, LineFault, best_line};
 use awari_table::Entry;
 use std::alloc::Global;
 use std::fmt;
 use std::io::Write;
+use std::thread::Threads;
 
 /// The entry of a board, and the line of play from it. Printed, it is the value and the line, in
 /// three lines without the last line feed.
@@ -109,7 +110,12 @@ impl fmt::Display for NoLine {
 /// The line of play from the board that `text` spells, by the plans of the levels in the folder and
 /// their limit. The text is read before the folder is: where it is no board it is refused for that,
 /// whatever the folder holds.
-fn line_of<F: Folder>(folder: &mut F, alloc: Global, text: &[u8]) -> Result<ValuedLine, NoLine>
+fn line_of<T: Threads + Sync, F: Folder>(
+    rt: &T,
+    folder: &mut F,
+    alloc: Global,
+    text: &[u8],
+) -> Result<ValuedLine, NoLine>
     ensures same { Same (F.stands folder.old) (F.stands folder.new) }
     ensures line { IfOk result (λ found. IsLineOf (F.stands folder.old) text.now found.entry.value found.line.moves.items found.line.outcome) }
     ensures board { (fault : BoardFault) → (result ≡ Err (no_line.Board fault)) ↔ IsFaulty text.now fault }
@@ -117,7 +123,7 @@ fn line_of<F: Folder>(folder: &mut F, alloc: Global, text: &[u8]) -> Result<Valu
     // That a text has one fault at most is what this call tells the proof.
     one_board_fault_is_due();
     let board = Board::parse(text)?;
-    let shelf = load(folder, alloc)?.shelf;
+    let shelf = load_parallel(rt, folder, alloc)?.shelf;
     let line = best_line(alloc, &shelf, board, shelf.limit())?;
     match shelf.entry(&board) {
         Ok(entry) => Ok(ValuedLine { entry, line }),
@@ -126,7 +132,8 @@ fn line_of<F: Folder>(folder: &mut F, alloc: Global, text: &[u8]) -> Result<Valu
 }
 
 /// Prints the value of a board and the line of play from it, or the refusal.
-pub fn run_line<F: Folder, W: Write>(
+pub fn run_line<T: Threads + Sync, F: Folder, W: Write>(
+    rt: &T,
     folder: &mut F,
     alloc: Global,
     board: &str,
@@ -136,7 +143,7 @@ pub fn run_line<F: Folder, W: Write>(
     ensures same { Same (F.stands folder.old) (F.stands folder.new) }
     ensures found { result ≡ 0 → PrintsLine (F.stands folder.old) board.now (W.contents writer.old) (W.contents writer.new) }
 {
-    match line_of(folder, alloc, board.as_bytes()) {
+    match line_of(rt, folder, alloc, board.as_bytes()) {
         Ok(found) => { if print(writer, &found) { 0 } else { 1 } }
         Err(fault) => {
             print(writer, &Refused(fault));

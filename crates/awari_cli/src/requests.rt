@@ -2,8 +2,9 @@
 
 ghost use Rattle.std.specs.Prelude.{IfSome, IsNone};
 ghost use Rattle.clap.specs.Matches.{found_of};
-ghost use Rattle.awari_cli.specs.Requests.{IsRequestOf, IsNoRequest};
+ghost use Rattle.awari_cli.specs.Requests.{IsPaceOf, IsRequestOf, IsNoPace, IsNoRequest};
 
+use awari_build::{MOST_OWNERS, MOST_ROOM, MOST_SWEEPS, Pace};
 use awari_table::HIGHEST_LEVEL;
 use clap::builder::ValueParser;
 use clap::{Arg, ArgMatches, Command, Error, value_parser};
@@ -26,10 +27,11 @@ pub enum Request<'a> {
         limit: u32,
         moves: &'a str,
     },
-    /// `build TOP [--folder FOLDER]`: the levels up to this one.
+    /// `build TOP [--folder FOLDER] [--owners W] [--room R] [--sweeps S]`: the levels up to this one.
     Build {
         top: u8,
         folder: Option<&'a str>,
+        pace: Pace,
     },
     /// `verify FOLDER`: whether the levels in a folder are right.
     Verify {
@@ -79,6 +81,7 @@ fn requested<'a>(name: &str, given: &ArgMatches<'a>) -> Option<Request<'a>>
         "build" => Some(Request::Build {
             top: given.get_one("TOP")?,
             folder: given.get_str("folder"),
+            pace: pace_of(given)?,
         }),
         "verify" => Some(Request::Verify {
             folder: given.get_str("FOLDER")?,
@@ -93,6 +96,18 @@ fn requested<'a>(name: &str, given: &ArgMatches<'a>) -> Option<Request<'a>>
         }),
         _ => None,
     }
+}
+
+/// The pace of a build.
+fn pace_of(given: &ArgMatches<'_>) -> Option<Pace>
+    ensures asked { IfSome result (IsPaceOf (found_of given.now)) }
+    ensures none { IsNone result → IsNoPace (found_of given.now) }
+{
+    Some(Pace {
+        owners: given.get_one("owners")?,
+        room: given.get_one("room")?,
+        sweeps: given.get_one("sweeps")?,
+    })
 }
 
 fn command<'a>(alloc: Global) -> Result<Command<'a>, Error> {
@@ -167,8 +182,38 @@ fn build_command<'a>(alloc: Global) -> Result<Command<'a>, Error> {
         .about("Builds levels, and prints a line for each")
         .after_help(BUILD_HELP)
         .arg(top)?
-        .arg(folder)?;
+        .arg(folder)?
+        .arg(owners(alloc))?
+        .arg(room(alloc))?
+        .arg(sweeps(alloc))?;
     Ok(command)
+}
+
+fn owners<'a>(alloc: Global) -> Arg<'a> {
+    Arg::new(alloc, "owners")
+        .long("owners")
+        .value_name("W")
+        .value_parser(ValueParser::unsigned(0, u64::from(MOST_OWNERS)))
+        .default_value("0")
+        .help("How many threads share a level, 0 to 16; with 0 one part has it")
+}
+
+fn room<'a>(alloc: Global) -> Arg<'a> {
+    Arg::new(alloc, "room")
+        .long("room")
+        .value_name("R")
+        .value_parser(ValueParser::unsigned(1, u64::from(MOST_ROOM)))
+        .default_value("64")
+        .help("How many batches a line between two owners holds, 1 to 256")
+}
+
+fn sweeps<'a>(alloc: Global) -> Arg<'a> {
+    Arg::new(alloc, "sweeps")
+        .long("sweeps")
+        .value_name("S")
+        .value_parser(ValueParser::unsigned(1, u64::from(MOST_SWEEPS)))
+        .default_value("1000")
+        .help("How often an owner looks about in a round, 1 to 1000")
 }
 
 fn verify_command<'a>(alloc: Global) -> Result<Command<'a>, Error> {

@@ -24,14 +24,16 @@ use std::fs::File;
 use std::io::{Read, Write};
 use std::path::Path;
 use std::rt::Files;
+use std::sync::Wait;
+use std::thread::Threads;
 
 /// Runs the command that the words name, of which the first is the program's own name. What it
 /// prints goes to the writer, and the text of `clap` to `errors`. The result is the status that the
 /// program ends with: 0 where it is done, 1 where it was refused or the writer gave a fault, and 2
 /// where the words were not understood, or asked for help. It takes memory for the words,
 /// and for what the commands read and build; want of it is a refusal.
-pub fn run<F: Files<File = File>, S: AsStr, R: Read, W: Write, E: Write>(
-    files: &F,
+pub fn run<T: Files<File = File> + Threads + Wait + Sync, S: AsStr, R: Read, W: Write, E: Write>(
+    rt: &T,
     alloc: Global,
     words: &[S],
     reader: &mut R,
@@ -48,7 +50,7 @@ pub fn run<F: Files<File = File>, S: AsStr, R: Read, W: Write, E: Write>(
     ensures nothing { result ≡ 2 → Keeps (W.contents writer.old) (W.contents writer.new) }
 {
     match request_of(alloc, words) {
-        Ok(Some(request)) => run_request(files, alloc, request, reader, writer),
+        Ok(Some(request)) => run_request(rt, alloc, request, reader, writer),
         // `clap` lets no other command through.
         Ok(None) => 2,
         Err(error) => {
@@ -59,8 +61,8 @@ pub fn run<F: Files<File = File>, S: AsStr, R: Read, W: Write, E: Write>(
     }
 }
 
-fn run_request<F: Files<File = File>, R: Read, W: Write>(
-    files: &F,
+fn run_request<T: Files<File = File> + Threads + Wait + Sync, R: Read, W: Write>(
+    rt: &T,
     alloc: Global,
     request: Request<'_>,
     reader: &mut R,
@@ -77,25 +79,45 @@ fn run_request<F: Files<File = File>, R: Read, W: Write>(
             limit,
             moves,
         } => run_judge(board, limit, moves, writer),
-        Request::Build { top, folder: None } => run_build(alloc, top, writer),
+        Request::Build {
+            top,
+            folder: None,
+            pace,
+        } => run_build(rt, alloc, top, pace, writer),
         Request::Build {
             top,
             folder: Some(folder),
-        } => run_build_in(&mut host_folder(files, alloc, folder), alloc, top, writer),
+            pace,
+        } => {
+            let mut folder = host_folder(rt, alloc, folder);
+            run_build_in(rt, &mut folder, alloc, top, pace, writer)
+        }
         Request::Verify { folder } => {
-            run_verify(&mut host_folder(files, alloc, folder), alloc, writer)
+            run_verify(rt, &mut host_folder(rt, alloc, folder), alloc, writer)
         }
         Request::Ask { folder, board } => {
-            run_ask(&mut host_folder(files, alloc, folder), alloc, board, writer)
+            run_ask(
+                rt,
+                &mut host_folder(rt, alloc, folder),
+                alloc,
+                board,
+                writer,
+            )
         }
         Request::Line { folder, board } => {
-            run_line(&mut host_folder(files, alloc, folder), alloc, board, writer)
+            run_line(
+                rt,
+                &mut host_folder(rt, alloc, folder),
+                alloc,
+                board,
+                writer,
+            )
         }
     }
 }
 
 /// The folder of this name.
-fn host_folder<'a, F>(files: &'a F, alloc: Global, folder: &'a str) -> HostFolder<'a, F> {
+fn host_folder<'a, T>(files: &'a T, alloc: Global, folder: &'a str) -> HostFolder<'a, T> {
     HostFolder::new(files, alloc, Path::new(folder))
 }
 

@@ -13,4 +13,6 @@ mod outboxes;
 #[cfg(test)]
 mod parts;
 #[cfg(test)]
+mod pieces;
+#[cfg(test)]
 mod shelves;
