@@ -6,7 +6,8 @@ use awari_owner::Batch;
 use rtrb::{Consumer, Producer, PushError, RingBuffer};
 use std::alloc::{AllocError, Global};
 
-/// The two rings between an owner and another one: the end that sends to it, and the end that receives from it.
+/// The two rings between an owner and another one: the end that sends to it, and the end that
+/// receives from it.
 #[derive(Drop)]
 pub struct Line {
     pub(crate) producer: Producer<Batch>,
@@ -39,7 +40,8 @@ impl Ends {
         self.lines.len() + 1
     }
 
-    /// Sends a batch to another owner, or hands it back where the line is full.
+    /// Sends a batch to another owner of the grid, or hands it back where the line is full. It takes no
+    /// memory.
     pub fn push(&mut self, to: u8, batch: Batch) -> Result<(), Batch>
         requires { IsOther self.old to }
         ensures lines { SameLines self.old self.new }
@@ -56,7 +58,7 @@ impl Ends {
         }
     }
 
-    /// The next batch from another owner, if one has come.
+    /// The next batch from another owner of the grid, if one has come. It takes no memory.
     pub fn pop(&mut self, from: u8) -> Option<Batch>
         requires { IsOther self.old from }
         ensures lines { SameLines self.old self.new }
@@ -70,7 +72,8 @@ impl Ends {
         line.consumer.pop().ok()
     }
 
-    // One more line at the end, to a new owner. Gives that owner's line.
+    /// One more line at the end, to a new owner, with so much room. Gives that owner's line. Refused where
+    /// a growth was.
     pub(crate) fn connect(&mut self, alloc: Global, room: usize) -> Result<Line, AllocError>
         ensures { IfOk result (λ theirs. Connected self.old self.new theirs) }
     {
@@ -86,7 +89,8 @@ impl Ends {
         })
     }
 
-    // Looks at both rings between two owners. True where nothing waits on them.
+    /// Looks at both rings between two owners of one grid. True where nothing waits on them. It takes
+    /// no memory.
     pub fn look_beside(&mut self, other: &mut Ends) -> bool
         requires other { IsOther self.old other.old.owner }
         requires this { IsOther other.old self.old.owner }
@@ -108,7 +112,7 @@ impl Line {
     ghost use Rattle.rtrb.specs.Ring.{sent, received, known_items};
     ghost use Rattle.awari_lines.specs.Lines.{PairedOn, LineLooked};
 
-    // Looks at both rings. True where nothing waits on them.
+    /// Looks at both rings. True where nothing waits on them.
     fn look_beside(&mut self, other: &mut Line) -> bool
         requires { PairedOn (Some self.old) (Some other.old) }
         ensures here { LineLooked self.old self.new }
@@ -126,7 +130,7 @@ impl Line {
 ghost use Rattle.std.specs.Prelude.{◌≡◌, ◌≢◌};
 ghost use Rattle.awari_lines.specs.Seats.{seat_of};
 
-// The place of the line to another owner.
+/// The place of the line to another owner.
 fn seat(own: u8, other: u8) -> usize
     requires { other ≢ own }
     ensures { result ≡ seat_of own other }

@@ -1,11 +1,14 @@
-// What all lines hold, once all ends are in one thread.
+//! What all lines hold, once all ends are in one thread.
+
 ghost use Rattle.std.specs.Prelude.{◌≡◌, ◌≢◌, ◌+◌, ◌<◌, ◌≤◌, ◌++◌, ◌↔◌, ℕ, [], length, slice_index_or, IsTrue};
 ghost use Rattle.awari_lines.specs.Lines.{IsGrid, LookedAt, NothingWaits, SameHistory, received_from, waiting_from, sent_to};
 ghost use Rattle.awari_lines.specs.declared.lines.Ends.{Ends as AnEnds};
 
 use crate::lines::Ends;
 
-/// Looks at every line. True where nothing waits on any.
+/// Looks at every line of a grid, all ends of which are here, in the order of their owners. On each,
+/// what was received and then what waits is what was sent. True where nothing waits on any. It takes
+/// no memory.
 pub fn settle(all: &mut [Ends]) -> bool
     requires { IsGrid all.old }
     ensures grid { IsGrid all.new }
@@ -23,7 +26,7 @@ pub fn settle(all: &mut [Ends]) -> bool
     empty
 }
 
-// Looks at the two lines between two owners. True where nothing waits on them.
+/// Looks at the two lines between two owners. True where nothing waits on them.
 fn settle_pair(all: &mut [Ends], i: usize, j: usize) -> bool
     requires grid { IsGrid all.old }
     requires pair { (i < j) × (j < length all.old) }

@@ -1,11 +1,14 @@
-// The ends of all lines.
+//! The ends of all lines.
+
 ghost use Rattle.std.specs.Prelude.{◌≡◌, ◌+◌, ◌<◌, ◌≤◌, vec_len, IfOk, OnOk};
 ghost use Rattle.awari_lines.specs.Lines.{IsGrid, AllUnused};
 
 use crate::lines::Ends;
 use std::alloc::{AllocError, Global};
 
-/// The ends of one line for each ordered pair of different owners, each with room for `room` batches.
+/// The ends of all lines among so many owners, 1 to 16, in the order of their numbers: one line for
+/// each ordered pair of different owners, with room for `room` batches, 1 to 256. Refused where a
+/// growth was: it takes all the memory that the lines will ever need.
 pub fn grid(alloc: Global, owners: u8, room: u16) -> Result<Vec<Ends>, AllocError>
     requires owners { (1 ≤ owners) × (owners ≤ 16) }
     requires room { (1 ≤ room) × (room ≤ 256) }
@@ -20,7 +23,7 @@ pub fn grid(alloc: Global, owners: u8, room: u16) -> Result<Vec<Ends>, AllocErro
     Ok(all)
 }
 
-// One more owner, with lines between it and each of the others.
+/// One more owner, with lines between it and each of the others.
 fn add_owner(alloc: Global, all: &mut Vec<Ends>, owner: u8, room: usize) -> Result<(), AllocError>
     requires owner { owner ≡ vec_len all.old }
     requires grid { IsGrid all.old.items × AllUnused all.old.items }

@@ -115,11 +115,14 @@ module _ (old new : Part) (level : SameLevel old new) (long : length new.cells �
     heard_taken = λ n has leaves. elim has [
       | inl e ↦ (from, apart, has_new taken from (b ++ m ∷ []) from n refl (right b (m ∷ []) n (inl e)))
       | inr before ↦
-          let (j, other, took) = s.heard_taken n before (leaves_old n.target n.pit leaves) in
-          (j, other, elim (old_or_new taken from b j n took) [
-            | inl earlier ↦ had_before taken from (b ++ m ∷ []) j n earlier
-            | inr new ↦ has_new taken from (b ++ m ∷ []) j n new.0 (left b (m ∷ []) n new.1)
-          ])
+          let (j, other, took) = s.heard_taken n before (leaves_old n.target n.pit leaves) in (
+            j,
+            other,
+            elim (old_or_new taken from b j n took) [
+              | inl earlier ↦ had_before taken from (b ++ m ∷ []) j n earlier
+              | inr new ↦ has_new taken from (b ++ m ∷ []) j n new.0 (left b (m ∷ []) n new.1)
+            ],
+          )
     ];
     given_notes = λ j other. notes_still owners j (notes_of (given j)) (s.given_notes j other);
     opened = λ j other. All-weaker (IsOpenBatch old) (IsOpenBatch new) (open_still old new level) (boxed j) (s.opened j other);

@@ -1,8 +1,7 @@
 -- What the rounds of a gain keep.
-use Rattle.std.proofs.Common.{◌≡◌, ℕ, zero, suc, ◌+◌, ◌<◌, ◌≤◌, List, [], ◌∷◌, ◌++◌, length, map, All, ℤ, refl, sym, ap, subst, ◌∙◌, arith, get_or, set, length-set, inl, inr}
-use Rattle.std.proofs.lemmas.List.{append-nil, length-map, get_or-set_same, get_or-set_other, get_or_default}
+use Rattle.std.proofs.Common.{◌≡◌, ℕ, ◌<◌, max, List, [], ◌++◌, length, map, All, ℤ, refl, sym, ap, subst, ◌∙◌, arith, get_or}
+use Rattle.std.proofs.lemmas.List.{append-nil, length-map}
 use Rattle.std.proofs.Math.ListN.{get_or-map}
-use Rattle.std.proofs.lemmas.Bool.{cases_eq}
 use Rattle.awari_owner.specs.Outboxes.{Outboxes}
 use Rattle.awari_owner.specs.Part.{Part, IsTallied}
 use Rattle.awari_owner.specs.Spread.{HearsOwn}
@@ -11,13 +10,18 @@ use Rattle.awari_lines.specs.Lines.{Notes, IsGrid, SameLines, SameHistory, owner
 use Rattle.awari_lines.specs.declared.lines.Ends.{Ends}
 use Rattle.awari_phase.specs.declared.owners.Owner.{Owner}
 use Rattle.awari_phase.specs.Sound.{Batches, queue_to, IsOtherOf, IsOpenBatch, OwnerSound}
-use Rattle.awari_phase.specs.Owners.{items_of, taken_from, given_to, IsSound, Kept, Grown, AllGrown, all_ends, ends_of, rest_of}
+use Rattle.awari_phase.specs.Owners.{items_of, taken_from, given_to, IsSound, Kept, Grown, AllGrown, AreFinished, AreInStep, AreReceived, AreSent, OpensWave, all_ends, ends_of, rest_of}
 use Rattle.awari_phase.proofs.Keeping.{same_lines, lines_then, IsOther-on, prefix_then, OwnerSound-same, moved}
 use Rattle.awari_phase.proofs.Grown.{ends_at, grid_after}
+use Rattle.awari_phase.proofs.Each.{same_ends}
 
 pub grown_refl : (a : Owner) → Grown a a
 grown_refl a = record {
-  lines = same_lines a.ends; level = refl; gain = refl; start = refl; long = refl;
+  lines = same_lines a.ends;
+  level = refl;
+  gain = refl;
+  start = refl;
+  long = refl;
   received = λ j o. ([], append-nil (received_from a.ends j));
   sent = λ j o. ([], append-nil (sent_to a.ends j));
   sound = λ value h. h;
@@ -26,7 +30,10 @@ grown_refl a = record {
 pub grown_trans : (a b c : Owner) → Grown a b → Grown b c → Grown a c
 grown_trans a b c s t = record {
   lines = lines_then a.ends b.ends c.ends s.lines t.lines;
-  level = t.level ∙ s.level; gain = t.gain ∙ s.gain; start = t.start ∙ s.start; long = t.long ∙ s.long;
+  level = t.level ∙ s.level;
+  gain = t.gain ∙ s.gain;
+  start = t.start ∙ s.start;
+  long = t.long ∙ s.long;
   received = λ j o. prefix_then (received_from a.ends j) (received_from b.ends j) (received_from c.ends j) (s.received j o) (t.received j (IsOther-on a.ends b.ends j s.lines o));
   sent = λ j o. prefix_then (sent_to a.ends j) (sent_to b.ends j) (sent_to c.ends j) (s.sent j o) (t.sent j (IsOther-on a.ends b.ends j s.lines o));
   sound = λ value h. t.sound value (s.sound value h);
@@ -34,7 +41,11 @@ grown_trans a b c s t = record {
 
 pub grown_kept : (a b : Owner) → Kept a b → Grown a b
 grown_kept a b k = record {
-  lines = k.lines; level = k.block.level.level; gain = k.block.level.gain; start = k.block.level.start; long = k.block.long;
+  lines = k.lines;
+  level = k.block.level.level;
+  gain = k.block.level.gain;
+  start = k.block.level.start;
+  long = k.block.long;
   received = k.received;
   sent = λ j o. ((k.sent j o).0, sym (k.sent j o).1);
   sound = k.sound;
@@ -46,7 +57,9 @@ grown_looked a b h r =
     let part : b.part ≡ a.part = ap (λ (p : Part × Outboxes). p.0) r in
     let boxes : b.outboxes ≡ a.outboxes = ap (λ (p : Part × Outboxes). p.1) r in record {
       lines = h.lines;
-      level = ap (λ (p : Part). p.level) part; gain = ap (λ (p : Part). p.gain) part; start = ap (λ (p : Part). p.start) part;
+      level = ap (λ (p : Part). p.level) part;
+      gain = ap (λ (p : Part). p.gain) part;
+      start = ap (λ (p : Part). p.start) part;
       long = ap (λ (p : Part). length p.cells) part;
       received = λ j o. ([], append-nil (received_from a.ends j) ∙ sym (h.received j o.0));
       sent = λ j o. ([], append-nil (sent_to a.ends j) ∙ sym (h.sent j o.0));
@@ -78,7 +91,10 @@ pub grown_wave : (a b : Owner) (d : ℕ) → b.ends ≡ a.ends → b.outboxes �
     → ((notes : List Note) → HearsOwn a.part notes → HearsOwn b.part notes) → Grown a b
 grown_wave a b d e o p none opened hears = record {
   lines = subst (λ (x : Ends). SameLines a.ends x) (sym e) (same_lines a.ends);
-  level = ap (λ (x : Part). x.level) p; gain = ap (λ (x : Part). x.gain) p; start = ap (λ (x : Part). x.start) p; long = ap (λ (x : Part). length x.cells) p;
+  level = ap (λ (x : Part). x.level) p;
+  gain = ap (λ (x : Part). x.gain) p;
+  start = ap (λ (x : Part). x.start) p;
+  long = ap (λ (x : Part). length x.cells) p;
   received = λ j q. ([], append-nil (received_from a.ends j) ∙ ap (λ (x : Ends). received_from x j) (sym e));
   sent = λ j q. ([], append-nil (sent_to a.ends j) ∙ ap (λ (x : Ends). sent_to x j) (sym e));
   sound = λ value s.
@@ -90,18 +106,36 @@ grown_wave a b d e o p none opened hears = record {
 
 -- ---- of all owners
 
+-- the same distances at each place
+step_then : (os ps : List Owner) → length ps ≡ length os → ((i : ℕ) (d : Owner) → i < length os → (get_or ps i d).part.wave ≡ (get_or os i d).part.wave) → AreInStep os → AreInStep ps
+step_then os ps many same step i d h =
+    let low : i < length os = omega (arith, h, many) in
+    same i d low ∙ (step i d low ∙ sym (same 0 d (omega (arith, low))))
+
 pub all_grown_refl : (os : List Owner) → IsGrid (all_ends os) → AllGrown os os
-all_grown_refl os g = record { many = refl; each = λ i d h. grown_refl (get_or os i d); grid = g }
+all_grown_refl os g = record { many = refl; each = λ i d h. grown_refl (get_or os i d); grid = g; wave = λ step. step }
 
 pub all_grown_trans : (os ps qs : List Owner) → AllGrown os ps → AllGrown ps qs → AllGrown os qs
 all_grown_trans os ps qs s t = record {
   many = t.many ∙ s.many;
   each = λ i d h. (let many = s.many in grown_trans (get_or os i d) (get_or ps i d) (get_or qs i d) (s.each i d h) (t.each i d (omega (arith, h, many))));
   grid = t.grid;
+  wave = λ step. t.wave (s.wave step);
 }
 
 pub all_grown_kept : (os ps : List Owner) → length ps ≡ length os → ((i : ℕ) (d : Owner) → i < length os → Kept (get_or os i d) (get_or ps i d)) → IsGrid (all_ends os) → AllGrown os ps
-all_grown_kept os ps many kept g = record { many = many; each = λ i d h. grown_kept (get_or os i d) (get_or ps i d) (kept i d h); grid = grid_after os ps many kept g }
+all_grown_kept os ps many kept g = record {
+  many = many;
+  each = λ i d h. grown_kept (get_or os i d) (get_or ps i d) (kept i d h);
+  grid = grid_after os ps many kept g;
+  wave = λ step. step_then os ps many (λ i d h. (kept i d h).block.level.wave) step;
+}
+
+same_rest : (os ps : List Owner) → map rest_of ps ≡ map rest_of os → (i : ℕ) (d : Owner) → rest_of (get_or ps i d) ≡ rest_of (get_or os i d)
+same_rest os ps rest i d = sym (get_or-map rest_of ps i d) ∙ (ap (λ l. get_or l i (rest_of d)) rest ∙ get_or-map rest_of os i d)
+
+pub all_grown_round : (os ps : List Owner) (n m : ℕ) → n ≡ length os → m ≡ length ps → m ≡ n → ((i : ℕ) (d : Owner) → i < n → Kept (get_or os i d) (get_or ps i d)) → IsGrid (all_ends os) → AllGrown os ps
+all_grown_round os ps n m was now many kept g = all_grown_kept os ps (omega (arith, was, now, many)) (λ i d h. kept i d (omega (arith, was, h))) g
 
 pub all_grown_looked : (os ps : List Owner) → length ps ≡ length os → IsGrid (all_ends ps) → map rest_of ps ≡ map rest_of os
     → ((i : ℕ) (e : Ends) → i < length (all_ends os) → SameHistory (get_or (all_ends os) i e) (get_or (all_ends ps) i e)) → AllGrown os ps
@@ -114,40 +148,42 @@ all_grown_looked os ps many g rest same = record {
       let seen = same i d.ends (omega (arith, h, lo)) in
       grown_looked (get_or os i d) (get_or ps i d)
       (subst (λ (u : Ends). SameHistory u (get_or ps i d).ends) old (subst (λ (u : Ends). SameHistory (get_or (all_ends os) i d.ends) u) new seen))
-      (sym (get_or-map rest_of ps i d) ∙ (ap (λ l. get_or l i (rest_of d)) rest ∙ get_or-map rest_of os i d)));
+      (same_rest os ps rest i d));
   grid = g;
+  wave = λ step. step_then os ps many (λ i d h. ap (λ (r : Part × Outboxes). r.0.wave) (same_rest os ps rest i d)) step;
 }
 
 pub all_grown_grid : (os ps : List Owner) → AllGrown os ps → IsGrid (all_ends ps)
 all_grown_grid os ps s = s.grid
 
--- a write that leaves the ends as they were
-same_ends : (xs : List Owner) (i : ℕ) (a d : Owner) → a.ends ≡ (get_or xs i d).ends → all_ends (set xs i a) ≡ all_ends xs
-same_ends [] i a d e = refl
-same_ends (x ∷ xs) zero a d e = ap (λ u. u ∷ all_ends xs) e
-same_ends (x ∷ xs) (suc i) a d e = ap (λ l. x.ends ∷ l) (same_ends xs i a d e)
+-- ---- what is opened in all parts
 
--- one owner more
-pub opened_more : (os ps : List Owner) (i : ℕ) (a x : Owner) → x ≡ get_or ps i x → i < length os → length ps ≡ length os → all_ends ps ≡ all_ends os
-    → ((k : ℕ) (d : Owner) → k < i → Grown (get_or os k d) (get_or ps k d)) → ((k : ℕ) (d : Owner) → i ≤ k → get_or ps k d ≡ get_or os k d)
-    → Grown x a → a.ends ≡ x.ends
-    → record {
-      many : length (set ps i a) ≡ length os;
-      ends : all_ends (set ps i a) ≡ all_ends os;
-      before : (k : ℕ) (d : Owner) → k < i + 1 → Grown (get_or os k d) (get_or (set ps i a) k d);
-      after : (k : ℕ) (d : Owner) → i + 1 ≤ k → get_or (set ps i a) k d ≡ get_or os k d;
-    }
-opened_more os ps i a x at inside many ends before after grown same = record {
-  many = length-set ps i a ∙ many;
-  ends = same_ends ps i a x (same ∙ ap (λ (u : Owner). u.ends) at) ∙ ends;
-  before = λ k d h. elim (cases_eq k i) [
-    | inl e ↦
-        (let P : ℕ → Type 0 = λ q. Grown (get_or os q d) (get_or (set ps i a) q d) in
-        let was : x ≡ get_or os i d = at ∙ (after i x (omega arith) ∙ get_or_default os i x d inside) in
-        subst P (sym e) (subst (λ (u : Owner). Grown (get_or os i d) u) (sym (get_or-set_same ps i a d (omega (arith, inside, many)))) (subst (λ (u : Owner). Grown u a) was grown)))
-    | inr n ↦ subst (λ (u : Owner). Grown (get_or os k d) u) (sym (get_or-set_other ps i k a d n)) (before k d (omega (arith, h, n)))
-  ];
-  after = λ k d h. get_or-set_other ps i k a d (λ e. absurd (omega (arith, h, e))) ∙ after k d (omega (arith, h));
+-- a distance
+pub all_grown_waves : (os ps : List Owner) (dist : ℕ) → length ps ≡ length os → ((i : ℕ) (d : Owner) → i < length os → OpensWave dist (get_or os i d) (get_or ps i d)) → IsGrid (all_ends os) → AllGrown os ps
+all_grown_waves os ps dist many opens g = record {
+  many = many;
+  each = λ i d h. (opens i d h).grown;
+  grid = subst (λ (l : List Ends). IsGrid l) (sym (same_ends os ps many (λ i d h. (opens i d h).ends))) g;
+  wave = λ step i d h.
+      (let low : i < length os = omega (arith, h, many) in
+      (opens i d low).wave ∙ (ap (λ w. max w dist) (step i d low) ∙ sym (opens 0 d (omega (arith, low))).wave));
 }
+
+-- owners that were finished are so again, where nothing is on its way
+pub finished_grown : (value : List ℕ → ℤ) (n : ℕ) (os ps : List Owner) → AllGrown os ps → AreSent ps → AreReceived ps → AreFinished value n os → AreFinished value n ps
+finished_grown value n os ps grown sent received f =
+    let many = grown.many in
+    let low : (i : ℕ) → i < length ps → i < length os = λ i h. omega (arith, h, many) in
+    let first : 0 < length os = (let s = f.some in omega (arith, s)) in
+    record {
+      some = (let s = f.some in omega (arith, s, many));
+      grid = grown.grid;
+      sent = sent;
+      received = received;
+      sound = λ i d h. (grown.each i d (low i h)).sound value (f.sound i d (low i h));
+      level = λ i d h. (grown.each i d (low i h)).level ∙ f.level i d (low i h);
+      gain = λ i d h. (grown.each i d (low i h)).gain ∙ (f.gain i d (low i h) ∙ sym (grown.each 0 d first).gain);
+      wave = grown.wave f.wave;
+    }
 
 pub ruleset growing = (all_grown_refl, all_grown_trans, all_grown_grid)

@@ -127,9 +127,19 @@ module _ (injective : IsInjective) (moves : (p : List ℕ) (x : ℕ) (r : List �
           let each = are.each k (q, 0) at in
           let note = is (q, 0) in
           let tested : is_in_block (size_of part.level) (length o.queues) j (rank_of y.0) ≡ true = subst (λ r. is_in_block (size_of part.level) (length o.queues) j r ≡ true) note.target chosen.1 in
-          let held : IsInBlockOf part.level (length o.queues) j (rank_of y.0) = from_test (first_rank (size_of part.level) (length o.queues) j) (first_rank (size_of part.level) (length o.queues) (j + 1)) (rank_of y.0) tested in
-          (y.0, q, y.1, score, part.wave, each.0, each.1 ∙ spreads.stones ∙ sym level.level, in_new (rank_of q) spreads.first.inside,
-            subst (λ n. IsInBlockOf n (length o.queues) j (rank_of y.0)) (sym level.level) held, spreads.becomes.now, note))
+          let held : IsInBlockOf part.level (length o.queues) j (rank_of y.0) = from_test (first_rank (size_of part.level) (length o.queues) j) (first_rank (size_of part.level) (length o.queues) (j + 1)) (rank_of y.0) tested in (
+            y.0,
+            q,
+            y.1,
+            score,
+            part.wave,
+            each.0,
+            each.1 ∙ spreads.stones ∙ sym level.level,
+            in_new (rank_of q) spreads.first.inside,
+            subst (λ n. IsInBlockOf n (length o.queues) j (rank_of y.0)) (sym level.level) held,
+            spreads.becomes.now,
+            note,
+          ))
     ];
     all_notes = λ p r x u e is stones in_r in_j quiet spread. elim (spreads.becomes.back (rank_of r) u e (in_old (rank_of r) in_r) spread) [
       | inl before ↦ (
@@ -145,9 +155,11 @@ module _ (injective : IsInjective) (moves : (p : List ℕ) (x : ℕ) (r : List �
           let held : IsInBlockOf part.level (length o.queues) j (rank_of p) = subst (λ n. IsInBlockOf n (length o.queues) j (rank_of p)) level.level in_j in
           let tested : is_in_block (size_of part.level) (length o.queues) j (rank_of p) ≡ true =
           to_test (first_rank (size_of part.level) (length o.queues) j) (first_rank (size_of part.level) (length o.queues) (j + 1)) (rank_of p) held.0 held.1 in
-          let chosen : for_other j m ≡ true = subst (λ t. is_in_block (size_of part.level) (length o.queues) j t ≡ true) (sym at_p.target) tested in
-          (m, Has-append_right (notes_of (sent j ++ queue_to o j)) (more j) m (Has-chosen (for_other j) notes m has chosen),
-            subst₂ (λ (w : ℤ) (f : ℕ). IsNoteOf r w f p x m) (sym here.1) (sym here.2) (subst (λ (c : List ℕ). IsNoteOf c score part.wave p x m) (sym same) at_p)))
+          let chosen : for_other j m ≡ true = subst (λ t. is_in_block (size_of part.level) (length o.queues) j t ≡ true) (sym at_p.target) tested in (
+            m,
+            Has-append_right (notes_of (sent j ++ queue_to o j)) (more j) m (Has-chosen (for_other j) notes m has chosen),
+            subst₂ (λ (w : ℤ) (f : ℕ). IsNoteOf r w f p x m) (sym here.1) (sym here.2) (subst (λ (c : List ℕ). IsNoteOf c score part.wave p x m) (sym same) at_p),
+          ))
     ];
     once = once_more (notes_of (sent j ++ queue_to o j)) (more j) old.once (filter_once (for_other j) notes (notes_once injective q score part.wave sources notes sends.gives are.each spreads.predecessors.ordered))
         (λ k m has later target pit.

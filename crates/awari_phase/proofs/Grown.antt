@@ -46,6 +46,14 @@ round_grid os ps qs n e long is kept none g =
     subst (λ (l : List Owner). IsGrid (all_ends l)) (sym same)
     (grid_after os ps long (λ i d h. kept i d h (subst (λ (l : List Owner). (get_or l i d).fault ≡ None) all (none i d (omega (arith, h, many, long))))) g)
 
+pub well_grid : (os ps qs : List Owner) (n m : ℕ) → n ≡ length os → m ≡ length ps → m ≡ n → qs ≡ ps
+    → ((i : ℕ) (d : Owner) → i < n → (get_or ps i d).fault ≡ None → Kept (get_or os i d) (get_or ps i d)) → ((i : ℕ) (d : Owner) → i < length qs → (get_or qs i d).fault ≡ None)
+    → IsGrid (all_ends os) → IsGrid (all_ends ps)
+well_grid os ps qs n m was now many same kept none g =
+    let long = ap length same in
+    grid_after os ps (omega (arith, was, now, many))
+    (λ i d h. kept i d (omega (arith, was, h)) (subst (λ (l : List Owner). (get_or l i d).fault ≡ None) same (none i d (omega (arith, h, was, now, many, long))))) g
+
 -- one owner more at the end, of which the same holds
 pub pushed_kept : (rest bs all : List Owner) (owner last : Owner) → all ≡ bs ++ last ∷ [] → length bs ≡ length rest
     → ((i : ℕ) (d : Owner) → i < length rest → (get_or bs i d).fault ≡ None → Kept (get_or rest i d) (get_or bs i d)) → (last.fault ≡ None → Kept owner last)

@@ -47,7 +47,6 @@ IsOther-on a b k s o = ((λ e. o.0 (e ∙ s.owner)), (let p : vec_len b.lines �
 pub prefix_then : (xs ys zs : List Notes) → IsPrefix xs ys → IsPrefix ys zs → IsPrefix xs zs
 prefix_then xs ys zs p q = (p.0 ++ q.0, sym (append_assoc xs p.0 q.0) ∙ (ap (λ l. l ++ q.0) p.1 ∙ q.1))
 
-
 -- ---- blocks
 
 pub same_block : (a : Part) → SameBlock a a
@@ -139,7 +138,7 @@ module _ (e e' : Ends) (j : ℕ) (lines : SameLines e e') (others : SameBut e e'
 
   pub take_keeps : (part part' : Part) (o : Outboxes) (b : Notes) → sent_to e' j ≡ sent_to e j → received_from e' j ≡ received_from e j ++ b ∷ [] → IsOther e j → SameBlock part part'
       → ((value : List ℕ → ℤ) (owner owners from : ℕ) (taken given boxed : ℕ → Batches) → IsOtherOf owner owners from
-          → OwnerSound value owner owners part taken given boxed → OwnerSound value owner owners part' (with_taken taken from b.items) given boxed)
+      → OwnerSound value owner owners part taken given boxed → OwnerSound value owner owners part' (with_taken taken from b.items) given boxed)
       → Keeps e part o e' part' o
   take_keeps part part' o b s r other block hears = record {
     lines = lines;
@@ -176,13 +175,14 @@ module _ (e e' : Ends) (j : ℕ) (lines : SameLines e e') (others : SameBut e e'
       sent_at : (k : ℕ) → IsOther e k → (gone : List Notes) × (sent_to e' k ≡ sent_to e k ++ gone) × ((value : List ℕ → ℤ) → IsSound value e part o → All P (map items_of gone))
       sent_at k q =
           elim (cases_eq k j) [
-            | inl at ↦
-                (b ∷ [],
-                (let Q : ℕ → Type 0 = λ i. sent_to e' i ≡ sent_to e i ++ b ∷ [] in subst Q (sym at) s),
-                λ value h i d lt.
-                    (let zeroth : i ≡ 0 = omega (arith, lt) in
-                    let head = subst (λ (bs : Batches). All P bs) first (h.opened j other) 0 d (omega arith) in
-                    subst (λ (n : ℕ). P (get_or (b.items ∷ []) n d)) (sym zeroth) head))
+            | inl at ↦ (
+              b ∷ [],
+              (let Q : ℕ → Type 0 = λ i. sent_to e' i ≡ sent_to e i ++ b ∷ [] in subst Q (sym at) s),
+              λ value h i d lt.
+                  (let zeroth : i ≡ 0 = omega (arith, lt) in
+                  let head = subst (λ (bs : Batches). All P bs) first (h.opened j other) 0 d (omega arith) in
+                  subst (λ (n : ℕ). P (get_or (b.items ∷ []) n d)) (sym zeroth) head),
+            )
             | inr n ↦ ([], ap sent_on (others k n q.0) ∙ sym (append-nil (sent_to e k)), λ value h i d lt. absurd (omega (arith, lt)))
           ]
 
@@ -213,8 +213,8 @@ module _ (e e' : Ends) (j : ℕ) (lines : SameLines e e') (others : SameBut e e'
 
 pub spread_keeps : (e : Ends) (part part' : Part) (o o' : Outboxes) → length o.queues ≡ owners_of e → o.owner ≡ e.owner → SameBlock part part' → o'.owner ≡ o.owner → length o'.queues ≡ length o.queues
     → ((value : List ℕ → ℤ) (taken sent : ℕ → Batches)
-        → OwnerSound value o.owner (length o.queues) part taken (λ j. sent j ++ queue_to o j) (queue_to o)
-        → OwnerSound value o.owner (length o.queues) part' taken (λ j. sent j ++ queue_to o' j) (queue_to o'))
+    → OwnerSound value o.owner (length o.queues) part taken (λ j. sent j ++ queue_to o j) (queue_to o)
+    → OwnerSound value o.owner (length o.queues) part' taken (λ j. sent j ++ queue_to o' j) (queue_to o'))
     → Keeps e part o e part' o'
 spread_keeps e part part' o o' many number block owner owners spreads = record {
   lines = same_lines e;
@@ -251,12 +251,13 @@ kept_trans a b c s t = record {
   received = λ k q. prefix_then (received_from a.ends k) (received_from b.ends k) (received_from c.ends k) (s.received k q) (t.received k (IsOther-on a.ends b.ends k s.lines q));
   sent = λ k q.
       (let first = s.sent k q in
-      let next = t.sent k (IsOther-on a.ends b.ends k s.lines q) in
-      (first.0 ++ next.0,
-      next.1 ∙ (ap (λ (l : List Notes). l ++ next.0) first.1 ∙ append_assoc (sent_to a.ends k) first.0 next.0),
-      λ value h. subst (λ (bs : Batches). All (IsOpenBatch a.part) bs) (sym (map-append items_of first.0 next.0))
-          (All-append (IsOpenBatch a.part) (map items_of first.0) (map items_of next.0) (first.2 value h)
-          (λ i d lt. open_back a.part b.part s.block _ (next.2 value (s.sound value h) i d lt)))));
+      let next = t.sent k (IsOther-on a.ends b.ends k s.lines q) in (
+        first.0 ++ next.0,
+        next.1 ∙ (ap (λ (l : List Notes). l ++ next.0) first.1 ∙ append_assoc (sent_to a.ends k) first.0 next.0),
+        λ value h. subst (λ (bs : Batches). All (IsOpenBatch a.part) bs) (sym (map-append items_of first.0 next.0))
+            (All-append (IsOpenBatch a.part) (map items_of first.0) (map items_of next.0) (first.2 value h)
+            (λ i d lt. open_back a.part b.part s.block _ (next.2 value (s.sound value h) i d lt))),
+      ));
   sound = λ value h. t.sound value (s.sound value h);
 }
 

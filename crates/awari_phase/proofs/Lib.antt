@@ -1,6 +1,9 @@
 pub mod Keeping
 pub mod Pairs
 pub mod Grown
+pub mod Each
+pub mod Beginning
+pub mod Opening
 pub mod Gaining
 pub mod Batching
 pub mod Giving

@@ -1,18 +1,18 @@
 -- Owners that are each sound are so together, once nothing is on its way.
-use Rattle.std.proofs.Common.{◌≡◌, ℕ, zero, suc, ◌+◌, ◌<◌, ◌≤◌, List, [], ◌∷◌, ◌++◌, length, map, get_or, ℤ, refl, sym, ap, subst, subst₂, ◌∙◌, arith, append-nil}
-use Rattle.std.proofs.lemmas.List.{length-map}
+use Rattle.std.proofs.Common.{◌≡◌, ℕ, zero, suc, ◌+◌, ◌<◌, ◌≤◌, List, [], ◌∷◌, ◌++◌, length, map, All, get_or, ℤ, refl, sym, ap, subst, subst₂, ◌∙◌, arith, append-nil}
+use Rattle.std.proofs.lemmas.List.{get_or_default, length-map}
 use Rattle.awari_board.proofs.Keeping.{IsBoard-next}
 use Rattle.awari_rank.specs.Rank.{rank_of, size_of}
 use Rattle.awari_owner.specs.Notes.{Has}
 use Rattle.awari_owner.specs.Part.{Part, InBlock}
 use Rattle.awari_owner.specs.Scan.{first_rank}
-use Rattle.awari_owner.specs.Level.{AreSound, AreSpreadNotes, HearsTaken, IsShare, IsTimely, part_at}
+use Rattle.awari_owner.specs.Level.{AreSound, AreSpreadNotes, HearsTaken, IsClosed, IsShare, IsTimely, no_part, part_at}
 use Rattle.awari_owner.specs.declared.notes.Note.{Note}
 use Rattle.awari_lines.specs.Lines.{owners_of, sent_to, received_from}
 use Rattle.awari_lines.specs.declared.lines.Ends.{Ends}
 use Rattle.awari_core.specs.Sound.{notes_of}
 use Rattle.awari_phase.specs.Sound.{Batches, queue_to, IsInBlockOf, HoldsNotes, OwnerSound}
-use Rattle.awari_phase.specs.Owners.{items_of, taken_from, given_to, AreFinished, all_ends, ends_of, parts_of}
+use Rattle.awari_phase.specs.Owners.{items_of, taken_from, given_to, AreFinished, AreIdle, all_ends, ends_of, parts_of}
 use Rattle.awari_phase.specs.declared.owners.Owner.{Owner}
 
 -- the same parts are sound
@@ -103,9 +103,20 @@ module _ (value : List ℕ → ℤ) (n : ℕ) (os : List Owner) (finished : AreF
   given : (i j : ℕ) → i < length os → j < length os → (i ≡ j → ⊥) → AreSpreadNotes (part i) (part j) (taken i j ++ [])
   given i j low low' apart = subst (AreSpreadNotes (part i) (part j)) (arrived i j low low' apart) (record {
     true_notes = λ m has.
-        let (p, q, x, v, e, is_p, stones, in_q, in_j, spread, note) = holds.true_notes m has in
-        (q, v, e, p, x, spread, in_q, IsBoard-next p x 0 q is_p note.quiet, is_p, stones ∙ finished.level i d low ∙ sym (finished.level j d low'),
-          in_share j (rank_of p) low' (subst (λ l. IsInBlockOf l (length os) j (rank_of p)) (finished.level i d low) in_j), note);
+        let (p, q, x, v, e, is_p, stones, in_q, in_j, spread, note) = holds.true_notes m has in (
+          q,
+          v,
+          e,
+          p,
+          x,
+          spread,
+          in_q,
+          IsBoard-next p x 0 q is_p note.quiet,
+          is_p,
+          stones ∙ finished.level i d low ∙ sym (finished.level j d low'),
+          in_share j (rank_of p) low' (subst (λ l. IsInBlockOf l (length os) j (rank_of p)) (finished.level i d low) in_j),
+          note,
+        );
     all_notes = λ q v e p x spread in_q is_p stones in_p quiet.
         holds.all_notes p q x v e is_p (stones ∙ finished.level j d low' ∙ sym (finished.level i d low)) in_q
         (subst (λ l. IsInBlockOf l (length os) j (rank_of p)) (sym (finished.level i d low)) (of_share j (rank_of p) low' in_p)) quiet spread;
@@ -140,3 +151,11 @@ first_of (o ∷ os) some = o
 
 pub as_many : (os : List Owner) → length (parts_of os) ≡ length os
 as_many os = length-map os (λ (o : Owner). o.part)
+
+-- the parts of owners without a fresh board are closed at gain 1
+pub all_closed : (os : List Owner) → AreIdle os → ((i : ℕ) (d : Owner) → i < length os → (get_or os i d).part.gain ≡ 1) → All IsClosed (parts_of os)
+all_closed os idle gain i p low =
+    let inside : i < length os = subst (λ k. i < k) (as_many os) low in
+    let d = first_of os (omega (arith, inside)) in
+    let there : get_or (parts_of os) i p ≡ (get_or os i d).part = get_or_default (parts_of os) i p no_part low ∙ sym (part_there os i d inside) in
+    subst IsClosed (sym there) (gain i d inside, idle i d inside)

@@ -1,11 +1,14 @@
 -- What a worker keeps of its owner.
-use Rattle.std.specs.Prelude.{◌≡◌, ◌≢◌, ℕ, ◌<◌, ◌≤◌, List, [], ◌++◌, length, map, All, ℤ, slice_index_or}
+use Rattle.std.specs.Prelude.{◌≡◌, ◌≢◌, ℕ, ◌+◌, ◌<◌, ◌≤◌, max, List, [], ◌++◌, length, map, All, ℤ, slice_index_or}
 use mathlib.Core.List.{IsPrefix}
 use Rattle.awari_lines.specs.Lines.{Notes, IsOther, IsGrid, SameLines, owners_of, sent_to, received_from}
 use Rattle.awari_lines.specs.declared.lines.Ends.{Ends}
 use Rattle.awari_owner.specs.declared.notes.Note.{Note}
 use Rattle.awari_owner.specs.Outboxes.{Outboxes}
-use Rattle.awari_owner.specs.Part.{Part}
+use Rattle.awari_owner.specs.Part.{Part, IsTallied}
+use Rattle.awari_owner.specs.Scan.{IsScan}
+use Rattle.awari_owner.specs.Spread.{HearsOwn}
+use Rattle.awari_core.specs.Sound.{IsSeenAs}
 use Rattle.awari_phase.specs.Sound.{Batches, queue_to, OwnerSound, SameBlock, IsOpenBatch}
 use Rattle.awari_phase.specs.declared.owners.Owner.{Owner}
 
@@ -59,11 +62,36 @@ pub record Grown (a b : Owner) : Type 0 where
   pub sent : (j : ℕ) → IsOther a.ends j → IsPrefix (sent_to a.ends j) (sent_to b.ends j)
   pub sound : (value : List ℕ → ℤ) → IsSound value a.ends a.part a.outboxes → IsSound value b.ends b.part b.outboxes
 
--- so it is of each owner, and they still stand on a grid
+-- one distance is open in all parts
+abbrev pub AreInStep : List Owner → Type 0
+AreInStep os = (i : ℕ) (d : Owner) → i < length os → (slice_index_or os i d).part.wave ≡ (slice_index_or os 0 d).part.wave
+
+-- So it is of each owner; they still stand on a grid, and one distance is open in all parts where one was.
 pub record AllGrown (os ps : List Owner) : Type 0 where
   pub many : length ps ≡ length os
   pub each : (i : ℕ) (d : Owner) → i < length os → Grown (slice_index_or os i d) (slice_index_or ps i d)
   pub grid : IsGrid (all_ends ps)
+  pub wave : AreInStep os → AreInStep ps
+
+-- this distance is open in the part, where it was less; all else of the owner is as it was
+pub record OpensWave (dist : ℕ) (a b : Owner) : Type 0 where
+  pub grown : Grown a b
+  pub ends : b.ends ≡ a.ends
+  pub wave : b.part.wave ≡ max a.part.wave dist
+
+-- the next smaller gain is open in the part; all else of the owner is as it was
+pub record OpensNext (a b : Owner) : Type 0 where
+  pub ends : b.ends ≡ a.ends
+  pub outboxes : b.outboxes ≡ a.outboxes
+  pub gain : b.part.gain + 1 ≡ a.part.gain
+  pub wave : b.part.wave ≡ 0
+  pub seen : IsSeenAs a.part b.part
+  pub tallied : (value : List ℕ → ℤ) (notes : List Note) → IsTallied value a.part notes → IsTallied value b.part notes
+  pub hears : (notes : List Note) → HearsOwn a.part notes → HearsOwn b.part notes
+
+-- no board is fresh
+abbrev pub AreIdle : List Owner → Type 0
+AreIdle os = (i : ℕ) (d : Owner) → i < length os → (slice_index_or os i d).part.fresh ≡ []
 
 -- nothing is to be sent
 abbrev pub AreSent : List Owner → Type 0
@@ -77,6 +105,15 @@ AreReceived os = (i j : ℕ) (d : Ends) → i < length (all_ends os) → j < len
 abbrev pub parts_of : List Owner → List Part
 parts_of os = map (λ (o : Owner). o.part) os
 
+-- The owner of these ends, with its share of the level of n stones, of which nothing is known but the captures, and with
+-- nothing to send.
+pub record IsScanned (value : List ℕ → ℤ) (n owners : ℕ) (e : Ends) (o : Owner) : Type 0 where
+  pub ends : o.ends ≡ e
+  pub scan : IsScan n owners e.owner o.part
+  pub tallied : IsTallied value o.part []
+  pub hears : HearsOwn o.part []
+  pub sent : All (λ q. q ≡ []) o.outboxes.queues
+
 -- Each owner is sound, they stand on a grid, nothing is to be sent or waits on a line, and all parts are of one level with the
 -- same gain and distance open.
 pub record AreFinished (value : List ℕ → ℤ) (n : ℕ) (os : List Owner) : Type 0 where
@@ -87,4 +124,4 @@ pub record AreFinished (value : List ℕ → ℤ) (n : ℕ) (os : List Owner) : 
   pub sound : (i : ℕ) (d : Owner) → i < length os → IsSound value (slice_index_or os i d).ends (slice_index_or os i d).part (slice_index_or os i d).outboxes
   pub level : (i : ℕ) (d : Owner) → i < length os → (slice_index_or os i d).part.level ≡ n
   pub gain : (i : ℕ) (d : Owner) → i < length os → (slice_index_or os i d).part.gain ≡ (slice_index_or os 0 d).part.gain
-  pub wave : (i : ℕ) (d : Owner) → i < length os → (slice_index_or os i d).part.wave ≡ (slice_index_or os 0 d).part.wave
+  pub wave : AreInStep os

@@ -1,5 +1,7 @@
--- Why a round is refused.
-use Rattle.std.specs.Prelude.{◌≡◌, ℕ, ◌<◌, List, Some, None, slice_index_or}
+-- Why a round is refused: the faults' numbers, what is printed of them, and which is told.
+use Rattle.std.specs.Prelude.{◌≡◌, ℕ, ◌<◌, List, ◌++◌, Some, None, codes, length, slice_index_or}
+use Rattle.std.specs.Fmt.{decimal}
+use Rattle.awari_owner.specs.OwnerFault.{fault_text as owner_fault_text}
 use Rattle.awari_owner.specs.declared.faults.OwnerFault.{OwnerFault}
 use Rattle.awari_owner.specs.declared.faults.OwnerFault.TheVariants as owner_fault
 use Rattle.awari_phase.specs.declared.owners.Owner.{Owner}
@@ -12,12 +14,22 @@ number_of NotStarted = 40
 number_of Memory = 41
 number_of (BadNote owner fault) = 42
 
+-- what is printed of each: its number, its name, its owner, and the fault inside it
+abbrev pub fault_text : PhaseFault → List ℕ
+fault_text NotStarted = codes "40 NotStarted"
+fault_text Memory = codes "41 Memory"
+fault_text (BadNote owner fault) = codes "42 BadNote owner " ++ decimal owner ++ codes ": " ++ owner_fault_text fault
+
 -- how a round tells the fault of an owner
 abbrev pub fault_of : ℕ → OwnerFault → PhaseFault
 fault_of owner owner_fault.Memory = Memory
 fault_of owner owner_fault.Stranger = BadNote owner owner_fault.Stranger
 fault_of owner owner_fault.Doubled = BadNote owner owner_fault.Doubled
 fault_of owner owner_fault.Far = BadNote owner owner_fault.Far
+
+-- no owner had a fault
+abbrev pub AreWell : List Owner → Type 0
+AreWell owners = (i : ℕ) (d : Owner) → i < length owners → (slice_index_or owners i d).fault ≡ None
 
 -- the fault of the first owner that had one
 pub record IsFirstFault (owners : List Owner) (fault : PhaseFault) : Type 0 where
@@ -28,3 +40,15 @@ pub record IsFirstFault (owners : List Owner) (fault : PhaseFault) : Type 0 wher
   pub came : owner.fault ≡ Some had
   pub told : fault ≡ fault_of owner.ends.owner had
   pub before : (i : ℕ) (d : Owner) → i < place → (slice_index_or owners i d).fault ≡ None
+
+-- a thread was wanting, or memory
+abbrev pub IsWant : PhaseFault → Type 0
+IsWant NotStarted = Unit {0}
+IsWant Memory = Unit {0}
+IsWant (BadNote owner fault) = ⊥
+
+-- A thread was wanting, or memory, or as many owners came back, and this is the fault of the first that had one.
+abbrev pub IsRefusal : List Owner → PhaseFault → Type 0
+IsRefusal owners NotStarted = Unit {0}
+IsRefusal owners Memory = Unit {0}
+IsRefusal owners (BadNote owner fault) = (back : List Owner) × (length back ≡ length owners) × IsFirstFault back (BadNote owner fault)

@@ -4,19 +4,18 @@ ghost use Rattle.std.specs.Prelude.{◌≡◌};
 ghost use Rattle.awari_phase.specs.PhaseFault.{number_of};
 
 use awari_owner::OwnerFault;
+use std::fmt;
 use thiserror::Error;
 
-/// Why a round, or the rounds of a gain, came to nothing.
+/// Why a round, or the rounds of a gain, came to nothing. Printed, a fault is its number and its
+/// name, and of a bad note the owner and the owner's fault.
 #[derive(Clone, Copy, Debug, PartialEq, Eq, Error)]
 pub enum PhaseFault {
     /// 40: a thread could not be started.
-    #[error("a thread could not be started")]
     NotStarted,
     /// 41: a growth was refused.
-    #[error("out of memory")]
     Memory,
     /// 42: an owner was sent a note that it refuses, or could not spread a board.
-    #[error("owner {owner} refused a note: {fault}")]
     BadNote { owner: u8, fault: OwnerFault },
 }
 
@@ -29,6 +28,21 @@ impl PhaseFault {
             PhaseFault::NotStarted => 40,
             PhaseFault::Memory => 41,
             PhaseFault::BadNote { .. } => 42,
+        }
+    }
+}
+
+impl fmt::Display for PhaseFault {
+    ghost use Rattle.std.specs.Prelude.{Some};
+    ghost use Rattle.awari_phase.specs.PhaseFault.{fault_text};
+
+    ghost output = { λ fault. Some (fault_text fault) };
+
+    fn fmt<W: fmt::Write>(&self, f: &mut fmt::Formatter<W>) -> fmt::Result {
+        match *self {
+            PhaseFault::NotStarted => write!(f, "40 NotStarted"),
+            PhaseFault::Memory => write!(f, "41 Memory"),
+            PhaseFault::BadNote { owner, fault } => write!(f, "42 BadNote owner {owner}: {fault}"),
         }
     }
 }

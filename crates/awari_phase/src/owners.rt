@@ -26,9 +26,28 @@ pub struct Owner {
 }
 
 impl Owner {
-    ghost use Rattle.std.specs.Prelude.{◌≡◌, ◌<◌, IsNone, OnOk};
+    ghost use Rattle.std.specs.Prelude.{◌≡◌, ◌<◌, IsNone, None, OnOk};
     ghost use Rattle.awari_lines.specs.Lines.{IsOther, owners_of};
     ghost use Rattle.awari_phase.specs.Owners.{Kept};
+
+    /// The owner of this part of a level, with these ends of its lines to the others, and with this to
+    /// send. All three are one owner's, of as many owners.
+    pub fn new(part: Part, ends: Ends, outboxes: Outboxes) -> Owner
+        requires queues { length outboxes.queues ≡ owners_of ends }
+        requires numbered { outboxes.owner ≡ ends.owner }
+        requires part_of { IsPartOf part outboxes }
+        ensures part { result.part ≡ part }
+        ensures ends { result.ends ≡ ends }
+        ensures outboxes { result.outboxes ≡ outboxes }
+        ensures fault { result.fault ≡ None }
+    {
+        Owner {
+            part,
+            ends,
+            outboxes,
+            fault: None,
+        }
+    }
 
     /// Takes at most one batch from another owner. True where there was one.
     fn take_from(&mut self, from: u8) -> Result<bool, OwnerFault>

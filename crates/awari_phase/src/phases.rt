@@ -1,79 +1,104 @@
 //! Rounds, until a gain is closed.
 
-ghost use Rattle.std.specs.Prelude.{◌≡◌, ◌<◌, ◌≤◌, ℕ, All, IsTrue, IsNone, IfSome, IfOk, OnOk, length, slice_index_or, vec_len, []};
+ghost use Rattle.std.specs.Prelude.{◌≡◌, ◌<◌, ◌≤◌, ℕ, ℤ, All, List, IsTrue, IsNone, IfSome, IfOk, IfErr, length, slice_index_or, []};
 ghost use Rattle.awari_lines.specs.Lines.{IsGrid};
 ghost use Rattle.awari_owner.specs.Blocks.{due_dist};
-ghost use Rattle.awari_phase.specs.Owners.{AllGrown, AreReceived, AreSent, Grown, all_ends};
+ghost use Rattle.awari_phase.specs.Owners.{AllGrown, AreFinished, AreIdle, AreReceived, AreSent, all_ends};
+ghost use Rattle.awari_phase.specs.PhaseFault.{IsRefusal};
 ghost use Rattle.awari_phase.specs.declared.owners.Owner.{Owner as AnOwner};
+ghost use Rattle.awari_phase.specs.declared.phases.Standing.{Standing};
 
 use crate::faults::PhaseFault;
 use crate::gates::Gate;
+use crate::openings::open_waves;
 use crate::owners::Owner;
-use crate::rounding::round_on;
+use crate::rounding::{round, round_in_turn};
 use crate::settling::settle_owners;
 use std::sync::Wait;
 use std::thread::Threads;
 
-/// Rounds, one open distance after another, until no board is fresh and nothing is to be sent or
-/// waits on a line. Refused as a round is; then the owners are gone.
+/// How many sweeps show whether a distance that was just opened has many boards.
+const FIRST_SWEEPS: u32 = 2;
+
+/// Where owners stand after a round.
+enum Standing {
+    /// No board of the open distance is fresh, and nothing is to be sent or waits on a line.
+    Done,
+    /// Batches wait on lines, and nothing else is to be done.
+    Waiting,
+    /// A board of the open distance is fresh, or something is to be sent.
+    Busy,
+}
+
+/// Rounds, one open distance after another, the least that is due first, until no board is fresh and
+/// nothing is to be sent or waits on a line. There are 1 to 1000 sweeps a round, and the owners stand
+/// on one grid. Refused as a round is; then the owners are gone.
+///
+/// The first round is made in threads, and later ones where boards of the open distance are left, or
+/// batches that are to be sent. To start four threads takes 0.1 to 0.2 ms, in which one thread
+/// spreads some hundred boards, and most distances have fewer. So a distance is begun in turn, with
+/// two sweeps of each owner, and threads are started for the rest of it, if there is one.
 pub fn gain_phase<R: Threads + Wait + Sync, G: Gate + Sync>(
     rt: &R,
-    mut owners: Vec<Owner>,
+    owners: Vec<Owner>,
     gate: &G,
     sweeps: u32,
 ) -> Result<Vec<Owner>, PhaseFault>
     requires sweeps { (1 ≤ sweeps) × (sweeps ≤ 1000) }
     requires grid { IsGrid (all_ends owners.items) }
     ensures grown { IfOk result (λ all. AllGrown owners.items all.items) }
-    ensures idle { IfOk result (λ all. (i : ℕ) (d : AnOwner) → i < vec_len all → (slice_index_or all.items i d).part.fresh ≡ []) }
+    ensures idle { IfOk result (λ all. AreIdle all.items) }
     ensures sent { IfOk result (λ all. AreSent all.items) }
     ensures received { IfOk result (λ all. AreReceived all.items) }
+    ensures finished { IfOk result (λ all. (value : List ℕ → ℤ) (n : ℕ) → AreFinished value n owners.items → AreFinished value n all.items) }
+    ensures refused { IfErr result (IsRefusal owners.items) }
 {
-    phase_on(rt, owners.as_mut_slice(), gate, sweeps)?;
-    Ok(owners)
-}
-
-#[tactic(auto, using(crate::proofs::Gaining::growing))]
-fn phase_on<R: Threads + Wait + Sync, G: Gate + Sync>(
-    rt: &R,
-    owners: &mut [Owner],
-    gate: &G,
-    sweeps: u32,
-) -> Result<(), PhaseFault>
-    requires sweeps { (1 ≤ sweeps) × (sweeps ≤ 1000) }
-    requires grid { IsGrid (all_ends owners.old) }
-    ensures grown { OnOk result (AllGrown owners.old owners.new) }
-    ensures idle { OnOk result ((i : ℕ) (d : AnOwner) → i < length owners.new → (slice_index_or owners.new i d).part.fresh ≡ []) }
-    ensures sent { OnOk result (AreSent owners.new) }
-    ensures received { OnOk result (AreReceived owners.new) }
-{
+    let mut all = round(rt, owners, gate, sweeps)?;
     for _ in rt.forever() {
-        round_on(rt, owners, gate, sweeps)?;
-        if is_spread(owners) {
-            match least_due(owners) {
-                None => return Ok(()),
-                Some(dist) => open_waves(owners, dist),
+        match look(&mut all) {
+            Standing::Busy => all = round(rt, all, gate, sweeps)?,
+            Standing::Waiting => all = round_in_turn(all, gate, sweeps)?,
+            Standing::Done => {
+                let Some(dist) = least_due(all.as_slice()) else {
+                    return Ok(all);
+                };
+                begin(&mut all, dist);
+                all = round_in_turn(all, gate, sweeps.min(FIRST_SWEEPS))?;
             }
         }
     }
     unreachable!()
 }
 
-/// Whether nothing is to be sent, waits on a line, or is fresh at the open distance.
-fn is_spread(owners: &mut [Owner]) -> bool
-    requires { IsGrid (all_ends owners.old) }
-    ensures grown { AllGrown owners.old owners.new }
-    ensures sent { IsTrue result → AreSent owners.new }
-    ensures received { IsTrue result → AreReceived owners.new }
+/// Looks at all owners and at every line.
+fn look(owners: &mut Vec<Owner>) -> Standing
+    requires { IsGrid (all_ends owners.old.items) }
+    ensures grown { AllGrown owners.old.items owners.new.items }
+    ensures sent { result ≡ Standing.Done → AreSent owners.new.items }
+    ensures received { result ≡ Standing.Done → AreReceived owners.new.items }
 {
-    if !settle_owners(owners) {
-        return false;
-    }
-    are_sent(owners)
+    look_at(owners.as_mut_slice())
 }
 
-/// Whether nothing is to be sent, or is fresh at the open distance.
-fn are_sent(owners: &[Owner]) -> bool
+/// Looks at all owners and at every line.
+fn look_at(owners: &mut [Owner]) -> Standing
+    requires { IsGrid (all_ends owners.old) }
+    ensures grown { AllGrown owners.old owners.new }
+    ensures sent { result ≡ Standing.Done → AreSent owners.new }
+    ensures received { result ≡ Standing.Done → AreReceived owners.new }
+{
+    let quiet = settle_owners(owners);
+    if !are_spread(owners) {
+        return Standing::Busy;
+    }
+    if !quiet {
+        return Standing::Waiting;
+    }
+    Standing::Done
+}
+
+/// Whether nothing is to be sent, and no board of the open distance is fresh.
+fn are_spread(owners: &[Owner]) -> bool
     ensures { IsTrue result → AreSent owners.now }
 {
     for owner in owners {
@@ -89,7 +114,7 @@ fn are_sent(owners: &[Owner]) -> bool
 
 /// The least distance of a fresh board of any owner.
 fn least_due(owners: &[Owner]) -> Option<u32>
-    ensures none { IsNone result → (i : ℕ) (d : AnOwner) → i < length owners.now → (slice_index_or owners.now i d).part.fresh ≡ [] }
+    ensures none { IsNone result → AreIdle owners.now }
     ensures some { IfSome result (λ dist. (i : ℕ) (d : AnOwner) → i < length owners.now → All (λ f. dist ≤ due_dist f) (slice_index_or owners.now i d).part.fresh) }
 {
     let mut least = None;
@@ -112,26 +137,12 @@ fn nearer(least: Option<u32>, owner: &Owner) -> Option<u32>
     }
 }
 
-/// Opens this distance in each part where it is not open.
-fn open_waves(owners: &mut [Owner], dist: u32)
-    requires grid { IsGrid (all_ends owners.old) }
-    requires sent { AreSent owners.old }
-    requires nearest { (i : ℕ) (d : AnOwner) → i < length owners.old → All (λ f. dist ≤ due_dist f) (slice_index_or owners.old i d).part.fresh }
-    ensures { AllGrown owners.old owners.new }
+/// Opens this distance in all parts.
+fn begin(owners: &mut Vec<Owner>, dist: u32)
+    requires grid { IsGrid (all_ends owners.old.items) }
+    requires sent { AreSent owners.old.items }
+    requires nearest { (i : ℕ) (d : AnOwner) → i < length owners.old.items → All (λ f. dist ≤ due_dist f) (slice_index_or owners.old.items i d).part.fresh }
+    ensures { AllGrown owners.old.items owners.new.items }
 {
-    for i in 0..owners.len() {
-        open_wave(&mut owners[i], dist);
-    }
-}
-
-/// Opens this distance in the part, where it is not open.
-fn open_wave(owner: &mut Owner, dist: u32)
-    requires sent { All (λ q. q ≡ []) owner.old.outboxes.queues }
-    requires nearest { All (λ f. dist ≤ due_dist f) owner.old.part.fresh }
-    ensures grown { Grown owner.old owner.new }
-    ensures ends { owner.new.ends ≡ owner.old.ends }
-{
-    if owner.part.wave() < dist {
-        owner.part.open_wave(dist);
-    }
+    open_waves(owners.as_mut_slice(), dist);
 }

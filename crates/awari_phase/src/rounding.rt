@@ -1,25 +1,47 @@
-//! Rounds: each owner works in a thread of its own.
+//! Rounds: all owners work, each in a thread of its own, or one after the other.
 
-ghost use Rattle.std.specs.Prelude.{◌≡◌, ◌≢◌, ◌⊎◌, ◌<◌, ◌≤◌, ℕ, Option, None, IsNone, IfOk, IfErr, IfSome, OnOk, length, slice_index_or, vec_len};
+ghost use Rattle.std.specs.Prelude.{◌≡◌, ◌<◌, ◌≤◌, ℕ, IsNone, IfOk, IfErr, IfSome, None, length, slice_index_or, vec_len};
 ghost use Rattle.awari_lines.specs.Lines.{IsGrid};
-ghost use Rattle.awari_owner.specs.declared.faults.OwnerFault.{OwnerFault as AnOwnerFault};
-ghost use Rattle.awari_phase.specs.Owners.{AllGrown, Kept, all_ends};
-ghost use Rattle.awari_phase.specs.PhaseFault.{IsFirstFault, fault_of};
+ghost use Rattle.awari_phase.specs.Owners.{Kept, all_ends};
+ghost use Rattle.awari_phase.specs.PhaseFault.{AreWell, IsFirstFault, IsRefusal, fault_of};
 ghost use Rattle.awari_phase.specs.declared.owners.Owner.{Owner as AnOwner};
-ghost use Rattle.awari_phase.specs.declared.faults.PhaseFault.{PhaseFault};
 
 use crate::faults::PhaseFault;
 use crate::gates::Gate;
 use crate::owners::Owner;
+use crate::starting::start_each;
 use awari_owner::OwnerFault;
-use std::thread;
+use std::sync::Wait;
 use std::thread::Threads;
 
-/// Each owner works in a thread of its own, where one can be made, until it has nothing to do or
-/// for so many sweeps. It takes no memory of its own. Refused as 41 `Memory` or 42 `BadNote`, by
-/// the fault of the least owner that had one; then the owners are gone.
-pub fn round<R: Threads + Sync, G: Gate + Sync>(
+/// Each owner works in a thread of its own until it has nothing to do, or for so many sweeps, and
+/// comes back to its place. There are 1 to 1000 sweeps, and the owners stand on one grid.
+///
+/// All threads that were started are joined before anything is answered. Refused as 40 `NotStarted`
+/// where one could not be started, as 41 `Memory` where a growth was refused, else as 41 or 42
+/// `BadNote` by the fault of the least owner that had one. Then the owners are gone.
+pub fn round<R: Threads + Wait + Sync, G: Gate + Sync>(
     rt: &R,
+    owners: Vec<Owner>,
+    gate: &G,
+    sweeps: u32,
+) -> Result<Vec<Owner>, PhaseFault>
+    requires sweeps { (1 ≤ sweeps) × (sweeps ≤ 1000) }
+    requires grid { IsGrid (all_ends owners.items) }
+    ensures len { IfOk result (λ all. vec_len all ≡ vec_len owners) }
+    ensures kept { IfOk result (λ all. (i : ℕ) (d : AnOwner) → i < vec_len owners → Kept (slice_index_or owners.items i d) (slice_index_or all.items i d)) }
+    ensures grid { IfOk result (λ all. IsGrid (all_ends all.items)) }
+    ensures refused { IfErr result (IsRefusal owners.items) }
+{
+    let all = start_each(rt, owners, gate, sweeps)?;
+    match first_fault(all.as_slice()) {
+        None => Ok(all),
+        Some(fault) => Err(fault),
+    }
+}
+
+/// The same round on this thread, one owner after the other. No thread is wanting.
+pub(crate) fn round_in_turn<G: Gate>(
     mut owners: Vec<Owner>,
     gate: &G,
     sweeps: u32,
@@ -29,48 +51,27 @@ pub fn round<R: Threads + Sync, G: Gate + Sync>(
     ensures len { IfOk result (λ all. vec_len all ≡ vec_len owners) }
     ensures kept { IfOk result (λ all. (i : ℕ) (d : AnOwner) → i < vec_len owners → Kept (slice_index_or owners.items i d) (slice_index_or all.items i d)) }
     ensures grid { IfOk result (λ all. IsGrid (all_ends all.items)) }
-    ensures started { IfErr result (λ fault. fault ≢ PhaseFault.NotStarted) }
+    ensures refused { IfErr result (IsRefusal owners.items) }
 {
-    work_each(rt, owners.as_mut_slice(), gate, sweeps);
+    work_in_turn(owners.as_mut_slice(), gate, sweeps);
     match first_fault(owners.as_slice()) {
         None => Ok(owners),
         Some(fault) => Err(fault),
     }
 }
 
-/// A round of owners that stay where they are.
-pub(crate) fn round_on<R: Threads + Sync, G: Gate + Sync>(
-    rt: &R,
-    owners: &mut [Owner],
-    gate: &G,
-    sweeps: u32,
-) -> Result<(), PhaseFault>
-    requires grid { IsGrid (all_ends owners.old) }
-    ensures grown { OnOk result (AllGrown owners.old owners.new) }
-{
-    work_each(rt, owners, gate, sweeps);
-    match first_fault(owners) {
-        None => Ok(()),
-        Some(fault) => Err(fault),
-    }
-}
-
-/// Each owner works in a thread of its own, where one can be made.
-fn work_each<R: Threads + Sync, G: Gate + Sync>(
-    rt: &R,
-    owners: &mut [Owner],
-    gate: &G,
-    sweeps: u32,
-)
+/// Each owner works where it stands.
+fn work_in_turn<G: Gate>(owners: &mut [Owner], gate: &G, sweeps: u32)
     ensures { (i : ℕ) (d : AnOwner) → i < length owners.old → (slice_index_or owners.new i d).fault ≡ None → Kept (slice_index_or owners.old i d) (slice_index_or owners.new i d) }
 {
-    let count = owners.len().max(1);
-    thread::for_each_mut(rt, owners, count, &|_, owner| owner.work(gate, sweeps));
+    for i in 0..owners.len() {
+        owners[i].work(gate, sweeps);
+    }
 }
 
 /// The fault of the least owner that had one.
 fn first_fault(owners: &[Owner]) -> Option<PhaseFault>
-    ensures none { IsNone result → (i : ℕ) (d : AnOwner) → i < length owners.now → (slice_index_or owners.now i d).fault ≡ None }
+    ensures none { IsNone result → AreWell owners.now }
     ensures some { IfSome result (IsFirstFault owners.now) }
 {
     for owner in owners {

@@ -1,10 +1,11 @@
-//! The same round with a thread for each owner that is started by name, so that a start that fails is told.
+//! Owners that are started, each in a thread of its own, so that a start that fails is told.
 
-ghost use Rattle.std.specs.Prelude.{◌≡◌, ◌<◌, ◌≤◌, ℕ, None, IsNone, IfOk, length, slice_index_or, vec_len, ◌+◌, ◌++◌, ◌∷◌, [], Ok};
+ghost use Rattle.std.specs.Prelude.{◌≡◌, ◌<◌, ◌≤◌, ℕ, None, IfOk, IfErr, length, slice_index_or, vec_len, ◌+◌, ◌++◌, ◌∷◌, [], Ok};
 ghost use Rattle.std.specs.declared.vec.Vec.{Vec as AVec};
 ghost use Rattle.std.specs.declared.alloc.Global.{Global};
 ghost use denote.Param.Send.{IsSync};
 ghost use Rattle.awari_phase.specs.Owners.{Kept};
+ghost use Rattle.awari_phase.specs.PhaseFault.{IsWant};
 ghost use Rattle.awari_phase.specs.declared.owners.Owner.{Owner as AnOwner};
 
 use crate::faults::PhaseFault;
@@ -31,9 +32,11 @@ fn worked<G: Gate>(mut owner: Owner, gate: &G, sweeps: u32) -> Owner
     owner
 }
 
-/// Starts the last owner, then the others before it, and joins it whatever became of those.
+/// Starts the last owner, then the others before it, and joins it whatever became of those. So all
+/// that were started are joined before a refusal is answered: 40 `NotStarted` where one could not be
+/// started, 41 `Memory` where a growth was refused.
 #[cycle(starts)]
-pub fn start_each<R: Threads + Wait + Sync, G: Gate + Sync>(
+pub(crate) fn start_each<R: Threads + Wait + Sync, G: Gate + Sync>(
     rt: &R,
     mut owners: Vec<Owner>,
     gate: &G,
@@ -41,6 +44,7 @@ pub fn start_each<R: Threads + Wait + Sync, G: Gate + Sync>(
 ) -> Result<Vec<Owner>, PhaseFault>
     ensures len { IfOk result (λ all. vec_len all ≡ vec_len owners) }
     ensures kept { IfOk result (λ all. (i : ℕ) (d : AnOwner) → i < vec_len owners → (slice_index_or all.items i d).fault ≡ None → Kept (slice_index_or owners.items i d) (slice_index_or all.items i d)) }
+    ensures wanting { IfErr result IsWant }
 {
     let Some(owner) = owners.pop() else {
         return Ok(owners);
@@ -51,7 +55,7 @@ pub fn start_each<R: Threads + Wait + Sync, G: Gate + Sync>(
         |scope| -> Result<Vec<Owner>, PhaseFault>
             requires { IsSync R.row × IsSync G.row }
             ensures { IfOk result (λ all. (vec_len all ≡ vec_len owners + 1) × ((i : ℕ) (d : AnOwner) → i < vec_len owners + 1 → (slice_index_or all.items i d).fault ≡ None
-                → Kept (slice_index_or (owners.items ++ owner ∷ []) i d) (slice_index_or all.items i d))) }
+                → Kept (slice_index_or (owners.items ++ owner ∷ []) i d) (slice_index_or all.items i d))) × IfErr result IsWant }
         {
             let promise = KeptFrom(Snapshot::of(&owner));
             match scope.spawn_with(promise, move || worked(owner, gate, sweeps)) {
@@ -66,11 +70,9 @@ pub fn start_each<R: Threads + Wait + Sync, G: Gate + Sync>(
 }
 
 /// The owners with one more at the end.
-fn with_last(
-    others: Result<Vec<Owner>, PhaseFault>,
-    last: Owner,
-) -> Result<Vec<Owner>, PhaseFault>
-    ensures { IfOk result (λ all. (before : AVec AnOwner Global) × (others ≡ Ok before) × (all.items ≡ before.items ++ last ∷ [])) }
+fn with_last(others: Result<Vec<Owner>, PhaseFault>, last: Owner) -> Result<Vec<Owner>, PhaseFault>
+    ensures ok { IfOk result (λ all. (before : AVec AnOwner Global) × (others ≡ Ok before) × (all.items ≡ before.items ++ last ∷ [])) }
+    ensures wanting { IfErr others IsWant → IfErr result IsWant }
 {
     let mut all = others?;
     match all.push(last) {

@@ -1,7 +1,7 @@
 use Rattle.std.proofs.Common.{◌≤◌, [], refl, subst, sym}
 use Rattle.awari_owner.specs.Level.{AreSound, part_at}
 use Rattle.awari_phase.specs.Owners.{parts_of}
-use Rattle.awari_phase.proofs.Together.{as_many, first_of, sound_together, taken}
+use Rattle.awari_phase.proofs.Together.{all_closed, as_many, first_of, sound_together, taken}
 use Rattle.awari_phase.proofs.laws.finished_owners_are_right.Goals as goal
 
 pub returns-clause-heard : goal.returns-clause-heard
@@ -12,6 +12,9 @@ returns-clause-heard c value n os finished =
       c.sound_parts_are_told.ensures.whole value n (parts_of os) (λ _ _. []) (taken value n os finished d) some sound,
       c.sound_parts_are_told.ensures.heard value n (parts_of os) (λ _ _. []) (taken value n os finished d) some sound (λ i j in_i in_j apart. refl),
     )
+
+pub returns-clause-closed : goal.returns-clause-closed
+returns-clause-closed c = all_closed
 
 pub returns-clause-right : goal.returns-clause-right
 returns-clause-right c value n os finished closed p is stones =

@@ -1,9 +1,8 @@
-use Rattle.std.proofs.Common.{length, refl, ap, ◌∙◌}
-use Rattle.awari_phase.proofs.Grown.{round_grid}
+use Rattle.std.proofs.Common.{refl}
+use Rattle.awari_phase.proofs.Grown.{well_grid}
 use Rattle.awari_phase.proofs.rounding.round.Goals as goal
 
 pub returns-in-None-clause-grid : goal.returns-in-None-clause-grid
 returns-in-None-clause-grid g c =
-    round_grid c.args.owners.items c.work_each.new.owners c.as_slice.result.now c.args.owners.len c.args.owners.ok.0
-    (c.work_each.auto.owners ∙ ap length c.as_mut_slice.ensures.value) c.as_slice.ensures.value
-    (rw c.as_mut_slice.ensures.value at c.work_each.ensures) (c.in-None.ensures.none refl) c.requires.grid
+    well_grid c.args.owners.items c.in_ok-all.all.items c.as_slice.result.now c.args.owners.len c.in_ok-all.all.len c.args.owners.ok.0 c.in_ok-all.all.ok.0 c.in_ok-all.ensures.len c.as_slice.ensures.value
+    c.in_ok-all.ensures.kept (c.in-None.ensures.none refl) c.requires.grid

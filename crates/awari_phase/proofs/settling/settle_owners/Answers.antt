@@ -11,7 +11,7 @@ loop-i-preserved c =
     let within : c.loop-j.j < length (all_ends c.args.all.now) = omega (arith, low, long) in
     let kept = length-map c.settle_pair-quiet.new.all ends_of ∙ c.settle_pair-quiet.auto.all ∙ sym (length-map c.loop-i.all ends_of) in (
       settled_more (all_ends c.args.all.now) (all_ends c.loop-i.all) (all_ends c.settle_pair-quiet.new.all) c.loop-i.empty c.settle_pair-quiet.result c.both-empty.result c.loop-j.j c.loop-i.i c.loop-i-test.true within
-      c.loop-i.invariant.0 kept c.settle_pair-quiet.ensures.looked c.settle_pair-quiet.ensures.flag c.both-empty.ensures,
+          c.loop-i.invariant.0 kept c.settle_pair-quiet.ensures.looked c.settle_pair-quiet.ensures.flag c.both-empty.ensures,
       c.settle_pair-quiet.ensures.rest ∙ c.loop-i.invariant.1,
     )
 

@@ -1,0 +1,9 @@
+use Rattle.std.proofs.Common.{◌≡◌, ◌++◌}
+use Rattle.awari_phase.specs.Owners.{parts_of}
+use Rattle.awari_phase.proofs.making.into_parts.Given as goal
+
+abbrev pub invariant-loop-owner : goal.invariant-loop-owner
+invariant-loop-owner l = record {
+  whole : l.yielded ++ l.owner-iterator.rest.items ≡ l.fn.owners.items;
+  parts : l.parts.items ≡ parts_of l.yielded;
+}

@@ -1,0 +1,14 @@
+use Rattle.awari_phase.proofs.Gaining.{all_grown_looked}
+use Rattle.awari_phase.proofs.phases.look_at.Goals as goal
+
+pub returns-then-not-are_spread-clause-grown : goal.returns-then-not-are_spread-clause-grown
+returns-then-not-are_spread-clause-grown c =
+    all_grown_looked c.args.owners.now c.settle_owners-quiet.new.all c.settle_owners-quiet.auto.all c.settle_owners-quiet.ensures.grid c.settle_owners-quiet.ensures.rest c.settle_owners-quiet.ensures.same
+
+pub returns-then-not-quiet-clause-grown : goal.returns-then-not-quiet-clause-grown
+returns-then-not-quiet-clause-grown c =
+    all_grown_looked c.args.owners.now c.settle_owners-quiet.new.all c.settle_owners-quiet.auto.all c.settle_owners-quiet.ensures.grid c.settle_owners-quiet.ensures.rest c.settle_owners-quiet.ensures.same
+
+pub returns-clause-grown : goal.returns-clause-grown
+returns-clause-grown c =
+    all_grown_looked c.args.owners.now c.settle_owners-quiet.new.all c.settle_owners-quiet.auto.all c.settle_owners-quiet.ensures.grid c.settle_owners-quiet.ensures.rest c.settle_owners-quiet.ensures.same

@@ -1,0 +1,75 @@
+//! The owners of a level, before any gain is open, and their parts at the end.
+
+ghost use Rattle.std.specs.Prelude.{◌≡◌, ◌+◌, ◌<◌, ◌≤◌, ℕ, IfOk, length, slice_index_or, vec_len};
+ghost use Rattle.awari_lines.specs.Lines.{owners_of};
+ghost use Rattle.awari_table.specs.Images.{table_of};
+ghost use Rattle.awari_table.specs.declared.TheConstants.{HIGHEST_LEVEL};
+ghost use Rattle.awari_phase.specs.Owners.{AreFinished, AreIdle, IsScanned, parts_of};
+ghost use Rattle.awari_phase.specs.declared.owners.Owner.{Owner as AnOwner};
+
+use crate::owners::Owner;
+use awari_lines::{Ends, grid};
+use awari_owner::{Outboxes, Part};
+use awari_table::Shelf;
+use std::alloc::{AllocError, Global};
+use std::thread::Threads;
+
+/// The owners of the shelf's next level, 1 to 16 of them, on one grid with room for 1 to 256 batches
+/// on each line. No gain is open, no board is fresh, and nothing is on its way. The shelf has at most
+/// `HIGHEST_LEVEL` levels. The parts are scanned one after the other, each by as many threads as
+/// there are processors. Refused where a growth was: it takes the memory for the parts and the lines.
+pub fn scanned_owners<R: Threads + Sync>(
+    rt: &R,
+    alloc: Global,
+    shelf: &Shelf,
+    owners: u8,
+    room: u16,
+) -> Result<Vec<Owner>, AllocError>
+    requires owners { (1 ≤ owners) × (owners ≤ 16) }
+    requires room { (1 ≤ room) × (room ≤ 256) }
+    requires low { length shelf.now ≤ HIGHEST_LEVEL }
+    ensures count { IfOk result (λ all. vec_len all ≡ owners) }
+    ensures finished { IfOk result (λ all. AreFinished (table_of shelf.now).value (length shelf.now) all.items) }
+    ensures idle { IfOk result (λ all. AreIdle all.items) }
+    ensures gain { IfOk result (λ all. (i : ℕ) (d : AnOwner) → i < owners → (slice_index_or all.items i d).part.gain ≡ length shelf.now + 1) }
+{
+    let lines = grid(alloc, owners, room)?;
+    let mut all = Vec::with_capacity(alloc, lines.len())?;
+    for ends in lines {
+        let owner = scanned_owner(rt, alloc, shelf, owners, ends)?;
+        all.push(owner)?;
+    }
+    Ok(all)
+}
+
+/// The owner of these ends.
+fn scanned_owner<R: Threads + Sync>(
+    rt: &R,
+    alloc: Global,
+    shelf: &Shelf,
+    owners: u8,
+    ends: Ends,
+) -> Result<Owner, AllocError>
+    requires owners { (1 ≤ owners) × (owners ≤ 16) }
+    requires low { length shelf.now ≤ HIGHEST_LEVEL }
+    requires ends { (ends.owner < owners) × (owners_of ends ≡ owners) }
+    ensures { IfOk result (IsScanned (table_of shelf.now).value (length shelf.now) owners ends) }
+{
+    let number = ends.owner();
+    let Ok(part) = Part::scan_parallel(rt, alloc, shelf, owners, number) else {
+        return Err(AllocError);
+    };
+    let outboxes = Outboxes::new(alloc, owners, number)?;
+    Ok(Owner::new(part, ends, outboxes))
+}
+
+/// The parts of the owners, in their order. Refused where a growth was: it takes room for them all.
+pub fn into_parts(alloc: Global, owners: Vec<Owner>) -> Result<Vec<Part>, AllocError>
+    ensures { IfOk result (λ parts. parts.items ≡ parts_of owners.items) }
+{
+    let mut parts = Vec::with_capacity(alloc, owners.len())?;
+    for owner in owners {
+        parts.push(owner.part)?;
+    }
+    Ok(parts)
+}

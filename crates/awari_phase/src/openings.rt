@@ -1,0 +1,58 @@
+//! The next gain, or the next distance, opened in all parts.
+
+ghost use Rattle.std.specs.Prelude.{◌≡◌, ◌+◌, ◌<◌, ◌≤◌, ℕ, ℤ, All, List, [], length, slice_index_or};
+ghost use Rattle.awari_lines.specs.Lines.{IsGrid};
+ghost use Rattle.awari_owner.specs.Blocks.{due_dist};
+ghost use Rattle.awari_phase.specs.Owners.{AllGrown, AreFinished, AreIdle, AreReceived, AreSent, OpensNext, OpensWave, all_ends};
+ghost use Rattle.awari_phase.specs.declared.owners.Owner.{Owner as AnOwner};
+
+use crate::owners::Owner;
+
+/// Opens the next smaller gain in each part. No board is fresh, nothing is to be sent or waits on a
+/// line, and the open gain is at least 2. It takes no memory.
+pub fn open_gain(owners: &mut [Owner])
+    requires idle { AreIdle owners.old }
+    requires sent { AreSent owners.old }
+    requires received { AreReceived owners.old }
+    requires greater { (i : ℕ) (d : AnOwner) → i < length owners.old → 2 ≤ (slice_index_or owners.old i d).part.gain }
+    ensures finished { (value : List ℕ → ℤ) (n : ℕ) → AreFinished value n owners.old → AreFinished value n owners.new }
+    ensures gain { (i : ℕ) (d : AnOwner) → i < length owners.old → (slice_index_or owners.new i d).part.gain + 1 ≡ (slice_index_or owners.old i d).part.gain }
+{
+    for i in 0..owners.len() {
+        open_next(&mut owners[i]);
+    }
+}
+
+/// Opens the next smaller gain in the part.
+fn open_next(owner: &mut Owner)
+    requires idle { owner.old.part.fresh ≡ [] }
+    requires greater { 2 ≤ owner.old.part.gain }
+    ensures { OpensNext owner.old owner.new }
+{
+    let gain = owner.part.gain() - 1;
+    owner.part.open_gain(gain);
+}
+
+/// Opens this distance in each part, where it is not open. Nothing is to be sent, and no fresh board
+/// is nearer.
+pub(crate) fn open_waves(owners: &mut [Owner], dist: u32)
+    requires grid { IsGrid (all_ends owners.old) }
+    requires sent { AreSent owners.old }
+    requires nearest { (i : ℕ) (d : AnOwner) → i < length owners.old → All (λ f. dist ≤ due_dist f) (slice_index_or owners.old i d).part.fresh }
+    ensures { AllGrown owners.old owners.new }
+{
+    for i in 0..owners.len() {
+        open_wave(&mut owners[i], dist);
+    }
+}
+
+/// Opens this distance in the part, where it is not open.
+fn open_wave(owner: &mut Owner, dist: u32)
+    requires sent { All (λ q. q ≡ []) owner.old.outboxes.queues }
+    requires nearest { All (λ f. dist ≤ due_dist f) owner.old.part.fresh }
+    ensures { OpensWave dist owner.old owner.new }
+{
+    if owner.part.wave() < dist {
+        owner.part.open_wave(dist);
+    }
+}
