@@ -11,9 +11,9 @@ use Rattle.awari_board.specs.Rules.{IsBoard}
 use Rattle.awari_rank.specs.Rank.{rank_of}
 use Rattle.awari_owner.specs.Level.{AreBlocks, AreWhole, known_at, part_at}
 use Rattle.awari_owner.specs.Tally.{Cell}
-use Rattle.awari_owner.proofs.Levels.{holds, known_there}
+use Rattle.awari_owner.proofs.Levels.{blocks_in_order, holds, known_there}
 use Rattle.awari_plan.specs.Finished.{HasSettled, HasAllSettled}
-use Rattle.awari_plan.specs.Planning.{PushesBlock, SameSettled}
+use Rattle.awari_plan.specs.Planning.{PushesBlock, PutsBlock, SameSettled}
 
 pub pushes_none : (part : Part) (old : List Entry) → PushesBlock part old old 0
 pushes_none part old = record { size = omega arith; before = λ k inside. refl; settled = λ k below. absurd (omega (arith, below)) }
@@ -46,11 +46,11 @@ below_push [] part high below last = (last, tt)
 below_push (first ∷ parts) part high below last = (below.0, below_push parts part high below.1 last)
 
 -- what is put behind changes nothing of what was there
-pub settled_more : (parts : List Part) (old now : List Entry) → AllBelow parts (length old) → ((k : ℕ) → k < length old → get_or now k no_entry ≡ get_or old k no_entry) → HasAllSettled parts old → HasAllSettled parts now
-settled_more [] old now below same has = tt
-settled_more (part ∷ parts) old now below same has = (
+pub settled_more : (parts : List Part) (low : ℕ) (old now : List Entry) → AllBelow parts low → ((k : ℕ) → k < low → get_or now k no_entry ≡ get_or old k no_entry) → HasAllSettled parts old → HasAllSettled parts now
+settled_more [] low old now below same has = tt
+settled_more (part ∷ parts) low old now below same has = (
   λ rank inside. subst (HasSettled (settled_at part rank)) (sym (same rank (omega (arith, inside.0, inside.1, below.0)))) (has.0 rank inside),
-  settled_more parts old now below.1 same has.1,
+  settled_more parts low old now below.1 same has.1,
 )
 
 pub settled_push : (parts : List Part) (part : Part) (entries : List Entry) → HasAllSettled parts entries
@@ -86,25 +86,52 @@ next_block level low high parts i part rest inside is =
     let (here, after) = subst (AreBlocks level low high) (next_is parts i part inside is) rest in
     (here.1, after)
 
--- the blocks put so far, and one more
-pub record ArePut (level high : ℕ) (parts : List Part) (i : ℕ) (entries : List Entry) : Type 0 where
-  pub rest : AreBlocks level (length entries) high (drop i parts)
-  pub below : AllBelow (take i parts) (length entries)
+-- the entries of the blocks below rank `low` are put, and those from there on are left
+pub record ArePut (level low high : ℕ) (parts : List Part) (i : ℕ) (entries : List Entry) : Type 0 where
+  pub rest : AreBlocks level low high (drop i parts)
+  pub below : AllBelow (take i parts) low
   pub done : HasAllSettled (take i parts) entries
 
-pub put_more : (level high : ℕ) (parts : List Part) (i : ℕ) (part : Part) (old now : List Entry) → ArePut level high parts i old → i < length parts → part ≡ get_or parts i part
-    → PushesBlock part old now (length part.cells) → ArePut level high parts (i + 1) now
-put_more level high parts i part old now before inside is pushed =
-    let (here, after) = next_block level (length old) high parts i part before.rest inside is in
+pub put_none : (level high : ℕ) (parts : List Part) (entries : List Entry) → AreBlocks level 0 high parts → ArePut level 0 high parts 0 entries
+put_none level high parts entries blocks = record { rest = blocks; below = tt; done = tt }
+
+pub put_more : (level low high : ℕ) (parts : List Part) (i : ℕ) (part : Part) (old now : List Entry) → ArePut level low high parts i old → i < length parts → part ≡ get_or parts i part
+    → ((k : ℕ) → k < low → get_or now k no_entry ≡ get_or old k no_entry) → ((rank : ℕ) → InBlock part rank → HasSettled (settled_at part rank) (get_or now rank no_entry))
+    → ArePut level (low + length part.cells) high parts (i + 1) now
+put_more level low high parts i part old now before inside is kept settled =
+    let (here, after) = next_block level low high parts i part before.rest inside is in
+    let end = low + length part.cells in
     let more : take (i + 1) parts ≡ take i parts ++ part ∷ [] = take_more parts i part inside ∙ ap (λ p. take i parts ++ p ∷ []) (sym is) in
     record {
-      rest = subst (λ n. AreBlocks level n high (drop (i + 1) parts)) (sym pushed.size) after;
-      below = subst (λ ps. AllBelow ps (length now)) (sym more) (below_push (take i parts) part (length now) (below_more (take i parts) (length old) (length now) (omega (arith, pushed.size)) before.below) (omega (arith, pushed.size, here)));
-      done = subst (λ ps. HasAllSettled ps now) (sym more) (settled_push (take i parts) part now (settled_more (take i parts) old now before.below pushed.before before.done) (block_settled part old now here pushed));
+      rest = after;
+      below = subst (λ ps. AllBelow ps end) (sym more) (below_push (take i parts) part end (below_more (take i parts) low end (omega arith) before.below) (omega (arith, here)));
+      done = subst (λ ps. HasAllSettled ps now) (sym more) (settled_push (take i parts) part now (settled_more (take i parts) low old now before.below kept before.done) settled);
     }
 
-pub put_all : (level high : ℕ) (parts : List Part) (i : ℕ) (entries : List Entry) → ArePut level high parts i entries → length parts ≤ i → (length entries ≡ high) × HasAllSettled parts entries
-put_all level high parts i entries all past = (subst (AreBlocks level (length entries) high) (drop_all i parts past) all.rest, subst (λ ps. HasAllSettled ps entries) (take_all i parts past) all.done)
+pub put_all : (level low high : ℕ) (parts : List Part) (i : ℕ) (entries : List Entry) → ArePut level low high parts i entries → length parts ≤ i → (low ≡ high) × HasAllSettled parts entries
+put_all level low high parts i entries all past = (subst (AreBlocks level low high) (drop_all i parts past) all.rest, subst (λ ps. HasAllSettled ps entries) (take_all i parts past) all.done)
+
+-- the next block is put behind all others
+pub push_more : (level high : ℕ) (parts : List Part) (i : ℕ) (part : Part) (old now : List Entry) → ArePut level (length old) high parts i old → i < length parts → part ≡ get_or parts i part
+    → PushesBlock part old now (length part.cells) → ArePut level (length now) high parts (i + 1) now
+push_more level high parts i part old now before inside is pushed =
+    let (here, after) = next_block level (length old) high parts i part before.rest inside is in
+    subst (λ n. ArePut level n high parts (i + 1) now) (sym pushed.size)
+    (put_more level (length old) high parts i part old now before inside is pushed.before (block_settled part old now here pushed))
+
+-- the next block lies among the entries, and is put at its ranks
+pub block_inside : (level low high : ℕ) (parts : List Part) (i : ℕ) (part : Part) (old : List Entry) → ArePut level low high parts i old → i < length parts → part ≡ get_or parts i part
+    → part.start + length part.cells ≤ high
+block_inside level low high parts i part old before inside is =
+    let (here, after) = next_block level low high parts i part before.rest inside is in
+    let order = blocks_in_order level (low + length part.cells) high (drop (i + 1) parts) after in
+    omega (arith, here, order)
+
+pub fill_more : (level low high : ℕ) (parts : List Part) (i : ℕ) (part : Part) (old now : List Entry) → ArePut level low high parts i old → i < length parts → part ≡ get_or parts i part
+    → PutsBlock part old now → ArePut level (low + length part.cells) high parts (i + 1) now
+fill_more level low high parts i part old now before inside is puts =
+    let (here, after) = next_block level low high parts i part before.rest inside is in
+    put_more level low high parts i part old now before inside is (λ k below. puts.others k (λ held. omega (arith, here, below, held.0))) puts.settled
 
 -- what one of the parts has settled
 pub settled_there : (parts : List Part) (entries : List Entry) → HasAllSettled parts entries → (i : ℕ) → i < length parts → (rank : ℕ) → InBlock (part_at parts i) rank

@@ -1,5 +1,5 @@
 -- Entries that differ in their plans alone, and plans set one after another.
-use Rattle.std.proofs.Common.{◌≡◌, ℕ, ◌+◌, ◌<◌, List, [], ◌∷◌, ◌++◌, length, get_or, set, sum, Option, refl, sym, ap, ◌∙◌, subst, arith, inl, inr, length-append, get_or-set_same, get_or-set_other, ℤ}
+use Rattle.std.proofs.Common.{◌≡◌, ℕ, ◌+◌, ◌-◌, ◌<◌, List, [], ◌∷◌, ◌++◌, length, get_or, set, sum, Option, None, refl, sym, ap, ◌∙◌, subst, arith, inl, inr, length-append, get_or-set_same, get_or-set_other, ℤ}
 use Rattle.std.proofs.lemmas.Bool.{cases_lt, cases_eq}
 use Rattle.std.proofs.lemmas.List.{length-set}
 use Rattle.awari_board.specs.Rules.{IsBoard}
@@ -10,7 +10,7 @@ use Rattle.awari_table.specs.declared.images.Image.{Image}
 use Rattle.awari_table.specs.Images.{entry_of, table_of, no_entry}
 use Rattle.awari_table.proofs.EntryLemmas.{entry_of-append, entry_of-rank, entry_of-above}
 use Rattle.awari_plan.specs.Plan.{IsLowest}
-use Rattle.awari_plan.specs.Planning.{IsPlanned, SameSettled, topped}
+use Rattle.awari_plan.specs.Planning.{AreLowest, IsPlanned, SameSettled, topped}
 use Rattle.awari_plan.proofs.Serving.{lowest_alike}
 
 -- a property of both images' entries, wherever the board is
@@ -69,4 +69,18 @@ planned_more shelf old now rank board e same planned inside is_board on_level ra
   | inr other ↦
       let kept : (get_or (set now rank e) (rank_of p) no_entry).plan ≡ (get_or now (rank_of p) no_entry).plan = ap (λ x. x.plan) (get_or-set_other now rank (rank_of p) e no_entry other) in
       subst (λ plan. IsLowest (table_of (topped shelf old)) p plan) (sym kept) (planned p whole stones (omega arith))
+]
+
+-- the plan of the next board of a piece is found
+pub lowest_set : (shelf : List Image) (entries : List Entry) (first k : ℕ) (now : List (Option ℕ)) (board : List ℕ) (plan : Option ℕ) → AreLowest shelf entries first (first + k) now
+    → k < length now → IsBoard board → sum board ≡ length shelf → rank_of board ≡ first + k → IsLowest (table_of (topped shelf entries)) board plan
+    → AreLowest shelf entries first (first + (k + 1)) (set now k plan)
+lowest_set shelf entries first k now board plan before inside is_board on_level ranked lowest = λ p is stones low high. elim (cases_eq (rank_of p - first) k) [
+  | inl here ↦
+      let same : board ≡ p = rank_fixes board p is_board.pits is.pits (on_level ∙ sym stones) (omega (arith, ranked, here, low)) in
+      let put : get_or (set now k plan) (rank_of p - first) None ≡ plan = ap (λ j. get_or (set now k plan) j None) here ∙ get_or-set_same now k plan None inside in
+      subst (IsLowest (table_of (topped shelf entries)) p) (sym put) (subst (λ b. IsLowest (table_of (topped shelf entries)) b plan) same lowest)
+  | inr other ↦
+      let kept : get_or (set now k plan) (rank_of p - first) None ≡ get_or now (rank_of p - first) None = get_or-set_other now k (rank_of p - first) plan None other in
+      subst (IsLowest (table_of (topped shelf entries)) p) (sym kept) (before p is stones low (omega (arith, low, high, other)))
 ]

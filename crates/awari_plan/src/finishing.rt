@@ -4,7 +4,8 @@ ghost use Rattle.std.specs.Prelude.{◌≡◌, ◌≤◌, ◌<◌, ◌+◌, All,
 ghost use Rattle.awari_rank.specs.Rank.{size_of};
 ghost use Rattle.awari_table.specs.Images.{greatest_dist};
 ghost use Rattle.awari_owner.specs.Level.{AreWhole, IsClosed};
-ghost use Rattle.awari_plan.specs.Finished.{HasAllSettled, IsFinished};
+ghost use Rattle.awari_owner.specs.Part.{InBlock, settled_at};
+ghost use Rattle.awari_plan.specs.Finished.{HasAllSettled, HasSettled, IsFinished};
 ghost use Rattle.awari_plan.specs.Planning.{PushesBlock};
 ghost use Rattle.awari_table.specs.declared.TheConstants.{HIGHEST_LEVEL};
 
@@ -56,14 +57,22 @@ fn push_block(entries: &mut Vec<Entry>, part: &Part) -> Result<(), AllocError>
 {
     let (start, end) = part.block();
     for rank in start..end {
-        let (value, dist) = part.settled(rank).unwrap_or((0, 0));
-        entries.push(Entry {
-            value,
-            plan: None,
-            dist,
-        })?;
+        entries.push(settled_entry(part, rank))?;
     }
     Ok(())
+}
+
+/// The entry of a board of the block, with no plan.
+pub fn settled_entry(part: &Part, rank: u32) -> Entry
+    requires inside { InBlock part.now rank }
+    ensures { HasSettled (settled_at part.now rank) result }
+{
+    let (value, dist) = part.settled(rank).unwrap_or((0, 0));
+    Entry {
+        value,
+        plan: None,
+        dist,
+    }
 }
 
 /// The greatest distance of the entries, 0 where there is none.

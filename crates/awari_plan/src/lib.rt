@@ -6,9 +6,11 @@ mod finishing;
 mod laws;
 mod lines;
 mod lowering;
+mod parallel;
 mod plans;
 
 pub use finishing::finish;
 pub use laws::{finished_levels_are_consistent, lowest_levels_are_one};
 pub use lines::{Line, LineFault, best_line};
 pub use lowering::least;
+pub use parallel::finish_parallel;

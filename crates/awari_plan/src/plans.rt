@@ -31,7 +31,7 @@ pub fn set_plans(shelf: &Shelf, entries: &mut Vec<Entry>)
 }
 
 /// The lowest pit that serves as the board's plan, none where none does.
-fn lowest_plan(shelf: &Shelf, entries: &[Entry], board: &Board, rank: u32) -> Option<u8>
+pub fn lowest_plan(shelf: &Shelf, entries: &[Entry], board: &Board, rank: u32) -> Option<u8>
     requires sized { length entries.now ≡ size_of (length shelf.now) }
     requires stones { sum board.now ≡ length shelf.now }
     requires low { length shelf.now ≤ 24 }
