@@ -8,6 +8,7 @@ pub mod Taking
 pub mod Gains
 pub mod Spreading
 pub mod Hearing
+pub mod LeavingMoves
 pub mod Scanning
 pub mod PieceLemmas
 pub mod Firsts

@@ -1,21 +1,52 @@
--- A block that was scanned in pieces.
-use Rattle.std.proofs.Common.{◌≡◌, ℕ, ◌+◌, ◌-◌, ◌<◌, ◌≤◌, List, length, get_or, sum, ℤ, subst, ap, ◌∙◌, arith}
-use Rattle.awari_board.specs.Rules.{IsBoard}
+-- Boards that were scanned in two pieces.
+use Rattle.std.proofs.Common.{◌≡◌, ℕ, ◌+◌, ◌-◌, ◌≤◌, ◌++◌, inl, inr, List, [], length, vec_len, get_or, ℤ, subst, subst₂, sym, ap, ◌∙◌, arith, length-append}
+use Rattle.std.proofs.lemmas.Bool.{cases_lt}
+use Rattle.std.proofs.lemmas.List.{get_or_append_left, get_or-append_right, with_items_is}
+use Rattle.std.specs.BinaryHeap.{heap_items, heap_capacity, IsHeap}
+use Rattle.std.specs.Vec.{with_items}
 use Rattle.awari_rank.specs.Rank.{rank_of}
 use Rattle.awari_owner.specs.declared.cells.Cell.{Cell}
-use Rattle.awari_owner.specs.Blocks.{no_cell}
-use Rattle.awari_owner.specs.Scan.{IsScanned, AreScanned}
+use Rattle.awari_owner.specs.declared.places.Block.{Block}
+use Rattle.awari_owner.specs.declared.scans.ScannedBlock.{ScannedBlock}
+use Rattle.awari_owner.specs.Blocks.{due_cmp, no_cell}
+use Rattle.awari_owner.specs.Scan.{IsScanned, IsPiece, IsScannedBlock}
+use Rattle.awari_owner.proofs.LeavingMoves.{leaving-both}
 
--- the cell at each place is that of a piece that is scanned
-pub scanned_from_pieces : (value : List ℕ → ℤ) (n start : ℕ) (ys : List Cell)
-    → ((i : ℕ) → i < length ys → (first offset : ℕ) × (zs : List Cell) × (first + offset ≡ i) × (offset < length zs)
-        × (get_or zs offset no_cell ≡ get_or ys i no_cell) × AreScanned value n (start + first) (start + first + length zs) zs)
-    → AreScanned value n start (start + length ys) ys
-scanned_from_pieces value n start ys each = λ p is stones low high.
-    let i = rank_of p - start in
-    let e = each i (omega (arith, low, high)) in
-    let place = e.3 in
-    let inside = e.4 in
-    let at : rank_of p - (start + e.0) ≡ e.1 = omega (arith, place, low) in
-    let here = e.6 p is stones (omega (arith, place, low)) (omega (arith, place, low, inside)) in
-    subst (IsScanned value p) (ap (λ k. get_or e.2 k no_cell) at ∙ e.5) here
+-- one piece behind the other is a piece
+pub piece-both : (value : List ℕ → ℤ) (n : ℕ) (block : Block) (first middle half rest boards : ℕ) (low high : List Cell) (bytes more : List ℕ) → middle ≡ first + half → half + rest ≡ boards
+    → IsPiece value n block first half low bytes → IsPiece value n block middle rest high more
+    → IsPiece value n block first boards (low ++ high) (bytes ++ more)
+piece-both value n block first middle half rest boards low high bytes more meet whole front back = record {
+  len = omega (arith, length-append low high, whole, front.len, back.len);
+  each = omega (arith, length-append bytes more, whole, front.each, back.each);
+  scanned = λ p is stones from to. elim (cases_lt (rank_of p) middle) [
+    | inl before ↦
+        subst (IsScanned value p) (sym (get_or_append_left low high no_cell (rank_of p - first) (omega (arith, before, from, meet, front.len))))
+        (front.scanned p is stones from (omega (arith, before, meet)))
+    | inr behind ↦
+        let at : rank_of p - first - half ≡ rank_of p - middle = omega (arith, meet) in
+        subst (IsScanned value p) (sym (get_or-append_right low high half (rank_of p - first) no_cell front.len (omega (arith, behind, meet)) ∙ ap (λ k. get_or high k no_cell) at))
+        (back.scanned p is stones behind (omega (arith, to, meet, whole)))
+  ];
+  leaves = leaving-both n block.start (block.end - block.start) first bytes more middle (omega (arith, meet, front.each)) front.leaves back.leaves;
+}
+
+-- a block whose cells and bytes are written over by those of all its boards is scanned
+pub block_scanned : (value : List ℕ → ℤ) (n : ℕ) (block : Block) (found : ScannedBlock) (boards : ℕ) (cells : List Cell) (leaving : List ℕ)
+    → boards ≡ block.end - block.start → vec_len found.cells ≡ boards → vec_len found.leaving ≡ boards
+    → heap_items found.fresh ≡ [] → boards ≤ heap_capacity found.fresh → IsHeap due_cmp (heap_items found.fresh)
+    → IsPiece value n block block.start boards cells leaving
+    → IsScannedBlock value n block (record { cells = with_items found.cells cells; leaving = with_items found.leaving leaving; fresh = found.fresh })
+block_scanned value n block found boards cells leaving all long bytes fresh room ordered piece = record {
+  piece = subst₂ (λ (cs : List Cell) (bs : List ℕ). IsPiece value n block block.start (block.end - block.start) cs bs) (sym wrote) (sym put)
+      (subst (λ m. IsPiece value n block block.start m cells leaving) all piece);
+  fresh = fresh;
+  room = subst (λ (cs : List Cell). length cs ≤ heap_capacity found.fresh) (sym wrote) (subst (λ m. m ≤ heap_capacity found.fresh) (sym piece.len) room);
+  ordered = ordered;
+}
+  where
+    wrote : (with_items found.cells cells).items ≡ cells
+    wrote = with_items_is found.cells cells (piece.len ∙ sym long)
+
+    put : (with_items found.leaving leaving).items ≡ leaving
+    put = with_items_is found.leaving leaving (piece.each ∙ sym bytes)

@@ -1,7 +1,7 @@
 -- What a note makes of a part.
-use Rattle.std.proofs.Common.{◌≡◌, ◌≢◌, ℕ, ◌-◌, ◌≤◌, ◌<◌, ◌==◌, Bool, true, false, not, cond, IsTrue, List, ◌∷◌, length, set, sum, ℤ, refl, sym, ap, subst, subst₂, ◌∙◌, arith, rules, eqb-true, length-set}
+use Rattle.std.proofs.Common.{bit_and, get_or, ◌+◌, ◌^◌, ◌↔◌, ◌≡◌, ◌≢◌, ℕ, ◌-◌, ◌≤◌, ◌<◌, ◌==◌, Bool, true, false, not, cond, IsTrue, List, ◌∷◌, length, set, sum, ℤ, refl, sym, ap, subst, subst₂, ◌∙◌, arith, eqb-true, length-set}
 use Rattle.std.proofs.lemmas.Bool.Decides.{nat_tests}
-use Rattle.awari_board.specs.Rules.{IsBoard, IsMove}
+use Rattle.awari_board.specs.Rules.{IsBoard}
 use Rattle.awari_rank.specs.Rank.{rank_of}
 use Rattle.awari_owner.specs.Notes.{IsQuietMove, is_heard_at}
 use Rattle.awari_owner.specs.Tally.{IsTally, has_pit, with_pit}
@@ -9,6 +9,8 @@ use Rattle.awari_owner.specs.Tally as tally
 use Rattle.awari_owner.specs.Steps.{after_note}
 use Rattle.awari_owner.specs.Cells.{status_of}
 use Rattle.awari_owner.specs.Blocks.{cell_in, Due}
+use Rattle.std.proofs.lemmas.List.{get_or_default}
+use Rattle.awari_owner.specs.Leaving.{AreLeaving, LeavesAt}
 use Rattle.awari_owner.specs.Part.{Part, InBlock, Leaves, IsExpected, IsTallied, SameLevel, cell_at, stored_at, notes_for}
 use Rattle.awari_owner.specs.declared.notes.Note.{Note}
 use Rattle.awari_owner.specs.declared.cells.Cell.{Cell}
@@ -24,24 +26,32 @@ pub record IsTakeable (part : Part) (note : Note) : Type 0 where
   pub own : note.pit < 6
   pub quiet : (p : List ℕ) → IsBoard p → sum p ≡ part.level → rank_of p ≡ note.target → (q : List ℕ) × IsQuietMove p note.pit q
 
-pub not_true : (b : Bool) → IsTrue (not b) → IsTrue b → ⊥
-not_true b h k = grind arith
+-- the byte of a board of the block tells which of its moves leave
+pub leaves_read : (part : Part) (leaving : List ℕ) (target pit byte bit : ℕ) → AreLeaving part.level part.start (length part.cells) part.start leaving → length leaving ≡ length part.cells
+    → InBlock part target → pit < 6 → byte ≡ get_or leaving (target - part.start) byte → bit ≡ 2 ^ pit
+    → IsTrue (not (bit_and byte bit == 0)) ↔ Leaves part target pit
+leaves_read part leaving target pit byte bit all long held own read is = (
+  λ t. subst (λ r. LeavesAt part.level part.start (length part.cells) r pit) at (here.0 (same ∙ true_is (not (bit_and byte bit == 0)) t)),
+  λ leaves. is_true (not (bit_and byte bit == 0)) (sym same ∙ here.1 (subst (λ r. LeavesAt part.level part.start (length part.cells) r pit) (sym at) leaves)),
+)
+  where
+    inside : target - part.start < length leaving
+    inside = let h = held.1 in omega (arith, h, long)
 
-pub true_not : (b : Bool) → (IsTrue b → ⊥) → IsTrue (not b)
-true_not true h = absurd (h (search rules))
-true_not false h = search rules
+    here : (has_pit (get_or leaving (target - part.start) 0) pit ≡ true) ↔ LeavesAt part.level part.start (length part.cells) (part.start + (target - part.start)) pit
+    here = all (target - part.start) pit inside own
 
-pub leaves_by : (part : Part) (target pit : ℕ) (board : List ℕ) (c : ℕ) (q : List ℕ) → ((p : List ℕ) → IsBoard p → sum p ≡ part.level → rank_of p ≡ target → p ≡ board)
-    → IsMove board pit c q → c ≡ 0 → (InBlock part (rank_of q) → ⊥) → Leaves part target pit
-leaves_by part target pit board c q only move none out p is stones at =
-    (q, subst₂ (λ (b : List ℕ) (n : ℕ). IsMove b pit n q) (sym (only p is stones at)) none move, out)
+    at : part.start + (target - part.start) ≡ target
+    at = let h = held.0 in omega (arith, h)
 
-pub leaves_as : (part : Part) (target pit : ℕ) (board : List ℕ) (c : ℕ) (q : List ℕ) → IsBoard board → sum board ≡ part.level → rank_of board ≡ target
-    → IsMove board pit c q → Leaves part target pit → (c ≡ 0) × (InBlock part (rank_of q) → ⊥)
-leaves_as part target pit board c q is stones at move leaves =
-    let there = leaves board is stones at in
-    let same : q ≡ there.0 = move.leaves ∙ sym there.1.leaves in
-    (move.captures ∙ sym there.1.captures, λ in'. there.2 (subst (λ (b : List ℕ). InBlock part (rank_of b)) same in'))
+    same : has_pit (get_or leaving (target - part.start) 0) pit ≡ not (bit_and byte bit == 0)
+    same = ap (λ b. has_pit b pit) (get_or_default leaving (target - part.start) 0 byte inside ∙ sym read) ∙ ap (λ b. not (bit_and byte b == 0)) (sym is)
+
+    true_is : (b : Bool) → IsTrue b → b ≡ true
+    true_is b h = grind arith
+
+    is_true : (b : Bool) → b ≡ true → IsTrue b
+    is_true b h = grind arith
 
 -- a cell that was changed by a note, in a part at the same gain and distance
 pub moved_tally : (value : List ℕ → ℤ) (old new : tally.Cell) (p : List ℕ) (notes : List Note) (t w t' w' : ℕ) → t' ≡ t → w' ≡ w → new.heard ≡ old.heard → new.status ≡ old.status

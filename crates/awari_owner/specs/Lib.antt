@@ -4,6 +4,7 @@ pub mod Steps
 pub mod Cells
 pub mod Blocks
 pub mod Part
+pub mod Leaving
 pub mod PartFields
 pub mod Spread
 pub mod OwnerFault

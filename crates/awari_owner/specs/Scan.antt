@@ -4,9 +4,14 @@ use Rattle.awari_board.specs.Rules.{IsBoard, IsMove}
 use Rattle.awari_rank.specs.Rank.{rank_of, size_of}
 use Rattle.awari_owner.specs.Tally.{is_left, pits, Captures, IsStatus}
 use Rattle.awari_owner.specs.Cells.{status_of, is_settled, IsWithin, FitsBy}
-use Rattle.awari_owner.specs.Blocks.{cell_in}
+use Rattle.std.specs.BinaryHeap.{heap_items, heap_capacity, IsHeap}
+use Rattle.awari_owner.specs.Blocks.{cell_in, due_cmp}
+use Rattle.awari_owner.specs.Leaving.{AreLeaving, IsBlockOf}
 use Rattle.awari_owner.specs.Part.{Part, InBlock, settled_at}
+use Rattle.awari_table.specs.declared.TheConstants.{HIGHEST_LEVEL}
 use Rattle.awari_owner.specs.declared.cells.Cell.{Cell}
+use Rattle.awari_owner.specs.declared.places.Block.{Block}
+use Rattle.awari_owner.specs.declared.scans.ScannedBlock.{ScannedBlock}
 
 -- Of so many boards each owner has as many, the last ones fewer or none where they don't divide. This is the rank of an
 -- owner's first board, or the number of boards where there is none.
@@ -54,3 +59,25 @@ pub record IsScanned (value : List ℕ → ℤ) (p : List ℕ) (c : Cell) : Type
 -- these are the cells of the boards of n stones from rank `start` up to, not including, rank `end`
 abbrev pub AreScanned : (List ℕ → ℤ) → ℕ → ℕ → ℕ → List Cell → Type 0
 AreScanned value n start end cells = (p : List ℕ) → IsBoard p → sum p ≡ n → start ≤ rank_of p → rank_of p < end → IsScanned value p (cell_in start cells (rank_of p))
+
+-- what is needed to scan so many boards of the block from rank `first` on, with as many bytes
+pub record CanScan (value : List ℕ → ℤ) (n : ℕ) (block : Block) (first boards bytes : ℕ) : Type 0 where
+  pub low : n ≤ HIGHEST_LEVEL
+  pub ranged : IsRanged value n
+  pub sound : IsBlockOf n block
+  pub each : bytes ≡ boards
+  pub within : first + boards ≤ block.end
+
+-- their cells, and the pits whose moves leave the block
+pub record IsPiece (value : List ℕ → ℤ) (n : ℕ) (block : Block) (first boards : ℕ) (cells : List Cell) (leaving : List ℕ) : Type 0 where
+  pub len : length cells ≡ boards
+  pub each : length leaving ≡ boards
+  pub scanned : AreScanned value n first (first + boards) cells
+  pub leaves : AreLeaving n block.start (block.end - block.start) first leaving
+
+-- those of all boards of the block, and a heap with room for each of them, in which none is
+pub record IsScannedBlock (value : List ℕ → ℤ) (n : ℕ) (block : Block) (found : ScannedBlock) : Type 0 where
+  pub piece : IsPiece value n block block.start (block.end - block.start) found.cells.items found.leaving.items
+  pub fresh : heap_items found.fresh ≡ []
+  pub room : length found.cells.items ≤ heap_capacity found.fresh
+  pub ordered : IsHeap due_cmp (heap_items found.fresh)

@@ -7,7 +7,8 @@ ghost use Rattle.awari_owner.specs.Cells.{IsWithin, IsBeyond};
 ghost use Rattle.awari_owner.specs.Blocks.{due_dist, KeepSettled};
 ghost use Rattle.awari_owner.specs.Part.{Part as PartView, InBlock, Leaves, IsExpected, IsTallied, stored_at, PutsCell, SameLevel, JoinsFresh, settled_at, IsLeastDue, AreFresh, HasFarthest, unspread};
 ghost use Rattle.awari_owner.specs.OwnerFault.{IsFaultOf};
-ghost use Rattle.awari_owner.specs.Scan.{IsScan, IsWhole};
+ghost use Rattle.awari_owner.specs.Leaving.{IsBlockOf};
+ghost use Rattle.awari_owner.specs.Scan.{first_rank, IsScan, IsScannedBlock, IsWhole};
 ghost use Rattle.awari_owner.specs.Spread.{HearsOwn, IsPartOf, Sends, Source, Spreads};
 ghost use Rattle.awari_table.specs.Images.{table_of};
 ghost use Rattle.awari_table.specs.declared.TheConstants.{HIGHEST_LEVEL};
@@ -20,24 +21,26 @@ use crate::faults::OwnerFault;
 use crate::notes::Note;
 use crate::outboxes::Outboxes;
 use crate::parallel::scanned_block_parallel;
-use crate::places::{Place, block_length, first_rank};
+use crate::places::{Block, Place, block_length};
 use crate::queues::reserve_others;
-use crate::scans::scanned_block;
+use crate::scans::{ScannedBlock, scanned_block};
 use crate::spreads::{kind_of, tell_all};
 use awari_board::{SIDE, moves_keep_boards};
-use awari_rank::{rank, ranks_tell_boards_apart, size, unrank};
+use awari_rank::{ranks_tell_boards_apart, size, unrank};
 use awari_table::{Shelf, shelves_are_certificates};
 use std::alloc::Global;
 use std::collections::BinaryHeap;
 use std::marker::Model;
 use std::thread::Threads;
 
-/// One owner's part of a level that is being built: what is known of each board of its block, and
-/// which of the settled ones are fresh, that is, not spread yet.
+/// One owner's part of a level that is being built: what is known of each board of its block, the pits
+/// of each whose quiet moves lead out of the block, a bit for each, and which of the settled boards are
+/// fresh, that is, not spread yet.
 #[derive(Drop)]
 pub struct Part {
     place: Place,
     cells: Vec<Cell>,
+    leaving: Vec<u8>,
     fresh: BinaryHeap<Due>,
 }
 
@@ -59,7 +62,7 @@ impl Part {
     /// with no note heard, and no gain open. There are 1 to 16 owners, and the shelf has at most
     /// `HIGHEST_LEVEL` levels. Refused as 33 `Memory` where a growth was.
     ///
-    /// It takes all the memory that the part will ever need, 16 bytes a board.
+    /// It takes all the memory that the part will ever need, 17 bytes a board.
     pub fn scan(alloc: Global, shelf: &Shelf, owners: u8, owner: u8) -> Result<Part, OwnerFault>
         requires owners { (1 ≤ owners) × (owners ≤ 16) }
         requires owner { owner < owners }
@@ -72,22 +75,9 @@ impl Part {
         ensures memory { IfErr result (λ fault. fault ≡ OwnerFault.Memory) }
     {
         shelves_are_certificates();
-        let level = shelf.levels();
-        let boards = size(level);
-        let start = first_rank(boards, owners, owner);
-        let end = first_rank(boards, owners, owner + 1);
-        let place = Place {
-            level,
-            gain: level + 1,
-            wave: 0,
-            start,
-        };
-        match scanned_block(alloc, shelf, start, end) {
-            Ok((cells, fresh)) => Ok(Part {
-                place,
-                cells,
-                fresh,
-            }),
+        let block = Block::of(shelf.levels(), owners, owner);
+        match scanned_block(alloc, shelf, block) {
+            Ok(found) => Ok(Part::from_scanned(shelf, owners, owner, block, found)),
             Err(_) => Err(OwnerFault::Memory),
         }
     }
@@ -111,22 +101,9 @@ impl Part {
         ensures memory { IfErr result (λ fault. fault ≡ OwnerFault.Memory) }
     {
         shelves_are_certificates();
-        let level = shelf.levels();
-        let boards = size(level);
-        let start = first_rank(boards, owners, owner);
-        let end = first_rank(boards, owners, owner + 1);
-        let place = Place {
-            level,
-            gain: level + 1,
-            wave: 0,
-            start,
-        };
-        match scanned_block_parallel(rt, alloc, shelf, start, end) {
-            Ok((cells, fresh)) => Ok(Part {
-                place,
-                cells,
-                fresh,
-            }),
+        let block = Block::of(shelf.levels(), owners, owner);
+        match scanned_block_parallel(rt, alloc, shelf, block) {
+            Ok(found) => Ok(Part::from_scanned(shelf, owners, owner, block, found)),
             Err(_) => Err(OwnerFault::Memory),
         }
     }
@@ -323,6 +300,34 @@ impl Part {
         Ok(true)
     }
 
+    /// The part of this owner, one of so many, of the shelf's next level, of what was found of its block.
+    fn from_scanned(shelf: &Shelf, owners: u8, owner: u8, block: Block, found: ScannedBlock) -> Part
+        requires low { length shelf.now ≤ HIGHEST_LEVEL }
+        requires some { owner < owners }
+        requires start { block.start ≡ first_rank (size_of (length shelf.now)) owners owner }
+        requires end { block.end ≡ first_rank (size_of (length shelf.now)) owners (owner + 1) }
+        requires block { IsBlockOf (length shelf.now) block }
+        requires found { IsScannedBlock (table_of shelf.now).value (length shelf.now) block found }
+        ensures scanned { IsScan (length shelf.now) owners owner result }
+        ensures whole { owners ≡ 1 → IsWhole result }
+        ensures tallied { IsTallied (table_of shelf.now).value result [] }
+        ensures hears { HearsOwn result [] }
+        ensures fresh { AreFresh result }
+    {
+        let level = shelf.levels();
+        Part {
+            place: Place {
+                level,
+                gain: level + 1,
+                wave: 0,
+                start: block.start,
+            },
+            cells: found.cells,
+            leaving: found.leaving,
+            fresh: found.fresh,
+        }
+    }
+
     /// Whether the note is one that other owners may send now.
     fn expects(&self, note: &Note) -> bool
         ensures { IsTrue result ↔ IsExpected self.now note.now }
@@ -347,13 +352,10 @@ impl Part {
     /// Whether the move from `pit` of the board of this rank is quiet and leads to a board of another
     /// block.
     fn leaves(&self, target: u32, pit: u8) -> bool
-        requires { InBlock self.now target }
+        requires held { InBlock self.now target }
+        requires own { pit < 6 }
         ensures { IsTrue result ↔ Leaves self.now target pit }
     {
-        let board = unrank(self.place.level, target);
-        match board.play(pit) {
-            Ok(moved) => moved.captured == 0 && !self.holds(rank(&moved.board)),
-            Err(_) => false,
-        }
+        self.leaving[(target - self.place.start) as usize] & (1 << pit) != 0
     }
 }

@@ -1,7 +1,13 @@
 //! Where a part stands, and where its block begins.
 
-ghost use Rattle.std.specs.Prelude.{◌≡◌, ◌≤◌, ◌+◌, ◌-◌, ◌/◌};
+ghost use Rattle.std.specs.Prelude.{◌≡◌, ◌≤◌, ◌<◌, ◌+◌, ◌-◌, ◌/◌, ◌↔◌, IsTrue, sum};
+ghost use Rattle.awari_board.specs.Rules.{IsBoard};
+ghost use Rattle.awari_rank.specs.Rank.{rank_of, size_of};
+ghost use Rattle.awari_owner.specs.Leaving.{IsAmong, IsBlockOf};
 ghost use Rattle.awari_owner.specs.Scan.{first_rank};
+
+use awari_board::Board;
+use awari_rank::{rank, size};
 
 /// The level, the open gain and distance, and where the block begins.
 #[derive(Clone, Copy)]
@@ -14,6 +20,52 @@ pub struct Place {
     pub wave: u32,
     /// The rank of the first board of the block.
     pub start: u32,
+}
+
+/// A block: the boards of a level from one rank up to, not including, another.
+#[derive(Clone, Copy)]
+pub struct Block {
+    /// The rank of the first board.
+    pub start: u32,
+    /// The rank behind that of the last board.
+    pub end: u32,
+    /// Whether these are all boards of the level.
+    pub whole: bool,
+}
+
+impl Block {
+    /// The block of this owner, one of so many, of the boards of a level.
+    pub fn of(level: u8, owners: u8, owner: u8) -> Block
+        requires low { level ≤ 24 }
+        requires some { 1 ≤ owners }
+        requires few { owner < owners }
+        ensures start { result.start ≡ first_rank (size_of level) owners owner }
+        ensures end { result.end ≡ first_rank (size_of level) owners (owner + 1) }
+        ensures sound { IsBlockOf level result }
+    {
+        let boards = size(level);
+        let start = first_rank(boards, owners, owner);
+        let end = first_rank(boards, owners, owner + 1);
+        Block {
+            start,
+            end,
+            whole: start == 0 && end == boards,
+        }
+    }
+
+    /// Whether the board is in the block. Where the block is the whole level no rank is computed.
+    pub fn holds(self, board: &Board) -> bool
+        requires board { IsBoard board.now }
+        requires low { sum board.now ≤ 24 }
+        requires sound { IsBlockOf (sum board.now) self }
+        ensures { IsTrue result ↔ IsAmong self.start (self.end - self.start) (rank_of board.now) }
+    {
+        if self.whole {
+            return true;
+        }
+        let rank = rank(board);
+        self.start <= rank && rank < self.end
+    }
 }
 
 /// The rank of the first board of an owner's block, where so many boards are shared out in blocks of

@@ -1,7 +1,7 @@
-//! What is known of a board before any note is heard: how many quiet moves it has, and what its
-//! best capture gains by the shelf.
+//! What is known of a board before any note is heard: how many quiet moves it has, which of them lead
+//! out of the block, and what its best capture gains by the shelf.
 
-ghost use Rattle.std.specs.Prelude.{◌≡◌, ◌<◌, ◌≤◌, ◌+◌, ℕ, ℤ, pos, ◌-ℤ◌, List, [], None, IfOk, length, sum, vec_len};
+ghost use Rattle.std.specs.Prelude.{◌≡◌, ◌<◌, ◌≤◌, ◌+◌, ℕ, ℤ, pos, ◌-ℤ◌, ◌-◌, List, [], None, IfOk, length, sum, vec_len};
 ghost use Rattle.std.specs.BinaryHeap.{heap_items, heap_capacity, IsHeap};
 ghost use Rattle.awari_board.specs.Rules.{IsBoard, IsEnd, IsEnded, IsMove};
 ghost use Rattle.awari_rank.specs.Rank.{size_of};
@@ -9,93 +9,97 @@ ghost use Rattle.awari_table.specs.Images.{table_of};
 ghost use Rattle.awari_table.specs.declared.TheConstants.{HIGHEST_LEVEL};
 ghost use Rattle.awari_owner.specs.Cells.{IsWithin};
 ghost use Rattle.awari_owner.specs.Blocks.{due_cmp};
-ghost use Rattle.awari_owner.specs.Scan.{AreScanned, IsOutlook, IsRanged, IsScanned};
+ghost use Rattle.awari_owner.specs.Leaving.{AreLeavingBelow, IsBlockOf};
+ghost use Rattle.awari_owner.specs.Scan.{CanScan, IsOutlook, IsPiece, IsRanged, IsScanned, IsScannedBlock};
 
 use crate::blocks::Due;
 use crate::cells::{Cell, Mark};
+use crate::places::Block;
 use awari_board::{Board, Moved, SIDE};
 use awari_rank::{ranks_tell_boards_apart, successor, unrank};
 use awari_table::Shelf;
 use std::alloc::{AllocError, Global};
 use std::collections::BinaryHeap;
 
-/// How many pits are quiet moves, and what the best capture gains in stones, if one is legal.
+/// A block that is scanned, or will be: the cell of each board, the pits whose quiet moves lead out of
+/// the block, a bit for each, and a heap with room for each board.
+#[derive(Drop)]
+pub struct ScannedBlock {
+    pub cells: Vec<Cell>,
+    pub leaving: Vec<u8>,
+    pub fresh: BinaryHeap<Due>,
+}
+
+/// What is found of one board: its cell, and the pits whose quiet moves lead out of the block.
+#[derive(Clone, Copy)]
+struct ScannedBoard {
+    cell: Cell,
+    leaving: u8,
+}
+
+/// How many pits are quiet moves, what the best capture gains in stones, if one is legal, and which
+/// quiet moves lead out of the block.
 #[derive(Clone, Copy)]
 struct Outlook {
     quiet: u8,
     best: Option<i8>,
+    leaving: u8,
 }
 
-/// The cells of a block, and a heap with room for each of its boards.
-pub fn scanned_block(
-    alloc: Global,
-    shelf: &Shelf,
-    start: u32,
-    end: u32,
-) -> Result<(Vec<Cell>, BinaryHeap<Due>), AllocError>
+/// What is found of the boards of a block.
+pub fn scanned_block(alloc: Global, shelf: &Shelf, block: Block) -> Result<ScannedBlock, AllocError>
     requires low { length shelf.now ≤ HIGHEST_LEVEL }
     requires ranged { IsRanged (table_of shelf.now).value (length shelf.now) }
-    requires order { start ≤ end }
-    requires within { end ≤ size_of (length shelf.now) }
-    ensures len { IfOk result (λ block. start + vec_len block.0 ≡ end) }
-    ensures scanned { IfOk result (λ block. AreScanned (table_of shelf.now).value (length shelf.now) start end block.0.items) }
-    ensures fresh { IfOk result (λ block. heap_items block.1 ≡ []) }
-    ensures room { IfOk result (λ block. vec_len block.0 ≤ heap_capacity block.1) }
-    ensures ordered { IfOk result (λ block. IsHeap due_cmp (heap_items block.1)) }
+    requires block { IsBlockOf (length shelf.now) block }
+    ensures { IfOk result (IsScannedBlock (table_of shelf.now).value (length shelf.now) block) }
 {
-    let cells = scanned_cells(alloc, shelf, start, end)?;
-    let fresh = BinaryHeap::with_capacity(alloc, cells.len())?;
-    Ok((cells, fresh))
+    let mut found = unscanned_block(alloc, block)?;
+    scan_boards(
+        shelf,
+        block,
+        block.start,
+        found.cells.as_mut_slice(),
+        found.leaving.as_mut_slice(),
+    );
+    Ok(found)
 }
 
-/// The cells of the boards from rank `start` up to, not including, rank `end`. Room for them is
-/// taken first.
+/// A block of which no board is scanned yet, with all the memory that it takes.
+pub fn unscanned_block(alloc: Global, block: Block) -> Result<ScannedBlock, AllocError>
+    requires order { block.start ≤ block.end }
+    ensures cells { IfOk result (λ found. length found.cells.items ≡ block.end - block.start) }
+    ensures leaving { IfOk result (λ found. length found.leaving.items ≡ block.end - block.start) }
+    ensures fresh { IfOk result (λ found. heap_items found.fresh ≡ []) }
+    ensures room { IfOk result (λ found. length found.cells.items ≤ heap_capacity found.fresh) }
+    ensures ordered { IfOk result (λ found. IsHeap due_cmp (heap_items found.fresh)) }
+{
+    let boards = (block.end - block.start) as usize;
+    let cells = vec![in alloc; Cell::unheard(Mark::Ended, 0, 0); boards]?;
+    let leaving = vec![in alloc; 0; boards]?;
+    let fresh = BinaryHeap::with_capacity(alloc, boards)?;
+    Ok(ScannedBlock {
+        cells,
+        leaving,
+        fresh,
+    })
+}
+
+/// Scans boards of the block from rank `first` on, one for each cell.
 ///
 /// Only the first board is found by its rank: each other is the successor of the one before.
-fn scanned_cells(
-    alloc: Global,
-    shelf: &Shelf,
-    start: u32,
-    end: u32,
-) -> Result<Vec<Cell>, AllocError>
-    requires low { length shelf.now ≤ HIGHEST_LEVEL }
-    requires ranged { IsRanged (table_of shelf.now).value (length shelf.now) }
-    requires order { start ≤ end }
-    requires within { end ≤ size_of (length shelf.now) }
-    ensures len { IfOk result (λ cells. start + vec_len cells ≡ end) }
-    ensures scanned { IfOk result (λ cells. AreScanned (table_of shelf.now).value (length shelf.now) start end cells.items) }
-{
-    ranks_tell_boards_apart();
-    let mut cells = Vec::with_capacity(alloc, (end - start) as usize)?;
-    if start == end {
-        return Ok(cells);
-    }
-    let mut board = unrank(shelf.levels(), start);
-    for _rank in start..end {
-        cells.push(scanned(shelf, &board))?;
-        match successor(&board) {
-            Some(next) => board = next,
-            None => return Ok(cells),
-        }
-    }
-    Ok(cells)
-}
-
-/// Scans the boards from rank `start` on, one for each cell.
-pub fn scan_cells(shelf: &Shelf, start: u32, cells: &mut [Cell])
-    requires low { length shelf.now ≤ HIGHEST_LEVEL }
-    requires ranged { IsRanged (table_of shelf.now).value (length shelf.now) }
-    requires within { start + length cells.old ≤ size_of (length shelf.now) }
-    ensures len { length cells.new ≡ length cells.old }
-    ensures scanned { AreScanned (table_of shelf.now).value (length shelf.now) start (start + length cells.old) cells.new }
+pub fn scan_boards(shelf: &Shelf, block: Block, first: u32, cells: &mut [Cell], leaving: &mut [u8])
+    requires { CanScan (table_of shelf.now).value (length shelf.now) block first (length cells.old) (length leaving.old) }
+    ensures { IsPiece (table_of shelf.now).value (length shelf.now) block first (length cells.old) cells.new leaving.new }
 {
     ranks_tell_boards_apart();
     if cells.is_empty() {
         return;
     }
-    let mut board = unrank(shelf.levels(), start);
+    let mut board = unrank(shelf.levels(), first);
     for k in 0..cells.len() {
-        cells[k] = scanned(shelf, &board);
+        let found = scanned(shelf, block, &board);
+        cells[k] = found.cell;
+        leaving[k] = found.leaving;
         match successor(&board) {
             Some(next) => board = next,
             None => return,
@@ -103,40 +107,68 @@ pub fn scan_cells(shelf: &Shelf, start: u32, cells: &mut [Cell])
     }
 }
 
-/// The cell of a board of the shelf's next level.
-fn scanned(shelf: &Shelf, board: &Board) -> Cell
+/// What is found of a board of the shelf's next level.
+fn scanned(shelf: &Shelf, block: Block, board: &Board) -> ScannedBoard
     requires board { IsBoard board.now }
     requires stones { sum board.now ≡ length shelf.now }
     requires low { length shelf.now ≤ HIGHEST_LEVEL }
     requires ranged { IsRanged (table_of shelf.now).value (length shelf.now) }
-    ensures { IsScanned (table_of shelf.now).value board.now result }
+    requires block { IsBlockOf (length shelf.now) block }
+    ensures cell { IsScanned (table_of shelf.now).value board.now result.cell }
+    ensures leaving { AreLeavingBelow block.start (block.end - block.start) board.now 6 result.leaving }
 {
     let mut seen = Outlook {
         quiet: 0,
         best: None,
+        leaving: 0,
     };
     for pit in 0..SIDE {
-        seen = with_pit(seen, shelf, board, pit);
+        seen = with_pit(seen, shelf, block, board, pit);
     }
-    cell_of(board, seen)
+    ScannedBoard {
+        cell: cell_of(board, seen),
+        leaving: seen.leaving,
+    }
 }
 
 /// The outlook with one pit more.
-fn with_pit(seen: Outlook, shelf: &Shelf, board: &Board, pit: u8) -> Outlook
+fn with_pit(seen: Outlook, shelf: &Shelf, block: Block, board: &Board, pit: u8) -> Outlook
     requires stones { sum board.now ≡ length shelf.now }
     requires low { length shelf.now ≤ HIGHEST_LEVEL }
     requires ranged { IsRanged (table_of shelf.now).value (length shelf.now) }
+    requires block { IsBlockOf (length shelf.now) block }
     requires own { pit < 6 }
     requires seen { IsOutlook (table_of shelf.now).value board.now pit seen.quiet seen.best }
-    ensures { IsOutlook (table_of shelf.now).value board.now (pit + 1) result.quiet result.best }
+    requires leaving { AreLeavingBelow block.start (block.end - block.start) board.now pit seen.leaving }
+    ensures seen { IsOutlook (table_of shelf.now).value board.now (pit + 1) result.quiet result.best }
+    ensures leaving { AreLeavingBelow block.start (block.end - block.start) board.now (pit + 1) result.leaving }
 {
     if !board.legal(pit) {
         return seen;
     }
     match board.play(pit) {
-        Ok(moved) => with_move(seen, shelf, &moved),
+        Ok(moved) => Outlook {
+            leaving: with_leaving(seen.leaving, block, pit, &moved),
+            ..with_move(seen, shelf, &moved)
+        },
         Err(_) => unreachable!(),
     }
+}
+
+/// The pits whose quiet moves lead out of the block, with the move of one pit more.
+fn with_leaving(leaving: u8, block: Block, pit: u8, moved: &Moved) -> u8
+    requires own { pit < 6 }
+    requires board { IsBoard moved.now.board }
+    requires low { sum moved.now.board + moved.now.captured ≤ 24 }
+    requires block { IsBlockOf (sum moved.now.board + moved.now.captured) block }
+    ensures { (p : List ℕ) → IsMove p pit moved.now.captured moved.now.board
+        → AreLeavingBelow block.start (block.end - block.start) p pit leaving
+        → AreLeavingBelow block.start (block.end - block.start) p (pit + 1) result }
+{
+    if moved.captured > 0 || block.holds(&moved.board) {
+        return leaving;
+    }
+    leaving | (1 << pit)
 }
 
 /// The outlook with the move of one pit more.
@@ -153,7 +185,7 @@ fn with_move(seen: Outlook, shelf: &Shelf, moved: &Moved) -> Outlook
     if moved.captured == 0 {
         return Outlook {
             quiet: seen.quiet + 1,
-            best: seen.best,
+            ..seen
         };
     }
     let gain = gain_of(shelf, moved);
@@ -162,8 +194,8 @@ fn with_move(seen: Outlook, shelf: &Shelf, moved: &Moved) -> Outlook
         None => gain,
     };
     Outlook {
-        quiet: seen.quiet,
         best: Some(best),
+        ..seen
     }
 }
 
