@@ -1,2 +1,4 @@
 pub mod BuildFault
 pub mod Sound
+pub mod Owned
+pub mod Paces

@@ -3,6 +3,7 @@
 ghost use Rattle.std.specs.Prelude.{◌≡◌};
 ghost use Rattle.awari_build.specs.BuildFault.{number_of};
 
+use awari_phase::PhaseFault;
 use std::fmt;
 use thiserror::Error;
 
@@ -19,6 +20,8 @@ pub enum BuildFault {
     TooHigh,
     /// 53: a growth was refused.
     Memory,
+    /// 52: the owners could not work.
+    Phase { fault: PhaseFault },
 }
 
 impl BuildFault {
@@ -31,6 +34,7 @@ impl BuildFault {
             BuildFault::Pace => 55,
             BuildFault::TooHigh => 51,
             BuildFault::Memory => 53,
+            BuildFault::Phase { .. } => 52,
         }
     }
 }
@@ -48,6 +52,7 @@ impl fmt::Display for BuildFault {
             BuildFault::Pace => write!(f, "{number} Pace"),
             BuildFault::TooHigh => write!(f, "{number} TooHigh"),
             BuildFault::Memory => write!(f, "{number} Memory"),
+            BuildFault::Phase { fault } => write!(f, "{number} Phase: {fault}"),
         }
     }
 }

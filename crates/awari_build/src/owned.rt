@@ -1,32 +1,130 @@
 //! A level built by several owners, each in a thread of its own.
 
-ghost use Rattle.std.specs.Prelude.{◌≡◌, ◌≤◌, ◌<◌, ◌⊎◌, ◌↔◌, ◌++◌, ◌∷◌, [], IfOk, IfErr, length};
+ghost use Rattle.std.specs.Prelude.{◌≡◌, ◌≤◌, ◌<◌, ◌+◌, ◌⊎◌, ◌↔◌, ◌++◌, ◌∷◌, [], ℕ, ℤ, List, IfOk, IfErr, Err, length, vec_len};
 ghost use Rattle.awari_plan.specs.Least.{IsPlannedLowest};
-ghost use Rattle.awari_table.specs.Shelves.{Consistent};
+ghost use Rattle.awari_table.specs.Images.{table_of};
+ghost use Rattle.awari_table.specs.Shelves.{Consistent, IsShelf};
+ghost use Rattle.awari_table.specs.declared.TheConstants.{HIGHEST_LEVEL};
 ghost use Rattle.awari_theory.specs.Truth.{TellsTruth};
+ghost use Rattle.awari_build.specs.BuildFault.{IsOfPhase};
+ghost use Rattle.awari_build.specs.Owned.{AreAt};
+ghost use Rattle.awari_build.specs.Paces.{HasOwners, IsPaced};
 
-use crate::alone::build_alone;
 use crate::faults::BuildFault;
-use crate::paces::{MOST_OWNERS, Pace};
-use awari_phase::Gate;
-use awari_table::{Level, Shelf};
+use crate::paces::{MOST_OWNERS, MOST_ROOM, MOST_SWEEPS, Pace};
+use awari_phase::{
+    Gate, Owner, PhaseFault, finished_owners_are_right, gain_phase, into_parts, open_gain,
+    scanned_owners,
+};
+use awari_plan::{finish_parallel, finished_levels_are_consistent};
+use awari_table::{HIGHEST_LEVEL, Level, Shelf};
 use std::alloc::Global;
 use std::sync::Wait;
 use std::thread::Threads;
 
+/// The shelf's next level, built by several owners, each in a thread of its own, that work as `pace`
+/// says; each enters the gate at the start of each of its sweeps. Refused are a number of owners that
+/// is not 1 to 16, as 50 `Owners`, another room or number of sweeps than `Pace` allows, as 55 `Pace`,
+/// a shelf that has all levels, as 51 `TooHigh`, want of memory as 53 `Memory`, and a thread that could
+/// not be started as 52 `Phase`. It takes memory for the parts, 17 bytes a board, for the lines and for
+/// the entries.
+///
+/// That the level is right, whatever order the owners' steps had, is proved, and nothing verifies it
+/// when the program runs.
 pub fn build_level<R: Threads + Wait + Sync, G: Gate + Sync>(
-    _rt: &R,
+    rt: &R,
     alloc: Global,
     shelf: &Shelf,
     pace: Pace,
-    _gate: &G,
+    gate: &G,
 ) -> Result<Level, BuildFault>
     ensures consistent { IfOk result (λ level. Consistent shelf.now level) }
     ensures meaning { IfOk result (λ level. TellsTruth (shelf.now ++ level ∷ [])) }
+
+    // Its plans are the lowest, so there is one level that it may be, that of `build_alone`.
     ensures planned { IfOk result (IsPlannedLowest shelf.now) }
+    ensures owners { (result ≡ Err BuildFault.Owners) ↔ (HasOwners pace → ⊥) }
+    ensures pace { (result ≡ Err BuildFault.Pace) ↔ (HasOwners pace × (IsPaced pace → ⊥)) }
+    ensures too_high { (result ≡ Err BuildFault.TooHigh) ↔ (HasOwners pace × IsPaced pace × (HIGHEST_LEVEL < length shelf.now)) }
 {
     if !(1..=MOST_OWNERS).contains(&pace.owners) {
         return Err(BuildFault::Owners);
     }
-    build_alone(alloc, shelf)
+    if !(1..=MOST_ROOM).contains(&pace.room) || !(1..=MOST_SWEEPS).contains(&pace.sweeps) {
+        return Err(BuildFault::Pace);
+    }
+    if shelf.levels() > HIGHEST_LEVEL {
+        return Err(BuildFault::TooHigh);
+    }
+    let owners = settled_owners(rt, alloc, shelf, pace, gate)?;
+    level_of(rt, alloc, shelf, owners)
+}
+
+/// The level that its owners have settled.
+fn level_of<R: Threads + Sync>(
+    rt: &R,
+    alloc: Global,
+    shelf: &Shelf,
+    owners: Vec<Owner>,
+) -> Result<Level, BuildFault>
+    requires shelf { IsShelf shelf.now }
+    requires low { length shelf.now ≤ HIGHEST_LEVEL }
+    requires closed { AreAt (table_of shelf.now).value (length shelf.now) 1 owners.items }
+    ensures consistent { IfOk result (λ level. Consistent shelf.now level) }
+    ensures meaning { IfOk result (λ level. TellsTruth (shelf.now ++ level ∷ [])) }
+    ensures planned { IfOk result (IsPlannedLowest shelf.now) }
+    ensures memory { IfErr result (λ fault. fault ≡ BuildFault.Memory) }
+{
+    finished_owners_are_right();
+    finished_levels_are_consistent();
+    let Ok(parts) = into_parts(alloc, owners) else {
+        return Err(BuildFault::Memory);
+    };
+    match finish_parallel(rt, alloc, shelf, parts.as_slice()) {
+        Ok(image) => Ok(Level::new(image)),
+        Err(_) => Err(BuildFault::Memory),
+    }
+}
+
+/// The owners of the shelf's next level, with all gains closed.
+fn settled_owners<R: Threads + Wait + Sync, G: Gate + Sync>(
+    rt: &R,
+    alloc: Global,
+    shelf: &Shelf,
+    pace: Pace,
+    gate: &G,
+) -> Result<Vec<Owner>, BuildFault>
+    requires low { length shelf.now ≤ HIGHEST_LEVEL }
+    requires owners { HasOwners pace }
+    requires pace { IsPaced pace }
+    ensures closed { IfOk result (λ owners. AreAt (table_of shelf.now).value (length shelf.now) 1 owners.items) }
+    ensures phase { IfErr result IsOfPhase }
+{
+    let Ok(mut owners) = scanned_owners(rt, alloc, shelf, pace.owners, pace.room as u16) else {
+        return Err(BuildFault::Memory);
+    };
+    for _gain in 0..shelf.levels() {
+        owners = closed_gain(rt, owners, gate, pace.sweeps)?;
+    }
+    Ok(owners)
+}
+
+/// The owners with the next smaller gain closed.
+fn closed_gain<R: Threads + Wait + Sync, G: Gate + Sync>(
+    rt: &R,
+    mut owners: Vec<Owner>,
+    gate: &G,
+    sweeps: u32,
+) -> Result<Vec<Owner>, BuildFault>
+    requires sweeps { (1 ≤ sweeps) × (sweeps ≤ 1000) }
+    requires rest { (value : List ℕ → ℤ) × (n : ℕ) × (gain : ℕ) × (2 ≤ gain) × AreAt value n gain owners.items }
+    ensures closed { IfOk result (λ all. (value : List ℕ → ℤ) (n gain : ℕ) → AreAt value n (gain + 1) owners.items → AreAt value n gain all.items) }
+    ensures phase { IfErr result IsOfPhase }
+{
+    open_gain(owners.as_mut_slice());
+    match gain_phase(rt, owners, gate, sweeps) {
+        Ok(all) => Ok(all),
+        Err(PhaseFault::Memory) => Err(BuildFault::Memory),
+        Err(fault) => Err(BuildFault::Phase { fault }),
+    }
 }

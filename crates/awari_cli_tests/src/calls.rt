@@ -1,11 +1,21 @@
 //! The commands on a folder in memory, of which one call is refused.
 
+use awari_build::Pace;
 use awari_cli::{run_ask, run_build_in, run_line, run_verify};
 use awari_folder::{Draft, Folder, MemoryFolder};
 use std::alloc::Global;
 use std::io::{Read, Write};
 use std::process::Abort;
+use std::sync::Wait;
 use std::test::Fail;
+use std::thread::Threads;
+
+/// A build by one part.
+const ALONE: Pace = Pace {
+    owners: 0,
+    room: 64,
+    sweeps: 1000,
+};
 
 const LEVEL_1: &str = "level 1 boards 12 won 5 even 0 lost 7 limit 1\n";
 
@@ -31,33 +41,39 @@ levels 2 digest 045eb0f444c69c6731d7b84d1be9206da3347f69294d13c733cbaf6303ecc4d8
 
 /// Builds up to level 1 in the folder, and compares what is printed and the status.
 fn expect_build(
-    rt: &(impl Abort + AllocGlobal),
+    rt: &(impl Abort + AllocGlobal + Threads + Wait + Sync),
     folder: &mut MemoryFolder,
     printed: &str,
     expected: u8,
 ) {
     let mut output = Vec::new(rt.alloc());
-    let status = run_build_in(folder, rt.alloc(), 1, &mut output);
+    let status = run_build_in(rt, folder, rt.alloc(), 1, ALONE, &mut output);
     assert!(rt; output.as_slice() == printed.as_bytes(), "{printed}");
     assert_eq!(rt; status, expected, "{printed}");
 }
 
 /// Verifies the folder, and compares what is printed and the status.
 fn expect_verify(
-    rt: &(impl Abort + AllocGlobal),
+    rt: &(impl Abort + AllocGlobal + Threads + Wait + Sync),
     folder: &mut MemoryFolder,
     printed: &str,
     expected: u8,
 ) {
     let mut output = Vec::new(rt.alloc());
-    let status = run_verify(folder, rt.alloc(), &mut output);
+    let status = run_verify(rt, folder, rt.alloc(), &mut output);
     assert!(rt; output.as_slice() == printed.as_bytes(), "{printed}");
     assert_eq!(rt; status, expected, "{printed}");
 }
 
 /// Builds in an empty folder of which the call of this number is refused, and then once more: the
 /// second time the rest is built.
-fn expect_both(rt: &(impl Abort + AllocGlobal), call: u32, printed: &str, status: u8, rest: &str) {
+fn expect_both(
+    rt: &(impl Abort + AllocGlobal + Threads + Wait + Sync),
+    call: u32,
+    printed: &str,
+    status: u8,
+    rest: &str,
+) {
     let mut folder = MemoryFolder::new(rt.alloc());
     folder.refuse(call);
     expect_build(rt, &mut folder, printed, status);
@@ -142,10 +158,10 @@ fn a_folder_that_is_refused_answers_nothing(rt: HostRuntime) {
     let board = "0,0,0,0,0,1/0,0,0,0,0,0";
     let mut output = Vec::new(rt.alloc());
     folder.refuse(1);
-    let status = run_ask(&mut folder, rt.alloc(), board, &mut output);
+    let status = run_ask(&rt, &mut folder, rt.alloc(), board, &mut output);
     assert_eq!(rt; status, 1);
     folder.refuse(1);
-    let status = run_line(&mut folder, rt.alloc(), board, &mut output);
+    let status = run_line(&rt, &mut folder, rt.alloc(), board, &mut output);
     assert_eq!(rt; status, 1);
     assert!(rt; output.as_slice() == OPEN_0_TWICE.as_bytes());
 }

@@ -9,11 +9,13 @@ use std::io;
 use std::io::{ErrorKind, Read, Write};
 use std::process::Abort;
 use std::rt::Files;
+use std::sync::Wait;
 use std::test::Fail;
+use std::thread::Threads;
 
 /// Runs the program on these words, and compares what it prints and its status.
 pub fn expect_run(
-    rt: &(impl Abort + Files<File = File>),
+    rt: &(impl Abort + Files<File = File> + Threads + Wait + Sync),
     alloc: Global,
     words: &[&str],
     input: &[u8],
@@ -30,7 +32,7 @@ pub fn expect_run(
 }
 
 fn expect_check(
-    rt: &(impl Abort + Files<File = File>),
+    rt: &(impl Abort + Files<File = File> + Threads + Wait + Sync),
     alloc: Global,
     input: &[u8],
     printed: &str,

@@ -10,8 +10,9 @@ use std::alloc::{AllocError, Global};
 use std::fs::File;
 use std::process::Abort;
 use std::rt::Files;
-use std::sync::Arc;
+use std::sync::{Arc, Wait};
 use std::test::Fail;
+use std::thread::Threads;
 use std::{fs, io};
 
 const CYCLE: &str = "1,0,0,0,0,0/1,0,0,0,0,0";
@@ -71,7 +72,7 @@ fn levels_are_built(rt: HostRuntime) {
 
 /// Runs `build` on the folder.
 fn expect_build(
-    rt: &(impl Abort + Files<File = File> + AllocGlobal),
+    rt: &(impl Abort + Files<File = File> + Threads + Wait + Sync + AllocGlobal),
     folder: &str,
     top: &str,
     printed: &str,
@@ -82,7 +83,7 @@ fn expect_build(
 
 /// Runs `verify` on the folder.
 fn expect_verify(
-    rt: &(impl Abort + Files<File = File> + AllocGlobal),
+    rt: &(impl Abort + Files<File = File> + Threads + Wait + Sync + AllocGlobal),
     folder: &str,
     printed: &str,
     status: u8,
@@ -93,7 +94,7 @@ fn expect_verify(
 
 /// Runs `ask` on the folder.
 fn expect_ask(
-    rt: &(impl Abort + Files<File = File> + AllocGlobal),
+    rt: &(impl Abort + Files<File = File> + Threads + Wait + Sync + AllocGlobal),
     folder: &str,
     board: &str,
     printed: &str,
@@ -159,7 +160,7 @@ fn a_folder_is_asked(rt: HostRuntime) -> Result<(), Fail> {
 
 /// Runs `line` on the folder.
 fn expect_line(
-    rt: &(impl Abort + Files<File = File> + AllocGlobal),
+    rt: &(impl Abort + Files<File = File> + Threads + Wait + Sync + AllocGlobal),
     folder: &str,
     board: &str,
     printed: &str,
@@ -271,7 +272,7 @@ fn changed(alloc: Global, file: &[u8], from: usize, bytes: &[u8]) -> Result<Vec<
 
 /// What `verify` prints where the second file is this.
 fn expect_refusal(
-    rt: &(impl Abort + Files<File = File> + AllocGlobal),
+    rt: &(impl Abort + Files<File = File> + Threads + Wait + Sync + AllocGlobal),
     folder: &str,
     second: &str,
     file: &[u8],

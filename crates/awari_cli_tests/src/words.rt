@@ -6,7 +6,9 @@ use std::alloc::Global;
 use std::fs::File;
 use std::process::Abort;
 use std::rt::Files;
+use std::sync::Wait;
 use std::test::Fail;
+use std::thread::Threads;
 use std::{fs, str};
 
 const WON: &str = "1,0,0,0,0,0/0,0,1,0,0,0";
@@ -35,7 +37,7 @@ const HYPHENS: [([&str; 4], &str, u8); 9] = [
 
 /// Runs the program on these words, of which empty ones are left out.
 fn expect(
-    rt: &(impl Abort + Files<File = File>),
+    rt: &(impl Abort + Files<File = File> + Threads + Wait + Sync),
     alloc: Global,
     words: [&str; 4],
     printed: &str,
@@ -79,7 +81,12 @@ fn numbers_in_other_forms(rt: HostRuntime) {
 }
 
 /// Whether the text that these words bring goes to the error stream, and has this in it.
-fn expect_usage(rt: &(impl Abort + Files<File = File>), alloc: Global, words: &[&str], part: &str) {
+fn expect_usage(
+    rt: &(impl Abort + Files<File = File> + Threads + Wait + Sync),
+    alloc: Global,
+    words: &[&str],
+    part: &str,
+) {
     let mut reader: &[u8] = b"";
     let mut output = Vec::new(alloc);
     let mut errors = Vec::new(alloc);

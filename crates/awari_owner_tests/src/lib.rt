@@ -15,4 +15,6 @@ mod parts;
 #[cfg(test)]
 mod pieces;
 #[cfg(test)]
+mod rounds;
+#[cfg(test)]
 mod shelves;

@@ -1,0 +1,211 @@
+//! Rounds of owners in threads, and the levels that owners build together.
+
+ghost use Rattle.std.specs.Prelude.{IfOk};
+ghost use Rattle.awari_lines.specs.Lines.{IsGrid};
+ghost use Rattle.awari_phase.specs.Owners.{all_ends};
+
+use crate::shelves::{levels_below, one_level};
+use awari_build::{BuildFault, Pace, build_alone, build_level};
+use awari_phase::{
+    Gate, Open, Owner, PhaseFault, gain_phase, open_gain, round, scanned_owners, settle_owners,
+};
+use awari_table::{Level, Shelf};
+use std::alloc::Global;
+use std::hint;
+use std::process::Abort;
+use std::sync::atomic::{AtomicU64, Ordering};
+use std::sync::{Arc, Wait};
+use std::test::Fail;
+use std::thread::Threads;
+
+/// Three owners of level 1, with room for one batch on each line and gain 1 open.
+fn three_owners<R: Threads + Sync>(rt: &R, alloc: Global) -> Result<Vec<Owner>, Fail>
+    ensures { IfOk result (λ owners. IsGrid (all_ends owners.items)) }
+{
+    let shelf = one_level(alloc)?;
+    let mut owners = scanned_owners(rt, alloc, &shelf, 3, 1)?;
+    open_gain(owners.as_mut_slice());
+    Ok(owners)
+}
+
+/// Two rounds of one sweep: in the first each owner spreads its boards and sends their notes, and in
+/// the second it takes those that came.
+fn after_two_rounds<R: Threads + Wait + Sync>(rt: &R, alloc: Global) -> Result<Vec<Owner>, Fail>
+    ensures { IfOk result (λ owners. IsGrid (all_ends owners.items)) }
+{
+    let owners = three_owners(rt, alloc)?;
+    let owners = round(rt, owners, &Open, 1)?;
+    let owners = round(rt, owners, &Open, 1)?;
+    Ok(owners)
+}
+
+/// The distances that are due in the parts, and whether each has something to send.
+fn standing(owners: &[Owner]) -> [(Option<u32>, bool); 3] {
+    let mut all = [(None, false); 3];
+    for (owner, seen) in owners.iter().zip(all.iter_mut()) {
+        *seen = (owner.part.due(), owner.outboxes.is_empty());
+    }
+    all
+}
+
+#[test]
+fn rounds_spread_and_send(rt: HostRuntime) -> Result<(), Fail> {
+    let owners = after_two_rounds(&rt, rt.alloc())?;
+    let rank_6 = (Some(1), true);
+    let rest = (None, true);
+    assert_eq!(rt; standing(&owners), [rest, rank_6, rest]);
+    let mut owners = gain_phase(&rt, owners, &Open, 1)?;
+    assert_eq!(rt; standing(&owners), [rest, rest, rest]);
+    assert!(rt; settle_owners(owners.as_mut_slice()));
+    Ok(())
+}
+
+/// Whether owners at this pace build the level that one part builds, over the same shelf.
+fn is_built_alike<R: Threads + Wait + Sync>(
+    rt: &R,
+    alloc: Global,
+    shelf: &Shelf,
+    alone: &Level,
+    pace: Pace,
+) -> Result<bool, Fail> {
+    let level = build_level(rt, alloc, shelf, pace, &Open)?;
+    Ok(level.limit() == alone.limit() && level.entries() == alone.entries())
+}
+
+/// Paces of one, three and sixteen owners.
+const PACES: [(u8, u32, u32); 6] = [
+    (1, 64, 1000),
+    (1, 1, 1),
+    (3, 1, 1000),
+    (3, 256, 1),
+    (16, 64, 1000),
+    (16, 1, 1),
+];
+
+/// The shelf's next level, as owners at each pace build it and as one part does.
+fn built_alike<R: Threads + Wait + Sync + Abort>(
+    rt: &R,
+    alloc: Global,
+    shelf: &Shelf,
+) -> Result<Level, Fail> {
+    let alone = build_alone(alloc, shelf)?;
+    for (owners, room, sweeps) in PACES {
+        let pace = Pace {
+            owners,
+            room,
+            sweeps,
+        };
+        let is_alike = is_built_alike(rt, alloc, shelf, &alone, pace)?;
+        assert!(rt; is_alike, "level {} by {owners} owners", alone.number());
+    }
+    Ok(alone)
+}
+
+#[test]
+fn owners_build_what_one_part_builds(rt: HostRuntime) -> Result<(), Fail> {
+    let mut shelf = Shelf::empty();
+    for _level in 0..7u8 {
+        let level = built_alike(&rt, rt.alloc(), &shelf)?;
+        shelf.push(Arc::new(rt.alloc(), level)?);
+    }
+    assert_eq!(rt; (shelf.levels(), shelf.limit()), (7, 64));
+    Ok(())
+}
+
+/// Why no level is built at this pace.
+fn fault_at<R: Threads + Wait + Sync>(
+    rt: &R,
+    alloc: Global,
+    shelf: &Shelf,
+    owners: u8,
+    room: u32,
+    sweeps: u32,
+) -> Option<BuildFault> {
+    let pace = Pace {
+        owners,
+        room,
+        sweeps,
+    };
+    build_level(rt, alloc, shelf, pace, &Open).err()
+}
+
+#[test]
+fn paces_are_refused_in_order(rt: HostRuntime) {
+    let shelf = Shelf::empty();
+    for (owners, room) in [(0, 64), (17, 64), (17, 0)] {
+        let fault = fault_at(&rt, rt.alloc(), &shelf, owners, room, 1000);
+        assert_eq!(rt; fault, Some(BuildFault::Owners));
+    }
+    for (room, sweeps) in [(0, 1000), (257, 1000), (64, 0), (64, 1001)] {
+        let fault = fault_at(&rt, rt.alloc(), &shelf, 2, room, sweeps);
+        assert_eq!(rt; fault, Some(BuildFault::Pace));
+    }
+    assert_eq!(rt; fault_at(&rt, rt.alloc(), &shelf, 16, 256, 1), None);
+}
+
+#[test]
+fn phase_faults_have_their_numbers(rt: HostRuntime) {
+    let not_started = BuildFault::Phase {
+        fault: PhaseFault::NotStarted,
+    };
+    assert_eq!(rt;
+        (not_started.number(), PhaseFault::NotStarted.number()),
+        (52, 40)
+    );
+    assert_eq!(rt;
+        (BuildFault::Owners.number(), BuildFault::Pace.number()),
+        (50, 55)
+    );
+}
+
+/// How often an owner looks whether the other one has come, at most.
+const MOST_TURNS: u32 = 10_000_000;
+
+/// A gate for two owners, which holds the first and second sweep of each until the other has begun as
+/// many. Owners that work one after the other never meet there.
+struct Meeting {
+    first: AtomicU64,
+    second: AtomicU64,
+    missed: AtomicU64,
+}
+
+impl Gate for Meeting {
+    fn enter(&self, owner: u8) {
+        let (own, other) = if owner == 0 {
+            (&self.first, &self.second)
+        } else {
+            (&self.second, &self.first)
+        };
+        let before = own.fetch_add(1, Ordering::SeqCst);
+        if before >= 2 {
+            return;
+        }
+        for _turn in 0..MOST_TURNS {
+            if other.load(Ordering::SeqCst) > before {
+                return;
+            }
+            hint::spin_loop();
+        }
+        self.missed.store(1, Ordering::SeqCst);
+    }
+}
+
+#[test]
+fn owners_work_at_once(rt: HostRuntime) -> Result<(), Fail> {
+    let shelf = levels_below(rt.alloc(), 2)?;
+    let gate = Meeting {
+        first: AtomicU64::new(0),
+        second: AtomicU64::new(0),
+        missed: AtomicU64::new(0),
+    };
+    let pace = Pace {
+        owners: 2,
+        room: 64,
+        sweeps: 1000,
+    };
+    let level = build_level(&rt, rt.alloc(), &shelf, pace, &gate)?;
+    assert_eq!(rt; level.limit(), 9);
+    assert_eq!(rt; gate.missed.load(Ordering::SeqCst), 0);
+    assert!(rt; gate.first.load(Ordering::SeqCst) >= 2);
+    Ok(())
+}
