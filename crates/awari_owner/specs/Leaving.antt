@@ -20,15 +20,15 @@ IsAmong start boards rank = (start ≤ rank) × (rank - start < boards)
 abbrev pub LeavesFrom : ℕ → ℕ → List ℕ → ℕ → Type 0
 LeavesFrom start boards p pit = (q : List ℕ) × IsQuietMove p pit q × (IsAmong start boards (rank_of q) → ⊥)
 
--- so does that of the board of n stones that has this rank
+-- the move from this pit of the board of n stones that has this rank does so
 abbrev pub LeavesAt : ℕ → ℕ → ℕ → ℕ → ℕ → Type 0
 LeavesAt n start boards rank pit = (p : List ℕ) → IsBoard p → sum p ≡ n → rank_of p ≡ rank → LeavesFrom start boards p pit
 
--- of the pits below k, those whose moves do so have their bits, and no other pit has
+-- the bits are those of the pits below k whose moves leave these boards
 abbrev pub AreLeavingBelow : ℕ → ℕ → List ℕ → ℕ → ℕ → Type 0
 AreLeavingBelow start boards p k bits = (pit : ℕ) → pit < 6 → (has_pit bits pit ≡ true) ↔ ((pit < k) × LeavesFrom start boards p pit)
 
--- a byte for each board of n stones from rank `first` on, with the bits of the pits whose moves do so
+-- a byte for each board of n stones from rank `first` on: the bits of the pits whose moves leave these boards
 abbrev pub AreLeaving : ℕ → ℕ → ℕ → ℕ → List ℕ → Type 0
 AreLeaving n start boards first leaving =
     (k pit : ℕ) → k < length leaving → pit < 6 → (has_pit (slice_index_or leaving k 0) pit ≡ true) ↔ LeavesAt n start boards (first + k) pit
