@@ -1,0 +1,21 @@
+use Rattle.std.proofs.Common.{◌≡◌, ℕ, ◌+◌, ◌++◌, List, ℤ, length, take, drop, ap, sym, subst, ◌∙◌, arith}
+use Rattle.awari_core.proofs.Rounds.{written}
+use Rattle.awari_lines.specs.Lines.{IsGrid}
+use Rattle.awari_phase.specs.Owners.{AreFinished, all_ends}
+use Rattle.awari_phase.specs.declared.owners.Owner.{Owner}
+use Rattle.awari_build.specs.Owned.{AreAt}
+use Rattle.awari_build.proofs.Gains.{next_open, phase_ends}
+use Rattle.awari_build.proofs.owned.closed_gain.Goals as goal
+
+pub gain_phase-requires-clause-grid : goal.gain_phase-requires-clause-grid
+gain_phase-requires-clause-grid g c κs within =
+    let same = written c.open_gain.new.owners c.args.owners.items c.args.owners.len (c.open_gain.auto.owners ∙ ap length c.as_mut_slice.ensures.value ∙ sym c.args.owners.ok.0) (sym c.args.owners.ok.0) in
+    let rest = c.requires.rest in
+    subst (λ l. IsGrid (all_ends l)) (sym same) (c.open_gain.ensures.finished rest.0 rest.1 (subst (AreFinished rest.0 rest.1) (sym c.as_mut_slice.ensures.value) rest.4.finished)).grid
+
+pub returns-in-Ok-clause-closed : goal.returns-in-Ok-clause-closed
+returns-in-Ok-clause-closed g c = λ value n gain at.
+    let same = written c.open_gain.new.owners c.args.owners.items c.args.owners.len (c.open_gain.auto.owners ∙ ap length c.as_mut_slice.ensures.value ∙ sym c.args.owners.ok.0) (sym c.args.owners.ok.0) in
+    phase_ends value n gain c.open_gain.new.owners _ c.in-Ok.all.items same
+    (next_open value n gain c.args.owners.items c.as_mut_slice.result.now c.open_gain.new.owners c.as_mut_slice.ensures.value c.open_gain.auto.owners c.open_gain.ensures.finished c.open_gain.ensures.gain at)
+    c.in-Ok.ensures.grown c.in-Ok.ensures.idle c.in-Ok.ensures.finished

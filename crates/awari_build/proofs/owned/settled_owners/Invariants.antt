@@ -1,0 +1,8 @@
+use Rattle.std.proofs.Common.{◌≡◌, ℕ, ◌+◌, ◌≤◌, length}
+use Rattle.awari_table.specs.Images.{table_of}
+use Rattle.awari_build.specs.Owned.{AreAt}
+use Rattle.awari_build.proofs.owned.settled_owners.Given as goal
+
+abbrev pub invariant-loop-gain : goal.invariant-loop-gain
+invariant-loop-gain g l =
+    (opened : ℕ) × (1 ≤ opened) × (opened + l._gain ≡ length l.fn.shelf + 1) × AreAt (table_of l.fn.shelf).value (length l.fn.shelf) opened l.owners.items
