@@ -163,6 +163,7 @@ const MOST_TURNS: u32 = 10_000_000;
 
 /// A gate for two owners, which holds the first and second sweep of each until the other has begun as
 /// many. Owners that work one after the other never meet there.
+#[derive(Drop)]
 struct Meeting {
     first: AtomicU64,
     second: AtomicU64,
