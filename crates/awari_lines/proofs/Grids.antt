@@ -1,13 +1,13 @@
 -- Grids: what a look at two lines keeps, and what one more owner keeps.
-use Rattle.std.proofs.Common.{◌≡◌, ◌≢◌, ℕ, zero, suc, ◌+◌, ◌-◌, ◌<◌, ◌≤◌, List, [], ◌∷◌, ◌++◌, length, Option, Some, None, refl, sym, ap, subst, ◌∙◌, inl, inr, arith, append_assoc, set, get_or, take, drop, vec_len, length-set, length-append, ◌⊎◌}
-use Rattle.std.proofs.lemmas.List.{append-nil, get_or-set_same, get_or-set_other, get_or_default, get_or-take, get_or-drop}
+use Rattle.std.proofs.Common.{◌≡◌, ◌≢◌, ℕ, zero, suc, ◌+◌, ◌<◌, List, [], ◌∷◌, ◌++◌, length, Option, Some, None, refl, sym, ap, subst, ◌∙◌, inl, inr, arith, set, get_or, take, drop, length-set}
+use Rattle.std.proofs.lemmas.List.{get_or-set_same, get_or-set_other, get_or_default, get_or-take, get_or-drop}
 use Rattle.std.proofs.Common.{add-zero, IsTrue, ◌↔◌, Bool}
-use Rattle.std.proofs.lemmas.Bool.{cases_eq, cases_lt}
+use Rattle.std.proofs.lemmas.Bool.{cases_eq}
 use Rattle.std.specs.List.{slice_get}
 use Rattle.awari_lines.specs.Seats.{seat_of}
 use Rattle.awari_lines.specs.declared.lines.Ends.{Ends}
 use Rattle.awari_lines.specs.declared.lines.Line.{Line}
-use Rattle.awari_lines.specs.Lines.{Notes, IsOther, SameLines, SameBut, SameRings, PairedOn, Paired, Looked, LookedAt, IsExact, NothingWaits, IsGrid, SameHistory, sent_to, received_from, waiting_from, sent_on, received_on, line_of, owners_of}
+use Rattle.awari_lines.specs.Lines.{SameLines, SameRings, PairedOn, Paired, Looked, LookedAt, IsExact, NothingWaits, IsGrid, SameHistory, sent_to, received_from, sent_on, received_on, line_of}
 
 -- the same ends of the same two rings are paired as they were
 pub paired_kept : (l m l' m' : Option Line) → SameRings l l' → SameRings m m' → PairedOn l m → PairedOn l' m'

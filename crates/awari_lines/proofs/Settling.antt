@@ -1,9 +1,9 @@
 -- How far a settling has come.
-use Rattle.std.proofs.Common.{◌≡◌, ◌≢◌, ℕ, zero, suc, ◌+◌, ◌-◌, ◌<◌, ◌≤◌, List, [], ◌∷◌, ◌++◌, length, Option, Some, None, refl, sym, ap, subst, ◌∙◌, inl, inr, arith, get_or, IsTrue, ◌↔◌, Bool, true, ◌⊎◌}
+use Rattle.std.proofs.Common.{◌≡◌, ◌≢◌, ℕ, ◌+◌, ◌<◌, ◌≤◌, List, [], ◌∷◌, ◌++◌, length, Option, refl, sym, subst, ◌∙◌, inl, inr, arith, get_or, IsTrue, ◌↔◌, Bool, true, ◌⊎◌}
 use Rattle.std.proofs.lemmas.Bool.{cases_eq, cases_lt}
 use Rattle.awari_lines.specs.declared.lines.Ends.{Ends}
 use Rattle.awari_lines.specs.declared.lines.Line.{Line}
-use Rattle.awari_lines.specs.Lines.{LookedAt, NothingWaits, IsExact, IsGrid, SameHistory, SameLines, sent_to, received_from, waiting_from, sent_on, received_on, waiting_on, line_of}
+use Rattle.awari_lines.specs.Lines.{LookedAt, NothingWaits, IsGrid, SameHistory, sent_to, received_from, waiting_from, sent_on, received_on, waiting_on, line_of}
 use Rattle.awari_lines.proofs.Grids.{history_then, same_history}
 
 abbrev pub ExactOn : Option Line → Option Line → Type 0

@@ -40,8 +40,8 @@ impl Ends {
         self.lines.len() + 1
     }
 
-    /// Sends a batch to another owner of the grid, or hands it back where the line is full. It takes no
-    /// memory.
+    /// Sends a batch to another owner of the grid, or hands it back where the line is full. It takes
+    /// no memory.
     pub fn push(&mut self, to: u8, batch: Batch) -> Result<(), Batch>
         requires { IsOther self.old to }
         ensures lines { SameLines self.old self.new }
@@ -72,8 +72,8 @@ impl Ends {
         line.consumer.pop().ok()
     }
 
-    /// One more line at the end, to a new owner, with so much room. Gives that owner's line. Refused where
-    /// a growth was.
+    /// One more line at the end, to a new owner, with so much room. Gives that owner's line. Refused
+    /// where a growth was.
     pub(crate) fn connect(&mut self, alloc: Global, room: usize) -> Result<Line, AllocError>
         ensures { IfOk result (λ theirs. Connected self.old self.new theirs) }
     {

@@ -66,20 +66,20 @@ pub record Grown (a b : Owner) : Type 0 where
 abbrev pub AreInStep : List Owner → Type 0
 AreInStep os = (i : ℕ) (d : Owner) → i < length os → (slice_index_or os i d).part.wave ≡ (slice_index_or os 0 d).part.wave
 
--- So it is of each owner; they still stand on a grid, and one distance is open in all parts where one was.
+-- So it is of each owner; they stand on a grid, and one distance is open in all parts where one was.
 pub record AllGrown (os ps : List Owner) : Type 0 where
   pub many : length ps ≡ length os
   pub each : (i : ℕ) (d : Owner) → i < length os → Grown (slice_index_or os i d) (slice_index_or ps i d)
   pub grid : IsGrid (all_ends ps)
   pub wave : AreInStep os → AreInStep ps
 
--- this distance is open in the part, where it was less; all else of the owner is as it was
+-- this distance is open in the part, where it was less
 pub record OpensWave (dist : ℕ) (a b : Owner) : Type 0 where
   pub grown : Grown a b
   pub ends : b.ends ≡ a.ends
   pub wave : b.part.wave ≡ max a.part.wave dist
 
--- the next smaller gain is open in the part; all else of the owner is as it was
+-- the next smaller gain is open in the part, where the same boards are spread, and nothing was taken or sent
 pub record OpensNext (a b : Owner) : Type 0 where
   pub ends : b.ends ≡ a.ends
   pub outboxes : b.outboxes ≡ a.outboxes

@@ -30,8 +30,8 @@ impl Owner {
     ghost use Rattle.awari_lines.specs.Lines.{IsOther, owners_of};
     ghost use Rattle.awari_phase.specs.Owners.{Kept};
 
-    /// The owner of this part of a level, with these ends of its lines to the others, and with this to
-    /// send. All three are one owner's, of as many owners.
+    /// The owner of this part of a level, with these ends of its lines to the others and these
+    /// outboxes. All three are one owner's, of as many owners.
     pub fn new(part: Part, ends: Ends, outboxes: Outboxes) -> Owner
         requires queues { length outboxes.queues ≡ owners_of ends }
         requires numbered { outboxes.owner ≡ ends.owner }

@@ -34,10 +34,11 @@ enum Standing {
 /// nothing is to be sent or waits on a line. There are 1 to 1000 sweeps a round, and the owners stand
 /// on one grid. Refused as a round is; then the owners are gone.
 ///
-/// The first round is made in threads, and later ones where boards of the open distance are left, or
-/// batches that are to be sent. To start four threads takes 0.1 to 0.2 ms, in which one thread
-/// spreads some hundred boards, and most distances have fewer. So a distance is begun in turn, with
-/// two sweeps of each owner, and threads are started for the rest of it, if there is one.
+/// The first round is made in threads, since a gain can begin with many ended boards, and later ones
+/// where boards of the open distance are left, or batches that are to be sent. To start four threads
+/// takes 0.1 to 0.2 ms, in which one thread spreads some hundred boards, and most distances have
+/// fewer. So a distance is begun in turn on the caller's thread, with two sweeps of each owner, and
+/// threads are started for the rest of it, if there is one.
 pub fn gain_phase<R: Threads + Wait + Sync, G: Gate + Sync>(
     rt: &R,
     owners: Vec<Owner>,

@@ -1,14 +1,17 @@
 //! How an owner spreads a board.
 
-ghost use Rattle.std.specs.Prelude.{◌≡◌, ◌++◌, ℕ, ℤ, List, OnOk, length};
+ghost use Rattle.std.specs.Prelude.{◌≡◌, ◌⊎◌, ◌++◌, ℕ, ℤ, List, IfErr, OnOk, Ok, Some, false, length};
+ghost use Rattle.awari_owner.specs.Part.{IsLeastDue};
 ghost use Rattle.awari_owner.specs.Spread.{IsPartOf};
+ghost use Rattle.awari_owner.specs.declared.faults.OwnerFault.{OwnerFault};
 ghost use Rattle.awari_phase.specs.Sound.{Batches, queue_to, OwnerSound, SameBlock};
 
 use awari_board::moves_keep_boards;
 use awari_owner::{Outboxes, OwnerFault, Part};
 use awari_rank::ranks_tell_boards_apart;
 
-/// Spreads the first fresh board, if it has the open distance.
+/// Spreads the first fresh board, if it has the open distance. It is false where none has. Refused as
+/// 32 `Far` where its distance is the greatest that can be stored, and as 33 `Memory`.
 pub fn spread_one(part: &mut Part, outboxes: &mut Outboxes) -> Result<bool, OwnerFault>
     requires { IsPartOf part.old outboxes.old }
     ensures block { SameBlock part.old part.new }
@@ -16,6 +19,8 @@ pub fn spread_one(part: &mut Part, outboxes: &mut Outboxes) -> Result<bool, Owne
     ensures sound { OnOk result ((value : List ℕ → ℤ) (taken sent : ℕ → Batches)
         → OwnerSound value outboxes.old.owner (length outboxes.old.queues) part.old taken (λ j. sent j ++ queue_to outboxes.old j) (queue_to outboxes.old)
         → OwnerSound value outboxes.old.owner (length outboxes.old.queues) part.new taken (λ j. sent j ++ queue_to outboxes.new j) (queue_to outboxes.new)) }
+    ensures due { result ≡ Ok false → IsLeastDue part.old (Some part.old.wave) → ⊥ }
+    ensures fault { IfErr result (λ fault. (fault ≡ OwnerFault.Far) ⊎ (fault ≡ OwnerFault.Memory)) }
 {
     moves_keep_boards();
     ranks_tell_boards_apart();

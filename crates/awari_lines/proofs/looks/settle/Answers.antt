@@ -1,4 +1,4 @@
-use Rattle.std.proofs.Common.{rules, arith, ◌≡◌, ◌<◌, ◌≤◌, length}
+use Rattle.std.proofs.Common.{rules, arith}
 use Rattle.awari_lines.proofs.Settling.{settled_more, settled_row, settled_exact, settled_flag}
 use Rattle.awari_lines.proofs.looks.settle.Goals as goal
 

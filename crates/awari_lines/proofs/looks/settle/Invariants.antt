@@ -1,4 +1,3 @@
-use Rattle.std.proofs.Common.{◌<◌, length}
 use Rattle.awari_lines.proofs.Settling.{SettledTo}
 use Rattle.awari_lines.proofs.looks.settle.Given as goal
 

@@ -1,4 +1,4 @@
-use Rattle.std.proofs.Common.{rules, arith, ◌≡◌, ◌<◌, ◌≤◌, ◌++◌, ◌∷◌, [], length, vec_len, refl, sym, ap, ◌∙◌}
+use Rattle.std.proofs.Common.{arith, refl, ◌∙◌}
 use Rattle.awari_lines.proofs.Growing.{connected_then, grid_after}
 use Rattle.awari_lines.proofs.making.add_owner.Goals as goal
 
