@@ -329,6 +329,13 @@ saves nothing. With one it begins above the levels that are there, which are
 verified first, and saves each level as level_LL.awdb before its line. Levels
 that are there are not written again. One builder at a time saves into a folder.
 
+With owners, each of W threads has a share of a level's boards, and they tell
+each other in batches of up to 32 notes what they settled. Each line between two
+of them has room for R batches, and each round gives an owner at most S turns.
+The levels are the same for any W, R and S; as many owners as there are
+processors build the higher ones soonest. Without owners one thread builds.
+
+    refused 52 Phase: ..      a thread could not be started
     refused 53 Memory         there is not enough memory
     refused 80, 83, 84        the folder, as `awari help verify` says
     refused 81 File level L: ..   the file of a level that is there is not read,

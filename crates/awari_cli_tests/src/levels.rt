@@ -70,6 +70,29 @@ fn levels_are_built(rt: HostRuntime) {
     }
 }
 
+#[test]
+fn levels_are_built_by_owners(rt: HostRuntime) {
+    let words = [
+        "awari", "build", "2", "--owners", "3", "--room", "1", "--sweeps", "1",
+    ];
+    expect_run(&rt, rt.alloc(), words.as_slice(), b"", LEVELS_0_TO_2, 0);
+    for owners in ["0", "1", "16"] {
+        let words = ["awari", "build", "2", "--owners", owners];
+        expect_run(&rt, rt.alloc(), words.as_slice(), b"", LEVELS_0_TO_2, 0);
+    }
+    for (name, number) in [
+        ("--owners", "17"),
+        ("--owners", "x"),
+        ("--room", "0"),
+        ("--room", "257"),
+        ("--sweeps", "0"),
+        ("--sweeps", "1001"),
+    ] {
+        let words = ["awari", "build", "2", name, number];
+        expect_run(&rt, rt.alloc(), words.as_slice(), b"", "", 2);
+    }
+}
+
 /// Runs `build` on the folder.
 fn expect_build(
     rt: &(impl Abort + Files<File = File> + Threads + Wait + Sync + AllocGlobal),
