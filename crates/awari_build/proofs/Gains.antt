@@ -16,10 +16,10 @@ pub next_open : (value : List ℕ → ℤ) (n gain : ℕ) (items now new : List 
 next_open value n gain items now new is long finished less at = (
   finished value n (subst (AreFinished value n) (sym is) at.finished),
   λ i d low.
-    let same = ap length is in
-    let one = less i d (omega (arith, low, long)) in
-    let was = subst (λ l. (get_or l i d).part.gain ≡ gain + 1) (sym is) (at.gain i d (omega (arith, low, long, same))) in
-    omega (arith, one, was),
+      let same = ap length is in
+      let one = less i d (omega (arith, low, long)) in
+      let was = subst (λ l. (get_or l i d).part.gain ≡ gain + 1) (sym is) (at.gain i d (omega (arith, low, long, same))) in
+      omega (arith, one, was),
 )
 
 -- and closed
@@ -29,7 +29,7 @@ phase_ends value n gain opened passed all same at grown idle finished = record {
   finished = finished value n (subst (AreFinished value n) (sym same) at.0);
   idle = idle;
   gain = λ i d low.
-    let many = grown.many in
-    let long = ap length same in
-    (grown.each i d (omega (arith, low, many))).gain ∙ subst (λ l. (get_or l i d).part.gain ≡ gain) (sym same) (at.1 i d (omega (arith, low, many, long)));
+      let many = grown.many in
+      let long = ap length same in
+      (grown.each i d (omega (arith, low, many))).gain ∙ subst (λ l. (get_or l i d).part.gain ≡ gain) (sym same) (at.1 i d (omega (arith, low, many, long)));
 }

@@ -2,6 +2,7 @@
 
 ghost use Rattle.std.specs.Prelude.{IfOk};
 ghost use Rattle.awari_lines.specs.Lines.{IsGrid};
+ghost use Rattle.awari_table.specs.Shelves.{Consistent};
 ghost use Rattle.awari_phase.specs.Owners.{all_ends};
 
 use crate::shelves::{levels_below, one_level};
@@ -87,7 +88,9 @@ fn built_alike<R: Threads + Wait + Sync + Abort>(
     rt: &R,
     alloc: Global,
     shelf: &Shelf,
-) -> Result<Level, Fail> {
+) -> Result<Level, Fail>
+    ensures { IfOk result (Consistent shelf.now) }
+{
     let alone = build_alone(alloc, shelf)?;
     for (owners, room, sweeps) in PACES {
         let pace = Pace {

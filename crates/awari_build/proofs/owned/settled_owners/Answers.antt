@@ -7,12 +7,16 @@ pub loop-gain-init : goal.loop-gain-init
 loop-gain-init g c =
     let scanned = c.in-Ok.ensures in
     let count = scanned.count in
-    let long = c.in-Ok.owners.ok.0 in
-    (length c.args.shelf.now + 1, omega arith, omega arith, record {
-      finished = scanned.finished;
-      idle = scanned.idle;
-      gain = λ i d low. scanned.gain i d (omega (arith, low, count, long));
-    })
+    let long = c.in-Ok.owners.ok.0 in (
+      length c.args.shelf.now + 1,
+      omega arith,
+      omega arith,
+      record {
+        finished = scanned.finished;
+        idle = scanned.idle;
+        gain = λ i d low. scanned.gain i d (omega (arith, low, count, long));
+      },
+    )
 
 pub loop-gain-preserved : goal.loop-gain-preserved
 loop-gain-preserved g c =
@@ -21,7 +25,10 @@ loop-gain-preserved g c =
     let sum = held.2 in
     let low = c.loop-gain-test.true in
     let end = c.levels-gain-end.ensures.levels in
-    let opened : held.0 ≡ held.0 - 1 + 1 = omega (arith, some) in
-    (held.0 - 1, omega (arith, sum, low, end), omega (arith, sum, some),
-     c.in_ok-owners.ensures.closed (table_of c.args.shelf.now).value (length c.args.shelf.now) (held.0 - 1)
-     (subst (λ o. AreAt (table_of c.args.shelf.now).value (length c.args.shelf.now) o c.loop-gain.owners.items) opened held.3))
+    let opened : held.0 ≡ held.0 - 1 + 1 = omega (arith, some) in (
+      held.0 - 1,
+      omega (arith, sum, low, end),
+      omega (arith, sum, some),
+      c.in_ok-owners.ensures.closed (table_of c.args.shelf.now).value (length c.args.shelf.now) (held.0 - 1)
+          (subst (λ o. AreAt (table_of c.args.shelf.now).value (length c.args.shelf.now) o c.loop-gain.owners.items) opened held.3),
+    )
