@@ -1,5 +1,5 @@
 -- One more owner.
-use Rattle.std.proofs.Common.{◌≡◌, ◌≢◌, ℕ, zero, suc, ◌+◌, ◌<◌, ◌≤◌, List, [], ◌∷◌, ◌++◌, length, Option, Some, refl, sym, ap, subst, ◌∙◌, inl, inr, arith, get_or, set, vec_len, length-append, length-set, take, drop}
+use Rattle.std.proofs.Common.{◌≡◌, ◌≢◌, ℕ, zero, suc, ◌+◌, ◌<◌, ◌≤◌, List, [], ◌∷◌, ◌++◌, length, Option, None, Some, refl, sym, ap, subst, ◌∙◌, inl, inr, arith, get_or, set, vec_len, length-append, length-set, take, drop}
 use Rattle.std.proofs.lemmas.List.{take-append-le, take_all}
 use Rattle.std.proofs.lemmas.Bool.{cases_eq, cases_lt}
 use Rattle.std.proofs.lemmas.Bool.Decides.{nat_tests}
@@ -10,20 +10,20 @@ use Rattle.std.specs.List.{slice_get}
 use Rattle.awari_lines.specs.Seats.{seat_of}
 use Rattle.awari_lines.specs.declared.lines.Ends.{Ends}
 use Rattle.awari_lines.specs.declared.lines.Line.{Line}
-use Rattle.awari_lines.specs.Lines.{Connected, IsGrid, AllUnused, IsUnused, UnusedOn, PairedOn, Paired, line_of, owners_of}
+use Rattle.awari_lines.specs.Lines.{Connected, IsGrid, AllUnused, HasRoomOn, HaveRoom, UnusedOn, PairedOn, Paired, line_of, owners_of}
 
 -- the first n owners have a line to the new one, for which it has the lines ms
-pub record ConnectedTo (es fs : List Ends) (ms : List Line) (n : ℕ) : Type 0 where
+pub record ConnectedTo (room : ℕ) (es fs : List Ends) (ms : List Line) (n : ℕ) : Type 0 where
   pub long : length fs ≡ length es
   pub lines : length ms ≡ n
-  pub done : (k : ℕ) (d : Ends) (m : Line) → k < n → Connected (get_or es k d) (get_or fs k d) (get_or ms k m)
+  pub done : (k : ℕ) (d : Ends) (m : Line) → k < n → Connected room (get_or es k d) (get_or fs k d) (get_or ms k m)
   pub rest : (k : ℕ) (d : Ends) → n ≤ k → get_or fs k d ≡ get_or es k d
 
-pub connected_none : (es : List Ends) → ConnectedTo es es [] 0
-connected_none es = record { long = refl; lines = refl; done = λ k d m h. absurd (omega arith); rest = λ k d h. refl }
+pub connected_none : (room : ℕ) (es : List Ends) → ConnectedTo room es es [] 0
+connected_none room es = record { long = refl; lines = refl; done = λ k d m h. absurd (omega arith); rest = λ k d h. refl }
 
-pub connected_more : (es fs : List Ends) (ms : List Line) (n : ℕ) (x a b : Ends) (m : Line) → ConnectedTo es fs ms n → n < length es → a ≡ get_or fs n x → Connected a b m → ConnectedTo es (set fs n b) (ms ++ m ∷ []) (n + 1)
-connected_more es fs ms n x a b m s h is w =
+pub connected_more : (room : ℕ) (es fs : List Ends) (ms : List Line) (n : ℕ) (x a b : Ends) (m : Line) → ConnectedTo room es fs ms n → n < length es → a ≡ get_or fs n x → Connected room a b m → ConnectedTo room es (set fs n b) (ms ++ m ∷ []) (n + 1)
+connected_more room es fs ms n x a b m s h is w =
     let in_fs : n < length fs = (let p : length fs ≡ length es = s.long in omega arith) in
     let at_new : (d : Line) → get_or (ms ++ m ∷ []) n d ≡ m = λ d. ap (λ k. get_or (ms ++ m ∷ []) k d) (sym s.lines) ∙ get_or-append_seam ms m [] d in
     let was : (d : Ends) → get_or es n d ≡ a = λ d. sym (s.rest n d (omega arith)) ∙ (get_or_default fs n d x in_fs ∙ sym is) in
@@ -32,21 +32,21 @@ connected_more es fs ms n x a b m s h is w =
       lines = length-append ms (m ∷ []) ∙ (let p : length ms ≡ n = s.lines in omega arith);
       done = λ k d o l. elim (cases_eq k n) [
         | inl e ↦
-            (let R : ℕ → Type 0 = λ q. Connected (get_or es q d) (get_or (set fs n b) q d) (get_or (ms ++ m ∷ []) q o) in
+            (let R : ℕ → Type 0 = λ q. Connected room (get_or es q d) (get_or (set fs n b) q d) (get_or (ms ++ m ∷ []) q o) in
             subst R (sym e)
-            (subst (λ (u : Ends). Connected u (get_or (set fs n b) n d) (get_or (ms ++ m ∷ []) n o)) (sym (was d))
-            (subst (λ (u : Ends). Connected a u (get_or (ms ++ m ∷ []) n o)) (sym (get_or-set_same fs n b d in_fs))
-            (subst (λ (u : Line). Connected a b u) (sym (at_new o)) w))))
+            (subst (λ (u : Ends). Connected room u (get_or (set fs n b) n d) (get_or (ms ++ m ∷ []) n o)) (sym (was d))
+            (subst (λ (u : Ends). Connected room a u (get_or (ms ++ m ∷ []) n o)) (sym (get_or-set_same fs n b d in_fs))
+            (subst (λ (u : Line). Connected room a b u) (sym (at_new o)) w))))
         | inr ne ↦
             (let low : k < n = omega (arith, ne) in
-            subst (λ (u : Ends). Connected (get_or es k d) u (get_or (ms ++ m ∷ []) k o)) (sym (get_or-set_other fs n k b d ne))
-            (subst (λ (u : Line). Connected (get_or es k d) (get_or fs k d) u) (sym (get_or_append_left ms (m ∷ []) o k (let p : length ms ≡ n = s.lines in omega arith))) (s.done k d o low)))
+            subst (λ (u : Ends). Connected room (get_or es k d) u (get_or (ms ++ m ∷ []) k o)) (sym (get_or-set_other fs n k b d ne))
+            (subst (λ (u : Line). Connected room (get_or es k d) (get_or fs k d) u) (sym (get_or_append_left ms (m ∷ []) o k (let p : length ms ≡ n = s.lines in omega arith))) (s.done k d o low)))
       ];
       rest = λ k d l. get_or-set_other fs n k b d (λ e. absurd (omega (arith, e))) ∙ s.rest k d (omega arith);
     }
 
-pub connected_then : (es fs : List Ends) (ms ms' : List Line) (n : ℕ) (x a b : Ends) (m : Line) → ms' ≡ ms ++ m ∷ [] → ConnectedTo es fs ms n → n < length es → a ≡ get_or fs n x → Connected a b m → ConnectedTo es (set fs n b) ms' (n + 1)
-connected_then es fs ms ms' n x a b m e s h is w = subst (λ (l : List Line). ConnectedTo es (set fs n b) l (n + 1)) (sym e) (connected_more es fs ms n x a b m s h is w)
+pub connected_then : (room : ℕ) (es fs : List Ends) (ms ms' : List Line) (n : ℕ) (x a b : Ends) (m : Line) → ms' ≡ ms ++ m ∷ [] → ConnectedTo room es fs ms n → n < length es → a ≡ get_or fs n x → Connected room a b m → ConnectedTo room es (set fs n b) ms' (n + 1)
+connected_then room es fs ms ms' n x a b m e s h is w = subst (λ (l : List Line). ConnectedTo room es (set fs n b) l (n + 1)) (sym e) (connected_more room es fs ms n x a b m s h is w)
 
 slice_get-append : {X : Type 0} (xs ys : List X) (k : ℕ) → k < length xs → slice_get (xs ++ ys) k ≡ slice_get xs k
 slice_get-append [] ys k h = absurd (omega arith)
@@ -66,31 +66,32 @@ seat_last i n h = grind (arith, nat_tests)
 seat_first : (i n : ℕ) → i < n → seat_of n i ≡ i
 seat_first i n h = grind (arith, nat_tests)
 
-line_kept : (a b : Ends) (m : Line) (j n : ℕ) → Connected a b m → owners_of a ≡ n → a.owner ≢ j → a.owner < n → j < n → line_of b j ≡ line_of a j
+line_kept : {room : ℕ} (a b : Ends) (m : Line) (j n : ℕ) → Connected room a b m → owners_of a ≡ n → a.owner ≢ j → a.owner < n → j < n → line_of b j ≡ line_of a j
 line_kept a b m j n w long ne hi hj =
     ap (λ o. slice_get b.lines.items (seat_of o j)) w.owner
     ∙ (ap (λ l. slice_get l (seat_of a.owner j)) w.added
     ∙ slice_get-append a.lines.items (w.line ∷ []) (seat_of a.owner j) (let p : seat_of a.owner j + 1 < n = seat_in a.owner j n ne hi hj in let q : length a.lines.items + 1 ≡ n = ap (λ k. k + 1) (sym a.lines.ok.0) ∙ long in omega arith))
 
-line_new : (a b : Ends) (m : Line) (n : ℕ) (w : Connected a b m) → owners_of a ≡ n → a.owner < n → line_of b n ≡ Some w.line
+line_new : {room : ℕ} (a b : Ends) (m : Line) (n : ℕ) (w : Connected room a b m) → owners_of a ≡ n → a.owner < n → line_of b n ≡ Some w.line
 line_new a b m n w long hi =
     ap (λ o. slice_get b.lines.items (seat_of o n)) w.owner
     ∙ (ap (λ l. slice_get l (seat_of a.owner n)) w.added
     ∙ (ap (λ k. slice_get (a.lines.items ++ w.line ∷ []) k) (let p : seat_of a.owner n + 1 ≡ n = seat_last a.owner n hi in let q : length a.lines.items + 1 ≡ n = ap (λ k. k + 1) (sym a.lines.ok.0) ∙ long in omega arith)
     ∙ slice_get-seam a.lines.items w.line []))
 
-unused_push : (ls : List Line) (l : Line) → ((k : ℕ) → UnusedOn (slice_get ls k)) → UnusedOn (Some l) → (k : ℕ) → UnusedOn (slice_get (ls ++ l ∷ []) k)
-unused_push [] l a h zero = h
-unused_push [] l a h (suc k) = tt
-unused_push (m ∷ ms) l a h zero = a zero
-unused_push (m ∷ ms) l a h (suc k) = unused_push ms l (λ j. a (suc j)) h k
+-- what holds of each line and of one more
+held_push : (P : Option Line → Type 0) → P None → (ls : List Line) (l : Line) → ((k : ℕ) → P (slice_get ls k)) → P (Some l) → (k : ℕ) → P (slice_get (ls ++ l ∷ []) k)
+held_push P n [] l a h zero = h
+held_push P n [] l a h (suc k) = n
+held_push P n (m ∷ ms) l a h zero = a zero
+held_push P n (m ∷ ms) l a h (suc k) = held_push P n ms l (λ j. a (suc j)) h k
 
-unused_each : (ls : List Line) → ((k : ℕ) (m : Line) → k < length ls → UnusedOn (Some (get_or ls k m))) → (k : ℕ) → UnusedOn (slice_get ls k)
-unused_each [] a k = tt
-unused_each (m ∷ ms) a zero = a zero m (omega arith)
-unused_each (m ∷ ms) a (suc k) = unused_each ms (λ j n h. a (suc j) n (omega arith)) k
+held_each : (P : Option Line → Type 0) → P None → (ls : List Line) → ((k : ℕ) (m : Line) → k < length ls → P (Some (get_or ls k m))) → (k : ℕ) → P (slice_get ls k)
+held_each P n [] a k = n
+held_each P n (m ∷ ms) a zero = a zero m (omega arith)
+held_each P n (m ∷ ms) a (suc k) = held_each P n ms (λ j o h. a (suc j) o (omega arith)) k
 
-module _ (es fs : List Ends) (ms : List Line) (new : Ends) (g : IsGrid es) (s : ConnectedTo es fs ms (length es)) (owner : new.owner ≡ length es) (lines : new.lines.items ≡ ms) where
+module _ (room : ℕ) (es fs : List Ends) (ms : List Line) (new : Ends) (g : IsGrid es) (s : ConnectedTo room es fs ms (length es)) (owner : new.owner ≡ length es) (lines : new.lines.items ≡ ms) where
   abbrev pub grown : List Ends
   grown = fs ++ new ∷ []
 
@@ -165,25 +166,32 @@ module _ (es fs : List Ends) (ms : List Line) (new : Ends) (g : IsGrid es) (s : 
         (at_each (λ k u. (i < k) → Paired (get_or fs i d) u) d (λ k lk il. paired_old i k d il lk) (λ il. paired_new i d li) j h l));
   }
 
-  unused_old : AllUnused es → (i : ℕ) (d : Ends) → i < length es → IsUnused (get_or fs i d)
-  unused_old u i d h k =
-      let w = s.done i d (some_line i h ms s.lines) h in
-      subst (λ (l : List Line). UnusedOn (slice_get l k)) (sym w.added) (unused_push (get_or es i d).lines.items w.line (u i d h) w.unused k)
+  module _ (P : Option Line → Type 0) (none : P None) (mine : (a b : Ends) (m : Line) (w : Connected room a b m) → P (Some w.line)) (theirs : (a b : Ends) (m : Line) → Connected room a b m → P (Some m)) where
+    held_old : ((i : ℕ) (d : Ends) → i < length es → (k : ℕ) → P (slice_get (get_or es i d).lines.items k)) → (i : ℕ) (d : Ends) → i < length es → (k : ℕ) → P (slice_get (get_or fs i d).lines.items k)
+    held_old u i d h k =
+        let w = s.done i d (some_line i h ms s.lines) h in
+        subst (λ (l : List Line). P (slice_get l k)) (sym w.added) (held_push P none (get_or es i d).lines.items w.line (u i d h) (mine _ _ _ w) k)
 
-  unused_new : IsUnused new
-  unused_new = subst (λ (l : List Line). (k : ℕ) → UnusedOn (slice_get l k)) (sym lines) (unused_each ms (λ k m h. (s.done k new m (let p : length ms ≡ length es = s.lines in omega arith)).unused_there))
+    held_new : Ends → (k : ℕ) → P (slice_get new.lines.items k)
+    held_new d = subst (λ (l : List Line). (k : ℕ) → P (slice_get l k)) (sym lines) (held_each P none ms (λ k m h. theirs _ _ _ (s.done k d m (let p : length ms ≡ length es = s.lines in omega arith))))
+
+    pub held_more : ((i : ℕ) (d : Ends) → i < length es → (k : ℕ) → P (slice_get (get_or es i d).lines.items k)) → (i : ℕ) (d : Ends) → i < length grown → (k : ℕ) → P (slice_get (get_or grown i d).lines.items k)
+    held_more u i d h = at_each (λ k e. (q : ℕ) → P (slice_get e.lines.items q)) d (λ k l. held_old u k d l) (held_new d) i h
 
   pub unused_more : AllUnused es → AllUnused grown
-  unused_more u i d h = at_each (λ k e. IsUnused e) d (λ k l. unused_old u k d l) unused_new i h
+  unused_more = held_more UnusedOn tt (λ a b m w. w.unused) (λ a b m w. w.unused_there)
 
-pub grid_then : (es fs gs : List Ends) (ms : List Line) (n : ℕ) (new : Ends) → gs ≡ fs ++ new ∷ [] → n ≡ length es → IsGrid es × AllUnused es → ConnectedTo es fs ms n → new.owner ≡ length es → new.lines.items ≡ ms → IsGrid gs × AllUnused gs
-grid_then es fs gs ms n new e long g s owner lines =
-    let t : ConnectedTo es fs ms (length es) = subst (λ (k : ℕ). ConnectedTo es fs ms k) long s in
-    subst (λ (l : List Ends). IsGrid l × AllUnused l) (sym e) (grid_more es fs ms new g.0 t owner lines, unused_more es fs ms new g.0 t owner lines g.1)
+  pub room_more : HaveRoom room es → HaveRoom room grown
+  room_more = held_more (HasRoomOn room) tt (λ a b m w. w.room) (λ a b m w. w.room_there)
+
+pub grid_then : (room : ℕ) (es fs gs : List Ends) (ms : List Line) (n : ℕ) (new : Ends) → gs ≡ fs ++ new ∷ [] → n ≡ length es → IsGrid es × AllUnused es × HaveRoom room es → ConnectedTo room es fs ms n → new.owner ≡ length es → new.lines.items ≡ ms → IsGrid gs × AllUnused gs × HaveRoom room gs
+grid_then room es fs gs ms n new e long (grid, unused, held) s owner lines =
+    let t : ConnectedTo room es fs ms (length es) = subst (λ (k : ℕ). ConnectedTo room es fs ms k) long s in
+    subst (λ (l : List Ends). IsGrid l × AllUnused l × HaveRoom room l) (sym e) (grid_more room es fs ms new grid t owner lines, unused_more room es fs ms new grid t owner lines unused, room_more room es fs ms new grid t owner lines held)
 
 -- what a loop over `iter_mut` leaves, where no element is missing
 refilled : (n : ℕ) (fs es : List Ends) → n ≡ length es → length fs ≡ length es → take n (fs ++ drop (length fs) es) ≡ fs
 refilled n fs es e long = take-append-le n fs (drop (length fs) es) (omega arith) ∙ take_all n fs (omega arith)
 
-pub grid_after : (es fs gs : List Ends) (ms : List Line) (n len : ℕ) (new : Ends) → gs ≡ take len (fs ++ drop (length fs) es) ++ new ∷ [] → len ≡ length es → n ≡ length es → IsGrid es × AllUnused es → ConnectedTo es fs ms n → new.owner ≡ length es → new.lines.items ≡ ms → IsGrid gs × AllUnused gs
-grid_after es fs gs ms n len new e whole long g s owner lines = grid_then es fs gs ms n new (e ∙ ap (λ l. l ++ new ∷ []) (refilled len fs es whole s.long)) long g s owner lines
+pub grid_after : (room : ℕ) (es fs gs : List Ends) (ms : List Line) (n len : ℕ) (new : Ends) → gs ≡ take len (fs ++ drop (length fs) es) ++ new ∷ [] → len ≡ length es → n ≡ length es → IsGrid es × AllUnused es × HaveRoom room es → ConnectedTo room es fs ms n → new.owner ≡ length es → new.lines.items ≡ ms → IsGrid gs × AllUnused gs × HaveRoom room gs
+grid_after room es fs gs ms n len new e whole long g s owner lines = grid_then room es fs gs ms n new (e ∙ ap (λ l. l ++ new ∷ []) (refilled len fs es whole s.long)) long g s owner lines

@@ -1,6 +1,6 @@
 -- What a contract sees of an owner's ends.
 use Rattle.std.specs.Prelude.{◌≡◌, ◌≢◌, ℕ, ◌+◌, ◌<◌, List, [], ◌∷◌, ◌++◌, length, Option, Some, None, slice_get, slice_index_or, vec_len}
-use Rattle.rtrb.specs.Ring.{sent, received, known_items, SameProducer, SameConsumer, IsPair}
+use Rattle.rtrb.specs.Ring.{sent, received, known_free, known_items, producer_capacity, consumer_capacity, SameProducer, SameConsumer, IsPair}
 use Rattle.awari_lines.specs.declared.lines.Line.{Line}
 use Rattle.awari_lines.specs.declared.lines.Ends.{Ends}
 use Rattle.awari_owner.specs.declared.notes.Note.{Note}
@@ -35,6 +35,10 @@ abbrev pub waiting_on : Option Line → List Notes
 waiting_on None = []
 waiting_on (Some l) = known_items l.consumer
 
+abbrev pub free_on : Option Line → ℕ
+free_on None = 0
+free_on (Some l) = known_free l.producer
+
 -- every batch that was sent to the owner j, oldest first
 abbrev pub sent_to : Ends → ℕ → List Notes
 sent_to e j = sent_on (line_of e j)
@@ -46,6 +50,10 @@ received_from e j = received_on (line_of e j)
 -- the batches that were seen to wait on the line from the owner j
 abbrev pub waiting_from : Ends → ℕ → List Notes
 waiting_from e j = waiting_on (line_of e j)
+
+-- for how many more batches the line to the owner j was seen to have room
+abbrev pub free_to : Ends → ℕ → ℕ
+free_to e j = free_on (line_of e j)
 
 -- the same ends of the same two rings
 abbrev pub SameRings : Option Line → Option Line → Type 0
@@ -88,14 +96,24 @@ UnusedOn (Some l) = (sent l.producer ≡ []) × (received l.consumer ≡ []) × 
 abbrev pub IsUnused : Ends → Type 0
 IsUnused e = (k : ℕ) → UnusedOn (slice_get e.lines.items k)
 
--- the ends a became b by a line at the end, whose other owner has m for it
-pub record Connected (a b : Ends) (m : Line) : Type 0 where
+-- both rings of a line have room for so many batches
+abbrev pub HasRoomOn : ℕ → Option Line → Type 0
+HasRoomOn room None = Unit {0}
+HasRoomOn room (Some l) = (producer_capacity l.producer ≡ room) × (consumer_capacity l.consumer ≡ room)
+
+abbrev pub HasRoom : ℕ → Ends → Type 0
+HasRoom room e = (k : ℕ) → HasRoomOn room (slice_get e.lines.items k)
+
+-- the ends a became b by a line at the end with so much room, whose other owner has m for it
+pub record Connected (space : ℕ) (a b : Ends) (m : Line) : Type 0 where
   pub owner : b.owner ≡ a.owner
   pub line : Line
   pub added : b.lines.items ≡ a.lines.items ++ line ∷ []
   pub paired : PairedOn (Some line) (Some m)
   pub unused : UnusedOn (Some line)
   pub unused_there : UnusedOn (Some m)
+  pub room : HasRoomOn space (Some line)
+  pub room_there : HasRoomOn space (Some m)
 
 -- on the line to the owner j nothing was sent or received, and more may be seen to wait
 pub record Looked (a b : Ends) (j : ℕ) : Type 0 where
@@ -121,6 +139,9 @@ pub record IsGrid (es : List Ends) : Type 0 where
 
 abbrev pub AllUnused : List Ends → Type 0
 AllUnused es = (i : ℕ) (d : Ends) → i < length es → IsUnused (slice_index_or es i d)
+
+abbrev pub HaveRoom : ℕ → List Ends → Type 0
+HaveRoom room es = (i : ℕ) (d : Ends) → i < length es → HasRoom room (slice_index_or es i d)
 
 -- the same ends with the same history
 pub record SameHistory (a b : Ends) : Type 0 where

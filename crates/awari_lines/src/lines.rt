@@ -24,7 +24,7 @@ pub struct Ends {
 
 impl Ends {
     ghost use Rattle.std.specs.Prelude.{◌≡◌, ◌≢◌, ◌+◌, ◌++◌, ◌∷◌, [], ℕ, vec_len, IfOk, IfErr, OnOk, OnErr, IfSome, IfNone, IsTrue, ◌↔◌};
-    ghost use Rattle.awari_lines.specs.Lines.{IsOther, owners_of, sent_to, received_from, waiting_from, SameLines, SameBut, Paired, Connected, Looked, IsExact, NothingWaits};
+    ghost use Rattle.awari_lines.specs.Lines.{IsOther, owners_of, sent_to, received_from, waiting_from, free_to, SameLines, SameBut, Paired, Connected, Looked, IsExact, NothingWaits};
 
     /// The owner's number.
     pub fn owner(&self) -> u8
@@ -49,6 +49,9 @@ impl Ends {
         ensures received { (received_from self.new to ≡ received_from self.old to) × (waiting_from self.new to ≡ waiting_from self.old to) }
         ensures ok { OnOk result (sent_to self.new to ≡ sent_to self.old to ++ batch ∷ []) }
         ensures full { IfErr result (λ back. (back ≡ batch) × (sent_to self.new to ≡ sent_to self.old to)) }
+
+        // It is refused only where the line was seen to be full.
+        ensures no_room { OnErr result (free_to self.new to ≡ 0) }
     {
         let place = seat(self.owner, to);
         let line = &mut self.lines[place];
@@ -66,6 +69,9 @@ impl Ends {
         ensures sent { sent_to self.new from ≡ sent_to self.old from }
         ensures some { IfSome result (λ batch. received_from self.new from ≡ received_from self.old from ++ batch ∷ []) }
         ensures none { IfNone result (received_from self.new from ≡ received_from self.old from) }
+
+        // None is answered only where the line was seen to be empty.
+        ensures nothing_waits { IfNone result (waiting_from self.new from ≡ []) }
     {
         let place = seat(self.owner, from);
         let line = &mut self.lines[place];
@@ -75,7 +81,7 @@ impl Ends {
     /// One more line at the end, to a new owner, with so much room. Gives that owner's line. Refused
     /// where a growth was.
     pub(crate) fn connect(&mut self, alloc: Global, room: usize) -> Result<Line, AllocError>
-        ensures { IfOk result (λ theirs. Connected self.old self.new theirs) }
+        ensures { IfOk result (λ theirs. Connected room self.old self.new theirs) }
     {
         let (out, theirs_in) = RingBuffer::new(alloc, room)?;
         let (theirs_out, back) = RingBuffer::new(alloc, room)?;

@@ -1,7 +1,7 @@
 //! The ends of all lines.
 
 ghost use Rattle.std.specs.Prelude.{◌≡◌, ◌+◌, ◌<◌, ◌≤◌, vec_len, IfOk, OnOk};
-ghost use Rattle.awari_lines.specs.Lines.{IsGrid, AllUnused};
+ghost use Rattle.awari_lines.specs.Lines.{AllUnused, HaveRoom, IsGrid};
 
 use crate::lines::Ends;
 use std::alloc::{AllocError, Global};
@@ -15,6 +15,7 @@ pub fn grid(alloc: Global, owners: u8, room: u16) -> Result<Vec<Ends>, AllocErro
     ensures owners { IfOk result (λ all. vec_len all ≡ owners) }
     ensures grid { IfOk result (λ all. IsGrid all.items) }
     ensures unused { IfOk result (λ all. AllUnused all.items) }
+    ensures room { IfOk result (λ all. HaveRoom room all.items) }
 {
     let mut all = Vec::new(alloc);
     for owner in 0..owners {
@@ -26,9 +27,9 @@ pub fn grid(alloc: Global, owners: u8, room: u16) -> Result<Vec<Ends>, AllocErro
 /// One more owner, with lines between it and each of the others.
 fn add_owner(alloc: Global, all: &mut Vec<Ends>, owner: u8, room: usize) -> Result<(), AllocError>
     requires owner { owner ≡ vec_len all.old }
-    requires grid { IsGrid all.old.items × AllUnused all.old.items }
+    requires grid { IsGrid all.old.items × AllUnused all.old.items × HaveRoom room all.old.items }
     ensures owners { OnOk result (vec_len all.new ≡ vec_len all.old + 1) }
-    ensures grid { OnOk result (IsGrid all.new.items × AllUnused all.new.items) }
+    ensures grid { OnOk result (IsGrid all.new.items × AllUnused all.new.items × HaveRoom room all.new.items) }
 {
     let mut lines = Vec::with_capacity(alloc, all.len())?;
     for other in all.iter_mut() {
