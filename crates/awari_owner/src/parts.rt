@@ -167,6 +167,13 @@ impl Part {
         }
     }
 
+    /// How many boards are fresh, at whatever distance.
+    pub fn fresh_boards(&self) -> usize
+        ensures { result ≡ length self.now.fresh }
+    {
+        self.fresh.len()
+    }
+
     /// Opens the next smaller gain: the boards that a capture settles at that gain are settled, and
     /// so are fresh. It needs no board to be fresh. It takes no memory.
     pub fn open_gain(&mut self, gain: u8)
