@@ -121,7 +121,7 @@ fn closed_gain<R: Threads + Wait + Sync, G: Gate + Sync>(
     ensures closed { IfOk result (λ all. (value : List ℕ → ℤ) (n gain : ℕ) → AreAt value n (gain + 1) owners.items → AreAt value n gain all.items) }
     ensures phase { IfErr result IsOfPhase }
 {
-    open_gain(owners.as_mut_slice());
+    open_gain(rt, owners.as_mut_slice());
     match gain_phase(rt, owners, gate, sweeps) {
         Ok(all) => Ok(all),
         Err(PhaseFault::Memory) => Err(BuildFault::Memory),

@@ -25,7 +25,7 @@ fn three_owners<R: Threads + Sync>(rt: &R, alloc: Global) -> Result<Vec<Owner>, 
 {
     let shelf = one_level(alloc)?;
     let mut owners = scanned_owners(rt, alloc, &shelf, 3, 1)?;
-    open_gain(owners.as_mut_slice());
+    open_gain(rt, owners.as_mut_slice());
     Ok(owners)
 }
 

@@ -7,10 +7,13 @@ ghost use Rattle.awari_phase.specs.Owners.{AllGrown, AreFinished, AreIdle, AreRe
 ghost use Rattle.awari_phase.specs.declared.owners.Owner.{Owner as AnOwner};
 
 use crate::owners::Owner;
+use rayon::prelude::*;
+use std::thread::Threads;
 
-/// Opens the next smaller gain in each part. No board is fresh, nothing is to be sent or waits on a
-/// line, and the open gain is at least 2. It takes no memory.
-pub fn open_gain(owners: &mut [Owner])
+/// Opens the next smaller gain in each part, several parts at a time. No board is fresh, nothing is to
+/// be sent or waits on a line, and the open gain is at least 2. It takes no memory but for threads, and
+/// where none is to be had the parts are gone through in turn.
+pub fn open_gain<R: Threads + Sync>(rt: &R, owners: &mut [Owner])
     requires idle { AreIdle owners.old }
     requires sent { AreSent owners.old }
     requires received { AreReceived owners.old }
@@ -18,9 +21,14 @@ pub fn open_gain(owners: &mut [Owner])
     ensures finished { (value : List ℕ → ℤ) (n : ℕ) → AreFinished value n owners.old → AreFinished value n owners.new }
     ensures gain { (i : ℕ) (d : AnOwner) → i < length owners.old → (slice_index_or owners.new i d).part.gain + 1 ≡ (slice_index_or owners.old i d).part.gain }
 {
-    for i in 0..owners.len() {
-        open_next(&mut owners[i]);
-    }
+    par_for_each_mut(
+        rt,
+        owners,
+        |_place: usize, owner: &mut Owner|
+            requires { (owner.old.part.fresh ≡ []) × (2 ≤ owner.old.part.gain) }
+            ensures { OpensNext owner.old owner.new }
+        { open_next(owner) },
+    );
 }
 
 /// Opens the next smaller gain in the part.

@@ -1,9 +1,9 @@
 //! Rounds, until a gain is closed.
 
-ghost use Rattle.std.specs.Prelude.{◌≡◌, ◌<◌, ◌≤◌, ℕ, ℤ, All, List, IsTrue, IsNone, IfSome, IfOk, IfErr, length, slice_index_or, []};
+ghost use Rattle.std.specs.Prelude.{◌≡◌, ◌<◌, ◌≤◌, ℕ, ℤ, All, List, IsTrue, IsNone, IfSome, IfOk, IfErr, length, slice_index_or, vec_len, []};
 ghost use Rattle.awari_lines.specs.Lines.{IsGrid};
 ghost use Rattle.awari_owner.specs.Blocks.{due_dist};
-ghost use Rattle.awari_phase.specs.Owners.{AllGrown, AreFinished, AreIdle, AreReceived, AreSent, all_ends};
+ghost use Rattle.awari_phase.specs.Owners.{AllGrown, AreFinished, AreIdle, AreReceived, AreSent, Kept, all_ends};
 ghost use Rattle.awari_phase.specs.PhaseFault.{IsRefusal};
 ghost use Rattle.awari_phase.specs.declared.owners.Owner.{Owner as AnOwner};
 ghost use Rattle.awari_phase.specs.declared.phases.Standing.{Standing};
@@ -17,8 +17,8 @@ use crate::settling::settle_owners;
 use std::sync::Wait;
 use std::thread::Threads;
 
-/// How many sweeps show whether a distance that was just opened has many boards.
-const FIRST_SWEEPS: u32 = 2;
+/// From how many fresh boards on, of all owners together, a round is made in threads.
+const MANY_BOARDS: usize = 1000;
 
 /// Where owners stand after a round.
 enum Standing {
@@ -35,10 +35,9 @@ enum Standing {
 /// on one grid. Refused as a round is; then the owners are gone.
 ///
 /// The first round is made in threads, since a gain can begin with many ended boards, and later ones
-/// where boards of the open distance are left, or batches that are to be sent. To start four threads
-/// takes 0.1 to 0.2 ms, in which one thread spreads some hundred boards, and most distances have
-/// fewer. So a distance is begun in turn on the caller's thread, with two sweeps of each owner, and
-/// threads are started for the rest of it, if there is one.
+/// where many boards are fresh, nearly all of which are of the open distance when it is opened. To start
+/// four threads takes 0.1 to 0.2 ms, in which one thread spreads some hundred boards, and most distances
+/// have fewer. Those are gone through in turn on the caller's thread.
 pub fn gain_phase<R: Threads + Wait + Sync, G: Gate + Sync>(
     rt: &R,
     owners: Vec<Owner>,
@@ -57,18 +56,45 @@ pub fn gain_phase<R: Threads + Wait + Sync, G: Gate + Sync>(
     let mut all = round(rt, owners, gate, sweeps)?;
     for _ in rt.forever() {
         match look(&mut all) {
-            Standing::Busy => all = round(rt, all, gate, sweeps)?,
+            Standing::Busy => all = next_round(rt, all, gate, sweeps)?,
             Standing::Waiting => all = round_in_turn(all, gate, sweeps)?,
             Standing::Done => {
                 let Some(dist) = least_due(all.as_slice()) else {
                     return Ok(all);
                 };
                 begin(&mut all, dist);
-                all = round_in_turn(all, gate, sweeps.min(FIRST_SWEEPS))?;
+                all = next_round(rt, all, gate, sweeps)?;
             }
         }
     }
     unreachable!()
+}
+
+/// One round, in threads where many boards are fresh, and else in turn.
+fn next_round<R: Threads + Wait + Sync, G: Gate + Sync>(
+    rt: &R,
+    owners: Vec<Owner>,
+    gate: &G,
+    sweeps: u32,
+) -> Result<Vec<Owner>, PhaseFault>
+    requires sweeps { (1 ≤ sweeps) × (sweeps ≤ 1000) }
+    requires grid { IsGrid (all_ends owners.items) }
+    ensures len { IfOk result (λ all. vec_len all ≡ vec_len owners) }
+    ensures kept { IfOk result (λ all. (i : ℕ) (d : AnOwner) → i < vec_len owners → Kept (slice_index_or owners.items i d) (slice_index_or all.items i d)) }
+    ensures grid { IfOk result (λ all. IsGrid (all_ends all.items)) }
+    ensures refused { IfErr result (IsRefusal owners.items) }
+{
+    if fresh_boards(owners.as_slice()) < MANY_BOARDS {
+        return round_in_turn(owners, gate, sweeps);
+    }
+    round(rt, owners, gate, sweeps)
+}
+
+/// How many boards are fresh, of all owners together.
+fn fresh_boards(owners: &[Owner]) -> usize {
+    owners
+        .iter()
+        .fold(0, |sum: usize, owner: &Owner| sum.saturating_add(owner.part.fresh_boards()))
 }
 
 /// Looks at all owners and at every line.
