@@ -1,5 +1,5 @@
 -- A batch that is taken, note by note.
-use Rattle.std.proofs.Common.{◌≡◌, ℕ, ◌+◌, ◌==◌, ◌<◌, ◌≤◌, ◌⊎◌, inl, inr, Bool, true, false, cond, List, [], ◌∷◌, ◌++◌, length, get_or, take, ℤ, refl, sym, ap, subst, ◌∙◌, arith, append_assoc, append-nil, eqb-true}
+use Rattle.std.proofs.Common.{◌≡◌, ℕ, ◌+◌, ◌==◌, ◌<◌, ◌≤◌, ◌⊎◌, inl, inr, Bool, true, false, cond, List, [], ◌∷◌, ◌++◌, length, get_or, take, drop, zero, suc, ℤ, refl, sym, ap, subst, ◌∙◌, arith, append_assoc, append-nil, eqb-true}
 use Rattle.std.proofs.lemmas.Bool.{false≢true}
 use Rattle.std.proofs.lemmas.Bool.Decides.{nat_tests}
 use Rattle.std.proofs.lemmas.List.{take_more, take_all, get_or_default}
@@ -31,7 +31,7 @@ either [] ys m h = inr h
 either (x ∷ xs) ys m (inl e) = inl (inl e)
 either (x ∷ xs) ys m (inr h) = elim (either xs ys m h) [ inl before ↦ inl (inr before) | inr after ↦ inr after ]
 
-notes_of-last : (bs : Batches) (b : List Note) → notes_of (bs ++ b ∷ []) ≡ notes_of bs ++ b
+pub notes_of-last : (bs : Batches) (b : List Note) → notes_of (bs ++ b ∷ []) ≡ notes_of bs ++ b
 notes_of-last [] b = append-nil b
 notes_of-last (a ∷ bs) b = ap (λ l. a ++ l) (notes_of-last bs b) ∙ sym (append_assoc a (notes_of bs) b)
 
@@ -154,3 +154,12 @@ no_note = record { level = 0; target = 0; pit = 0; kind = Won; gain = 0; dist = 
 pub read_at : (read items : List Note) (k : ℕ) → read ≡ items → k < length items → take (k + 1) items ≡ take k items ++ get_or read k no_note ∷ []
 read_at read items k same low =
     take_more items k (get_or read k no_note) low ∙ ap (λ (m : Note). take k items ++ m ∷ []) (sym (ap (λ (l : List Note). get_or l k no_note) same ∙ get_or_default items k no_note (get_or read k no_note) low))
+
+-- the notes before one, it, and those after
+at_place : (items : List Note) (k : ℕ) → k < length items → items ≡ take k items ++ get_or items k no_note ∷ drop (suc k) items
+at_place [] k low = absurd (omega (arith, low))
+at_place (m ∷ items) zero low = refl
+at_place (m ∷ items) (suc k) low = ap (λ l. m ∷ l) (at_place items k (omega (arith, low)))
+
+pub split_at : (read items : List Note) (k : ℕ) → read ≡ items → k < length items → items ≡ take k items ++ get_or read k no_note ∷ drop (suc k) items
+split_at read items k same low = at_place items k low ∙ ap (λ (l : List Note). take k items ++ get_or l k no_note ∷ drop (suc k) items) (sym same)

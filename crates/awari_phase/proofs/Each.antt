@@ -1,9 +1,9 @@
 -- Owners that are changed where they stand, one after the other.
-use Rattle.std.proofs.Common.{◌≡◌, ℕ, suc, ◌+◌, ◌<◌, ◌≤◌, List, [], ◌∷◌, None, length, refl, sym, ap, subst, ◌∙◌, inl, inr, arith, get_or, set, length-set}
+use Rattle.std.proofs.Common.{◌≡◌, ℕ, suc, ◌+◌, ◌<◌, ◌≤◌, List, [], ◌∷◌, length, refl, sym, ap, subst, ◌∙◌, inl, inr, arith, get_or, set, length-set}
 use Rattle.std.proofs.lemmas.List.{get_or-set_same, get_or-set_other, get_or_default}
 use Rattle.std.proofs.lemmas.Bool.{cases_eq}
 use Rattle.awari_phase.specs.declared.owners.Owner.{Owner}
-use Rattle.awari_phase.specs.Owners.{Kept, all_ends}
+use Rattle.awari_phase.specs.Owners.{all_ends}
 
 -- of each owner before place i this holds, and those from there on are as they were
 pub record DoneTo (R : Owner → Owner → Type 0) (os ps : List Owner) (i : ℕ) : Type 0 where
@@ -32,10 +32,6 @@ module _ (R : Owner → Owner → Type 0) where
   -- and so of all
   pub done_all : (os ps : List Owner) (i : ℕ) → length os ≤ i → DoneTo R os ps i → (k : ℕ) (d : Owner) → k < length os → R (get_or os k d) (get_or ps k d)
   done_all os ps i end s k d h = s.before k d (omega (arith, end, h))
-
--- an owner that worked, and had no fault, kept what a worker keeps
-abbrev pub Worked : Owner → Owner → Type 0
-Worked a b = b.fault ≡ None → Kept a b
 
 -- the same ends at each place
 pub same_ends : (os ps : List Owner) → length ps ≡ length os → ((k : ℕ) (d : Owner) → k < length os → (get_or ps k d).ends ≡ (get_or os k d).ends) → all_ends ps ≡ all_ends os

@@ -100,11 +100,14 @@ module _ (e e' : Ends) (j : ℕ) (lines : SameLines e e') (others : SameBut e e'
         | inr n ↦ subst (λ (l : Option Line). P (line_of e k) l) (sym (others k n o.0)) (same (line_of e k))
       ]
 
-  sent_same : sent_to e' j ≡ sent_to e j → (k : ℕ) → IsOther e k → sent_to e' k ≡ sent_to e k
+  pub sent_same : sent_to e' j ≡ sent_to e j → (k : ℕ) → IsOther e k → sent_to e' k ≡ sent_to e k
   sent_same h = at_each (λ l m. sent_on m ≡ sent_on l) (λ l. refl) h
 
   received_same : received_from e' j ≡ received_from e j → (k : ℕ) → IsOther e k → received_from e' k ≡ received_from e k
   received_same h = at_each (λ l m. received_on m ≡ received_on l) (λ l. refl) h
+
+  pub others_received : (k : ℕ) → IsOther e k → k ≢ j → received_from e' k ≡ received_from e k
+  others_received k o n = ap received_on (others k n o.0)
 
   received_grown : (b : Notes) → received_from e' j ≡ received_from e j ++ b ∷ [] → (k : ℕ) → IsOther e k → IsPrefix (received_from e k) (received_from e' k)
   received_grown b h = at_each (λ l m. IsPrefix (received_on l) (received_on m)) (λ l. ([], append-nil (received_on l))) (b ∷ [], sym h)

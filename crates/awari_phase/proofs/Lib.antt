@@ -1,4 +1,6 @@
 pub mod Keeping
+pub mod Stopping
+pub mod Halting
 pub mod Pairs
 pub mod Grown
 pub mod Each
@@ -8,3 +10,5 @@ pub mod Gaining
 pub mod Batching
 pub mod Giving
 pub mod Together
+pub mod Refusing
+pub mod Worked

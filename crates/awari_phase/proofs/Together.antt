@@ -8,7 +8,7 @@ use Rattle.awari_owner.specs.Part.{Part, InBlock}
 use Rattle.awari_owner.specs.Scan.{first_rank}
 use Rattle.awari_owner.specs.Level.{AreSound, AreSpreadNotes, HearsTaken, IsClosed, IsShare, IsTimely, no_part, part_at}
 use Rattle.awari_owner.specs.declared.notes.Note.{Note}
-use Rattle.awari_lines.specs.Lines.{owners_of, sent_to, received_from}
+use Rattle.awari_lines.specs.Lines.{IsGrid, owners_of, sent_to, received_from}
 use Rattle.awari_lines.specs.declared.lines.Ends.{Ends}
 use Rattle.awari_core.specs.Sound.{notes_of}
 use Rattle.awari_phase.specs.Sound.{Batches, queue_to, IsInBlockOf, HoldsNotes, OwnerSound}
@@ -27,39 +27,53 @@ sound_same value n owners part part' coming taken some same s = record {
   timely = λ i j low low' apart m has. subst (λ (p : Part). IsTimely p m) (same 0 some) (s.timely i j low low' apart m has);
 }
 
-part_there : (os : List Owner) (i : ℕ) (d : Owner) → i < length os → (get_or os i d).part ≡ part_at (parts_of os) i
+pub part_there : (os : List Owner) (i : ℕ) (d : Owner) → i < length os → (get_or os i d).part ≡ part_at (parts_of os) i
 part_there [] i d low = absurd (omega (arith, low))
 part_there (o ∷ os) zero d low = refl
 part_there (o ∷ os) (suc i) d low = part_there os i d (omega (arith, low))
 
-ends_there : (os : List Owner) (i : ℕ) (d : Owner) → get_or (all_ends os) i d.ends ≡ (get_or os i d).ends
+pub ends_there : (os : List Owner) (i : ℕ) (d : Owner) → get_or (all_ends os) i d.ends ≡ (get_or os i d).ends
 ends_there [] i d = refl
 ends_there (o ∷ os) zero d = refl
 ends_there (o ∷ os) (suc i) d = ends_there os i d
 
-module _ (value : List ℕ → ℤ) (n : ℕ) (os : List Owner) (finished : AreFinished value n os) (d : Owner) where
+-- Owners that stand on a grid, over the batches that each took and the notes that come to it: what an owner gave to another is
+-- what that one took and what comes.
+pub record AreMet (value : List ℕ → ℤ) (n : ℕ) (os : List Owner) (d : Owner) (coming : ℕ → ℕ → List Note) (taken : ℕ → ℕ → Batches) : Type 0 where
+  pub some : 1 ≤ length os
+  pub grid : IsGrid (all_ends os)
+  pub level : (i : ℕ) → i < length os → (get_or os i d).part.level ≡ n
+  pub gain : (i : ℕ) → i < length os → (get_or os i d).part.gain ≡ (get_or os 0 d).part.gain
+  pub wave : (i : ℕ) → i < length os → (get_or os i d).part.wave ≡ (get_or os 0 d).part.wave
+  pub sound : (i : ℕ) → i < length os
+      → OwnerSound value (get_or os i d).ends.owner (owners_of (get_or os i d).ends) (get_or os i d).part (taken i) (given_to (get_or os i d).ends (get_or os i d).outboxes) (queue_to (get_or os i d).outboxes)
+  pub arrived : (i j : ℕ) → i < length os → j < length os → (i ≡ j → ⊥) → notes_of (given_to (get_or os i d).ends (get_or os i d).outboxes j) ≡ notes_of (taken j i) ++ coming i j
+  pub timely : (i j : ℕ) → i < length os → j < length os → (i ≡ j → ⊥) → (m : Note) → Has (coming i j) m → IsTimely (get_or os 0 d).part m
+
+-- the ends of each have its number, and are of as many owners
+pub number_at : (os : List Owner) (d : Owner) → IsGrid (all_ends os) → (i : ℕ) → i < length os → (get_or os i d).ends.owner ≡ i
+number_at os d grid i low = ap (λ (e : Ends). e.owner) (sym (ends_there os i d)) ∙ grid.owner i d.ends (subst (λ k. i < k) (sym (length-map os ends_of)) low)
+
+pub many_at : (os : List Owner) (d : Owner) → IsGrid (all_ends os) → (i : ℕ) → i < length os → owners_of (get_or os i d).ends ≡ length os
+many_at os d grid i low = ap (λ (e : Ends). owners_of e) (sym (ends_there os i d)) ∙ grid.owners i d.ends (subst (λ k. i < k) (sym (length-map os ends_of)) low) ∙ length-map os ends_of
+
+module _ (value : List ℕ → ℤ) (n : ℕ) (os : List Owner) (d : Owner) (coming : ℕ → ℕ → List Note) (taken : ℕ → ℕ → Batches) (met : AreMet value n os d coming taken) where
   abbrev owner : ℕ → Owner
   owner i = get_or os i d
 
   abbrev part : ℕ → Part
   part i = (owner i).part
 
-  abbrev pub taken : ℕ → ℕ → List Note
-  taken i j = notes_of (taken_from (owner j).ends i)
-
-  in_ends : (i : ℕ) → i < length os → i < length (all_ends os)
-  in_ends i low = subst (λ k. i < k) (sym (length-map os ends_of)) low
-
   number : (i : ℕ) → i < length os → (owner i).ends.owner ≡ i
-  number i low = ap (λ (e : Ends). e.owner) (sym (ends_there os i d)) ∙ finished.grid.owner i d.ends (in_ends i low)
+  number = number_at os d met.grid
 
   many : (i : ℕ) → i < length os → owners_of (owner i).ends ≡ length os
-  many i low = ap (λ (e : Ends). owners_of e) (sym (ends_there os i d)) ∙ finished.grid.owners i d.ends (in_ends i low) ∙ length-map os ends_of
+  many = many_at os d met.grid
 
-  sound : (i : ℕ) → i < length os → OwnerSound value i (length os) (part i) (taken_from (owner i).ends) (given_to (owner i).ends (owner i).outboxes) (queue_to (owner i).outboxes)
+  sound : (i : ℕ) → i < length os → OwnerSound value i (length os) (part i) (taken i) (given_to (owner i).ends (owner i).outboxes) (queue_to (owner i).outboxes)
   sound i low =
-      subst₂ (λ (a b : ℕ). OwnerSound value a b (part i) (taken_from (owner i).ends) (given_to (owner i).ends (owner i).outboxes) (queue_to (owner i).outboxes)) (number i low) (many i low)
-      (finished.sound i d low)
+      subst₂ (λ (a b : ℕ). OwnerSound value a b (part i) (taken i) (given_to (owner i).ends (owner i).outboxes) (queue_to (owner i).outboxes)) (number i low) (many i low)
+      (met.sound i low)
 
   share : (i : ℕ) → i < length os → IsShare n (length os) i (part i)
   share i low =
@@ -67,7 +81,7 @@ module _ (value : List ℕ → ℤ) (n : ℕ) (os : List Owner) (finished : AreF
       let own : (owner i).outboxes.owner ≡ i = (owner i).numbered ∙ number i low in
       let queues : length (owner i).outboxes.queues ≡ length os = (owner i).queues ∙ many i low in
       record {
-        level = finished.level i d low;
+        level = met.level i low;
         start = of.start ∙ moved own queues (λ b k a. first_rank b k a);
         end = of.end ∙ moved own queues (λ b k a. first_rank b k (a + 1));
       }
@@ -75,18 +89,8 @@ module _ (value : List ℕ → ℤ) (n : ℕ) (os : List Owner) (finished : AreF
       moved : (owner i).outboxes.owner ≡ i → length (owner i).outboxes.queues ≡ length os → (f : ℕ → ℕ → ℕ → ℕ)
           → f (size_of (part i).level) (length (owner i).outboxes.queues) (owner i).outboxes.owner ≡ f (size_of n) (length os) i
       moved own queues f =
-          ap (λ l. f (size_of l) (length (owner i).outboxes.queues) (owner i).outboxes.owner) (finished.level i d low)
+          ap (λ l. f (size_of l) (length (owner i).outboxes.queues) (owner i).outboxes.owner) (met.level i low)
           ∙ ap (λ k. f (size_of n) k (owner i).outboxes.owner) queues ∙ ap (f (size_of n) (length os)) own
-
-  -- what an owner gave to another the other took
-  arrived : (i j : ℕ) → i < length os → j < length os → (i ≡ j → ⊥) → notes_of (given_to (owner i).ends (owner i).outboxes j) ≡ taken i j ++ []
-  arrived i j low low' apart =
-      let queues : length (owner i).outboxes.queues ≡ length os = (owner i).queues ∙ many i low in
-      let none : queue_to (owner i).outboxes j ≡ [] = finished.sent i d low j [] (omega (arith, queues, low')) in
-      let came : received_from (owner j).ends i ≡ sent_to (owner i).ends j =
-      subst₂ (λ (a b : Ends). received_from a i ≡ sent_to b j) (ends_there os j d) (ends_there os i d) (finished.received j i d.ends (in_ends j low') (in_ends i low) (λ e. apart (sym e))) in
-      ap (λ (q : Batches). notes_of (map items_of (sent_to (owner i).ends j) ++ q)) none ∙ ap notes_of (append-nil (map items_of (sent_to (owner i).ends j)))
-      ∙ ap (λ l. notes_of (map items_of l)) (sym came) ∙ sym (append-nil (taken i j))
 
   in_share : (j r : ℕ) → j < length os → IsInBlockOf n (length os) j r → InBlock (part j) r
   in_share j r low inside =
@@ -100,8 +104,8 @@ module _ (value : List ℕ → ℤ) (n : ℕ) (os : List Owner) (finished : AreF
       let start = s.start in let end = s.end in let a = inside.0 in let b = inside.1 in
       (omega (arith, start, a), omega (arith, start, end, a, b))
 
-  given : (i j : ℕ) → i < length os → j < length os → (i ≡ j → ⊥) → AreSpreadNotes (part i) (part j) (taken i j ++ [])
-  given i j low low' apart = subst (AreSpreadNotes (part i) (part j)) (arrived i j low low' apart) (record {
+  given : (i j : ℕ) → i < length os → j < length os → (i ≡ j → ⊥) → AreSpreadNotes (part i) (part j) (notes_of (taken j i) ++ coming i j)
+  given i j low low' apart = subst (AreSpreadNotes (part i) (part j)) (met.arrived i j low low' apart) (record {
     true_notes = λ m has.
         let (p, q, x, v, e, is_p, stones, in_q, in_j, spread, note) = holds.true_notes m has in (
           q,
@@ -113,24 +117,24 @@ module _ (value : List ℕ → ℤ) (n : ℕ) (os : List Owner) (finished : AreF
           in_q,
           IsBoard-next p x 0 q is_p note.quiet,
           is_p,
-          stones ∙ finished.level i d low ∙ sym (finished.level j d low'),
-          in_share j (rank_of p) low' (subst (λ l. IsInBlockOf l (length os) j (rank_of p)) (finished.level i d low) in_j),
+          stones ∙ met.level i low ∙ sym (met.level j low'),
+          in_share j (rank_of p) low' (subst (λ l. IsInBlockOf l (length os) j (rank_of p)) (met.level i low) in_j),
           note,
         );
     all_notes = λ q v e p x spread in_q is_p stones in_p quiet.
-        holds.all_notes p q x v e is_p (stones ∙ finished.level j d low' ∙ sym (finished.level i d low)) in_q
-        (subst (λ l. IsInBlockOf l (length os) j (rank_of p)) (sym (finished.level i d low)) (of_share j (rank_of p) low' in_p)) quiet spread;
+        holds.all_notes p q x v e is_p (stones ∙ met.level j low' ∙ sym (met.level i low)) in_q
+        (subst (λ l. IsInBlockOf l (length os) j (rank_of p)) (sym (met.level i low)) (of_share j (rank_of p) low' in_p)) quiet spread;
     once = holds.once;
   })
     where
       holds : HoldsNotes (length os) (part i) j (notes_of (given_to (owner i).ends (owner i).outboxes j))
       holds = (sound i low).given_notes j ((λ e. apart (sym e)), low')
 
-  pub sound_together : AreSound value n (length os) (part_at (parts_of os)) (λ _ _. []) taken
-  sound_together = sound_same value n (length os) part (part_at (parts_of os)) (λ _ _. []) taken finished.some (λ i low. part_there os i d low) (record {
+  pub sound_together : AreSound value n (length os) (part_at (parts_of os)) coming (λ i j. notes_of (taken j i))
+  sound_together = sound_same value n (length os) part (part_at (parts_of os)) coming (λ i j. notes_of (taken j i)) met.some (λ i low. part_there os i d low) (record {
     shares = share;
-    gain = λ i low. finished.gain i d low;
-    wave = λ i low. finished.wave i d low;
+    gain = met.gain;
+    wave = met.wave;
     hears = λ j low. let s = sound j low in record {
       notes = s.heard;
       tallied = s.tallied;
@@ -141,6 +145,34 @@ module _ (value : List ℕ → ℤ) (n : ℕ) (os : List Owner) (finished : AreF
       );
     };
     given = given;
+    timely = met.timely;
+  })
+
+-- owners without anything on its way are met so
+module _ (value : List ℕ → ℤ) (n : ℕ) (os : List Owner) (finished : AreFinished value n os) (d : Owner) where
+  abbrev pub taken : ℕ → ℕ → List Note
+  taken i j = notes_of (taken_from (get_or os j d).ends i)
+
+  -- what an owner gave to another the other took
+  arrived : (i j : ℕ) → i < length os → j < length os → (i ≡ j → ⊥) → notes_of (given_to (get_or os i d).ends (get_or os i d).outboxes j) ≡ taken i j ++ []
+  arrived i j low low' apart =
+      let queues : length (get_or os i d).outboxes.queues ≡ length os = (get_or os i d).queues ∙ many_at os d finished.grid i low in
+      let none : queue_to (get_or os i d).outboxes j ≡ [] = finished.sent i d low j [] (omega (arith, queues, low')) in
+      let in_ends : (k : ℕ) → k < length os → k < length (all_ends os) = λ k h. subst (λ x. k < x) (sym (length-map os ends_of)) h in
+      let came : received_from (get_or os j d).ends i ≡ sent_to (get_or os i d).ends j =
+      subst₂ (λ (a b : Ends). received_from a i ≡ sent_to b j) (ends_there os j d) (ends_there os i d) (finished.received j i d.ends (in_ends j low') (in_ends i low) (λ e. apart (sym e))) in
+      ap (λ (q : Batches). notes_of (map items_of (sent_to (get_or os i d).ends j) ++ q)) none ∙ ap notes_of (append-nil (map items_of (sent_to (get_or os i d).ends j)))
+      ∙ ap (λ l. notes_of (map items_of l)) (sym came) ∙ sym (append-nil (taken i j))
+
+  pub sound_finished : AreSound value n (length os) (part_at (parts_of os)) (λ _ _. []) taken
+  sound_finished = sound_together value n os d (λ _ _. []) (λ j. taken_from (get_or os j d).ends) (record {
+    some = finished.some;
+    grid = finished.grid;
+    level = λ i low. finished.level i d low;
+    gain = λ i low. finished.gain i d low;
+    wave = λ i low. finished.wave i d low;
+    sound = λ i low. finished.sound i d low;
+    arrived = arrived;
     timely = λ i j low low' apart m has. absurd has;
   })
 

@@ -1,3 +1,4 @@
 pub mod Sound
 pub mod Owners
 pub mod PhaseFault
+pub mod Stops

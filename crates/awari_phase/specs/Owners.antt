@@ -114,6 +114,27 @@ pub record IsScanned (value : List ℕ → ℤ) (n owners : ℕ) (e : Ends) (o :
   pub hears : HearsOwn o.part []
   pub sent : All (λ q. q ≡ []) o.outboxes.queues
 
+-- of these batches that were sent, those that are not among these received ones are of the open gain and distance
+pub record OpenBehind (part : Part) (received sent : List Notes) : Type 0 where
+  pub before : List Notes
+  pub after : List Notes
+  pub came : IsPrefix before received
+  pub went : sent ≡ before ++ after
+  pub opened : All (IsOpenBatch part) (map items_of after)
+
+-- Each owner is sound, they stand on a grid, and all parts are of one level with the same gain and distance open, of which is all
+-- that waits on a line.
+pub record AreTogether (value : List ℕ → ℤ) (n : ℕ) (os : List Owner) : Type 0 where
+  pub some : 1 ≤ length os
+  pub grid : IsGrid (all_ends os)
+  pub sound : (i : ℕ) (d : Owner) → i < length os → IsSound value (slice_index_or os i d).ends (slice_index_or os i d).part (slice_index_or os i d).outboxes
+  pub level : (i : ℕ) (d : Owner) → i < length os → (slice_index_or os i d).part.level ≡ n
+  pub gain : (i : ℕ) (d : Owner) → i < length os → (slice_index_or os i d).part.gain ≡ (slice_index_or os 0 d).part.gain
+  pub opened : (i : ℕ) (d : Owner) → i < length os → (slice_index_or os i d).part.gain ≤ n
+  pub wave : AreInStep os
+  pub waits : (i j : ℕ) (d : Owner) → i < length os → j < length os → i ≢ j
+      → OpenBehind (slice_index_or os j d).part (received_from (slice_index_or os i d).ends j) (sent_to (slice_index_or os j d).ends i)
+
 -- Each owner is sound, they stand on a grid, nothing is to be sent or waits on a line, and all parts are of one level with the
 -- same gain and distance open.
 pub record AreFinished (value : List ℕ → ℤ) (n : ℕ) (os : List Owner) : Type 0 where

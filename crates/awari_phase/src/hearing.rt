@@ -1,7 +1,8 @@
 //! How an owner hears what another one sent.
 
-ghost use Rattle.std.specs.Prelude.{◌≡◌, ℕ, ℤ, List, OnOk};
+ghost use Rattle.std.specs.Prelude.{◌≡◌, ℕ, ℤ, List, OnOk, IfErr};
 ghost use Rattle.awari_phase.specs.Sound.{Batches, OwnerSound, SameBlock, with_taken, IsOtherOf};
+ghost use Rattle.awari_phase.specs.Stops.{RefusesNote};
 
 use awari_owner::{Batch, OwnerFault, Part};
 
@@ -11,6 +12,7 @@ pub fn take_batch(part: &mut Part, batch: &Batch) -> Result<(), OwnerFault>
     ensures sound { OnOk result ((value : List ℕ → ℤ) (owner owners from : ℕ) (taken given boxed : ℕ → Batches) → IsOtherOf owner owners from
         → OwnerSound value owner owners part.old taken given boxed
         → OwnerSound value owner owners part.new (with_taken taken from batch.now.items) given boxed) }
+    ensures refused { IfErr result (RefusesNote part.old part.new batch.now.items) }
 {
     for note in batch.as_slice() {
         match part.take(*note) {

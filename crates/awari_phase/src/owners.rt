@@ -26,9 +26,10 @@ pub struct Owner {
 }
 
 impl Owner {
-    ghost use Rattle.std.specs.Prelude.{◌≡◌, ◌<◌, IsNone, None, OnOk};
+    ghost use Rattle.std.specs.Prelude.{◌≡◌, ◌<◌, None, IfErr, OnOk};
     ghost use Rattle.awari_lines.specs.Lines.{IsOther, owners_of};
     ghost use Rattle.awari_phase.specs.Owners.{Kept};
+    ghost use Rattle.awari_phase.specs.Stops.{HasWorked, Stopped};
 
     /// The owner of this part of a level, with these ends of its lines to the others and these
     /// outboxes. All three are one owner's, of as many owners.
@@ -52,7 +53,8 @@ impl Owner {
     /// Takes at most one batch from another owner. True where there was one.
     fn take_from(&mut self, from: u8) -> Result<bool, OwnerFault>
         requires { IsOther self.old.ends from }
-        ensures { OnOk result (Kept self.old self.new) }
+        ensures kept { OnOk result (Kept self.old self.new) }
+        ensures stopped { IfErr result (Stopped self.old self.new) }
     {
         let Some(batch) = self.ends.pop(from) else {
             return Ok(false);
@@ -79,10 +81,11 @@ impl Owner {
     }
 
     /// Takes at most one batch from the owner of this number, if it is another.
-    #[tactic(auto, using(crate::proofs::Keeping::keeping))]
+    #[tactic(auto, using(crate::proofs::Stopping::stopping))]
     fn take_at(&mut self, place: usize) -> Result<bool, OwnerFault>
         requires { place < owners_of self.old.ends }
-        ensures { OnOk result (Kept self.old self.new) }
+        ensures kept { OnOk result (Kept self.old self.new) }
+        ensures stopped { IfErr result (Stopped self.old self.new) }
     {
         match u8::try_from(place) {
             Ok(other) if other != self.ends.owner() => self.take_from(other),
@@ -104,7 +107,8 @@ impl Owner {
 
     /// Spreads at most one board. True where there was one.
     fn spread(&mut self) -> Result<bool, OwnerFault>
-        ensures { OnOk result (Kept self.old self.new) }
+        ensures kept { OnOk result (Kept self.old self.new) }
+        ensures stopped { IfErr result (Stopped self.old self.new) }
     {
         let done = spread_one(&mut self.part, &mut self.outboxes)?;
         Ok(done)
@@ -112,9 +116,10 @@ impl Owner {
 
     /// At most one batch from each other owner, at most 64 boards spread, and at most one batch to
     /// each other owner. True where anything was done.
-    #[tactic(auto, using(crate::proofs::Keeping::keeping))]
+    #[tactic(auto, using(crate::proofs::Stopping::stopping))]
     fn sweep(&mut self) -> Result<bool, OwnerFault>
-        ensures { OnOk result (Kept self.old self.new) }
+        ensures kept { OnOk result (Kept self.old self.new) }
+        ensures stopped { IfErr result (Stopped self.old self.new) }
     {
         let owners = self.ends.owners();
         let mut busy = false;
@@ -136,9 +141,10 @@ impl Owner {
     }
 
     /// Sweeps until nothing is done, or so many times.
-    #[tactic(auto, using(crate::proofs::Keeping::keeping))]
+    #[tactic(auto, using(crate::proofs::Stopping::stopping))]
     fn sweeps<G: Gate>(&mut self, gate: &G, most: u32) -> Result<(), OwnerFault>
-        ensures { OnOk result (Kept self.old self.new) }
+        ensures kept { OnOk result (Kept self.old self.new) }
+        ensures stopped { IfErr result (Stopped self.old self.new) }
     {
         for _ in 0..most {
             gate.enter(self.ends.owner());
@@ -150,9 +156,9 @@ impl Owner {
     }
 
     /// Sweeps until nothing is done, or so many times, and keeps the fault that came, if one did.
-    #[tactic(auto, using(crate::proofs::Keeping::keeping))]
+    #[tactic(auto, using(crate::proofs::Stopping::stopping))]
     pub(crate) fn work<G: Gate>(&mut self, gate: &G, most: u32)
-        ensures { IsNone self.new.fault → Kept self.old self.new }
+        ensures { HasWorked self.old self.new }
     {
         let swept = self.sweeps(gate, most);
         self.fault = swept.err();

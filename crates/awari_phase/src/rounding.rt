@@ -1,16 +1,20 @@
 //! Rounds: all owners work, each in a thread of its own, or one after the other.
 
-ghost use Rattle.std.specs.Prelude.{◌≡◌, ◌<◌, ◌≤◌, ℕ, IsNone, IfOk, IfErr, IfSome, None, length, slice_index_or, vec_len};
+ghost use Rattle.std.specs.Prelude.{◌≡◌, ◌<◌, ◌≤◌, ℕ, ℤ, List, IsNone, IfOk, IfErr, IfSome, slice_index_or, vec_len};
 ghost use Rattle.awari_lines.specs.Lines.{IsGrid};
-ghost use Rattle.awari_phase.specs.Owners.{Kept, all_ends};
-ghost use Rattle.awari_phase.specs.PhaseFault.{AreWell, IsFirstFault, IsRefusal, fault_of};
+ghost use Rattle.awari_table.specs.declared.TheConstants.{HIGHEST_LEVEL};
+ghost use Rattle.awari_phase.specs.Owners.{AreTogether, Kept, all_ends};
+ghost use Rattle.awari_phase.specs.PhaseFault.{AreWell, IsFirstFault, IsRefusal, IsWant, fault_of};
+ghost use Rattle.awari_phase.specs.Stops.{HaveWorked};
 ghost use Rattle.awari_phase.specs.declared.owners.Owner.{Owner as AnOwner};
 
 use crate::faults::PhaseFault;
 use crate::gates::Gate;
 use crate::owners::Owner;
+use crate::settling::settle_owners;
 use crate::starting::start_each;
-use awari_owner::OwnerFault;
+use awari_core::coming_notes_are_expected;
+use awari_owner::{OwnerFault, distances_fit, sound_parts_are_told};
 use std::sync::Wait;
 use std::thread::Threads;
 
@@ -19,7 +23,8 @@ use std::thread::Threads;
 ///
 /// All threads that were started are joined before anything is answered. Refused as 40 `NotStarted`
 /// where one could not be started, as 41 `Memory` where a growth was refused, else as 41 or 42
-/// `BadNote` by the fault of the least owner that had one. Then the owners are gone.
+/// `BadNote` by the fault of the least owner that had one. Then the owners are gone. It is never 42
+/// where the owners were sound together.
 pub fn round<R: Threads + Wait + Sync, G: Gate + Sync>(
     rt: &R,
     owners: Vec<Owner>,
@@ -31,12 +36,14 @@ pub fn round<R: Threads + Wait + Sync, G: Gate + Sync>(
     ensures len { IfOk result (λ all. vec_len all ≡ vec_len owners) }
     ensures kept { IfOk result (λ all. (i : ℕ) (d : AnOwner) → i < vec_len owners → Kept (slice_index_or owners.items i d) (slice_index_or all.items i d)) }
     ensures grid { IfOk result (λ all. IsGrid (all_ends all.items)) }
+    ensures together { IfOk result (λ all. (value : List ℕ → ℤ) (n : ℕ) → AreTogether value n owners.items → AreTogether value n all.items) }
     ensures refused { IfErr result (IsRefusal owners.items) }
+    ensures wanting { IfErr result (λ fault. (value : List ℕ → ℤ) (n : ℕ) → n ≤ HIGHEST_LEVEL → AreTogether value n owners.items → IsWant fault) }
 {
     let all = start_each(rt, owners, gate, sweeps)?;
     match first_fault(all.as_slice()) {
         None => Ok(all),
-        Some(fault) => Err(fault),
+        Some(fault) => Err(refused(all, fault)),
     }
 }
 
@@ -51,22 +58,41 @@ pub(crate) fn round_in_turn<G: Gate>(
     ensures len { IfOk result (λ all. vec_len all ≡ vec_len owners) }
     ensures kept { IfOk result (λ all. (i : ℕ) (d : AnOwner) → i < vec_len owners → Kept (slice_index_or owners.items i d) (slice_index_or all.items i d)) }
     ensures grid { IfOk result (λ all. IsGrid (all_ends all.items)) }
+    ensures together { IfOk result (λ all. (value : List ℕ → ℤ) (n : ℕ) → AreTogether value n owners.items → AreTogether value n all.items) }
     ensures refused { IfErr result (IsRefusal owners.items) }
+    ensures wanting { IfErr result (λ fault. (value : List ℕ → ℤ) (n : ℕ) → n ≤ HIGHEST_LEVEL → AreTogether value n owners.items → IsWant fault) }
 {
     work_in_turn(owners.as_mut_slice(), gate, sweeps);
     match first_fault(owners.as_slice()) {
         None => Ok(owners),
-        Some(fault) => Err(fault),
+        Some(fault) => Err(refused(owners, fault)),
     }
 }
 
 /// Each owner works where it stands.
 fn work_in_turn<G: Gate>(owners: &mut [Owner], gate: &G, sweeps: u32)
-    ensures { (i : ℕ) (d : AnOwner) → i < length owners.old → (slice_index_or owners.new i d).fault ≡ None → Kept (slice_index_or owners.old i d) (slice_index_or owners.new i d) }
+    ensures { HaveWorked owners.old owners.new }
 {
     for i in 0..owners.len() {
         owners[i].work(gate, sweeps);
     }
+}
+
+/// Tells this fault of owners that came back from their work, the first among them.
+///
+/// Both ends of each line are looked at before that: only so is it known of a note that was refused
+/// that another owner had sent it, and none of those is refused where the owners were sound together.
+fn refused(mut all: Vec<Owner>, fault: PhaseFault) -> PhaseFault
+    requires grid { IsGrid (all_ends all.items) }
+    requires first { IsFirstFault all.items fault }
+    ensures same { result ≡ fault }
+    ensures wanting { (value : List ℕ → ℤ) (n : ℕ) (before : List AnOwner) → n ≤ HIGHEST_LEVEL → AreTogether value n before → HaveWorked before all.items → IsWant result }
+{
+    coming_notes_are_expected();
+    sound_parts_are_told();
+    distances_fit();
+    settle_owners(all.as_mut_slice());
+    fault
 }
 
 /// The fault of the least owner that had one.

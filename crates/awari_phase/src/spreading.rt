@@ -1,7 +1,7 @@
 //! How an owner spreads a board.
 
-ghost use Rattle.std.specs.Prelude.{◌≡◌, ◌⊎◌, ◌++◌, ℕ, ℤ, List, IfErr, OnOk, Ok, Some, false, length};
-ghost use Rattle.awari_owner.specs.Part.{IsLeastDue};
+ghost use Rattle.std.specs.Prelude.{◌≡◌, ◌⊎◌, ◌++◌, ℕ, ℤ, List, IfErr, OnErr, OnOk, Ok, Some, false, length};
+ghost use Rattle.awari_owner.specs.Part.{HasFarthest, IsLeastDue};
 ghost use Rattle.awari_owner.specs.Spread.{IsPartOf};
 ghost use Rattle.awari_owner.specs.declared.faults.OwnerFault.{OwnerFault};
 ghost use Rattle.awari_phase.specs.Sound.{Batches, queue_to, OwnerSound, SameBlock};
@@ -20,7 +20,8 @@ pub fn spread_one(part: &mut Part, outboxes: &mut Outboxes) -> Result<bool, Owne
         → OwnerSound value outboxes.old.owner (length outboxes.old.queues) part.old taken (λ j. sent j ++ queue_to outboxes.old j) (queue_to outboxes.old)
         → OwnerSound value outboxes.old.owner (length outboxes.old.queues) part.new taken (λ j. sent j ++ queue_to outboxes.new j) (queue_to outboxes.new)) }
     ensures due { result ≡ Ok false → IsLeastDue part.old (Some part.old.wave) → ⊥ }
-    ensures fault { IfErr result (λ fault. (fault ≡ OwnerFault.Far) ⊎ (fault ≡ OwnerFault.Memory)) }
+    ensures fault { IfErr result (λ fault. (fault ≡ OwnerFault.Memory) ⊎ ((fault ≡ OwnerFault.Far) × HasFarthest part.old)) }
+    ensures err { OnErr result ((part.new ≡ part.old) × (outboxes.new ≡ outboxes.old)) }
 {
     moves_keep_boards();
     ranks_tell_boards_apart();

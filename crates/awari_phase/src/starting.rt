@@ -1,11 +1,11 @@
 //! Owners that are started, each in a thread of its own, so that a start that fails is told.
 
-ghost use Rattle.std.specs.Prelude.{◌≡◌, ◌<◌, ◌≤◌, ℕ, None, IfOk, IfErr, length, slice_index_or, vec_len, ◌+◌, ◌++◌, ◌∷◌, [], Ok};
+ghost use Rattle.std.specs.Prelude.{◌≡◌, IfOk, IfErr, vec_len, ◌+◌, ◌++◌, ◌∷◌, [], Ok};
 ghost use Rattle.std.specs.declared.vec.Vec.{Vec as AVec};
 ghost use Rattle.std.specs.declared.alloc.Global.{Global};
 ghost use denote.Param.Send.{IsSync};
-ghost use Rattle.awari_phase.specs.Owners.{Kept};
 ghost use Rattle.awari_phase.specs.PhaseFault.{IsWant};
+ghost use Rattle.awari_phase.specs.Stops.{HasWorked, HaveWorked};
 ghost use Rattle.awari_phase.specs.declared.owners.Owner.{Owner as AnOwner};
 
 use crate::faults::PhaseFault;
@@ -16,17 +16,17 @@ use std::sync::Wait;
 use std::thread;
 use std::thread::{Promise, Threads};
 
-/// The owner that comes back is this one, further on, if it had no fault.
+/// The owner that comes back is this one, further on, up to its fault if it had one.
 #[derive(Drop)]
 struct KeptFrom(Snapshot<Owner>);
 
 impl Promise<Owner> for KeptFrom {
-    ghost kept_by = { λ p r. r.fault ≡ None → Kept p.0.value r };
+    ghost kept_by = { λ p r. HasWorked p.0.value r };
 }
 
 /// Works by value.
 fn worked<G: Gate>(mut owner: Owner, gate: &G, sweeps: u32) -> Owner
-    ensures { result.fault ≡ None → Kept owner result }
+    ensures { HasWorked owner result }
 {
     owner.work(gate, sweeps);
     owner
@@ -43,7 +43,7 @@ pub(crate) fn start_each<R: Threads + Wait + Sync, G: Gate + Sync>(
     sweeps: u32,
 ) -> Result<Vec<Owner>, PhaseFault>
     ensures len { IfOk result (λ all. vec_len all ≡ vec_len owners) }
-    ensures kept { IfOk result (λ all. (i : ℕ) (d : AnOwner) → i < vec_len owners → (slice_index_or all.items i d).fault ≡ None → Kept (slice_index_or owners.items i d) (slice_index_or all.items i d)) }
+    ensures worked { IfOk result (λ all. HaveWorked owners.items all.items) }
     ensures wanting { IfErr result IsWant }
 {
     let Some(owner) = owners.pop() else {
@@ -54,8 +54,7 @@ pub(crate) fn start_each<R: Threads + Wait + Sync, G: Gate + Sync>(
         rt,
         |scope| -> Result<Vec<Owner>, PhaseFault>
             requires { IsSync R.row × IsSync G.row }
-            ensures { IfOk result (λ all. (vec_len all ≡ vec_len owners + 1) × ((i : ℕ) (d : AnOwner) → i < vec_len owners + 1 → (slice_index_or all.items i d).fault ≡ None
-                → Kept (slice_index_or (owners.items ++ owner ∷ []) i d) (slice_index_or all.items i d))) × IfErr result IsWant }
+            ensures { IfOk result (λ all. (vec_len all ≡ vec_len owners + 1) × HaveWorked (owners.items ++ owner ∷ []) all.items) × IfErr result IsWant }
         {
             let promise = KeptFrom(Snapshot::of(&owner));
             match scope.spawn_with(promise, move || worked(owner, gate, sweeps)) {

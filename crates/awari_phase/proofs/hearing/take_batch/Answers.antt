@@ -1,9 +1,10 @@
-use Rattle.std.proofs.Common.{◌≡◌, ◌-◌, ◌<◌, List, length, get_or, take, ap, subst, sym, ◌∙◌, rules, length-set}
-use Rattle.awari_owner.specs.Part.{stored_at}
+use Rattle.std.proofs.Common.{◌≡◌, ◌-◌, ◌<◌, suc, List, drop, length, get_or, take, ap, subst, sym, ◌∙◌, rules, length-set}
+use Rattle.awari_owner.specs.OwnerFault.{IsFaultOf}
+use Rattle.awari_owner.specs.Part.{Part, stored_at}
 use Rattle.awari_owner.specs.declared.notes.Note.{Note}
 use Rattle.awari_phase.specs.Sound.{OwnerSound, with_taken}
 use Rattle.awari_phase.proofs.Keeping.{same_block, block_then}
-use Rattle.awari_phase.proofs.Batching.{no_note, read_at, sound_first, sound_last, sound_more}
+use Rattle.awari_phase.proofs.Batching.{no_note, read_at, split_at, sound_first, sound_last, sound_more}
 use Rattle.awari_phase.proofs.hearing.take_batch.Goals as goal
 
 pub loop-note-init : goal.loop-note-init
@@ -33,3 +34,20 @@ pub returns-clause-sound : goal.returns-clause-sound
 returns-clause-sound c = λ value owner owners from taken given boxed apart s.
     sound_last value owner owners from c.loop-note.part taken given boxed c.args.batch.now.items c.loop-note.note-index (search rules)
     (c.loop-note.invariant.sound value owner owners from taken given boxed apart s)
+
+pub returns-in-Err-clause-refused : goal.returns-in-Err-clause-refused
+returns-in-Err-clause-refused c =
+    let k = c.loop-note.note-index in
+    let items : List Note = c.args.batch.now.items in
+    let low : k < length items = search rules in
+    let m : Note = get_or c.as_slice-note-items.result.now k no_note in
+    record {
+      before = take k items;
+      note = m;
+      after = drop (suc k) items;
+      items = split_at c.as_slice-note-items.result.now items k c.as_slice-note-items.ensures.value low;
+      refused = subst (λ (p : Part). IsFaultOf p m c.in-Err.fault) (sym c.in-Err.ensures.err) c.in-Err.ensures.refused;
+      sound = λ value owner owners from taken given boxed apart s.
+          subst (λ (p : Part). OwnerSound value owner owners p (with_taken taken from (take k items)) given boxed) (sym c.in-Err.ensures.err)
+          (c.loop-note.invariant.sound value owner owners from taken given boxed apart s);
+    }

@@ -1,0 +1,62 @@
+-- How a worker comes to a fault.
+use Rattle.std.specs.Prelude.{◌≡◌, ◌≢◌, ◌⊎◌, ℕ, ℤ, List, [], ◌∷◌, ◌++◌, ◌<◌, None, Some, length, slice_index_or}
+use Rattle.awari_lines.specs.Lines.{Notes, IsOther, SameLines, owners_of, sent_to, received_from}
+use Rattle.awari_lines.specs.declared.lines.Ends.{Ends}
+use Rattle.awari_owner.specs.Outboxes.{Outboxes}
+use Rattle.awari_owner.specs.OwnerFault.{IsFaultOf}
+use Rattle.awari_owner.specs.Part.{Part, HasFarthest}
+use Rattle.awari_owner.specs.declared.faults.OwnerFault.{OwnerFault}
+use Rattle.awari_owner.specs.declared.faults.OwnerFault.TheVariants.{Far, Memory}
+use Rattle.awari_owner.specs.declared.notes.Note.{Note}
+use Rattle.awari_phase.specs.Sound.{Batches, queue_to, IsOtherOf, OwnerSound, SameBlock, with_taken}
+use Rattle.awari_phase.specs.Owners.{IsSound, Keeps, Kept, given_to, taken_from}
+use Rattle.awari_phase.specs.declared.owners.Owner.{Owner}
+
+-- The part heard the notes of this batch up to one, which it refused.
+pub record RefusesNote (old new : Part) (batch : List Note) (fault : OwnerFault) : Type 0 where
+  pub before : List Note
+  pub note : Note
+  pub after : List Note
+  pub items : batch ≡ before ++ note ∷ after
+  pub refused : IsFaultOf new note fault
+  pub sound : (value : List ℕ → ℤ) (owner owners from : ℕ) (taken given boxed : ℕ → Batches) → IsOtherOf owner owners from
+      → OwnerSound value owner owners old taken given boxed
+      → OwnerSound value owner owners new (with_taken taken from before) given boxed
+
+-- One batch was taken off a line, and a note of it was refused; nothing else was done.
+pub record StopsTaking (e : Ends) (part : Part) (o : Outboxes) (e' : Ends) (part' : Part) (o' : Outboxes) (fault : OwnerFault) : Type 0 where
+  pub from : ℕ
+  pub batch : Notes
+  pub other : IsOther e from
+  pub lines : SameLines e e'
+  pub sent : (j : ℕ) → IsOther e j → sent_to e' j ≡ sent_to e j
+  pub popped : received_from e' from ≡ received_from e from ++ batch ∷ []
+  pub others : (j : ℕ) → IsOther e j → j ≢ from → received_from e' j ≡ received_from e j
+  pub outboxes : o' ≡ o
+  pub block : SameBlock part part'
+  pub refuses : RefusesNote part part' batch.items fault
+
+-- Nothing was done: memory is wanting, or the next board to be spread has the greatest distance that can be stored.
+pub record StopsSpreading (e : Ends) (part : Part) (o : Outboxes) (e' : Ends) (part' : Part) (o' : Outboxes) (fault : OwnerFault) : Type 0 where
+  pub ends : e' ≡ e
+  pub cells : part' ≡ part
+  pub outboxes : o' ≡ o
+  pub refused : (fault ≡ Memory) ⊎ ((fault ≡ Far) × HasFarthest part)
+
+-- The worker kept what a worker keeps, up to a step that was refused for this fault.
+pub record StopsAt (a : Owner) (e : Ends) (part : Part) (o : Outboxes) (fault : OwnerFault) : Type 0 where
+  pub until : Owner
+  pub kept : Kept a until
+  pub stops : StopsTaking until.ends until.part until.outboxes e part o fault ⊎ StopsSpreading until.ends until.part until.outboxes e part o fault
+
+abbrev pub Stopped : Owner → Owner → OwnerFault → Type 0
+Stopped a b fault = StopsAt a b.ends b.part b.outboxes fault
+
+-- what became of an owner that worked: it kept what a worker keeps, or its worker stopped at the fault that it has
+pub record HasWorked (a b : Owner) : Type 0 where
+  pub kept : b.fault ≡ None → Kept a b
+  pub stopped : (fault : OwnerFault) → b.fault ≡ Some fault → Stopped a b fault
+
+-- so it is of each of these owners
+abbrev pub HaveWorked : List Owner → List Owner → Type 0
+HaveWorked os ps = (length ps ≡ length os) × ((i : ℕ) (d : Owner) → i < length os → HasWorked (slice_index_or os i d) (slice_index_or ps i d))
