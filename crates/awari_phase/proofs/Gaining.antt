@@ -131,7 +131,7 @@ all_grown_kept os ps many kept g = record {
   wave = λ step. step_then os ps many (λ i d h. (kept i d h).block.level.wave) step;
 }
 
-same_rest : (os ps : List Owner) → map rest_of ps ≡ map rest_of os → (i : ℕ) (d : Owner) → rest_of (get_or ps i d) ≡ rest_of (get_or os i d)
+pub same_rest : (os ps : List Owner) → map rest_of ps ≡ map rest_of os → (i : ℕ) (d : Owner) → rest_of (get_or ps i d) ≡ rest_of (get_or os i d)
 same_rest os ps rest i d = sym (get_or-map rest_of ps i d) ∙ (ap (λ l. get_or l i (rest_of d)) rest ∙ get_or-map rest_of os i d)
 
 pub all_grown_round : (os ps : List Owner) (n m : ℕ) → n ≡ length os → m ≡ length ps → m ≡ n → ((i : ℕ) (d : Owner) → i < n → Kept (get_or os i d) (get_or ps i d)) → IsGrid (all_ends os) → AllGrown os ps

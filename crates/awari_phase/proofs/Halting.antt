@@ -13,11 +13,11 @@ use Rattle.awari_owner.specs.declared.notes.Note.{Note}
 use Rattle.awari_lines.specs.Lines.{Notes, IsOther, SameLines, owners_of, sent_to, received_from}
 use Rattle.awari_lines.specs.declared.lines.Ends.{Ends}
 use Rattle.awari_core.specs.Sound.{notes_of}
-use Rattle.awari_core.proofs.Lists.{Has-append_right, notes_of-append}
+use Rattle.awari_core.proofs.Lists.{Has-append_right}
 use Rattle.awari_phase.specs.declared.owners.Owner.{Owner}
 use Rattle.awari_phase.specs.Sound.{Batches, queue_to, IsOpenBatch, OwnerSound, SameBlock, with_taken}
 use Rattle.awari_phase.specs.Owners.{items_of, taken_from, given_to, IsSound, Kept}
-use Rattle.awari_phase.specs.Stops.{HasWorked, StopsAt, StopsTaking, StopsSpreading, Stopped}
+use Rattle.awari_phase.specs.Stops.{HasWorked, StopsAt, StopsTaking, StopsSpreading}
 use Rattle.awari_phase.proofs.Batching.{notes_of-last}
 use Rattle.awari_phase.proofs.Keeping.{OwnerSound-same, block_then, lines_then, moved}
 

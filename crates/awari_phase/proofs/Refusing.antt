@@ -1,11 +1,11 @@
 -- Owners that were sound together refuse no note.
-use Rattle.std.proofs.Common.{◌≡◌, ◌⊎◌, ℕ, ◌<◌, ◌≤◌, ◌+◌, ◌^◌, ◌-◌, Option, Some, None, List, [], ◌∷◌, ◌++◌, length, map, drop, All, ℤ, true, false, refl, sym, ap, subst, ◌∙◌, inl, inr, arith, get_or, append_assoc, append-nil, zero, suc}
+use Rattle.std.proofs.Common.{◌≡◌, ◌⊎◌, ℕ, ◌<◌, ◌≤◌, ◌^◌, ◌-◌, Some, None, List, [], ◌∷◌, ◌++◌, length, map, drop, All, ℤ, false, refl, sym, ap, subst, ◌∙◌, inl, inr, arith, get_or, append_assoc, suc}
 use Rattle.std.proofs.lemmas.Bool.{cases_lt, false≢true}
 use Rattle.std.proofs.lemmas.List.{append_cancel_left, drop_at, length-map, map-append, get_or_past}
 use Rattle.awari_owner.specs.Notes.{Has}
 use Rattle.awari_owner.specs.Tally.{has_pit}
 use Rattle.awari_owner.specs.OwnerFault.{IsFaultOf}
-use Rattle.awari_owner.specs.Part.{Part, HasFarthest, IsExpected, stored_at}
+use Rattle.awari_owner.specs.Part.{Part, IsExpected, stored_at}
 use Rattle.awari_owner.specs.Level.{AreSound, AreTold, AreWhole, DistancesFit, IsTimely, no_part, part_at}
 use Rattle.awari_owner.specs.declared.faults.OwnerFault.{OwnerFault}
 use Rattle.awari_owner.specs.declared.faults.OwnerFault.TheVariants as owner_fault
@@ -18,12 +18,12 @@ use Rattle.awari_core.specs.Sound.{notes_of}
 use Rattle.awari_core.proofs.Lists.{Has-append_cases, Has-append_left, Has-append_right, notes_of-append}
 use Rattle.awari_phase.specs.declared.owners.Owner.{Owner}
 use Rattle.awari_phase.specs.declared.faults.PhaseFault.{PhaseFault}
-use Rattle.awari_phase.specs.Sound.{Batches, queue_to, IsOpenBatch, SameBlock}
+use Rattle.awari_phase.specs.Sound.{Batches, queue_to, IsOpenBatch}
 use Rattle.awari_phase.specs.Owners.{AreTogether, OpenBehind, all_ends, ends_of, given_to, items_of, parts_of, taken_from}
 use Rattle.awari_phase.specs.PhaseFault.{IsFirstFault, IsWant, fault_of}
-use Rattle.awari_phase.specs.Stops.{HasWorked, HaveWorked}
-use Rattle.awari_phase.proofs.Grown.{ends_at, some}
-use Rattle.awari_phase.proofs.Halting.{Due, Halts, IsOther-back, halts}
+use Rattle.awari_phase.specs.Stops.{HaveWorked}
+use Rattle.awari_phase.proofs.Grown.{ends_at}
+use Rattle.awari_phase.proofs.Halting.{Halts, halts}
 use Rattle.awari_phase.proofs.Together.{AreMet, as_many, ends_there, many_at, number_at, part_there, sound_together}
 
 -- ---- one value for each owner

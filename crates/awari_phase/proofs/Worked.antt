@@ -1,24 +1,27 @@
 -- Owners that worked, each up to its fault if it had one.
-use Rattle.std.proofs.Common.{◌≡◌, ℕ, ◌+◌, ◌<◌, ◌≤◌, ◌⊎◌, inl, inr, List, [], ◌∷◌, ◌++◌, take, drop, Option, Some, None, All, map, ℤ, length, get_or, refl, sym, subst, ap, ◌∙◌, arith, append_assoc, length-append}
-use Rattle.std.proofs.lemmas.List.{take-append-le, take_all, get_or_append_left, get_or_past, length-map, map-append}
+use Rattle.std.proofs.Common.{◌≡◌, ℕ, ◌<◌, ◌≤◌, inl, inr, List, [], ◌∷◌, ◌++◌, take, drop, Option, Some, None, All, map, ℤ, length, get_or, refl, sym, subst, subst₂, ap, append-nil, ◌∙◌, arith, append_assoc, length-append}
+use Rattle.std.proofs.lemmas.List.{get_or_append_left, length-map, map-append}
 use Rattle.std.proofs.lemmas.List.Elements.{All-append, All-weaker}
 use Rattle.std.proofs.lemmas.Bool.{cases_lt}
 use Rattle.std.proofs.Math.Seq.{get_or-append_seam}
-use Rattle.awari_lines.specs.Lines.{Notes, IsGrid, SameHistory, SameLines, received_from, sent_to, waiting_from}
+use Rattle.awari_lines.specs.Lines.{IsGrid, SameHistory, SameLines, received_from, sent_to}
 use Rattle.awari_lines.specs.declared.lines.Ends.{Ends}
 use Rattle.awari_owner.specs.Part.{Part}
 use Rattle.awari_owner.specs.declared.faults.OwnerFault.{OwnerFault}
 use Rattle.awari_owner.specs.declared.notes.Note.{Note}
 use Rattle.awari_phase.specs.declared.owners.Owner.{Owner}
 use Rattle.awari_phase.specs.Sound.{IsOpenBatch}
-use Rattle.awari_phase.specs.Owners.{AreTogether, Kept, OpenBehind, all_ends, ends_of, items_of}
+use Rattle.awari_phase.specs.Owners.{AllGrown, AreFinished, AreReceived, AreTogether, Kept, OpenBehind, OpensWave, all_ends, ends_of, items_of, rest_of}
 use Rattle.awari_phase.specs.PhaseFault.{AreWell}
-use Rattle.awari_phase.specs.Stops.{HasWorked, HaveWorked, Stopped}
+use Rattle.awari_phase.specs.Stops.{HasWorked, HaveWorked}
 use Rattle.awari_phase.proofs.Batching.{open_still}
 use Rattle.awari_phase.proofs.Grown.{grid_after, grid_lines}
-use Rattle.awari_phase.proofs.Keeping.{lines_then, IsOther-on}
+use Rattle.awari_phase.proofs.Keeping.{lines_then}
 use Rattle.awari_core.proofs.Rounds.{written}
-use Rattle.awari_phase.proofs.Together.{many_at, number_at}
+use Rattle.awari_phase.proofs.Together.{ends_there, many_at, number_at}
+use Rattle.awari_phase.proofs.Gaining.{all_grown_waves, same_rest}
+use Rattle.awari_phase.proofs.Each.{same_ends}
+use Rattle.awari_owner.specs.Outboxes.{Outboxes}
 
 -- on the same lines
 worked_lines : (a b : Owner) → HasWorked a b → SameLines a.ends b.ends
@@ -108,3 +111,98 @@ written_worked os now new n count is worked =
     let w = worked.0 in
     let same = ap length is in
     subst (HaveWorked os) (sym (written new os n (omega (arith, w, same, count)) (sym count))) (subst (λ (l : List Owner). HaveWorked l new) is worked)
+
+-- what grew is sound together where it was, if what waits is of the open gain and distance
+together_grown : (value : List ℕ → ℤ) (n : ℕ) (os ps : List Owner) → AllGrown os ps
+    → ((i j : ℕ) (d : Owner) → i < length ps → j < length ps → (i ≡ j → ⊥) → OpenBehind (get_or ps j d).part (received_from (get_or ps i d).ends j) (sent_to (get_or ps j d).ends i))
+    → AreTogether value n os → AreTogether value n ps
+together_grown value n os ps grown waits t =
+    let many = grown.many in
+    let low : (i : ℕ) → i < length ps → i < length os = λ i h. omega (arith, h, many) in
+    let first : 0 < length os = (let s = t.some in omega (arith, s)) in
+    record {
+      some = (let s = t.some in omega (arith, s, many));
+      grid = grown.grid;
+      sound = λ i d h. (grown.each i d (low i h)).sound value (t.sound i d (low i h));
+      level = λ i d h. (grown.each i d (low i h)).level ∙ t.level i d (low i h);
+      gain = λ i d h. (grown.each i d (low i h)).gain ∙ t.gain i d (low i h) ∙ sym (grown.each 0 d first).gain;
+      opened = λ i d h. (let g = (grown.each i d (low i h)).gain in let o = t.opened i d (low i h) in omega (arith, g, o));
+      wave = grown.wave t.wave;
+      waits = waits;
+    }
+
+-- after a look at all lines
+pub together_looked : (value : List ℕ → ℤ) (n : ℕ) (os ps : List Owner) → AllGrown os ps → map rest_of ps ≡ map rest_of os
+    → ((i : ℕ) (e : Ends) → i < length (all_ends os) → SameHistory (get_or (all_ends os) i e) (get_or (all_ends ps) i e)) → AreTogether value n os → AreTogether value n ps
+together_looked value n os ps grown rest same t = together_grown value n os ps grown waits t
+  where
+    many : length ps ≡ length os
+    many = grown.many
+
+    low : (i : ℕ) → i < length ps → i < length os
+    low i h = let m = many in omega (arith, h, m)
+
+    history : (i : ℕ) (d : Owner) → i < length ps → SameHistory (get_or os i d).ends (get_or ps i d).ends
+    history i d h =
+        subst (λ (u : Ends). SameHistory u (get_or ps i d).ends) (ends_there os i d)
+        (subst (λ (u : Ends). SameHistory (get_or (all_ends os) i d.ends) u) (ends_there ps i d) (same i d.ends (subst (λ k. i < k) (sym (length-map os ends_of)) (low i h))))
+
+    waits : (i j : ℕ) (d : Owner) → i < length ps → j < length ps → (i ≡ j → ⊥) → OpenBehind (get_or ps j d).part (received_from (get_or ps i d).ends j) (sent_to (get_or ps j d).ends i)
+    waits i j d h h' apart =
+        let o = t.waits i j d (low i h) (low j h') apart in
+        let part : (get_or ps j d).part ≡ (get_or os j d).part = ap (λ (r : Part × Outboxes). r.0) (same_rest os ps rest j d) in
+        let received = (history i d h).received j (λ e. apart (sym (e ∙ number_at os d t.grid i (low i h)))) in
+        let sent = (history j d h').sent i (λ e. apart (e ∙ number_at os d t.grid j (low j h'))) in
+        record {
+          before = o.before;
+          after = o.after;
+          came = (o.came.0, o.came.1 ∙ sym received);
+          went = sent ∙ o.went;
+          opened = subst (λ (p : Part). All (IsOpenBatch p) (map items_of o.after)) (sym part) o.opened;
+        }
+
+none_waits : (ps : List Owner) → AreReceived ps → (i j : ℕ) (d : Owner) → i < length ps → j < length ps → (i ≡ j → ⊥)
+    → OpenBehind (get_or ps j d).part (received_from (get_or ps i d).ends j) (sent_to (get_or ps j d).ends i)
+none_waits ps received i j d h h' apart =
+    let in_ends : (k : ℕ) → k < length ps → k < length (all_ends ps) = λ k low. subst (λ x. k < x) (sym (length-map ps ends_of)) low in
+    let all : received_from (get_or ps i d).ends j ≡ sent_to (get_or ps j d).ends i =
+    subst₂ (λ (a b : Ends). received_from a j ≡ sent_to b i) (ends_there ps i d) (ends_there ps j d) (received i j d.ends (in_ends i h) (in_ends j h') apart) in
+    record {
+      before = received_from (get_or ps i d).ends j;
+      after = [];
+      came = ([], append-nil (received_from (get_or ps i d).ends j));
+      went = sym all ∙ sym (append-nil (received_from (get_or ps i d).ends j));
+      opened = λ k x low. absurd (omega (arith, low));
+    }
+
+-- where nothing waits
+together_received : (value : List ℕ → ℤ) (n : ℕ) (os ps : List Owner) → AllGrown os ps → AreReceived ps → AreTogether value n os → AreTogether value n ps
+together_received value n os ps grown received t = together_grown value n os ps grown (none_waits ps received) t
+
+-- with a distance opened, where nothing waits
+pub together_waves : (value : List ℕ → ℤ) (n : ℕ) (os ps : List Owner) (dist : ℕ) → length ps ≡ length os
+    → ((i : ℕ) (d : Owner) → i < length os → OpensWave dist (get_or os i d) (get_or ps i d)) → IsGrid (all_ends os) → AreReceived os → AreTogether value n os → AreTogether value n ps
+together_waves value n os ps dist many opens grid received t =
+    let same : all_ends ps ≡ all_ends os = same_ends os ps many (λ i d h. (opens i d h).ends) in
+    together_received value n os ps (all_grown_waves os ps dist many opens grid)
+    (λ i j d. subst (λ (l : List Ends). i < length l → j < length l → (i ≡ j → ⊥) → received_from (get_or l i d) j ≡ sent_to (get_or l j d) i) (sym same) (received i j d)) t
+
+-- as owners are between two gains, once one is open
+pub together_finished : (value : List ℕ → ℤ) (n : ℕ) (os : List Owner) → ((i : ℕ) (d : Owner) → i < length os → (get_or os i d).part.gain ≤ n) → AreFinished value n os → AreTogether value n os
+together_finished value n os opened f = record {
+  some = f.some;
+  grid = f.grid;
+  sound = f.sound;
+  level = f.level;
+  gain = f.gain;
+  opened = opened;
+  wave = f.wave;
+  waits = none_waits os f.received;
+}
+
+-- what a slice that stays sound together writes back
+pub written_together : (value : List ℕ → ℤ) (n : ℕ) (os now new : List Owner) (count : ℕ) → count ≡ length os → now ≡ os → length new ≡ length now → (AreTogether value n now → AreTogether value n new)
+    → AreTogether value n os → AreTogether value n (take count (new ++ drop (length new) os))
+written_together value n os now new count many is long keeps t =
+    let same = ap length is in
+    subst (AreTogether value n) (sym (written new os count (omega (arith, long, same, many)) (sym many))) (keeps (subst (AreTogether value n) (sym is) t))

@@ -1,6 +1,6 @@
 -- How a worker comes to a fault.
 use Rattle.std.specs.Prelude.{◌≡◌, ◌≢◌, ◌⊎◌, ℕ, ℤ, List, [], ◌∷◌, ◌++◌, ◌<◌, None, Some, length, slice_index_or}
-use Rattle.awari_lines.specs.Lines.{Notes, IsOther, SameLines, owners_of, sent_to, received_from}
+use Rattle.awari_lines.specs.Lines.{Notes, IsOther, SameLines, sent_to, received_from}
 use Rattle.awari_lines.specs.declared.lines.Ends.{Ends}
 use Rattle.awari_owner.specs.Outboxes.{Outboxes}
 use Rattle.awari_owner.specs.OwnerFault.{IsFaultOf}
@@ -8,8 +8,8 @@ use Rattle.awari_owner.specs.Part.{Part, HasFarthest}
 use Rattle.awari_owner.specs.declared.faults.OwnerFault.{OwnerFault}
 use Rattle.awari_owner.specs.declared.faults.OwnerFault.TheVariants.{Far, Memory}
 use Rattle.awari_owner.specs.declared.notes.Note.{Note}
-use Rattle.awari_phase.specs.Sound.{Batches, queue_to, IsOtherOf, OwnerSound, SameBlock, with_taken}
-use Rattle.awari_phase.specs.Owners.{IsSound, Keeps, Kept, given_to, taken_from}
+use Rattle.awari_phase.specs.Sound.{Batches, IsOtherOf, OwnerSound, SameBlock, with_taken}
+use Rattle.awari_phase.specs.Owners.{Kept}
 use Rattle.awari_phase.specs.declared.owners.Owner.{Owner}
 
 -- The part heard the notes of this batch up to one, which it refused.

@@ -3,7 +3,7 @@
 ghost use Rattle.std.specs.Prelude.{◌≡◌, ◌+◌, ◌<◌, ◌≤◌, ℕ, ℤ, All, List, [], length, slice_index_or};
 ghost use Rattle.awari_lines.specs.Lines.{IsGrid};
 ghost use Rattle.awari_owner.specs.Blocks.{due_dist};
-ghost use Rattle.awari_phase.specs.Owners.{AllGrown, AreFinished, AreIdle, AreReceived, AreSent, OpensNext, OpensWave, all_ends};
+ghost use Rattle.awari_phase.specs.Owners.{AllGrown, AreFinished, AreIdle, AreReceived, AreSent, AreTogether, OpensNext, OpensWave, all_ends};
 ghost use Rattle.awari_phase.specs.declared.owners.Owner.{Owner as AnOwner};
 
 use crate::owners::Owner;
@@ -41,13 +41,15 @@ fn open_next(owner: &mut Owner)
     owner.part.open_gain(gain);
 }
 
-/// Opens this distance in each part, where it is not open. Nothing is to be sent, and no fresh board
-/// is nearer.
+/// Opens this distance in each part, where it is not open. Nothing is to be sent or waits on a line,
+/// and no fresh board is nearer.
 pub(crate) fn open_waves(owners: &mut [Owner], dist: u32)
     requires grid { IsGrid (all_ends owners.old) }
     requires sent { AreSent owners.old }
+    requires received { AreReceived owners.old }
     requires nearest { (i : ℕ) (d : AnOwner) → i < length owners.old → All (λ f. dist ≤ due_dist f) (slice_index_or owners.old i d).part.fresh }
-    ensures { AllGrown owners.old owners.new }
+    ensures grown { AllGrown owners.old owners.new }
+    ensures together { (value : List ℕ → ℤ) (n : ℕ) → AreTogether value n owners.old → AreTogether value n owners.new }
 {
     for i in 0..owners.len() {
         open_wave(&mut owners[i], dist);

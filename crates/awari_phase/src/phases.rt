@@ -3,10 +3,11 @@
 ghost use Rattle.std.specs.Prelude.{◌≡◌, ◌<◌, ◌≤◌, ℕ, ℤ, All, List, IsTrue, IsNone, IfSome, IfOk, IfErr, length, slice_index_or, vec_len, []};
 ghost use Rattle.awari_lines.specs.Lines.{IsGrid};
 ghost use Rattle.awari_owner.specs.Blocks.{due_dist};
-ghost use Rattle.awari_phase.specs.Owners.{AllGrown, AreFinished, AreIdle, AreReceived, AreSent, Kept, all_ends};
-ghost use Rattle.awari_phase.specs.PhaseFault.{IsRefusal};
+ghost use Rattle.awari_phase.specs.Owners.{AllGrown, AreFinished, AreIdle, AreReceived, AreSent, AreTogether, Kept, all_ends};
+ghost use Rattle.awari_phase.specs.PhaseFault.{IsRefusal, IsWant};
 ghost use Rattle.awari_phase.specs.declared.owners.Owner.{Owner as AnOwner};
 ghost use Rattle.awari_phase.specs.declared.phases.Standing.{Standing};
+ghost use Rattle.awari_table.specs.declared.TheConstants.{HIGHEST_LEVEL};
 
 use crate::faults::PhaseFault;
 use crate::gates::Gate;
@@ -32,7 +33,8 @@ enum Standing {
 
 /// Rounds, one open distance after another, the least that is due first, until no board is fresh and
 /// nothing is to be sent or waits on a line. There are 1 to 1000 sweeps a round, and the owners stand
-/// on one grid. Refused as a round is; then the owners are gone.
+/// on one grid. Refused as a round is, and never as 42 where the owners were sound together; then the
+/// owners are gone.
 ///
 /// The first round is made in threads, since a gain can begin with many ended boards, and later ones
 /// where many boards are fresh, nearly all of which are of the open distance when it is opened. To start
@@ -52,6 +54,7 @@ pub fn gain_phase<R: Threads + Wait + Sync, G: Gate + Sync>(
     ensures received { IfOk result (λ all. AreReceived all.items) }
     ensures finished { IfOk result (λ all. (value : List ℕ → ℤ) (n : ℕ) → AreFinished value n owners.items → AreFinished value n all.items) }
     ensures refused { IfErr result (IsRefusal owners.items) }
+    ensures wanting { IfErr result (λ fault. (value : List ℕ → ℤ) (n : ℕ) → n ≤ HIGHEST_LEVEL → AreTogether value n owners.items → IsWant fault) }
 {
     let mut all = round(rt, owners, gate, sweeps)?;
     for _ in rt.forever() {
@@ -82,7 +85,9 @@ fn next_round<R: Threads + Wait + Sync, G: Gate + Sync>(
     ensures len { IfOk result (λ all. vec_len all ≡ vec_len owners) }
     ensures kept { IfOk result (λ all. (i : ℕ) (d : AnOwner) → i < vec_len owners → Kept (slice_index_or owners.items i d) (slice_index_or all.items i d)) }
     ensures grid { IfOk result (λ all. IsGrid (all_ends all.items)) }
+    ensures together { IfOk result (λ all. (value : List ℕ → ℤ) (n : ℕ) → AreTogether value n owners.items → AreTogether value n all.items) }
     ensures refused { IfErr result (IsRefusal owners.items) }
+    ensures wanting { IfErr result (λ fault. (value : List ℕ → ℤ) (n : ℕ) → n ≤ HIGHEST_LEVEL → AreTogether value n owners.items → IsWant fault) }
 {
     if fresh_boards(owners.as_slice()) < MANY_BOARDS {
         return round_in_turn(owners, gate, sweeps);
@@ -101,6 +106,7 @@ fn fresh_boards(owners: &[Owner]) -> usize {
 fn look(owners: &mut Vec<Owner>) -> Standing
     requires { IsGrid (all_ends owners.old.items) }
     ensures grown { AllGrown owners.old.items owners.new.items }
+    ensures together { (value : List ℕ → ℤ) (n : ℕ) → AreTogether value n owners.old.items → AreTogether value n owners.new.items }
     ensures sent { result ≡ Standing.Done → AreSent owners.new.items }
     ensures received { result ≡ Standing.Done → AreReceived owners.new.items }
 {
@@ -111,6 +117,7 @@ fn look(owners: &mut Vec<Owner>) -> Standing
 fn look_at(owners: &mut [Owner]) -> Standing
     requires { IsGrid (all_ends owners.old) }
     ensures grown { AllGrown owners.old owners.new }
+    ensures together { (value : List ℕ → ℤ) (n : ℕ) → AreTogether value n owners.old → AreTogether value n owners.new }
     ensures sent { result ≡ Standing.Done → AreSent owners.new }
     ensures received { result ≡ Standing.Done → AreReceived owners.new }
 {
@@ -168,8 +175,10 @@ fn nearer(least: Option<u32>, owner: &Owner) -> Option<u32>
 fn begin(owners: &mut Vec<Owner>, dist: u32)
     requires grid { IsGrid (all_ends owners.old.items) }
     requires sent { AreSent owners.old.items }
+    requires received { AreReceived owners.old.items }
     requires nearest { (i : ℕ) (d : AnOwner) → i < length owners.old.items → All (λ f. dist ≤ due_dist f) (slice_index_or owners.old.items i d).part.fresh }
-    ensures { AllGrown owners.old.items owners.new.items }
+    ensures grown { AllGrown owners.old.items owners.new.items }
+    ensures together { (value : List ℕ → ℤ) (n : ℕ) → AreTogether value n owners.old.items → AreTogether value n owners.new.items }
 {
     open_waves(owners.as_mut_slice(), dist);
 }

@@ -1,5 +1,3 @@
-use Rattle.std.proofs.Common.{List, length, subst, sym}
-use Rattle.awari_phase.specs.declared.owners.Owner.{Owner}
 use Rattle.awari_phase.proofs.Refusing.{wanting}
 use Rattle.awari_phase.proofs.rounding.refused.Goals as goal
 
