@@ -1,7 +1,8 @@
 -- The numbers of the faults, and what is printed of them.
-use Rattle.std.specs.Prelude.{ℕ, List, [], ◌++◌, codes}
+use Rattle.std.specs.Prelude.{◌≡◌, ℕ, List, ◌++◌, codes}
 use Rattle.std.specs.Fmt.{decimal}
 use Rattle.awari_phase.specs.PhaseFault.{fault_text as phase_fault_text}
+use Rattle.awari_phase.specs.declared.faults.PhaseFault.TheVariants as phase_fault
 use Rattle.awari_build.specs.declared.faults.BuildFault.{BuildFault}
 use Rattle.awari_build.specs.declared.faults.BuildFault.TheVariants.{Owners, Pace, TooHigh, Memory, Phase}
 
@@ -24,10 +25,10 @@ name_and_fault (Phase fault) = codes "Phase: " ++ phase_fault_text fault
 abbrev pub fault_text : BuildFault → List ℕ
 fault_text fault = decimal (number_of fault) ++ codes " " ++ name_and_fault fault
 
--- want of memory, or what the owners' rounds were refused for
+-- want of memory, or of a thread
 abbrev pub IsOfPhase : BuildFault → Type 0
 IsOfPhase Memory = Unit {0}
-IsOfPhase (Phase fault) = Unit {0}
+IsOfPhase (Phase fault) = fault ≡ phase_fault.NotStarted
 IsOfPhase Owners = ⊥
 IsOfPhase Pace = ⊥
 IsOfPhase TooHigh = ⊥

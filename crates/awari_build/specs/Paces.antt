@@ -1,5 +1,5 @@
 -- At which paces a level is built.
-use Rattle.std.specs.Prelude.{ℕ, ◌≤◌}
+use Rattle.std.specs.Prelude.{◌≤◌}
 use Rattle.awari_build.specs.declared.paces.Pace.{Pace}
 
 -- there are 1 to 16 owners

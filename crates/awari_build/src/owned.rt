@@ -6,6 +6,8 @@ ghost use Rattle.awari_table.specs.Images.{table_of};
 ghost use Rattle.awari_table.specs.Shelves.{Consistent, IsShelf};
 ghost use Rattle.awari_table.specs.declared.TheConstants.{HIGHEST_LEVEL};
 ghost use Rattle.awari_theory.specs.Truth.{TellsTruth};
+ghost use Rattle.awari_phase.specs.PhaseFault.{IsWant};
+ghost use Rattle.awari_phase.specs.declared.faults.PhaseFault.{PhaseFault};
 ghost use Rattle.awari_build.specs.BuildFault.{IsOfPhase};
 ghost use Rattle.awari_build.specs.Owned.{AreAt};
 ghost use Rattle.awari_build.specs.Paces.{HasOwners, IsPaced};
@@ -46,6 +48,9 @@ pub fn build_level<R: Threads + Wait + Sync, G: Gate + Sync>(
     ensures owners { (result ≡ Err BuildFault.Owners) ↔ (HasOwners pace → ⊥) }
     ensures pace { (result ≡ Err BuildFault.Pace) ↔ (HasOwners pace × (IsPaced pace → ⊥)) }
     ensures too_high { (result ≡ Err BuildFault.TooHigh) ↔ (HasOwners pace × IsPaced pace × (HIGHEST_LEVEL < length shelf.now)) }
+
+    // No owner refuses a note that another one sent.
+    ensures phase { (fault : PhaseFault) → result ≡ Err (BuildFault.Phase fault) → fault ≡ PhaseFault.NotStarted }
 {
     if !(1..=MOST_OWNERS).contains(&pace.owners) {
         return Err(BuildFault::Owners);
@@ -117,14 +122,23 @@ fn closed_gain<R: Threads + Wait + Sync, G: Gate + Sync>(
     sweeps: u32,
 ) -> Result<Vec<Owner>, BuildFault>
     requires sweeps { (1 ≤ sweeps) × (sweeps ≤ 1000) }
-    requires rest { (value : List ℕ → ℤ) × (n : ℕ) × (gain : ℕ) × (2 ≤ gain) × AreAt value n gain owners.items }
+    requires rest { (value : List ℕ → ℤ) × (n : ℕ) × (gain : ℕ) × (2 ≤ gain) × AreAt value n gain owners.items × (gain ≤ n + 1) × (n ≤ HIGHEST_LEVEL) }
     ensures closed { IfOk result (λ all. (value : List ℕ → ℤ) (n gain : ℕ) → AreAt value n (gain + 1) owners.items → AreAt value n gain all.items) }
     ensures phase { IfErr result IsOfPhase }
 {
     open_gain(rt, owners.as_mut_slice());
     match gain_phase(rt, owners, gate, sweeps) {
         Ok(all) => Ok(all),
-        Err(PhaseFault::Memory) => Err(BuildFault::Memory),
-        Err(fault) => Err(BuildFault::Phase { fault }),
+        Err(fault) => Err(of_phase(fault)),
+    }
+}
+
+/// Why a level is not built, where the phase of a gain was refused.
+fn of_phase(fault: PhaseFault) -> BuildFault
+    ensures { IsWant fault → IsOfPhase result }
+{
+    match fault {
+        PhaseFault::Memory => BuildFault::Memory,
+        _ => BuildFault::Phase { fault },
     }
 }

@@ -1,10 +1,8 @@
-use Rattle.std.proofs.Common.{◌≡◌, ℕ, ◌+◌, ◌++◌, List, ℤ, length, take, drop, ap, sym, subst, ◌∙◌, arith}
+use Rattle.std.proofs.Common.{length, ap, sym, subst, ◌∙◌}
 use Rattle.awari_core.proofs.Rounds.{written}
 use Rattle.awari_lines.specs.Lines.{IsGrid}
-use Rattle.awari_phase.specs.Owners.{AreFinished, all_ends}
-use Rattle.awari_phase.specs.declared.owners.Owner.{Owner}
-use Rattle.awari_build.specs.Owned.{AreAt}
-use Rattle.awari_build.proofs.Gains.{next_open, phase_ends}
+use Rattle.awari_phase.specs.Owners.{AreFinished, AreTogether, all_ends}
+use Rattle.awari_build.proofs.Gains.{next_open, opened_together, phase_ends}
 use Rattle.awari_build.proofs.owned.closed_gain.Goals as goal
 
 pub gain_phase-requires-clause-grid : goal.gain_phase-requires-clause-grid
@@ -19,3 +17,11 @@ returns-in-Ok-clause-closed g c = λ value n gain at.
     phase_ends value n gain c.open_gain.new.owners _ c.in-Ok.all.items same
     (next_open value n gain c.args.owners.items c.as_mut_slice.result.now c.open_gain.new.owners c.as_mut_slice.ensures.value c.open_gain.auto.owners c.open_gain.ensures.finished c.open_gain.ensures.gain at)
     c.in-Ok.ensures.grown c.in-Ok.ensures.idle c.in-Ok.ensures.finished
+
+pub returns-in-Err-clause-phase : goal.returns-in-Err-clause-phase
+returns-in-Err-clause-phase g c =
+    let same = written c.open_gain.new.owners c.args.owners.items c.args.owners.len (c.open_gain.auto.owners ∙ ap length c.as_mut_slice.ensures.value ∙ sym c.args.owners.ok.0) (sym c.args.owners.ok.0) in
+    let rest = c.requires.rest in
+    c.of_phase.ensures
+    (c.in-Err.ensures.wanting rest.0 rest.1 rest.6
+    (subst (AreTogether rest.0 rest.1) (sym same) (opened_together rest.0 rest.1 rest.2 c.args.owners.items c.as_mut_slice.result.now c.open_gain.new.owners c.as_mut_slice.ensures.value c.open_gain.auto.owners c.open_gain.ensures.finished c.open_gain.ensures.gain rest.4 rest.5)))

@@ -1,4 +1,4 @@
-use Rattle.std.proofs.Common.{◌≡◌, List, length, sym, subst, ◌∙◌}
+use Rattle.std.proofs.Common.{List, length, sym, subst, ◌∙◌}
 use Rattle.awari_table.specs.Images.{table_of}
 use Rattle.awari_table.specs.Shelves.{Consistent}
 use Rattle.awari_table.specs.declared.rules.Distances.TheVariants.{Least}

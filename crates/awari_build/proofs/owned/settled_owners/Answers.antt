@@ -1,4 +1,4 @@
-use Rattle.std.proofs.Common.{◌≡◌, ℕ, ◌+◌, ◌-◌, ◌<◌, length, subst, refl, arith}
+use Rattle.std.proofs.Common.{◌≡◌, ◌+◌, ◌-◌, length, subst, arith}
 use Rattle.awari_table.specs.Images.{table_of}
 use Rattle.awari_build.specs.Owned.{AreAt}
 use Rattle.awari_build.proofs.owned.settled_owners.Goals as goal
