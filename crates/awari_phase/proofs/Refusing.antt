@@ -193,13 +193,10 @@ module _ (value : List ℕ → ℤ) (n : ℕ) (os ps : List Owner) (d : Owner) (
         | inr later ↦ elim (Has-append_cases (notes_of (map items_of waits)) (notes_of (queue_to (now i).outboxes j)) m later) [
           | inl waiting ↦ back m (Has-append_right (notes_of (map items_of came.0)) (notes_of (map items_of waits)) m waiting)
           | inr boxed ↦
-              let o = has_open (now i).part (queue_to (now i).outboxes j) m (sender.sound.opened j (from_other i j low low' apart)) boxed in
+              let o = has_open (now i).part (queue_to (now i).outboxes j) m (sender.sound.opened j (other i j low low' apart)) boxed in
               timely_at i m low (o.0 ∙ sender.block.level.gain, o.1 ∙ sender.block.level.wave, o.2)
         ]
       ]
-    where
-      from_other : (i j : ℕ) → i < length os → j < length os → (i ≡ j → ⊥) → IsOther (now i).ends j
-      from_other = other
 
   met : AreMet value n ps d coming taken
   met = record {
