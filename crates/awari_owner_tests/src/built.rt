@@ -35,19 +35,44 @@ fn doubled(alloc: Global, level: &Level) -> Result<Image, AllocError> {
     })
 }
 
-/// The shelf's next level as it is built. The verifier takes it with all its entries; and of its
-/// double, which keeps the old rules alone, `least` makes the same level again.
+/// The verifier takes the level with all its entries.
+fn expect_verified(
+    rt: &impl Abort,
+    alloc: Global,
+    shelf: &Shelf,
+    level: &Level,
+) -> Result<(), Fail> {
+    let verified = verify(shelf, image_of(alloc, level)?)?;
+    assert_eq!(rt; verified.entries(), level.entries());
+    Ok(())
+}
+
+fn expect_image(rt: &impl Abort, image: &Image, level: &Level) {
+    assert_eq!(rt; image.limit, level.limit());
+    assert_eq!(rt; image.entries.as_slice(), level.entries());
+}
+
+/// Of the level's double, which keeps the old rules alone, `least` makes the same level again.
+fn expect_lowered(
+    rt: &impl Abort,
+    alloc: Global,
+    shelf: &Shelf,
+    level: &Level,
+) -> Result<(), Fail> {
+    let farther = doubled(alloc, level)?;
+    verify_old(shelf, &farther)?;
+    let nearer = least(shelf, farther);
+    expect_image(rt, &nearer, level);
+    Ok(())
+}
+
+/// The shelf's next level as it is built, and put to both.
 fn verified_next(rt: &impl Abort, alloc: Global, shelf: &Shelf) -> Result<Level, Fail>
     ensures { IfOk result (Consistent shelf.now) }
 {
     let level = build_alone(alloc, shelf)?;
-    let verified = verify(shelf, image_of(alloc, &level)?)?;
-    assert_eq!(rt; verified.entries(), level.entries());
-    let farther = doubled(alloc, &level)?;
-    verify_old(shelf, &farther)?;
-    let nearer = least(shelf, farther);
-    assert_eq!(rt; nearer.limit, level.limit());
-    assert_eq!(rt; nearer.entries.as_slice(), level.entries());
+    expect_verified(rt, alloc, shelf, &level)?;
+    expect_lowered(rt, alloc, shelf, &level)?;
     Ok(level)
 }
 

@@ -99,6 +99,12 @@ fn is_level(alloc: Global, shelf: &Shelf, core: &Core) -> Result<bool, Fail> {
     Ok(image.limit == level.limit() && image.entries.as_slice() == level.entries())
 }
 
+/// The core, with all gains closed, gives the level that one part builds.
+fn expect_level(rt: &impl Abort, alloc: Global, shelf: &Shelf, core: &Core) -> Result<(), Fail> {
+    assert!(rt; is_level(alloc, shelf, core)?);
+    Ok(())
+}
+
 /// Whether owners who take events by chance build the level that one part builds.
 fn chance_builds(alloc: Global, shelf: &Shelf, owners: u8) -> Result<bool, Fail> {
     let mut core = Core::new(alloc, shelf, owners, 1)?;
@@ -123,44 +129,58 @@ fn spread_the_last(rt: &impl Abort, core: &mut Core) {
     assert_eq!(rt; core.next_gain(), Err(CoreFault::NotQuiet));
     assert_eq!(rt; core.next_wave(), Ok(Some(1)));
     assert_eq!(rt; core.step(Event::Spread(1)), Ok(()));
+    close(rt, core);
+}
+
+/// Closes all gains of a core that is quiet.
+fn close(rt: &impl Abort, core: &mut Core) {
     assert_eq!(rt; (core.next_wave(), core.quiet()), (Ok(None), true));
     assert_eq!(rt; (core.next_gain(), core.next_gain()), (Ok(0), Ok(0)));
+}
+
+/// Two owners of level 1 have gain 1 open, and are not quiet.
+fn expect_not_quiet(rt: &impl Abort, alloc: Global, core: &Core) {
+    assert_eq!(rt; (core.gain(), core.wave(), core.quiet()), (1, 0, false));
+    assert_eq!(rt; core.finish(alloc).err(), Some(CoreFault::NotQuiet));
 }
 
 #[test]
 fn level_1_is_built_by_two_owners(rt: HostRuntime) -> Result<(), Fail> {
     let shelf = one_level(rt.alloc())?;
     let mut core = Core::new(rt.alloc(), &shelf, 2, 1)?;
-    assert_eq!(rt; (core.gain(), core.wave(), core.quiet()), (1, 0, false));
-    assert_eq!(rt; core.finish(rt.alloc()).err(), Some(CoreFault::NotQuiet));
+    expect_not_quiet(&rt, rt.alloc(), &core);
     spread_by_two(&rt, &mut core);
     spread_the_last(&rt, &mut core);
-    assert!(rt; is_level(rt.alloc(), &shelf, &core)?);
-    Ok(())
+    expect_level(&rt, rt.alloc(), &shelf, &core)
+}
+
+/// Takes an event, or refuses it.
+fn expect_step(rt: &impl Abort, core: &mut Core, event: Event, answer: Result<(), CoreFault>) {
+    assert_eq!(rt; core.step(event), answer);
 }
 
 /// The third owner spreads its boards, and sends the second the one note that there is for it.
 fn send_the_note(rt: &impl Abort, core: &mut Core) {
-    assert_eq!(rt; core.step(Event::Take(2, 1)), Err(CoreFault::NotEnabled));
+    expect_step(rt, core, Event::Take(2, 1), Err(CoreFault::NotEnabled));
     for _board in 0..4u8 {
-        assert_eq!(rt; core.step(Event::Spread(2)), Ok(()));
+        expect_step(rt, core, Event::Spread(2), Ok(()));
     }
-    assert_eq!(rt; core.step(Event::Spread(2)), Err(CoreFault::NotEnabled));
-    assert_eq!(rt; core.step(Event::Send(2, 1)), Ok(()));
+    expect_step(rt, core, Event::Spread(2), Err(CoreFault::NotEnabled));
+    expect_step(rt, core, Event::Send(2, 1), Ok(()));
     assert_eq!(rt; core.next_wave(), Err(CoreFault::NotQuiet));
-    assert_eq!(rt; core.step(Event::Take(2, 1)), Ok(()));
-    assert_eq!(rt; core.step(Event::Take(2, 1)), Err(CoreFault::NotEnabled));
+    expect_step(rt, core, Event::Take(2, 1), Ok(()));
+    expect_step(rt, core, Event::Take(2, 1), Err(CoreFault::NotEnabled));
 }
 
 /// The other two spread what is due at distance 0.
 fn spread_the_rest(rt: &impl Abort, core: &mut Core) {
     for _board in 0..4u8 {
-        assert_eq!(rt; core.step(Event::Spread(0)), Ok(()));
+        expect_step(rt, core, Event::Spread(0), Ok(()));
     }
     for _board in 0..3u8 {
-        assert_eq!(rt; core.step(Event::Spread(1)), Ok(()));
+        expect_step(rt, core, Event::Spread(1), Ok(()));
     }
-    assert_eq!(rt; core.step(Event::Spread(1)), Err(CoreFault::NotEnabled));
+    expect_step(rt, core, Event::Spread(1), Err(CoreFault::NotEnabled));
 }
 
 #[test]
@@ -170,60 +190,70 @@ fn a_batch_settles_a_board_of_another_owner(rt: HostRuntime) -> Result<(), Fail>
     send_the_note(&rt, &mut core);
     spread_the_rest(&rt, &mut core);
     spread_the_last(&rt, &mut core);
-    assert!(rt; is_level(rt.alloc(), &shelf, &core)?);
-    Ok(())
+    expect_level(&rt, rt.alloc(), &shelf, &core)
+}
+
+/// Events of three owners that can't be taken.
+const NO_EVENTS: [Event; 6] = [
+    Event::Spread(3),
+    Event::Send(1, 1),
+    Event::Take(2, 2),
+    Event::Send(0, 3),
+    Event::Take(3, 0),
+    Event::Send(0, 1),
+];
+
+fn expect_none_taken(rt: &impl Abort, core: &mut Core) {
+    let refused = Ran {
+        taken: 0,
+        refused: 6,
+    };
+    assert_eq!(rt; core.run(&NO_EVENTS), refused);
 }
 
 #[test]
 fn events_that_are_none_are_refused(rt: HostRuntime) -> Result<(), Fail> {
     let shelf = one_level(rt.alloc())?;
     let mut core = Core::new(rt.alloc(), &shelf, 3, 1)?;
-    let events = [
-        Event::Spread(3),
-        Event::Send(1, 1),
-        Event::Take(2, 2),
-        Event::Send(0, 3),
-        Event::Take(3, 0),
-        Event::Send(0, 1),
-    ];
-    assert_eq!(rt;
-        core.run(&events),
-        Ran {
-            taken: 0,
-            refused: 6
-        }
-    );
+    expect_none_taken(&rt, &mut core);
     Ok(())
+}
+
+/// All gains of level 0 are closed from the start.
+fn expect_quiet(rt: &impl Abort, core: &Core) {
+    assert_eq!(rt; (core.quiet(), core.gain()), (true, 0));
 }
 
 #[test]
 fn level_0_is_quiet_at_once(rt: HostRuntime) -> Result<(), Fail> {
     let shelf = Shelf::empty();
     let core = Core::new(rt.alloc(), &shelf, 16, 1)?;
-    assert_eq!(rt; (core.quiet(), core.gain()), (true, 0));
-    assert!(rt; is_level(rt.alloc(), &shelf, &core)?);
-    Ok(())
+    expect_quiet(&rt, &core);
+    expect_level(&rt, rt.alloc(), &shelf, &core)
+}
+
+/// No core is made for so many owners and so much room.
+fn expect_no_core(rt: &impl Abort, alloc: Global, owners: u8, room: u32, fault: CoreFault) {
+    let answer = Core::new(alloc, &Shelf::empty(), owners, room).err();
+    assert_eq!(rt; answer, Some(fault));
 }
 
 #[test]
-fn cores_are_refused_in_order(rt: HostRuntime) -> Result<(), Fail> {
-    let shelf = Shelf::empty();
-    assert_eq!(rt;
-        Core::new(rt.alloc(), &shelf, 17, 0).err(),
-        Some(CoreFault::Owners)
-    );
-    assert_eq!(rt;
-        Core::new(rt.alloc(), &shelf, 0, 1).err(),
-        Some(CoreFault::Owners)
-    );
-    assert_eq!(rt;
-        Core::new(rt.alloc(), &shelf, 2, 0).err(),
-        Some(CoreFault::Room)
-    );
-    assert_eq!(rt;
-        Core::new(rt.alloc(), &shelf, 2, 257).err(),
-        Some(CoreFault::Room)
-    );
+fn cores_are_refused_in_order(rt: HostRuntime) {
+    expect_no_core(&rt, rt.alloc(), 17, 0, CoreFault::Owners);
+    expect_no_core(&rt, rt.alloc(), 0, 1, CoreFault::Owners);
+    expect_no_core(&rt, rt.alloc(), 2, 0, CoreFault::Room);
+    expect_no_core(&rt, rt.alloc(), 2, 257, CoreFault::Room);
+}
+
+/// Owners who take events by chance build the shelf's next level.
+fn expect_built_by_chance(
+    rt: &impl Abort,
+    alloc: Global,
+    shelf: &Shelf,
+    owners: u8,
+) -> Result<(), Fail> {
+    assert!(rt; chance_builds(alloc, shelf, owners)?, "{owners} owners");
     Ok(())
 }
 
@@ -231,11 +261,27 @@ fn cores_are_refused_in_order(rt: HostRuntime) -> Result<(), Fail> {
 fn chance_builds_levels_2_to_4(rt: HostRuntime) -> Result<(), Fail> {
     for count in 2..5u8 {
         let shelf = levels_below(rt.alloc(), count)?;
-        assert!(rt; chance_builds(rt.alloc(), &shelf, 2)?);
-        assert!(rt; chance_builds(rt.alloc(), &shelf, 3)?);
-        assert!(rt; chance_builds(rt.alloc(), &shelf, 16)?);
+        for owners in [2, 3, 16u8] {
+            expect_built_by_chance(&rt, rt.alloc(), &shelf, owners)?;
+        }
     }
     Ok(())
+}
+
+/// Sixteen owners build the shelf's next level by these events, again and again.
+fn expect_built_by_16(
+    rt: &impl Abort,
+    alloc: Global,
+    shelf: &Shelf,
+    events: &[Event],
+) -> Result<(), Fail> {
+    let mut core = Core::new(alloc, shelf, 16, 1)?;
+    expect_closed(rt, &mut core, events);
+    expect_level(rt, alloc, shelf, &core)
+}
+
+fn expect_closed(rt: &impl Abort, core: &mut Core, events: &[Event]) {
+    assert!(rt; close_by(core, events));
 }
 
 #[test]
@@ -243,9 +289,7 @@ fn sixteen_owners_build_level_1_and_6(rt: HostRuntime) -> Result<(), Fail> {
     let events = all_events(rt.alloc(), 16)?;
     for count in [1, 6u8] {
         let shelf = levels_below(rt.alloc(), count)?;
-        let mut core = Core::new(rt.alloc(), &shelf, 16, 1)?;
-        assert!(rt; close_by(&mut core, &events));
-        assert!(rt; is_level(rt.alloc(), &shelf, &core)?);
+        expect_built_by_16(&rt, rt.alloc(), &shelf, &events)?;
     }
     Ok(())
 }

@@ -6,6 +6,7 @@ ghost use Rattle.std.specs.Prelude.{◌≡◌, ◌<◌, IfOk};
 use crate::shelves::one_level;
 use awari_owner::{Kind, Note, OwnerFault, Part};
 use std::alloc::Global;
+use std::process::Abort;
 use std::test::Fail;
 
 /// Rank 6 hears that its pit 5 leads to a board that wins 1 stone.
@@ -26,17 +27,26 @@ fn second_of_three(alloc: Global) -> Result<Part, Fail> {
     Ok(part)
 }
 
+/// The block is that of ranks 4 to 7, and what is known of the board of this rank is so.
+fn expect_settled(rt: &impl Abort, part: &Part, rank: u32, settled: Option<(i8, u32)>) {
+    assert_eq!(rt; part.block(), (4, 8));
+    assert!(rt; 4 <= rank && rank < 8);
+    assert_eq!(rt; part.settled(rank), settled);
+}
+
+fn expect_answer(rt: &impl Abort, part: &mut Part, note: Note, answer: Result<(), OwnerFault>) {
+    assert_eq!(rt; part.take(note), answer);
+}
+
 #[test]
 fn hears_a_note_once(rt: HostRuntime) -> Result<(), Fail> {
     let mut part = second_of_three(rt.alloc())?;
-    assert_eq!(rt; part.block(), (4, 8));
-    assert_eq!(rt; part.settled(5), Some((-1, 0)));
-    assert_eq!(rt; part.settled(6), None);
-    assert_eq!(rt; part.settled(7), Some((1, 0)));
-    assert_eq!(rt; part.take(NOTE), Ok(()));
-    assert_eq!(rt; part.block(), (4, 8));
-    assert_eq!(rt; part.settled(6), Some((-1, 1)));
-    assert_eq!(rt; part.take(NOTE), Err(OwnerFault::Doubled));
+    expect_settled(&rt, &part, 5, Some((-1, 0)));
+    expect_settled(&rt, &part, 6, None);
+    expect_settled(&rt, &part, 7, Some((1, 0)));
+    expect_answer(&rt, &mut part, NOTE, Ok(()));
+    expect_settled(&rt, &part, 6, Some((-1, 1)));
+    expect_answer(&rt, &mut part, NOTE, Err(OwnerFault::Doubled));
     Ok(())
 }
 
@@ -47,33 +57,35 @@ fn a_lost_board_gives_its_gain(rt: HostRuntime) -> Result<(), Fail> {
         kind: Kind::Lost,
         ..NOTE
     };
-    assert_eq!(rt; part.take(lost), Ok(()));
-    assert_eq!(rt; part.block(), (4, 8));
-    assert_eq!(rt; part.settled(6), Some((1, 1)));
+    expect_answer(&rt, &mut part, lost, Ok(()));
+    expect_settled(&rt, &part, 6, Some((1, 1)));
     Ok(())
 }
+
+/// Notes that the second of three owners does not expect.
+const STRANGERS: [Note; 7] = [
+    Note { level: 2, ..NOTE },
+    Note { target: 8, ..NOTE },
+    Note { gain: 2, ..NOTE },
+    Note { pit: 4, ..NOTE },
+    Note { dist: 1, ..NOTE },
+    Note {
+        dist: u32::MAX,
+        ..NOTE
+    },
+    // The board of rank 4 is ended.
+    Note {
+        target: 4,
+        pit: 0,
+        ..NOTE
+    },
+];
 
 #[test]
 fn refuses_strangers(rt: HostRuntime) -> Result<(), Fail> {
     let mut part = second_of_three(rt.alloc())?;
-    for stranger in [
-        Note { level: 2, ..NOTE },
-        Note { target: 8, ..NOTE },
-        Note { gain: 2, ..NOTE },
-        Note { pit: 4, ..NOTE },
-        Note { dist: 1, ..NOTE },
-        Note {
-            dist: u32::MAX,
-            ..NOTE
-        },
-        // The board of rank 4 is ended.
-        Note {
-            target: 4,
-            pit: 0,
-            ..NOTE
-        },
-    ] {
-        assert_eq!(rt; part.take(stranger), Err(OwnerFault::Stranger));
+    for stranger in STRANGERS {
+        expect_answer(&rt, &mut part, stranger, Err(OwnerFault::Stranger));
     }
     Ok(())
 }
@@ -94,6 +106,12 @@ fn seventh_of_twelve(alloc: Global, wave: u32) -> Result<Part, Fail>
     Ok(part)
 }
 
+/// The one board of the part of the seventh of twelve owners is settled so.
+fn expect_rank_6(rt: &impl Abort, part: &Part, settled: Option<(i8, u32)>) {
+    assert_eq!(rt; part.block(), (6, 7));
+    assert_eq!(rt; part.settled(6), settled);
+}
+
 #[test]
 fn refuses_the_greatest_distance(rt: HostRuntime) -> Result<(), Fail> {
     for (wave, answer, settled) in [
@@ -102,9 +120,8 @@ fn refuses_the_greatest_distance(rt: HostRuntime) -> Result<(), Fail> {
     ] {
         let mut part = seventh_of_twelve(rt.alloc(), wave)?;
         let note = Note { dist: wave, ..NOTE };
-        assert_eq!(rt; part.take(note), answer);
-        assert_eq!(rt; part.block(), (6, 7));
-        assert_eq!(rt; part.settled(6), settled);
+        expect_answer(&rt, &mut part, note, answer);
+        expect_rank_6(&rt, &part, settled);
     }
     Ok(())
 }

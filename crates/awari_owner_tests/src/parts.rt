@@ -5,21 +5,46 @@ ghost use Rattle.awari_owner.specs.Spread.{IsPartOf};
 
 use crate::shelves::one_level;
 use awari_owner::{Outboxes, Part};
+use awari_table::Shelf;
+use std::alloc::Global;
 use std::process::Abort;
 use std::test::Fail;
+
+/// The block of this owner of level 1, one of so many.
+fn expect_block(
+    rt: &impl Abort,
+    alloc: Global,
+    shelf: &Shelf,
+    (owners, owner): (u8, u8),
+    block: (u32, u32),
+) -> Result<(), Fail> {
+    assert!(rt; shelf.levels() == 1 && owner < owners && owners <= 16);
+    let part = Part::scan(alloc, shelf, owners, owner)?;
+    assert_eq!(rt; part.block(), block);
+    Ok(())
+}
 
 #[test]
 fn shares_out_the_boards(rt: HostRuntime) -> Result<(), Fail> {
     let shelf = one_level(rt.alloc())?;
     for owner in 0..16u8 {
-        let part = Part::scan(rt.alloc(), &shelf, 16, owner)?;
         let start = u32::from(owner).min(12);
         let end = u32::from(owner).wrapping_add(1).min(12);
-        assert_eq!(rt; part.block(), (start, end));
+        expect_block(&rt, rt.alloc(), &shelf, (16, owner), (start, end))?;
     }
-    let last = Part::scan(rt.alloc(), &shelf, 5, 4)?;
-    assert_eq!(rt; last.block(), (12, 12));
+    expect_block(&rt, rt.alloc(), &shelf, (5, 4), (12, 12))?;
     Ok(())
+}
+
+/// Opens gain 1, at which boards of level 1 are due at distance 0.
+pub fn open_gain_1(rt: &impl Abort, part: &mut Part, outboxes: &Outboxes)
+    requires made { IsPartOf part.old outboxes.now }
+    ensures made { IsPartOf part.new outboxes.now }
+    ensures wave { part.new.wave ≡ 0 }
+{
+    assert_eq!(rt; (part.gain(), part.idle()), (2, true));
+    part.open_gain(1);
+    assert_eq!(rt; (part.gain(), part.wave(), part.due()), (1, 0, Some(0)));
 }
 
 /// Spreads the first fresh board, which has the open distance.
@@ -31,10 +56,49 @@ pub fn spread_next(rt: &impl Abort, part: &mut Part, outboxes: &mut Outboxes)
     assert_eq!(rt; part.spread_one(outboxes), Ok(true));
 }
 
+/// No board is due at the open distance.
+pub fn expect_none_due(rt: &impl Abort, part: &mut Part, outboxes: &mut Outboxes)
+    requires made { IsPartOf part.old outboxes.old }
+    ensures made { IsPartOf part.new outboxes.new }
+    ensures wave { part.new.wave ≡ part.old.wave }
+{
+    assert_eq!(rt; part.spread_one(outboxes), Ok(false));
+}
+
+/// Eleven of the twelve boards are spread at distance 0.
+fn spread_eleven(rt: &impl Abort, part: &mut Part, outboxes: &mut Outboxes)
+    requires made { IsPartOf part.old outboxes.old }
+    requires wave { part.old.wave ≡ 0 }
+    ensures made { IsPartOf part.new outboxes.new }
+    ensures wave { part.new.wave ≡ 0 }
+{
+    for _board in 0..11u8 {
+        spread_next(rt, part, outboxes);
+    }
+    expect_none_due(rt, part, outboxes);
+}
+
+/// The last one is spread at distance 1.
+fn spread_the_last(rt: &impl Abort, part: &mut Part, outboxes: &mut Outboxes)
+    requires made { IsPartOf part.old outboxes.old }
+    requires wave { part.old.wave ≡ 0 }
+{
+    assert_eq!(rt; part.due(), Some(1));
+    part.open_wave(1);
+    assert_eq!(rt; part.wave(), 1);
+    spread_next(rt, part, outboxes);
+}
+
 /// Nothing is due, and nothing to be sent.
 fn expect_at_rest(rt: &impl Abort, part: &Part, outboxes: &Outboxes) {
     assert_eq!(rt; (part.due(), part.idle()), (None, true));
     assert!(rt; outboxes.is_empty());
+}
+
+/// The part has all of level 1, and the board of rank 6 is lost in one ply.
+fn expect_level_1(rt: &impl Abort, part: &Part) {
+    assert_eq!(rt; part.block(), (0, 12));
+    assert_eq!(rt; part.settled(6), Some((-1, 1)));
 }
 
 #[test]
@@ -42,19 +106,10 @@ fn settles_level_1(rt: HostRuntime) -> Result<(), Fail> {
     let shelf = one_level(rt.alloc())?;
     let mut part = Part::scan(rt.alloc(), &shelf, 1, 0)?;
     let mut outboxes = Outboxes::new(rt.alloc(), 1, 0)?;
-    assert_eq!(rt; (part.gain(), part.idle()), (2, true));
-    part.open_gain(1);
-    assert_eq!(rt; (part.gain(), part.wave(), part.due()), (1, 0, Some(0)));
-    for _board in 0..11u8 {
-        spread_next(&rt, &mut part, &mut outboxes);
-    }
-    assert_eq!(rt; part.spread_one(&mut outboxes), Ok(false));
-    assert_eq!(rt; part.due(), Some(1));
-    part.open_wave(1);
-    assert_eq!(rt; part.wave(), 1);
-    spread_next(&rt, &mut part, &mut outboxes);
+    open_gain_1(&rt, &mut part, &outboxes);
+    spread_eleven(&rt, &mut part, &mut outboxes);
+    spread_the_last(&rt, &mut part, &mut outboxes);
     expect_at_rest(&rt, &part, &outboxes);
-    assert_eq!(rt; part.block(), (0, 12));
-    assert_eq!(rt; part.settled(6), Some((-1, 1)));
+    expect_level_1(&rt, &part);
     Ok(())
 }

@@ -6,6 +6,7 @@ use awari_owner::Part;
 use awari_table::{Entries, HIGHEST_LEVEL, Image, Level, Shelf};
 use awari_verify::{Rule, VerifyFault, verify, verify_parallel};
 use std::alloc::{AllocError, Global};
+use std::process::Abort;
 use std::test::Fail;
 use std::thread::Threads;
 
@@ -39,42 +40,40 @@ fn fault_in_pieces<R: Threads + Sync>(
     verify_parallel(rt, alloc, shelf, image).err()
 }
 
-/// Both faults of the level with the value 7 at these ranks.
-fn faults_of<R: Threads + Sync>(
+/// One thread and several have this against the level with the value 7 at these ranks.
+fn expect_fault<R: Threads + Sync + Abort>(
     rt: &R,
     alloc: Global,
     shelf: &Shelf,
     level: &Level,
     ranks: &[usize],
-) -> Result<[Option<VerifyFault>; 2], AllocError> {
-    let alone = fault_alone(shelf, with_value_7(alloc, level, ranks)?);
-    let pieces = fault_in_pieces(rt, alloc, shelf, with_value_7(alloc, level, ranks)?);
-    Ok([alone, pieces])
+    fault: Option<VerifyFault>,
+) -> Result<(), Fail> {
+    let image = with_value_7(alloc, level, ranks)?;
+    assert_eq!(rt; fault_alone(shelf, image), fault);
+    let image = with_value_7(alloc, level, ranks)?;
+    assert_eq!(rt; fault_in_pieces(rt, alloc, shelf, image), fault);
+    Ok(())
 }
 
 #[test]
 fn pieces_are_verified_as_one_level(rt: HostRuntime) -> Result<(), Fail> {
     let shelf = levels_below(rt.alloc(), 6)?;
     let level = build_alone(rt.alloc(), &shelf)?;
-    let right = faults_of(&rt, rt.alloc(), &shelf, &level, &[])?;
-    let wrong = faults_of(&rt, rt.alloc(), &shelf, &level, &[12_000, 100])?;
+    expect_fault(&rt, rt.alloc(), &shelf, &level, &[], None)?;
     let first = Some(VerifyFault::Refused {
         rank: 100,
         rule: Rule::V1,
     });
-    assert_eq!(rt; right, [None, None]);
-    assert_eq!(rt; wrong, [first, first]);
-    Ok(())
+    expect_fault(&rt, rt.alloc(), &shelf, &level, &[12_000, 100], first)
 }
 
 #[test]
 fn a_level_of_another_number_is_refused_by_several(rt: HostRuntime) -> Result<(), Fail> {
     let shelf = levels_below(rt.alloc(), 3)?;
     let level = build_alone(rt.alloc(), &Shelf::empty())?;
-    let faults = faults_of(&rt, rt.alloc(), &shelf, &level, &[])?;
     let wrong_level = Some(VerifyFault::WrongLevel);
-    assert_eq!(rt; faults, [wrong_level, wrong_level]);
-    Ok(())
+    expect_fault(&rt, rt.alloc(), &shelf, &level, &[], wrong_level)
 }
 
 /// Whether the part that is scanned by several threads has the same block as that of one, and the

@@ -49,14 +49,18 @@ fn standing(owners: &[Owner]) -> [(Option<u32>, bool); 3] {
     all
 }
 
+fn expect_standing(rt: &impl Abort, owners: &[Owner], expected: [(Option<u32>, bool); 3]) {
+    assert_eq!(rt; standing(owners), expected);
+}
+
 #[test]
 fn rounds_spread_and_send(rt: HostRuntime) -> Result<(), Fail> {
     let owners = after_two_rounds(&rt, rt.alloc())?;
     let rank_6 = (Some(1), true);
     let rest = (None, true);
-    assert_eq!(rt; standing(&owners), [rest, rank_6, rest]);
+    expect_standing(&rt, &owners, [rest, rank_6, rest]);
     let mut owners = gain_phase(&rt, owners, &Open, 1)?;
-    assert_eq!(rt; standing(&owners), [rest, rest, rest]);
+    expect_standing(&rt, &owners, [rest, rest, rest]);
     assert!(rt; settle_owners(owners.as_mut_slice()));
     Ok(())
 }
@@ -132,18 +136,28 @@ fn fault_at<R: Threads + Wait + Sync>(
     build_level(rt, alloc, shelf, pace, &Open).err()
 }
 
+/// What building level 0 at this pace comes to.
+fn expect_fault<R: Threads + Wait + Sync + Abort>(
+    rt: &R,
+    alloc: Global,
+    (owners, room, sweeps): (u8, u32, u32),
+    fault: Option<BuildFault>,
+) {
+    let found = fault_at(rt, alloc, &Shelf::empty(), owners, room, sweeps);
+    assert_eq!(rt; found, fault);
+}
+
 #[test]
 fn paces_are_refused_in_order(rt: HostRuntime) {
-    let shelf = Shelf::empty();
     for (owners, room) in [(0, 64), (17, 64), (17, 0)] {
-        let fault = fault_at(&rt, rt.alloc(), &shelf, owners, room, 1000);
-        assert_eq!(rt; fault, Some(BuildFault::Owners));
+        let owners_fault = Some(BuildFault::Owners);
+        expect_fault(&rt, rt.alloc(), (owners, room, 1000), owners_fault);
     }
     for (room, sweeps) in [(0, 1000), (257, 1000), (64, 0), (64, 1001)] {
-        let fault = fault_at(&rt, rt.alloc(), &shelf, 2, room, sweeps);
-        assert_eq!(rt; fault, Some(BuildFault::Pace));
+        let pace_fault = Some(BuildFault::Pace);
+        expect_fault(&rt, rt.alloc(), (2, room, sweeps), pace_fault);
     }
-    assert_eq!(rt; fault_at(&rt, rt.alloc(), &shelf, 16, 256, 1), None);
+    expect_fault(&rt, rt.alloc(), (16, 256, 1), None);
 }
 
 #[test]
@@ -194,6 +208,16 @@ impl Gate for Meeting {
     }
 }
 
+/// Both owners met, twice or more.
+fn expect_met(rt: &impl Abort, gate: &Meeting) {
+    assert_eq!(rt; gate.missed.load(Ordering::SeqCst), 0);
+    assert!(rt; gate.first.load(Ordering::SeqCst) >= 2);
+}
+
+fn expect_limit(rt: &impl Abort, level: &Level, limit: u32) {
+    assert_eq!(rt; level.limit(), limit);
+}
+
 #[test]
 fn owners_work_at_once(rt: HostRuntime) -> Result<(), Fail> {
     let shelf = levels_below(rt.alloc(), 2)?;
@@ -208,8 +232,7 @@ fn owners_work_at_once(rt: HostRuntime) -> Result<(), Fail> {
         sweeps: 1000,
     };
     let level = build_level(&rt, rt.alloc(), &shelf, pace, &gate)?;
-    assert_eq!(rt; level.limit(), 9);
-    assert_eq!(rt; gate.missed.load(Ordering::SeqCst), 0);
-    assert!(rt; gate.first.load(Ordering::SeqCst) >= 2);
+    expect_limit(&rt, &level, 9);
+    expect_met(&rt, &gate);
     Ok(())
 }

@@ -1,6 +1,6 @@
 use Rattle.std.proofs.Common.{◌≡◌}
 use Rattle.awari_owner.specs.Spread.{IsPartOf}
-use Rattle.awari_owner_tests.proofs.parts.settles_level_1.Given as goal
+use Rattle.awari_owner_tests.proofs.parts.spread_eleven.Given as goal
 
 abbrev pub invariant-loop-board : goal.invariant-loop-board
 invariant-loop-board g l = record {
