@@ -1,6 +1,7 @@
 //! The rules at worked positions.
 
 use awari_board::{Board, MoveFault, Moved};
+use std::process::Abort;
 
 #[test]
 fn a_grand_slam_takes_nothing(rt: HostRuntime) {
@@ -70,16 +71,25 @@ fn a_second_lap_captures(rt: HostRuntime) {
     assert_eq!(rt; after.stones(), 10);
 }
 
+fn expect_refusal(rt: &impl Abort, board: &Board, pit: u8, fault: MoveFault) {
+    assert_eq!(rt; board.play(pit), Err(fault));
+}
+
 #[test]
 fn each_fault_has_its_turn(rt: HostRuntime) {
     let hungry = Board::new([0, 0, 0, 1, 0, 1, 0, 0, 0, 0, 0, 0]);
     assert!(rt; hungry.legal(5));
-    assert_eq!(rt; hungry.play(3), Err(MoveFault::MustFeed));
-    assert_eq!(rt; hungry.play(0), Err(MoveFault::EmptyPit));
-    assert_eq!(rt; hungry.play(6), Err(MoveFault::NoPit));
+    expect_refusal(&rt, &hungry, 3, MoveFault::MustFeed);
+    expect_refusal(&rt, &hungry, 0, MoveFault::EmptyPit);
+    expect_refusal(&rt, &hungry, 6, MoveFault::NoPit);
     let ended = Board::new([0, 1, 0, 0, 0, 0, 0, 0, 0, 0, 0, 0]);
-    assert_eq!(rt; ended.play(1), Err(MoveFault::Ended));
-    assert_eq!(rt; ended.play(0), Err(MoveFault::Ended));
+    expect_refusal(&rt, &ended, 1, MoveFault::Ended);
+    expect_refusal(&rt, &ended, 0, MoveFault::Ended);
+}
+
+#[test]
+fn ended_boards_give_their_gain(rt: HostRuntime) {
+    let ended = Board::new([0, 1, 0, 0, 0, 0, 0, 0, 0, 0, 0, 0]);
     assert_eq!(rt; ended.end(), Some(1));
     let bare = Board::new([0, 0, 0, 0, 0, 0, 0, 1, 0, 0, 0, 0]);
     assert_eq!(rt; bare.end(), Some(-1));

@@ -1,9 +1,12 @@
 //! Tables of levels 0 to 2, right and wrong, put to the verifier. What each board of two stones is
 //! worth was worked out by hand: none has more than one legal move.
 
+ghost use Rattle.std.specs.Prelude.{IfOk};
+ghost use Rattle.awari_table.specs.Shelves.{Consistent};
+
 use awari_board::Board;
 use awari_rank::{size, unrank};
-use awari_table::{Counts, Entries, Entry, HIGHEST_LEVEL, Image, NotYet, Shelf};
+use awari_table::{Counts, Entries, Entry, HIGHEST_LEVEL, Image, Level, NotYet, Shelf};
 use awari_verify::{Rule, VerifyFault, fault_of, verify, verify_old};
 use std::alloc::Global;
 use std::process::Abort;
@@ -166,13 +169,17 @@ fn refused(rank: u32, rule: Rule) -> Option<VerifyFault> {
     Some(VerifyFault::Refused { rank, rule })
 }
 
-#[test]
-fn accepts_the_first_levels(rt: HostRuntime) -> Result<(), Fail> {
-    let mut shelf = two_levels(rt.alloc())?;
-    assert_eq!(rt; shelf.levels(), 2);
-    assert_eq!(rt; shelf.limit(), 1);
-    let entries = level_2(rt.alloc())?;
-    let level = verify(&shelf, image(rt.alloc(), 2, 9, &entries)?)?;
+/// Level 2, verified.
+fn third_level(alloc: Global, shelf: &Shelf) -> Result<Level, Fail>
+    ensures { IfOk result (Consistent shelf.now) }
+{
+    let entries = level_2(alloc)?;
+    let level = verify(shelf, image(alloc, 2, 9, &entries)?)?;
+    Ok(level)
+}
+
+/// The level is that of two stones.
+fn expect_third(rt: &impl Abort, level: &Level) {
     assert_eq!(rt; (level.number(), level.limit()), (2, 9));
     let counts = Counts {
         won: 24,
@@ -180,9 +187,23 @@ fn accepts_the_first_levels(rt: HostRuntime) -> Result<(), Fail> {
         lost: 41,
     };
     assert_eq!(rt; level.counts(), counts);
-    shelf.push(Arc::new(rt.alloc(), level)?);
-    assert_eq!(rt; shelf.limit(), 9);
+}
+
+/// The shelf has so many levels and this limit, and its level 1 the limit 1.
+fn expect_shelf(rt: &impl Abort, shelf: &Shelf, levels: u8, limit: u32) {
+    assert_eq!(rt; (shelf.levels(), shelf.limit()), (levels, limit));
+    assert!(rt; shelf.levels() > 1);
     assert_eq!(rt; shelf.level(1).limit(), 1);
+}
+
+#[test]
+fn accepts_the_first_levels(rt: HostRuntime) -> Result<(), Fail> {
+    let mut shelf = two_levels(rt.alloc())?;
+    expect_shelf(&rt, &shelf, 2, 1);
+    let level = third_level(rt.alloc(), &shelf)?;
+    expect_third(&rt, &level);
+    shelf.push(Arc::new(rt.alloc(), level)?);
+    expect_shelf(&rt, &shelf, 3, 9);
     Ok(())
 }
 
@@ -226,23 +247,45 @@ fn has_no_entry_of_a_level_above(rt: HostRuntime) -> Result<(), Fail> {
 #[test]
 fn keeps_a_vector_as_entries(rt: HostRuntime) -> Result<(), Fail> {
     let entries = Entries::from(level_1().to_vec(rt.alloc())?);
-    assert!(rt; !entries.is_empty());
-    assert_eq!(rt; entries.len(), 12);
+    expect_level_1(&rt, &entries);
+    assert!(rt; entries.into_vec().as_slice() == level_1().as_slice());
+    Ok(())
+}
+
+/// The entries are those of level 1.
+fn expect_level_1(rt: &impl Abort, entries: &Entries) {
+    assert_eq!(rt; (entries.is_empty(), entries.len()), (false, 12));
+    assert!(rt; entries.len() > 6);
     assert_eq!(rt; entries.at(6), entry(-1, Some(5), 1));
     assert_eq!(rt; entries.as_slice(), level_1().as_slice());
-    assert_eq!(rt; entries.into_vec().as_slice(), level_1().as_slice());
+}
+
+/// The verifier has this against the image of these entries.
+fn expect_fault(
+    rt: &impl Abort,
+    alloc: Global,
+    shelf: &Shelf,
+    level: u8,
+    entries: &[Entry],
+    fault: VerifyFault,
+) -> Result<(), Fail> {
+    let found = verify(shelf, image(alloc, level, 0, entries)?).err();
+    assert_eq!(rt; found, Some(fault), "level {level}");
     Ok(())
 }
 
 #[test]
 fn refuses_another_level_or_size(rt: HostRuntime) -> Result<(), Fail> {
     let shelf = Shelf::empty();
-    let fault = verify(&shelf, image(rt.alloc(), 1, 1, &level_1())?).err();
-    assert_eq!(rt; fault, Some(VerifyFault::WrongLevel));
-    assert_eq!(rt; VerifyFault::WrongLevel.number(), 20);
-    let fault = verify(&shelf, image(rt.alloc(), 0, 0, &[])?).err();
-    assert_eq!(rt; fault, Some(VerifyFault::WrongSize));
-    assert_eq!(rt; VerifyFault::WrongSize.number(), 21);
+    expect_fault(
+        &rt,
+        rt.alloc(),
+        &shelf,
+        1,
+        &level_1(),
+        VerifyFault::WrongLevel,
+    )?;
+    expect_fault(&rt, rt.alloc(), &shelf, 0, &[], VerifyFault::WrongSize)?;
     Ok(())
 }
 
@@ -250,73 +293,145 @@ fn refuses_another_level_or_size(rt: HostRuntime) -> Result<(), Fail> {
 fn refuses_a_level_above_the_highest(rt: HostRuntime) -> Result<(), Fail> {
     let shelf = two_levels(rt.alloc())?;
     for level in [12, 13, 255] {
-        let fault = verify(&shelf, image(rt.alloc(), level, 0, &[])?).err();
-        assert_eq!(rt; fault, Some(VerifyFault::WrongLevel), "level {level}");
+        expect_fault(&rt, rt.alloc(), &shelf, level, &[], VerifyFault::WrongLevel)?;
     }
+    Ok(())
+}
+
+#[test]
+fn levels_and_faults_have_their_numbers(rt: HostRuntime) {
     assert_eq!(rt; HIGHEST_LEVEL, 12);
+    assert_eq!(rt; VerifyFault::WrongLevel.number(), 20);
+    assert_eq!(rt; VerifyFault::WrongSize.number(), 21);
+}
+
+/// The shelf of level 0.
+fn one_level(alloc: Global) -> Result<Shelf, Fail> {
+    let mut shelf = Shelf::empty();
+    let level = verify(&shelf, image(alloc, 0, 0, &level_0())?)?;
+    shelf.push(Arc::new(alloc, level)?);
+    Ok(shelf)
+}
+
+/// Ranks of level 1, a wrong entry there by its value, plan and distance, the limit, and the first
+/// rank and rule that are refused.
+const WRONG: [(usize, i8, Option<u8>, u32, u32, u32, Rule); 11] = [
+    (0, -2, None, 0, 1, 0, Rule::V1),
+    (6, -1, Some(6), 1, 1, 6, Rule::V1),
+    (10, 1, None, 1, 1, 10, Rule::V2),
+    (10, 1, Some(1), 0, 1, 10, Rule::V2),
+    (6, -1, Some(4), 1, 1, 6, Rule::V3),
+    // The value of rank 11 is looked at from rank 6 first. It is -128, and rank 6 may gain 128.
+    (11, -128, None, 0, 1, 6, Rule::V4),
+    (6, 1, Some(5), 1, 1, 6, Rule::V5),
+    (6, -1, Some(5), 0, 1, 6, Rule::V6),
+    (6, -1, Some(5), 1, 2, 0, Rule::V7),
+    (6, -1, Some(5), 2, 2, 6, Rule::V6),
+    (6, -1, Some(5), u32::MAX, u32::MAX, 6, Rule::V6),
+];
+
+/// The entries with this one at this rank are refused.
+fn expect_refusal(
+    rt: &impl Abort,
+    alloc: Global,
+    shelf: &Shelf,
+    entries: &mut [Entry],
+    (place, wrong): (usize, Entry),
+    limit: u32,
+    refusal: Option<VerifyFault>,
+) -> Result<(), Fail> {
+    if let Some(slot) = entries.get_mut(place) {
+        *slot = wrong;
+    }
+    let answer = fault_found(alloc, shelf, limit, entries)?;
+    assert_eq!(rt; answer, refusal, "{wrong:?} at rank {place}");
     Ok(())
 }
 
 #[test]
 fn refuses_wrong_entries_of_level_1(rt: HostRuntime) -> Result<(), Fail> {
-    let mut shelf = Shelf::empty();
-    let level = verify(&shelf, image(rt.alloc(), 0, 0, &level_0())?)?;
-    shelf.push(Arc::new(rt.alloc(), level)?);
-    for (place, wrong, limit, fault) in [
-        (0, entry(-2, None, 0), 1, refused(0, Rule::V1)),
-        (6, entry(-1, Some(6), 1), 1, refused(6, Rule::V1)),
-        (10, entry(1, None, 1), 1, refused(10, Rule::V2)),
-        (10, entry(1, Some(1), 0), 1, refused(10, Rule::V2)),
-        (6, entry(-1, Some(4), 1), 1, refused(6, Rule::V3)),
-        // The value of rank 11 is looked at from rank 6 first. It is -128, and rank 6 may gain 128.
-        (11, entry(-128, None, 0), 1, refused(6, Rule::V4)),
-        (6, entry(1, Some(5), 1), 1, refused(6, Rule::V5)),
-        (6, entry(-1, Some(5), 0), 1, refused(6, Rule::V6)),
-        (6, entry(-1, Some(5), 1), 2, refused(0, Rule::V7)),
-        (6, entry(-1, Some(5), 2), 2, refused(6, Rule::V6)),
-        (
-            6,
-            entry(-1, Some(5), u32::MAX),
-            u32::MAX,
-            refused(6, Rule::V6),
-        ),
-    ] {
-        let mut entries = level_1();
-        if let Some(slot) = entries.get_mut(place) {
-            *slot = wrong;
-        }
-        let answer = fault_found(rt.alloc(), &shelf, limit, &entries)?;
-        assert_eq!(rt; answer, fault, "{wrong:?} at rank {place}");
+    let shelf = one_level(rt.alloc())?;
+    for (place, value, plan, dist, limit, rank, rule) in WRONG {
+        expect_refusal(
+            &rt,
+            rt.alloc(),
+            &shelf,
+            &mut level_1(),
+            (place, entry(value, plan, dist)),
+            limit,
+            refused(rank, rule),
+        )?;
     }
     Ok(())
+}
+
+/// Level 2 with this value at rank 71 is refused there.
+fn expect_refusal_at_71(
+    rt: &impl Abort,
+    alloc: Global,
+    shelf: &Shelf,
+    value: i8,
+    rule: Rule,
+) -> Result<(), Fail> {
+    let mut entries = level_2(alloc)?;
+    let wrong = (71, entry(value, Some(0), 1));
+    expect_refusal(rt, alloc, shelf, &mut entries, wrong, 9, refused(71, rule))
 }
 
 #[test]
 fn refuses_wrong_entries_of_level_2(rt: HostRuntime) -> Result<(), Fail> {
     let shelf = two_levels(rt.alloc())?;
-    for (wrong, fault) in [
-        (entry(2, Some(0), 1), refused(71, Rule::V5)),
-        (entry(-2, Some(0), 1), refused(71, Rule::V4)),
-    ] {
-        let mut entries = level_2(rt.alloc())?;
-        if let Some(slot) = entries.get_mut(71) {
-            *slot = wrong;
-        }
-        let answer = fault_found(rt.alloc(), &shelf, 9, &entries)?;
-        assert_eq!(rt; answer, fault, "{wrong:?} at rank 71");
-    }
+    expect_refusal_at_71(&rt, rt.alloc(), &shelf, 2, Rule::V5)?;
+    expect_refusal_at_71(&rt, rt.alloc(), &shelf, -2, Rule::V4)?;
+    Ok(())
+}
+
+/// What the old rules have against these entries, as level 2 over the shelf.
+fn old_fault(
+    alloc: Global,
+    shelf: &Shelf,
+    limit: u32,
+    entries: &[Entry],
+) -> Result<Option<VerifyFault>, Fail> {
+    let image = image(alloc, 2, limit, entries)?;
+    Ok(verify_old(shelf, &image).err())
+}
+
+/// The false circle is refused at this rank, by the rules and by the old ones.
+fn expect_circle(
+    rt: &impl Abort,
+    alloc: Global,
+    shelf: &Shelf,
+    dist: Option<u32>,
+    limit: u32,
+    rank: u32,
+) -> Result<(), Fail> {
+    let circle = false_circle(alloc, dist)?;
+    let answer = fault_found(alloc, shelf, limit, &circle)?;
+    assert_eq!(rt; answer, refused(rank, Rule::V6));
+    let answer = old_fault(alloc, shelf, limit, &circle)?;
+    assert_eq!(rt; answer, refused(rank, Rule::V6), "by the old rules");
     Ok(())
 }
 
 #[test]
 fn refuses_a_circle_of_won_and_lost_boards(rt: HostRuntime) -> Result<(), Fail> {
     let shelf = two_levels(rt.alloc())?;
-    let falling = false_circle(rt.alloc(), None)?;
-    let answer = fault_found(rt.alloc(), &shelf, 12, &falling)?;
-    assert_eq!(rt; answer, refused(72, Rule::V6));
-    let equal = false_circle(rt.alloc(), Some(5))?;
-    let answer = fault_found(rt.alloc(), &shelf, 9, &equal)?;
-    assert_eq!(rt; answer, refused(21, Rule::V6));
+    expect_circle(&rt, rt.alloc(), &shelf, None, 12, 72)?;
+    expect_circle(&rt, rt.alloc(), &shelf, Some(5), 9, 21)?;
+    Ok(())
+}
+
+/// Level 2 with this limit is refused for it.
+fn expect_limit(
+    rt: &impl Abort,
+    alloc: Global,
+    shelf: &Shelf,
+    entries: &[Entry],
+    limit: u32,
+) -> Result<(), Fail> {
+    let answer = fault_found(alloc, shelf, limit, entries)?;
+    assert_eq!(rt; answer, refused(0, Rule::V7), "limit {limit}");
     Ok(())
 }
 
@@ -324,36 +439,28 @@ fn refuses_a_circle_of_won_and_lost_boards(rt: HostRuntime) -> Result<(), Fail> 
 fn takes_the_greatest_distance_as_limit(rt: HostRuntime) -> Result<(), Fail> {
     let shelf = two_levels(rt.alloc())?;
     let entries = level_2(rt.alloc())?;
-    for limit in [8, 10] {
-        let answer = fault_found(rt.alloc(), &shelf, limit, &entries)?;
-        assert_eq!(rt; answer, refused(0, Rule::V7), "limit {limit}");
-    }
+    expect_limit(&rt, rt.alloc(), &shelf, &entries, 8)?;
+    expect_limit(&rt, rt.alloc(), &shelf, &entries, 10)?;
     Ok(())
+}
+
+/// Level 2 with each distance twice as great.
+fn doubled(alloc: Global) -> Result<Vec<Entry>, Fail> {
+    let mut entries = level_2(alloc)?;
+    for slot in entries.iter_mut() {
+        slot.dist = slot.dist.saturating_mul(2);
+    }
+    Ok(entries)
 }
 
 #[test]
 fn asks_for_the_least_distances(rt: HostRuntime) -> Result<(), Fail> {
     let shelf = two_levels(rt.alloc())?;
-    let mut entries = level_2(rt.alloc())?;
-    for slot in entries.iter_mut() {
-        slot.dist = slot.dist.saturating_mul(2);
-    }
+    let entries = doubled(rt.alloc())?;
     let answer = fault_found(rt.alloc(), &shelf, 18, &entries)?;
     assert_eq!(rt; answer, refused(22, Rule::V6));
-    let doubled = image(rt.alloc(), 2, 18, &entries)?;
-    assert_eq!(rt; verify_old(&shelf, &doubled), Ok(()));
-    Ok(())
-}
-
-#[test]
-fn old_rules_ask_that_distances_fall(rt: HostRuntime) -> Result<(), Fail> {
-    let shelf = two_levels(rt.alloc())?;
-    let falling = false_circle(rt.alloc(), None)?;
-    let answer = verify_old(&shelf, &image(rt.alloc(), 2, 12, &falling)?).err();
-    assert_eq!(rt; answer, refused(72, Rule::V6));
-    let equal = false_circle(rt.alloc(), Some(5))?;
-    let answer = verify_old(&shelf, &image(rt.alloc(), 2, 9, &equal)?).err();
-    assert_eq!(rt; answer, refused(21, Rule::V6));
+    let answer = old_fault(rt.alloc(), &shelf, 18, &entries)?;
+    assert_eq!(rt; answer, None);
     Ok(())
 }
 

@@ -1,6 +1,6 @@
 //! The text of tables, read level by level.
 
-use awari_table::{TableFault, TableText};
+use awari_table::{Entry, Image, TableFault, TableText};
 use std::alloc::Global;
 use std::process::Abort;
 use std::test::Fail;
@@ -8,19 +8,52 @@ use std::test::Fail;
 const LEVELS_0_TO_1: &[u8] =
     b"level 0 limit 0\n0 - 0\nlevel 1 limit 1\n-1 - 0\n-1 - 0\n-1 - 0\n-1 - 0\n-1 - 0\n-1 - 0\n-1 5 1\n1 - 0\n1 - 0\n1 - 0\n1 - 0\n1 - 0\n";
 
+/// Reads a level of so many entries.
+fn expect_level(
+    rt: &impl Abort,
+    text: &mut TableText<'_>,
+    level: u8,
+    limit: u32,
+    count: usize,
+) -> Result<Image, Fail> {
+    let image = text.next()?.ok_or("a level")?;
+    assert_eq!(rt; (image.level, image.limit), (level, limit));
+    assert_eq!(rt; image.entries.len(), count);
+    Ok(image)
+}
+
+fn expect_entry(rt: &impl Abort, image: &Image, rank: usize, entry: Entry) {
+    assert!(rt; rank < image.entries.len());
+    assert_eq!(rt; image.entries.at(rank), entry);
+}
+
+/// Reads no further level.
+fn expect_end(rt: &impl Abort, text: &mut TableText<'_>) -> Result<(), Fail> {
+    assert!(rt; text.next()?.is_none());
+    Ok(())
+}
+
+const LOST: Entry = Entry {
+    value: -1,
+    plan: Some(5),
+    dist: 1,
+};
+
+const WON: Entry = Entry {
+    value: 1,
+    plan: None,
+    dist: 0,
+};
+
 #[test]
 fn reads_two_levels(rt: HostRuntime) -> Result<(), Fail> {
     let mut text = TableText::new(rt.alloc(), LEVELS_0_TO_1);
-    let level = text.next()?.ok_or("level 0")?;
-    assert!(rt; level.level == 0 && level.limit == 0 && level.entries.len() == 1);
-    let level = text.next()?.ok_or("level 1")?;
-    assert!(rt; level.level == 1 && level.limit == 1 && level.entries.len() == 12);
-    let entry = level.entries.at(6);
-    assert!(rt; entry.value == -1 && entry.plan == Some(5) && entry.dist == 1);
-    let entry = level.entries.at(11);
-    assert!(rt; entry.value == 1 && entry.plan.is_none() && entry.dist == 0);
-    assert!(rt; text.next()?.is_none());
-    assert!(rt; text.next()?.is_none());
+    expect_level(&rt, &mut text, 0, 0, 1)?;
+    let second = expect_level(&rt, &mut text, 1, 1, 12)?;
+    expect_entry(&rt, &second, 6, LOST);
+    expect_entry(&rt, &second, 11, WON);
+    expect_end(&rt, &mut text)?;
+    expect_end(&rt, &mut text)?;
     Ok(())
 }
 
