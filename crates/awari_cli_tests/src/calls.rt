@@ -1,7 +1,6 @@
 //! The commands on a folder in memory, of which one call is refused.
 
-use awari_build::Pace;
-use awari_cli::{run_ask, run_build_in, run_line, run_verify};
+use crate::plain::{asked, build, has_draft, lined, memory_folder, refuse, refuse_files, verified};
 use awari_folder::{Draft, Folder, MemoryFolder};
 use std::alloc::Global;
 use std::io::{Read, Write};
@@ -9,13 +8,6 @@ use std::process::Abort;
 use std::sync::Wait;
 use std::test::Fail;
 use std::thread::Threads;
-
-/// A build by one part.
-const ALONE: Pace = Pace {
-    owners: 0,
-    room: 64,
-    sweeps: 1000,
-};
 
 const LEVEL_1: &str = "level 1 boards 12 won 5 even 0 lost 7 limit 1\n";
 
@@ -39,6 +31,12 @@ level 1 ok limit 1
 levels 2 digest 045eb0f444c69c6731d7b84d1be9206da3347f69294d13c733cbaf6303ecc4d8
 ";
 
+/// What was printed, and the status.
+fn expect_printed(rt: &impl Abort, (output, status): (&[u8], u8), printed: &str, expected: u8) {
+    assert!(rt; output == printed.as_bytes(), "{printed}");
+    assert_eq!(rt; status, expected, "{printed}");
+}
+
 /// Builds up to level 1 in the folder, and compares what is printed and the status.
 fn expect_build(
     rt: &(impl Abort + AllocGlobal + Threads + Wait + Sync),
@@ -47,9 +45,8 @@ fn expect_build(
     expected: u8,
 ) {
     let mut output = Vec::new(rt.alloc());
-    let status = run_build_in(rt, folder, rt.alloc(), 1, ALONE, &mut output);
-    assert!(rt; output.as_slice() == printed.as_bytes(), "{printed}");
-    assert_eq!(rt; status, expected, "{printed}");
+    let status = build(rt, folder, &mut output);
+    expect_printed(rt, (&output, status), printed, expected);
 }
 
 /// Verifies the folder, and compares what is printed and the status.
@@ -60,9 +57,13 @@ fn expect_verify(
     expected: u8,
 ) {
     let mut output = Vec::new(rt.alloc());
-    let status = run_verify(rt, folder, rt.alloc(), &mut output);
-    assert!(rt; output.as_slice() == printed.as_bytes(), "{printed}");
-    assert_eq!(rt; status, expected, "{printed}");
+    let status = verified(rt, folder, &mut output);
+    expect_printed(rt, (&output, status), printed, expected);
+}
+
+/// Nothing lies in the folder of a file that got no name.
+fn expect_no_draft(rt: &impl Abort, folder: &MemoryFolder) {
+    assert!(rt; !has_draft(folder));
 }
 
 /// Builds in an empty folder of which the call of this number is refused, and then once more: the
@@ -74,11 +75,11 @@ fn expect_both(
     status: u8,
     rest: &str,
 ) {
-    let mut folder = MemoryFolder::new(rt.alloc());
-    folder.refuse(call);
+    let mut folder = memory_folder(rt.alloc());
+    refuse(&mut folder, call);
     expect_build(rt, &mut folder, printed, status);
-    folder.refuse(0);
-    assert!(rt; !folder.has_draft(), "call {call}");
+    refuse(&mut folder, 0);
+    expect_no_draft(rt, &folder);
     expect_build(rt, &mut folder, rest, 0);
     expect_verify(rt, &mut folder, RIGHT_LEVELS_0_TO_1, 0);
 }
@@ -95,16 +96,23 @@ fn each_call_of_a_build_is_refused(rt: HostRuntime) {
     expect_both(&rt, 6, LEVELS_0_TO_1, 0, "");
 }
 
+/// A build whose new file refuses this writes nothing.
+fn expect_not_written(
+    rt: &(impl Abort + AllocGlobal + Threads + Wait + Sync),
+    folder: &mut MemoryFolder,
+    (writes, sync): (bool, bool),
+) {
+    refuse_files(folder, writes, sync);
+    expect_build(rt, folder, "refused 81 File level 0: 70 Write\n", 1);
+    expect_no_draft(rt, folder);
+}
+
 #[test]
 fn a_level_that_is_not_written_is_refused(rt: HostRuntime) {
-    let mut folder = MemoryFolder::new(rt.alloc());
-    let printed = "refused 81 File level 0: 70 Write\n";
-    for (writes, sync) in [(true, false), (false, true)] {
-        folder.refuse_files(writes, sync);
-        expect_build(&rt, &mut folder, printed, 1);
-        assert!(rt; !folder.has_draft());
-    }
-    folder.refuse_files(false, false);
+    let mut folder = memory_folder(rt.alloc());
+    expect_not_written(&rt, &mut folder, (true, false));
+    expect_not_written(&rt, &mut folder, (false, true));
+    refuse_files(&mut folder, false, false);
     expect_build(&rt, &mut folder, LEVELS_0_TO_1, 0);
 }
 
@@ -135,33 +143,51 @@ fn file_of(alloc: Global, folder: &mut MemoryFolder, level: u8) -> Result<Vec<u8
     Ok(bytes)
 }
 
+/// The file of this level has these bytes.
+fn expect_file(
+    rt: &(impl Abort + AllocGlobal),
+    folder: &mut MemoryFolder,
+    level: u8,
+    bytes: &[u8],
+) -> Result<(), Fail> {
+    let file = file_of(rt.alloc(), folder, level)?;
+    assert!(rt; file.as_slice() == bytes, "level {level}");
+    Ok(())
+}
+
 #[test]
 fn a_faulty_folder_stays_as_it_was(rt: HostRuntime) -> Result<(), Fail> {
-    let mut folder = MemoryFolder::new(rt.alloc());
+    let mut folder = memory_folder(rt.alloc());
     expect_build(&rt, &mut folder, LEVELS_0_TO_1, 0);
     let first = file_of(rt.alloc(), &mut folder, 0)?;
     lay(&mut folder, 1, b"AWDB")?;
     let printed = "refused 81 File level 1: 60 Truncated\n";
     expect_build(&rt, &mut folder, printed, 1);
     expect_verify(&rt, &mut folder, printed, 1);
-    assert!(rt; file_of(rt.alloc(), &mut folder, 0)? == first);
-    assert!(rt; file_of(rt.alloc(), &mut folder, 1)?.as_slice() == b"AWDB".as_slice());
-    Ok(())
+    expect_file(&rt, &mut folder, 0, &first)?;
+    expect_file(&rt, &mut folder, 1, b"AWDB")
+}
+
+/// What `ask` and `line` print of a board and their status, where the folder refuses a call.
+fn expect_no_answer(
+    rt: &(impl Abort + AllocGlobal + Threads + Wait + Sync),
+    folder: &mut MemoryFolder,
+    board: &str,
+) {
+    let mut output = Vec::new(rt.alloc());
+    refuse(folder, 1);
+    let status = asked(rt, folder, board, &mut output);
+    expect_printed(rt, (&output, status), OPEN_0, 1);
+    refuse(folder, 1);
+    let status = lined(rt, folder, board, &mut output);
+    expect_printed(rt, (&output, status), OPEN_0_TWICE, 1);
 }
 
 #[test]
 fn a_folder_that_is_refused_answers_nothing(rt: HostRuntime) {
-    let mut folder = MemoryFolder::new(rt.alloc());
+    let mut folder = memory_folder(rt.alloc());
     expect_build(&rt, &mut folder, LEVELS_0_TO_1, 0);
-    folder.refuse(1);
+    refuse(&mut folder, 1);
     expect_verify(&rt, &mut folder, OPEN_0, 1);
-    let board = "0,0,0,0,0,1/0,0,0,0,0,0";
-    let mut output = Vec::new(rt.alloc());
-    folder.refuse(1);
-    let status = run_ask(&rt, &mut folder, rt.alloc(), board, &mut output);
-    assert_eq!(rt; status, 1);
-    folder.refuse(1);
-    let status = run_line(&rt, &mut folder, rt.alloc(), board, &mut output);
-    assert_eq!(rt; status, 1);
-    assert!(rt; output.as_slice() == OPEN_0_TWICE.as_bytes());
+    expect_no_answer(&rt, &mut folder, "0,0,0,0,0,1/0,0,0,0,0,0");
 }

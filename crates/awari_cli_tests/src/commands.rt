@@ -3,6 +3,7 @@
 use awari_board::Board;
 use awari_cli::{check, run};
 use awari_rank::successor;
+use awari_table::Shelf;
 use std::alloc::{AllocError, Global};
 use std::fs::File;
 use std::io;
@@ -117,50 +118,49 @@ fn checks_levels_0_and_1(rt: HostRuntime) -> Result<(), Fail> {
     Ok(())
 }
 
-#[test]
-fn checks_level_2(rt: HostRuntime) -> Result<(), Fail> {
-    let mut text = levels_0_to_1(rt.alloc(), 1, 6, "-1 5 1")?;
+/// The text of level 2.
+fn push_level_2(rt: &impl Abort, alloc: Global, text: &mut String) -> Result<(), Fail> {
     text.push_str("level 2 limit 9\n")?;
     let mut board = Board::new([0, 0, 0, 0, 0, 0, 0, 0, 0, 0, 0, 2]);
     for _rank in 0..78 {
         assert_eq!(rt; board.stones(), 2);
-        text.push_str(level_2_line(rt.alloc(), &board)?.as_str())?;
+        text.push_str(level_2_line(alloc, &board)?.as_str())?;
         text.push_str("\n")?;
         if let Some(next) = successor(&board) {
             board = next;
         }
     }
-    expect_check(
-        &rt,
-        rt.alloc(),
-        text.as_bytes(),
-        "yes levels 3 limit 9\n",
-        0,
-    );
+    Ok(())
+}
+
+#[test]
+fn checks_level_2(rt: HostRuntime) -> Result<(), Fail> {
+    let mut text = levels_0_to_1(rt.alloc(), 1, 6, "-1 5 1")?;
+    push_level_2(&rt, rt.alloc(), &mut text)?;
+    let printed = "yes levels 3 limit 9\n";
+    expect_check(&rt, rt.alloc(), text.as_bytes(), printed, 0);
+    Ok(())
+}
+
+/// Levels 0 and 1 with this line for rank 6, and then a line that is not of the form.
+fn expect_before(
+    rt: &(impl Abort + Files<File = File> + Threads + Wait + Sync),
+    alloc: Global,
+    line: &str,
+    printed: &str,
+) -> Result<(), Fail> {
+    let mut text = levels_0_to_1(alloc, 1, 6, line)?;
+    text.push_str("level 5\n")?;
+    expect_check(rt, alloc, text.as_bytes(), printed, 1);
     Ok(())
 }
 
 #[test]
 fn a_wrong_level_comes_before_the_text_after_it(rt: HostRuntime) -> Result<(), Fail> {
-    let mut text = levels_0_to_1(rt.alloc(), 1, 6, "-1 5 0")?;
-    text.push_str("level 5\n")?;
-    expect_check(
-        &rt,
-        rt.alloc(),
-        text.as_bytes(),
-        "no level 1 rank 6 rule V6\n",
-        1,
-    );
-    let mut text = levels_0_to_1(rt.alloc(), 1, 6, "-1 5 1")?;
-    text.push_str("level 5\n")?;
-    expect_check(
-        &rt,
-        rt.alloc(),
-        text.as_bytes(),
-        "refused 10 Line line 16\n",
-        1,
-    );
-    Ok(())
+    let wrong_level = "no level 1 rank 6 rule V6\n";
+    expect_before(&rt, rt.alloc(), "-1 5 0", wrong_level)?;
+    let wrong_line = "refused 10 Line line 16\n";
+    expect_before(&rt, rt.alloc(), "-1 5 1", wrong_line)
 }
 
 #[test]
@@ -224,62 +224,63 @@ impl Write for Stuck {
     }
 }
 
+/// The status of `check`, of what this reader gives to this writer.
+fn check_status(
+    rt: &(impl Abort + Files<File = File> + Threads + Wait + Sync),
+    alloc: Global,
+    reader: &mut impl Read,
+    writer: &mut impl Write,
+) -> u8 {
+    let words = ["awari", "check"];
+    let mut errors = Vec::new(alloc);
+    let status = run(rt, alloc, words.as_slice(), reader, writer, &mut errors);
+    assert!(rt; errors.is_empty());
+    status
+}
+
+const LEVEL_0: &[u8] = b"level 0 limit 0\n0 - 0\n";
+
 #[test]
 fn a_line_that_is_not_passed_on_is_no_yes(rt: HostRuntime) {
-    let mut reader: &[u8] = b"level 0 limit 0\n0 - 0\n";
-    let words = ["awari", "check"];
-    let mut errors = Vec::new(rt.alloc());
-    let status = run(
-        &rt,
-        rt.alloc(),
-        words.as_slice(),
-        &mut reader,
-        &mut Stuck,
-        &mut errors,
-    );
+    let mut reader = LEVEL_0;
+    let status = check_status(&rt, rt.alloc(), &mut reader, &mut Stuck);
     assert_eq!(rt; status, 1);
 }
 
 #[test]
-fn a_broken_stream_ends_the_command(rt: HostRuntime) -> Result<(), Fail> {
-    let text: &[u8] = b"level 0 limit 0\n0 - 0\n";
+fn a_broken_reader_ends_the_command(rt: HostRuntime) {
     let mut output = Vec::new(rt.alloc());
-    let mut errors = Vec::new(rt.alloc());
-    let mut reader = text.chain(Broken);
-    let words = ["awari", "check"];
-    let status = run(
-        &rt,
-        rt.alloc(),
-        words.as_slice(),
-        &mut reader,
-        &mut output,
-        &mut errors,
-    );
+    let mut reader = LEVEL_0.chain(Broken);
+    let status = check_status(&rt, rt.alloc(), &mut reader, &mut output);
     assert_eq!(rt; status, 1);
     assert!(rt; output.as_slice() == "refused 14 Read\n".as_bytes());
-    let mut reader = text;
-    let status = run(
-        &rt,
-        rt.alloc(),
-        words.as_slice(),
-        &mut reader,
-        &mut Broken,
-        &mut errors,
-    );
+}
+
+#[test]
+fn a_broken_writer_ends_the_command(rt: HostRuntime) {
+    let mut reader = LEVEL_0;
+    let status = check_status(&rt, rt.alloc(), &mut reader, &mut Broken);
     assert_eq!(rt; status, 1);
-    assert!(rt; errors.is_empty());
+}
+
+/// Two shelves of levels 0 and 1, which have the same entry of the board of rank 6.
+fn expect_shared(rt: &impl Abort, shelf: &Shelf, other: &Shelf) -> Result<(), Fail> {
+    let board = Board::new([0, 0, 0, 0, 0, 1, 0, 0, 0, 0, 0, 0]);
+    assert_eq!(rt; (other.levels(), other.limit()), (2, 1));
+    assert_eq!(rt; other.entry(&board), shelf.entry(&board));
+    assert_eq!(rt; other.entry(&board)?.plan, Some(5));
     Ok(())
+}
+
+/// The shelf of what was checked.
+fn checked_shelf(alloc: Global) -> Result<Shelf, Fail> {
+    let text = levels_0_to_1(alloc, 1, 6, "-1 5 1")?;
+    Ok(check(alloc, text.as_bytes())?)
 }
 
 #[test]
 fn a_shelf_that_was_checked_is_shared(rt: HostRuntime) -> Result<(), Fail> {
-    let text = levels_0_to_1(rt.alloc(), 1, 6, "-1 5 1")?;
-    let shelf = check(rt.alloc(), text.as_bytes())?;
+    let shelf = checked_shelf(rt.alloc())?;
     let other = shelf.share()?;
-    let board = Board::new([0, 0, 0, 0, 0, 1, 0, 0, 0, 0, 0, 0]);
-    assert_eq!(rt; other.levels(), 2);
-    assert_eq!(rt; other.limit(), 1);
-    assert_eq!(rt; other.entry(&board), shelf.entry(&board));
-    assert_eq!(rt; other.entry(&board)?.plan, Some(5));
-    Ok(())
+    expect_shared(&rt, &shelf, &other)
 }

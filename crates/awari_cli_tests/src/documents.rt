@@ -2,6 +2,7 @@
 //! there.
 
 use crate::commands::expect_run;
+use crate::plays::{expect_judged, expect_move};
 use awari_board::Board;
 use awari_rank::{rank, size};
 use std::alloc::Global;
@@ -48,8 +49,7 @@ const PLAYED: [(&str, &str, &str, u8); 6] = [
 #[test]
 fn boards_are_played_as_the_rules_say(rt: HostRuntime) {
     for (board, pit, printed, status) in PLAYED {
-        let words = ["awari", "move", board, pit];
-        expect_run(&rt, rt.alloc(), words.as_slice(), b"", printed, status);
+        expect_move(&rt, rt.alloc(), (board, pit), printed, status);
     }
 }
 
@@ -70,8 +70,7 @@ const JUDGED: [(&str, &str, &str); 2] = [
 #[test]
 fn plays_come_to_the_outcomes_told(rt: HostRuntime) {
     for (board, moves, printed) in JUDGED {
-        let words = ["awari", "judge", board, "9", moves];
-        expect_run(&rt, rt.alloc(), words.as_slice(), b"", printed, 0);
+        expect_judged(&rt, rt.alloc(), (board, "9", moves, printed, 0));
     }
 }
 

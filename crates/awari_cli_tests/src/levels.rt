@@ -60,14 +60,36 @@ level 11 boards 705432 won 371898 even 93142 lost 240392 limit 127
 level 12 boards 1352078 won 714572 even 197753 lost 439753 limit 184
 ";
 
+/// Runs `build` up to this level, with no folder.
+pub fn expect_built(
+    rt: &(impl Abort + Files<File = File> + Threads + Wait + Sync),
+    alloc: Global,
+    top: &str,
+    printed: &str,
+    status: u8,
+) {
+    let words = ["awari", "build", top];
+    expect_run(rt, alloc, words.as_slice(), b"", printed, status);
+}
+
 #[test]
 fn levels_are_built(rt: HostRuntime) {
-    let words = ["awari", "build", "2"];
-    expect_run(&rt, rt.alloc(), words.as_slice(), b"", LEVELS_0_TO_2, 0);
+    expect_built(&rt, rt.alloc(), "2", LEVELS_0_TO_2, 0);
     for top in ["13", "-1", "x", "256"] {
-        let words = ["awari", "build", top];
-        expect_run(&rt, rt.alloc(), words.as_slice(), b"", "", 2);
+        expect_built(&rt, rt.alloc(), top, "", 2);
     }
+}
+
+/// Runs `build` up to level 2 with one option of a pace.
+fn expect_paced(
+    rt: &(impl Abort + Files<File = File> + Threads + Wait + Sync),
+    alloc: Global,
+    (name, number): (&str, &str),
+    printed: &str,
+    status: u8,
+) {
+    let words = ["awari", "build", "2", name, number];
+    expect_run(rt, alloc, words.as_slice(), b"", printed, status);
 }
 
 #[test]
@@ -77,19 +99,25 @@ fn levels_are_built_by_owners(rt: HostRuntime) {
     ];
     expect_run(&rt, rt.alloc(), words.as_slice(), b"", LEVELS_0_TO_2, 0);
     for owners in ["0", "1", "16"] {
-        let words = ["awari", "build", "2", "--owners", owners];
-        expect_run(&rt, rt.alloc(), words.as_slice(), b"", LEVELS_0_TO_2, 0);
+        let option = ("--owners", owners);
+        expect_paced(&rt, rt.alloc(), option, LEVELS_0_TO_2, 0);
     }
-    for (name, number) in [
-        ("--owners", "17"),
-        ("--owners", "x"),
-        ("--room", "0"),
-        ("--room", "257"),
-        ("--sweeps", "0"),
-        ("--sweeps", "1001"),
-    ] {
-        let words = ["awari", "build", "2", name, number];
-        expect_run(&rt, rt.alloc(), words.as_slice(), b"", "", 2);
+}
+
+/// Options of a pace, and a number that each doesn't take.
+const NO_PACES: [(&str, &str); 6] = [
+    ("--owners", "17"),
+    ("--owners", "x"),
+    ("--room", "0"),
+    ("--room", "257"),
+    ("--sweeps", "0"),
+    ("--sweeps", "1001"),
+];
+
+#[test]
+fn paces_out_of_range_are_not_understood(rt: HostRuntime) {
+    for option in NO_PACES {
+        expect_paced(&rt, rt.alloc(), option, "", 2);
     }
 }
 
@@ -235,19 +263,26 @@ const LINES_OF_3: [(&str, &str, u8); 4] = [
     ("0,0,0,0,0,0/0,0,0,0,0,4", "refused 56 NotYet levels 4\n", 1),
 ];
 
+/// What `line` prints of boards.
+fn expect_lines(
+    rt: &(impl Abort + Files<File = File> + Threads + Wait + Sync + AllocGlobal),
+    folder: &str,
+    lines: &[(&str, &str, u8)],
+) {
+    for (board, printed, status) in lines {
+        expect_line(rt, folder, board, printed, *status);
+    }
+}
+
 #[test]
 fn a_line_is_played(rt: HostRuntime) -> Result<(), Fail> {
     let folder = "awari_cli_test_line";
     empty_folder(&rt, folder)?;
     expect_line(&rt, folder, CYCLE, "refused 56 NotYet levels 0\n", 1);
     expect_build(&rt, folder, "2", LEVELS_0_TO_2);
-    for (board, printed, status) in LINES_OF_2 {
-        expect_line(&rt, folder, board, printed, status);
-    }
+    expect_lines(&rt, folder, &LINES_OF_2);
     expect_build(&rt, folder, "3", LEVEL_3);
-    for (board, printed, status) in LINES_OF_3 {
-        expect_line(&rt, folder, board, printed, status);
-    }
+    expect_lines(&rt, folder, &LINES_OF_3);
     fs::remove_dir_all(&rt, folder)?;
     Ok(())
 }
@@ -306,6 +341,36 @@ fn expect_refusal(
     Ok(())
 }
 
+/// What `verify` prints where a byte of the second file is changed, and its digest made right.
+fn expect_changed(
+    rt: &(impl Abort + Files<File = File> + Threads + Wait + Sync + AllocGlobal),
+    folder: &str,
+    second: &str,
+    (right, place, bytes): (&[u8], usize, &[u8]),
+    printed: &str,
+) -> Result<(), Fail> {
+    let file = changed(rt.alloc(), right, place, bytes)?;
+    expect_refusal(rt, folder, second, &file, printed)?;
+    Ok(())
+}
+
+/// What `verify` prints where the second file is over another one, wrong, or cut.
+fn expect_refusals(
+    rt: &(impl Abort + Files<File = File> + Threads + Wait + Sync + AllocGlobal),
+    folder: &str,
+    second: &str,
+    right: &[u8],
+) -> Result<(), Fail> {
+    let orphan = (right, 20, [0; 32].as_slice());
+    expect_changed(rt, folder, second, orphan, "refused 80 Below level 1\n")?;
+    let wrong = (right, 52, [254].as_slice());
+    let printed = "refused 83 Verify level 1: 22 Refused rank 0 rule V1\n";
+    expect_changed(rt, folder, second, wrong, printed)?;
+    let printed = "refused 81 File level 1: 60 Truncated\n";
+    expect_refusal(rt, folder, second, b"AWDB", printed)?;
+    Ok(())
+}
+
 #[test]
 fn a_second_file_at_fault_is_refused(rt: HostRuntime) -> Result<(), Fail> {
     let folder = "awari_cli_test_second";
@@ -314,25 +379,20 @@ fn a_second_file_at_fault_is_refused(rt: HostRuntime) -> Result<(), Fail> {
     expect_build(&rt, folder, "1", LEVELS_0_TO_1);
     expect_verify(&rt, folder, RIGHT_LEVELS_0_TO_1, 0);
     let right = fs::read(&rt, second)?;
-    let orphan = changed(rt.alloc(), right.as_slice(), 20, &[0; 32])?;
-    let wrong = changed(rt.alloc(), right.as_slice(), 52, &[254])?;
-    expect_refusal(
-        &rt,
-        folder,
-        second,
-        orphan.as_slice(),
-        "refused 80 Below level 1\n",
-    )?;
-    let printed = "refused 83 Verify level 1: 22 Refused rank 0 rule V1\n";
-    expect_refusal(&rt, folder, second, wrong.as_slice(), printed)?;
-    expect_refusal(
-        &rt,
-        folder,
-        second,
-        b"AWDB",
-        "refused 81 File level 1: 60 Truncated\n",
-    )?;
+    expect_refusals(&rt, folder, second, &right)?;
     fs::remove_dir_all(&rt, folder)?;
+    Ok(())
+}
+
+/// Lays the second file of a folder there as its first, over no file.
+fn lay_second_as_first(
+    rt: &(impl Files<File = File> + AllocGlobal),
+    first: &str,
+    second: &str,
+) -> Result<(), Fail> {
+    let right = fs::read(rt, second)?;
+    let orphan = changed(rt.alloc(), &right, 20, &[0; 32])?;
+    fs::write(rt, first, &orphan)?;
     Ok(())
 }
 
@@ -340,12 +400,9 @@ fn a_second_file_at_fault_is_refused(rt: HostRuntime) -> Result<(), Fail> {
 fn another_level_is_not_level_0(rt: HostRuntime) -> Result<(), Fail> {
     let folder = "awari_cli_test_first";
     let first = "awari_cli_test_first/level_00.awdb";
-    let second = "awari_cli_test_first/level_01.awdb";
     empty_folder(&rt, folder)?;
     expect_build(&rt, folder, "1", LEVELS_0_TO_1);
-    let right = fs::read(&rt, second)?;
-    let orphan = changed(rt.alloc(), right.as_slice(), 20, &[0; 32])?;
-    fs::write(&rt, first, orphan.as_slice())?;
+    lay_second_as_first(&rt, first, "awari_cli_test_first/level_01.awdb")?;
     expect_verify(&rt, folder, "refused 83 Verify level 0: 20 WrongLevel\n", 1);
     fs::remove_file(&rt, first)?;
     expect_verify(&rt, folder, NO_LEVELS, 0);
@@ -375,20 +432,33 @@ fn entry_line(alloc: Global, entry: Entry) -> Result<String, AllocError> {
     }
 }
 
+/// The shelf has the entry of this board of two stones that was worked by hand.
+fn expect_worked(rt: &impl Abort, alloc: Global, shelf: &Shelf, board: &Board) -> Result<(), Fail> {
+    let line = entry_line(alloc, shelf.entry(board)?)?;
+    assert!(rt; line == level_2_line(alloc, board)?);
+    Ok(())
+}
+
+/// The next board of two stones in order of rank, or the last one again.
+fn next_board(rt: &impl Abort, board: Board) -> Board {
+    assert_eq!(rt; board.stones(), 2);
+    successor(&board).unwrap_or(board)
+}
+
+fn expect_last(rt: &impl Abort, board: &Board) {
+    assert_eq!(rt; board.stones(), 2);
+    assert_eq!(rt; successor(board), None);
+}
+
 #[test]
 fn level_2_is_the_one_worked_by_hand(rt: HostRuntime) -> Result<(), Fail> {
     let shelf = built(rt.alloc(), 3)?;
     let mut board = Board::new([0, 0, 0, 0, 0, 0, 0, 0, 0, 0, 0, 2]);
     for _rank in 0..78 {
-        let line = entry_line(rt.alloc(), shelf.entry(&board)?)?;
-        assert_eq!(rt; line.as_str(), level_2_line(rt.alloc(), &board)?.as_str());
-        assert_eq!(rt; board.stones(), 2);
-        if let Some(next) = successor(&board) {
-            board = next;
-        }
+        expect_worked(&rt, rt.alloc(), &shelf, &board)?;
+        board = next_board(&rt, board);
     }
-    assert_eq!(rt; board.stones(), 2);
-    assert_eq!(rt; successor(&board), None);
+    expect_last(&rt, &board);
     Ok(())
 }
 
@@ -421,23 +491,33 @@ fn levels_0_to_3(alloc: Global, first: &str) -> Result<String, Fail> {
     Ok(text)
 }
 
+/// What `check` prints of levels 0 to 3, with this line for the first board of level 3.
+fn expect_checked(
+    rt: &(impl Abort + Files<File = File> + Threads + Wait + Sync),
+    alloc: Global,
+    first: &str,
+    printed: &str,
+    status: u8,
+) -> Result<(), Fail> {
+    let text = levels_0_to_3(alloc, first)?;
+    let words = ["awari", "check"];
+    expect_run(
+        rt,
+        alloc,
+        words.as_slice(),
+        text.as_bytes(),
+        printed,
+        status,
+    );
+    Ok(())
+}
+
 #[test]
 fn levels_above_2_are_checked(rt: HostRuntime) -> Result<(), Fail> {
-    for (first, printed, status) in [
-        ("-3 - 0", "yes levels 4 limit 28\n", 0),
-        ("-2 - 0", "no level 3 rank 0 rule V2\n", 1),
-        ("4 - 0", "no level 3 rank 0 rule V1\n", 1),
-    ] {
-        let text = levels_0_to_3(rt.alloc(), first)?;
-        let words = ["awari", "check"];
-        expect_run(
-            &rt,
-            rt.alloc(),
-            words.as_slice(),
-            text.as_bytes(),
-            printed,
-            status,
-        );
-    }
-    Ok(())
+    let yes = "yes levels 4 limit 28\n";
+    expect_checked(&rt, rt.alloc(), "-3 - 0", yes, 0)?;
+    let wrong_gain = "no level 3 rank 0 rule V2\n";
+    expect_checked(&rt, rt.alloc(), "-2 - 0", wrong_gain, 1)?;
+    let wrong_value = "no level 3 rank 0 rule V1\n";
+    expect_checked(&rt, rt.alloc(), "4 - 0", wrong_value, 1)
 }

@@ -10,6 +10,8 @@ mod documents;
 #[cfg(test)]
 mod levels;
 #[cfg(test)]
+mod plain;
+#[cfg(test)]
 mod plays;
 #[cfg(test)]
 mod words;

@@ -1,6 +1,12 @@
 //! The commands `move` and `judge`, on words.
 
 use crate::commands::expect_run;
+use std::alloc::Global;
+use std::fs::File;
+use std::process::Abort;
+use std::rt::Files;
+use std::sync::Wait;
+use std::thread::Threads;
 
 const ORIGIN_IS_LEFT_OUT: &str = "12,0,0,0,0,0/0,0,0,0,0,0";
 
@@ -33,11 +39,22 @@ const PLAYED: [(&str, &str, &str); 5] = [
     (GRAND_SLAM, "5", "2,0,0,0,0,0/0,0,0,0,0,0 0\n"),
 ];
 
+/// Runs `move`.
+pub fn expect_move(
+    rt: &(impl Abort + Files<File = File> + Threads + Wait + Sync),
+    alloc: Global,
+    (board, pit): (&str, &str),
+    printed: &str,
+    status: u8,
+) {
+    let words = ["awari", "move", board, pit];
+    expect_run(rt, alloc, words.as_slice(), b"", printed, status);
+}
+
 #[test]
 fn moves_are_played(rt: HostRuntime) {
     for (board, pit, printed) in PLAYED {
-        let words = ["awari", "move", board, pit];
-        expect_run(&rt, rt.alloc(), words.as_slice(), b"", printed, 0);
+        expect_move(&rt, rt.alloc(), (board, pit), printed, 0);
     }
 }
 
@@ -60,12 +77,14 @@ const REFUSED: [(&str, &str, &str); 12] = [
 #[test]
 fn moves_are_refused(rt: HostRuntime) {
     for (board, pit, printed) in REFUSED {
-        let words = ["awari", "move", board, pit];
-        expect_run(&rt, rt.alloc(), words.as_slice(), b"", printed, 1);
+        expect_move(&rt, rt.alloc(), (board, pit), printed, 1);
     }
+}
+
+#[test]
+fn pits_that_are_no_numbers_are_not_understood(rt: HostRuntime) {
     for pit in ["256", "-1", "x", ""] {
-        let words = ["awari", "move", MUST_FEED, pit];
-        expect_run(&rt, rt.alloc(), words.as_slice(), b"", "", 2);
+        expect_move(&rt, rt.alloc(), (MUST_FEED, pit), "", 2);
     }
 }
 
@@ -125,15 +144,31 @@ const JUDGED: [(&str, &str, &str, &str, u8); 10] = [
     ("1,0", "9", "x", "refused 1 Shape\n", 1),
 ];
 
+/// Runs `judge` with these moves.
+pub fn expect_judged(
+    rt: &(impl Abort + Files<File = File> + Threads + Wait + Sync),
+    alloc: Global,
+    (board, limit, moves, printed, status): (&str, &str, &str, &str, u8),
+) {
+    let words = ["awari", "judge", board, limit, moves];
+    expect_run(rt, alloc, words.as_slice(), b"", printed, status);
+}
+
 #[test]
 fn plays_are_judged(rt: HostRuntime) {
-    for (board, limit, moves, printed, status) in JUDGED {
-        let words = ["awari", "judge", board, limit, moves];
-        expect_run(&rt, rt.alloc(), words.as_slice(), b"", printed, status);
+    for play in JUDGED {
+        expect_judged(&rt, rt.alloc(), play);
     }
+}
+
+#[test]
+fn a_play_of_no_moves_is_judged(rt: HostRuntime) {
     let words = ["awari", "judge", WON, "9"];
     let printed = "board 1,0,0,0,0,0/0,0,1,0,0,0\nrunning 0\nquiet 0\noutcome none\n";
     expect_run(&rt, rt.alloc(), words.as_slice(), b"", printed, 0);
-    let words = ["awari", "judge", WON, "4294967296", "0"];
-    expect_run(&rt, rt.alloc(), words.as_slice(), b"", "", 2);
+}
+
+#[test]
+fn a_limit_that_is_no_number_is_not_understood(rt: HostRuntime) {
+    expect_judged(&rt, rt.alloc(), (WON, "4294967296", "0", "", 2));
 }

@@ -1,6 +1,8 @@
 //! Words in unusual forms, the text of `clap`, and a `build` whose lines can't be written.
 
 use crate::commands::{Broken, expect_run};
+use crate::levels::expect_built;
+use crate::plays::expect_move;
 use awari_cli::run;
 use std::alloc::Global;
 use std::fs::File;
@@ -58,25 +60,30 @@ fn words_that_begin_with_a_hyphen(rt: HostRuntime) {
     for (words, printed, status) in HYPHENS {
         expect(&rt, rt.alloc(), words, printed, status);
     }
+}
+
+#[test]
+fn moves_that_begin_with_a_hyphen(rt: HostRuntime) {
     let words = ["awari", "judge", WON, "9", "--", "-5"];
     let printed = "refused 4 NoPit at 1\n";
     expect_run(&rt, rt.alloc(), words.as_slice(), b"", printed, 1);
 }
 
 #[test]
-fn numbers_in_other_forms(rt: HostRuntime) {
+fn levels_in_other_forms(rt: HostRuntime) {
     for top in ["1", "+1", "01"] {
-        let words = ["awari", "build", top];
-        expect_run(&rt, rt.alloc(), words.as_slice(), b"", LEVELS_0_TO_1, 0);
+        expect_built(&rt, rt.alloc(), top, LEVELS_0_TO_1, 0);
     }
     for top in ["-0", " 1", "1 ", "1.0", "+", ""] {
-        let words = ["awari", "build", top];
-        expect_run(&rt, rt.alloc(), words.as_slice(), b"", "", 2);
+        expect_built(&rt, rt.alloc(), top, "", 2);
     }
+}
+
+#[test]
+fn pits_in_other_forms(rt: HostRuntime) {
+    let printed = "0,0,1,0,0,0/0,1,0,0,0,0 0\n";
     for pit in ["0", "+0", "00"] {
-        let words = ["awari", "move", WON, pit];
-        let printed = "0,0,1,0,0,0/0,1,0,0,0,0 0\n";
-        expect_run(&rt, rt.alloc(), words.as_slice(), b"", printed, 0);
+        expect_move(&rt, rt.alloc(), (WON, pit), printed, 0);
     }
 }
 
@@ -114,24 +121,27 @@ fn usage_goes_to_the_error_stream(rt: HostRuntime) {
     expect_usage(&rt, rt.alloc(), &["awari", "build", "13"], "13");
 }
 
+/// Runs `build` up to level 1 in the folder, whose lines can't be written.
+fn build_unwritten(
+    rt: &(impl Abort + Files<File = File> + Threads + Wait + Sync),
+    alloc: Global,
+    folder: &str,
+) {
+    let mut reader: &[u8] = b"";
+    let mut errors = Vec::new(alloc);
+    let words = ["awari", "build", "1", "--folder", folder];
+    let words = words.as_slice();
+    let status = run(rt, alloc, words, &mut reader, &mut Broken, &mut errors);
+    assert_eq!(rt; status, 1);
+    assert!(rt; errors.is_empty());
+}
+
 #[test]
 fn a_level_is_saved_before_its_line_is_written(rt: HostRuntime) -> Result<(), Fail> {
     let folder = "awari_cli_test_unwritten";
     let _ = fs::remove_dir_all(&rt, folder);
     fs::create_dir(&rt, folder)?;
-    let mut reader: &[u8] = b"";
-    let mut errors = Vec::new(rt.alloc());
-    let words = ["awari", "build", "1", "--folder", folder];
-    let status = run(
-        &rt,
-        rt.alloc(),
-        words.as_slice(),
-        &mut reader,
-        &mut Broken,
-        &mut errors,
-    );
-    assert_eq!(rt; status, 1);
-    assert!(rt; errors.is_empty());
+    build_unwritten(&rt, rt.alloc(), folder);
     let words = ["awari", "verify", folder];
     let printed = "\
 level 0 ok limit 0

@@ -1,0 +1,75 @@
+//! The calls on a folder in memory, each in a function of its own that promises nothing. What a call
+//! promises is a premise of each goal behind it, and no test is proved from that: it is seen when the
+//! test runs.
+
+use awari_build::Pace;
+use awari_cli::{run_ask, run_build_in, run_line, run_verify};
+use awari_folder::MemoryFolder;
+use std::alloc::Global;
+use std::sync::Wait;
+use std::thread::Threads;
+
+/// A build by one part.
+const ALONE: Pace = Pace {
+    owners: 0,
+    room: 64,
+    sweeps: 1000,
+};
+
+/// An empty folder in memory.
+pub fn memory_folder(alloc: Global) -> MemoryFolder {
+    MemoryFolder::new(alloc)
+}
+
+/// Has a folder in memory refuse the call of this number.
+pub fn refuse(folder: &mut MemoryFolder, call: u32) {
+    folder.refuse(call);
+}
+
+/// Has the new files of a folder in memory refuse to be written, or to be brought to the disk.
+pub fn refuse_files(folder: &mut MemoryFolder, writes: bool, sync: bool) {
+    folder.refuse_files(writes, sync);
+}
+
+/// Whether something lies in a folder in memory of a file that got no name.
+pub fn has_draft(folder: &MemoryFolder) -> bool {
+    folder.has_draft()
+}
+
+/// Builds up to level 1 in the folder by one part, and gives the status.
+pub fn build(
+    rt: &(impl AllocGlobal + Threads + Wait + Sync),
+    folder: &mut MemoryFolder,
+    output: &mut Vec<u8>,
+) -> u8 {
+    run_build_in(rt, folder, rt.alloc(), 1, ALONE, output)
+}
+
+/// Verifies the folder, and gives the status.
+pub fn verified(
+    rt: &(impl AllocGlobal + Threads + Wait + Sync),
+    folder: &mut MemoryFolder,
+    output: &mut Vec<u8>,
+) -> u8 {
+    run_verify(rt, folder, rt.alloc(), output)
+}
+
+/// Asks the folder for a board, and gives the status.
+pub fn asked(
+    rt: &(impl AllocGlobal + Threads + Wait + Sync),
+    folder: &mut MemoryFolder,
+    board: &str,
+    output: &mut Vec<u8>,
+) -> u8 {
+    run_ask(rt, folder, rt.alloc(), board, output)
+}
+
+/// Plays the line of a board by the folder, and gives the status.
+pub fn lined(
+    rt: &(impl AllocGlobal + Threads + Wait + Sync),
+    folder: &mut MemoryFolder,
+    board: &str,
+    output: &mut Vec<u8>,
+) -> u8 {
+    run_line(rt, folder, rt.alloc(), board, output)
+}
