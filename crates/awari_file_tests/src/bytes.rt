@@ -3,7 +3,7 @@
 use crate::levels::{changed, digest_in, digested, right_file, right_shelf};
 use crate::plain::{level_of, put_on, read, verdict};
 use awari_file::{FileFault, Loaded};
-use awari_table::{Counted, Shelf};
+use awari_table::{Counted, Level, Shelf};
 use awari_verify::{Rule, VerifyFault};
 use sha2::{Digest, Sha256};
 use std::alloc::Global;
@@ -36,12 +36,22 @@ const FILES: [(u8, usize, [u8; 4]); 3] = [
     (2, 552, [0x94, 0x22, 0x29, 0x8d]),
 ];
 
+/// How long the file of this level is, and how its digest begins.
+fn expect_file(
+    rt: &impl Abort,
+    alloc: Global,
+    (number, length, digest): (u8, usize, [u8; 4]),
+) -> Result<(), Fail> {
+    let file = right_file(alloc, number)?;
+    assert_eq!(rt; file.len(), length, "level {number}");
+    assert!(rt; digest_in(&file).starts_with(&digest), "level {number}");
+    Ok(())
+}
+
 #[test]
 fn files_have_their_sizes_and_digests(rt: HostRuntime) -> Result<(), Fail> {
-    for (number, length, digest) in FILES {
-        let file = right_file(rt.alloc(), number)?;
-        assert_eq!(rt; file.len(), length, "level {number}");
-        assert!(rt; digest_in(&file).starts_with(&digest), "level {number}");
+    for row in FILES {
+        expect_file(&rt, rt.alloc(), row)?;
     }
     Ok(())
 }
@@ -63,14 +73,25 @@ fn bytes_of_level_1(alloc: Global, below: [u8; 32]) -> Result<Vec<u8>, Fail> {
     Ok(bytes)
 }
 
+/// The file begins with these bytes.
+fn expect_start(rt: &impl Abort, file: &[u8], start: &[u8]) {
+    assert!(rt; file.starts_with(start));
+}
+
 #[test]
-fn files_have_their_bytes(rt: HostRuntime) -> Result<(), Fail> {
+fn the_file_of_level_0_has_its_bytes(rt: HostRuntime) -> Result<(), Fail> {
     let first = right_file(rt.alloc(), 0)?;
-    let second = right_file(rt.alloc(), 1)?;
-    assert!(rt; first.starts_with(&LEVEL_0));
+    expect_start(&rt, &first, &LEVEL_0);
     assert_eq!(rt; digest_in(&first), Sha256::digest(&LEVEL_0[..]));
+    Ok(())
+}
+
+#[test]
+fn the_file_of_level_1_has_its_bytes(rt: HostRuntime) -> Result<(), Fail> {
+    let first = right_file(rt.alloc(), 0)?;
     let expected = bytes_of_level_1(rt.alloc(), digest_in(&first))?;
-    assert!(rt; second.starts_with(expected.as_slice()));
+    let second = right_file(rt.alloc(), 1)?;
+    expect_start(&rt, &second, &expected);
     Ok(())
 }
 
@@ -83,15 +104,25 @@ fn digests_are_read_again(rt: HostRuntime) -> Result<(), Fail> {
     Ok(())
 }
 
+/// The file is that of this level.
+fn expect_level(rt: &impl Abort, alloc: Global, level: &Level, file: &[u8]) -> Result<(), Fail> {
+    let image = read_bytes(alloc, file)?.image;
+    assert_eq!(rt; (image.level, image.limit), (1, 1));
+    assert!(rt; image.entries.as_slice() == level.entries());
+    Ok(())
+}
+
 #[test]
 fn levels_are_read_again(rt: HostRuntime) -> Result<(), Fail> {
     let shelf = right_shelf(rt.alloc())?;
-    assert_eq!(rt; shelf.levels(), 3);
-    let level = level_of(&shelf, 1)?;
     let second = right_file(rt.alloc(), 1)?;
-    let image = read_bytes(rt.alloc(), &second)?.image;
-    assert_eq!(rt; (image.level, image.limit), (1, 1));
-    assert!(rt; image.entries.as_slice() == level.entries());
+    expect_level(&rt, rt.alloc(), level_of(&shelf, 1)?, &second)
+}
+
+#[test]
+fn the_right_shelf_has_three_levels(rt: HostRuntime) -> Result<(), Fail> {
+    let shelf = right_shelf(rt.alloc())?;
+    assert_eq!(rt; shelf.levels(), 3);
     Ok(())
 }
 
@@ -193,17 +224,27 @@ fn shelf_of(alloc: Global, first: &[u8]) -> Result<Shelf, Fail> {
     Ok(shelf)
 }
 
-#[test]
-fn values_are_for_the_verifier(rt: HostRuntime) -> Result<(), Fail> {
-    let first = right_file(rt.alloc(), 0)?;
-    let second = right_file(rt.alloc(), 1)?;
-    let shelf = shelf_of(rt.alloc(), &first)?;
-    let bytes = digested(rt.alloc(), &second, 52, 0xfe)?;
-    let image = read_bytes(rt.alloc(), &bytes)?.image;
+/// The file is read as a level that the verifier refuses for its first value.
+fn expect_refused(rt: &impl Abort, alloc: Global, shelf: &Shelf, bytes: &[u8]) -> Result<(), Fail> {
+    let image = read_bytes(alloc, bytes)?.image;
     let refused = VerifyFault::Refused {
         rank: 0,
         rule: Rule::V1,
     };
-    assert_eq!(rt; verdict(&shelf, image), Some(refused));
+    assert_eq!(rt; verdict(shelf, image), Some(refused));
     Ok(())
+}
+
+/// The file of level 1 with a wrong value.
+fn file_with_wrong_value(alloc: Global) -> Result<Vec<u8>, Fail> {
+    let second = right_file(alloc, 1)?;
+    digested(alloc, &second, 52, 0xfe)
+}
+
+#[test]
+fn values_are_for_the_verifier(rt: HostRuntime) -> Result<(), Fail> {
+    let first = right_file(rt.alloc(), 0)?;
+    let shelf = shelf_of(rt.alloc(), &first)?;
+    let bytes = file_with_wrong_value(rt.alloc())?;
+    expect_refused(&rt, rt.alloc(), &shelf, &bytes)
 }

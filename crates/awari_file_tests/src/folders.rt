@@ -6,6 +6,7 @@ use awari_file::FileFault;
 use awari_folder::{FolderFault, HostFolder};
 use awari_table::Level;
 use awari_verify::{Rule, VerifyFault};
+use std::alloc::Global;
 use std::fs::File;
 use std::os::unix::fs::symlink;
 use std::path::Path;
@@ -183,20 +184,51 @@ fn a_file_that_cannot_take_its_name_is_removed(rt: HostRuntime) -> Result<(), Fa
     Ok(())
 }
 
+/// The right files of levels 0 and 1 lie in the folder, by these names.
+fn expect_right_files(
+    rt: &(impl Files + AllocGlobal + Abort),
+    first: &str,
+    second: &str,
+) -> Result<(), Fail> {
+    let bytes = right_file(rt.alloc(), 0)?;
+    expect_file(rt, first, &bytes)?;
+    let bytes = right_file(rt.alloc(), 1)?;
+    expect_file(rt, second, &bytes)?;
+    Ok(())
+}
+
+/// The digests of the right files of levels 0 and 1.
+fn right_digests(alloc: Global) -> Result<([u8; 32], [u8; 32]), Fail> {
+    let first = digest_in(&right_file(alloc, 0)?);
+    let second = digest_in(&right_file(alloc, 1)?);
+    Ok((first, second))
+}
+
+/// Saves levels 0 and 1, and loads them.
+fn expect_saved(
+    rt: &(impl Files<File = File> + AllocGlobal + Abort),
+    folder: &str,
+    right: ([u8; 32], [u8; 32]),
+) -> Result<(), Fail> {
+    let digests = save_both(rt, folder)?;
+    assert_eq!(rt; digests, right);
+    expect_levels(rt, folder, 2, digests.1);
+    Ok(())
+}
+
 #[test]
 fn saved_levels_are_loaded(rt: HostRuntime) -> Result<(), Fail> {
     let folder = "awari_folder_test_saved";
-    let first = right_file(rt.alloc(), 0)?;
-    let second = right_file(rt.alloc(), 1)?;
+    let right = right_digests(rt.alloc())?;
     empty_folder(&rt, folder)?;
+    expect_saved(&rt, folder, right)?;
     // The second time the files are replaced.
-    for _ in 0..2u8 {
-        let digests = save_both(&rt, folder)?;
-        assert_eq!(rt; digests, (digest_in(&first), digest_in(&second)));
-        expect_levels(&rt, folder, 2, digests.1);
-    }
-    expect_file(&rt, "awari_folder_test_saved/level_00.awdb", &first)?;
-    expect_file(&rt, "awari_folder_test_saved/level_01.awdb", &second)?;
+    expect_saved(&rt, folder, right)?;
+    expect_right_files(
+        &rt,
+        "awari_folder_test_saved/level_00.awdb",
+        "awari_folder_test_saved/level_01.awdb",
+    )?;
     expect_count(&rt, folder, 2)?;
     fs::remove_dir_all(&rt, folder)?;
     Ok(())
@@ -244,11 +276,16 @@ fn level_0_is_looked_for_first(rt: HostRuntime) -> Result<(), Fail> {
     Ok(())
 }
 
+/// The file of level 1, over no file.
+fn unlinked_file(alloc: Global) -> Result<Vec<u8>, Fail> {
+    let shelf = right_shelf(alloc)?;
+    file_of(alloc, &shelf, 1, [0; 32])
+}
+
 #[test]
 fn another_level_is_not_taken_for_level_0(rt: HostRuntime) -> Result<(), Fail> {
     let folder = "awari_folder_test_other";
-    let shelf = right_shelf(rt.alloc())?;
-    let unlinked = file_of(rt.alloc(), &shelf, 1, [0; 32])?;
+    let unlinked = unlinked_file(rt.alloc())?;
     let met = refusal(&rt, folder, &unlinked, b"")?;
     let fault = VerifyFault::WrongLevel;
     assert_eq!(rt; met, Some(FolderFault::Verify { level: 0, fault }));
@@ -256,22 +293,40 @@ fn another_level_is_not_taken_for_level_0(rt: HostRuntime) -> Result<(), Fail> {
     Ok(())
 }
 
+/// Lays what a killed save leaves: a wrong new file of level 0, and as that of level 1 a link to
+/// another file, which is not to be written to.
+fn lay_new_files(rt: &(impl Files + AllocGlobal), folder: &str, link: &str) -> Result<(), Fail> {
+    let second = right_file(rt.alloc(), 1)?;
+    lay(rt, folder, "level_00.awdb.new", &second)?;
+    lay(rt, folder, "other", b"other")?;
+    symlink(rt, "other", link)?;
+    Ok(())
+}
+
 #[test]
 fn what_a_killed_save_left_is_removed(rt: HostRuntime) -> Result<(), Fail> {
     let folder = "awari_folder_test_killed";
-    let first = right_file(rt.alloc(), 0)?;
-    let second = right_file(rt.alloc(), 1)?;
     empty_folder(&rt, folder)?;
-    lay(&rt, folder, "level_00.awdb.new", &second)?;
-    // A link to another file, which is not written to.
-    lay(&rt, folder, "other", b"other")?;
-    symlink(&rt, "other", "awari_folder_test_killed/level_01.awdb.new")?;
+    lay_new_files(&rt, folder, "awari_folder_test_killed/level_01.awdb.new")?;
     save_both(&rt, folder)?;
-    expect_file(&rt, "awari_folder_test_killed/level_00.awdb", &first)?;
-    expect_file(&rt, "awari_folder_test_killed/level_01.awdb", &second)?;
+    expect_right_files(
+        &rt,
+        "awari_folder_test_killed/level_00.awdb",
+        "awari_folder_test_killed/level_01.awdb",
+    )?;
     expect_file(&rt, "awari_folder_test_killed/other", b"other")?;
     expect_count(&rt, folder, 3)?;
     fs::remove_dir_all(&rt, folder)?;
+    Ok(())
+}
+
+/// Another builder is refused, and who only reads does not wait.
+fn expect_taken(
+    rt: &(impl Files<File = File> + AllocGlobal + Abort),
+    folder: &str,
+) -> Result<(), Fail> {
+    expect_not_saved(rt, folder)?;
+    assert_eq!(rt; loaded(rt, folder)?.0, 1);
     Ok(())
 }
 
@@ -282,10 +337,16 @@ fn save_beside_another(
     level: &Level,
 ) -> Result<(), Fail> {
     let mut first = host(rt, folder);
-    assert!(rt; save_into(&mut first, level, [0; 32]).is_ok());
-    expect_not_saved(rt, folder)?;
-    // Who only reads does not wait.
-    assert_eq!(rt; loaded(rt, folder)?.0, 1);
+    save_into(&mut first, level, [0; 32])?;
+    expect_taken(rt, folder)
+}
+
+/// Level 0 is saved into the folder, where no one else saves.
+fn expect_free(
+    rt: &(impl Files<File = File> + AllocGlobal + Abort),
+    folder: &str,
+) -> Result<(), Fail> {
+    assert_eq!(rt; save_refusal(rt, folder)?, None);
     Ok(())
 }
 
@@ -295,27 +356,33 @@ fn one_builder_at_a_time_saves(rt: HostRuntime) -> Result<(), Fail> {
     empty_folder(&rt, folder)?;
     let shelf = right_shelf(rt.alloc())?;
     save_beside_another(&rt, folder, level_of(&shelf, 0)?)?;
-    assert_eq!(rt; save_refusal(&rt, folder)?, None);
+    expect_free(&rt, folder)?;
     fs::remove_dir_all(&rt, folder)?;
+    Ok(())
+}
+
+/// A folder whose file of level 0 is a link to this is refused.
+fn expect_link_refused(
+    rt: &(impl Files<File = File> + AllocGlobal + Abort),
+    folder: &str,
+    first: &str,
+    target: &str,
+) -> io::Result<()> {
+    empty_folder(rt, folder)?;
+    symlink(rt, target, first)?;
+    expect_not_opened(rt, folder);
     Ok(())
 }
 
 #[test]
 fn what_is_no_file_is_not_opened(rt: HostRuntime) -> Result<(), Fail> {
     let folder = "awari_folder_test_device";
-    empty_folder(&rt, folder)?;
-    symlink(&rt, "/dev/zero", "awari_folder_test_device/level_00.awdb")?;
-    expect_not_opened(&rt, folder);
+    let first = "awari_folder_test_device/level_00.awdb";
+    expect_link_refused(&rt, folder, first, "/dev/zero")?;
     // A link to itself.
+    expect_link_refused(&rt, folder, first, "level_00.awdb")?;
     empty_folder(&rt, folder)?;
-    symlink(
-        &rt,
-        "level_00.awdb",
-        "awari_folder_test_device/level_00.awdb",
-    )?;
-    expect_not_opened(&rt, folder);
-    empty_folder(&rt, folder)?;
-    fs::create_dir(&rt, "awari_folder_test_device/level_00.awdb")?;
+    fs::create_dir(&rt, first)?;
     expect_not_opened(&rt, folder);
     fs::remove_dir_all(&rt, folder)?;
     Ok(())

@@ -248,13 +248,17 @@ const OVERTAKEN: [(usize, u8, u32, u8); 8] = [
     (124, 0, 156, 66),
 ];
 
+/// Reads the bytes by a reader that fails at the call of this number.
+fn read_until(alloc: Global, bytes: &[u8], call: u32) -> (u8, u64) {
+    let bad = Bad::Fault(ErrorKind::UnexpectedEof);
+    read_slowly(alloc, bytes, Calls::new(call, 1, bad))
+}
+
 /// A wrong file is read by a reader that fails at the call for the last byte of the field with the
 /// fault, and by one that fails at the call after it.
 fn expect_overtaken(rt: &impl Abort, alloc: Global, bytes: &[u8], last: u32, fault: u8) {
-    let bad = Bad::Fault(ErrorKind::UnexpectedEof);
-    let found = read_slowly(alloc, bytes, Calls::new(last, 1, bad));
-    assert_eq!(rt; found, (68, 1), "call {last}");
-    let (found, _) = read_slowly(alloc, bytes, Calls::new(last.saturating_add(1), 1, bad));
+    assert_eq!(rt; read_until(alloc, bytes, last), (68, 1), "call {last}");
+    let (found, _) = read_until(alloc, bytes, last.saturating_add(1));
     assert_eq!(rt; found, fault, "call {last}");
 }
 
