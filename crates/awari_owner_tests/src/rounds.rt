@@ -65,16 +65,23 @@ fn rounds_spread_and_send(rt: HostRuntime) -> Result<(), Fail> {
     Ok(())
 }
 
-/// Whether owners at this pace build the level that one part builds, over the same shelf.
-fn is_built_alike<R: Threads + Wait + Sync>(
+/// Owners at this pace build the level that one part builds, over the same shelf.
+fn expect_built_alike<R: Threads + Wait + Sync + Abort>(
     rt: &R,
     alloc: Global,
     shelf: &Shelf,
     alone: &Level,
-    pace: Pace,
-) -> Result<bool, Fail> {
+    (owners, room, sweeps): (u8, u32, u32),
+) -> Result<(), Fail> {
+    let pace = Pace {
+        owners,
+        room,
+        sweeps,
+    };
     let level = build_level(rt, alloc, shelf, pace, &Open)?;
-    Ok(level.limit() == alone.limit() && level.entries() == alone.entries())
+    let is_alike = level.limit() == alone.limit() && level.entries() == alone.entries();
+    assert!(rt; is_alike, "level {} by {owners} owners", alone.number());
+    Ok(())
 }
 
 /// Paces of one, three and sixteen owners.
@@ -96,14 +103,8 @@ fn built_alike<R: Threads + Wait + Sync + Abort>(
     ensures { IfOk result (Consistent shelf.now) }
 {
     let alone = build_alone(alloc, shelf)?;
-    for (owners, room, sweeps) in PACES {
-        let pace = Pace {
-            owners,
-            room,
-            sweeps,
-        };
-        let is_alike = is_built_alike(rt, alloc, shelf, &alone, pace)?;
-        assert!(rt; is_alike, "level {} by {owners} owners", alone.number());
+    for pace in PACES {
+        expect_built_alike(rt, alloc, shelf, &alone, pace)?;
     }
     Ok(alone)
 }
