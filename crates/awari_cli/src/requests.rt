@@ -111,14 +111,28 @@ fn pace_of(given: &ArgMatches<'_>) -> Option<Pace>
 }
 
 fn command<'a>(alloc: Global) -> Result<Command<'a>, Error> {
-    let awari = Command::new(alloc, "awari")
+    let awari = with_plays(alloc, awari_command(alloc))?;
+    with_folders(alloc, awari)
+}
+
+/// The program, with no command yet.
+fn awari_command<'a>(alloc: Global) -> Command<'a> {
+    Command::new(alloc, "awari")
         .about("Awari endgame tables that are proved right")
         .after_help(AWARI_HELP)
         .arg_required_else_help(true)
         .subcommand_required(true)
-        .subcommand(check_command(alloc))?;
+}
+
+/// The program with the commands that need no folder.
+fn with_plays<'a>(alloc: Global, awari: Command<'a>) -> Result<Command<'a>, Error> {
+    let awari = awari.subcommand(check_command(alloc))?;
     let awari = with_command(awari, move_command(alloc))?;
-    let awari = with_command(awari, judge_command(alloc))?;
+    with_command(awari, judge_command(alloc))
+}
+
+/// The program with the commands that work on a folder, or may.
+fn with_folders<'a>(alloc: Global, awari: Command<'a>) -> Result<Command<'a>, Error> {
     let awari = with_command(awari, build_command(alloc))?;
     let awari = with_command(awari, verify_command(alloc))?;
     let awari = with_command(awari, ask_command(alloc))?;
@@ -130,9 +144,15 @@ fn with_command<'a>(
     awari: Command<'a>,
     command: Result<Command<'a>, Error>,
 ) -> Result<Command<'a>, Error> {
-    let command = command?;
-    let awari = awari.subcommand(command)?;
-    Ok(awari)
+    match command {
+        Ok(command) => Ok(awari.subcommand(command)?),
+        Err(error) => Err(error),
+    }
+}
+
+/// The command with one more word.
+fn with_word<'a>(command: Command<'a>, word: Arg<'a>) -> Result<Command<'a>, Error> {
+    Ok(command.arg(word)?)
 }
 
 fn check_command<'a>(alloc: Global) -> Command<'a> {
@@ -142,51 +162,68 @@ fn check_command<'a>(alloc: Global) -> Command<'a> {
 }
 
 fn move_command<'a>(alloc: Global) -> Result<Command<'a>, Error> {
-    let pit = Arg::new(alloc, "PIT")
-        .required(true)
-        .value_parser(value_parser!(u8))
-        .help("The pit to play, 0 to 255");
     let command = Command::new(alloc, "move")
         .about("Plays a move, and prints the board after it")
-        .after_help(MOVE_HELP)
-        .arg(board(alloc))?
-        .arg(pit)?;
-    Ok(command)
+        .after_help(MOVE_HELP);
+    let command = with_word(command, board(alloc))?;
+    with_word(command, pit(alloc))
+}
+
+fn pit<'a>(alloc: Global) -> Arg<'a> {
+    Arg::new(alloc, "PIT")
+        .required(true)
+        .value_parser(value_parser!(u8))
+        .help("The pit to play, 0 to 255")
 }
 
 fn judge_command<'a>(alloc: Global) -> Result<Command<'a>, Error> {
-    let limit = Arg::new(alloc, "LIMIT")
-        .required(true)
-        .value_parser(value_parser!(u32))
-        .help("The plies without a capture that are not yet an outcome");
-    let moves = Arg::new(alloc, "MOVES").help("The pits played, a digit each");
     let command = Command::new(alloc, "judge")
         .about("Plays moves, and says where that stands")
-        .after_help(JUDGE_HELP)
-        .arg(board(alloc))?
-        .arg(limit)?
-        .arg(moves)?;
-    Ok(command)
+        .after_help(JUDGE_HELP);
+    let command = with_word(command, board(alloc))?;
+    let command = with_word(command, limit(alloc))?;
+    with_word(command, moves(alloc))
+}
+
+fn limit<'a>(alloc: Global) -> Arg<'a> {
+    Arg::new(alloc, "LIMIT")
+        .required(true)
+        .value_parser(value_parser!(u32))
+        .help("The plies without a capture that are not yet an outcome")
+}
+
+fn moves<'a>(alloc: Global) -> Arg<'a> {
+    Arg::new(alloc, "MOVES").help("The pits played, a digit each")
 }
 
 fn build_command<'a>(alloc: Global) -> Result<Command<'a>, Error> {
-    let top = Arg::new(alloc, "TOP")
-        .required(true)
-        .value_parser(ValueParser::unsigned(0, u64::from(HIGHEST_LEVEL)))
-        .help("The highest level to build, 0 to 12");
-    let folder = Arg::new(alloc, "folder")
-        .long("folder")
-        .value_name("FOLDER")
-        .help("Begin with the levels of this folder, and save each level there");
     let command = Command::new(alloc, "build")
         .about("Builds levels, and prints a line for each")
-        .after_help(BUILD_HELP)
-        .arg(top)?
-        .arg(folder)?
-        .arg(owners(alloc))?
-        .arg(room(alloc))?
-        .arg(sweeps(alloc))?;
-    Ok(command)
+        .after_help(BUILD_HELP);
+    let command = with_word(command, top(alloc))?;
+    let command = with_word(command, start_folder(alloc))?;
+    with_pace(alloc, command)
+}
+
+fn top<'a>(alloc: Global) -> Arg<'a> {
+    Arg::new(alloc, "TOP")
+        .required(true)
+        .value_parser(ValueParser::unsigned(0, u64::from(HIGHEST_LEVEL)))
+        .help("The highest level to build, 0 to 12")
+}
+
+fn start_folder<'a>(alloc: Global) -> Arg<'a> {
+    Arg::new(alloc, "folder")
+        .long("folder")
+        .value_name("FOLDER")
+        .help("Begin with the levels of this folder, and save each level there")
+}
+
+/// The command with the options of a pace.
+fn with_pace<'a>(alloc: Global, command: Command<'a>) -> Result<Command<'a>, Error> {
+    let command = with_word(command, owners(alloc))?;
+    let command = with_word(command, room(alloc))?;
+    with_word(command, sweeps(alloc))
 }
 
 fn owners<'a>(alloc: Global) -> Arg<'a> {
@@ -219,27 +256,24 @@ fn sweeps<'a>(alloc: Global) -> Arg<'a> {
 fn verify_command<'a>(alloc: Global) -> Result<Command<'a>, Error> {
     let command = Command::new(alloc, "verify")
         .about("Says of the levels in a folder whether each is right")
-        .after_help(VERIFY_HELP)
-        .arg(folder(alloc))?;
-    Ok(command)
+        .after_help(VERIFY_HELP);
+    with_word(command, folder(alloc))
 }
 
 fn ask_command<'a>(alloc: Global) -> Result<Command<'a>, Error> {
     let command = Command::new(alloc, "ask")
         .about("Looks a board up in the levels of a folder")
-        .after_help(ASK_HELP)
-        .arg(folder(alloc))?
-        .arg(board(alloc))?;
-    Ok(command)
+        .after_help(ASK_HELP);
+    let command = with_word(command, folder(alloc))?;
+    with_word(command, board(alloc))
 }
 
 fn line_command<'a>(alloc: Global) -> Result<Command<'a>, Error> {
     let command = Command::new(alloc, "line")
         .about("Plays the plans of both sides, from a board to the outcome")
-        .after_help(LINE_HELP)
-        .arg(folder(alloc))?
-        .arg(board(alloc))?;
-    Ok(command)
+        .after_help(LINE_HELP);
+    let command = with_word(command, folder(alloc))?;
+    with_word(command, board(alloc))
 }
 
 fn folder<'a>(alloc: Global) -> Arg<'a> {
