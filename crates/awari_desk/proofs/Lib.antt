@@ -1,0 +1,4 @@
+pub mod Grows
+pub mod Words
+pub mod Serves
+pub mod Longer

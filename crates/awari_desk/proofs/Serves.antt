@@ -1,0 +1,259 @@
+-- Each step of the service.
+use Rattle.std.proofs.Common.{◌≡◌, ◌≢◌, ◌⊎◌, ◌<◌, ℕ, List, [], ◌∷◌, ◌++◌, length, sym, ap, ◌∙◌, refl, subst, append_assoc, append-nil, Option, Some, None, All, ◌+◌, take, drop, get_or, length-append, take-append-drop, arith, Bool, true, false, ◌↔◌}
+use Rattle.std.specs.Prelude.{IfSome}
+use Rattle.std.proofs.lemmas.List.{take_more}
+use Rattle.std.proofs.lemmas.Bool.{iff_false, false≢true}
+use Rattle.std.proofs.lemmas.List.Elements.{All-nil, All-append, All-cons}
+use Rattle.std.specs.Io.KnownBytes.{Appends, Consumes, IsAtEnd}
+use Rattle.std.proofs.KnownBytes.{Appends-trans, Appends-nil}
+use Rattle.awari_table.specs.declared.images.Image.{Image}
+use Rattle.awari_desk.specs.declared.answers.Answer.{Answer}
+use Rattle.awari_desk.specs.declared.answers.Answer.TheVariants.{Found, NotYet, Gone, Refused, Seen, Bye, What}
+use Rattle.awari_desk.specs.declared.lines.Coming.{Coming}
+use Rattle.awari_desk.specs.Service.{Answered, none, more, Served, ended, unended, quits, IsOneLine, IsAnswerTo, answer_line, IsInput, HasServed, HasBegun}
+use Rattle.awari_desk.specs.Coming.{Holds, Serving}
+
+-- whether an answer ends the service
+abbrev is_bye : Answer → Bool
+is_bye Bye = true
+is_bye _ = false
+
+-- nothing was taken
+pub starts : (first : List Image) (before : Option (List ℕ)) (coming : Coming) → Holds coming [] → Serving first before [] before first coming
+starts first before coming holds = record {
+  done = [];
+  line = [];
+  output = [];
+  parts = refl;
+  answered = none first;
+  one = All-nil (λ b. b ≢ 10);
+  holds = holds;
+  wrote = Appends-nil before;
+}
+
+module _ (first : List Image) (before : Option (List ℕ)) (taken : List ℕ) (now : Option (List ℕ)) (known : List Image) (coming : Coming) (s : Serving first before taken now known coming) where
+  -- one more byte of the line
+  pub takes : (byte : ℕ) (next : Coming) → byte ≢ 10 → ((line : List ℕ) → Holds coming line → Holds next (line ++ byte ∷ []))
+      → Serving first before (taken ++ byte ∷ []) now known next
+  takes byte next other holds = record {
+    done = s.done;
+    line = s.line ++ byte ∷ [];
+    output = s.output;
+    parts = ap (λ l. l ++ byte ∷ []) s.parts ∙ append_assoc s.done s.line (byte ∷ []);
+    answered = s.answered;
+    one = All-append (λ b. b ≢ 10) s.line (byte ∷ []) s.one (All-cons (λ b. b ≢ 10) byte [] other (All-nil (λ b. b ≢ 10)));
+    holds = holds s.line s.holds;
+    wrote = s.wrote;
+  }
+
+  -- the line ends
+  line_ends : (rest : List ℕ) → taken ++ 10 ∷ rest ≡ s.done ++ (s.line ++ 10 ∷ rest)
+  line_ends rest = ap (λ l. l ++ 10 ∷ rest) s.parts ∙ append_assoc s.done s.line (10 ∷ rest)
+
+  module _ (answer : Answer) (book : List Image) (is : IsAnswerTo known s.line answer book) (after : Option (List ℕ)) where
+    -- its answer was written
+    pub answers : answer ≢ Bye → Appends now after (answer_line answer) → (next : Coming) → Holds next [] → Serving first before (taken ++ 10 ∷ []) after book next
+    answers other wrote next holds = record {
+      done = s.done ++ (s.line ++ 10 ∷ []);
+      line = [];
+      output = s.output ++ answer_line answer;
+      parts = line_ends [] ∙ sym (append-nil (s.done ++ (s.line ++ 10 ∷ [])));
+      answered = more first known book s.done s.output s.line answer s.answered s.one is other;
+      one = All-nil (λ b. b ≢ 10);
+      holds = holds;
+      wrote = Appends-trans before now after s.output (answer_line answer) s.wrote wrote;
+    }
+
+    -- it ends the service
+    pub ends : answer ≡ Bye → Appends now after (answer_line answer) → (rest : List ℕ) → HasServed first before ((taken ++ 10 ∷ []) ++ rest) after book
+    ends bye wrote rest =
+        let served : Served first (s.done ++ (s.line ++ 10 ∷ rest)) (s.output ++ answer_line Bye) book =
+        quits first known book s.done s.output s.line rest s.answered s.one (subst (λ (a : Answer). IsAnswerTo known s.line a book) bye is) in (
+          s.output ++ answer_line answer,
+          subst (λ (i : List ℕ). Served first i (s.output ++ answer_line answer) book) (sym (append_assoc taken (10 ∷ []) rest ∙ line_ends rest)) (subst (λ (a : Answer). Served first (s.done ++ (s.line ++ 10 ∷ rest)) (s.output ++ answer_line a) book) (sym bye) served),
+          Appends-trans before now after s.output (answer_line answer) s.wrote wrote,
+        )
+
+    -- the line with its line feed is served
+    line_served : (done output : List ℕ) (line : List ℕ) → Answered first done output known → IsOneLine line → (a : Answer) → IsAnswerTo known line a book
+        → Served first (done ++ (line ++ 10 ∷ [])) (output ++ answer_line a) book
+    line_served done output line ans one Bye at = quits first known book done output line [] ans one at
+    line_served done output line ans one (Found e) at = ended first book _ _ (more first known book done output line (Found e) ans one at (λ x. false≢true (ap is_bye x)))
+    line_served done output line ans one (NotYet n) at = ended first book _ _ (more first known book done output line (NotYet n) ans one at (λ x. false≢true (ap is_bye x)))
+    line_served done output line ans one Gone at = ended first book _ _ (more first known book done output line Gone ans one at (λ x. false≢true (ap is_bye x)))
+    line_served done output line ans one (Refused f) at = ended first book _ _ (more first known book done output line (Refused f) ans one at (λ x. false≢true (ap is_bye x)))
+    line_served done output line ans one (Seen n) at = ended first book _ _ (more first known book done output line (Seen n) ans one at (λ x. false≢true (ap is_bye x)))
+    line_served done output line ans one What at = ended first book _ _ (more first known book done output line What ans one at (λ x. false≢true (ap is_bye x)))
+
+    -- the front of its answer was written
+    pub breaks : (front rest : List ℕ) → answer_line answer ≡ front ++ rest → Appends now after front → HasBegun first before (taken ++ 10 ∷ []) after book
+    breaks front rest e wrote = record {
+      front = s.done ++ (s.line ++ 10 ∷ []);
+      behind = [];
+      taken = s.output ++ front;
+      due = rest;
+      parts = line_ends [] ∙ sym (append-nil (s.done ++ (s.line ++ 10 ∷ [])));
+      served = subst (λ (o : List ℕ). Served first (s.done ++ (s.line ++ 10 ∷ [])) o book) (ap (λ l. s.output ++ l) e ∙ sym (append_assoc s.output front rest))
+          (line_served s.done s.output s.line s.answered s.one answer is);
+      wrote = Appends-trans before now after s.output front s.wrote wrote;
+    }
+
+    -- it is the last line, with no line feed
+    last_served : s.line ≢ [] → Served first taken (s.output ++ answer_line answer) book
+    last_served some = subst (λ (i : List ℕ). Served first i (s.output ++ answer_line answer) book) (sym s.parts)
+        (unended first known book s.done s.output s.line answer s.answered s.one some is)
+
+    pub ends_last : s.line ≢ [] → Appends now after (answer_line answer) → HasServed first before taken after book
+    ends_last some wrote = (s.output ++ answer_line answer, last_served some, Appends-trans before now after s.output (answer_line answer) s.wrote wrote)
+
+    pub breaks_last : s.line ≢ [] → (front rest : List ℕ) → answer_line answer ≡ front ++ rest → Appends now after front → HasBegun first before taken after book
+    breaks_last some front rest e wrote = record {
+      front = taken;
+      behind = [];
+      taken = s.output ++ front;
+      due = rest;
+      parts = sym (append-nil taken);
+      served = subst (λ (o : List ℕ). Served first taken o book) (ap (λ l. s.output ++ l) e ∙ sym (append_assoc s.output front rest)) (last_served some);
+      wrote = Appends-trans before now after s.output front s.wrote wrote;
+    }
+
+  -- the input ends behind a line feed
+  pub ends_here : s.line ≡ [] → HasServed first before taken now known
+  ends_here nothing =
+      let whole : taken ≡ s.done = s.parts ∙ ap (λ l. s.done ++ l) nothing ∙ append-nil s.done in
+      (s.output, subst (λ (i : List ℕ). Served first i s.output known) (sym whole) (ended first known s.done s.output s.answered), s.wrote)
+
+  -- nothing more is written
+  pub begun : (behind : List ℕ) → HasBegun first before (taken ++ behind) now known
+  begun behind = record {
+    front = s.done;
+    behind = s.line ++ behind;
+    taken = s.output;
+    due = [];
+    parts = ap (λ l. l ++ behind) s.parts ∙ append_assoc s.done s.line behind;
+    served = subst (λ (o : List ℕ). Served first s.done o known) (sym (append-nil s.output)) (ended first known s.done s.output s.answered);
+    wrote = s.wrote;
+  }
+
+-- what has begun for an input has begun for a longer one
+pub begun_more : (first : List Image) (before : Option (List ℕ)) (input : List ℕ) (after : Option (List ℕ)) (last : List Image) (behind : List ℕ)
+    → HasBegun first before input after last → HasBegun first before (input ++ behind) after last
+begun_more first before input after last behind b = record {
+  front = b.front;
+  behind = b.behind ++ behind;
+  taken = b.taken;
+  due = b.due;
+  parts = ap (λ l. l ++ behind) b.parts ∙ append_assoc b.front b.behind behind;
+  served = b.served;
+  wrote = b.wrote;
+}
+
+-- some bytes are an input of which this is known
+pub some_input : (a : Option (List ℕ)) → (input : List ℕ) × IsInput a input
+some_input None = ([], tt)
+some_input (Some xs) = (xs, refl)
+
+pub input_at_end : (a : Option (List ℕ)) → IsAtEnd a → IsInput a []
+input_at_end None e = tt
+input_at_end (Some xs) e = e
+
+pub input_with : (a b : Option (List ℕ)) (bs rest : List ℕ) → Consumes a b bs → IsInput b rest → IsInput a (bs ++ rest)
+input_with None b bs rest c i = tt
+input_with (Some xs) None bs rest c i = absurd c
+input_with (Some xs) (Some ys) bs rest c i = c ∙ ap (λ l. bs ++ l) i
+
+-- too many bytes come
+pub too_many : (a b : Option (List ℕ)) (taken : List ℕ) (left total : ℕ) → Consumes a b taken → length taken + left ≡ total → IfSome b (λ bytes. left < length bytes) → IfSome a (λ bytes. total < length bytes)
+too_many None b taken left total c e m = tt
+too_many (Some xs) None taken left total c e m = absurd c
+too_many (Some xs) (Some ys) taken left total c e m =
+    let whole : length xs ≡ length taken + length ys = ap length c ∙ length-append taken ys in
+    omega (arith, whole, e, m)
+
+pub too_many_come : (a b : Option (List ℕ)) (came : List ℕ) (left : ℕ) → Consumes a b came → left < length came → IfSome a (λ bytes. left < length bytes)
+too_many_come None b came left c m = tt
+too_many_come (Some xs) None came left c m = absurd c
+too_many_come (Some xs) (Some ys) came left c m =
+    let whole : length xs ≡ length came + length ys = ap length c ∙ length-append came ys in
+    omega (arith, whole, m)
+
+-- a line feed came
+pub line_feed : (first : List Image) (before : Option (List ℕ)) (taken : List ℕ) (now : Option (List ℕ)) (known : List Image) (coming : Coming) (s : Serving first before taken now known coming)
+    (byte : ℕ) → byte ≡ 10 → (answer : Answer) (book : List Image) → IsAnswerTo known s.line answer book → (after : Option (List ℕ)) (quit : Bool) (next : Coming)
+    → ((quit ≡ true) ↔ (answer ≡ Bye)) → Appends now after (answer_line answer) → Holds next []
+    → (quit ≡ true → (rest : List ℕ) → HasServed first before ((taken ++ byte ∷ []) ++ rest) after book) × (quit ≡ false → Serving first before (taken ++ byte ∷ []) after book next)
+line_feed first before taken now known coming s byte ten answer book is after quit next bye wrote holds = (
+  λ q rest. subst (λ (b : ℕ). HasServed first before ((taken ++ b ∷ []) ++ rest) after book) (sym ten) (ends first before taken now known coming s answer book is after (bye.0 q) wrote rest),
+  λ q. subst (λ (b : ℕ). Serving first before (taken ++ b ∷ []) after book next) (sym ten) (answers first before taken now known coming s answer book is after (iff_false bye q) wrote next holds),
+)
+
+pub line_breaks : (first : List Image) (before : Option (List ℕ)) (taken : List ℕ) (now : Option (List ℕ)) (known : List Image) (coming : Coming) (s : Serving first before taken now known coming)
+    (byte : ℕ) → byte ≡ 10 → (answer : Answer) (book : List Image) → IsAnswerTo known s.line answer book → (after : Option (List ℕ)) (front rest : List ℕ)
+    → answer_line answer ≡ front ++ rest → Appends now after front → HasBegun first before (taken ++ byte ∷ []) after book
+line_breaks first before taken now known coming s byte ten answer book is after front rest e wrote =
+    subst (λ (b : ℕ). HasBegun first before (taken ++ b ∷ []) after book) (sym ten) (breaks first before taken now known coming s answer book is after front rest e wrote)
+
+-- bytes of which n were taken
+parts_of : (taken came rest : List ℕ) (n : ℕ) → (taken ++ take n came) ++ (drop n came ++ rest) ≡ taken ++ (came ++ rest)
+parts_of taken came rest n =
+    append_assoc taken (take n came) (drop n came ++ rest) ∙ ap (λ l. taken ++ l) (sym (append_assoc (take n came) (drop n came) rest) ∙ ap (λ l. l ++ rest) (take-append-drop n came))
+
+one_of : (taken bytes : List ℕ) (i : ℕ) → i < length bytes → (taken ++ take i bytes) ++ get_or bytes i 0 ∷ [] ≡ taken ++ take (i + 1) bytes
+one_of taken bytes i h = append_assoc taken (take i bytes) (get_or bytes i 0 ∷ []) ∙ ap (λ l. taken ++ l) (sym (take_more bytes i 0 h))
+
+pub feeds_quit : (first : List Image) (before after : Option (List ℕ)) (last : List Image) (taken bytes : List ℕ) (i : ℕ) → i < length bytes
+    → ((rest : List ℕ) → HasServed first before (((taken ++ take i bytes) ++ get_or bytes i 0 ∷ []) ++ rest) after last)
+    → (rest : List ℕ) → HasServed first before ((taken ++ bytes) ++ rest) after last
+feeds_quit first before after last taken bytes i h f rest =
+    subst (λ (l : List ℕ). HasServed first before l after last)
+    (ap (λ l. l ++ (drop (i + 1) bytes ++ rest)) (one_of taken bytes i h) ∙ parts_of taken bytes rest (i + 1) ∙ sym (append_assoc taken bytes rest))
+    (f (drop (i + 1) bytes ++ rest))
+
+pub feeds_breaks : (first : List Image) (before after : Option (List ℕ)) (last : List Image) (taken bytes : List ℕ) (i : ℕ) → i < length bytes
+    → HasBegun first before ((taken ++ take i bytes) ++ get_or bytes i 0 ∷ []) after last → HasBegun first before (taken ++ bytes) after last
+feeds_breaks first before after last taken bytes i h b =
+    subst (λ (l : List ℕ). HasBegun first before l after last)
+    (ap (λ l. l ++ drop (i + 1) bytes) (one_of taken bytes i h) ∙ append_assoc taken (take (i + 1) bytes) (drop (i + 1) bytes) ∙ ap (λ l. taken ++ l) (take-append-drop (i + 1) bytes))
+    (begun_more first before _ after last (drop (i + 1) bytes) b)
+
+-- the service ends within the bytes that came
+pub quits_in : (first : List Image) (before after had has : Option (List ℕ)) (last : List Image) (taken came : List ℕ) (n : ℕ) → Consumes had has came
+    → ((rest : List ℕ) → HasServed first before ((taken ++ take n came) ++ rest) after last)
+    → (input : List ℕ) × IsInput had input × HasServed first before (taken ++ input) after last
+quits_in first before after had has last taken came n c f =
+    let i = some_input has in
+    (came ++ i.0, input_with had has came i.0 c i.1, subst (λ (l : List ℕ). HasServed first before l after last) (parts_of taken came i.0 n) (f (drop n came ++ i.0)))
+
+pub breaks_in : (first : List Image) (before after had has : Option (List ℕ)) (last : List Image) (taken came : List ℕ) (n : ℕ) → Consumes had has came
+    → HasBegun first before (taken ++ take n came) after last
+    → (input : List ℕ) × IsInput had input × HasBegun first before (taken ++ input) after last
+breaks_in first before after had has last taken came n c b =
+    let i = some_input has in
+    (came ++ i.0, input_with had has came i.0 c i.1, subst (λ (l : List ℕ). HasBegun first before l after last) (parts_of taken came i.0 n) (begun_more first before _ after last (drop n came ++ i.0) b))
+
+-- nothing more comes
+pub nothing_comes : (had has : Option (List ℕ)) → Consumes had has [] → IsAtEnd has → IsInput had []
+nothing_comes had has c e = input_with had has [] [] c (input_at_end has e)
+
+pub nothing_in : (Q : List ℕ → Type 0) (had has : Option (List ℕ)) (taken buf : List ℕ) (count : ℕ) → count ≡ 0 → Consumes had has (take count buf) → IsAtEnd has → Q taken
+    → (input : List ℕ) × IsInput had input × Q (taken ++ input)
+nothing_in Q had has taken buf count zero c e q =
+    ([], nothing_comes had has (subst (λ (n : ℕ). Consumes had has (take n buf)) zero c) e, subst Q (sym (append-nil taken)) q)
+
+-- all that came was taken
+pub quits_whole : (first : List Image) (before after had has : Option (List ℕ)) (last : List Image) (taken came : List ℕ) → Consumes had has came
+    → ((rest : List ℕ) → HasServed first before ((taken ++ came) ++ rest) after last)
+    → (input : List ℕ) × IsInput had input × HasServed first before (taken ++ input) after last
+quits_whole first before after had has last taken came c f =
+    let i = some_input has in
+    (came ++ i.0, input_with had has came i.0 c i.1, subst (λ (l : List ℕ). HasServed first before l after last) (append_assoc taken came i.0) (f i.0))
+
+pub breaks_whole : (first : List Image) (before after had has : Option (List ℕ)) (last : List Image) (taken came : List ℕ) → Consumes had has came
+    → HasBegun first before (taken ++ came) after last
+    → (input : List ℕ) × IsInput had input × HasBegun first before (taken ++ input) after last
+breaks_whole first before after had has last taken came c b =
+    let i = some_input has in
+    (came ++ i.0, input_with had has came i.0 c i.1, subst (λ (l : List ℕ). HasBegun first before l after last) (append_assoc taken came i.0) (begun_more first before _ after last i.0 b))
+
+pub begun_here : (first : List Image) (before : Option (List ℕ)) (taken : List ℕ) (now : Option (List ℕ)) (known : List Image) (coming : Coming) → Serving first before taken now known coming → HasBegun first before taken now known
+begun_here first before taken now known coming s = subst (λ (l : List ℕ). HasBegun first before l now known) (append-nil taken) (begun first before taken now known coming s [])

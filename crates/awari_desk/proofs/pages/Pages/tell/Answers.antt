@@ -1,0 +1,11 @@
+use Rattle.awari_desk.proofs.Grows.{admits, forks, merges}
+use Rattle.awari_desk.proofs.pages.Pages.tell.Goals as goal
+
+pub reader-requires : goal.reader-requires
+reader-requires c = admits
+
+pub tell-note-requires : goal.tell-note-requires
+tell-note-requires c = forks _ _
+
+pub learn-requires-clause-rule : goal.learn-requires-clause-rule
+learn-requires-clause-rule c = merges _ _ _ _

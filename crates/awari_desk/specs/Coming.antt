@@ -1,0 +1,47 @@
+-- How far the service has come. Private functions alone go by these: no public contract does.
+use Rattle.std.specs.Prelude.{◌≡◌, ◌⊎◌, ◌<◌, ◌+◌, ℕ, List, [], ◌∷◌, ◌++◌, length, Bool, true, false, Option, Some, None, Result, Ok, Err, MatchResult, ◌↔◌}
+use Rattle.std.specs.Io.KnownBytes.{Appends, Consumes}
+use Rattle.awari_table.specs.declared.images.Image.{Image}
+use Rattle.awari_desk.specs.declared.answers.Answer.{Answer}
+use Rattle.awari_desk.specs.declared.answers.Answer.TheVariants.{Bye}
+use Rattle.awari_desk.specs.declared.lines.Coming.{Coming}
+use Rattle.awari_desk.specs.declared.lines.TheConstants.{LONGEST_LINE}
+use Rattle.awari_desk.specs.Service.{Answered, IsOneLine, IsAnswerTo, answer_line, IsInput, HasServed, HasBegun}
+
+-- these are the bytes of the line that is coming in
+abbrev pub Holds : Coming → List ℕ → Type 0
+Holds c line = ((c.is_long ≡ true) × (LONGEST_LINE < length line)) ⊎ ((c.is_long ≡ false) × (line ≡ c.bytes.items))
+
+-- what was taken are lines that were answered, and the line that is coming in
+pub record Serving (first : List Image) (before : Option (List ℕ)) (taken : List ℕ) (now : Option (List ℕ)) (known : List Image) (coming : Coming) : Type 0 where
+  pub done : List ℕ
+  pub line : List ℕ
+  pub output : List ℕ
+  pub parts : taken ≡ done ++ line
+  pub answered : Answered first done output known
+  pub one : IsOneLine line
+  pub holds : Holds coming line
+  pub wrote : Appends before now output
+
+-- an answer to the line was written, or the front of one
+abbrev pub Responds : {E : Type 0} → List Image → List ℕ → Result Bool E → List Image → Option (List ℕ) → Option (List ℕ) → Type 0
+Responds known line result book before after = (answer : Answer) × IsAnswerTo known line answer book × MatchResult result
+    (λ bye. ((bye ≡ true) ↔ (answer ≡ Bye)) × Appends before after (answer_line answer))
+    (λ _. (front rest : List ℕ) × (answer_line answer ≡ front ++ rest) × Appends before after front)
+
+-- the service ended within these bytes, whatever comes behind them; it was refused; or it goes on
+abbrev pub Feeds : {E : Type 0} → List Image → Option (List ℕ) → List ℕ → Result Bool E → Option (List ℕ) → List Image → Coming → Type 0
+Feeds first before taken result after known coming = MatchResult result
+    (λ quit. (quit ≡ true → (rest : List ℕ) → HasServed first before (taken ++ rest) after known) × (quit ≡ false → Serving first before taken after known coming))
+    (λ _. HasBegun first before taken after known)
+
+-- all that was taken is answered, or it was refused
+abbrev pub Ends : {E X : Type 0} → List Image → Option (List ℕ) → List ℕ → Result X E → Option (List ℕ) → List Image → Type 0
+Ends first before taken result after known = MatchResult result (λ _. HasServed first before taken after known) (λ _. HasBegun first before taken after known)
+
+-- The service ended within what the reader had left; it goes on, with bytes taken; or it was refused.
+abbrev pub Moves : {E : Type 0} → List Image → Option (List ℕ) → List ℕ → ℕ → Option (List ℕ) → Option (List ℕ) → Result (Option ℕ) E → Option (List ℕ) → List Image → Coming → Type 0
+Moves first before taken left had has (Ok None) after known coming = (input : List ℕ) × IsInput had input × HasServed first before (taken ++ input) after known
+Moves first before taken left had has (Ok (Some fewer)) after known coming =
+    (bytes : List ℕ) × Consumes had has bytes × (length bytes + fewer ≡ left) × (fewer < left) × Serving first before (taken ++ bytes) after known coming
+Moves first before taken left had has (Err fault) after known coming = (input : List ℕ) × IsInput had input × HasBegun first before (taken ++ input) after known

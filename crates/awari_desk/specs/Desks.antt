@@ -1,0 +1,29 @@
+-- What readers are answered, and what a clause sees of a publisher.
+use Rattle.std.specs.Prelude.{◌≡◌, ◌≤◌, ◌<◌, ℕ, List, length, drop, sum, Result, Ok, Err}
+use Rattle.awari_table.specs.declared.images.Image.{Image}
+use Rattle.awari_table.specs.declared.images.Entry.{Entry}
+use Rattle.awari_table.specs.Images.{entry_of}
+use Rattle.awari_table.specs.Shelves.{IsShelf}
+use Rattle.awari_desk.specs.Books.{BeginsWith}
+use Rattle.awari_desk.specs.declared.faults.AskFault.{AskFault}
+use Rattle.awari_desk.specs.declared.faults.AskFault.TheVariants.{NotYet, Gone}
+use Rattle.awari_desk.specs.declared.pages.Pages.{Pages}
+
+-- A book is seen: a shelf that begins with the levels known before.
+pub record IsSeen (known book : List Image) : Type 0 where
+  pub shelf : IsShelf book
+  pub begins : BeginsWith book known
+
+-- The answer for a board is that of the one book which is then known. Where the publisher is gone, what is known stays.
+abbrev pub IsAnswer : List Image → List Image → List ℕ → Result Entry AskFault → Type 0
+IsAnswer known book board (Ok entry) = IsSeen known book × (sum board < length book) × (entry ≡ entry_of book board)
+IsAnswer known book board (Err (NotYet levels)) = IsSeen known book × (length book ≤ sum board) × (levels ≡ length book)
+IsAnswer known book board (Err Gone) = book ≡ known
+
+-- the levels that are published
+abbrev pub book_of : Pages → List Image
+book_of p = p.writer.desk.shown.value.0
+
+-- the sharing of a level was refused within a publication, which is left pending
+abbrev pub IsStuck : Pages → Type 0
+IsStuck p = 0 < length (drop p.writer.behind p.writer.log.items)

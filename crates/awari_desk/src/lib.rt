@@ -1,0 +1,26 @@
+//! Readers of one book of levels, which never wait, and its publisher.
+#![tactic(auto)]
+
+mod answers;
+mod books;
+mod desks;
+mod faults;
+mod laws;
+mod lines;
+mod looks;
+mod pages;
+mod publishers;
+mod readers;
+mod services;
+mod steps;
+
+pub use answers::Answer;
+pub use books::{Book, Growing};
+pub use desks::desk;
+pub use faults::{AskFault, DeskFault};
+pub use laws::services_only_grow;
+pub use lines::LONGEST_LINE;
+pub use pages::Pages;
+pub use publishers::Publisher;
+pub use readers::Reader;
+pub use services::{LONGEST_INPUT, ServeFault, serve};

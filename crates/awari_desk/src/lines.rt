@@ -1,0 +1,96 @@
+//! The lines that come in, and what they ask for.
+
+ghost use Rattle.std.specs.Prelude.{◌≡◌, ◌≢◌, ◌≤◌, ◌++◌, ◌∷◌, [], ℕ, List, length, true, false};
+ghost use Rattle.awari_desk.specs.Service.{asking, IsAnswerTo};
+
+use crate::answers::Answer;
+use crate::faults::AskFault;
+use crate::readers::Reader;
+use arrayvec::ArrayVec;
+use awari_board::Board;
+
+/// A line of more bytes, its line feed not counted, asks for nothing.
+pub const LONGEST_LINE: usize = 200;
+
+/// The line that is coming in: its bytes, or that they are too many.
+#[derive(Drop)]
+pub(crate) struct Coming {
+    bytes: ArrayVec<u8, LONGEST_LINE>,
+    is_long: bool,
+}
+
+impl Coming {
+    ghost use Rattle.awari_desk.specs.Coming.{Holds};
+
+    /// No byte of the line has come.
+    pub(crate) fn new() -> Self
+        ensures { Holds result [] }
+    {
+        Coming {
+            bytes: ArrayVec::new(),
+            is_long: false,
+        }
+    }
+
+    /// One more byte.
+    pub(crate) fn push(&mut self, byte: u8)
+        ensures { (line : List ℕ) → Holds self.old line → Holds self.new (line ++ byte ∷ []) }
+    {
+        if self.is_long {
+            return;
+        }
+        if self.bytes.is_full() {
+            self.is_long = true;
+        } else {
+            self.bytes.push(byte);
+        }
+    }
+
+    /// Whether no byte has come.
+    pub(crate) fn is_empty(&self) -> bool
+        ensures { (line : List ℕ) → Holds self.now line → (result ≡ true → line ≡ []) × (result ≡ false → line ≢ []) }
+    {
+        !self.is_long && self.bytes.is_empty()
+    }
+
+    /// The answer to the line. A reader is asked where the line asks for a board.
+    pub(crate) fn answer(&self, reader: &mut Reader) -> Answer
+        ensures { (line : List ℕ) → Holds self.now line → IsAnswerTo reader.old line result reader.new }
+    {
+        if self.is_long {
+            Answer::What
+        } else {
+            answer_to(self.bytes.as_slice(), reader)
+        }
+    }
+}
+
+/// The answer to the bytes of a line.
+fn answer_to(line: &[u8], reader: &mut Reader) -> Answer
+    requires { length line.now ≤ LONGEST_LINE }
+    ensures { IsAnswerTo reader.old line.now result reader.new }
+{
+    match line {
+        [b'a', b's', b'k', b' ', text @ ..] => ask(text, reader),
+        [b's', b'e', b'e', b'n'] => Answer::Seen {
+            levels: reader.seen(),
+        },
+        [b'q', b'u', b'i', b't'] => Answer::Bye,
+        _ => Answer::What,
+    }
+}
+
+/// The answer to a line that asks for the board that `text` spells.
+fn ask(text: &[u8], reader: &mut Reader) -> Answer
+    requires { length (asking ++ text.now) ≤ LONGEST_LINE }
+    ensures { IsAnswerTo reader.old (asking ++ text.now) result reader.new }
+{
+    match Board::parse(text) {
+        Err(fault) => Answer::Refused { fault },
+        Ok(board) => match reader.ask(&board) {
+            Ok(entry) => Answer::Found { entry },
+            Err(AskFault::NotYet { levels }) => Answer::NotYet { levels },
+            Err(AskFault::Gone) => Answer::Gone,
+        },
+    }
+}

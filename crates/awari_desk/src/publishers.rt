@@ -1,0 +1,47 @@
+//! The publisher of the book.
+
+use crate::faults::DeskFault;
+use crate::pages::Pages;
+use awari_table::Level;
+use std::alloc::Global;
+use std::sync::{Arc, Wait};
+
+/// The publisher of a book. It keeps the handle `R`, since its drop can wait for readers; what never
+/// waits are the calls of its `pages`.
+pub struct Publisher<R: Wait + Drop> {
+    pub pages: Pages,
+    pub(crate) rt: R,
+}
+
+impl<R: Wait + Drop> Publisher<R> {
+    ghost use Rattle.std.specs.Prelude.{◌≡◌, ◌≢◌, ◌↔◌, ◌∷◌, ◌++◌, [], length, Err, OnOk, OnErr};
+    ghost use Rattle.std.specs.Arc.{arc_value};
+    ghost use Rattle.awari_table.specs.Shelves.{Consistent};
+    ghost use Rattle.awari_desk.specs.Desks.{book_of, IsStuck};
+    ghost use Rattle.awari_desk.specs.declared.faults.DeskFault.TheVariants.{NotNext, Readers, Memory};
+
+    /// Puts a level on top of the book, all at once for every reader. Where it is the next, it must
+    /// be consistent over the book. A refusal leaves the book as it is. It can wait for readers.
+    pub fn publish(&mut self, level: Arc<Level, Global>) -> Result<(), DeskFault>
+        requires { (arc_value level).level ≡ length (book_of self.old.pages) → Consistent (book_of self.old.pages) (arc_value level) }
+        ensures published { OnOk result (book_of self.new.pages ≡ book_of self.old.pages ++ arc_value level ∷ []) }
+        ensures kept { OnErr result (book_of self.new.pages ≡ book_of self.old.pages) }
+        ensures not_next { (result ≡ Err NotNext) ↔ ((arc_value level).level ≢ length (book_of self.old.pages)) }
+        ensures other { result ≢ Err Readers }
+        ensures free { OnOk result (IsStuck self.new.pages → ⊥) }
+        ensures stuck { IsStuck self.old.pages → IsStuck self.new.pages }
+        ensures refused { IsStuck self.old.pages → (arc_value level).level ≡ length (book_of self.old.pages) → result ≡ Err Memory }
+    {
+        self.pages.publish(&self.rt, level)
+    }
+
+    /// Ends the desk. It can wait for readers.
+    pub fn close(self) {}
+}
+
+impl<R: Wait + Drop> Drop for Publisher<R> {
+    fn drop(self) {
+        let Self { pages, rt } = self;
+        pages.close(&rt);
+    }
+}

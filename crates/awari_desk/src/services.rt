@@ -1,0 +1,251 @@
+//! The service: lines in, and an answer to each out.
+
+ghost use Rattle.std.specs.Prelude.{◌≡◌, ◌≤◌, ◌<◌, ◌+◌, ◌++◌, ◌∷◌, [], ℕ, List, Option, length, true, false, Err, IfSome, OnOk, OnErr};
+ghost use Rattle.std.specs.Io.KnownBytes.{Appends};
+ghost use Rattle.awari_table.specs.Counts.{inner_of, faults_of, Grew};
+ghost use Rattle.awari_table.specs.declared.images.Image.{Image};
+ghost use Rattle.awari_desk.specs.Coming.{Holds, Serving, Responds, Feeds, Ends, Moves};
+ghost use Rattle.awari_desk.specs.Service.{IsInput, HasServed, HasBegun};
+ghost use Rattle.awari_desk.specs.declared.services.ServeFault.TheVariants as serve_fault;
+
+use crate::answers::Answer;
+use crate::lines::Coming;
+use crate::readers::Reader;
+use awari_table::Counted;
+use std::io::{Read, Write};
+use thiserror::Error;
+
+/// No more bytes than this are taken.
+pub const LONGEST_INPUT: u32 = 100_000_000;
+
+/// How many bytes the reader is asked for at once.
+const BUFFER_LEN: usize = 4096;
+
+/// Why a service ends early.
+#[derive(Clone, Copy, Debug, PartialEq, Eq, Error)]
+pub enum ServeFault {
+    /// 90: the reader answered a fault.
+    #[error("the requests could not be read")]
+    Read,
+    /// 91: more than `LONGEST_INPUT` bytes came.
+    #[error("the requests are too long")]
+    TooLong,
+    /// 92: the writer answered a fault, or took no byte.
+    #[error("the answers could not be written")]
+    Write,
+}
+
+impl ServeFault {
+    ghost use Rattle.awari_desk.specs.Faults.{serve_fault_number};
+
+    /// The number of this refusal, 90 to 92.
+    pub fn number(self) -> u8
+        ensures { result ≡ serve_fault_number self }
+    {
+        match self {
+            ServeFault::Read => 90,
+            ServeFault::TooLong => 91,
+            ServeFault::Write => 92,
+        }
+    }
+}
+
+/// Writes the bytes. Where the writer refuses, it took a front of them.
+fn put<W: Write>(output: &mut Counted<W>, bytes: &[u8]) -> Result<(), ServeFault>
+    ensures wrote { OnOk result (Appends (W.contents (inner_of output.old)) (W.contents (inner_of output.new)) bytes.now) }
+    ensures partly { OnErr result ((front rest : List ℕ) × (bytes.now ≡ front ++ rest)
+        × Appends (W.contents (inner_of output.old)) (W.contents (inner_of output.new)) front) }
+    ensures clean { OnOk result (faults_of output.new ≡ faults_of output.old) }
+    ensures fault { OnErr result ((result ≡ Err serve_fault.Write) × Grew (faults_of output.old) (faults_of output.new)) }
+{
+    let mut rest = bytes;
+    while !rest.is_empty() {
+        match output.write(rest) {
+            Ok(0) => return Err(ServeFault::Write),
+            Ok(count) => rest = &rest[count..],
+            Err(_) => return Err(ServeFault::Write),
+        }
+    }
+    Ok(())
+}
+
+/// Writes the bytes and has them passed on. Where the writer refuses, it took a front of them.
+fn send<W: Write>(output: &mut Counted<W>, bytes: &[u8]) -> Result<(), ServeFault>
+    ensures wrote { OnOk result (Appends (W.contents (inner_of output.old)) (W.contents (inner_of output.new)) bytes.now) }
+    ensures partly { OnErr result ((front rest : List ℕ) × (bytes.now ≡ front ++ rest)
+        × Appends (W.contents (inner_of output.old)) (W.contents (inner_of output.new)) front) }
+    ensures clean { OnOk result (faults_of output.new ≡ faults_of output.old) }
+    ensures fault { OnErr result ((result ≡ Err serve_fault.Write) × Grew (faults_of output.old) (faults_of output.new)) }
+{
+    if let Err(fault) = put(output, bytes) {
+        return Err(fault);
+    }
+    match output.flush() {
+        Ok(()) => Ok(()),
+        Err(_) => Err(ServeFault::Write),
+    }
+}
+
+/// Answers the line that has come in, and says whether it ends the service.
+fn respond<W: Write>(
+    reader: &mut Reader,
+    coming: &Coming,
+    output: &mut Counted<W>,
+) -> Result<bool, ServeFault>
+    ensures responds { (line : List ℕ) → Holds coming.now line
+        → Responds reader.old line result reader.new (W.contents (inner_of output.old)) (W.contents (inner_of output.new)) }
+    ensures clean { OnOk result (faults_of output.new ≡ faults_of output.old) }
+    ensures fault { OnErr result ((result ≡ Err serve_fault.Write) × Grew (faults_of output.old) (faults_of output.new)) }
+{
+    let answer = coming.answer(reader);
+    match send(output, answer.line().as_slice()) {
+        Ok(()) => Ok(matches!(answer, Answer::Bye)),
+        Err(fault) => Err(fault),
+    }
+}
+
+/// Takes one byte, and says whether it ends the service.
+fn take_byte<W: Write>(
+    reader: &mut Reader,
+    coming: &mut Coming,
+    byte: u8,
+    output: &mut Counted<W>,
+) -> Result<bool, ServeFault>
+    ensures feeds { (first : List Image) (before : Option (List ℕ)) (taken : List ℕ)
+        → Serving first before taken (W.contents (inner_of output.old)) reader.old coming.old
+        → Feeds first before (taken ++ byte ∷ []) result (W.contents (inner_of output.new)) reader.new coming.new }
+    ensures clean { OnOk result (faults_of output.new ≡ faults_of output.old) }
+    ensures fault { OnErr result ((result ≡ Err serve_fault.Write) × Grew (faults_of output.old) (faults_of output.new)) }
+{
+    if byte != b'\n' {
+        coming.push(byte);
+        return Ok(false);
+    }
+    match respond(reader, coming, output) {
+        Ok(quit) => {
+            *coming = Coming::new();
+            Ok(quit)
+        }
+        Err(fault) => Err(fault),
+    }
+}
+
+/// Takes bytes until one ends the service, and says whether one did.
+fn feed<W: Write>(
+    reader: &mut Reader,
+    coming: &mut Coming,
+    bytes: &[u8],
+    output: &mut Counted<W>,
+) -> Result<bool, ServeFault>
+    ensures feeds { (first : List Image) (before : Option (List ℕ)) (taken : List ℕ)
+        → Serving first before taken (W.contents (inner_of output.old)) reader.old coming.old
+        → Feeds first before (taken ++ bytes.now) result (W.contents (inner_of output.new)) reader.new coming.new }
+    ensures clean { OnOk result (faults_of output.new ≡ faults_of output.old) }
+    ensures fault { OnErr result ((result ≡ Err serve_fault.Write) × Grew (faults_of output.old) (faults_of output.new)) }
+{
+    for byte in bytes {
+        match take_byte(reader, coming, *byte, output) {
+            Ok(false) => {}
+            Ok(true) => return Ok(true),
+            Err(fault) => return Err(fault),
+        }
+    }
+    Ok(false)
+}
+
+/// Answers a last line that has no line feed, where there is one.
+fn finish<W: Write>(
+    reader: &mut Reader,
+    coming: &Coming,
+    output: &mut Counted<W>,
+) -> Result<(), ServeFault>
+    ensures ends { (first : List Image) (before : Option (List ℕ)) (taken : List ℕ)
+        → Serving first before taken (W.contents (inner_of output.old)) reader.old coming.now
+        → Ends first before taken result (W.contents (inner_of output.new)) reader.new }
+    ensures clean { OnOk result (faults_of output.new ≡ faults_of output.old) }
+    ensures fault { OnErr result ((result ≡ Err serve_fault.Write) × Grew (faults_of output.old) (faults_of output.new)) }
+{
+    if coming.is_empty() {
+        return Ok(());
+    }
+    match respond(reader, coming, output) {
+        Ok(_) => Ok(()),
+        Err(fault) => Err(fault),
+    }
+}
+
+/// Asks the reader once for bytes, of which `left` more may come, and answers each line that ends
+/// in them. It says how many more may come then, or none where the service has ended.
+fn take_some<R: Read, W: Write>(
+    reader: &mut Reader,
+    coming: &mut Coming,
+    left: u32,
+    input: &mut Counted<R>,
+    output: &mut Counted<W>,
+) -> Result<Option<u32>, ServeFault>
+    ensures moves { (first : List Image) (before : Option (List ℕ)) (taken : List ℕ)
+        → Serving first before taken (W.contents (inner_of output.old)) reader.old coming.old
+        → Moves first before taken left (R.remaining (inner_of input.old)) (R.remaining (inner_of input.new)) result (W.contents (inner_of output.new)) reader.new coming.new }
+    ensures clean { OnOk result ((faults_of input.new ≡ faults_of input.old) × (faults_of output.new ≡ faults_of output.old)) }
+    ensures read { result ≡ Err serve_fault.Read → Grew (faults_of input.old) (faults_of input.new) }
+    ensures write { result ≡ Err serve_fault.Write → Grew (faults_of output.old) (faults_of output.new) }
+    ensures long { result ≡ Err serve_fault.TooLong → IfSome (R.remaining (inner_of input.old)) (λ bytes. left < length bytes) }
+{
+    let mut buffer = [0u8; BUFFER_LEN];
+    let count = match input.read(&mut buffer) {
+        Ok(count) => count,
+        Err(_) => return Err(ServeFault::Read),
+    };
+    if count == 0 {
+        return match finish(reader, coming, output) {
+            Ok(()) => Ok(None),
+            Err(fault) => Err(fault),
+        };
+    }
+    let came = &buffer[..count];
+    if count <= left as usize {
+        return match feed(reader, coming, came, output) {
+            Ok(true) => Ok(None),
+            Ok(false) => Ok(Some(left - count as u32)),
+            Err(fault) => Err(fault),
+        };
+    }
+    match feed(reader, coming, &came[..left as usize], output) {
+        Ok(true) => Ok(None),
+        Ok(false) => Err(ServeFault::TooLong),
+        Err(fault) => Err(fault),
+    }
+}
+
+/// Answers the lines of the input, in order, until one says `quit` or the input ends. Each line whose
+/// end has come is answered before the reader is called again. It never waits for the publisher,
+/// and takes no memory.
+pub fn serve<R: Read, W: Write>(
+    reader: &mut Reader,
+    input: &mut Counted<R>,
+    output: &mut Counted<W>,
+) -> Result<(), ServeFault>
+    // What was written is the output for the input, where that is known.
+    ensures served { OnOk result ((bytes : List ℕ) × IsInput (R.remaining (inner_of input.old)) bytes
+        × HasServed reader.old (W.contents (inner_of output.old)) bytes (W.contents (inner_of output.new)) reader.new) }
+
+    // Where it is refused, what was written is the front of an output for a front of the input.
+    ensures begun { OnErr result ((bytes : List ℕ) × IsInput (R.remaining (inner_of input.old)) bytes
+        × HasBegun reader.old (W.contents (inner_of output.old)) bytes (W.contents (inner_of output.new)) reader.new) }
+
+    // 90 comes only where the reader gave a fault, 91 only where too many bytes came, and 92 only
+    // where the writer gave a fault or took no byte.
+    ensures read { result ≡ Err serve_fault.Read → Grew (faults_of input.old) (faults_of input.new) }
+    ensures too_long { result ≡ Err serve_fault.TooLong → IfSome (R.remaining (inner_of input.old)) (λ bytes. LONGEST_INPUT < length bytes) }
+    ensures write { result ≡ Err serve_fault.Write → Grew (faults_of output.old) (faults_of output.new) }
+{
+    let mut coming = Coming::new();
+    let mut left = LONGEST_INPUT;
+    'input: loop {
+        match take_some(reader, &mut coming, left, input, output) {
+            Ok(Some(fewer)) => left = fewer,
+            Ok(None) => return Ok(()),
+            Err(fault) => return Err(fault),
+        }
+    }
+}
