@@ -1,6 +1,6 @@
 -- A step that only adds to the book keeps the rule.
 use Rattle.std.proofs.Common.{◌≡◌, ℕ, ◌≢◌, ◌<◌, List, [], ◌∷◌, ◌++◌, length, set, sym, ap, ◌∙◌, refl, subst, ⊎_elim, append_assoc, append-nil, Bool, true, false, IsTrue, ◌↔◌, fold, arith}
-use mathlib.Core.Option.{some, some-ne-none}
+use mathlib.Core.Option.{some}
 use lib.ListN.{get_elem?}
 use Rattle.crossbeam_utils.specs.Register.{Admits, TurnsAt, Forks, Merges}
 use Rattle.atomic_table.proofs.Lists.{at_set, at_snoc}

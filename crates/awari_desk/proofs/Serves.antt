@@ -1,5 +1,5 @@
 -- Each step of the service.
-use Rattle.std.proofs.Common.{◌≡◌, ◌≢◌, ◌⊎◌, ◌<◌, ℕ, List, [], ◌∷◌, ◌++◌, length, sym, ap, ◌∙◌, refl, subst, append_assoc, append-nil, Option, Some, None, All, ◌+◌, take, drop, get_or, length-append, take-append-drop, arith, Bool, true, false, ◌↔◌}
+use Rattle.std.proofs.Common.{◌≡◌, ◌≢◌, ◌<◌, ℕ, List, [], ◌∷◌, ◌++◌, length, sym, ap, ◌∙◌, refl, subst, append_assoc, append-nil, Option, Some, None, ◌+◌, take, drop, get_or, length-append, take-append-drop, arith, Bool, true, false, ◌↔◌}
 use Rattle.std.specs.Prelude.{IfSome}
 use Rattle.std.proofs.lemmas.List.{take_more}
 use Rattle.std.proofs.lemmas.Bool.{iff_false, false≢true}

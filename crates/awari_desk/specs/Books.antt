@@ -1,5 +1,5 @@
 -- Books: lists of levels that only grow.
-use Rattle.std.specs.Prelude.{◌≡◌, ℕ, List, ◌++◌}
+use Rattle.std.specs.Prelude.{◌≡◌, ◌⊎◌, ℕ, List, ◌++◌, length, nat_lt, if◌then◌else◌}
 use mathlib.Core.Option.{some}
 use lib.ListN.{get_elem?}
 use Rattle.awari_table.specs.declared.images.Image.{Image}
@@ -15,3 +15,11 @@ BeginsWithAll book views = (seat : ℕ) (known : List Image) → get_elem? views
 -- the book is seen: it begins with what was known, and is known from now on
 abbrev pub Sees : List Image → List Image → List Image → Type 0
 Sees known book now = BeginsWith book known × (now ≡ book)
+
+-- two books of which one begins with the other
+abbrev pub AreOfOneBook : List Image → List Image → Type 0
+AreOfOneBook book other = BeginsWith book other ⊎ BeginsWith other book
+
+-- the second book where it has more levels, and else the first
+abbrev pub longer_of : List Image → List Image → List Image
+longer_of book other = if nat_lt (length book) (length other) then other else book

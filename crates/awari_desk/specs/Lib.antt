@@ -1,5 +1,7 @@
 pub mod Books
-pub mod Faults
+pub mod AskFault
+pub mod DeskFault
+pub mod ServeFault
 pub mod Desks
 pub mod Service
 pub mod Coming

@@ -4,21 +4,14 @@ use Rattle.std.specs.Fmt.{decimal}
 use Rattle.std.specs.Io.KnownBytes.{Appends}
 use Rattle.awari_board.specs.Rules.{IsBoard}
 use Rattle.awari_board.specs.Text.{text_of}
-use Rattle.awari_board.specs.BoardFault.{IsFaulty}
-use Rattle.awari_board.specs.declared.text.BoardFault.{BoardFault}
-use Rattle.awari_board.specs.declared.text.BoardFault.TheVariants.{Shape, Number, TooMany}
+use Rattle.awari_board.specs.BoardFault.{IsFaulty, fault_text as board_fault_text}
 use Rattle.awari_table.specs.declared.images.Image.{Image}
 use Rattle.awari_table.specs.Images.{entry_of}
-use Rattle.awari_table.specs.Spelling.{plan_text, entry_line}
+use Rattle.awari_table.specs.Spelling.{entry_line}
 use Rattle.awari_desk.specs.Desks.{IsSeen}
 use Rattle.awari_desk.specs.declared.answers.Answer.{Answer}
 use Rattle.awari_desk.specs.declared.answers.Answer.TheVariants.{Found, NotYet, Gone, Refused, Seen, Bye, What}
 use Rattle.awari_desk.specs.declared.lines.TheConstants.{LONGEST_LINE}
-
-abbrev pub board_fault_text : BoardFault → List ℕ
-board_fault_text Shape = codes "1 Shape"
-board_fault_text Number = codes "2 Number"
-board_fault_text TooMany = codes "3 TooMany"
 
 -- the line of an answer, with its line feed
 abbrev pub answer_line : Answer → List ℕ

@@ -1,10 +1,11 @@
 //! What a line of the service is answered by.
 
-ghost use Rattle.std.specs.Prelude.{◌≡◌, ◌≤◌, ◌+◌, ◌++◌, ◌∷◌, [], length};
+ghost use Rattle.std.specs.Prelude.{◌≡◌, ◌≤◌, ◌+◌, ◌++◌, ◌∷◌, [], codes, length};
 ghost use Rattle.std.specs.Fmt.{decimal, signed_decimal};
 ghost use Rattle.arrayvec.specs.ArrayVec.{array_vec_len};
+ghost use Rattle.awari_board.specs.BoardFault.{fault_text};
 ghost use Rattle.awari_table.specs.Spelling.{plan_text, entry_line};
-ghost use Rattle.awari_desk.specs.Service.{answer_line, board_fault_text};
+ghost use Rattle.awari_desk.specs.Service.{answer_line};
 
 use arrayvec::ArrayVec;
 use awari_board::BoardFault;
@@ -121,6 +122,16 @@ fn line_of_text(text: &[u8]) -> AnswerLine
     line
 }
 
+fn refused_line_of(fault: BoardFault) -> AnswerLine
+    ensures { result.items ≡ codes "refused " ++ fault_text fault ++ 10 ∷ [] }
+{
+    match fault {
+        BoardFault::Shape => line_of_text(b"refused 1 Shape\n"),
+        BoardFault::Number => line_of_text(b"refused 2 Number\n"),
+        BoardFault::TooMany => line_of_text(b"refused 3 TooMany\n"),
+    }
+}
+
 impl Answer {
     /// The line, with its line feed.
     pub(crate) fn line(&self) -> AnswerLine
@@ -130,15 +141,7 @@ impl Answer {
             Answer::Found { entry } => entry_line_of(entry),
             Answer::NotYet { levels } => numbered_line_of(b"not yet ", levels),
             Answer::Gone => line_of_text(b"gone\n"),
-            Answer::Refused {
-                fault: BoardFault::Shape,
-            } => line_of_text(b"refused 1 Shape\n"),
-            Answer::Refused {
-                fault: BoardFault::Number,
-            } => line_of_text(b"refused 2 Number\n"),
-            Answer::Refused {
-                fault: BoardFault::TooMany,
-            } => line_of_text(b"refused 3 TooMany\n"),
+            Answer::Refused { fault } => refused_line_of(fault),
             Answer::Seen { levels } => numbered_line_of(b"seen ", levels),
             Answer::Bye => line_of_text(b"bye\n"),
             Answer::What => line_of_text(b"what\n"),

@@ -1,37 +1,50 @@
-//! A desk: a book with no level at first, and room for its readers.
+//! A desk: a book with no level at first, and its readers.
 
-ghost use Rattle.std.specs.Prelude.{◌≡◌, ◌<◌, ◌↔◌, ◌⊎◌, [], IfOk, Err, ◌≢◌};
+ghost use Rattle.std.specs.Prelude.{◌≡◌, ◌<◌, ◌↔◌, ◌⊎◌, ◌≢◌, [], Err, IfOk, replicate};
 ghost use Rattle.awari_desk.specs.Desks.{book_of, IsStuck};
-ghost use Rattle.awari_desk.specs.declared.faults.DeskFault.TheVariants.{Readers, NotNext};
+ghost use Rattle.awari_desk.specs.declared.faults.DeskFault.TheVariants.{NotNext, Readers};
 
 use crate::books::{Book, BookWriter};
 use crate::faults::DeskFault;
-use crate::pages::Pages;
+use crate::pages::{Pages, new_readers};
 use crate::publishers::Publisher;
+use crate::readers::Reader;
 use awari_table::Shelf;
 use std::alloc::Global;
 use std::sync::Wait;
 
-/// The publisher of a book that has no level yet, with room for that many readers at a time, 1 to 8.
-pub fn desk<R: Wait + Drop>(rt: R, alloc: Global, readers: u8) -> Result<Publisher<R>, DeskFault>
-    ensures book { IfOk result (λ publisher. book_of publisher.pages ≡ []) }
-    ensures free { IfOk result (λ publisher. IsStuck publisher.pages → ⊥) }
-    ensures readers { (result ≡ Err Readers) ↔ ((readers ≡ 0) ⊎ (8 < readers)) }
+/// The most readers that a desk may have.
+pub const MOST_READERS: u8 = 8;
+
+/// The publisher of a book that has no level yet, and that many readers of it, which have seen
+/// nothing. There are as many places again for what the publisher tells. Refused are a number of
+/// readers that is not 1 to 8, as 72 `Readers`, and want of memory, as 73 `Memory`.
+pub fn desk<R: Wait + Drop>(
+    rt: R,
+    alloc: Global,
+    readers: u8,
+) -> Result<(Publisher<R>, Vec<Reader>), DeskFault>
+    ensures book { IfOk result (λ made. book_of made.0.pages ≡ []) }
+    ensures free { IfOk result (λ made. IsStuck made.0.pages → ⊥) }
+    ensures unseen { IfOk result (λ made. made.1.items ≡ replicate readers []) }
+    ensures readers { (result ≡ Err Readers) ↔ ((readers ≡ 0) ⊎ (MOST_READERS < readers)) }
     ensures other { result ≢ Err NotNext }
 {
-    if readers == 0 || readers > 8 {
+    if readers == 0 || readers > MOST_READERS {
         return Err(DeskFault::Readers);
     }
-    match BookWriter::new(
-        alloc,
-        Book(Shelf::empty()),
-        Book(Shelf::empty()),
-        readers as usize,
-    ) {
-        Ok(writer) => Ok(Publisher {
-            pages: Pages { writer },
-            rt,
-        }),
+    let places = 2 * usize::from(readers);
+    let first = Book(Shelf::empty());
+    let second = Book(Shelf::empty());
+    let Ok(writer) = BookWriter::new(alloc, first, second, places) else {
+        return Err(DeskFault::Memory);
+    };
+    let publisher = Publisher {
+        pages: Pages { writer },
+        rt,
+    };
+    match new_readers(alloc, &publisher.pages, readers) {
+        Ok(readers) => Ok((publisher, readers)),
         Err(_) => Err(DeskFault::Memory),
     }
 }

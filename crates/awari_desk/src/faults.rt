@@ -1,29 +1,30 @@
 //! Why a call of a desk is refused.
 
 ghost use Rattle.std.specs.Prelude.{◌≡◌};
+ghost use Rattle.awari_desk.specs.AskFault.{number_of as ask_number_of};
+ghost use Rattle.awari_desk.specs.DeskFault.{number_of as desk_number_of};
+ghost use Rattle.awari_desk.specs.ServeFault.{number_of as serve_number_of};
 
+use std::fmt;
 use thiserror::Error;
 
-/// Why a desk is not made, a level not published, or a reader not told.
+/// Why a desk is not made, a level not published, or nobody told. Printed, it is its number and its
+/// name.
 #[derive(Clone, Copy, Debug, PartialEq, Eq, Error)]
 pub enum DeskFault {
     /// 71: the level is not the next of the book.
-    #[error("the level is not the book's next")]
     NotNext,
-    /// 72: the desk has no place for so many readers, or for one more.
-    #[error("there is no place for that many readers")]
+    /// 72: there is no place for so many readers, or for one more.
     Readers,
-    /// 73: there was no room, or the sharing of a level was refused, in this call or an earlier one.
-    #[error("out of memory")]
+    /// 73: a growth or the sharing of a level was refused, in this call or, within a publication, in
+    /// an earlier one.
     Memory,
 }
 
 impl DeskFault {
-    ghost use Rattle.awari_desk.specs.Faults.{desk_fault_number};
-
     /// The number of this refusal, 71 to 73.
     pub fn number(self) -> u8
-        ensures { result ≡ desk_fault_number self }
+        ensures { result ≡ desk_number_of self }
     {
         match self {
             DeskFault::NotNext => 71,
@@ -33,27 +34,94 @@ impl DeskFault {
     }
 }
 
-/// Why a board's entry is not answered.
+impl fmt::Display for DeskFault {
+    ghost use Rattle.std.specs.Prelude.{Some};
+    ghost use Rattle.awari_desk.specs.DeskFault.{fault_text};
+
+    ghost output = { λ fault. Some (fault_text fault) };
+
+    fn fmt<W: fmt::Write>(&self, f: &mut fmt::Formatter<W>) -> fmt::Result {
+        let number = self.number();
+        match *self {
+            DeskFault::NotNext => write!(f, "{number} NotNext"),
+            DeskFault::Readers => write!(f, "{number} Readers"),
+            DeskFault::Memory => write!(f, "{number} Memory"),
+        }
+    }
+}
+
+/// Why a board's entry is not answered. Printed, it is its number, its name, and its field with its
+/// name.
 #[derive(Clone, Copy, Debug, PartialEq, Eq, Error)]
 pub enum AskFault {
     /// 74: the book that was seen has only the levels below `levels`.
-    #[error("only the levels below {levels} are published")]
     NotYet { levels: u8 },
     /// 75: the publisher is gone.
-    #[error("the publisher is gone")]
     Gone,
 }
 
 impl AskFault {
-    ghost use Rattle.awari_desk.specs.Faults.{ask_fault_number};
-
     /// The number of this refusal, 74 or 75.
     pub fn number(self) -> u8
-        ensures { result ≡ ask_fault_number self }
+        ensures { result ≡ ask_number_of self }
     {
         match self {
             AskFault::NotYet { .. } => 74,
             AskFault::Gone => 75,
+        }
+    }
+}
+
+impl fmt::Display for AskFault {
+    ghost use Rattle.std.specs.Prelude.{Some};
+    ghost use Rattle.awari_desk.specs.AskFault.{fault_text};
+
+    ghost output = { λ fault. Some (fault_text fault) };
+
+    fn fmt<W: fmt::Write>(&self, f: &mut fmt::Formatter<W>) -> fmt::Result {
+        match *self {
+            AskFault::NotYet { levels } => write!(f, "74 NotYet levels {levels}"),
+            AskFault::Gone => write!(f, "75 Gone"),
+        }
+    }
+}
+
+/// Why a service ends early. Printed, it is its number and its name.
+#[derive(Clone, Copy, Debug, PartialEq, Eq, Error)]
+pub enum ServeFault {
+    /// 90: the reader answered a fault.
+    Read,
+    /// 91: more than `LONGEST_INPUT` bytes came.
+    TooLong,
+    /// 92: the writer answered a fault, or took no byte.
+    Write,
+}
+
+impl ServeFault {
+    /// The number of this refusal, 90 to 92.
+    pub fn number(self) -> u8
+        ensures { result ≡ serve_number_of self }
+    {
+        match self {
+            ServeFault::Read => 90,
+            ServeFault::TooLong => 91,
+            ServeFault::Write => 92,
+        }
+    }
+}
+
+impl fmt::Display for ServeFault {
+    ghost use Rattle.std.specs.Prelude.{Some};
+    ghost use Rattle.awari_desk.specs.ServeFault.{fault_text};
+
+    ghost output = { λ fault. Some (fault_text fault) };
+
+    fn fmt<W: fmt::Write>(&self, f: &mut fmt::Formatter<W>) -> fmt::Result {
+        let number = self.number();
+        match *self {
+            ServeFault::Read => write!(f, "{number} Read"),
+            ServeFault::TooLong => write!(f, "{number} TooLong"),
+            ServeFault::Write => write!(f, "{number} Write"),
         }
     }
 }

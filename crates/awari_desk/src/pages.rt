@@ -1,15 +1,15 @@
 //! What is published, and what tells of it.
 
-ghost use Rattle.std.specs.Prelude.{◌≡◌};
+ghost use Rattle.std.specs.Prelude.{◌≡◌, [], replicate, IfOk};
 ghost use Rattle.left_right.specs.Sides.{view};
 
 use crate::books::{BookWriter, Telling};
 use crate::faults::DeskFault;
-use crate::readers::Reader;
-use crate::steps::add;
+use crate::publishing::add;
+use crate::readers::{Reader, Told};
 use awari_table::{Level, Shelf};
 use core::mem::replace_with;
-use std::alloc::Global;
+use std::alloc::{AllocError, Global};
 use std::sync::{Arc, Wait};
 
 /// What a publisher publishes. It is not `Drop`, and is given up with its publisher.
@@ -25,17 +25,17 @@ impl Pages {
     ghost use Rattle.awari_desk.specs.Desks.{book_of, IsStuck};
     ghost use Rattle.awari_desk.specs.declared.faults.DeskFault.TheVariants.{NotNext, Readers, Memory};
 
-    /// What readers take now.
+    /// What readers see now. It never waits, and takes no memory.
     pub fn book(&self) -> &Shelf
         ensures { result.now ≡ book_of self.now }
     {
         &self.writer.published().0
     }
 
-    /// A reader that is told of the whole book. It is refused as 72 where all places are in use. It
-    /// takes no memory.
-    pub fn tell(&mut self) -> Result<Reader, DeskFault>
-        ensures told { IfOk result (λ reader. reader ≡ book_of self.old) }
+    /// Tells of the whole book, for a reader to learn. It is refused as 72 `Readers` where no place is
+    /// free. It never waits, and takes no memory.
+    pub fn tell(&mut self) -> Result<Told, DeskFault>
+        ensures told { IfOk result (λ told. told ≡ book_of self.old) }
         ensures readers { IfErr result (λ fault. fault ≡ Readers) }
         ensures book { book_of self.new ≡ book_of self.old }
         ensures stuck { IsStuck self.new ↔ IsStuck self.old }
@@ -46,7 +46,9 @@ impl Pages {
         };
         let note = self.writer.tell::<Telling>();
         seat.learn::<Telling>(note);
-        Ok(Reader { seat, levels })
+        Ok(Told {
+            reader: Reader { seat, levels },
+        })
     }
 
     /// As `Publisher::publish`.
@@ -69,8 +71,25 @@ impl Pages {
         })
     }
 
+    /// As `Publisher::close`.
     pub(crate) fn close<R: Wait>(self, rt: &R) {
         let Self { writer } = self;
         drop(writer.take(rt));
     }
+}
+
+/// So many readers, of which none has seen anything.
+pub(crate) fn new_readers(
+    alloc: Global,
+    pages: &Pages,
+    count: u8,
+) -> Result<Vec<Reader>, AllocError>
+    ensures { IfOk result (λ readers. readers.items ≡ replicate count []) }
+{
+    let mut readers = Vec::with_capacity(alloc, usize::from(count))?;
+    for _reader in 0..count {
+        let seat = pages.writer.factory().reader()?;
+        readers.push(Reader { seat, levels: 0 })?;
+    }
+    Ok(readers)
 }

@@ -1,7 +1,6 @@
-//! A reader of the book.
+//! The readers of a book, and what they are told.
 
-ghost use Rattle.std.specs.Prelude.{◌≡◌, length};
-ghost use Rattle.left_right.specs.Sides.{view};
+ghost use Rattle.std.specs.Prelude.{◌≡◌, length, max};
 
 use crate::books::Seat;
 use crate::faults::AskFault;
@@ -31,7 +30,24 @@ impl Model for Reader {
     ghost invariant = { λ r. r.levels ≡ length (known_at r.seat.place) };
 }
 
+/// What a publisher told: all levels of its book as it was then. A contract sees it as those levels.
+/// It has a place of the desk until it is learnt or dropped.
+#[derive(Drop)]
+pub struct Told {
+    pub(crate) reader: Reader,
+}
+
+impl Model for Told {
+    ghost use Rattle.std.specs.Prelude.{List};
+    ghost use Rattle.awari_table.specs.declared.images.Image.{Image};
+
+    ghost Value = { List Image };
+
+    ghost view = { λ told. told.reader };
+}
+
 impl Reader {
+    ghost use Rattle.awari_desk.specs.Books.{AreOfOneBook, BeginsWith, longer_of};
     ghost use Rattle.awari_desk.specs.Desks.{IsAnswer};
 
     /// How many levels the longest book has that this reader has seen or was told of.
@@ -42,21 +58,36 @@ impl Reader {
     }
 
     /// What the book that is published now says of the board. That book begins with all that this
-    /// reader knows, and is what it knows then. It never waits, and takes no memory.
+    /// reader knows, and is what it knows then. Refused are a board of at least as many stones as that
+    /// book has levels, as 74 `NotYet`, and, as 75 `Gone`, a call after the publisher was closed. It
+    /// never waits, and takes no memory.
     pub fn ask(&mut self, board: &Board) -> Result<Entry, AskFault>
         ensures { IsAnswer self.old self.new board.now result }
     {
-        match replace_with(&mut self.seat, board, |seat, board| look(seat, board)) {
-            None => Err(AskFault::Gone),
-            Some(seen) => {
-                self.levels = seen.levels;
-                match seen.entry {
-                    Ok(entry) => Ok(entry),
-                    Err(_) => Err(AskFault::NotYet {
-                        levels: seen.levels,
-                    }),
-                }
-            }
+        let Some(seen) = replace_with(&mut self.seat, board, look) else {
+            return Err(AskFault::Gone);
+        };
+        self.levels = seen.levels;
+        match seen.entry {
+            Ok(entry) => Ok(entry),
+            Err(_) => Err(AskFault::NotYet {
+                levels: seen.levels,
+            }),
+        }
+    }
+
+    /// Learns what was told, where that is more than this reader knows. Of the places of the two, the
+    /// one that is not needed any more is given back. It never waits, and takes no memory.
+    pub fn learn(&mut self, told: Told)
+        ensures known { self.new ≡ longer_of self.old told }
+        ensures seen { length self.new ≡ max (length self.old) (length told) }
+
+        // What the publisher of one desk told, and what a reader of that desk knows, are of one book.
+        ensures begins { AreOfOneBook self.old told → BeginsWith self.new self.old × BeginsWith self.new told }
+    {
+        let Told { reader } = told;
+        if self.levels < reader.levels {
+            *self = reader;
         }
     }
 }

@@ -6,49 +6,20 @@ ghost use Rattle.awari_table.specs.Counts.{inner_of, faults_of, Grew};
 ghost use Rattle.awari_table.specs.declared.images.Image.{Image};
 ghost use Rattle.awari_desk.specs.Coming.{Holds, Serving, Responds, Feeds, Ends, Moves};
 ghost use Rattle.awari_desk.specs.Service.{IsInput, HasServed, HasBegun};
-ghost use Rattle.awari_desk.specs.declared.services.ServeFault.TheVariants as serve_fault;
+ghost use Rattle.awari_desk.specs.declared.faults.ServeFault.TheVariants as serve_fault;
 
 use crate::answers::Answer;
+use crate::faults::ServeFault;
 use crate::lines::Coming;
 use crate::readers::Reader;
 use awari_table::Counted;
 use std::io::{Read, Write};
-use thiserror::Error;
 
 /// No more bytes than this are taken.
 pub const LONGEST_INPUT: u32 = 100_000_000;
 
 /// How many bytes the reader is asked for at once.
 const BUFFER_LEN: usize = 4096;
-
-/// Why a service ends early.
-#[derive(Clone, Copy, Debug, PartialEq, Eq, Error)]
-pub enum ServeFault {
-    /// 90: the reader answered a fault.
-    #[error("the requests could not be read")]
-    Read,
-    /// 91: more than `LONGEST_INPUT` bytes came.
-    #[error("the requests are too long")]
-    TooLong,
-    /// 92: the writer answered a fault, or took no byte.
-    #[error("the answers could not be written")]
-    Write,
-}
-
-impl ServeFault {
-    ghost use Rattle.awari_desk.specs.Faults.{serve_fault_number};
-
-    /// The number of this refusal, 90 to 92.
-    pub fn number(self) -> u8
-        ensures { result ≡ serve_fault_number self }
-    {
-        match self {
-            ServeFault::Read => 90,
-            ServeFault::TooLong => 91,
-            ServeFault::Write => 92,
-        }
-    }
-}
 
 /// Writes the bytes. Where the writer refuses, it took a front of them.
 fn put<W: Write>(output: &mut Counted<W>, bytes: &[u8]) -> Result<(), ServeFault>

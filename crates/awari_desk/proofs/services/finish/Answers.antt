@@ -1,4 +1,4 @@
-use Rattle.std.proofs.Common.{◌≡◌, ◌≢◌, []}
+use Rattle.std.proofs.Common.{◌≢◌, []}
 use Rattle.awari_desk.proofs.Serves.{ends_here, ends_last, breaks_last}
 use Rattle.awari_desk.proofs.services.finish.Goals as goal
 

@@ -1,4 +1,4 @@
-use Rattle.std.proofs.Common.{◌≡◌, ◌<◌, ◌++◌, ◌∙◌, [], arith, length-append, refl}
+use Rattle.std.proofs.Common.{◌++◌, ◌∙◌, [], arith, length-append, refl}
 use Rattle.std.proofs.KnownBytes.{Consumes-nil, Consumes-trans}
 use Rattle.awari_desk.proofs.Serves.{starts, input_with}
 use Rattle.awari_desk.proofs.services.serve.Goals as goal

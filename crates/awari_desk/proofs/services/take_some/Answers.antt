@@ -1,4 +1,4 @@
-use Rattle.std.proofs.Common.{◌≡◌, ◌<◌, ◌++◌, rules, arith, List, ℕ, length, take}
+use Rattle.std.proofs.Common.{◌≡◌, ◌<◌, rules, arith, List, ℕ, length, take}
 use Rattle.awari_table.specs.Counts.{inner_of}
 use Rattle.awari_desk.specs.Service.{HasServed, HasBegun}
 use Rattle.awari_desk.proofs.Serves.{some_input, begun, begun_here, nothing_in, quits_whole, breaks_whole, quits_in, breaks_in}
