@@ -64,6 +64,7 @@ impl Pages {
         ensures other { result ≢ Err Readers }
         ensures free { OnOk result (IsStuck self.new → ⊥) }
         ensures stuck { IsStuck self.old → IsStuck self.new }
+        ensures clean { result ≡ Err NotNext → IsStuck self.new → IsStuck self.old }
         ensures refused { IsStuck self.old → (arc_value level).level ≡ length (book_of self.old) → result ≡ Err Memory }
     {
         replace_with(&mut self.writer, level, |writer, level| {

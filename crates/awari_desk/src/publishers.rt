@@ -30,6 +30,7 @@ impl<R: Wait + Drop> Publisher<R> {
         ensures other { result ≢ Err Readers }
         ensures free { OnOk result (IsStuck self.new.pages → ⊥) }
         ensures stuck { IsStuck self.old.pages → IsStuck self.new.pages }
+        ensures clean { result ≡ Err NotNext → IsStuck self.new.pages → IsStuck self.old.pages }
         ensures refused { IsStuck self.old.pages → (arc_value level).level ≡ length (book_of self.old.pages) → result ≡ Err Memory }
     {
         self.pages.publish(&self.rt, level)

@@ -38,6 +38,7 @@ pub(crate) fn add<R: Wait>(
     ensures other { result.1 ≢ Err Readers }
     ensures idle { OnOk result.1 (drop result.0.behind result.0.log.items ≡ []) }
     ensures stuck { 0 < length (drop writer.behind writer.log.items) → 0 < length (drop result.0.behind result.0.log.items) }
+    ensures clean { result.1 ≡ Err NotNext → 0 < length (drop result.0.behind result.0.log.items) → 0 < length (drop writer.behind writer.log.items) }
     ensures refused { 0 < length (drop writer.behind writer.log.items) → (arc_value level).level ≡ length writer.desk.shown.value.0 → result.1 ≡ Err Memory }
 {
     let book = &writer.published().0;
