@@ -5,3 +5,4 @@ pub mod Building
 pub mod Folders
 pub mod Lines
 pub mod Requests
+pub mod Serving

@@ -5,7 +5,7 @@ use Rattle.clap.specs.Matches.{first_value, one_text}
 use Rattle.clap.specs.declared.parser.matches.Found.{Found}
 use Rattle.awari_build.specs.declared.paces.Pace.{Pace}
 use Rattle.awari_cli.specs.declared.requests.Request.{Request}
-use Rattle.awari_cli.specs.declared.requests.Request.TheVariants.{Check, Move, Judge, Build, Verify, Ask, Line}
+use Rattle.awari_cli.specs.declared.requests.Request.TheVariants.{Check, Move, Judge, Build, Verify, Ask, Line, Serve}
 
 -- the first value of this name is this text
 abbrev pub Gives : Found → List ℕ → List ℕ → Type 0
@@ -40,6 +40,7 @@ IsRequestOf name given (Build top folder pace) = (name ≡ codes "build") × Spe
 IsRequestOf name given (Verify folder) = (name ≡ codes "verify") × Gives given (codes "FOLDER") folder.now
 IsRequestOf name given (Ask folder board) = (name ≡ codes "ask") × Gives given (codes "FOLDER") folder.now × Gives given (codes "BOARD") board.now
 IsRequestOf name given (Line folder board) = (name ≡ codes "line") × Gives given (codes "FOLDER") folder.now × Gives given (codes "BOARD") board.now
+IsRequestOf name given (Serve folder top owners) = (name ≡ codes "serve") × Gives given (codes "FOLDER") folder.now × Spells given (codes "TOP") top × Spells given (codes "OWNERS") owners
 
 -- The name is no command's, or a value that its command needs is not there.
 pub record IsNoRequest (name : List ℕ) (given : Found) : Type 0 where
@@ -50,3 +51,4 @@ pub record IsNoRequest (name : List ℕ) (given : Found) : Type 0 where
   pub verify : name ≡ codes "verify" → Lacks given (codes "FOLDER")
   pub ask : name ≡ codes "ask" → Lacks given (codes "FOLDER") ⊎ Lacks given (codes "BOARD")
   pub line : name ≡ codes "line" → Lacks given (codes "FOLDER") ⊎ Lacks given (codes "BOARD")
+  pub serve : name ≡ codes "serve" → Lacks given (codes "FOLDER") ⊎ SpellsNone 8 given (codes "TOP") ⊎ SpellsNone 8 given (codes "OWNERS")

@@ -9,6 +9,7 @@ mod playing;
 mod printing;
 mod requests;
 mod runs;
+mod serving;
 
 pub use awari_check::check;
 pub use building::run_build_in;
@@ -17,3 +18,4 @@ pub use judgements::{JudgeFault, Judged, Judgement, judge};
 pub use lines::run_line;
 pub use playing::{PlayFault, Played, play_on};
 pub use runs::run;
+pub use serving::run_serve;

@@ -47,6 +47,12 @@ pub enum Request<'a> {
         folder: &'a str,
         board: &'a str,
     },
+    /// `serve FOLDER TOP OWNERS`: the answers to lines, while levels are built.
+    Serve {
+        folder: &'a str,
+        top: u8,
+        owners: u8,
+    },
 }
 
 /// What the words ask for, of which the first is the program's own name. The error has the text of
@@ -94,6 +100,11 @@ fn requested<'a>(name: &str, given: &ArgMatches<'a>) -> Option<Request<'a>>
             folder: given.get_str("FOLDER")?,
             board: given.get_str("BOARD")?,
         }),
+        "serve" => Some(Request::Serve {
+            folder: given.get_str("FOLDER")?,
+            top: given.get_one("TOP")?,
+            owners: given.get_one("OWNERS")?,
+        }),
         _ => None,
     }
 }
@@ -136,7 +147,8 @@ fn with_folders<'a>(alloc: Global, awari: Command<'a>) -> Result<Command<'a>, Er
     let awari = with_command(awari, build_command(alloc))?;
     let awari = with_command(awari, verify_command(alloc))?;
     let awari = with_command(awari, ask_command(alloc))?;
-    with_command(awari, line_command(alloc))
+    let awari = with_command(awari, line_command(alloc))?;
+    with_command(awari, serve_command(alloc))
 }
 
 /// The program with one more command, where there was room to make it.
@@ -274,6 +286,24 @@ fn line_command<'a>(alloc: Global) -> Result<Command<'a>, Error> {
         .after_help(LINE_HELP);
     let command = with_word(command, folder(alloc))?;
     with_word(command, board(alloc))
+}
+
+fn serve_command<'a>(alloc: Global) -> Result<Command<'a>, Error> {
+    let top = Arg::new(alloc, "TOP")
+        .required(true)
+        .value_parser(ValueParser::unsigned(0, u64::from(HIGHEST_LEVEL)))
+        .help("The highest level to build meanwhile, 0 to 12");
+    let owners = Arg::new(alloc, "OWNERS")
+        .required(true)
+        .value_parser(ValueParser::unsigned(0, u64::from(MOST_OWNERS)))
+        .help("How many threads share a level, 0 to 16; with 0 one part has it");
+    let command = Command::new(alloc, "serve")
+        .about("Answers lines on standard input while levels are built")
+        .after_help(SERVE_HELP)
+        .arg(folder(alloc))?
+        .arg(top)?
+        .arg(owners)?;
+    Ok(command)
 }
 
 fn folder<'a>(alloc: Global) -> Arg<'a> {
@@ -427,5 +457,29 @@ value. The levels of the folder are verified first.
     refused 56 NotYet levels M    the folder has only levels 0 to M - 1
     refused 57 Memory         there is not enough memory for the moves
     refused 80 and higher     the folder, as `awari help verify` says
+
+The status is 0, or 1 for a refusal.";
+
+const SERVE_HELP: &str = "\
+It answers each line of standard input by one line, in order, and meanwhile a
+thread builds the levels above those of the folder up to TOP. An answer goes by
+the levels that are built when the line is answered, and by all that an earlier
+answer went by. The levels of the folder are verified first. Nothing is saved.
+
+    ask BOARD    `V P D`, as `awari help ask` says; `not yet M` where only levels
+                 0 to M - 1 are there; or `refused N Name` where BOARD is no board
+    seen         `seen M`: the last answers went by levels 0 to M - 1
+    quit         `bye`, and nothing after it is answered
+    other lines  `what`, as for a line of more than 200 bytes
+
+It ends at `quit` or where the input ends, once the thread has ended too, and
+then prints why it was refused, where it was:
+
+    refused 40 NotStarted     the thread could not be started
+    refused 52, 53            a level is not built, as `awari help build` says
+    refused 73 Memory         there is not enough memory to publish a level
+    refused 80 and higher     the folder, as `awari help verify` says
+    refused 90 Read           the lines could not be read
+    refused 91 TooLong        they have more than 100000000 bytes
 
 The status is 0, or 1 for a refusal.";

@@ -15,6 +15,7 @@ use crate::lines::run_line;
 use crate::playing::{Played, play_on};
 use crate::printing::print;
 use crate::requests::{Request, request_of};
+use crate::serving::run_serve;
 use awari_check::check_input;
 use awari_folder::HostFolder;
 use awari_table::Counted;
@@ -32,18 +33,17 @@ use std::thread::Threads;
 /// program ends with: 0 where it is done, 1 where it was refused or the writer gave a fault, and 2
 /// where the words were not understood, or asked for help. It takes memory for the words,
 /// and for what the commands read and build; want of it is a refusal.
-pub fn run<T: Files<File = File> + Threads + Wait + Sync, S: AsStr, R: Read, W: Write, E: Write>(
-    rt: &T,
-    alloc: Global,
-    words: &[S],
-    reader: &mut R,
-    writer: &mut W,
-    errors: &mut E,
-) -> u8
+pub fn run<
+    T: Files<File = File> + Threads + Wait + Sync + Send + Clone + Drop + 'static,
+    S: AsStr,
+    R: Read,
+    W: Write,
+    E: Write,
+>(rt: &T, alloc: Global, words: &[S], reader: &mut R, writer: &mut W, errors: &mut E) -> u8
     ensures status { result ≤ 2 }
 
     // A yes is said only of tables that are right, a move or a judgement only of a right play, and a
-    // level, an entry or a line of play only of right levels.
+    // level, an entry, a line of play or an answer only of right levels.
     ensures done { result ≡ 0 → (request : Request) × PrintsFor request (R.remaining reader.old) (W.contents writer.old) (W.contents writer.new) }
 
     // Where the words were not understood, nothing is printed.
@@ -61,13 +61,11 @@ pub fn run<T: Files<File = File> + Threads + Wait + Sync, S: AsStr, R: Read, W: 
     }
 }
 
-fn run_request<T: Files<File = File> + Threads + Wait + Sync, R: Read, W: Write>(
-    rt: &T,
-    alloc: Global,
-    request: Request<'_>,
-    reader: &mut R,
-    writer: &mut W,
-) -> u8
+fn run_request<
+    T: Files<File = File> + Threads + Wait + Sync + Send + Clone + Drop + 'static,
+    R: Read,
+    W: Write,
+>(rt: &T, alloc: Global, request: Request<'_>, reader: &mut R, writer: &mut W) -> u8
     ensures status { result ≤ 1 }
     ensures done { result ≡ 0 → PrintsFor request.entry (R.remaining reader.old) (W.contents writer.old) (W.contents writer.new) }
 {
@@ -112,6 +110,14 @@ fn run_request<T: Files<File = File> + Threads + Wait + Sync, R: Read, W: Write>
                 board,
                 writer,
             )
+        }
+        Request::Serve {
+            folder,
+            top,
+            owners,
+        } => {
+            let mut folder = host_folder(rt, alloc, folder);
+            run_serve(rt, &mut folder, alloc, top, owners, reader, writer)
         }
     }
 }

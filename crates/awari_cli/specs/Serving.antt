@@ -1,0 +1,29 @@
+-- The command `serve`: what is answered.
+use Rattle.std.specs.Prelude.{ℕ, List, Option}
+use Rattle.awari_build.specs.BuildFault.{fault_text as build_fault_text}
+use Rattle.awari_desk.specs.DeskFault.{fault_text as desk_fault_text}
+use Rattle.awari_desk.specs.ServeFault.{fault_text as serve_fault_text}
+use Rattle.awari_desk.specs.Service.{IsInput, HasServed}
+use Rattle.awari_folder.specs.Contents.{IsStoredIn}
+use Rattle.awari_folder.specs.FolderFault.{fault_text as folder_fault_text}
+use Rattle.awari_phase.specs.PhaseFault.{fault_text as phase_fault_text}
+use Rattle.awari_table.specs.Shelves.{IsShelf}
+use Rattle.awari_table.specs.declared.images.Image.{Image}
+use Rattle.awari_cli.specs.declared.serving.ServingFault.{ServingFault}
+use Rattle.awari_cli.specs.declared.serving.ServingFault.TheVariants.{Folder, Desk, Start, Build, Serve}
+
+-- Where the input is known, and what the writer holds: what was written is the output for it, of a reader that knew these levels.
+abbrev pub IsServed : List Image → Option (List ℕ) → Option (List ℕ) → Option (List ℕ) → Type 0
+IsServed known input before after = (bytes : List ℕ) × (last : List Image) × IsInput input bytes × HasServed known before bytes after last
+
+-- The reader knew right levels: those that the folder stores, where it is known what its names have.
+abbrev pub PrintsService : (ℕ → Option (Option (List ℕ))) → Option (List ℕ) → Option (List ℕ) → Option (List ℕ) → Type 0
+PrintsService stands input before after = (images : List Image) × (digest : List ℕ) × IsShelf images × IsStoredIn stands images digest × IsServed images input before after
+
+-- the fault inside it
+abbrev pub serving_fault_text : ServingFault → List ℕ
+serving_fault_text (Folder fault) = folder_fault_text fault
+serving_fault_text (Desk fault) = desk_fault_text fault
+serving_fault_text (Start fault) = phase_fault_text fault
+serving_fault_text (Build fault) = build_fault_text fault
+serving_fault_text (Serve fault) = serve_fault_text fault

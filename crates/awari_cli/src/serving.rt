@@ -1,0 +1,285 @@
+//! The command `serve`: a reader of the levels in a folder that is served while a thread builds those
+//! above them.
+
+ghost use Rattle.std.specs.Prelude.{◌≡◌, ◌≤◌, ◌+◌, [], length, IfOk, OnOk};
+ghost use Rattle.std.specs.Arc.{arc_value};
+ghost use Rattle.awari_desk.specs.Desks.{book_of};
+ghost use Rattle.awari_desk.specs.declared.faults.DeskFault.TheVariants as desk_fault;
+ghost use Rattle.awari_table.specs.Shelves.{Consistent, IsShelf};
+ghost use Rattle.awari_cli.specs.Serving.{PrintsService, IsServed};
+ghost use Rattle.awari_cli.specs.declared.serving.ServingFault.TheVariants as serving_fault;
+
+use crate::printing::refuse;
+use awari_build::{BuildFault, Pace, build_alone, build_level};
+use awari_desk::{DeskFault, Publisher, Reader, ServeFault, desk, serve};
+use awari_folder::{Folder, FolderFault, load_parallel};
+use awari_phase::{Open, PhaseFault};
+use awari_table::{Counted, Level, Shelf};
+use core::mem::replace_with;
+use std::alloc::{AllocError, AllocFailed, Global};
+use std::io::{Read, Write};
+use std::sync::{Arc, Wait};
+use std::thread::Threads;
+use std::{fmt, thread};
+
+/// How many batches a line between two owners holds.
+const ROOM: u32 = 64;
+
+/// How many sweeps a round has at most.
+const SWEEPS: u32 = 1000;
+
+/// Why a service is not begun, or not ended as asked. Printed, it is the fault inside it.
+#[derive(Clone, Copy)]
+enum ServingFault {
+    /// The folder is not loaded.
+    Folder { fault: FolderFault },
+    /// The levels are not published, or nobody is told of them.
+    Desk { fault: DeskFault },
+    /// The thread that builds is not started.
+    Start { fault: PhaseFault },
+    /// A level is not built.
+    Build { fault: BuildFault },
+    /// The lines are not read, or the answers not written.
+    Serve { fault: ServeFault },
+}
+
+impl From<FolderFault> for ServingFault {
+    ghost from_gives = { λ fault e. e ≡ serving_fault.Folder fault };
+
+    fn from(fault: FolderFault) -> Self {
+        ServingFault::Folder { fault }
+    }
+}
+
+impl From<DeskFault> for ServingFault {
+    ghost from_gives = { λ fault e. e ≡ serving_fault.Desk fault };
+
+    fn from(fault: DeskFault) -> Self {
+        ServingFault::Desk { fault }
+    }
+}
+
+impl From<BuildFault> for ServingFault {
+    ghost from_gives = { λ fault e. e ≡ serving_fault.Build fault };
+
+    fn from(fault: BuildFault) -> Self {
+        ServingFault::Build { fault }
+    }
+}
+
+impl From<ServeFault> for ServingFault {
+    ghost from_gives = { λ fault e. e ≡ serving_fault.Serve fault };
+
+    fn from(fault: ServeFault) -> Self {
+        ServingFault::Serve { fault }
+    }
+}
+
+impl From<AllocError> for ServingFault {
+    ghost from_gives = { λ _ e. e ≡ serving_fault.Desk desk_fault.Memory };
+
+    fn from(_error: AllocError) -> Self {
+        ServingFault::Desk {
+            fault: DeskFault::Memory,
+        }
+    }
+}
+
+impl<T: Drop> From<AllocFailed<T>> for ServingFault {
+    ghost from_gives = { λ _ e. e ≡ serving_fault.Desk desk_fault.Memory };
+
+    fn from(_error: AllocFailed<T>) -> Self {
+        ServingFault::Desk {
+            fault: DeskFault::Memory,
+        }
+    }
+}
+
+impl fmt::Display for ServingFault {
+    ghost use Rattle.std.specs.Prelude.{Some};
+    ghost use Rattle.awari_cli.specs.Serving.{serving_fault_text};
+
+    ghost output = { λ fault. Some (serving_fault_text fault) };
+
+    fn fmt<W: fmt::Write>(&self, f: &mut fmt::Formatter<W>) -> fmt::Result {
+        match *self {
+            ServingFault::Folder { fault } => write!(f, "{fault}"),
+            ServingFault::Desk { fault } => write!(f, "{fault}"),
+            ServingFault::Start { fault } => write!(f, "{fault}"),
+            ServingFault::Build { fault } => write!(f, "{fault}"),
+            ServingFault::Serve { fault } => write!(f, "{fault}"),
+        }
+    }
+}
+
+/// Answers the lines of the reader by the levels of the folder, and by those above them up to `top`
+/// as a thread builds and publishes them, with so many owners or, where there are to be none, by one
+/// part. Nothing is saved. A refusal is printed after the answers, but where they could not be written
+/// nothing more is.
+pub fn run_serve<
+    T: Threads + Wait + Sync + Send + Clone + Drop + 'static,
+    F: Folder,
+    R: Read,
+    W: Write,
+>(rt: &T, folder: &mut F, alloc: Global, top: u8, owners: u8, reader: &mut R, writer: &mut W) -> u8
+    ensures status { result ≤ 1 }
+
+    // What was written is a service by right levels, of which the first are those of the folder.
+    ensures served { result ≡ 0 → PrintsService (F.stands folder.old) (R.remaining reader.old) (W.contents writer.old) (W.contents writer.new) }
+{
+    match serve_beside(rt, folder, alloc, top, owners, reader, writer) {
+        Ok(()) => 0,
+        Err(
+            ServingFault::Serve {
+                fault: ServeFault::Write,
+            },
+        ) => 1,
+        Err(fault) => refuse(writer, fault),
+    }
+}
+
+/// Serves while a thread builds, and joins it. The refusal of the service comes before that of the
+/// thread.
+fn serve_beside<
+    T: Threads + Wait + Sync + Send + Clone + Drop + 'static,
+    F: Folder,
+    R: Read,
+    W: Write,
+>(
+    rt: &T,
+    folder: &mut F,
+    alloc: Global,
+    top: u8,
+    owners: u8,
+    reader: &mut R,
+    writer: &mut W,
+) -> Result<(), ServingFault>
+    ensures { OnOk result (PrintsService (F.stands folder.old) (R.remaining reader.old) (W.contents writer.old) (W.contents writer.new)) }
+{
+    let stored = load_parallel(rt, folder, alloc)?;
+    let (publisher, known) = published(rt.clone()?, alloc, &stored.shelf)?;
+    let own = rt.clone()?;
+    let Ok(builder) = thread::spawn(rt, move || grow(own, alloc, publisher, top, owners)) else {
+        return Err(ServingFault::Start {
+            fault: PhaseFault::NotStarted,
+        });
+    };
+    let served = serve_lines(known, reader, writer);
+    let (publisher, grown) = builder.join(rt);
+    publisher.close();
+    served?;
+    grown?;
+    Ok(())
+}
+
+/// A publisher of the levels of the shelf, and a reader that knows them.
+fn published<T: Wait + Drop>(
+    rt: T,
+    alloc: Global,
+    shelf: &Shelf,
+) -> Result<(Publisher<T>, Reader), ServingFault>
+    ensures known { IfOk result (λ made. made.1 ≡ shelf.now) }
+    ensures shelf { OnOk result (IsShelf shelf.now) }
+{
+    let (mut publisher, mut readers) = desk(rt, alloc, 1)?;
+    publish_each(&mut publisher, shelf)?;
+    let Some(mut reader) = readers.pop() else {
+        unreachable!()
+    };
+    reader.learn(publisher.pages.tell()?);
+    Ok((publisher, reader))
+}
+
+/// Publishes each level of the shelf.
+fn publish_each<T: Wait + Drop>(
+    publisher: &mut Publisher<T>,
+    shelf: &Shelf,
+) -> Result<(), ServingFault>
+    requires { book_of publisher.old.pages ≡ [] }
+    ensures book { OnOk result (book_of publisher.new.pages ≡ shelf.now) }
+    ensures shelf { IsShelf shelf.now }
+{
+    for number in 0..shelf.levels() {
+        publisher.publish(Arc::try_clone(shelf.level(number))?)?;
+    }
+    Ok(())
+}
+
+/// Answers the lines of the reader by what this one knows.
+fn serve_lines<R: Read, W: Write>(
+    known: Reader,
+    reader: &mut R,
+    writer: &mut W,
+) -> Result<(), ServeFault>
+    ensures { OnOk result (IsServed known (R.remaining reader.old) (W.contents writer.old) (W.contents writer.new)) }
+{
+    replace_with(writer, (known, reader), |writer, (known, reader)| {
+        served_by(known, reader, writer)
+    })
+}
+
+/// The writer with the answers written, so far as that went.
+fn served_by<R: Read, W: Write>(
+    mut known: Reader,
+    reader: &mut R,
+    writer: W,
+) -> (W, Result<(), ServeFault>)
+    ensures { OnOk result.1 (IsServed known (R.remaining reader.old) (W.contents writer) (W.contents result.0)) }
+{
+    let mut output = Counted::new(writer);
+    let served = serve(&mut known, &mut Counted::new(reader), &mut output);
+    (output.into_inner(), served)
+}
+
+/// Builds the levels above the book up to `top`, and publishes each.
+fn grow<T: Threads + Wait + Sync + Drop>(
+    rt: T,
+    alloc: Global,
+    mut publisher: Publisher<T>,
+    top: u8,
+    owners: u8,
+) -> (Publisher<T>, Result<(), ServingFault>) {
+    'level: while publisher.pages.book().levels() <= top {
+        if let Err(fault) = grow_by_one(&rt, alloc, &mut publisher, owners) {
+            return (publisher, Err(fault));
+        }
+    }
+    (publisher, Ok(()))
+}
+
+/// Builds the level above the book, and publishes it.
+fn grow_by_one<T: Threads + Wait + Sync + Drop>(
+    rt: &T,
+    alloc: Global,
+    publisher: &mut Publisher<T>,
+    owners: u8,
+) -> Result<(), ServingFault>
+    ensures { OnOk result (length (book_of publisher.new.pages) ≡ length (book_of publisher.old.pages) + 1) }
+{
+    let level = next_level(rt, alloc, publisher.pages.book(), owners)?;
+    let level = Arc::new(alloc, level)?;
+    publisher.publish(level)?;
+    Ok(())
+}
+
+/// The level above the book, by so many owners or, where there are to be none, by one part.
+fn next_level<T: Threads + Wait + Sync>(
+    rt: &T,
+    alloc: Global,
+    book: &Shelf,
+    owners: u8,
+) -> Result<Level, BuildFault>
+    ensures { IfOk result (λ level. Consistent book.now level) }
+{
+    let level = if owners == 0 {
+        build_alone(alloc, book)?
+    } else {
+        let pace = Pace {
+            owners,
+            room: ROOM,
+            sweeps: SWEEPS,
+        };
+        build_level(rt, alloc, book, pace, &Open)?
+    };
+    Ok(level)
+}
