@@ -16,7 +16,7 @@ use std::thread::Threads;
 
 /// Runs the program on these words, and compares what it prints and its status.
 pub fn expect_run(
-    rt: &(impl Abort + Files<File = File> + Threads + Wait + Sync),
+    rt: &(impl Abort + Files<File = File> + Threads + Wait + Sync + Send + Clone + Drop + 'static),
     alloc: Global,
     words: &[&str],
     input: &[u8],
@@ -33,7 +33,7 @@ pub fn expect_run(
 }
 
 fn expect_check(
-    rt: &(impl Abort + Files<File = File> + Threads + Wait + Sync),
+    rt: &(impl Abort + Files<File = File> + Threads + Wait + Sync + Send + Clone + Drop + 'static),
     alloc: Global,
     input: &[u8],
     printed: &str,

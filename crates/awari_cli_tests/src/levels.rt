@@ -123,7 +123,16 @@ fn paces_out_of_range_are_not_understood(rt: HostRuntime) {
 
 /// Runs `build` on the folder.
 fn expect_build(
-    rt: &(impl Abort + Files<File = File> + Threads + Wait + Sync + AllocGlobal),
+    rt: &(impl Abort
+        + Files<File = File>
+        + Threads
+        + Wait
+        + Sync
+        + Send
+        + Clone
+        + Drop
+        + AllocGlobal
+        + 'static),
     folder: &str,
     top: &str,
     printed: &str,
@@ -134,7 +143,16 @@ fn expect_build(
 
 /// Runs `verify` on the folder.
 fn expect_verify(
-    rt: &(impl Abort + Files<File = File> + Threads + Wait + Sync + AllocGlobal),
+    rt: &(impl Abort
+        + Files<File = File>
+        + Threads
+        + Wait
+        + Sync
+        + Send
+        + Clone
+        + Drop
+        + AllocGlobal
+        + 'static),
     folder: &str,
     printed: &str,
     status: u8,
@@ -145,7 +163,16 @@ fn expect_verify(
 
 /// Runs `ask` on the folder.
 fn expect_ask(
-    rt: &(impl Abort + Files<File = File> + Threads + Wait + Sync + AllocGlobal),
+    rt: &(impl Abort
+        + Files<File = File>
+        + Threads
+        + Wait
+        + Sync
+        + Send
+        + Clone
+        + Drop
+        + AllocGlobal
+        + 'static),
     folder: &str,
     board: &str,
     printed: &str,
@@ -211,7 +238,16 @@ fn a_folder_is_asked(rt: HostRuntime) -> Result<(), Fail> {
 
 /// Runs `line` on the folder.
 fn expect_line(
-    rt: &(impl Abort + Files<File = File> + Threads + Wait + Sync + AllocGlobal),
+    rt: &(impl Abort
+        + Files<File = File>
+        + Threads
+        + Wait
+        + Sync
+        + Send
+        + Clone
+        + Drop
+        + AllocGlobal
+        + 'static),
     folder: &str,
     board: &str,
     printed: &str,
@@ -330,7 +366,16 @@ fn changed(alloc: Global, file: &[u8], from: usize, bytes: &[u8]) -> Result<Vec<
 
 /// What `verify` prints where the second file is this.
 fn expect_refusal(
-    rt: &(impl Abort + Files<File = File> + Threads + Wait + Sync + AllocGlobal),
+    rt: &(impl Abort
+        + Files<File = File>
+        + Threads
+        + Wait
+        + Sync
+        + Send
+        + Clone
+        + Drop
+        + AllocGlobal
+        + 'static),
     folder: &str,
     second: &str,
     file: &[u8],

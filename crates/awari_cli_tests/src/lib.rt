@@ -6,6 +6,8 @@ mod calls;
 #[cfg(test)]
 mod commands;
 #[cfg(test)]
+mod desks;
+#[cfg(test)]
 mod documents;
 #[cfg(test)]
 mod levels;
@@ -13,5 +15,7 @@ mod levels;
 mod plain;
 #[cfg(test)]
 mod plays;
+#[cfg(test)]
+mod services;
 #[cfg(test)]
 mod words;

@@ -39,7 +39,7 @@ const HYPHENS: [([&str; 4], &str, u8); 9] = [
 
 /// Runs the program on these words, of which empty ones are left out.
 fn expect(
-    rt: &(impl Abort + Files<File = File> + Threads + Wait + Sync),
+    rt: &(impl Abort + Files<File = File> + Threads + Wait + Sync + Send + Clone + Drop + 'static),
     alloc: Global,
     words: [&str; 4],
     printed: &str,
@@ -89,7 +89,7 @@ fn pits_in_other_forms(rt: HostRuntime) {
 
 /// Whether the text that these words bring goes to the error stream, and has this in it.
 fn expect_usage(
-    rt: &(impl Abort + Files<File = File> + Threads + Wait + Sync),
+    rt: &(impl Abort + Files<File = File> + Threads + Wait + Sync + Send + Clone + Drop + 'static),
     alloc: Global,
     words: &[&str],
     part: &str,

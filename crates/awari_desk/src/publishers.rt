@@ -6,8 +6,8 @@ use awari_table::Level;
 use std::alloc::Global;
 use std::sync::{Arc, Wait};
 
-/// The publisher of a book. It keeps the handle `R`, since its drop can wait for readers; what never
-/// waits are the calls of its `pages`.
+/// The publisher of a book. It keeps the handle `R`, since its drop ends the desk and can wait for
+/// readers. What never waits are the calls of its `pages`.
 pub struct Publisher<R: Wait + Drop> {
     pub pages: Pages,
     pub(crate) rt: R,
@@ -20,8 +20,11 @@ impl<R: Wait + Drop> Publisher<R> {
     ghost use Rattle.awari_desk.specs.Desks.{book_of, IsStuck};
     ghost use Rattle.awari_desk.specs.declared.faults.DeskFault.TheVariants.{NotNext, Readers, Memory};
 
-    /// Puts a level on top of the book, all at once for every reader. Where it is the next, it must
-    /// be consistent over the book. A refusal leaves the book as it is. It can wait for readers.
+    /// Puts a level on top of the book, all at once for every reader. Where it is the book's next, it
+    /// must be consistent over the book. Refused are a level that is not the next, as 71 `NotNext`,
+    /// and want of memory, as 73 `Memory`. A refusal leaves the book as it is, and the call may be made
+    /// again; but once the sharing of a level was refused within a publication, each call that is not
+    /// 71 is 73. It can wait for readers.
     pub fn publish(&mut self, level: Arc<Level, Global>) -> Result<(), DeskFault>
         requires { (arc_value level).level ≡ length (book_of self.old.pages) → Consistent (book_of self.old.pages) (arc_value level) }
         ensures published { OnOk result (book_of self.new.pages ≡ book_of self.old.pages ++ arc_value level ∷ []) }
@@ -36,7 +39,7 @@ impl<R: Wait + Drop> Publisher<R> {
         self.pages.publish(&self.rt, level)
     }
 
-    /// Ends the desk. It can wait for readers.
+    /// Ends the desk. It can wait for readers, as a drop can.
     pub fn close(self) {}
 }
 

@@ -15,7 +15,7 @@ use crate::readers::Reader;
 use awari_table::Counted;
 use std::io::{Read, Write};
 
-/// No more bytes than this are taken.
+/// A service takes no more bytes than this.
 pub const LONGEST_INPUT: u32 = 100_000_000;
 
 /// How many bytes the reader is asked for at once.
@@ -189,8 +189,10 @@ fn take_some<R: Read, W: Write>(
 }
 
 /// Answers the lines of the input, in order, until one says `quit` or the input ends. Each line whose
-/// end has come is answered before the reader is called again. It never waits for the publisher,
-/// and takes no memory.
+/// end has come is answered before the reader is called again. Refused are a fault of the reader, as
+/// 90 `Read`, more than `LONGEST_INPUT` bytes, as 91 `TooLong`, and a fault of the writer, as 92
+/// `Write`; then nothing more is read or written. It never waits for the publisher, and takes no
+/// memory.
 pub fn serve<R: Read, W: Write>(
     reader: &mut Reader,
     input: &mut Counted<R>,
