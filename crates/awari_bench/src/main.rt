@@ -1,12 +1,14 @@
 //! Goes over a level of ten stones by the hot calls. With no words it makes one round of each and
 //! prints what it counted, which another program has to count too; `bench/run` times it with the
 //! name of a call and a number of rounds. The calls `verify` and `least` are of all levels, which are
-//! built first.
+//! built first; `asking` times readers of a desk by itself.
 #![tactic(auto)]
 
+mod asking;
 mod counting;
 mod judging;
 
+use crate::asking::asking;
 use crate::counting::Counted;
 use crate::judging::{Work, all_levels};
 use awari_board::Board;
@@ -105,6 +107,7 @@ fn main(rt: HostRuntime) -> io::Result<()> {
         [_, call, rounds] => {
             let rounds = rounds.as_str().parse().unwrap_or(1);
             match call.as_str() {
+                "asking" => asking(&rt, rt.alloc(), rounds),
                 "verify" => {
                     print_counted(&rt, "verify", all_levels(rt.alloc(), Work::Judge, rounds)?)
                 }
