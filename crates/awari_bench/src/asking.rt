@@ -1,12 +1,13 @@
 //! Boards looked up on a shelf in hand, and asked of readers: of one alone, of four at once, and of
 //! one beside two owners that build a level.
 
+use crate::STONES;
 use crate::counting::Counted;
-use crate::{STONES, after, first};
+use awari_board::Board;
 use awari_build::{Pace, build_alone, build_level};
 use awari_desk::{Publisher, Reader, desk};
 use awari_phase::Open;
-use awari_rank::size;
+use awari_rank::{size, unrank};
 use awari_table::Shelf;
 use std::alloc::{AllocError, Global};
 use std::sync::{Arc, Wait};
@@ -20,31 +21,42 @@ const TWO_OWNERS: Pace = Pace {
     sweeps: 1000,
 };
 
+/// How many ranks lie between a board and the next that is asked for. The number has no factor in
+/// common with how many boards there are.
+const STEP: u64 = 104_729;
+
+/// All boards of the level, each far from the one before, as those that a program asks for are.
+fn scattered_boards(alloc: Global) -> Result<Vec<Board>, AllocError> {
+    let boards = u64::from(size(STONES));
+    let mut scattered = Vec::with_capacity(alloc, boards as usize)?;
+    for place in 0..boards {
+        let rank = place.wrapping_mul(STEP) % boards;
+        scattered.push(unrank(STONES, rank as u32))?;
+    }
+    Ok(scattered)
+}
+
 /// Looks each board up on the shelf, so many times.
-fn entries_of(shelf: &Shelf, rounds: u32) -> Counted {
+fn entries_of(shelf: &Shelf, boards: &[Board], rounds: u32) -> Counted {
     let mut counted = Counted::NONE;
-    let mut board = first();
     for _round in 0..rounds {
-        for _rank in 0..size(STONES) {
-            if let Ok(entry) = shelf.entry(&board) {
+        for board in boards {
+            if let Ok(entry) = shelf.entry(board) {
                 counted.add(u64::from(entry.dist));
             }
-            board = after(&board);
         }
     }
     counted
 }
 
 /// Asks the reader for each board, so many times.
-fn asks_of(reader: &mut Reader, rounds: u32) -> Counted {
+fn asks_of(reader: &mut Reader, boards: &[Board], rounds: u32) -> Counted {
     let mut counted = Counted::NONE;
-    let mut board = first();
     for _round in 0..rounds {
-        for _rank in 0..size(STONES) {
-            if let Ok(entry) = reader.ask(&board) {
+        for board in boards {
+            if let Ok(entry) = reader.ask(board) {
                 counted.add(u64::from(entry.dist));
             }
-            board = after(&board);
         }
     }
     counted
@@ -78,11 +90,15 @@ fn all_at_once<R: Threads>(
     rt: &R,
     alloc: Global,
     readers: Vec<Reader>,
+    boards: &Arc<Vec<Board>>,
     rounds: u32,
 ) -> Result<Counted, AllocError> {
     let mut handles = Vec::with_capacity(alloc, readers.len())?;
     for mut reader in readers {
-        let handle = thread::spawn(rt, move || asks_of(&mut reader, rounds))?;
+        let boards = Arc::try_clone(boards)?;
+        let handle = thread::spawn(rt, move || {
+            asks_of(&mut reader, boards.as_slice(), rounds)
+        })?;
         handles.push(handle)?;
     }
     let mut counted = Counted::NONE;
@@ -99,6 +115,7 @@ fn ask_beside<R: Threads + Wait + Sync + Send + Clone + Drop + Print + Clock + '
     alloc: Global,
     shelf: Shelf,
     reader: &mut Reader,
+    boards: &[Board],
     rounds: u32,
 ) -> io::Result<()> {
     let own = rt.clone()?;
@@ -106,7 +123,7 @@ fn ask_beside<R: Threads + Wait + Sync + Send + Clone + Drop + Print + Clock + '
         build_level(&own, alloc, &shelf, TWO_OWNERS, &Open).is_ok()
     })?;
     let start = Instant::now(rt)?;
-    let counted = asks_of(reader, rounds);
+    let counted = asks_of(reader, boards, rounds);
     print_each(rt, "ask beside a build", start, counted)?;
     let start = Instant::now(rt)?;
     let _is_built = builder.join(rt);
@@ -124,23 +141,25 @@ pub fn asking<R: Threads + Wait + Sync + Send + Clone + Drop + Print + Clock + '
         return Ok(());
     };
     publish_levels(alloc, &mut publisher)?;
+    let boards = Arc::new(alloc, scattered_boards(alloc)?)?;
     let start = Instant::now(rt)?;
-    let counted = entries_of(publisher.pages.book(), rounds);
+    let counted = entries_of(publisher.pages.book(), boards.as_slice(), rounds);
     print_each(rt, "entry", start, counted)?;
     if let Some(mut reader) = readers.pop() {
         let start = Instant::now(rt)?;
-        let counted = asks_of(&mut reader, rounds);
+        let counted = asks_of(&mut reader, boards.as_slice(), rounds);
         print_each(rt, "ask", start, counted)?;
         ask_beside(
             rt,
             alloc,
             publisher.pages.book().share()?,
             &mut reader,
+            boards.as_slice(),
             rounds,
         )?;
     }
     let start = Instant::now(rt)?;
-    let counted = all_at_once(rt, alloc, readers, rounds)?;
+    let counted = all_at_once(rt, alloc, readers, &boards, rounds)?;
     print_each(rt, "ask, four at once", start, counted)?;
     publisher.close();
     Ok(())
