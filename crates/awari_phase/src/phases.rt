@@ -18,8 +18,11 @@ use crate::settling::settle_owners;
 use std::sync::Wait;
 use std::thread::Threads;
 
-/// From how many fresh boards on, of all owners together, a round is made in threads.
+/// From how many fresh boards on, of all owners together, a distance is begun in threads.
 const MANY_BOARDS: usize = 1000;
+
+/// How many sweeps an owner makes in a round in turn at most, before threads are thought of again.
+const SWEEPS_IN_TURN: u32 = 16;
 
 /// Where owners stand after a round.
 enum Standing {
@@ -36,10 +39,12 @@ enum Standing {
 /// on one grid. Refused as a round is, and never as 42 where the owners were sound together; then the
 /// owners are gone.
 ///
-/// The first round is made in threads, since a gain can begin with many ended boards, and later ones
-/// where many boards are fresh, nearly all of which are of the open distance when it is opened. To start
-/// four threads takes 0.1 to 0.2 ms, in which one thread spreads some hundred boards, and most distances
-/// have fewer. Those are gone through in turn on the caller's thread.
+/// The first round is made in threads, since a gain can begin with many ended boards, and so is the
+/// first one of a distance with many fresh boards, nearly all of which are of the distance that was just
+/// opened. To start four threads takes 0.1 to 0.2 ms, in which one thread spreads some hundred boards,
+/// and most distances have fewer. Those are gone through in turn on the caller's thread, and so is what a
+/// round in threads leaves: mostly a few batches that came when their owner had ended already. Where a
+/// round in turn leaves something too, threads are started for it.
 pub fn gain_phase<R: Threads + Wait + Sync, G: Gate + Sync>(
     rt: &R,
     owners: Vec<Owner>,
@@ -57,28 +62,45 @@ pub fn gain_phase<R: Threads + Wait + Sync, G: Gate + Sync>(
     ensures wanting { IfErr result (λ fault. (value : List ℕ → ℤ) (n : ℕ) → n ≤ HIGHEST_LEVEL → AreTogether value n owners.items → IsWant fault) }
 {
     let mut all = round(rt, owners, gate, sweeps)?;
+    let mut in_turn = false;
     for _ in rt.forever() {
-        match look(&mut all) {
-            Standing::Busy => all = next_round(rt, all, gate, sweeps)?,
-            Standing::Waiting => all = round_in_turn(all, gate, sweeps)?,
-            Standing::Done => {
-                let Some(dist) = least_due(all.as_slice()) else {
-                    return Ok(all);
-                };
-                begin(&mut all, dist);
-                all = next_round(rt, all, gate, sweeps)?;
-            }
-        }
+        let Some(next) = look_ahead(&mut all, in_turn) else {
+            return Ok(all);
+        };
+        in_turn = next;
+        all = next_round(rt, all, gate, sweeps, in_turn)?;
     }
     unreachable!()
 }
 
-/// One round, in threads where many boards are fresh, and else in turn.
+/// Whether the next round is to be made in turn, after one that was or was not. Where nothing is left of
+/// the open distance, the least one that is due is opened; there is none where no board is fresh.
+fn look_ahead(owners: &mut Vec<Owner>, in_turn: bool) -> Option<bool>
+    requires { IsGrid (all_ends owners.old.items) }
+    ensures grown { AllGrown owners.old.items owners.new.items }
+    ensures together { (value : List ℕ → ℤ) (n : ℕ) → AreTogether value n owners.old.items → AreTogether value n owners.new.items }
+    ensures idle { IsNone result → AreIdle owners.new.items }
+    ensures sent { IsNone result → AreSent owners.new.items }
+    ensures received { IsNone result → AreReceived owners.new.items }
+{
+    match look(owners) {
+        Standing::Busy => Some(!in_turn),
+        Standing::Waiting => Some(true),
+        Standing::Done => {
+            let dist = least_due(owners.as_slice())?;
+            begin(owners, dist);
+            Some(fresh_boards(owners.as_slice()) < MANY_BOARDS)
+        }
+    }
+}
+
+/// One round, in threads or in turn.
 fn next_round<R: Threads + Wait + Sync, G: Gate + Sync>(
     rt: &R,
     owners: Vec<Owner>,
     gate: &G,
     sweeps: u32,
+    in_turn: bool,
 ) -> Result<Vec<Owner>, PhaseFault>
     requires sweeps { (1 ≤ sweeps) × (sweeps ≤ 1000) }
     requires grid { IsGrid (all_ends owners.items) }
@@ -89,17 +111,18 @@ fn next_round<R: Threads + Wait + Sync, G: Gate + Sync>(
     ensures refused { IfErr result (IsRefusal owners.items) }
     ensures wanting { IfErr result (λ fault. (value : List ℕ → ℤ) (n : ℕ) → n ≤ HIGHEST_LEVEL → AreTogether value n owners.items → IsWant fault) }
 {
-    if fresh_boards(owners.as_slice()) < MANY_BOARDS {
-        return round_in_turn(owners, gate, sweeps);
+    if in_turn {
+        return round_in_turn(owners, gate, sweeps.min(SWEEPS_IN_TURN));
     }
     round(rt, owners, gate, sweeps)
 }
 
 /// How many boards are fresh, of all owners together.
 fn fresh_boards(owners: &[Owner]) -> usize {
-    owners
-        .iter()
-        .fold(0, |sum: usize, owner: &Owner| sum.saturating_add(owner.part.fresh_boards()))
+    owners.iter().fold(
+        0,
+        |sum: usize, owner: &Owner| sum.saturating_add(owner.part.fresh_boards()),
+    )
 }
 
 /// Looks at all owners and at every line.

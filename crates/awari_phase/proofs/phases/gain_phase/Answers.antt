@@ -10,53 +10,24 @@ loop-init g c = record {
   together = λ value n t. c.in_ok-all.ensures.together value n t;
 }
 
-pub loop-preserved-in-Busy : goal.loop-preserved-in-Busy
-loop-preserved-in-Busy g c = record {
-  grown =
-      all_grown_trans c.args.owners.items c.look.new.owners.items c.in_ok-all-in-Busy.all.items
-      (all_grown_trans c.args.owners.items c.loop.all.items c.look.new.owners.items c.loop.invariant.grown c.look.ensures.grown)
-      (all_grown_round c.look.new.owners.items c.in_ok-all-in-Busy.all.items c.look.new.owners.len c.in_ok-all-in-Busy.all.len c.look.new.owners.ok.0 c.in_ok-all-in-Busy.all.ok.0 c.in_ok-all-in-Busy.ensures.len c.in_ok-all-in-Busy.ensures.kept c.look.ensures.grown.grid);
-  together = λ value n t. c.in_ok-all-in-Busy.ensures.together value n (c.look.ensures.together value n (c.loop.invariant.together value n t));
-}
-
-pub loop-preserved-in-Waiting : goal.loop-preserved-in-Waiting
-loop-preserved-in-Waiting g c = record {
-  grown =
-      all_grown_trans c.args.owners.items c.look.new.owners.items c.in_ok-all-in-Waiting.all.items
-      (all_grown_trans c.args.owners.items c.loop.all.items c.look.new.owners.items c.loop.invariant.grown c.look.ensures.grown)
-      (all_grown_round c.look.new.owners.items c.in_ok-all-in-Waiting.all.items c.look.new.owners.len c.in_ok-all-in-Waiting.all.len c.look.new.owners.ok.0 c.in_ok-all-in-Waiting.all.ok.0 c.in_ok-all-in-Waiting.ensures.len c.in_ok-all-in-Waiting.ensures.kept c.look.ensures.grown.grid);
-  together = λ value n t. c.in_ok-all-in-Waiting.ensures.together value n (c.look.ensures.together value n (c.loop.invariant.together value n t));
-}
-
 pub loop-preserved : goal.loop-preserved
 loop-preserved g c = record {
   grown =
-      all_grown_trans c.args.owners.items c.begin.new.owners.items c.in_ok-all-in-Done.all.items
-      (all_grown_trans c.args.owners.items c.look.new.owners.items c.begin.new.owners.items
-      (all_grown_trans c.args.owners.items c.loop.all.items c.look.new.owners.items c.loop.invariant.grown c.look.ensures.grown) c.begin.ensures.grown)
-      (all_grown_round c.begin.new.owners.items c.in_ok-all-in-Done.all.items c.begin.new.owners.len c.in_ok-all-in-Done.all.len c.begin.new.owners.ok.0 c.in_ok-all-in-Done.all.ok.0 c.in_ok-all-in-Done.ensures.len c.in_ok-all-in-Done.ensures.kept c.begin.ensures.grown.grid);
-  together = λ value n t. c.in_ok-all-in-Done.ensures.together value n (c.begin.ensures.together value n (c.look.ensures.together value n (c.loop.invariant.together value n t)));
+      all_grown_trans c.args.owners.items c.look_ahead.new.owners.items c.in_ok-all-2.all.items
+      (all_grown_trans c.args.owners.items c.loop.all.items c.look_ahead.new.owners.items c.loop.invariant.grown c.look_ahead.ensures.grown)
+      (all_grown_round c.look_ahead.new.owners.items c.in_ok-all-2.all.items c.look_ahead.new.owners.len c.in_ok-all-2.all.len c.look_ahead.new.owners.ok.0 c.in_ok-all-2.all.ok.0 c.in_ok-all-2.ensures.len c.in_ok-all-2.ensures.kept c.look_ahead.ensures.grown.grid);
+  together = λ value n t. c.in_ok-all-2.ensures.together value n (c.look_ahead.ensures.together value n (c.loop.invariant.together value n t));
 }
 
 pub returns-in_default-clause-grown : goal.returns-in_default-clause-grown
-returns-in_default-clause-grown g c = all_grown_trans c.args.owners.items c.loop.all.items c.look.new.owners.items c.loop.invariant.grown c.look.ensures.grown
+returns-in_default-clause-grown g c = all_grown_trans c.args.owners.items c.loop.all.items c.look_ahead.new.owners.items c.loop.invariant.grown c.look_ahead.ensures.grown
 
 pub returns-in_default-clause-finished : goal.returns-in_default-clause-finished
 returns-in_default-clause-finished g c = λ value n finished.
-    finished_grown value n c.args.owners.items c.look.new.owners.items
-    (all_grown_trans c.args.owners.items c.loop.all.items c.look.new.owners.items c.loop.invariant.grown c.look.ensures.grown) (c.in-Done.ensures.sent refl) (c.in-Done.ensures.received refl) finished
+    finished_grown value n c.args.owners.items c.look_ahead.new.owners.items
+    (all_grown_trans c.args.owners.items c.loop.all.items c.look_ahead.new.owners.items c.loop.invariant.grown c.look_ahead.ensures.grown) (c.in_default.ensures.sent refl) (c.in_default.ensures.received refl) finished
 
-pub returns-in_err-all-in-Busy-clause-wanting : goal.returns-in_err-all-in-Busy-clause-wanting
-returns-in_err-all-in-Busy-clause-wanting g c =
-    let p = err_from_is_err_and c.from_residual-in_err-all-in-Busy.result c.from_residual-in_err-all-in-Busy.ensures.1 in
-    rw (p.1, p.2) (λ value n small t. c.in_err-all-in-Busy.ensures.wanting value n small (c.look.ensures.together value n (c.loop.invariant.together value n t)))
-
-pub returns-in_err-all-in-Waiting-clause-wanting : goal.returns-in_err-all-in-Waiting-clause-wanting
-returns-in_err-all-in-Waiting-clause-wanting g c =
-    let p = err_from_is_err_and c.from_residual-in_err-all-in-Waiting.result c.from_residual-in_err-all-in-Waiting.ensures.1 in
-    rw (p.1, p.2) (λ value n small t. c.in_err-all-in-Waiting.ensures.wanting value n small (c.look.ensures.together value n (c.loop.invariant.together value n t)))
-
-pub returns-in_err-all-in-Done-clause-wanting : goal.returns-in_err-all-in-Done-clause-wanting
-returns-in_err-all-in-Done-clause-wanting g c =
-    let p = err_from_is_err_and c.from_residual-in_err-all-in-Done.result c.from_residual-in_err-all-in-Done.ensures.1 in
-    rw (p.1, p.2) (λ value n small t. c.in_err-all-in-Done.ensures.wanting value n small (c.begin.ensures.together value n (c.look.ensures.together value n (c.loop.invariant.together value n t))))
+pub returns-in_err-all-2-clause-wanting : goal.returns-in_err-all-2-clause-wanting
+returns-in_err-all-2-clause-wanting g c =
+    let p = err_from_is_err_and c.from_residual-in_err-all-2.result c.from_residual-in_err-all-2.ensures.1 in
+    rw (p.1, p.2) (λ value n small t. c.in_err-all-2.ensures.wanting value n small (c.look_ahead.ensures.together value n (c.loop.invariant.together value n t)))
