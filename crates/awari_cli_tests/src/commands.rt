@@ -144,7 +144,7 @@ fn checks_level_2(rt: HostRuntime) -> Result<(), Fail> {
 
 /// Levels 0 and 1 with this line for rank 6, and then a line that is not of the form.
 fn expect_before(
-    rt: &(impl Abort + Files<File = File> + Threads + Wait + Sync),
+    rt: &(impl Abort + Files<File = File> + Threads + Wait + Sync + Send + Clone + Drop + 'static),
     alloc: Global,
     line: &str,
     printed: &str,
@@ -226,7 +226,7 @@ impl Write for Stuck {
 
 /// The status of `check`, of what this reader gives to this writer.
 fn check_status(
-    rt: &(impl Abort + Files<File = File> + Threads + Wait + Sync),
+    rt: &(impl Abort + Files<File = File> + Threads + Wait + Sync + Send + Clone + Drop + 'static),
     alloc: Global,
     reader: &mut impl Read,
     writer: &mut impl Write,

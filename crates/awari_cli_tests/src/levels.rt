@@ -62,7 +62,7 @@ level 12 boards 1352078 won 714572 even 197753 lost 439753 limit 184
 
 /// Runs `build` up to this level, with no folder.
 pub fn expect_built(
-    rt: &(impl Abort + Files<File = File> + Threads + Wait + Sync),
+    rt: &(impl Abort + Files<File = File> + Threads + Wait + Sync + Send + Clone + Drop + 'static),
     alloc: Global,
     top: &str,
     printed: &str,
@@ -82,7 +82,7 @@ fn levels_are_built(rt: HostRuntime) {
 
 /// Runs `build` up to level 2 with one option of a pace.
 fn expect_paced(
-    rt: &(impl Abort + Files<File = File> + Threads + Wait + Sync),
+    rt: &(impl Abort + Files<File = File> + Threads + Wait + Sync + Send + Clone + Drop + 'static),
     alloc: Global,
     (name, number): (&str, &str),
     printed: &str,
@@ -301,7 +301,16 @@ const LINES_OF_3: [(&str, &str, u8); 4] = [
 
 /// What `line` prints of boards.
 fn expect_lines(
-    rt: &(impl Abort + Files<File = File> + Threads + Wait + Sync + AllocGlobal),
+    rt: &(impl Abort
+        + Files<File = File>
+        + Threads
+        + Wait
+        + Sync
+        + Send
+        + Clone
+        + Drop
+        + AllocGlobal
+        + 'static),
     folder: &str,
     lines: &[(&str, &str, u8)],
 ) {
@@ -388,7 +397,16 @@ fn expect_refusal(
 
 /// What `verify` prints where a byte of the second file is changed, and its digest made right.
 fn expect_changed(
-    rt: &(impl Abort + Files<File = File> + Threads + Wait + Sync + AllocGlobal),
+    rt: &(impl Abort
+        + Files<File = File>
+        + Threads
+        + Wait
+        + Sync
+        + Send
+        + Clone
+        + Drop
+        + AllocGlobal
+        + 'static),
     folder: &str,
     second: &str,
     (right, place, bytes): (&[u8], usize, &[u8]),
@@ -401,7 +419,16 @@ fn expect_changed(
 
 /// What `verify` prints where the second file is over another one, wrong, or cut.
 fn expect_refusals(
-    rt: &(impl Abort + Files<File = File> + Threads + Wait + Sync + AllocGlobal),
+    rt: &(impl Abort
+        + Files<File = File>
+        + Threads
+        + Wait
+        + Sync
+        + Send
+        + Clone
+        + Drop
+        + AllocGlobal
+        + 'static),
     folder: &str,
     second: &str,
     right: &[u8],
@@ -538,7 +565,7 @@ fn levels_0_to_3(alloc: Global, first: &str) -> Result<String, Fail> {
 
 /// What `check` prints of levels 0 to 3, with this line for the first board of level 3.
 fn expect_checked(
-    rt: &(impl Abort + Files<File = File> + Threads + Wait + Sync),
+    rt: &(impl Abort + Files<File = File> + Threads + Wait + Sync + Send + Clone + Drop + 'static),
     alloc: Global,
     first: &str,
     printed: &str,

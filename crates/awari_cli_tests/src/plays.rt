@@ -41,7 +41,7 @@ const PLAYED: [(&str, &str, &str); 5] = [
 
 /// Runs `move`.
 pub fn expect_move(
-    rt: &(impl Abort + Files<File = File> + Threads + Wait + Sync),
+    rt: &(impl Abort + Files<File = File> + Threads + Wait + Sync + Send + Clone + Drop + 'static),
     alloc: Global,
     (board, pit): (&str, &str),
     printed: &str,
@@ -146,7 +146,7 @@ const JUDGED: [(&str, &str, &str, &str, u8); 10] = [
 
 /// Runs `judge` with these moves.
 pub fn expect_judged(
-    rt: &(impl Abort + Files<File = File> + Threads + Wait + Sync),
+    rt: &(impl Abort + Files<File = File> + Threads + Wait + Sync + Send + Clone + Drop + 'static),
     alloc: Global,
     (board, limit, moves, printed, status): (&str, &str, &str, &str, u8),
 ) {

@@ -123,7 +123,7 @@ fn usage_goes_to_the_error_stream(rt: HostRuntime) {
 
 /// Runs `build` up to level 1 in the folder, whose lines can't be written.
 fn build_unwritten(
-    rt: &(impl Abort + Files<File = File> + Threads + Wait + Sync),
+    rt: &(impl Abort + Files<File = File> + Threads + Wait + Sync + Send + Clone + Drop + 'static),
     alloc: Global,
     folder: &str,
 ) {
