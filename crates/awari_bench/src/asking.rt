@@ -1,5 +1,5 @@
-//! Boards looked up on a shelf in hand, and asked of readers: of one alone, of four at once, and of
-//! one beside two owners that build a level.
+//! Boards looked up on a shelf in hand, and asked of readers of a desk: of one and of four at once, alone
+//! and beside two owners that build a level.
 
 use crate::STONES;
 use crate::counting::Counted;
@@ -36,15 +36,24 @@ fn scattered_boards(alloc: Global) -> Result<Vec<Board>, AllocError> {
     Ok(scattered)
 }
 
+/// The place of the board to look up next. It hangs on the distance that was told, as where a program
+/// goes on from an answer, so that no look-up begins before the last one has ended. Since no distance
+/// is as great as 2^31, it is the next place.
+fn next_place(place: usize, dist: u32, boards: &[Board]) -> usize {
+    let next = place.wrapping_add(1).wrapping_add((dist >> 31) as usize);
+    if next < boards.len() { next } else { 0 }
+}
+
 /// Looks each board up on the shelf, so many times.
 fn entries_of(shelf: &Shelf, boards: &[Board], rounds: u32) -> Counted {
     let mut counted = Counted::NONE;
-    for _round in 0..rounds {
-        for board in boards {
-            if let Ok(entry) = shelf.entry(board) {
-                counted.add(u64::from(entry.dist));
-            }
-        }
+    let mut place = 0;
+    for _look_up in 0..u64::from(rounds).wrapping_mul(boards.len() as u64) {
+        let Some(Ok(entry)) = boards.get(place).map(|board| shelf.entry(board)) else {
+            return counted;
+        };
+        counted.add(u64::from(entry.dist));
+        place = next_place(place, entry.dist, boards);
     }
     counted
 }
@@ -52,12 +61,16 @@ fn entries_of(shelf: &Shelf, boards: &[Board], rounds: u32) -> Counted {
 /// Asks the reader for each board, so many times.
 fn asks_of(reader: &mut Reader, boards: &[Board], rounds: u32) -> Counted {
     let mut counted = Counted::NONE;
-    for _round in 0..rounds {
-        for board in boards {
-            if let Ok(entry) = reader.ask(board) {
-                counted.add(u64::from(entry.dist));
-            }
-        }
+    let mut place = 0;
+    for _look_up in 0..u64::from(rounds).wrapping_mul(boards.len() as u64) {
+        let Some(board) = boards.get(place) else {
+            return counted;
+        };
+        let Ok(entry) = reader.ask(board) else {
+            return counted;
+        };
+        counted.add(u64::from(entry.dist));
+        place = next_place(place, entry.dist, boards);
     }
     counted
 }
@@ -108,27 +121,55 @@ fn all_at_once<R: Threads>(
     Ok(counted)
 }
 
-/// Has the reader asked while two owners build the level above the shelf, and prints how long each
-/// call took, and how much longer the level did.
+/// A desk of five readers, with the levels up to that of the boards published.
+fn open_desk<R: Wait + Drop>(
+    rt: R,
+    alloc: Global,
+) -> io::Result<Option<(Publisher<R>, Vec<Reader>)>> {
+    let Ok((mut publisher, readers)) = desk(rt, alloc, 5) else {
+        return Ok(None);
+    };
+    publish_levels(alloc, &mut publisher)?;
+    Ok(Some((publisher, readers)))
+}
+
+/// Has one reader asked, and then the others at once, and prints how long each call took.
+fn ask_all<R: Threads + Print + Clock>(
+    rt: &R,
+    alloc: Global,
+    mut readers: Vec<Reader>,
+    boards: &Arc<Vec<Board>>,
+    rounds: u32,
+) -> io::Result<()> {
+    if let Some(mut reader) = readers.pop() {
+        let start = Instant::now(rt)?;
+        let counted = asks_of(&mut reader, boards.as_slice(), rounds);
+        print_each(rt, "ask", start, counted)?;
+    }
+    let start = Instant::now(rt)?;
+    let counted = all_at_once(rt, alloc, readers, boards, rounds)?;
+    print_each(rt, "ask, four at once", start, counted)
+}
+
+/// Has them asked while two owners build the level above the shelf, and prints how much longer that
+/// took.
 fn ask_beside<R: Threads + Wait + Sync + Send + Clone + Drop + Print + Clock + 'static>(
     rt: &R,
     alloc: Global,
     shelf: Shelf,
-    reader: &mut Reader,
-    boards: &[Board],
+    readers: Vec<Reader>,
+    boards: &Arc<Vec<Board>>,
     rounds: u32,
 ) -> io::Result<()> {
     let own = rt.clone()?;
     let builder = thread::spawn(rt, move || {
         build_level(&own, alloc, &shelf, TWO_OWNERS, &Open).is_ok()
     })?;
-    let start = Instant::now(rt)?;
-    let counted = asks_of(reader, boards, rounds);
-    print_each(rt, "ask beside a build", start, counted)?;
+    ask_all(rt, alloc, readers, boards, rounds)?;
     let start = Instant::now(rt)?;
     let _is_built = builder.join(rt);
     let longer = start.elapsed(rt)?.as_millis();
-    println!(rt; "which took {longer} ms longer")
+    println!(rt; "beside a build, which took {longer} ms longer")
 }
 
 /// Times the look-ups, and prints what each took.
@@ -137,30 +178,20 @@ pub fn asking<R: Threads + Wait + Sync + Send + Clone + Drop + Print + Clock + '
     alloc: Global,
     rounds: u32,
 ) -> io::Result<()> {
-    let Ok((mut publisher, mut readers)) = desk(rt.clone()?, alloc, 5) else {
+    let boards = Arc::new(alloc, scattered_boards(alloc)?)?;
+    let Some((publisher, readers)) = open_desk(rt.clone()?, alloc)? else {
         return Ok(());
     };
-    publish_levels(alloc, &mut publisher)?;
-    let boards = Arc::new(alloc, scattered_boards(alloc)?)?;
     let start = Instant::now(rt)?;
     let counted = entries_of(publisher.pages.book(), boards.as_slice(), rounds);
     print_each(rt, "entry", start, counted)?;
-    if let Some(mut reader) = readers.pop() {
-        let start = Instant::now(rt)?;
-        let counted = asks_of(&mut reader, boards.as_slice(), rounds);
-        print_each(rt, "ask", start, counted)?;
-        ask_beside(
-            rt,
-            alloc,
-            publisher.pages.book().share()?,
-            &mut reader,
-            boards.as_slice(),
-            rounds,
-        )?;
-    }
-    let start = Instant::now(rt)?;
-    let counted = all_at_once(rt, alloc, readers, &boards, rounds)?;
-    print_each(rt, "ask, four at once", start, counted)?;
+    ask_all(rt, alloc, readers, &boards, rounds)?;
+    let shelf = publisher.pages.book().share()?;
+    publisher.close();
+    let Some((publisher, readers)) = open_desk(rt.clone()?, alloc)? else {
+        return Ok(());
+    };
+    ask_beside(rt, alloc, shelf, readers, &boards, rounds)?;
     publisher.close();
     Ok(())
 }
