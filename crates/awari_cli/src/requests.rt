@@ -221,7 +221,7 @@ fn top<'a>(alloc: Global) -> Arg<'a> {
     Arg::new(alloc, "TOP")
         .required(true)
         .value_parser(ValueParser::unsigned(0, u64::from(HIGHEST_LEVEL)))
-        .help("The highest level to build, 0 to 12")
+        .help("The highest level to build, 0 to 24")
 }
 
 fn start_folder<'a>(alloc: Global) -> Arg<'a> {
@@ -292,7 +292,7 @@ fn serve_command<'a>(alloc: Global) -> Result<Command<'a>, Error> {
     let top = Arg::new(alloc, "TOP")
         .required(true)
         .value_parser(ValueParser::unsigned(0, u64::from(HIGHEST_LEVEL)))
-        .help("The highest level to build meanwhile, 0 to 12");
+        .help("The highest level to build meanwhile, 0 to 24");
     let owners = Arg::new(alloc, "OWNERS")
         .required(true)
         .value_parser(ValueParser::unsigned(0, u64::from(MOST_OWNERS)))

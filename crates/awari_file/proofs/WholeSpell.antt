@@ -209,11 +209,11 @@ all_at zero a i small lt = absurd (omega (arith, lt))
 all_at (suc n) a zero small lt = subst (λ (m : ℕ). IsSmall (size_of m)) (omega arith) small.0
 all_at (suc n) a (suc i) small lt = subst (λ (m : ℕ). IsSmall (size_of m)) (omega arith) (all_at n (a + 1) i small.1 (omega (arith, lt)))
 
-sizes_small : AllByRecursion IsSmall (map size_of (range_with_len 0 13))
-sizes_small = subst (AllByRecursion IsSmall) (sym sizes) (omega arith, (omega arith, (omega arith, (omega arith, (omega arith, (omega arith, (omega arith, (omega arith, (omega arith, (omega arith, (omega arith, (omega arith, (omega arith, tt)))))))))))))
+sizes_small : AllByRecursion IsSmall (map size_of (range_with_len 0 25))
+sizes_small = subst (AllByRecursion IsSmall) (sym sizes) (omega arith, (omega arith, (omega arith, (omega arith, (omega arith, (omega arith, (omega arith, (omega arith, (omega arith, (omega arith, (omega arith, (omega arith, (omega arith, (omega arith, (omega arith, (omega arith, (omega arith, (omega arith, (omega arith, (omega arith, (omega arith, (omega arith, (omega arith, (omega arith, (omega arith, tt)))))))))))))))))))))))))
 
 size_small : (n : ℕ) → n ≤ HIGHEST_LEVEL → size_of n < 2 ^ 64
-size_small n low = subst (λ (m : ℕ). IsSmall (size_of m)) (omega arith) (all_at 13 0 n sizes_small (omega (arith, low)))
+size_small n low = subst (λ (m : ℕ). IsSmall (size_of m)) (omega arith) (all_at 25 0 n sizes_small (omega (arith, low)))
 
 found_in : (bytes : List ℕ) (r : Result Loaded FileFault) → IsBytes bytes → Answers (λ (x : Loaded). x) r (file_in bytes) → IfOk r (λ x. IsFileOf bytes x)
 found_in bytes (Ok x) fits given = file_take bytes x fits given

@@ -21,9 +21,9 @@ size_of-at : (n : ℕ) → n < 25 → size_of n ≡ at 0 (n + 1)
 unfolding size_of
 size_of-at n h = ways-suc 11 n ∙ sym (table_is 0 (n + 1) (omega arith) (omega arith))
 
-pub sizes : map size_of (range_with_len 0 13) ≡ 1 ∷ 12 ∷ 78 ∷ 364 ∷ 1365 ∷ 4368 ∷ 12376 ∷ 31824 ∷ 75582 ∷ 167960 ∷ 352716 ∷ 705432 ∷ 1352078 ∷ []
+pub sizes : map size_of (range_with_len 0 25) ≡ 1 ∷ 12 ∷ 78 ∷ 364 ∷ 1365 ∷ 4368 ∷ 12376 ∷ 31824 ∷ 75582 ∷ 167960 ∷ 352716 ∷ 705432 ∷ 1352078 ∷ 2496144 ∷ 4457400 ∷ 7726160 ∷ 13037895 ∷ 21474180 ∷ 34597290 ∷ 54627300 ∷ 84672315 ∷ 129024480 ∷ 193536720 ∷ 286097760 ∷ 417225900 ∷ []
 unfolding at
-sizes = map_same size_of (λ n. at 0 (n + 1)) 13 (λ n h. size_of-at n (omega arith)) ∙ refl
+sizes = map_same size_of (λ n. at 0 (n + 1)) 25 (λ n h. size_of-at n (omega arith)) ∙ refl
 
 pub highest : size_of 24 ≡ 417225900
 unfolding at
@@ -69,3 +69,7 @@ first =
 pub last : rank_of (12 ∷ replicate 11 0) ≡ 1352077
 unfolding at total
 last = omega (arith, rank_of-larger (12 ∷ replicate 11 0) refl, size_of-at 12 (omega arith))
+
+pub highest_last : rank_of (24 ∷ replicate 11 0) ≡ 417225899
+unfolding at total
+highest_last = omega (arith, rank_of-larger (24 ∷ replicate 11 0) refl, size_of-at 24 (omega arith))

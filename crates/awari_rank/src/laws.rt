@@ -44,15 +44,16 @@ pub fn worked_examples()
         ≡ (0 ∷ 0 ∷ 2 ∷ []) ∷ (0 ∷ 1 ∷ 1 ∷ []) ∷ (0 ∷ 2 ∷ 0 ∷ []) ∷ (1 ∷ 0 ∷ 1 ∷ [])
         ∷ (1 ∷ 1 ∷ 0 ∷ []) ∷ (2 ∷ 0 ∷ 0 ∷ []) ∷ [] }
 
-    // The sizes of the levels from 0 to 12, and of the highest.
-    ensures sizes { map size_of (range_with_len 0 13)
+    // The sizes of the levels from 0 to 24.
+    ensures sizes { map size_of (range_with_len 0 25)
         ≡ 1 ∷ 12 ∷ 78 ∷ 364 ∷ 1365 ∷ 4368 ∷ 12376 ∷ 31824 ∷ 75582 ∷ 167960 ∷ 352716 ∷ 705432
-        ∷ 1352078 ∷ [] }
-    ensures highest { size_of 24 ≡ 417225900 }
+        ∷ 1352078 ∷ 2496144 ∷ 4457400 ∷ 7726160 ∷ 13037895 ∷ 21474180 ∷ 34597290 ∷ 54627300
+        ∷ 84672315 ∷ 129024480 ∷ 193536720 ∷ 286097760 ∷ 417225900 ∷ [] }
 
-    // The first and the last board of level 12.
+    // The first and the last board of level 12, and the last of level 24.
     ensures first { rank_of (replicate 11 0 ++ 12 ∷ []) ≡ 0 }
     ensures last { rank_of (12 ∷ replicate 11 0) ≡ 1352077 }
+    ensures highest_last { rank_of (24 ∷ replicate 11 0) ≡ 417225899 }
 
     ensures one_stone { rank_of (replicate 5 0 ++ 1 ∷ replicate 6 0) ≡ 6 }
     ensures two_beside { rank_of (replicate 5 0 ++ 1 ∷ 1 ∷ replicate 5 0) ≡ 26 }

@@ -10,9 +10,9 @@ ghost use Rattle.awari_table.specs.declared.faults.TableFault.{TableFault};
 ghost use Rattle.awari_table.specs.Spelling.{block, table_text, IsImage, AreImages};
 ghost use Rattle.awari_table.specs.TableFault.{IsDueAt};
 
-/// The highest level of which tables are made, read and written is that of twelve stones.
-pub fn highest_level_is_12()
-    ensures { HIGHEST_LEVEL ≡ 12 }
+/// The highest level of which tables are made, read and written is that of 24 stones.
+pub fn highest_level_is_24()
+    ensures { HIGHEST_LEVEL ≡ 24 }
 {}
 
 /// The levels of a shelf are a certificate: every board of every level keeps the rules by the one

@@ -18,7 +18,7 @@ pub use counted::Counted;
 pub use faults::TableFault;
 pub use images::{Counts, Entries, Entry, Image};
 pub use laws::{
-    fronts_are_shelves, highest_level_is_12, one_text_fault_is_due, shelves_are_certificates,
+    fronts_are_shelves, highest_level_is_24, one_text_fault_is_due, shelves_are_certificates,
     texts_tell_images_apart,
 };
 pub use levels::Level;
@@ -27,7 +27,7 @@ pub use shelves::{NotYet, Shelf};
 pub use text::TableText;
 
 /// The highest level that a shelf may hold, in stones. Every bound on a level goes by this one.
-pub const HIGHEST_LEVEL: u8 = 12;
+pub const HIGHEST_LEVEL: u8 = 24;
 
 /// The highest level of tables whose distances only had to fall.
 pub const HIGHEST_FALLING_LEVEL: u8 = 12;

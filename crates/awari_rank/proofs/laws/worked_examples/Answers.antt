@@ -5,9 +5,9 @@ pub returns : goal.returns
 returns c = record {
   listed = example.listed;
   sizes = example.sizes;
-  highest = example.highest;
   first = example.first;
   last = example.last;
+  highest_last = example.highest_last;
   one_stone = example.one_stone;
   two_beside = example.two_beside;
   two_apart = example.two_apart;

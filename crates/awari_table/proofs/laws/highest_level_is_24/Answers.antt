@@ -1,5 +1,5 @@
 use Rattle.std.proofs.Common.{refl}
-use Rattle.awari_table.proofs.laws.highest_level_is_12.Goals as goal
+use Rattle.awari_table.proofs.laws.highest_level_is_24.Goals as goal
 
 pub returns : goal.returns
 returns c = refl
