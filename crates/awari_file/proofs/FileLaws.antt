@@ -8,9 +8,8 @@ use Rattle.awari_table.specs.declared.images.Entry.{Entry}
 use Rattle.awari_file.specs.declared.contents.Header.{Header}
 use Rattle.awari_file.specs.declared.faults.FileFault.{FileFault}
 use Rattle.awari_file.specs.declared.faults.FileFault.TheVariants as faults
-use Rattle.awari_table.specs.declared.TheConstants.{HIGHEST_LEVEL}
-use Rattle.awari_file.specs.FileText.{magic_number}
-use Rattle.awari_file.specs.Reading.{◌>>=◌, field, number_if, any_number, as_they_are, header_at, entry_of, entries_at, IsOwn, Fails}
+use Rattle.awari_file.specs.FileText.{magic_number, highest_in}
+use Rattle.awari_file.specs.Reading.{◌>>=◌, field, number_if, any_number, as_they_are, is_version, header_at, entry_of, entries_at, IsOwn, Fails}
 use Rattle.awari_file.proofs.FieldLaws.{Reader, MakesOwn, IsField, followed_by, field-is, nothing-is, then-is}
 
 abbrev failing : {A : Type 0} → FileFault → Result A FileFault
@@ -41,10 +40,10 @@ abbrev pub nought_on : ℕ → ℕ → Reader Header
 nought_on v l = λ s bytes. field 1 (number_if w8 (λ n. eqb n 0) faults.Version) s bytes >>= λ nought. count_on v l s nought.1
 
 abbrev pub level_on : ℕ → Reader Header
-level_on v = λ s bytes. field 1 (number_if w8 (λ n. leb n HIGHEST_LEVEL) faults.LevelOutOfRange) s bytes >>= λ level. nought_on v level.0 s level.1
+level_on v = λ s bytes. field 1 (number_if w8 (λ n. leb n (highest_in v)) faults.LevelOutOfRange) s bytes >>= λ level. nought_on v level.0 s level.1
 
 abbrev pub version_on : Reader Header
-version_on = λ s bytes. field 2 (number_if w16 (λ n. eqb n 1) faults.Version) s bytes >>= λ version. level_on version.0 s version.1
+version_on = λ s bytes. field 2 (number_if w16 is_version faults.Version) s bytes >>= λ version. level_on version.0 s version.1
 
 below_on-is : (v l m : ℕ) → IsField Header 32 (below_on v l m)
 below_on-is v l m = then-is (List ℕ) Header 32 0 (field 32 as_they_are) (λ below s bytes. Ok (record { version = v; level = l; limit = m; below = below }, bytes))
@@ -62,12 +61,12 @@ nought_on-is v l = then-is ℕ Header 1 44 (field 1 (number_if w8 (λ n. eqb n 0
     (field-is ℕ 1 (number_if w8 (λ n. eqb n 0) faults.Version) (number_if-own w8 (λ n. eqb n 0) faults.Version tt)) (λ _. count_on-is v l)
 
 level_on-is : (v : ℕ) → IsField Header 46 (level_on v)
-level_on-is v = then-is ℕ Header 1 45 (field 1 (number_if w8 (λ n. leb n HIGHEST_LEVEL) faults.LevelOutOfRange)) (λ l. nought_on v l)
-    (field-is ℕ 1 (number_if w8 (λ n. leb n HIGHEST_LEVEL) faults.LevelOutOfRange) (number_if-own w8 (λ n. leb n HIGHEST_LEVEL) faults.LevelOutOfRange tt)) (λ l. nought_on-is v l)
+level_on-is v = then-is ℕ Header 1 45 (field 1 (number_if w8 (λ n. leb n (highest_in v)) faults.LevelOutOfRange)) (λ l. nought_on v l)
+    (field-is ℕ 1 (number_if w8 (λ n. leb n (highest_in v)) faults.LevelOutOfRange) (number_if-own w8 (λ n. leb n (highest_in v)) faults.LevelOutOfRange tt)) (λ l. nought_on-is v l)
 
 version_on-is : IsField Header 48 version_on
-version_on-is = then-is ℕ Header 2 46 (field 2 (number_if w16 (λ n. eqb n 1) faults.Version)) (λ v. level_on v)
-    (field-is ℕ 2 (number_if w16 (λ n. eqb n 1) faults.Version) (number_if-own w16 (λ n. eqb n 1) faults.Version tt)) (λ v. level_on-is v)
+version_on-is = then-is ℕ Header 2 46 (field 2 (number_if w16 is_version faults.Version)) (λ v. level_on v)
+    (field-is ℕ 2 (number_if w16 is_version faults.Version) (number_if-own w16 is_version faults.Version tt)) (λ v. level_on-is v)
 
 pub header-is : IsField Header 52 header_at
 unfolding header_at

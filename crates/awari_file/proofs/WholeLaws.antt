@@ -39,7 +39,7 @@ before_is xs done rest e =
     ap (λ (k : ℕ). take k xs) n ∙ ap (take (length done)) e ∙ take_at done rest (length done) refl
 
 abbrev pub loaded_of : Header → List Entry → List ℕ → Loaded
-loaded_of h es digest = record { image = record { level = h.level; limit = h.limit; entries = es }; below = h.below; digest = digest }
+loaded_of h es digest = record { version = h.version; image = record { level = h.level; limit = h.limit; entries = es }; below = h.below; digest = digest }
 
 abbrev after_entries : List ℕ → Header → Result (List Entry × List ℕ) FileFault → Result Loaded FileFault
 after_entries xs h read = read >>= λ entries. end_at (take (length xs - length entries.1) xs) Truncated entries.1 >>= λ digest. Ok (loaded_of h entries.0 digest)

@@ -1,5 +1,5 @@
 -- A file is spelled and read again.
-use Rattle.std.proofs.Common.{◌≡◌, ℕ, zero, suc, ◌+◌, ◌-◌, ◌^◌, ◌<◌, ◌≤◌, Bool, true, cond, eqb, leb, List, [], ◌∷◌, ◌++◌, length, take, Option, Some, None, Result, Ok, Err, refl, sym, ap, subst, ◌∙◌, append_assoc, arith}
+use Rattle.std.proofs.Common.{◌≡◌, ℕ, zero, suc, ◌+◌, ◌-◌, ◌^◌, ◌<◌, ◌≤◌, ◌⊎◌, ◌||◌, Bool, true, false, cond, eqb, leb, List, [], ◌∷◌, ◌++◌, length, take, Option, Some, None, Result, Ok, Err, refl, sym, ap, subst, ◌∙◌, append_assoc, arith, inl, inr}
 use Rattle.std.specs.Prelude.{IfSome, IfOk, OnOk, map}
 use Rattle.std.specs.List.{flat_map, range_with_len, AllByRecursion}
 use Rattle.std.specs.Int.{w8, w16, w32, w64, to_be_bytes}
@@ -11,15 +11,15 @@ use Rattle.sha2.specs.Sha256.{sha256}
 use Rattle.sha2.proofs.Facts256.{length-sha256}
 use Rattle.awari_rank.specs.Rank.{size_of}
 use Rattle.awari_rank.proofs.Examples.{sizes}
-use Rattle.awari_table.specs.declared.TheConstants.{HIGHEST_LEVEL}
+use Rattle.awari_table.specs.declared.TheConstants.{HIGHEST_LEVEL, HIGHEST_FALLING_LEVEL}
 use Rattle.awari_table.specs.declared.images.Entry.{Entry}
 use Rattle.awari_table.specs.declared.images.Image.{Image}
 use Rattle.awari_file.specs.declared.contents.Header.{Header}
 use Rattle.awari_file.specs.declared.contents.Loaded.{Loaded}
 use Rattle.awari_file.specs.declared.faults.FileFault.{FileFault}
 use Rattle.awari_file.specs.declared.faults.FileFault.TheVariants as faults
-use Rattle.awari_file.specs.FileText.{magic_number, header_text, entry_text, body_text, file_text, found_of, HasFile, IsFileOf}
-use Rattle.awari_file.specs.Reading.{◌>>=◌, field, number_if, any_number, as_they_are, digest_if, header_at, entries_at, end_at, file_in}
+use Rattle.awari_file.specs.FileText.{magic_number, header_text, entry_text, body_text, file_text, found_of, highest_in, HasFile, IsFileOf}
+use Rattle.awari_file.specs.Reading.{◌>>=◌, field, number_if, any_number, as_they_are, is_version, digest_if, header_at, entries_at, end_at, file_in}
 use Rattle.awari_file.specs.Source.{Answers}
 use Rattle.awari_file.proofs.FieldLaws.{bind_ok, ok_is}
 use Rattle.awari_file.proofs.FileLaws.{below_on, limit_on, count_on, nought_on, level_on, version_on}
@@ -29,13 +29,33 @@ use Rattle.awari_file.proofs.WholeLaws.{loaded_of, all_ok, before_is}
 
 -- ---- the header
 
-abbrev is_version : ℕ → Bool
-is_version n = eqb n 1
+or_cases : {A B : Type 0} (a b : Bool) → (a ≡ true → A) → (b ≡ true → B) → (a || b) ≡ true → A ⊎ B
+or_cases true b f g h = inl (f refl)
+or_cases false b f g h = inr (g h)
+
+is_version-true : (v : ℕ) → is_version v ≡ true → (v ≡ 1) ⊎ (v ≡ 2)
+is_version-true v h = or_cases (eqb v 1) (eqb v 2) (eqb-true v 1) (eqb-true v 2) h
+
+version-is : (v : ℕ) → (v ≡ 1) ⊎ (v ≡ 2) → is_version v ≡ true
+version-is v (inl one) = rw one refl
+version-is v (inr two) = rw two refl
+
+version-fits : (v : ℕ) → (v ≡ 1) ⊎ (v ≡ 2) → v < 2 ^ 16
+version-fits v (inl one) = omega (arith, one)
+version-fits v (inr two) = omega (arith, two)
+
+by_version : (old : Bool) → cond old HIGHEST_FALLING_LEVEL HIGHEST_LEVEL ≤ HIGHEST_LEVEL
+by_version true = omega arith
+by_version false = omega arith
+
+-- no version has a level above the highest
+pub low_in : (version level : ℕ) → level ≤ highest_in version → level ≤ HIGHEST_LEVEL
+low_in version level low = omega (arith, low, by_version (eqb version 1))
 
 -- a header whose numbers fit their bytes
 pub record FitsHeader (h : Header) : Type 0 where
-  pub version : h.version ≡ 1
-  pub level : h.level ≤ HIGHEST_LEVEL
+  pub version : (h.version ≡ 1) ⊎ (h.version ≡ 2)
+  pub level : h.level ≤ highest_in h.version
   pub limit : h.limit < 2 ^ 32
   pub below : length h.below ≡ 32
   pub bytes : IsBytes h.below
@@ -58,7 +78,7 @@ header_take s bytes x fits e =
     let a = bind_ok (field 4 (number_if w32 (λ n. eqb n magic_number) faults.Magic) s bytes) (λ y. version_on s y.1) x e in
     let b = bind_ok (field 2 (number_if w16 is_version faults.Version) s a.0.1) (λ y. level_on y.0 s y.1) x a.2 in
     let v = b.0.0 in
-    let c = bind_ok (field 1 (number_if w8 (λ n. leb n HIGHEST_LEVEL) faults.LevelOutOfRange) s b.0.1) (λ y. nought_on v y.0 s y.1) x b.2 in
+    let c = bind_ok (field 1 (number_if w8 (λ n. leb n (highest_in v)) faults.LevelOutOfRange) s b.0.1) (λ y. nought_on v y.0 s y.1) x b.2 in
     let l = c.0.0 in
     let d = bind_ok (field 1 (number_if w8 (λ n. eqb n 0) faults.Version) s c.0.1) (λ y. count_on v l s y.1) x c.2 in
     let f = bind_ok (field 8 (number_if w64 (λ n. eqb n (size_of l)) faults.Count) s d.0.1) (λ y. limit_on v l s y.1) x d.2 in
@@ -67,7 +87,7 @@ header_take s bytes x fits e =
     let k = bind_ok (field 32 as_they_are s h.0.1) (λ y. Ok (record { version = v; level = l; limit = m; below = y.0 }, y.1)) x h.2 in
     let ta = field_takes ℕ 4 (number_if w32 (λ n. eqb n magic_number) faults.Magic) (to_be_bytes w32) (λ n. (n < 2 ^ 32) × (eqb n magic_number ≡ true)) magic_spells s bytes a.0 fits a.1 in
     let tb = field_takes ℕ 2 (number_if w16 is_version faults.Version) (to_be_bytes w16) (λ n. (n < 2 ^ 16) × (is_version n ≡ true)) version_spells s a.0.1 b.0 ta.0.rest_fits b.1 in
-    let tc = field_takes ℕ 1 (number_if w8 (λ n. leb n HIGHEST_LEVEL) faults.LevelOutOfRange) (λ n. n ∷ []) (λ n. (n < 256) × (leb n HIGHEST_LEVEL ≡ true)) (byte-spells (λ n. leb n HIGHEST_LEVEL) faults.LevelOutOfRange) s b.0.1 c.0 tb.0.rest_fits c.1 in
+    let tc = field_takes ℕ 1 (number_if w8 (λ n. leb n (highest_in v)) faults.LevelOutOfRange) (λ n. n ∷ []) (λ n. (n < 256) × (leb n (highest_in v) ≡ true)) (byte-spells (λ n. leb n (highest_in v)) faults.LevelOutOfRange) s b.0.1 c.0 tb.0.rest_fits c.1 in
     let td = field_takes ℕ 1 (number_if w8 (λ n. eqb n 0) faults.Version) (λ n. n ∷ []) (λ n. (n < 256) × (eqb n 0 ≡ true)) (byte-spells (λ n. eqb n 0) faults.Version) s c.0.1 d.0 tc.0.rest_fits d.1 in
     let tf = field_takes ℕ 8 (number_if w64 (λ n. eqb n (size_of l)) faults.Count) (to_be_bytes w64) (λ n. (n < 2 ^ 64) × (eqb n (size_of l) ≡ true)) (count_spells l) s d.0.1 f.0 td.0.rest_fits f.1 in
     let th = field_takes ℕ 4 (any_number w32) (to_be_bytes w32) (λ n. n < 2 ^ 32) (any-spells w32 (2 ^ 32) wide32) s f.0.1 h.0 tf.0.rest_fits h.1 in
@@ -82,7 +102,7 @@ header_take s bytes x fits e =
     ∙ ap (λ (n : ℕ). (to_be_bytes w32 magic_number ++ (to_be_bytes w16 v ++ ((l ∷ []) ++ ((n ∷ []) ++ (to_be_bytes w64 f.0.0 ++ (to_be_bytes w32 m ++ k.0.0)))))) ++ k.0.1) nought
     ∙ ap (λ (n : ℕ). (to_be_bytes w32 magic_number ++ (to_be_bytes w16 v ++ ((l ∷ []) ++ ((0 ∷ []) ++ (to_be_bytes w64 n ++ (to_be_bytes w32 m ++ k.0.0)))))) ++ k.0.1) count in
     let fit : FitsHeader made.0 = record {
-      version = eqb-true v 1 tb.1.1;
+      version = is_version-true v tb.1.1;
       level = leb-true _ _ tc.1.1;
       limit = th.1;
       below = tk.1.0;
@@ -123,24 +143,24 @@ nought_again v l m s below rest small lt len fits =
     (field_again ℕ 1 (number_if w8 (λ n. eqb n 0) faults.Version) (λ n. n ∷ []) (λ n. (n < 256) × (eqb n 0 ≡ true)) (byte-spells (λ n. eqb n 0) faults.Version) s 0 (to_be_bytes w64 (size_of l) ++ (to_be_bytes w32 m ++ (below ++ rest))) (omega arith, refl))
     ∙ count_again v l m s below rest small lt len fits
 
-level_again : (v l m : ℕ) (s : FileFault) (below rest : List ℕ) → l < 256 → l ≤ HIGHEST_LEVEL → size_of l < 2 ^ 64 → m < 2 ^ 32 → length below ≡ 32 → IsBytes below
+level_again : (v l m : ℕ) (s : FileFault) (below rest : List ℕ) → l < 256 → l ≤ highest_in v → size_of l < 2 ^ 64 → m < 2 ^ 32 → length below ≡ 32 → IsBytes below
     → level_on v s ((l ∷ []) ++ ((0 ∷ []) ++ (to_be_bytes w64 (size_of l) ++ (to_be_bytes w32 m ++ (below ++ rest))))) ≡ Ok (header_with v l m below, rest)
 level_again v l m s below rest byte low small lt len fits =
     ap (λ (r : Result (ℕ × List ℕ) FileFault). r >>= λ y. nought_on v y.0 s y.1)
-    (field_again ℕ 1 (number_if w8 (λ n. leb n HIGHEST_LEVEL) faults.LevelOutOfRange) (λ n. n ∷ []) (λ n. (n < 256) × (leb n HIGHEST_LEVEL ≡ true)) (byte-spells (λ n. leb n HIGHEST_LEVEL) faults.LevelOutOfRange) s l ((0 ∷ []) ++ (to_be_bytes w64 (size_of l) ++ (to_be_bytes w32 m ++ (below ++ rest)))) (byte, le-leb _ _ low))
+    (field_again ℕ 1 (number_if w8 (λ n. leb n (highest_in v)) faults.LevelOutOfRange) (λ n. n ∷ []) (λ n. (n < 256) × (leb n (highest_in v) ≡ true)) (byte-spells (λ n. leb n (highest_in v)) faults.LevelOutOfRange) s l ((0 ∷ []) ++ (to_be_bytes w64 (size_of l) ++ (to_be_bytes w32 m ++ (below ++ rest)))) (byte, le-leb _ _ low))
     ∙ nought_again v l m s below rest small lt len fits
 
-version_again : (v l m : ℕ) (s : FileFault) (below rest : List ℕ) → v ≡ 1 → l < 256 → l ≤ HIGHEST_LEVEL → size_of l < 2 ^ 64 → m < 2 ^ 32 → length below ≡ 32 → IsBytes below
+version_again : (v l m : ℕ) (s : FileFault) (below rest : List ℕ) → (v ≡ 1) ⊎ (v ≡ 2) → l < 256 → l ≤ highest_in v → size_of l < 2 ^ 64 → m < 2 ^ 32 → length below ≡ 32 → IsBytes below
     → version_on s (to_be_bytes w16 v ++ ((l ∷ []) ++ ((0 ∷ []) ++ (to_be_bytes w64 (size_of l) ++ (to_be_bytes w32 m ++ (below ++ rest)))))) ≡ Ok (header_with v l m below, rest)
 version_again v l m s below rest known byte low small lt len fits =
     ap (λ (r : Result (ℕ × List ℕ) FileFault). r >>= λ y. level_on y.0 s y.1)
-    (field_again ℕ 2 (number_if w16 is_version faults.Version) (to_be_bytes w16) (λ n. (n < 2 ^ 16) × (is_version n ≡ true)) version_spells s v ((l ∷ []) ++ ((0 ∷ []) ++ (to_be_bytes w64 (size_of l) ++ (to_be_bytes w32 m ++ (below ++ rest))))) (omega (arith, known), eq-eqb _ _ known))
+    (field_again ℕ 2 (number_if w16 is_version faults.Version) (to_be_bytes w16) (λ n. (n < 2 ^ 16) × (is_version n ≡ true)) version_spells s v ((l ∷ []) ++ ((0 ∷ []) ++ (to_be_bytes w64 (size_of l) ++ (to_be_bytes w32 m ++ (below ++ rest))))) (version-fits v known, version-is v known))
     ∙ level_again v l m s below rest byte low small lt len fits
 
 header_again : (h : Header) (s : FileFault) (rest : List ℕ) → FitsHeader h → size_of h.level < 2 ^ 64 → header_at s (text_of h ++ rest) ≡ Ok (h, rest)
 unfolding header_at
 header_again h s rest fits small =
-    let byte : h.level < 256 = omega (arith, fits.level) in
+    let byte : h.level < 256 = omega (arith, low_in h.version h.level fits.level) in
     ap (λ (r : Result (ℕ × List ℕ) FileFault). r >>= λ y. version_on s y.1)
     (field_again ℕ 4 (number_if w32 (λ n. eqb n magic_number) faults.Magic) (to_be_bytes w32) (λ n. (n < 2 ^ 32) × (eqb n magic_number ≡ true)) magic_spells s magic_number
     (to_be_bytes w16 h.version ++ ((h.level ∷ []) ++ ((0 ∷ []) ++ (to_be_bytes w64 (size_of h.level) ++ (to_be_bytes w32 h.limit ++ (h.below ++ rest)))))) (omega arith, refl))
@@ -193,7 +213,6 @@ file_take bytes x fits e =
     let before : take (length bytes - length b.0.1) bytes ≡ body = before_is bytes body b.0.1 both.parts in
     let tc = end_take body faults.Truncated b.0.1 c.0 te.0.rest_fits (ap (λ (d : List ℕ). end_at d faults.Truncated b.0.1) (sym before) ∙ c.1) in
     subst (IsFileOf bytes) (ok_is (loaded_of h b.0.0 c.0) x c.2) (record {
-      version = h.version;
       has = record { known = th.1.version; low = th.1.level; limit = th.1.limit; whole = th.1.below; bytes = th.1.bytes; sized = te.1; entries = te.2 };
       text = both.parts ∙ ap (λ (d : List ℕ). body ++ d) (tc.0 ∙ tc.1);
       digest = tc.1;
@@ -230,11 +249,11 @@ is_found (Some bytes) r given fits = found_ok bytes r given fits
 pub is_only : (a : Option (List ℕ)) (r : Result Loaded FileFault) → IfSome a (λ bytes. Answers (λ (x : Loaded). x) r (file_in bytes))
     → IfSome a (λ bytes. (version : ℕ) (image : Image) (below : List ℕ) → HasFile version image below → bytes ≡ file_text version image below → Answers (λ (x : Loaded). x) r (Ok (found_of version image below)))
 is_only None r given = tt
-is_only (Some bytes) r given = λ version image below has text. subst (λ (read : Result Loaded FileFault). Answers (λ (x : Loaded). x) r read) (ap file_in text ∙ file_again version image below has (size_small image.level has.low)) given
+is_only (Some bytes) r given = λ version image below has text. subst (λ (read : Result Loaded FileFault). Answers (λ (x : Loaded). x) r read) (ap file_in text ∙ file_again version image below has (size_small image.level (low_in version image.level has.low))) given
 
 pub told_apart : (version other : ℕ) (image shown : Image) (below under : List ℕ) → HasFile version image below → HasFile other shown under
-    → file_text version image below ≡ file_text other shown under → (image ≡ shown) × (below ≡ under)
+    → file_text version image below ≡ file_text other shown under → (version ≡ other) × (image ≡ shown) × (below ≡ under)
 told_apart version other image shown below under has also same =
-    let read = sym (file_again version image below has (size_small image.level has.low)) ∙ ap file_in same ∙ file_again other shown under also (size_small shown.level also.low) in
+    let read = sym (file_again version image below has (size_small image.level (low_in version image.level has.low))) ∙ ap file_in same ∙ file_again other shown under also (size_small shown.level (low_in other shown.level also.low)) in
     let found = ok_is (found_of version image below) (found_of other shown under) read in
-    (ap (λ (x : Loaded). x.image) found, ap (λ (x : Loaded). x.below) found)
+    (ap (λ (x : Loaded). x.version) found, ap (λ (x : Loaded). x.image) found, ap (λ (x : Loaded). x.below) found)

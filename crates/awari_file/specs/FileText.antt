@@ -1,11 +1,11 @@
 -- The file of a level, byte by byte. Whole numbers are big-endian: `to_be_bytes w16` makes 2 bytes of one, `to_be_bytes w32` 4,
 -- and `to_be_bytes w64` 8.
-use Rattle.std.specs.Prelude.{◌≡◌, ℕ, ◌<◌, ◌≤◌, ◌^◌, List, ◌∷◌, ◌++◌, length, Option, Some, None, IfSome, FitsSigned, slice_index}
+use Rattle.std.specs.Prelude.{◌≡◌, ◌⊎◌, ℕ, ◌<◌, ◌≤◌, ◌^◌, ◌==◌, if◌then◌else◌, List, ◌∷◌, ◌++◌, length, Option, Some, None, IfSome, FitsSigned, slice_index}
 use Rattle.std.specs.List.{flat_map, AllByRecursion}
 use Rattle.std.specs.Int.{w8, w16, w32, w64, to_be_bytes, cast_unsigned}
 use Rattle.sha2.specs.Sha256.{sha256}
 use Rattle.awari_rank.specs.Rank.{size_of}
-use Rattle.awari_table.specs.declared.TheConstants.{HIGHEST_LEVEL}
+use Rattle.awari_table.specs.declared.TheConstants.{HIGHEST_LEVEL, HIGHEST_FALLING_LEVEL}
 use Rattle.awari_table.specs.declared.images.Entry.{Entry}
 use Rattle.awari_table.specs.declared.images.Image.{Image}
 use Rattle.awari_file.specs.declared.contents.Loaded.{Loaded}
@@ -47,11 +47,15 @@ pub record FitsEntry (e : Entry) : Type 0 where
   pub plan : IfSome e.plan (λ pit. pit < 6)
   pub dist : e.dist < 2 ^ 32
 
--- What has a file in a version, of which there is version 1: an image of a level that the version has, with an entry for each
+-- the highest level that a version has: of version 1 are the tables whose distances only had to fall
+abbrev pub highest_in : ℕ → ℕ
+highest_in version = if version == 1 then HIGHEST_FALLING_LEVEL else HIGHEST_LEVEL
+
+-- What has a file in a version, of which there are 1 and 2: an image of a level that the version has, with an entry for each
 -- board, over a digest of 32 bytes.
 pub record HasFile (version : ℕ) (image : Image) (below : List ℕ) : Type 0 where
-  pub known : version ≡ 1
-  pub low : image.level ≤ HIGHEST_LEVEL
+  pub known : (version ≡ 1) ⊎ (version ≡ 2)
+  pub low : image.level ≤ highest_in version
   pub limit : image.limit < 2 ^ 32
   pub whole : length below ≡ 32
   pub bytes : IsBytes below
@@ -60,11 +64,10 @@ pub record HasFile (version : ℕ) (image : Image) (below : List ℕ) : Type 0 w
 
 -- the bytes are the file of what was found in them, and end in its digest
 pub record IsFileOf (bytes : List ℕ) (found : Loaded) : Type 0 where
-  pub version : ℕ
-  pub has : HasFile version found.image found.below
-  pub text : bytes ≡ file_text version found.image found.below
-  pub digest : found.digest ≡ sha256 (body_text version found.image found.below)
+  pub has : HasFile found.version found.image found.below
+  pub text : bytes ≡ file_text found.version found.image found.below
+  pub digest : found.digest ≡ sha256 (body_text found.version found.image found.below)
 
 -- what is to be found in the file of an image
 abbrev pub found_of : ℕ → Image → List ℕ → Loaded
-found_of version image below = record { image = image; below = below; digest = sha256 (body_text version image below) }
+found_of version image below = record { version = version; image = image; below = below; digest = sha256 (body_text version image below) }

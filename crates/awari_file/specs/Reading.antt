@@ -4,13 +4,12 @@ use Rattle.std.specs.Int.{Width, w8, w16, w32, w64, from_be_bytes, cast_signed}
 use Rattle.std.specs.Str.{bytes_eq}
 use Rattle.sha2.specs.Sha256.{sha256}
 use Rattle.awari_rank.specs.Rank.{size_of}
-use Rattle.awari_table.specs.declared.TheConstants.{HIGHEST_LEVEL}
 use Rattle.awari_table.specs.declared.images.Entry.{Entry}
 use Rattle.awari_file.specs.declared.contents.Header.{Header}
 use Rattle.awari_file.specs.declared.contents.Loaded.{Loaded}
 use Rattle.awari_file.specs.declared.faults.FileFault.{FileFault}
 use Rattle.awari_file.specs.declared.faults.FileFault.TheVariants as faults
-use Rattle.awari_file.specs.FileText.{magic_number}
+use Rattle.awari_file.specs.FileText.{magic_number, highest_in}
 
 infixl 10 ◌>>=◌
 abbrev pub ◌>>=◌ : {A B : Type 0} → Result A FileFault → (A → Result B FileFault) → Result B FileFault
@@ -32,12 +31,16 @@ any_number w bytes = Ok (from_be_bytes w bytes)
 abbrev pub as_they_are : List ℕ → Result (List ℕ) FileFault
 as_they_are bytes = Ok bytes
 
--- what stands before the entries: each of its fields, in order
+-- a version that is read
+abbrev pub is_version : ℕ → Bool
+is_version n = n == 1 || n == 2
+
+-- What stands before the entries: each of its fields, in order. The highest level goes by the version.
 unfoldable pub header_at : FileFault → List ℕ → Result (Header × List ℕ) FileFault
 header_at short bytes = do
   magic ← field 4 (number_if w32 (λ n. n == magic_number) faults.Magic) short bytes
-  version ← field 2 (number_if w16 (λ n. n == 1) faults.Version) short magic.1
-  level ← field 1 (number_if w8 (λ n. nat_le n HIGHEST_LEVEL) faults.LevelOutOfRange) short version.1
+  version ← field 2 (number_if w16 is_version faults.Version) short magic.1
+  level ← field 1 (number_if w8 (λ n. nat_le n (highest_in version.0)) faults.LevelOutOfRange) short version.1
   nought ← field 1 (number_if w8 (λ n. n == 0) faults.Version) short level.1
   count ← field 8 (number_if w64 (λ n. n == size_of level.0) faults.Count) short nought.1
   limit ← field 4 (any_number w32) short count.1
@@ -83,6 +86,7 @@ file_in bytes = do
   entries ← entries_at (size_of header.0.level) faults.Truncated header.1
   digest ← end_at (take (length bytes - length entries.1) bytes) faults.Truncated entries.1
   Ok (record {
+    version = header.0.version;
     image = record { level = header.0.level; limit = header.0.limit; entries = entries.0 };
     below = header.0.below;
     digest = digest;

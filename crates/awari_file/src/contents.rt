@@ -5,7 +5,7 @@ use awari_table::Image;
 /// What stands before the entries.
 #[derive(Clone, Copy)]
 pub(crate) struct Header {
-    /// There is one so far; what follows would go by it.
+    /// The highest level that may follow goes by it.
     pub version: u16,
     pub level: u8,
     pub limit: u32,
@@ -15,6 +15,8 @@ pub(crate) struct Header {
 /// What was read from the file of a level. Its bytes are right; what it says of boards is unchecked.
 #[derive(Debug, Drop)]
 pub struct Loaded {
+    /// The version of the file: 1, of tables whose distances only had to fall, or 2.
+    pub version: u16,
     /// The level, and what is said of its boards.
     pub image: Image,
     /// What the file says is the digest of the file of the level below, zeros for level 0.

@@ -15,9 +15,9 @@ pub enum FileFault {
     Truncated,
     /// 61: it does not begin as the file of a level.
     Magic,
-    /// 62: it is of another version, or its eighth byte is not 0.
+    /// 62: its version is neither 1 nor 2, or its eighth byte is not 0.
     Version,
-    /// 63: its level is above the highest.
+    /// 63: its level is above the highest that its version has.
     LevelOutOfRange,
     /// 64: it names another number of entries than its level has boards.
     Count,

@@ -5,21 +5,24 @@ ghost use Rattle.std.specs.Prelude.{◌≡◌, ◌≤◌, ◌==◌, nat_le, IfOk
 ghost use Rattle.std.specs.Int.{w8, w16, w32, w64};
 ghost use Rattle.awari_rank.specs.Rank.{size_of};
 ghost use Rattle.awari_table.specs.declared.TheConstants.{HIGHEST_LEVEL};
-ghost use Rattle.awari_file.specs.FileText.{magic_number};
-ghost use Rattle.awari_file.specs.Reading.{Gives, field, number_if, any_number, as_they_are, digest_if, header_at, entry_of};
+ghost use Rattle.awari_file.specs.FileText.{magic_number, highest_in};
+ghost use Rattle.awari_file.specs.Reading.{Gives, field, number_if, any_number, as_they_are, digest_if, is_version, header_at, entry_of};
 
 use crate::contents::Header;
 use crate::faults::FileFault;
 use crate::sizes::ENTRY_LEN;
 use awari_board::SIDE;
 use awari_rank::size;
-use awari_table::{Entry, HIGHEST_LEVEL};
+use awari_table::{Entry, HIGHEST_FALLING_LEVEL, HIGHEST_LEVEL};
 
 /// `AWDB`.
 pub(crate) const MAGIC: u32 = 0x4157_4442;
 
-/// The version that is written, and the one that is read.
-pub(crate) const VERSION: u16 = 1;
+/// The version that is written.
+pub(crate) const VERSION: u16 = 2;
+
+/// The version of tables whose distances only had to fall, which is read too.
+pub const OLD_VERSION: u16 = 1;
 
 /// Stands in the place of a pit where there is no plan.
 pub(crate) const NO_PLAN: u8 = 255;
@@ -38,26 +41,39 @@ fn magic_at(bytes: &[u8], short: FileFault) -> Result<(u32, &[u8]), FileFault>
 }
 
 fn version_at(bytes: &[u8], short: FileFault) -> Result<(u16, &[u8]), FileFault>
-    ensures { Gives (λ x. (x.0, x.1.now)) result (field 2 (number_if w16 (λ n. n == 1) FileFault.Version) short bytes.now) }
+    ensures { Gives (λ x. (x.0, x.1.now)) result (field 2 (number_if w16 is_version FileFault.Version) short bytes.now) }
 {
     let Some((front, rest)) = bytes.split_first_chunk::<2>() else {
         return Err(short);
     };
     let version = u16::from_be_bytes(*front);
-    if version != VERSION {
+    if version != VERSION && version != OLD_VERSION {
         return Err(FileFault::Version);
     }
     Ok((version, rest))
 }
 
-fn level_at(bytes: &[u8], short: FileFault) -> Result<(u8, &[u8]), FileFault>
-    ensures value { Gives (λ x. (x.0, x.1.now)) result (field 1 (number_if w8 (λ n. nat_le n HIGHEST_LEVEL) FileFault.LevelOutOfRange) short bytes.now) }
+/// The highest level that a version has.
+fn highest_in(version: u16) -> u8
+    ensures is { result ≡ highest_in version }
+    ensures low { result ≤ HIGHEST_LEVEL }
+{
+    if version == OLD_VERSION {
+        HIGHEST_FALLING_LEVEL
+    } else {
+        HIGHEST_LEVEL
+    }
+}
+
+/// A level that the version has.
+fn level_at(version: u16, bytes: &[u8], short: FileFault) -> Result<(u8, &[u8]), FileFault>
+    ensures value { Gives (λ x. (x.0, x.1.now)) result (field 1 (number_if w8 (λ n. nat_le n (highest_in version)) FileFault.LevelOutOfRange) short bytes.now) }
     ensures low { IfOk result (λ x. x.0 ≤ HIGHEST_LEVEL) }
 {
     let Some(([level], rest)) = bytes.split_first_chunk::<1>() else {
         return Err(short);
     };
-    if *level > HIGHEST_LEVEL {
+    if *level > highest_in(version) {
         return Err(FileFault::LevelOutOfRange);
     }
     Ok((*level, rest))
@@ -118,7 +134,7 @@ pub(crate) fn header_of(bytes: &[u8], short: FileFault) -> Result<(Header, &[u8]
 {
     let (_, rest) = magic_at(bytes, short)?;
     let (version, rest) = version_at(rest, short)?;
-    let (level, rest) = level_at(rest, short)?;
+    let (level, rest) = level_at(version, rest, short)?;
     let (_, rest) = nought_at(rest, short)?;
     let (_, rest) = count_at(level, rest, short)?;
     let (limit, rest) = limit_at(rest, short)?;

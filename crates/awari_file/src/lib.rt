@@ -12,6 +12,7 @@ mod writing;
 
 pub use contents::Loaded;
 pub use faults::FileFault;
+pub use fields::OLD_VERSION;
 pub use laws::files_tell_images_apart;
 pub use reading::read_image;
 pub use writing::write_level;

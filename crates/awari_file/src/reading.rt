@@ -179,6 +179,7 @@ fn read_all<R: Read>(alloc: Global, reader: &mut Counted<R>) -> Result<Loaded, F
     let digest = read_end(reader, hasher)?;
     let below = header.below;
     Ok(Loaded {
+        version: header.version,
         image: Image {
             level: header.level,
             limit: header.limit,
@@ -189,8 +190,8 @@ fn read_all<R: Read>(alloc: Global, reader: &mut Counted<R>) -> Result<Loaded, F
     })
 }
 
-/// Reads the file of a level, which has to be all that the reader has left. What it says of the
-/// boards is not judged, and neither is whether `below` is the digest of the file below.
+/// Reads the file of a level, of version 1 or 2, which has to be all that the reader has left. What it
+/// says of the boards is not judged, and neither is whether `below` is the digest of the file below.
 ///
 /// The fields are read in order, each entry being one, and the first fault is answered: 68 where the
 /// reader answers a fault, else 60 where the input ends within the field, else the field's own, 61

@@ -22,7 +22,7 @@ use std::io::Write;
 /// What stands before the entries.
 fn header_of(level: u8, limit: u32, below: &[u8; 32]) -> [u8; 52]
     requires { level ≤ HIGHEST_LEVEL }
-    ensures { result ≡ header_text 1 level limit below.now }
+    ensures { result ≡ header_text 2 level limit below.now }
 {
     let mut header = [0u8; HEADER_LEN];
     BigEndian::write_u32(&mut header, MAGIC);
@@ -110,8 +110,8 @@ fn put_entries<W: Write>(
     Ok(())
 }
 
-/// Writes the file of a level over the file whose digest is `below`, zeros for level 0, and gives
-/// the digest that it ends in. It takes no memory, and doesn't flush.
+/// Writes the file of a level, in version 2, over the file whose digest is `below`, zeros for level 0,
+/// and gives the digest that it ends in. It takes no memory, and doesn't flush.
 ///
 /// It is refused as 70 where the writer answers a fault or takes no byte, and then nothing is known
 /// of what the writer holds.
@@ -120,10 +120,10 @@ pub fn write_level<W: Write>(
     below: [u8; 32],
     writer: &mut Counted<W>,
 ) -> Result<[u8; 32], FileFault>
-    ensures written { OnOk result (Appends (W.contents (inner_of writer.old)) (W.contents (inner_of writer.new)) (file_text 1 level.now below)) }
-    ensures digest { IfOk result (λ digest. digest ≡ sha256 (body_text 1 level.now below)) }
+    ensures written { OnOk result (Appends (W.contents (inner_of writer.old)) (W.contents (inner_of writer.new)) (file_text 2 level.now below)) }
+    ensures digest { IfOk result (λ digest. digest ≡ sha256 (body_text 2 level.now below)) }
     // What was written is a file that `read_image` reads.
-    ensures has { OnOk result (HasFile 1 level.now below) }
+    ensures has { OnOk result (HasFile 2 level.now below) }
     ensures write { IfErr result (λ e. e ≡ FileFault.Write) }
     ensures grew { OnErr result (Grew (faults_of writer.old) (faults_of writer.new)) }
 {
