@@ -2,7 +2,7 @@
 use Rattle.std.proofs.Common.{rules, ap, ◌≡◌, ◌∙◌, List, ℕ, Option, Some, None, IfSome, Err, subst}
 use Rattle.std.specs.Prelude.{IsSomeAnd, IsNone, ◌+◌}
 use Rattle.awari_folder.specs.declared.faults.FolderFault.{FolderFault}
-use Rattle.awari_folder.specs.declared.faults.FolderFault.TheVariants.{Below, File, Open, Verify, Memory}
+use Rattle.awari_folder.specs.declared.faults.FolderFault.TheVariants.{Below, File, Open, Verify, Memory, Occupied, Old}
 use Rattle.awari_folder.specs.declared.loading.Stored.{Stored}
 use Rattle.awari_table.specs.declared.images.Image.{Image}
 use Rattle.awari_folder.specs.NextFile.{IsNextFile}
@@ -22,6 +22,8 @@ not_open (File level fault) old new of_file same = same
 not_open (Open level) old new of_file same = absurd of_file
 not_open (Verify level fault) old new of_file same = same
 not_open Memory old new of_file same = same
+not_open (Occupied level) old new of_file same = same
+not_open (Old level) old new of_file same = same
 
 -- One level more.
 pub next_level : (names : ℕ → Option (List ℕ)) (n : ℕ) (lower : List Image) (below : List ℕ) (shelf : List Image) (digest : List ℕ)

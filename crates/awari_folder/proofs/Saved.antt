@@ -32,11 +32,12 @@ held_still old new (suc n) shelf digest same (lower, below, held, next) = (
 )
 
 -- The file of a level that is right over the shelf is its next file.
-pub next_file : (shelf : List Image) (below : List ℕ) (image : Image) → Consistent shelf image → HasFile 1 image below
-    → IsNextFile shelf below (file_text 1 image below) (shelf ++ image ∷ []) (sha256 (body_text 1 image below))
+pub next_file : (shelf : List Image) (below : List ℕ) (image : Image) → Consistent shelf image → HasFile 2 image below
+    → IsNextFile shelf below (file_text 2 image below) (shelf ++ image ∷ []) (sha256 (body_text 2 image below))
 next_file shelf below image right has = record {
-  loaded = found_of 1 image below;
-  file = record { version = 1; has = has; text = refl; digest = refl };
+  loaded = found_of 2 image below;
+  file = record { has = has; text = refl; digest = refl };
+  of_version = refl;
   over = refl;
   ends = refl;
   right = right;
@@ -65,11 +66,11 @@ becomes_own old new name bytes is becomes = subst (λ o. Becomes o new (Some byt
 
 -- A folder that holds a shelf holds it with a level on top, once the level has its file.
 holds_more : (old new : ℕ → Option (Option (List ℕ))) (shelf : List Image) (below : List ℕ) (image : Image) (digest : List ℕ) → HoldsIn old shelf below → Consistent shelf image
-    → HasFile 1 image below → SameBut image.level old new → new image.level ≡ Some (Some (file_text 1 image below)) → digest ≡ sha256 (body_text 1 image below)
+    → HasFile 2 image below → SameBut image.level old new → new image.level ≡ Some (Some (file_text 2 image below)) → digest ≡ sha256 (body_text 2 image below)
     → HoldsIn new (shelf ++ image ∷ []) digest
 holds_more old new shelf below image digest (names, are, held) right has others own ends =
     let level = image.level in
-    let text = file_text 1 image below in
+    let text = file_text 2 image below in
     let after = with_name names level text in
     let at : after (length shelf) ≡ Some text = ap after (sym right.next) ∙ with_own names level text in (
       after,
@@ -86,11 +87,11 @@ holds_more old new shelf below image digest (names, are, held) right has others 
 -- The same, once a file that was written from its start was brought to the disk and got the level's name.
 pub holds_saved : {D : Type 0} (contents kept : D → Option (List ℕ)) (old mid new : ℕ → Option (Option (List ℕ))) (number : ℕ) (below : List ℕ) (image : Image) (digest : List ℕ) (fresh done : D)
     → number ≡ image.level → IfSome (old number) (λ _. contents fresh ≡ Some [])
-    → (contents fresh ≡ Some [] → IsWhole (contents done) (kept done) (file_text 1 image below))
-    → Same old mid → Becomes (mid number) (new number) (contents done) → SameBut number mid new → HasFile 1 image below → digest ≡ sha256 (body_text 1 image below)
+    → (contents fresh ≡ Some [] → IsWhole (contents done) (kept done) (file_text 2 image below))
+    → Same old mid → Becomes (mid number) (new number) (contents done) → SameBut number mid new → HasFile 2 image below → digest ≡ sha256 (body_text 2 image below)
     → (shelf : List Image) → HoldsIn old shelf below → Consistent shelf image → HoldsIn new (shelf ++ image ∷ []) digest
 holds_saved contents kept old mid new number below image digest fresh done is empty whole same becomes others has ends shelf (names, are, held) right =
-    let text = file_text 1 image below in
+    let text = file_text 2 image below in
     let none : contents fresh ≡ Some [] = subst (λ o. IfSome o (λ _. contents fresh ≡ Some [])) (are number) empty in
     let own : new number ≡ Some (Some text) = becomes_own (mid number) (new number) (names number) text (same number ∙ are number) (subst (Becomes (mid number) (new number)) (whole none).0 becomes) in
     holds_more old new shelf below image digest (names, are, held) right has (λ n other. others n (λ e. other (e ∙ is)) ∙ same n) (ap new (sym is) ∙ own) ends
@@ -147,10 +148,9 @@ held_there names (suc n) shelf digest i (lower, below, held, next) low =
 next_is_one : (shelf : List Image) (below bytes : List ℕ) (after other : List Image) (digest end : List ℕ) → IsNextFile shelf below bytes after digest → IsNextFile shelf below bytes other end
     → (other ≡ after) × (end ≡ digest)
 next_is_one shelf below bytes after other digest end one two =
-    let same = told_apart one.file.version two.file.version one.loaded.image two.loaded.image one.loaded.below two.loaded.below one.file.has two.file.has (sym one.file.text ∙ two.file.text) in
-    let version : two.file.version ≡ one.file.version = two.file.has.known ∙ sym one.file.has.known in (
-      two.on_top ∙ ap (λ image. shelf ++ image ∷ []) (sym same.0) ∙ sym one.on_top,
-      two.ends ∙ two.file.digest ∙ rw (version, ← same.0, ← same.1) refl ∙ sym one.file.digest ∙ sym one.ends,
+    let same = told_apart one.loaded.version two.loaded.version one.loaded.image two.loaded.image one.loaded.below two.loaded.below one.file.has two.file.has (sym one.file.text ∙ two.file.text) in (
+      two.on_top ∙ ap (λ image. shelf ++ image ∷ []) (sym same.1) ∙ sym one.on_top,
+      two.ends ∙ two.file.digest ∙ rw (← same.0, ← same.1, ← same.2) refl ∙ sym one.file.digest ∙ sym one.ends,
     )
 
 name_is_one : (shelf : List Image) (below : List ℕ) (after other : List Image) (digest end : List ℕ) (name : Option (List ℕ)) → IsSomeAnd name (λ bytes. IsNextFile shelf below bytes after digest)

@@ -1,4 +1,4 @@
-//! Why a folder is not loaded, or a level not saved.
+//! Why a folder is not loaded or moved, or a level not saved.
 
 ghost use Rattle.std.specs.Prelude.{◌≡◌};
 ghost use Rattle.awari_folder.specs.declared.faults.FolderFault.TheVariants.{Memory};
@@ -9,9 +9,9 @@ use std::alloc::{AllocError, AllocFailed};
 use std::fmt;
 use thiserror::Error;
 
-/// Why a folder is not loaded, or a level not saved. For each file in turn the faults are looked
-/// for in the order 82, 81, 80, 83. Printed, a fault is its number, its name, its level, and the fault
-/// inside it.
+/// Why a folder is not loaded or moved, or a level not saved. For each file in turn the faults are
+/// looked for in the order 82, 81, 86, 80, 83. Printed, a fault is its number, its name, its level,
+/// and the fault inside it.
 #[derive(Clone, Copy, Debug, PartialEq, Eq, Error)]
 pub enum FolderFault {
     /// 80: the level's file was written over another file than that of the level below.
@@ -24,12 +24,16 @@ pub enum FolderFault {
     Verify { level: u8, fault: VerifyFault },
     /// 84: there was no room for a level, or for a name.
     Memory,
+    /// 85: the level has a file already where one was to be moved to.
+    Occupied { level: u8 },
+    /// 86: the level's file is of version 1, which `migrate` brings over.
+    Old { level: u8 },
 }
 
 impl FolderFault {
     ghost use Rattle.awari_folder.specs.FolderFault.{number_of};
 
-    /// The number of this refusal, 80 to 84.
+    /// The number of this refusal, 80 to 86.
     pub fn number(self) -> u8
         ensures { result ≡ number_of self }
     {
@@ -39,6 +43,8 @@ impl FolderFault {
             FolderFault::Open { .. } => 82,
             FolderFault::Verify { .. } => 83,
             FolderFault::Memory => 84,
+            FolderFault::Occupied { .. } => 85,
+            FolderFault::Old { .. } => 86,
         }
     }
 }
@@ -58,6 +64,8 @@ impl fmt::Display for FolderFault {
                 write!(f, "83 Verify level {level}: {fault}")
             }
             FolderFault::Memory => write!(f, "84 Memory"),
+            FolderFault::Occupied { level } => write!(f, "85 Occupied level {level}"),
+            FolderFault::Old { level } => write!(f, "86 Old level {level}"),
         }
     }
 }

@@ -1,4 +1,5 @@
-//! A folder with the files of levels: a shelf is loaded from one, and a level saved into one.
+//! A folder with the files of levels: a shelf is loaded from one, a level saved into one, and the
+//! levels of one are brought over to another.
 #![tactic(auto)]
 
 mod calls;

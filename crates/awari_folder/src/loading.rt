@@ -10,7 +10,7 @@ ghost use Rattle.awari_folder.specs.Contents.{Same, Stays, LeavesNoMore, LeavesS
 
 use crate::calls::{Folder, Refusal};
 use crate::faults::FolderFault;
-use awari_file::{FileFault, Loaded, read_image};
+use awari_file::{FileFault, Loaded, OLD_VERSION, read_image};
 use awari_table::{Counted, HIGHEST_LEVEL, Image, Level, Shelf};
 use awari_verify::{VerifyFault, verify, verify_parallel};
 use std::alloc::Global;
@@ -32,9 +32,9 @@ pub struct Stored {
 ///
 /// Each file is read and its level verified, so what the shelf says is right, whatever lies in the
 /// folder. For each file in turn it is refused as 82 where the file is there and does not open, 81
-/// where it is not read, 80 where it does not name the digest of the file before it, 83 where the
-/// level is not right over those below. It takes memory for names, entries and an `Arc` for each
-/// level; want of it is 84.
+/// where it is not read, 86 where it is of version 1, 80 where it does not name the digest of the
+/// file before it, 83 where the level is not right over those below. It takes memory for names,
+/// entries and an `Arc` for each level; want of it is 84.
 pub fn load<F: Folder>(folder: &mut F, alloc: Global) -> Result<Stored, FolderFault>
     // What the shelf says of each of its boards is the truth: following its plans secures the
     // value, soon, and the value is what the board is worth.
@@ -152,6 +152,9 @@ fn put_on<V: Fn(&Shelf, Image) -> Result<Level, VerifyFault>, R: Read>(
         Err(FileFault::Memory) => return Err(FolderFault::Memory),
         Err(fault) => return Err(FolderFault::File { level, fault }),
     };
+    if loaded.version == OLD_VERSION {
+        return Err(FolderFault::Old { level });
+    }
     if loaded.below != below {
         return Err(FolderFault::Below { level });
     }

@@ -6,7 +6,7 @@ ghost use Rattle.awari_table.specs.Counts.{Grew};
 ghost use Rattle.awari_table.specs.Shelves.{Consistent};
 ghost use Rattle.awari_table.specs.declared.images.Image.{Image};
 ghost use Rattle.awari_file.specs.FileText.{HasFile, body_text, file_text};
-ghost use Rattle.awari_folder.specs.FolderFault.{Names};
+ghost use Rattle.awari_folder.specs.FolderFault.{Names, IsSaveFault};
 ghost use Rattle.awari_folder.specs.Contents.{Same, SameBut, StaysBut, Becomes, LeavesToo, LeavesStill, IsWhole, OpenIfRefused, HoldsIn};
 
 use crate::calls::{Draft, Folder, Refusal};
@@ -26,10 +26,12 @@ pub fn save<F: Folder>(
     level: &Level,
     below: [u8; 32],
 ) -> Result<[u8; 32], FolderFault>
-    ensures digest { IfOk result (λ digest. digest ≡ sha256 (body_text 1 level.now below)) }
+    ensures digest { IfOk result (λ digest. digest ≡ sha256 (body_text 2 level.now below)) }
     ensures named { IfErr result (Names level.now.level) }
+    // It is 82, or 81 with 70, or 84.
+    ensures told { IfErr result (IsSaveFault level.now.level) }
     // The level's name has the level's file, and what has the other names stays.
-    ensures saved { OnOk result (Becomes (F.stands folder.old level.now.level) (F.stands folder.new level.now.level) (Some (file_text 1 level.now below))) }
+    ensures saved { OnOk result (Becomes (F.stands folder.old level.now.level) (F.stands folder.new level.now.level) (Some (file_text 2 level.now below))) }
     ensures others { SameBut level.now.level (F.stands folder.old) (F.stands folder.new) }
     // A folder that holds a shelf holds it with the level on top, where the level is right over it.
     ensures next { (shelf : List Image) → HoldsIn (F.stands folder.old) shelf below → Consistent shelf level.now
@@ -38,7 +40,7 @@ pub fn save<F: Folder>(
     ensures err { OnErr result (Same (F.stands folder.old) (F.stands folder.new)) }
     // A crash at any moment leaves each name what it might have left before, and the level's that or its file, whole.
     ensures crash { IfSome (F.stands folder.old level.now.level) (λ _.
-        LeavesToo level.now.level (λ c. c ≡ Some (file_text 1 level.now below)) (F.may_leave folder.old) (F.may_leave folder.new)) }
+        LeavesToo level.now.level (λ c. c ≡ Some (file_text 2 level.now below)) (F.may_leave folder.old) (F.may_leave folder.new)) }
     ensures still { LeavesStill (F.may_leave folder.old) (F.may_leave folder.new) }
     // Nothing of the new file is left beside, or it could not be removed.
     ensures ok { OnOk result (F.is_clear folder.new level.now.level) }
@@ -86,9 +88,9 @@ fn write_whole<D: Draft + Drop>(
     below: [u8; 32],
     new: D,
 ) -> Result<Written<D>, FileFault>
-    ensures digest { IfOk result (λ done. done.digest ≡ sha256 (body_text 1 level.now below)) }
-    ensures has { OnOk result (HasFile 1 level.now below) }
-    ensures whole { IfOk result (λ done. D.contents new ≡ Some [] → IsWhole (D.contents done.new) (D.kept done.new) (file_text 1 level.now below)) }
+    ensures digest { IfOk result (λ done. done.digest ≡ sha256 (body_text 2 level.now below)) }
+    ensures has { OnOk result (HasFile 2 level.now below) }
+    ensures whole { IfOk result (λ done. D.contents new ≡ Some [] → IsWhole (D.contents done.new) (D.kept done.new) (file_text 2 level.now below)) }
     ensures fault { IfErr result (λ fault. fault ≡ FileFault.Write) }
 {
     let mut writer = Counted::new(new);

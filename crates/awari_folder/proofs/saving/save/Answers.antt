@@ -16,7 +16,7 @@ returns-in-Ok-replace-clause-crash g c = left_by_save g.F.New.Write.contents g.F
 pub returns-clause-crash : goal.returns-clause-crash
 returns-clause-crash g c =
     let stand = g.F.Folder.stands c.args.folder.now c.args.level.now.level in
-    let P : Option (List ℕ) → Type 0 = λ left. left ≡ Some (file_text 1 c.args.level.now c.args.below) in
+    let P : Option (List ℕ) → Type 0 = λ left. left ≡ Some (file_text 2 c.args.level.now c.args.below) in
     let may_leave = g.F.Folder.may_leave in
     let removed = c.remove_new.ensures.crash in
     elim c.match-write_whole.branch [
