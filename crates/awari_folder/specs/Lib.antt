@@ -1,5 +1,6 @@
 pub mod FolderFault
 pub mod NextFile
+pub mod Migration
 pub mod Judges
 pub mod Contents
 pub mod Log

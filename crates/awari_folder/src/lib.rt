@@ -8,6 +8,7 @@ mod host;
 mod laws;
 mod loading;
 mod memory;
+mod migrating;
 mod names;
 mod saving;
 
@@ -17,4 +18,5 @@ pub use host::{HostDraft, HostFolder};
 pub use laws::{folders_hold_one_shelf, stored_shelves_are_loaded};
 pub use loading::{Stored, load, load_parallel};
 pub use memory::{MemoryDraft, MemoryFolder};
+pub use migrating::{Limits, Migrated, migrate};
 pub use saving::save;

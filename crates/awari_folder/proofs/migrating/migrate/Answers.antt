@@ -1,0 +1,95 @@
+use Rattle.std.proofs.Common.{rules, arith, ◌≡◌, ◌≤◌, ◌+◌, ◌∷◌, ◌++◌, [], ◌∙◌, ap, sym, subst, inl, inr, List, ℕ, Option, Some, None, IfSome, length, refl}
+use Rattle.std.proofs.lemmas.Result.{err_from_is_err_and}
+use Rattle.awari_folder.specs.declared.faults.FolderFault.TheVariants.{Memory}
+use Rattle.awari_table.specs.Shelves.{Consistent}
+use Rattle.awari_folder.specs.Migration.{IsNextMoved}
+use Rattle.awari_folder.proofs.Moves.{come-none, come-next, come_end, longer, memory_first, fault_first, store_first}
+use Rattle.awari_folder.proofs.migrating.migrate.Goals.{else-loop-test, then-loop-test+in_ok-next+in_default}
+use Rattle.awari_folder.proofs.migrating.migrate.Goals as goal
+
+pub returns-in_err-limits-clause-exact : goal.returns-in_err-limits-clause-exact
+returns-in_err-limits-clause-exact g c = λ names others from to.
+    let p = err_from_is_err_and c.from_residual.result c.from_residual.ensures.1 in
+    rw (p.1, p.2) (memory_first names others _ to)
+
+pub loop-init : goal.loop-init
+loop-init g c = record {
+  levels = ap length c.empty-shelf.ensures;
+  len = c.in_ok-limits.ensures.len;
+  room = c.in_ok-limits.ensures.capacity;
+  come = λ names others from to. come-none names others _ c.empty-shelf.result c.in_ok-limits.limits.items to c.empty-shelf.ensures c.in_ok-limits.ensures.items;
+  kept = λ n bytes is. is;
+  kept_still = λ n o h. h;
+  stands = λ n. refl;
+  crash = λ n o h. h;
+  still = λ n o h. h;
+  clear = λ n h. h;
+  stuck = refl;
+}
+
+pub returns-in_err-next-clause-exact : goal.returns-in_err-next-clause-exact
+returns-in_err-next-clause-exact g c = λ names others from to.
+    let i = c.loop.invariant in
+    let p = err_from_is_err_and c.from_residual-in_err-next.result c.from_residual-in_err-next.ensures.1 in
+    let n = length c.loop.shelf in
+    rw (p.1, p.2) (fault_first names others _ c.loop.counter c.loop.shelf c.loop.below c.loop.limits.items c.loop.digest _ i.levels (i.come names others from to)
+    (c.in_err-next.ensures.exact (names n) (others n) (i.stands n ∙ from n)))
+
+pub returns-in_err-level-clause-exact : goal.returns-in_err-level-clause-exact
+returns-in_err-level-clause-exact g c = λ names others from to.
+    let i = c.loop.invariant in
+    let p = err_from_is_err_and c.from_residual-in_err-level.result c.from_residual-in_err-level.ensures.1 in
+    rw (p.1, p.2) (fault_first names others _ c.loop.counter c.loop.shelf c.loop.below c.loop.limits.items c.loop.digest Memory i.levels (i.come names others from to) tt)
+
+pub returns-in_err-digest-clause-exact : goal.returns-in_err-digest-clause-exact
+returns-in_err-digest-clause-exact g c = λ names others from to.
+    let i = c.loop.invariant in
+    let p = err_from_is_err_and c.from_residual-in_err-digest.result c.from_residual-in_err-digest.ensures.1 in
+    let n = length c.loop.shelf in
+    let next = c.in-Some.next in
+    let put = c.deref.result.now in
+    let same : put ≡ next.level = search rules in
+    let moved = subst (IsNextMoved c.loop.shelf c.loop.below (names n)) c.in-Some.is (c.in_ok-next.ensures.exact (names n) (others n) (i.stands n ∙ from n)) in
+    let right = subst (λ o. IfSome o (λ m. Consistent c.loop.shelf m.level)) c.in-Some.is c.in_ok-next.ensures.right in
+    rw (p.1, p.2) (store_first names others _ _ c.loop.counter c.loop.shelf c.loop.below next.digest c.loop.limits.items c.loop.digest next.level put next.limits _ i.levels same (i.come names others from to) moved right
+    c.in_err-digest.ensures.fault c.in_err-digest.ensures.err)
+
+pub loop-preserved : goal.loop-preserved
+loop-preserved g c =
+    let i = c.loop.invariant in
+    let e = c.next_moved.ensures in
+    let next = c.in-Some.next in
+    let arc = c.in_ok-level.ensures.ok in
+    let after = c.push.ensures ∙ ap (λ x. c.loop.shelf ++ x ∷ []) arc in
+    record {
+      levels = longer c.loop.shelf c.push.new.self next.level c.loop.counter i.levels after;
+      len = c.push_reserved.ensures.len ∙ ap (λ n. n + 1) i.len;
+      room = omega (arith, c.push_reserved.ensures.capacity, i.room);
+      come = λ names others from to.
+          let n = length c.loop.shelf in
+          let put = c.deref.result.now in
+          let same : put ≡ next.level = search rules in
+          let moved = subst (IsNextMoved c.loop.shelf c.loop.below (names n)) c.in-Some.is (c.in_ok-next.ensures.exact (names n) (others n) (i.stands n ∙ from n)) in
+          let right = subst (λ o. IfSome o (λ m. Consistent c.loop.shelf m.level)) c.in-Some.is c.in_ok-next.ensures.right in
+          come-next names others _ _ c.loop.counter c.loop.shelf c.push.new.self c.loop.below next.digest c.loop.limits.items c.push_reserved.new.self.items c.loop.digest c.in_ok-digest.digest next.level put next.limits
+          i.levels same right (i.come names others from to) moved c.in_ok-digest.ensures.free c.store.ensures.others c.in_ok-digest.ensures.next after c.push_reserved.ensures.items;
+      kept = λ n bytes is. c.store.ensures.kept n bytes (i.kept n bytes is);
+      kept_still = λ n o h. c.store.ensures.still n o (i.kept_still n o h);
+      stands = λ n. e.stands n ∙ i.stands n;
+      crash = λ n o h. i.crash n o (e.crash n o h);
+      still = λ n o h. e.still n o (i.still n o h);
+      clear = λ n h. e.clear n (i.clear n h);
+      stuck = e.stuck ∙ i.stuck;
+    }
+
+pub returns-clause-exact : goal.returns-clause-exact
+returns-clause-exact g c = λ names others from to.
+    let i = c.loop.invariant in
+    let n = length c.loop.shelf in
+    elim c.loop-test.branch [
+      | else-loop-test w ↦ come_end names others _ c.loop.counter c.loop.shelf c.loop.below c.loop.limits.items c.loop.digest i.levels (i.come names others from to) (inr (omega (arith, i.levels, w.loop-test.false)))
+      | then-loop-test+in_ok-next+in_default w ↦
+          let moved = w.in_ok-next.ensures.exact (names n) (others n) (i.stands n ∙ from n) in
+          let none : names n ≡ None = subst (IsNextMoved c.loop.shelf c.loop.below (names n)) w.in_default.is moved in
+          come_end names others _ c.loop.counter c.loop.shelf c.loop.below c.loop.limits.items c.loop.digest i.levels (i.come names others from to) (inl none)
+    ]

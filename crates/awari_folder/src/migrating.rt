@@ -1,0 +1,204 @@
+//! The levels of one folder brought over to another.
+
+ghost use Rattle.std.specs.Prelude.{◌≡◌, ◌≤◌, ℕ, List, Option, Some, None, [], ◌∷◌, ◌++◌, IfOk, IfErr, IfSome, OnOk, OnErr, MatchResult, length};
+ghost use Rattle.awari_table.specs.declared.TheConstants.{HIGHEST_LEVEL};
+ghost use Rattle.awari_table.specs.declared.images.Image.{Image};
+ghost use Rattle.awari_table.specs.Counts.{inner_of};
+ghost use Rattle.awari_table.specs.Shelves.{Consistent};
+ghost use Rattle.awari_verify.specs.VerifyFault.{IsDueBy};
+ghost use Rattle.awari_folder.specs.FolderFault.{Names, NamesLevel};
+ghost use Rattle.awari_folder.specs.Contents.{Same, SameBut, Stays, LeavesNoMore, LeavesStill, AreNames, HoldsIn};
+ghost use Rattle.awari_folder.specs.Migration.{rules_of, IsMoved, IsMovedFile, IsNextMoved, IsMoveFault, IsMigrated, IsFirstMoveFault, IsStoreFault, KeepsFiles};
+
+use crate::calls::{Folder, Refusal};
+use crate::faults::FolderFault;
+use crate::saving::save;
+use awari_file::{FileFault, Loaded, OLD_VERSION, read_image};
+use awari_plan::least;
+use awari_table::{Counted, HIGHEST_LEVEL, Image, Level, Shelf};
+use awari_verify::{VerifyFault, verify, verify_old};
+use std::alloc::Global;
+use std::io::Read;
+use std::sync::Arc;
+
+/// The levels from 0 to the highest.
+const LEVELS: usize = HIGHEST_LEVEL as usize + 1;
+
+/// The limit of a level before it was moved, and after.
+#[derive(Clone, Copy, Debug, PartialEq, Eq)]
+pub struct Limits {
+    pub before: u32,
+    pub after: u32,
+}
+
+/// What was moved.
+#[derive(Drop)]
+pub struct Migrated {
+    /// The limits of the levels, from level 0 on.
+    pub limits: Vec<Limits>,
+    /// The digest of the last file that was written, zeros for none.
+    pub digest: [u8; 32],
+}
+
+/// Brings the levels of one folder over to another, which has no files of theirs yet: those whose
+/// files [`load`](crate::load) would look for, of version 1 or 2, over the levels that were brought
+/// over before. The files that are written are of version 2, and have their own chain of digests.
+///
+/// A level of a file of version 1 has to be right by the rules of that version. It keeps its values,
+/// and gets the least distances and the lowest plans. One of version 2 has to be right by the rules
+/// in force, and stays as it is.
+///
+/// For each level in turn it is refused as 82 where its file in `from` is there and does not open, 81
+/// where that is not read, 80 where it does not name the digest of the file before it, 83 where the
+/// level is not right, 85 where it has a file in `to`, and as 82 or 81 with 70 where it can't be
+/// written there. What was written before stands. It takes memory for names, entries, limits and an
+/// `Arc` for each level; want of it is 84.
+pub fn migrate<F: Folder, G: Folder>(
+    alloc: Global,
+    from: &mut F,
+    to: &mut G,
+) -> Result<Migrated, FolderFault>
+    // Where it is known what has the names in both: all levels are moved, or there is the first fault.
+    ensures exact { (names others : ℕ → Option (List ℕ)) → AreNames (F.stands from.old) names → AreNames (G.stands to.old) others
+        → MatchResult result (λ done. IsMigrated names others (G.stands to.new) done.limits.items done.digest) (IsFirstMoveFault names others (G.stands to.new)) }
+    ensures named { IfErr result NamesLevel }
+    // Whether it is refused or not, each file stays that was there.
+    ensures kept { KeepsFiles (G.stands to.old) (G.stands to.new) }
+    ensures kept_still { LeavesStill (G.may_leave to.old) (G.may_leave to.new) }
+    // Nothing is changed in the folder that the levels come from.
+    ensures stands { Same (F.stands from.old) (F.stands from.new) }
+    ensures crash { LeavesNoMore (F.may_leave from.old) (F.may_leave from.new) }
+    ensures still { LeavesStill (F.may_leave from.old) (F.may_leave from.new) }
+    ensures clear { Stays (F.is_clear from.old) (F.is_clear from.new) }
+    ensures stuck { F.stuck from.new ≡ F.stuck from.old }
+{
+    let mut limits = Vec::with_capacity(alloc, LEVELS)?;
+    let mut shelf = Shelf::empty();
+    let mut below = [0u8; 32];
+    let mut digest = [0u8; 32];
+    for _ in 0..=HIGHEST_LEVEL {
+        let Some(next) = next_moved(alloc, from, &shelf, below)? else {
+            break;
+        };
+        let level = Arc::new(alloc, next.level)?;
+        digest = store(to, &level, digest)?;
+        shelf.push(level);
+        limits.push_reserved(next.limits);
+        below = next.digest;
+    }
+    Ok(Migrated { limits, digest })
+}
+
+/// A level as it is to be written.
+#[derive(Drop)]
+struct Moved {
+    level: Level,
+    limits: Limits,
+    /// The digest of the file that it comes from.
+    digest: [u8; 32],
+}
+
+/// The shelf's next level, read from a folder and moved, or none where it has no file there.
+fn next_moved<F: Folder>(
+    alloc: Global,
+    from: &mut F,
+    shelf: &Shelf,
+    below: [u8; 32],
+) -> Result<Option<Moved>, FolderFault>
+    requires { length shelf.now ≤ HIGHEST_LEVEL }
+    ensures exact { (name other : Option (List ℕ)) → F.stands from.old (length shelf.now) ≡ Some name
+        → MatchResult result (IsNextMoved shelf.now below name) (IsMoveFault shelf.now below name other) }
+    ensures right { IfOk result (λ next. IfSome next (λ moved. Consistent shelf.now moved.level)) }
+    ensures named { IfErr result (Names (length shelf.now)) }
+    ensures stands { Same (F.stands from.old) (F.stands from.new) }
+    ensures crash { LeavesNoMore (F.may_leave from.old) (F.may_leave from.new) }
+    ensures still { LeavesStill (F.may_leave from.old) (F.may_leave from.new) }
+    ensures clear { Stays (F.is_clear from.old) (F.is_clear from.new) }
+    ensures stuck { F.stuck from.new ≡ F.stuck from.old }
+{
+    let level = shelf.levels();
+    match from.open(level) {
+        Ok(Some(file)) => {
+            let moved = read_moved(alloc, shelf, below, &mut Counted::new(file))?;
+            Ok(Some(moved))
+        }
+        Ok(None) => Ok(None),
+        Err(Refusal::Refused) => Err(FolderFault::Open { level }),
+        Err(Refusal::Memory) => Err(FolderFault::Memory),
+    }
+}
+
+/// Reads the file of the shelf's next level, and moves the level.
+fn read_moved<R: Read>(
+    alloc: Global,
+    shelf: &Shelf,
+    below: [u8; 32],
+    reader: &mut Counted<R>,
+) -> Result<Moved, FolderFault>
+    ensures ok { IfSome (R.remaining (inner_of reader.old)) (λ bytes. IfOk result (λ moved. IsMovedFile shelf.now below bytes moved.level moved.digest moved.limits)) }
+    ensures fault { (other : Option (List ℕ)) → IfSome (R.remaining (inner_of reader.old)) (λ bytes. IfErr result (IsMoveFault shelf.now below (Some bytes) other)) }
+    ensures right { IfOk result (λ moved. Consistent shelf.now moved.level) }
+    ensures named { IfErr result (Names (length shelf.now)) }
+{
+    let level = shelf.levels();
+    let loaded = match read_image(alloc, reader) {
+        Ok(loaded) => loaded,
+        Err(FileFault::Memory) => return Err(FolderFault::Memory),
+        Err(fault) => return Err(FolderFault::File { level, fault }),
+    };
+    if loaded.below != below {
+        return Err(FolderFault::Below { level });
+    }
+    let Loaded {
+        version,
+        image,
+        digest,
+        ..
+    } = loaded;
+    let before = image.limit;
+    match moved_over(shelf, version, image) {
+        Ok(moved) => {
+            let after = moved.limit();
+            Ok(Moved {
+                level: moved,
+                limits: Limits { before, after },
+                digest,
+            })
+        }
+        Err(fault) => Err(FolderFault::Verify { level, fault }),
+    }
+}
+
+/// The level that an image becomes over the shelf, if it is right by the rules of its version.
+fn moved_over(shelf: &Shelf, version: u16, image: Image) -> Result<Level, VerifyFault>
+    ensures ok { IfOk result (IsMoved version shelf.now image) }
+    ensures fault { IfErr result (IsDueBy (rules_of version) shelf.now image) }
+{
+    if version != OLD_VERSION {
+        return verify(shelf, image);
+    }
+    verify_old(shelf, &image)?;
+    Ok(Level::new(least(shelf, image)))
+}
+
+/// Saves a level into a folder where it has no file yet.
+fn store<G: Folder>(to: &mut G, level: &Level, below: [u8; 32]) -> Result<[u8; 32], FolderFault>
+    ensures next { (shelf : List Image) → HoldsIn (G.stands to.old) shelf below → Consistent shelf level.now
+        → IfOk result (HoldsIn (G.stands to.new) (shelf ++ level.now ∷ [])) }
+    ensures free { OnOk result (IfSome (G.stands to.old level.now.level) (λ other. other ≡ None)) }
+    ensures fault { IfSome (G.stands to.old level.now.level) (λ other. IfErr result (IsStoreFault level.now.level other)) }
+    ensures named { IfErr result (Names level.now.level) }
+    ensures kept { KeepsFiles (G.stands to.old) (G.stands to.new) }
+    ensures others { SameBut level.now.level (G.stands to.old) (G.stands to.new) }
+    ensures err { OnErr result (Same (G.stands to.old) (G.stands to.new)) }
+    ensures still { LeavesStill (G.may_leave to.old) (G.may_leave to.new) }
+{
+    let number = level.number();
+    match to.open(number) {
+        Ok(None) => {}
+        Ok(Some(_)) => return Err(FolderFault::Occupied { level: number }),
+        Err(Refusal::Refused) => return Err(FolderFault::Open { level: number }),
+        Err(Refusal::Memory) => return Err(FolderFault::Memory),
+    }
+    save(to, level, below)
+}
