@@ -23,6 +23,8 @@ fn expect_rank(rt: &impl Abort, board: &Board, expected: u32) {
 fn ranks_of_worked_positions(rt: HostRuntime) {
     let last = Board::new([12, 0, 0, 0, 0, 0, 0, 0, 0, 0, 0, 0]);
     expect_rank(&rt, &last, 1352077);
+    let highest = Board::new([24, 0, 0, 0, 0, 0, 0, 0, 0, 0, 0, 0]);
+    expect_rank(&rt, &highest, 417225899);
     let first = Board::new([0, 0, 0, 0, 0, 0, 0, 0, 0, 0, 0, 12]);
     expect_rank(&rt, &first, 0);
     let lost = Board::new([0, 0, 0, 0, 0, 1, 0, 0, 0, 0, 0, 0]);

@@ -292,7 +292,7 @@ fn refuses_another_level_or_size(rt: HostRuntime) -> Result<(), Fail> {
 #[test]
 fn refuses_a_level_above_the_highest(rt: HostRuntime) -> Result<(), Fail> {
     let shelf = two_levels(rt.alloc())?;
-    for level in [12, 13, 255] {
+    for level in [24, 25, 255] {
         expect_fault(&rt, rt.alloc(), &shelf, level, &[], VerifyFault::WrongLevel)?;
     }
     Ok(())
@@ -300,7 +300,7 @@ fn refuses_a_level_above_the_highest(rt: HostRuntime) -> Result<(), Fail> {
 
 #[test]
 fn levels_and_faults_have_their_numbers(rt: HostRuntime) {
-    assert_eq!(rt; HIGHEST_LEVEL, 12);
+    assert_eq!(rt; HIGHEST_LEVEL, 24);
     assert_eq!(rt; VerifyFault::WrongLevel.number(), 20);
     assert_eq!(rt; VerifyFault::WrongSize.number(), 21);
 }

@@ -58,11 +58,11 @@ fn reads_two_levels(rt: HostRuntime) -> Result<(), Fail> {
 }
 
 /// Texts, and the first fault of each.
-const FAULTY: [(&[u8], TableFault); 21] = [
+const FAULTY: [(&[u8], TableFault); 22] = [
     (b"level 0 limit 0", TableFault::Short),
     (b"level 0 limit 0\n", TableFault::Short),
     (b"level 0 limit 0\n0 - 0", TableFault::Short),
-    (b"level 13 limit 0", TableFault::Short),
+    (b"level 25 limit 0", TableFault::Short),
     (b"\n", TableFault::Line { line: 1 }),
     (b"level 0 limit 00\n", TableFault::Line { line: 1 }),
     (
@@ -73,8 +73,9 @@ const FAULTY: [(&[u8], TableFault); 21] = [
     (b"level 0 limit 4294967296\n", TableFault::Line { line: 1 }),
     (b"level 256 limit 0\n", TableFault::Line { line: 1 }),
     (b"level 255 limit 0\n", TableFault::High { line: 1 }),
-    (b"level 13 limit 0\n", TableFault::High { line: 1 }),
-    (b"level 12 limit 0\n", TableFault::Order { line: 1 }),
+    (b"level 25 limit 0\n", TableFault::High { line: 1 }),
+    (b"level 24 limit 0\n", TableFault::Order { line: 1 }),
+    (b"level 13 limit 0\n", TableFault::Order { line: 1 }),
     (b"level 1 limit 1\n", TableFault::Order { line: 1 }),
     (b"level 0 limit 0\n-0 - 0\n", TableFault::Line { line: 2 }),
     (b"level 0 limit 0\n00 - 0\n", TableFault::Line { line: 2 }),
