@@ -2,6 +2,7 @@
 
 use crate::plain::{asked, build, has_draft, lined, memory_folder, refuse, refuse_files, verified};
 use awari_folder::{Draft, Folder, MemoryFolder};
+use awari_table::HIGHEST_LEVEL;
 use std::alloc::Global;
 use std::io::{Read, Write};
 use std::process::Abort;
@@ -118,7 +119,7 @@ fn a_level_that_is_not_written_is_refused(rt: HostRuntime) {
 
 /// Gives these bytes the name of a level.
 fn lay(folder: &mut MemoryFolder, level: u8, bytes: &[u8]) -> Result<(), Fail> {
-    if level > 12 {
+    if level > HIGHEST_LEVEL {
         return Err(Fail::new("a level"));
     }
     let Ok(mut draft) = folder.create(level) else {
@@ -133,7 +134,7 @@ fn lay(folder: &mut MemoryFolder, level: u8, bytes: &[u8]) -> Result<(), Fail> {
 
 /// The bytes of a level's file.
 fn file_of(alloc: Global, folder: &mut MemoryFolder, level: u8) -> Result<Vec<u8>, Fail> {
-    if level > 12 {
+    if level > HIGHEST_LEVEL {
         return Err(Fail::new("a level"));
     }
     let mut bytes = Vec::new(alloc);

@@ -165,12 +165,13 @@ fn a_wrong_level_comes_before_the_text_after_it(rt: HostRuntime) -> Result<(), F
 
 #[test]
 fn prints_refusals(rt: HostRuntime) {
-    let cases: [(&[u8], &str); 7] = [
+    let cases: [(&[u8], &str); 8] = [
         (b"level 0 limit 0", "refused 13 Short\n"),
         (b"level 0 limit 0\n", "refused 13 Short\n"),
         (b"level 0 limit 00\n", "refused 10 Line line 1\n"),
         (b"level 1 limit 1\n", "refused 11 Order line 1\n"),
-        (b"level 13 limit 0\n", "refused 12 High line 1\n"),
+        (b"level 13 limit 0\n", "refused 11 Order line 1\n"),
+        (b"level 25 limit 0\n", "refused 12 High line 1\n"),
         (b"level 0 limit 0\n-0 - 0\n", "refused 10 Line line 2\n"),
         (b"level 0 limit 0\n0 - 0\n\n", "refused 10 Line line 3\n"),
     ];

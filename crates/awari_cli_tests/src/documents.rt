@@ -5,6 +5,7 @@ use crate::commands::expect_run;
 use crate::plays::{expect_judged, expect_move};
 use awari_board::Board;
 use awari_rank::{rank, size};
+use awari_table::HIGHEST_LEVEL;
 use std::alloc::Global;
 use std::fs;
 use std::process::Abort;
@@ -86,6 +87,9 @@ const SIZES: [u32; 13] = [
     1, 12, 78, 364, 1365, 4368, 12376, 31824, 75582, 167960, 352716, 705432, 1352078,
 ];
 
+/// The size of the highest level.
+const HIGHEST_SIZE: u32 = 417225900;
+
 fn expect_rank(rt: &impl Abort, text: &str, expected: u32) -> Result<(), Fail> {
     let board = Board::parse(text.as_bytes())?;
     assert!(rt; board.stones() == 1, "{text}");
@@ -102,7 +106,7 @@ fn boards_have_the_ranks_told(rt: HostRuntime) -> Result<(), Fail> {
 }
 
 fn expect_size(rt: &impl Abort, level: u8, expected: u32) {
-    assert!(rt; level < 13);
+    assert!(rt; level <= HIGHEST_LEVEL);
     assert_eq!(rt; size(level), expected, "level {level}");
 }
 
@@ -111,6 +115,7 @@ fn levels_have_the_sizes_told(rt: HostRuntime) {
     for (level, expected) in (0..13u8).zip(SIZES) {
         expect_size(&rt, level, expected);
     }
+    expect_size(&rt, HIGHEST_LEVEL, HIGHEST_SIZE);
 }
 
 #[test]

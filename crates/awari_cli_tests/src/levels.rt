@@ -75,7 +75,7 @@ pub fn expect_built(
 #[test]
 fn levels_are_built(rt: HostRuntime) {
     expect_built(&rt, rt.alloc(), "2", LEVELS_0_TO_2, 0);
-    for top in ["13", "-1", "x", "256"] {
+    for top in ["25", "-1", "x", "256"] {
         expect_built(&rt, rt.alloc(), top, "", 2);
     }
 }
@@ -193,9 +193,11 @@ fn a_folder_that_is_not_there_is_empty(rt: HostRuntime) {
     let folder = "awari_cli_test_nowhere";
     let _ = fs::remove_dir_all(&rt, folder);
     expect_verify(&rt, folder, NO_LEVELS, 0);
-    let words = ["awari", "build", "1", "--folder", folder];
-    let printed = "refused 82 Open level 0\n";
-    expect_run(&rt, rt.alloc(), words.as_slice(), b"", printed, 1);
+    for top in ["1", "13", "24"] {
+        let words = ["awari", "build", top, "--folder", folder];
+        let printed = "refused 82 Open level 0\n";
+        expect_run(&rt, rt.alloc(), words.as_slice(), b"", printed, 1);
+    }
 }
 
 #[test]
@@ -334,8 +336,8 @@ fn a_line_is_played(rt: HostRuntime) -> Result<(), Fail> {
 
 /// Takes seconds as `rt test` compiles it, and longer than `rt try --test` waits.
 #[test]
-fn the_highest_level_is_loaded(rt: HostRuntime) -> Result<(), Fail> {
-    let folder = "awari_cli_test_highest";
+fn level_12_is_loaded(rt: HostRuntime) -> Result<(), Fail> {
+    let folder = "awari_cli_test_level_12";
     empty_folder(&rt, folder)?;
     expect_build(&rt, folder, "2", LEVELS_0_TO_2);
     expect_build(&rt, folder, "6", LEVELS_3_TO_6);

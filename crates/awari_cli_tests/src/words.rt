@@ -118,7 +118,13 @@ fn usage_goes_to_the_error_stream(rt: HostRuntime) {
         &["awari", "help", "build"],
         "Usage: awari build",
     );
-    expect_usage(&rt, rt.alloc(), &["awari", "build", "13"], "13");
+    expect_usage(&rt, rt.alloc(), &["awari", "build", "25"], "25");
+    expect_usage(
+        &rt,
+        rt.alloc(),
+        &["awari", "serve", "levels", "25", "0"],
+        "25",
+    );
 }
 
 /// Runs `build` up to level 1 in the folder, whose lines can't be written.
