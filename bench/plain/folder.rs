@@ -9,7 +9,7 @@ use std::path::{Path, PathBuf};
 
 const MAGIC: [u8; 4] = *b"AWDB";
 const VERSION: [u8; 2] = [0, 1];
-const HIGHEST: usize = 12;
+const HIGHEST: usize = 24;
 const NO_PLAN: u8 = 255;
 const ENTRY: usize = 6;
 /// How many entries are read or written at once.

@@ -1,7 +1,7 @@
 //! Goes over a level of ten stones by the hot calls. With no words it makes one round of each and
 //! prints what it counted, which another program has to count too; `bench/run` times it with the
-//! name of a call and a number of rounds. The calls `verify` and `least` are of all levels, which are
-//! built first; `asking` times readers of a desk by itself.
+//! name of a call and a number of rounds. The calls `verify` and `least` are of the levels 0 to 12,
+//! which are built first; `asking` times readers of a desk by itself.
 #![tactic(auto)]
 
 mod asking;
@@ -10,7 +10,7 @@ mod judging;
 
 use crate::asking::asking;
 use crate::counting::Counted;
-use crate::judging::{Work, all_levels};
+use crate::judging::{Work, each_level};
 use awari_board::Board;
 use awari_rank::{rank, size, successor, unrank};
 use std::{env, io};
@@ -109,10 +109,10 @@ fn main(rt: HostRuntime) -> io::Result<()> {
             match call.as_str() {
                 "asking" => asking(&rt, rt.alloc(), rounds),
                 "verify" => {
-                    print_counted(&rt, "verify", all_levels(rt.alloc(), Work::Judge, rounds)?)
+                    print_counted(&rt, "verify", each_level(rt.alloc(), Work::Judge, rounds)?)
                 }
                 "least" => {
-                    print_counted(&rt, "least", all_levels(rt.alloc(), Work::Lower, rounds)?)
+                    print_counted(&rt, "least", each_level(rt.alloc(), Work::Lower, rounds)?)
                 }
                 call => report(&rt, call, rounds),
             }
