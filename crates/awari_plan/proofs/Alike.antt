@@ -1,7 +1,7 @@
 -- Consistent levels whose plans are the lowest are one.
 use Rattle.std.proofs.Common.{◌≡◌, ℕ, ◌+◌, ◌<◌, ◌≤◌, ◌⊎◌, inl, inr, List, [], ◌∷◌, ◌++◌, length, take, get_or, sum, ℤ, pos, ◌-ℤ◌, ◌<ℤ◌, Option, Some, None, refl, sym, ap, ◌∙◌, subst, arith, length-append}
 use Rattle.std.proofs.Math.Seq.{get_or-append_seam}
-use Rattle.std.proofs.lemmas.Bool.{cases_order}
+use Rattle.std.proofs.lemmas.Bool.{cases_lt, cases_order}
 use Rattle.std.proofs.lemmas.List.{ext_get_or, length-take-le}
 use Rattle.awari_board.specs.Rules.{IsBoard, IsMove}
 use Rattle.awari_board.proofs.Keeping.{IsBoard-next, sum-from_IsMove}
@@ -12,6 +12,7 @@ use Rattle.awari_table.specs.declared.images.Image.{Image}
 use Rattle.awari_table.specs.Certificate.{Table}
 use Rattle.awari_table.specs.Images.{entry_of, table_of, no_entry, no_image, greatest_dist}
 use Rattle.awari_table.specs.Shelves.{Consistent, IsShelf}
+use Rattle.awari_table.proofs.EntryLemmas.{entry_of-append}
 use Rattle.awari_table.proofs.ShelfLemmas.{IsShelf-push}
 use Rattle.awari_theory.proofs.Truths.{values-agree, distances-agree}
 use Rattle.awari_plan.specs.Least.{HasLowestPlans, IsPlannedLowest}
@@ -45,6 +46,11 @@ lowest_one t u p (Some x) (Some y) here next a b = elim (cases_order x y) [
   | inr (inl below) ↦ absurd (b.1 x below (serves_local t u p x here (next x) a.0))
   | inr (inr above) ↦ absurd (a.1 y above (serves_local u t p y (same_back t u p here) (λ c q move. same_back t u q (next y c q move)) b.0))
 ]
+
+lowest_local : (t u : Table) (p : List ℕ) (plan : Option ℕ) → SameOf t u p → ((x c : ℕ) (q : List ℕ) → IsMove p x c q → SameOf t u q) → IsLowest t p plan → IsLowest u p plan
+lowest_local t u p None here next lowest = λ x serves. lowest x (serves_local u t p x (same_back t u p here) (λ c q move. same_back t u q (next x c q move)) serves)
+lowest_local t u p (Some x) here next lowest =
+    (serves_local t u p x here (next x) lowest.0, λ y below serves. lowest.1 y below (serves_local u t p y (same_back t u p here) (λ c q move. same_back t u q (next y c q move)) serves))
 
 -- ---- one entry, one image
 
@@ -118,3 +124,19 @@ images_same shelf image other below first second mine theirs =
     ∙ level_same (shelf ++ image ∷ []) (shelf ++ other ∷ []) (IsShelf-push shelf image below first) (IsShelf-push shelf other below second) (length shelf)
     (omega (arith, length-append shelf (image ∷ []))) (omega (arith, length-append shelf (other ∷ []))) mine theirs
     ∙ get_or-append_seam shelf other [] no_image
+
+-- ---- a level with the lowest plans on top of others
+
+pub lowest_push : (shelf : List Image) (image : Image) → HasLowestPlans shelf → IsPlannedLowest shelf image → HasLowestPlans (shelf ++ image ∷ [])
+lowest_push shelf image below top p is low = elim (cases_lt (sum p) (length shelf)) [
+  | inl under ↦
+      let old = table_of shelf in
+      let new = table_of (shelf ++ image ∷ []) in
+      let same_entry : (q : List ℕ) → sum q < length shelf → entry_of shelf q ≡ entry_of (shelf ++ image ∷ []) q = λ q few. sym (entry_of-append shelf (image ∷ []) q few) in
+      let same : (q : List ℕ) → sum q < length shelf → SameOf old new q = λ q few. (ap (λ e. e.value) (same_entry q few), ap (λ e. e.dist) (same_entry q few)) in
+      subst (IsLowest new p) (ap (λ e. e.plan) (same_entry p under))
+      (lowest_local old new p (entry_of shelf p).plan (same p under)
+      (λ x c q move. let kept = sum-from_IsMove p x c q is.pits move in same q (omega (arith, kept, under)))
+      (below p is under))
+  | inr high ↦ top p is (omega (arith, low, high, length-append shelf (image ∷ [])))
+]

@@ -1,6 +1,6 @@
 //! What follows of a level that was finished.
 
-ghost use Rattle.std.specs.Prelude.{◌≡◌, ◌≤◌, List, All, length};
+ghost use Rattle.std.specs.Prelude.{◌≡◌, ◌≤◌, ◌++◌, ◌∷◌, [], List, All, length};
 ghost use Rattle.awari_owner.specs.Level.{AreHeard, AreWhole, IsClosed};
 ghost use Rattle.awari_owner.specs.Part.{Part};
 ghost use Rattle.awari_plan.specs.Finished.{IsFinished};
@@ -25,4 +25,9 @@ pub fn lowest_levels_are_one()
         → IsPlannedLowest shelf image → IsPlannedLowest shelf other → image ≡ other }
     ensures shelf { (levels others : List Image) → IsShelf levels → IsShelf others → length levels ≡ length others
         → HasLowestPlans levels → HasLowestPlans others → levels ≡ others }
+{}
+
+/// A shelf whose plans are the lowest has them still with one more level on top whose plans are.
+pub fn lowest_plans_stay()
+    ensures { (shelf : List Image) (image : Image) → HasLowestPlans shelf → IsPlannedLowest shelf image → HasLowestPlans (shelf ++ image ∷ []) }
 {}

@@ -10,7 +10,7 @@ mod parallel;
 mod plans;
 
 pub use finishing::finish;
-pub use laws::{finished_levels_are_consistent, lowest_levels_are_one};
+pub use laws::{finished_levels_are_consistent, lowest_levels_are_one, lowest_plans_stay};
 pub use lines::{Line, LineFault, best_line};
 pub use lowering::least;
 pub use parallel::finish_parallel;
