@@ -5,6 +5,7 @@ use Rattle.std.proofs.lemmas.Bool.{cases_lt}
 use Rattle.awari_file.specs.FileText.{file_text}
 use Rattle.std.specs.Io.KnownBytes.{Appends}
 use Rattle.awari_folder.specs.Contents.{AreNames, HoldsIn, IsStoredIn, LeavesNoMore, LeavesToo, Same, nothing_known}
+use Rattle.awari_plan.specs.Least.{HasLowestPlans}
 use Rattle.awari_table.specs.Shelves.{IsShelf}
 use Rattle.awari_table.specs.declared.images.Image.{Image}
 use Rattle.awari_cli.specs.Building.{IsBuiltIn, KeepsLevels, PrintsLevels, SameOutside, LeavesFiles, level_lines}
@@ -20,14 +21,14 @@ pub same_outside : (low top : ℕ) (old new : ℕ → Option (Option (List ℕ))
 same_outside low top old new below above n = ⊎_elim (below n) (λ high. ⊎_elim (below n) (λ up. above n up high) (cases_lt n low))
 
 files_of_save : (level : ℕ) (stand : Option (Option (List ℕ))) (image : Image) (below : List ℕ) (old new : ℕ → Option (List ℕ) → Type 0)
-    → IfSome stand (λ _. LeavesToo level (λ c. c ≡ Some (file_text 1 image below)) old new) → IsSome stand → LeavesFiles level old new
+    → IfSome stand (λ _. LeavesToo level (λ c. c ≡ Some (file_text 2 image below)) old new) → IsSome stand → LeavesFiles level old new
 files_of_save level (Some stand) image below old new leaves known n c left =
     ⊎_elim (λ l. inl l) (λ r. inr (omega (arith, r.0), (image, below, r.1))) (leaves n c left)
 files_of_save level None image below old new leaves known n c left = search rules
 
 -- What a save may leave is a whole file.
 pub files_at : (stands : ℕ → Option (Option (List ℕ))) (level m : ℕ) (image : Image) (below : List ℕ) (old new : ℕ → Option (List ℕ) → Type 0)
-    → level ≡ m → IfSome (stands level) (λ _. LeavesToo level (λ c. c ≡ Some (file_text 1 image below)) old new) → IsSome (stands m) → LeavesFiles m old new
+    → level ≡ m → IfSome (stands level) (λ _. LeavesToo level (λ c. c ≡ Some (file_text 2 image below)) old new) → IsSome (stands m) → LeavesFiles m old new
 files_at stands level m image below old new next leaves =
     subst (λ k. IsSome (stands k) → LeavesFiles k old new) next (files_of_save level (stands level) image below old new leaves)
 
@@ -44,8 +45,9 @@ longer_by_one less image shelf put = ap length put ∙ length-append less (image
 -- What is built on what was loaded, and printed.
 pub prints_on : (old mid new : ℕ → Option (Option (List ℕ))) (top : ℕ) (below shelf : List Image) (under digest : List ℕ) (before after : Option (List ℕ))
     → IsStoredIn old below under → Same old mid → IsShelf shelf × (top < length shelf) → (HoldsIn mid below under → HoldsIn new shelf digest)
+    → (HasLowestPlans below → HasLowestPlans shelf)
     → (built : List Image) × (shelf ≡ below ++ built) × Appends before after (level_lines built) → PrintsLevels top old new before after
-prints_on old mid new top below shelf under digest before after stored same right holds (built, put, lines) = (
+prints_on old mid new top below shelf under digest before after stored same right holds planned (built, put, lines) = (
   below,
   built,
   subst IsShelf put right.0,
@@ -56,6 +58,7 @@ prints_on old mid new top below shelf under digest before after stored same righ
     stored names are,
     subst (λ xs. HoldsIn new xs digest) put (holds (names, (λ n. same n ∙ are n), (stored names are).levels)),
   )),
+  (λ lowest. subst HasLowestPlans put (planned lowest)),
   lines,
 )
 
@@ -73,7 +76,7 @@ keeps_on old mid new left middle leaves top below under stored same none outside
     )
 
 -- Levels that are built on none, in no folder.
-pub prints_anew : (top : ℕ) (first shelf : List Image) (before after : Option (List ℕ)) → IsShelf shelf × (top < length shelf)
+pub prints_anew : (top : ℕ) (first shelf : List Image) (before after : Option (List ℕ)) → IsShelf shelf × (top < length shelf) → (HasLowestPlans first → HasLowestPlans shelf)
     → (built : List Image) × (shelf ≡ first ++ built) × Appends before after (level_lines built) → PrintsLevels top nothing_known nothing_known before after
-prints_anew top first shelf before after right (built, put, lines) =
-    (first, built, subst IsShelf put right.0, subst (λ xs. top < length xs) put right.1, built_nowhere first built, lines)
+prints_anew top first shelf before after right planned (built, put, lines) =
+    (first, built, subst IsShelf put right.0, subst (λ xs. top < length xs) put right.1, built_nowhere first built, (λ lowest. subst HasLowestPlans put (planned lowest)), lines)

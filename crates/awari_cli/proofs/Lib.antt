@@ -2,3 +2,4 @@ pub mod JudgeLaws
 pub mod BuildLaws
 pub mod FolderLaws
 pub mod FolderBuilds
+pub mod OneFolder

@@ -6,6 +6,7 @@ use Rattle.std.specs.Io.KnownBytes.{Appends}
 use Rattle.awari_build.specs.BuildFault.{fault_text as build_fault_text}
 use Rattle.awari_folder.specs.FolderFault.{fault_text as folder_fault_text}
 use Rattle.awari_table.specs.Images.{won_boards, even_boards, lost_boards}
+use Rattle.awari_plan.specs.Least.{HasLowestPlans}
 use Rattle.awari_table.specs.Shelves.{IsShelf}
 use Rattle.awari_table.specs.declared.images.Counts.{Counts}
 use Rattle.awari_table.specs.declared.images.Image.{Image}
@@ -55,10 +56,10 @@ IsBuiltIn old new below built = (names : ℕ → Option (List ℕ)) → AreNames
     → (under digest : List ℕ) × IsStored names below under × HoldsIn new (below ++ built) digest
 
 -- Where it is known what the writer holds, what was written are the lines of right levels, over those that were stored in the
--- folder, up to level `top` at least.
+-- folder, up to level `top` at least. The plans of all of them are the lowest, where those that were stored are.
 abbrev pub PrintsLevels : ℕ → (ℕ → Option (Option (List ℕ))) → (ℕ → Option (Option (List ℕ))) → Option (List ℕ) → Option (List ℕ) → Type 0
 PrintsLevels top old new before after = (below built : List Image) × IsShelf (below ++ built) × (top < length (below ++ built)) × IsBuiltIn old new below built
-    × Appends before after (level_lines built)
+    × (HasLowestPlans below → HasLowestPlans (below ++ built)) × Appends before after (level_lines built)
 
 -- each of the levels below `low` and above `top` has what it had
 abbrev pub SameOutside : ℕ → ℕ → (ℕ → Option (Option (List ℕ))) → (ℕ → Option (Option (List ℕ))) → Type 0
@@ -66,7 +67,7 @@ SameOutside low top old new = (n : ℕ) → (n < low) ⊎ (top < n) → new n �
 
 -- the whole file of some image, over some digest
 abbrev pub IsFile : Option (List ℕ) → Type 0
-IsFile left = (image : Image) × (below : List ℕ) × (left ≡ Some (file_text 1 image below))
+IsFile left = (image : Image) × (below : List ℕ) × (left ≡ Some (file_text 2 image below))
 
 -- A crash may leave nothing else than before, but under the names from level `low` on a whole file.
 abbrev pub LeavesFiles : ℕ → (ℕ → Option (List ℕ) → Type 0) → (ℕ → Option (List ℕ) → Type 0) → Type 0

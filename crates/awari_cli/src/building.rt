@@ -5,6 +5,7 @@ ghost use Rattle.std.specs.Arc.{arc_value};
 ghost use Rattle.std.specs.Io.KnownBytes.{Appends};
 ghost use Rattle.awari_build.specs.declared.faults.BuildFault.TheVariants as build_fault;
 ghost use Rattle.awari_table.specs.declared.images.Image.{Image};
+ghost use Rattle.awari_plan.specs.Least.{HasLowestPlans, IsPlannedLowest};
 ghost use Rattle.awari_table.specs.Shelves.{Consistent, IsShelf};
 ghost use Rattle.awari_folder.specs.Contents.{AreNames, HoldsIn, Same, SameBut, nothing_known};
 ghost use Rattle.awari_cli.specs.Building.{IsToldOf, KeepsLevels, LeavesFiles, PrintsLevels, SameOutside, level_lines};
@@ -14,6 +15,7 @@ use crate::printing::{Refused, print, refuse};
 use awari_build::{BuildFault, Pace, build_alone, build_level};
 use awari_folder::{Folder, FolderFault, load_parallel, save};
 use awari_phase::Open;
+use awari_plan::lowest_plans_stay;
 use awari_rank::size;
 use awari_table::{Counts, Level, Shelf};
 use std::alloc::{AllocFailed, Global};
@@ -177,6 +179,7 @@ fn build_up<T: Threads + Wait + Sync, W: Write>(
     ensures shelf { result ≡ 0 → IsShelf shelf.new × (top < length shelf.new) }
     ensures built { result ≡ 0 → (built : List Image) × (shelf.new ≡ shelf.old ++ built)
         × Appends (W.contents writer.old) (W.contents writer.new) (level_lines built) }
+    ensures planned { result ≡ 0 → HasLowestPlans shelf.old → HasLowestPlans shelf.new }
 {
     while shelf.levels() <= top {
         match build_next(rt, alloc, pace, shelf) {
@@ -210,6 +213,7 @@ fn build_up_in<T: Threads + Wait + Sync, F: Folder, W: Write>(
     ensures shelf { result ≡ 0 → IsShelf shelf.new × (top < length shelf.new) }
     ensures built { result ≡ 0 → (built : List Image) × (shelf.new ≡ shelf.old ++ built)
         × Appends (W.contents writer.old) (W.contents writer.new) (level_lines built) }
+    ensures planned { result ≡ 0 → HasLowestPlans shelf.old → HasLowestPlans shelf.new }
     ensures holds { HoldsIn (F.stands folder.old) shelf.old digest.old → result ≡ 0 → HoldsIn (F.stands folder.new) shelf.new digest.new }
     ensures same { SameOutside (length shelf.old) top (F.stands folder.old) (F.stands folder.new) }
     ensures crash { (names : ℕ → Option (List ℕ)) → AreNames (F.stands folder.old) names
@@ -239,7 +243,10 @@ fn build_next<T: Threads + Wait + Sync>(
     shelf: &mut Shelf,
 ) -> Result<BuiltLevel, BuildingFault>
     ensures built { IfOk result (λ told. (image : Image) × (shelf.new ≡ shelf.old ++ image ∷ []) × IsToldOf image told) }
+    ensures planned { OnOk result (HasLowestPlans shelf.old → HasLowestPlans shelf.new) }
 {
+    // That the plans stay the lowest is what this call tells the proof.
+    lowest_plans_stay();
     let level = built_level(rt, alloc, pace, shelf)?;
     let told = told_of(&level);
     shelf.push(level);
@@ -257,11 +264,14 @@ fn save_next<T: Threads + Wait + Sync, F: Folder>(
     digest: &mut [u8; 32],
 ) -> Result<BuiltLevel, BuildingFault>
     ensures built { IfOk result (λ told. (image : Image) × (shelf.new ≡ shelf.old ++ image ∷ []) × IsToldOf image told) }
+    ensures planned { OnOk result (HasLowestPlans shelf.old → HasLowestPlans shelf.new) }
     ensures holds { HoldsIn (F.stands folder.old) shelf.old digest.old → OnOk result (HoldsIn (F.stands folder.new) shelf.new digest.new) }
     ensures others { SameBut (length shelf.old) (F.stands folder.old) (F.stands folder.new) }
     ensures err { OnErr result (Same (F.stands folder.old) (F.stands folder.new)) }
     ensures crash { IsSome (F.stands folder.old (length shelf.old)) → LeavesFiles (length shelf.old) (F.may_leave folder.old) (F.may_leave folder.new) }
 {
+    // That the plans stay the lowest is what this call tells the proof.
+    lowest_plans_stay();
     let level = built_level(rt, alloc, pace, shelf)?;
     let own = save(folder, &level, *digest)?;
     *digest = own;
@@ -278,7 +288,8 @@ fn built_level<T: Threads + Wait + Sync>(
     pace: Pace,
     shelf: &Shelf,
 ) -> Result<Arc<Level>, BuildingFault>
-    ensures { IfOk result (λ level. Consistent shelf.now (arc_value level)) }
+    ensures consistent { IfOk result (λ level. Consistent shelf.now (arc_value level)) }
+    ensures planned { IfOk result (λ level. IsPlannedLowest shelf.now (arc_value level)) }
 {
     let level = if pace.owners == 0 {
         build_alone(alloc, shelf)?

@@ -4,6 +4,7 @@
 mod building;
 mod folders;
 mod judgements;
+mod laws;
 mod lines;
 mod playing;
 mod printing;
@@ -15,6 +16,7 @@ pub use awari_check::check;
 pub use building::run_build_in;
 pub use folders::{run_ask, run_verify};
 pub use judgements::{JudgeFault, Judged, Judgement, judge};
+pub use laws::one_file_for_every_schedule;
 pub use lines::run_line;
 pub use playing::{PlayFault, Played, play_on};
 pub use runs::run;

@@ -29,7 +29,7 @@ refused 82 Open level 1
 const RIGHT_LEVELS_0_TO_1: &str = "\
 level 0 ok limit 0
 level 1 ok limit 1
-levels 2 digest 045eb0f444c69c6731d7b84d1be9206da3347f69294d13c733cbaf6303ecc4d8
+levels 2 digest e5a9a57f6858a25baad0b0a5a6a39407e11a4315b2a1df329ebea00cef062deb
 ";
 
 /// What was printed, and the status.

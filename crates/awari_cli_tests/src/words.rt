@@ -151,7 +151,7 @@ fn a_level_is_saved_before_its_line_is_written(rt: HostRuntime) -> Result<(), Fa
     let words = ["awari", "verify", folder];
     let printed = "\
 level 0 ok limit 0
-levels 1 digest 2b0a17a0bd5d014193f04ba303f84be3f3a33a9dc90936ec86cd85f2bb709f7a
+levels 1 digest c90c3c3629b1c963507f83d9894d84cb78d15ceb14847ebb17360a8ed545cf0f
 ";
     expect_run(&rt, rt.alloc(), words.as_slice(), b"", printed, 0);
     fs::remove_dir_all(&rt, folder)?;

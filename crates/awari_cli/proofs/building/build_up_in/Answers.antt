@@ -6,6 +6,7 @@ use Rattle.awari_cli.proofs.building.build_up_in.Goals as goal
 pub loop-alloc-init : goal.loop-alloc-init
 loop-alloc-init g c = record {
   built = built_none _ _;
+  planned = λ lowest. lowest;
   holds = λ held. held;
   longer = omega arith;
   high = λ n top low. low;
@@ -22,6 +23,7 @@ loop-alloc-preserved g c =
     let size : length c.save_next.new.shelf ≡ length c.loop-alloc.shelf + 1 = longer_by_one c.loop-alloc.shelf image c.save_next.new.shelf put in
     record {
       built = built_more _ _ _ image c.in-Ok.told _ _ _ i.built put tells (c.print.ensures c.if-not-print.false);
+      planned = λ lowest. c.in-Ok.ensures.planned (i.planned lowest);
       holds = λ held. c.in-Ok.ensures.holds (i.holds held);
       longer = omega (arith, size, i.longer);
       high = λ n top low. omega (arith, size, top);

@@ -1,5 +1,6 @@
 use Rattle.std.proofs.Common.{◌≡◌, ◌≤◌, ◌<◌, ◌-◌, ◌+◌, ℕ, List, Option, length}
 use Rattle.awari_folder.specs.Contents.{AreNames, HoldsIn}
+use Rattle.awari_plan.specs.Least.{HasLowestPlans}
 use Rattle.awari_cli.specs.Building.{LeavesFiles}
 use Rattle.awari_cli.proofs.BuildLaws.{IsBuilt}
 use Rattle.awari_cli.proofs.building.build_up_in.Given as goal
@@ -10,6 +11,7 @@ invariant-loop-alloc g l =
     let may_leave = g.F.Folder.may_leave in
     record {
       built : IsBuilt l.fn.shelf l.shelf (g.W.Write.contents l.fn.writer) (g.W.Write.contents l.writer);
+      planned : HasLowestPlans l.fn.shelf → HasLowestPlans l.shelf;
       holds : HoldsIn (stands l.fn.folder) l.fn.shelf l.fn.digest → HoldsIn (stands l.folder) l.shelf l.digest;
       longer : length l.fn.shelf ≤ length l.shelf;
       high : (n : ℕ) → l.top < n → length l.fn.shelf ≤ n → length l.shelf ≤ n;

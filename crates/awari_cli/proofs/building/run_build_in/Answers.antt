@@ -6,7 +6,7 @@ returns-clause-built g c = λ done.
     prints_on (g.F.Folder.stands c.args.folder.now) (g.F.Folder.stands c.load_parallel.new.folder) (g.F.Folder.stands c.build_up_in-status.new.folder) c.args.top
     c.in-Ok.stored.shelf c.build_up_in-status.new.shelf c.in-Ok.stored.digest c.build_up_in-status.new.digest _ _
     c.in-Ok.ensures.exact c.in-Ok.ensures.stands (c.build_up_in-status.ensures.shelf done) (λ held. c.build_up_in-status.ensures.holds held done)
-    (c.build_up_in-status.ensures.built done)
+    (c.build_up_in-status.ensures.planned done) (c.build_up_in-status.ensures.built done)
 
 pub returns-clause-keeps : goal.returns-clause-keeps
 returns-clause-keeps g c = keeps_on (g.F.Folder.stands c.args.folder.now) (g.F.Folder.stands c.load_parallel.new.folder) (g.F.Folder.stands c.build_up_in-status.new.folder)
