@@ -8,8 +8,11 @@ use std::io::{self, Read, Write};
 use std::path::{Path, PathBuf};
 
 const MAGIC: [u8; 4] = *b"AWDB";
-const VERSION: [u8; 2] = [0, 1];
+const VERSION: [u8; 2] = [0, 2];
 const HIGHEST: usize = 24;
+/// The version of files that are read, and not loaded.
+const OLD_VERSION: [u8; 2] = [0, 1];
+const OLD_HIGHEST: usize = 12;
 const NO_PLAN: u8 = 255;
 const ENTRY: usize = 6;
 /// How many entries are read or written at once.
@@ -95,8 +98,17 @@ impl<W: Write> Hashed<W> {
     }
 }
 
-/// What a file holds: a level, how many stones its boards have, and the two digests.
+/// What stands before the entries.
+struct Header {
+    version: [u8; 2],
+    stones: usize,
+    limit: u32,
+    below: Digest,
+}
+
+/// What a file holds: its version, a level, how many stones its boards have, and the two digests.
 struct Loaded {
+    version: [u8; 2],
     stones: usize,
     level: Level,
     below: Digest,
@@ -131,20 +143,19 @@ fn read_entries<R: Read>(input: &mut Hashed<R>, count: usize) -> Result<Vec<Entr
     Ok(entries)
 }
 
-/// The fields before the entries: level, limit and the digest below.
-fn read_header<R: Read>(
-    ways: &Ways,
-    input: &mut Hashed<R>,
-) -> Result<(usize, u32, Digest), FileFault> {
+fn read_header<R: Read>(ways: &Ways, input: &mut Hashed<R>) -> Result<Header, FileFault> {
     if input.field()? != MAGIC {
         return Err(FileFault::Magic);
     }
-    if input.field()? != VERSION {
-        return Err(FileFault::Version);
-    }
+    let version = input.field()?;
+    let highest = match version {
+        VERSION => HIGHEST,
+        OLD_VERSION => OLD_HIGHEST,
+        _ => return Err(FileFault::Version),
+    };
     let [stones] = input.field()?;
     let stones = usize::from(stones);
-    if stones > HIGHEST {
+    if stones > highest {
         return Err(FileFault::LevelOutOfRange);
     }
     if input.field()? != [0] {
@@ -153,13 +164,22 @@ fn read_header<R: Read>(
     if u64::from_be_bytes(input.field()?) != u64::from(ways.size(stones)) {
         return Err(FileFault::Count);
     }
-    let limit = u32::from_be_bytes(input.field()?);
-    Ok((stones, limit, input.field()?))
+    Ok(Header {
+        version,
+        stones,
+        limit: u32::from_be_bytes(input.field()?),
+        below: input.field()?,
+    })
 }
 
 fn read_level(ways: &Ways, file: File) -> Result<Loaded, FileFault> {
     let mut input = Hashed::new(file);
-    let (stones, limit, below) = read_header(ways, &mut input)?;
+    let Header {
+        version,
+        stones,
+        limit,
+        below,
+    } = read_header(ways, &mut input)?;
     let entries = read_entries(&mut input, ways.size(stones) as usize)?;
     let Hashed { stream, sha } = input;
     let digest = sha.digest();
@@ -171,6 +191,7 @@ fn read_level(ways: &Ways, file: File) -> Result<Loaded, FileFault> {
         return Err(FileFault::Trailing);
     }
     Ok(Loaded {
+        version,
         stones,
         level: Level { limit, entries },
         below,
@@ -188,6 +209,9 @@ fn loaded(
     let level = below.len();
     let loaded = read_level(ways, file)
         .map_err(|fault| format!("refused 81 File level {level}: {}", fault.text()))?;
+    if loaded.version != VERSION {
+        return Err(format!("refused 86 Old level {level}"));
+    }
     if loaded.below != digest {
         return Err(format!("refused 80 Below level {level}"));
     }
