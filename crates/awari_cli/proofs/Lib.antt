@@ -2,4 +2,5 @@ pub mod JudgeLaws
 pub mod BuildLaws
 pub mod FolderLaws
 pub mod FolderBuilds
+pub mod MovedLaws
 pub mod OneFolder

@@ -4,5 +4,6 @@ pub mod Done
 pub mod Building
 pub mod Folders
 pub mod Lines
+pub mod Migrating
 pub mod Requests
 pub mod Serving

@@ -43,9 +43,9 @@ impl fmt::Display for RightLevel {
 
 /// The last line of a folder: how many levels it has, and the digest of the last one's file.
 #[derive(Clone, Copy)]
-struct Summary {
-    levels: u8,
-    digest: [u8; 32],
+pub struct Summary {
+    pub levels: usize,
+    pub digest: [u8; 32],
 }
 
 impl fmt::Display for Summary {
@@ -238,7 +238,7 @@ pub fn run_verify<T: Threads + Sync, F: Folder, W: Write>(
     if !print_levels(&stored.shelf, writer) {
         return 1;
     }
-    let levels = stored.shelf.levels();
+    let levels = usize::from(stored.shelf.levels());
     let digest = stored.digest;
     if print(writer, &Summary { levels, digest }) {
         0

@@ -3,9 +3,11 @@
 
 mod building;
 mod folders;
+mod helps;
 mod judgements;
 mod laws;
 mod lines;
+mod migrating;
 mod playing;
 mod printing;
 mod requests;
@@ -18,6 +20,7 @@ pub use folders::{run_ask, run_verify};
 pub use judgements::{JudgeFault, Judged, Judgement, judge};
 pub use laws::one_file_for_every_schedule;
 pub use lines::run_line;
+pub use migrating::run_migrate;
 pub use playing::{PlayFault, Played, play_on};
 pub use runs::run;
 pub use serving::run_serve;

@@ -12,6 +12,7 @@ use crate::building::{run_build, run_build_in};
 use crate::folders::{run_ask, run_verify};
 use crate::judgements::{Judged, judge};
 use crate::lines::run_line;
+use crate::migrating::run_migrate;
 use crate::playing::{Played, play_on};
 use crate::printing::print;
 use crate::requests::{Request, request_of};
@@ -92,6 +93,11 @@ fn run_request<
         }
         Request::Verify { folder } => {
             run_verify(rt, &mut host_folder(rt, alloc, folder), alloc, writer)
+        }
+        Request::Migrate { from, to } => {
+            let mut from = host_folder(rt, alloc, from);
+            let mut to = host_folder(rt, alloc, to);
+            run_migrate(alloc, &mut from, &mut to, writer)
         }
         Request::Ask { folder, board } => {
             run_ask(

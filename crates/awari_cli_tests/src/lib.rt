@@ -12,6 +12,8 @@ mod documents;
 #[cfg(test)]
 mod levels;
 #[cfg(test)]
+mod migrations;
+#[cfg(test)]
 mod plain;
 #[cfg(test)]
 mod plays;

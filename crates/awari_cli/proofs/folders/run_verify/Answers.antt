@@ -1,3 +1,4 @@
+use Rattle.std.proofs.Common.{◌∙◌}
 use Rattle.std.proofs.KnownBytes.{Appends-trans}
 use Rattle.awari_cli.specs.declared.folders.Summary.{Summary}
 use Rattle.awari_cli.specs.Folders.{right_lines}
@@ -6,5 +7,5 @@ use Rattle.awari_cli.proofs.folders.run_verify.Goals as goal
 pub returns-then-print-clause-verified : goal.returns-then-print-clause-verified
 returns-then-print-clause-verified g c = λ _.
     let levels = c.print_levels.ensures c.if-not-print_levels.false in
-    let summary : Summary = record { levels = c.levels-levels.result; digest = c.in-Ok.stored.digest } in
-    (c.in-Ok.stored.shelf, summary, levels.0, c.levels-levels.ensures.levels, c.in-Ok.ensures.exact, Appends-trans _ _ _ (right_lines c.in-Ok.stored.shelf) _ levels.1 (c.print-2.ensures c.if-print.true))
+    let summary : Summary = record { levels = c.from-levels.result; digest = c.in-Ok.stored.digest } in
+    (c.in-Ok.stored.shelf, summary, levels.0, c.from-levels.ensures ∙ c.levels.ensures.levels, c.in-Ok.ensures.exact, Appends-trans _ _ _ (right_lines c.in-Ok.stored.shelf) _ levels.1 (c.print-2.ensures c.if-print.true))

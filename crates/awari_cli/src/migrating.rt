@@ -1,0 +1,82 @@
+//! The command `migrate`: the levels of a folder brought over into another one.
+
+ghost use Rattle.std.specs.Prelude.{◌≡◌, ◌≤◌, true};
+ghost use Rattle.std.specs.Io.KnownBytes.{Appends};
+ghost use Rattle.awari_folder.specs.Contents.{LeavesNoMore, Same};
+ghost use Rattle.awari_folder.specs.Migration.{KeepsFiles};
+ghost use Rattle.awari_cli.specs.Migrating.{LeavesMigrated, PrintsMigrated, moved_lines};
+
+use crate::folders::Summary;
+use crate::printing::{print, refuse};
+use awari_folder::{Folder, Limits, migrate};
+use std::alloc::Global;
+use std::fmt;
+use std::io::Write;
+
+/// A level that was brought over. Printed, it is its line without the line feed.
+#[derive(Clone, Copy)]
+struct MovedLevel {
+    level: usize,
+    limits: Limits,
+}
+
+impl fmt::Display for MovedLevel {
+    ghost use Rattle.std.specs.Prelude.{Some};
+    ghost use Rattle.awari_cli.specs.Migrating.{moved_text};
+
+    ghost output = { λ moved. Some (moved_text moved) };
+
+    fn fmt<W: fmt::Write>(&self, f: &mut fmt::Formatter<W>) -> fmt::Result {
+        let Limits { before, after } = self.limits;
+        write!(f, "level {} limit {before} to {after}", self.level)
+    }
+}
+
+/// Brings the levels of one folder over into another, and prints a line for each and one for all.
+/// A refusal is printed alone, and the files that were written before it stand.
+pub fn run_migrate<F: Folder, G: Folder, W: Write>(
+    alloc: Global,
+    from: &mut F,
+    to: &mut G,
+    writer: &mut W,
+) -> u8
+    ensures status { result ≤ 1 }
+    ensures migrated { result ≡ 0
+        → PrintsMigrated (F.stands from.old) (G.stands to.old) (G.stands to.new) (W.contents writer.old) (W.contents writer.new) }
+
+    // Whatever is printed, and whether it is: all levels were brought over, or those below the first that is refused.
+    ensures leaves { LeavesMigrated (F.stands from.old) (G.stands to.old) (G.stands to.new) }
+    ensures kept { KeepsFiles (G.stands to.old) (G.stands to.new) }
+
+    // The folder that is read stays as it was.
+    ensures same { Same (F.stands from.old) (F.stands from.new) }
+    ensures crash { LeavesNoMore (F.may_leave from.old) (F.may_leave from.new) }
+{
+    let migrated = match migrate(alloc, from, to) {
+        Ok(migrated) => migrated,
+        Err(fault) => return refuse(writer, fault),
+    };
+    if !print_moved(&migrated.limits, writer) {
+        return 1;
+    }
+    let levels = migrated.limits.len();
+    let digest = migrated.digest;
+    if print(writer, &Summary { levels, digest }) {
+        0
+    } else {
+        1
+    }
+}
+
+/// Prints the line of each level, and says whether the writer took them.
+fn print_moved<W: Write>(moved: &[Limits], writer: &mut W) -> bool
+    ensures { result ≡ true → Appends (W.contents writer.old) (W.contents writer.new) (moved_lines moved.now) }
+{
+    for (level, limits) in moved.iter().enumerate() {
+        let limits = *limits;
+        if !print(writer, &MovedLevel { level, limits }) {
+            return false;
+        }
+    }
+    true
+}

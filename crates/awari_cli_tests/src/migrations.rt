@@ -1,0 +1,212 @@
+//! Folders that are the same, byte for byte: whoever built their levels, and of levels that were
+//! brought over from older files.
+
+use crate::commands::expect_run;
+use sha2::{Digest, Sha256};
+use std::alloc::Global;
+use std::fs::File;
+use std::process::Abort;
+use std::rt::Files;
+use std::sync::Wait;
+use std::test::Fail;
+use std::thread::Threads;
+use std::{fs, io};
+
+/// A new folder of this name.
+fn empty_folder(rt: &(impl Files + AllocGlobal), folder: &str) -> io::Result<()> {
+    let _ = fs::remove_dir_all(rt, folder);
+    fs::create_dir(rt, folder)
+}
+
+/// The file of a level in a folder.
+fn file_of(
+    rt: &(impl Files<File = File> + AllocGlobal),
+    alloc: Global,
+    folder: &str,
+    level: u8,
+) -> Result<Vec<u8>, Fail> {
+    let name = format!(in alloc; "{folder}/level_0{level}.awdb")?;
+    Ok(fs::read(rt, name.as_str())?)
+}
+
+/// Two folders have the same files of so many levels.
+fn expect_same(
+    rt: &(impl Abort + Files<File = File> + AllocGlobal),
+    alloc: Global,
+    (folder, other): (&str, &str),
+    levels: u8,
+) -> Result<(), Fail> {
+    for level in 0..levels {
+        let file = file_of(rt, alloc, folder, level)?;
+        let same = file_of(rt, alloc, other, level)?;
+        assert!(rt; file == same, "level {level} of {other}");
+    }
+    Ok(())
+}
+
+const LEVELS_0_TO_6: &str = "\
+level 0 boards 1 won 0 even 1 lost 0 limit 0
+level 1 boards 12 won 5 even 0 lost 7 limit 1
+level 2 boards 78 won 24 even 13 lost 41 limit 9
+level 3 boards 364 won 121 even 64 lost 179 limit 28
+level 4 boards 1365 won 577 even 143 lost 645 limit 38
+level 5 boards 4368 won 2161 even 0 lost 2207 limit 60
+level 6 boards 12376 won 5707 even 1545 lost 5124 limit 64
+";
+
+/// Builds levels 0 to 6 in a new folder, by so many owners, with lines of this room and so many
+/// sweeps a round.
+fn build(
+    rt: &(impl Abort
+        + Files<File = File>
+        + Threads
+        + Wait
+        + Sync
+        + Send
+        + Clone
+        + Drop
+        + AllocGlobal
+        + 'static),
+    alloc: Global,
+    folder: &str,
+    [owners, room, sweeps]: [&str; 3],
+) -> io::Result<()> {
+    empty_folder(rt, folder)?;
+    let words = [
+        "awari", "build", "6", "--folder", folder, "--owners", owners, "--room", room, "--sweeps",
+        sweeps,
+    ];
+    expect_run(rt, alloc, words.as_slice(), b"", LEVELS_0_TO_6, 0);
+    Ok(())
+}
+
+/// Owners, the room of a line and the sweeps of a round.
+const PACES: [[&str; 3]; 3] = [["1", "64", "1000"], ["3", "64", "1000"], ["16", "1", "1"]];
+
+#[test]
+fn one_folder_is_built_at_every_pace(rt: HostRuntime) -> Result<(), Fail> {
+    let alone = "awari_cli_test_alone";
+    let paced = "awari_cli_test_paced";
+    build(&rt, rt.alloc(), alone, ["0", "64", "1000"])?;
+    for pace in PACES {
+        build(&rt, rt.alloc(), paced, pace)?;
+        expect_same(&rt, rt.alloc(), (alone, paced), 7)?;
+    }
+    fs::remove_dir_all(&rt, alone)?;
+    fs::remove_dir_all(&rt, paced)?;
+    Ok(())
+}
+
+/// The file in version 1 without its digest, over another file below.
+fn old_body(alloc: Global, file: &[u8], below: &[u8; 32]) -> Result<Vec<u8>, Fail> {
+    let mut body = file.to_vec(alloc)?;
+    if file.len() < 84 {
+        return Err(Fail::new("a file"));
+    }
+    body.truncate(file.len() - 32);
+    body[5] = 1;
+    body[20..52].copy_from_slice(below);
+    Ok(body)
+}
+
+/// Doubles the limit and each distance, all of which are below 128.
+fn double(body: &mut [u8]) {
+    for (place, byte) in body.iter_mut().enumerate() {
+        if place == 19 || (place > 52 && place % 6 == 3) {
+            *byte = byte.wrapping_mul(2);
+        }
+    }
+}
+
+/// Lays levels 0 to 2 of a folder into another one, in files of version 1, and level 2 with each
+/// distance twice as great.
+fn lay_old(
+    rt: &(impl Files<File = File> + AllocGlobal),
+    alloc: Global,
+    folder: &str,
+    old: &str,
+) -> Result<(), Fail> {
+    let mut below = [0; 32];
+    for level in 0..3u8 {
+        let file = file_of(rt, alloc, folder, level)?;
+        let mut bytes = old_body(alloc, &file, &below)?;
+        if level == 2 {
+            double(bytes.as_mut_slice());
+        }
+        below = Sha256::digest(bytes.as_slice());
+        bytes.extend_from_slice(&below)?;
+        let name = format!(in alloc; "{old}/level_0{level}.awdb")?;
+        fs::write(rt, name.as_str(), bytes.as_slice())?;
+    }
+    Ok(())
+}
+
+const LEVELS_0_TO_2: &str = "\
+level 0 boards 1 won 0 even 1 lost 0 limit 0
+level 1 boards 12 won 5 even 0 lost 7 limit 1
+level 2 boards 78 won 24 even 13 lost 41 limit 9
+";
+
+const MOVED: &str = "\
+level 0 limit 0 to 0
+level 1 limit 1 to 1
+level 2 limit 18 to 9
+levels 3 digest 326cbe86f97046809b09630f35e9ca500777be5ba275edb931a71fa1af1a4a9f
+";
+
+const NO_LEVELS: &str = "\
+levels 0 digest 0000000000000000000000000000000000000000000000000000000000000000
+";
+
+const NOWHERE: &str = "awari_cli_test_nowhere";
+
+/// Brings the levels of one folder over into the other.
+fn expect_migrated(
+    rt: &(impl Abort + Files<File = File> + Threads + Wait + Sync + Send + Clone + Drop + 'static),
+    alloc: Global,
+    (from, to): (&str, &str),
+    printed: &str,
+    status: u8,
+) {
+    let words = ["awari", "migrate", from, to];
+    expect_run(rt, alloc, words.as_slice(), b"", printed, status);
+}
+
+/// What the command says of a folder of older files, of one that isn't there, and of one that has
+/// files already.
+fn expect_moves(
+    rt: &(impl Abort + Files<File = File> + Threads + Wait + Sync + Send + Clone + Drop + 'static),
+    alloc: Global,
+    from: &str,
+    to: &str,
+) {
+    let occupied = "refused 85 Occupied level 0\n";
+    expect_migrated(rt, alloc, (from, from), occupied, 1);
+    let nowhere = "refused 82 Open level 0\n";
+    expect_migrated(rt, alloc, (from, NOWHERE), nowhere, 1);
+    expect_migrated(rt, alloc, (NOWHERE, to), NO_LEVELS, 0);
+    expect_migrated(rt, alloc, (from, to), MOVED, 0);
+    expect_migrated(rt, alloc, (from, to), occupied, 1);
+    let words = ["awari", "verify", from];
+    let old = "refused 86 Old level 0\n";
+    expect_run(rt, alloc, words.as_slice(), b"", old, 1);
+}
+
+#[test]
+fn levels_of_older_files_are_brought_over(rt: HostRuntime) -> Result<(), Fail> {
+    let built = "awari_cli_test_built";
+    let from = "awari_cli_test_from";
+    let to = "awari_cli_test_to";
+    for folder in [built, from, to] {
+        empty_folder(&rt, folder)?;
+    }
+    let words = ["awari", "build", "2", "--folder", built];
+    expect_run(&rt, rt.alloc(), words.as_slice(), b"", LEVELS_0_TO_2, 0);
+    lay_old(&rt, rt.alloc(), built, from)?;
+    expect_moves(&rt, rt.alloc(), from, to);
+    expect_same(&rt, rt.alloc(), (built, to), 3)?;
+    for folder in [built, from, to] {
+        fs::remove_dir_all(&rt, folder)?;
+    }
+    Ok(())
+}
