@@ -12,7 +12,7 @@ use std::test::Fail;
 
 /// All but the digest of the file of level 0, as it was worked out by hand.
 const LEVEL_0: [u8; 58] = [
-    0x41, 0x57, 0x44, 0x42, 0, 1, 0, 0, 0, 0, 0, 0, 0, 0, 0, 1, 0, 0, 0, 0, 0, 0, 0, 0, 0, 0, 0, 0,
+    0x41, 0x57, 0x44, 0x42, 0, 2, 0, 0, 0, 0, 0, 0, 0, 0, 0, 1, 0, 0, 0, 0, 0, 0, 0, 0, 0, 0, 0, 0,
     0, 0, 0, 0, 0, 0, 0, 0, 0, 0, 0, 0, 0, 0, 0, 0, 0, 0, 0, 0, 0, 0, 0, 0, 0, 0xff, 0, 0, 0, 0,
 ];
 
@@ -31,9 +31,9 @@ fn fault_of(alloc: Global, bytes: &[u8]) -> u8 {
 
 /// How long the files of levels 0, 1 and 2 are, and how their digests begin.
 const FILES: [(u8, usize, [u8; 4]); 3] = [
-    (0, 90, [0x2b, 0x0a, 0x17, 0xa0]),
-    (1, 156, [0x04, 0x5e, 0xb0, 0xf4]),
-    (2, 552, [0x94, 0x22, 0x29, 0x8d]),
+    (0, 90, [0xc9, 0x0c, 0x3c, 0x36]),
+    (1, 156, [0xe5, 0xa9, 0xa5, 0x7f]),
+    (2, 552, [0x32, 0x6c, 0xbe, 0x86]),
 ];
 
 /// How long the file of this level is, and how its digest begins.
@@ -60,7 +60,7 @@ fn files_have_their_sizes_and_digests(rt: HostRuntime) -> Result<(), Fail> {
 fn bytes_of_level_1(alloc: Global, below: [u8; 32]) -> Result<Vec<u8>, Fail> {
     let mut bytes = Vec::new(alloc);
     bytes.extend_from_slice(
-        b"AWDB\x00\x01\x01\x00\x00\x00\x00\x00\x00\x00\x00\x0c\x00\x00\x00\x01",
+        b"AWDB\x00\x02\x01\x00\x00\x00\x00\x00\x00\x00\x00\x0c\x00\x00\x00\x01",
     )?;
     bytes.extend_from_slice(&below)?;
     for rank in 0..12u8 {
@@ -139,7 +139,7 @@ fn short_files_and_others_are_refused(rt: HostRuntime) {
 }
 
 /// Reads the file with this byte at this place, which has this fault.
-fn expect_fault(
+pub(crate) fn expect_fault(
     rt: &impl Abort,
     alloc: Global,
     file: &[u8],
@@ -152,10 +152,12 @@ fn expect_fault(
 }
 
 /// Places of the file of level 1, a byte that is wrong there, and the fault.
-const WRONG: [(usize, u8, u8); 7] = [
-    (5, 2, 62),
+const WRONG: [(usize, u8, u8); 9] = [
+    (5, 1, 66),
+    (5, 3, 62),
     (7, 1, 62),
-    (6, 13, 63),
+    (6, 13, 64),
+    (6, 25, 63),
     (15, 13, 64),
     (53, 6, 65),
     (53, 254, 65),

@@ -14,3 +14,5 @@ mod levels;
 mod plain;
 #[cfg(test)]
 mod streams;
+#[cfg(test)]
+mod versions;

@@ -3,7 +3,7 @@
 //! test runs.
 
 use awari_file::{FileFault, Loaded, read_image, write_level};
-use awari_folder::{Folder, FolderFault, MemoryFolder, Stored, load, save};
+use awari_folder::{Folder, FolderFault, MemoryFolder, Migrated, Stored, load, migrate, save};
 use awari_table::{Counted, HIGHEST_LEVEL, Image, Level, Shelf, TableText};
 use awari_verify::{VerifyFault, verify};
 use std::alloc::Global;
@@ -63,6 +63,15 @@ pub(crate) fn save_into(
 /// Loads the levels of a folder.
 pub(crate) fn load_from(folder: &mut impl Folder, alloc: Global) -> Result<Stored, FolderFault> {
     load(folder, alloc)
+}
+
+/// Brings the levels of one folder over to another.
+pub(crate) fn bring_over(
+    alloc: Global,
+    from: &mut impl Folder,
+    to: &mut impl Folder,
+) -> Result<Migrated, FolderFault> {
+    migrate(alloc, from, to)
 }
 
 /// An empty folder in memory.

@@ -240,7 +240,7 @@ fn flushes_are_passed_on(rt: HostRuntime) {
 const OVERTAKEN: [(usize, u8, u32, u8); 8] = [
     (0, b'B', 4, 61),
     (4, 1, 6, 62),
-    (6, 13, 7, 63),
+    (6, 25, 7, 63),
     (7, 1, 8, 62),
     (8, 1, 16, 64),
     (53, 6, 58, 65),
