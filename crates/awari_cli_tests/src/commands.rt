@@ -1,18 +1,22 @@
 //! The commands of the program, on words and streams in memory.
 
+use crate::expect::{expect, expect_equal};
 use awari_board::Board;
 use awari_cli::{check, run};
 use awari_rank::successor;
-use awari_table::Shelf;
+use awari_table::{Entry, Shelf};
 use std::alloc::{AllocError, Global};
 use std::fs::File;
-use std::io;
 use std::io::{ErrorKind, Read, Write};
 use std::process::Abort;
 use std::rt::Files;
 use std::sync::Wait;
 use std::test::Fail;
 use std::thread::Threads;
+use std::{io, str};
+
+/// Words of the program, what it prints of them, and its status.
+pub type Line = (&'static [&'static str], &'static str, u8);
 
 /// Runs the program on these words, and compares what it prints and its status.
 pub fn expect_run(
@@ -27,9 +31,25 @@ pub fn expect_run(
     let mut output = Vec::new(alloc);
     let mut errors = Vec::new(alloc);
     let status = run(rt, alloc, words, &mut reader, &mut output, &mut errors);
-    assert!(rt; output.as_slice() == printed.as_bytes(), "{printed}");
-    assert_eq!(rt; status, expected, "{printed}");
-    assert_eq!(rt; errors.is_empty(), expected != 2, "{printed}");
+    expect_text(rt, words, &output, printed);
+    let found = (status, errors.is_empty());
+    expect_equal(rt, words, found, (expected, expected != 2));
+}
+
+/// What was printed of these words is this text.
+fn expect_text(rt: &impl Abort, words: &[&str], output: &[u8], printed: &str) {
+    expect_equal(rt, words, str::from_utf8(output), Ok(printed));
+}
+
+/// Runs the program on the words of each line, with no input.
+pub fn expect_lines(
+    rt: &(impl Abort + Files<File = File> + Threads + Wait + Sync + Send + Clone + Drop + 'static),
+    alloc: Global,
+    lines: &[Line],
+) {
+    for (words, printed, status) in lines {
+        expect_run(rt, alloc, words, b"", printed, *status);
+    }
 }
 
 fn expect_check(
@@ -50,6 +70,12 @@ fn levels_0_to_1(
     line: &str,
 ) -> Result<String, AllocError> {
     let mut text = format!(in alloc; "level 0 limit 0\n0 - 0\nlevel 1 limit {limit}\n")?;
+    push_level_1(&mut text, changed, line)?;
+    Ok(text)
+}
+
+/// Puts the lines of level 1 behind a text, with this one for one of its ranks.
+fn push_level_1(text: &mut String, changed: u32, line: &str) -> Result<(), AllocError> {
     for rank in 0..12u32 {
         let entry = if rank == changed {
             line
@@ -59,7 +85,7 @@ fn levels_0_to_1(
         text.push_str(entry)?;
         text.push_str("\n")?;
     }
-    Ok(text)
+    Ok(())
 }
 
 /// The entry of a board of level 1.
@@ -73,28 +99,45 @@ fn level_1_line(rank: u32) -> &'static str {
 
 /// The entry of a board of level 2. Each such board has at most one legal move, so these are worked
 /// by hand: with `low` and `high` the pits of its two stones, the mover's being 0 to 5.
-pub fn level_2_line(alloc: Global, board: &Board) -> Result<String, AllocError> {
-    let mut low = 12i32;
-    let mut high = 0i32;
+pub fn level_2_entry(board: &Board) -> Entry {
+    let mut low = 12u8;
+    let mut high = 0u8;
     for pit in 0..12u8 {
         if board.pit(pit) > 0 {
-            low = low.min(i32::from(pit));
-            high = high.max(i32::from(pit));
+            low = low.min(pit);
+            high = high.max(pit);
         }
     }
     let across = high.saturating_sub(6);
-    let from = |most: i32, pit: i32| most.saturating_sub(pit.saturating_mul(2));
-    match (low, high) {
-        (6..=11, _) => format!(in alloc; "-2 - 0"),
-        (5, 5) => format!(in alloc; "-2 5 1"),
-        (4, 4) => format!(in alloc; "-2 4 3"),
-        (0..=1, 5) => format!(in alloc; "0 5 0"),
-        (_, 5) => format!(in alloc; "-2 5 {}", from(13, low)),
-        (_, 0..=4) => format!(in alloc; "2 - 0"),
-        _ if low > across => format!(in alloc; "-2 {low} {}", from(11, low)),
-        _ if across > low.saturating_add(1) => { format!(in alloc; "2 {low} {}", from(12, across)) }
-        _ => format!(in alloc; "0 {low} 0"),
-    }
+    let from = |most: u32, pit: u8| most.saturating_sub(u32::from(pit).saturating_mul(2));
+    let (value, plan, dist) = match (low, high) {
+        (6..=11, _) => (-2, None, 0),
+        (5, 5) => (-2, Some(5), 1),
+        (4, 4) => (-2, Some(4), 3),
+        (0..=1, 5) => (0, Some(5), 0),
+        (_, 5) => (-2, Some(5), from(13, low)),
+        (_, 0..=4) => (2, None, 0),
+        _ if low > across => (-2, Some(low), from(11, low)),
+        _ if across > low.saturating_add(1) => (2, Some(low), from(12, across)),
+        _ => (0, Some(low), 0),
+    };
+    Entry { value, plan, dist }
+}
+
+/// The next board of two stones in order of rank, or the last one again.
+pub fn next_board(rt: &impl Abort, board: Board) -> Board {
+    assert!(rt; board.stones() == 2);
+    successor(&board).unwrap_or(board)
+}
+
+/// Puts the line of an entry behind a text.
+pub fn push_entry(alloc: Global, text: &mut String, entry: Entry) -> Result<(), AllocError> {
+    let Entry { value, plan, dist } = entry;
+    let line = match plan {
+        Some(pit) => format!(in alloc; "{value} {pit} {dist}\n")?,
+        None => format!(in alloc; "{value} - {dist}\n")?,
+    };
+    text.push_str(line.as_str())
 }
 
 /// Limits of level 1 and lines for one of its ranks, with what is printed of each and the status.
@@ -111,24 +154,20 @@ const CHECKED: [(u32, u32, &str, &str, u8); 8] = [
 
 #[test]
 fn checks_levels_0_and_1(rt: HostRuntime) -> Result<(), Fail> {
-    for (limit, rank, line, printed, status) in CHECKED {
-        let text = levels_0_to_1(rt.alloc(), limit, rank, line)?;
-        expect_check(&rt, rt.alloc(), text.as_bytes(), printed, status);
+    for (limit, rank, line, printed, status) in &CHECKED {
+        let text = levels_0_to_1(rt.alloc(), *limit, *rank, line)?;
+        expect_check(&rt, rt.alloc(), text.as_bytes(), printed, *status);
     }
     Ok(())
 }
 
-/// The text of level 2.
-fn push_level_2(rt: &impl Abort, alloc: Global, text: &mut String) -> Result<(), Fail> {
+/// Puts the text of level 2 behind a text.
+fn push_level_2(rt: &impl Abort, alloc: Global, text: &mut String) -> Result<(), AllocError> {
     text.push_str("level 2 limit 9\n")?;
     let mut board = Board::new([0, 0, 0, 0, 0, 0, 0, 0, 0, 0, 0, 2]);
     for _rank in 0..78 {
-        assert_eq!(rt; board.stones(), 2);
-        text.push_str(level_2_line(alloc, &board)?.as_str())?;
-        text.push_str("\n")?;
-        if let Some(next) = successor(&board) {
-            board = next;
-        }
+        push_entry(alloc, text, level_2_entry(&board))?;
+        board = next_board(rt, board);
     }
     Ok(())
 }
@@ -175,20 +214,25 @@ fn prints_refusals(rt: HostRuntime) {
         (b"level 0 limit 0\n-0 - 0\n", "refused 10 Line line 2\n"),
         (b"level 0 limit 0\n0 - 0\n\n", "refused 10 Line line 3\n"),
     ];
-    for (input, printed) in cases {
+    for (input, printed) in &cases {
         expect_check(&rt, rt.alloc(), input, printed, 1);
     }
     expect_check(&rt, rt.alloc(), b"", "yes levels 0 limit 0\n", 0);
 }
 
+/// Words that are not understood.
+const NOT_UNDERSTOOD: [Line; 6] = [
+    (&["awari"], "", 2),
+    (&["awari", "chek"], "", 2),
+    (&["awari", "check", "more"], "", 2),
+    (&["awari", "--help"], "", 2),
+    (&["awari", "check", "--help"], "", 2),
+    (&["awari", "help", "check"], "", 2),
+];
+
 #[test]
 fn words_that_are_not_understood(rt: HostRuntime) {
-    expect_run(&rt, rt.alloc(), &["awari"], b"", "", 2);
-    expect_run(&rt, rt.alloc(), &["awari", "chek"], b"", "", 2);
-    expect_run(&rt, rt.alloc(), &["awari", "check", "more"], b"", "", 2);
-    expect_run(&rt, rt.alloc(), &["awari", "--help"], b"", "", 2);
-    expect_run(&rt, rt.alloc(), &["awari", "check", "--help"], b"", "", 2);
-    expect_run(&rt, rt.alloc(), &["awari", "help", "check"], b"", "", 2);
+    expect_lines(&rt, rt.alloc(), &NOT_UNDERSTOOD);
 }
 
 /// A stream of which each read and each write is a fault.
@@ -235,7 +279,7 @@ fn check_status(
     let words = ["awari", "check"];
     let mut errors = Vec::new(alloc);
     let status = run(rt, alloc, words.as_slice(), reader, writer, &mut errors);
-    assert!(rt; errors.is_empty());
+    expect(rt, "no errors", errors.is_empty());
     status
 }
 
@@ -245,7 +289,7 @@ const LEVEL_0: &[u8] = b"level 0 limit 0\n0 - 0\n";
 fn a_line_that_is_not_passed_on_is_no_yes(rt: HostRuntime) {
     let mut reader = LEVEL_0;
     let status = check_status(&rt, rt.alloc(), &mut reader, &mut Stuck);
-    assert_eq!(rt; status, 1);
+    expect_equal(&rt, "status", status, 1);
 }
 
 #[test]
@@ -253,23 +297,25 @@ fn a_broken_reader_ends_the_command(rt: HostRuntime) {
     let mut output = Vec::new(rt.alloc());
     let mut reader = LEVEL_0.chain(Broken);
     let status = check_status(&rt, rt.alloc(), &mut reader, &mut output);
-    assert_eq!(rt; status, 1);
-    assert!(rt; output.as_slice() == "refused 14 Read\n".as_bytes());
+    expect_equal(&rt, "status", status, 1);
+    expect_text(&rt, &["awari", "check"], &output, "refused 14 Read\n");
 }
 
 #[test]
 fn a_broken_writer_ends_the_command(rt: HostRuntime) {
     let mut reader = LEVEL_0;
     let status = check_status(&rt, rt.alloc(), &mut reader, &mut Broken);
-    assert_eq!(rt; status, 1);
+    expect_equal(&rt, "status", status, 1);
 }
 
 /// Two shelves of levels 0 and 1, which have the same entry of the board of rank 6.
 fn expect_shared(rt: &impl Abort, shelf: &Shelf, other: &Shelf) -> Result<(), Fail> {
     let board = Board::new([0, 0, 0, 0, 0, 1, 0, 0, 0, 0, 0, 0]);
-    assert_eq!(rt; (other.levels(), other.limit()), (2, 1));
-    assert_eq!(rt; other.entry(&board), shelf.entry(&board));
-    assert_eq!(rt; other.entry(&board)?.plan, Some(5));
+    let entry = shelf.entry(&board)?;
+    expect_equal(rt, "plan", entry.plan, Some(5));
+    expect_equal(rt, "entry", other.entry(&board), Ok(entry));
+    let found = (other.levels(), other.limit());
+    expect_equal(rt, "levels and limit", found, (2, 1));
     Ok(())
 }
 

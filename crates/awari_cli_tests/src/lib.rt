@@ -10,6 +10,10 @@ mod desks;
 #[cfg(test)]
 mod documents;
 #[cfg(test)]
+mod expect;
+#[cfg(test)]
+mod files;
+#[cfg(test)]
 mod levels;
 #[cfg(test)]
 mod migrations;
@@ -21,3 +25,5 @@ mod plays;
 mod services;
 #[cfg(test)]
 mod words;
+#[cfg(test)]
+mod worked;
