@@ -1,11 +1,13 @@
 //! The commands on a folder in memory, of which one call is refused.
 
+use crate::expect::{expect, expect_equal};
 use crate::plain::{asked, build, has_draft, lined, memory_folder, refuse, refuse_files, verified};
 use awari_folder::{Draft, Folder, MemoryFolder};
 use awari_table::HIGHEST_LEVEL;
 use std::alloc::Global;
 use std::io::{Read, Write};
 use std::process::Abort;
+use std::str;
 use std::sync::Wait;
 use std::test::Fail;
 use std::thread::Threads;
@@ -34,8 +36,8 @@ levels 2 digest e5a9a57f6858a25baad0b0a5a6a39407e11a4315b2a1df329ebea00cef062deb
 
 /// What was printed, and the status.
 fn expect_printed(rt: &impl Abort, (output, status): (&[u8], u8), printed: &str, expected: u8) {
-    assert!(rt; output == printed.as_bytes(), "{printed}");
-    assert_eq!(rt; status, expected, "{printed}");
+    expect_equal(rt, status, str::from_utf8(output), Ok(printed));
+    expect_equal(rt, printed, status, expected);
 }
 
 /// Builds up to level 1 in the folder, and compares what is printed and the status.
@@ -64,7 +66,7 @@ fn expect_verify(
 
 /// Nothing lies in the folder of a file that got no name.
 fn expect_no_draft(rt: &impl Abort, folder: &MemoryFolder) {
-    assert!(rt; !has_draft(folder));
+    expect(rt, "no draft", !has_draft(folder));
 }
 
 /// Builds in an empty folder of which the call of this number is refused, and then once more: the
@@ -152,7 +154,7 @@ fn expect_file(
     bytes: &[u8],
 ) -> Result<(), Fail> {
     let file = file_of(rt.alloc(), folder, level)?;
-    assert!(rt; file.as_slice() == bytes, "level {level}");
+    expect_equal(rt, level, file.as_slice(), bytes);
     Ok(())
 }
 
