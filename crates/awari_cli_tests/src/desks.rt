@@ -1,6 +1,7 @@
 //! The calls of a desk: its readers, what is published, and what is told.
 
-use crate::services::publish_next;
+use crate::expect::expect_equal;
+use crate::services::{desk_of_one, publish_next, publish_two};
 use awari_board::Board;
 use awari_desk::{AskFault, DeskFault, Publisher, Reader, desk};
 use awari_table::Entry;
@@ -15,12 +16,18 @@ const LOST: Entry = Entry {
     dist: 1,
 };
 
+/// No desk is made for so many readers.
+fn expect_no_desk<R: Wait + Drop>(rt: &impl Abort, own: R, alloc: Global, readers: u8) {
+    let fault = desk(own, alloc, readers).err();
+    expect_equal(rt, readers, fault, Some(DeskFault::Readers));
+}
+
 #[test]
 fn a_desk_has_one_to_eight_readers(rt: HostRuntime) -> Result<(), Fail> {
-    assert!(rt; matches!(desk(rt.clone()?, rt.alloc(), 0), Err(DeskFault::Readers)));
-    assert!(rt; matches!(desk(rt.clone()?, rt.alloc(), 9), Err(DeskFault::Readers)));
+    expect_no_desk(&rt, rt.clone()?, rt.alloc(), 0);
+    expect_no_desk(&rt, rt.clone()?, rt.alloc(), 9);
     let (publisher, readers) = desk(rt.clone()?, rt.alloc(), 8)?;
-    assert_eq!(rt; readers.len(), 8);
+    expect_equal(&rt, "readers", readers.len(), 8);
     publisher.close();
     Ok(())
 }
@@ -33,11 +40,16 @@ fn expect_told<R: Wait + Drop>(
 ) -> Result<(), Fail> {
     let low = Board::parse(b"0,0,0,0,0,1/0,0,0,0,0,0")?;
     let high = Board::parse(b"1,0,0,0,0,0/1,0,0,0,0,0")?;
-    assert_eq!(rt; reader.seen(), 0);
+    expect_equal(rt, "seen", reader.seen(), 0);
     reader.learn(publisher.pages.tell()?);
-    assert_eq!(rt; reader.seen(), 2);
-    assert!(rt; reader.ask(&low) == Ok(LOST));
-    assert!(rt; reader.ask(&high) == Err(AskFault::NotYet { levels: 2 }));
+    expect_equal(rt, "seen", reader.seen(), 2);
+    expect_equal(rt, low, reader.ask(&low), Ok(LOST));
+    expect_equal(
+        rt,
+        high,
+        reader.ask(&high),
+        Err(AskFault::NotYet { levels: 2 }),
+    );
     Ok(())
 }
 
@@ -54,9 +66,16 @@ fn expect_not_next<R: Wait + Drop>(
     if again.number() == 2 {
         return Err(Fail::from("another level"));
     }
-    assert!(rt; publisher.publish(again) == Err(DeskFault::NotNext));
-    assert_eq!(rt; publisher.pages.book().levels(), 2);
+    let answer = publisher.publish(again);
+    expect_equal(rt, "level 1 again", answer, Err(DeskFault::NotNext));
+    expect_equal(rt, "levels", publisher.pages.book().levels(), 2);
     Ok(())
+}
+
+/// The board is known, and worth 0.
+fn expect_even(rt: &impl Abort, reader: &mut Reader, board: &Board) {
+    let value = reader.ask(board).map(|entry| entry.value);
+    expect_equal(rt, *board, value, Ok(0));
 }
 
 /// What was told before is less than what the reader has seen, and it keeps the longer book.
@@ -69,10 +88,10 @@ fn expect_longer<R: Wait + Drop>(
     let high = Board::parse(b"1,0,0,0,0,0/1,0,0,0,0,0")?;
     let told = publisher.pages.tell()?;
     publish_next(alloc, publisher)?;
-    assert!(rt; matches!(reader.ask(&high), Ok(Entry { value: 0, .. })));
+    expect_even(rt, reader, &high);
     reader.learn(told);
-    assert_eq!(rt; reader.seen(), 3);
-    assert!(rt; matches!(reader.ask(&high), Ok(Entry { value: 0, .. })));
+    expect_equal(rt, "seen", reader.seen(), 3);
+    expect_even(rt, reader, &high);
     Ok(())
 }
 
@@ -83,28 +102,40 @@ fn expect_places<R: Wait + Drop>(
     reader: &mut Reader,
 ) -> Result<(), Fail> {
     let told = publisher.pages.tell()?;
-    assert!(rt; matches!(publisher.pages.tell(), Err(DeskFault::Readers)));
+    let refused = publisher.pages.tell().err();
+    expect_equal(rt, "a second telling", refused, Some(DeskFault::Readers));
     reader.learn(told);
     drop(publisher.pages.tell()?);
     drop(publisher.pages.tell()?);
     Ok(())
 }
 
+/// The publisher is closed, and the reader has seen levels 0 to 2.
+fn expect_gone(rt: &impl Abort, reader: &mut Reader) -> Result<(), Fail> {
+    let board = Board::parse(b"0,0,0,0,0,1/0,0,0,0,0,0")?;
+    expect_equal(rt, board, reader.ask(&board), Err(AskFault::Gone));
+    expect_equal(rt, "seen", reader.seen(), 3);
+    Ok(())
+}
+
+/// Publishes levels 0 to 2 and tells the reader of them, seeing each step.
+fn expect_learning<R: Wait + Drop>(
+    rt: &impl Abort,
+    alloc: Global,
+    publisher: &mut Publisher<R>,
+    reader: &mut Reader,
+) -> Result<(), Fail> {
+    publish_two(alloc, publisher)?;
+    expect_told(rt, publisher, reader)?;
+    expect_not_next(rt, publisher)?;
+    expect_longer(rt, alloc, publisher, reader)?;
+    expect_places(rt, publisher, reader)
+}
+
 #[test]
 fn a_reader_learns_and_asks(rt: HostRuntime) -> Result<(), Fail> {
-    let (mut publisher, mut readers) = desk(rt.clone()?, rt.alloc(), 1)?;
-    let Some(mut reader) = readers.pop() else {
-        return Err(Fail::from("a desk without readers"));
-    };
-    publish_next(rt.alloc(), &mut publisher)?;
-    publish_next(rt.alloc(), &mut publisher)?;
-    expect_told(&rt, &mut publisher, &mut reader)?;
-    expect_not_next(&rt, &mut publisher)?;
-    expect_longer(&rt, rt.alloc(), &mut publisher, &mut reader)?;
-    expect_places(&rt, &mut publisher, &mut reader)?;
+    let (mut publisher, mut reader) = desk_of_one(rt.clone()?, rt.alloc())?;
+    expect_learning(&rt, rt.alloc(), &mut publisher, &mut reader)?;
     publisher.close();
-    let board = Board::parse(b"0,0,0,0,0,1/0,0,0,0,0,0")?;
-    assert!(rt; reader.ask(&board) == Err(AskFault::Gone));
-    assert_eq!(rt; reader.seen(), 3);
-    Ok(())
+    expect_gone(&rt, &mut reader)
 }

@@ -1,6 +1,8 @@
 //! The command `serve`, and the service of a desk on streams that fail.
 
-use crate::commands::expect_run;
+use crate::commands::{Line, expect_lines, expect_run};
+use crate::expect::{expect, expect_equal};
+use crate::levels::{LEVELS_0_TO_1, empty_folder};
 use awari_build::build_alone;
 use awari_cli::run;
 use awari_desk::{Publisher, Reader, ServeFault, desk, serve};
@@ -125,54 +127,37 @@ fn expect_served(
         fails_at: fails_at.1,
     });
     let served = serve(reader, &mut input, &mut written);
-    assert!(rt; served == expected);
-    assert!(rt; written.into_inner().bytes.as_slice() == output);
+    expect_equal(rt, fails_at, served, expected);
+    expect_bytes(rt, fails_at, &written.into_inner().bytes, output);
 }
 
-/// Serves lines with a reader that knows levels 0 and 1.
-fn expect_lines(rt: &impl Abort, alloc: Global, reader: &mut Reader) -> Result<(), Fail> {
-    expect_served(
-        rt,
-        alloc,
-        reader,
-        INPUT.as_bytes(),
-        (0, 0),
-        OUTPUT.as_bytes(),
-        Ok(()),
-    );
-    expect_served(rt, alloc, reader, b"", (0, 0), b"", Ok(()));
-    expect_served(
-        rt,
-        alloc,
-        reader,
-        b"\nseen",
-        (0, 0),
-        b"what\nseen 2\n",
-        Ok(()),
-    );
-    expect_served(rt, alloc, reader, b"quit\nseen\n", (0, 0), b"bye\n", Ok(()));
-    let mut line = Vec::from_elem(alloc, b'x', 200)?;
-    line.as_mut_slice()[..4].copy_from_slice(b"ask ");
-    expect_served(
-        rt,
-        alloc,
-        reader,
-        line.as_slice(),
-        (0, 0),
-        b"refused 1 Shape\n",
-        Ok(()),
-    );
-    line.push(b'x')?;
-    expect_served(
-        rt,
-        alloc,
-        reader,
-        line.as_slice(),
-        (0, 0),
-        b"what\n",
-        Ok(()),
-    );
-    Ok(())
+/// These bytes were written.
+fn expect_bytes(rt: &impl Abort, fails_at: (u32, u32), written: &[u8], expected: &[u8]) {
+    expect_equal(rt, fails_at, written, expected);
+}
+
+/// Requests, and what is written of them by a reader that knows levels 0 and 1.
+const REQUESTS: [(&str, &str); 4] = [
+    (INPUT, OUTPUT),
+    ("", ""),
+    ("\nseen", "what\nseen 2\n"),
+    ("quit\nseen\n", "bye\n"),
+];
+
+/// Serves lines with a reader that knows levels 0 and 1, the last ones of 200 bytes and of one more.
+fn expect_requests(rt: &impl Abort, alloc: Global, reader: &mut Reader) {
+    for (input, output) in &REQUESTS {
+        expect_written(rt, alloc, reader, input.as_bytes(), output);
+    }
+    let mut line = [b'x'; 201];
+    line[..4].copy_from_slice(b"ask ");
+    expect_written(rt, alloc, reader, &line[..200], "refused 1 Shape\n");
+    expect_written(rt, alloc, reader, &line, "what\n");
+}
+
+/// Serves lines where no read and no write fails.
+fn expect_written(rt: &impl Abort, alloc: Global, reader: &mut Reader, input: &[u8], output: &str) {
+    expect_served(rt, alloc, reader, input, (0, 0), output.as_bytes(), Ok(()));
 }
 
 /// Serves the worked lines with a read that fails, and with each write failing in turn.
@@ -207,33 +192,52 @@ fn expect_faults(rt: &impl Abort, alloc: Global, reader: &mut Reader) {
 fn expect_too_long(rt: &impl Abort, alloc: Global, reader: &mut Reader) {
     let mut output = Counted::new(Vec::new(alloc));
     let served = serve(reader, &mut Counted::new(Endless), &mut output);
-    assert!(rt; served == Err(ServeFault::TooLong));
-    assert!(rt; output.into_inner().is_empty());
+    expect_equal(rt, "bytes without end", served, Err(ServeFault::TooLong));
+    expect(rt, "nothing written", output.into_inner().is_empty());
 }
 
-/// The one reader of a new desk, told of levels 0 and 1, and the publisher.
-fn two_levels<R: Wait + Drop>(own: R, alloc: Global) -> Result<(Publisher<R>, Reader), Fail> {
-    let (mut publisher, mut readers) = desk(own, alloc, 1)?;
-    publish_next(alloc, &mut publisher)?;
-    publish_next(alloc, &mut publisher)?;
-    let Some(mut reader) = readers.pop() else {
-        return Err(Fail::from("a desk without readers"));
-    };
+/// The publisher and the one reader of a new desk.
+pub fn desk_of_one<R: Wait + Drop>(own: R, alloc: Global) -> Result<(Publisher<R>, Reader), Fail> {
+    let (publisher, mut readers) = desk(own, alloc, 1)?;
+    match readers.pop() {
+        Some(reader) => Ok((publisher, reader)),
+        None => Err(Fail::from("a desk without readers")),
+    }
+}
+
+/// Builds and publishes levels 0 and 1.
+pub fn publish_two<R: Wait + Drop>(
+    alloc: Global,
+    publisher: &mut Publisher<R>,
+) -> Result<(), Fail> {
+    publish_next(alloc, publisher)?;
+    publish_next(alloc, publisher)
+}
+
+/// Publishes levels 0 and 1, and tells the reader of them.
+fn tell_two<R: Wait + Drop>(
+    alloc: Global,
+    publisher: &mut Publisher<R>,
+    reader: &mut Reader,
+) -> Result<(), Fail> {
+    publish_two(alloc, publisher)?;
     reader.learn(publisher.pages.tell()?);
-    Ok((publisher, reader))
+    Ok(())
 }
 
 #[test]
 fn lines_are_served(rt: HostRuntime) -> Result<(), Fail> {
-    let (publisher, mut reader) = two_levels(rt.clone()?, rt.alloc())?;
-    expect_lines(&rt, rt.alloc(), &mut reader)?;
+    let (mut publisher, mut reader) = desk_of_one(rt.clone()?, rt.alloc())?;
+    tell_two(rt.alloc(), &mut publisher, &mut reader)?;
+    expect_requests(&rt, rt.alloc(), &mut reader);
     publisher.close();
     Ok(())
 }
 
 #[test]
 fn streams_that_fail_are_told(rt: HostRuntime) -> Result<(), Fail> {
-    let (publisher, mut reader) = two_levels(rt.clone()?, rt.alloc())?;
+    let (mut publisher, mut reader) = desk_of_one(rt.clone()?, rt.alloc())?;
+    tell_two(rt.alloc(), &mut publisher, &mut reader)?;
     expect_faults(&rt, rt.alloc(), &mut reader);
     publisher.close();
     Ok(())
@@ -241,7 +245,8 @@ fn streams_that_fail_are_told(rt: HostRuntime) -> Result<(), Fail> {
 
 #[test]
 fn more_bytes_than_a_service_takes(rt: HostRuntime) -> Result<(), Fail> {
-    let (publisher, mut reader) = two_levels(rt.clone()?, rt.alloc())?;
+    let (mut publisher, mut reader) = desk_of_one(rt.clone()?, rt.alloc())?;
+    tell_two(rt.alloc(), &mut publisher, &mut reader)?;
     expect_too_long(&rt, rt.alloc(), &mut reader);
     publisher.close();
     Ok(())
@@ -252,11 +257,10 @@ fn more_bytes_than_a_service_takes(rt: HostRuntime) -> Result<(), Fail> {
 fn expect_growing(
     rt: &(impl Abort + Files<File = File> + Threads + Wait + Sync + Send + Clone + Drop + 'static),
     alloc: Global,
-    folder: &str,
 ) -> Result<(), Fail> {
     let input = ASK_CYCLE.repeat(alloc, 2000)?;
     let mut output = Vec::new(alloc);
-    let words = ["awari", "serve", folder, "2", "3"];
+    let words = ["awari", "serve", SERVED, "2", "3"];
     let status = run(
         rt,
         alloc,
@@ -265,45 +269,43 @@ fn expect_growing(
         &mut output,
         &mut io::sink(),
     );
-    assert_eq!(rt; status, 0);
-    let mut answered = false;
-    let mut lines = 0u32;
-    for line in str::from_utf8(output.as_slice())?.lines() {
-        let is_known = line == "0 0 0";
-        let is_right = is_known || (!answered && line == "not yet 2");
-        assert!(rt; is_right);
-        answered |= is_known;
-        lines = lines.saturating_add(1);
-    }
-    assert_eq!(rt; lines, 2000);
+    expect_equal(rt, "status", status, 0);
+    expect_answers(rt, str::from_utf8(output.as_slice())?);
     Ok(())
+}
+
+/// Of 2000 lines the first ones are `not yet 2`, and from the first answer on all are answers.
+fn expect_answers(rt: &impl Abort, text: &str) {
+    let known = text.lines().skip_while(|line| *line == "not yet 2");
+    expect(rt, text, text.lines().count() == 2000);
+    for line in known {
+        expect_equal(rt, "once there is an answer", line, "0 0 0");
+    }
+}
+
+const SERVED: &str = "awari_cli_test_served";
+
+const BUILT: [Line; 1] = [(
+    &["awari", "build", "1", "--folder", SERVED],
+    LEVELS_0_TO_1,
+    0,
+)];
+
+/// Builds two levels into the folder, serves them, and then builds a third while it serves.
+fn expect_service(
+    rt: &(impl Abort + Files<File = File> + Threads + Wait + Sync + Send + Clone + Drop + 'static),
+    alloc: Global,
+) -> Result<(), Fail> {
+    expect_lines(rt, alloc, &BUILT);
+    let words = ["awari", "serve", SERVED, "1", "0"];
+    expect_run(rt, alloc, &words, INPUT.as_bytes(), OUTPUT, 0);
+    expect_growing(rt, alloc)
 }
 
 #[test]
 fn a_folder_is_served(rt: HostRuntime) -> Result<(), Fail> {
-    let folder = "awari_cli_test_served";
-    let _ = fs::remove_dir_all(&rt, folder);
-    fs::create_dir(&rt, folder)?;
-    let words = ["awari", "build", "1", "--folder", folder];
-    let mut sink = io::sink();
-    run(
-        &rt,
-        rt.alloc(),
-        words.as_slice(),
-        &mut io::empty(),
-        &mut sink,
-        &mut io::sink(),
-    );
-    let words = ["awari", "serve", folder, "1", "0"];
-    expect_run(
-        &rt,
-        rt.alloc(),
-        words.as_slice(),
-        INPUT.as_bytes(),
-        OUTPUT,
-        0,
-    );
-    expect_growing(&rt, rt.alloc(), folder)?;
-    fs::remove_dir_all(&rt, folder)?;
+    empty_folder(&rt, SERVED)?;
+    expect_service(&rt, rt.alloc())?;
+    fs::remove_dir_all(&rt, SERVED)?;
     Ok(())
 }
