@@ -1,5 +1,6 @@
 //! Worked plays: where they stand, and their outcomes.
 
+use crate::expect::expect_equal;
 use awari_board::{Board, MoveFault};
 use awari_game::Game;
 use std::process::Abort;
@@ -7,14 +8,14 @@ use std::process::Abort;
 /// Plays these pits.
 fn play_all(rt: &impl Abort, game: &mut Game, pits: &[u8]) {
     for pit in pits {
-        assert_eq!(rt; game.step(*pit), Ok(()));
+        expect_equal(rt, *pit, game.step(*pit), Ok(()));
     }
 }
 
 /// What was captured, the quiet plies, and the outcome by the limit 9.
 fn expect_standing(rt: &impl Abort, game: &Game, running: i16, quiet: u64, outcome: Option<i16>) {
-    assert_eq!(rt; (game.running(), game.quiet()), (running, quiet));
-    assert_eq!(rt; game.outcome(9), outcome);
+    let found = (game.running(), game.quiet(), game.outcome(9));
+    expect_equal(rt, "standing", found, (running, quiet, outcome));
 }
 
 #[test]
@@ -22,7 +23,7 @@ fn a_capture_and_the_end_make_the_outcome(rt: HostRuntime) {
     let mut game = Game::start(Board::new([0, 0, 0, 0, 0, 1, 1, 0, 1, 0, 0, 0]));
     play_all(&rt, &mut game, &[5]);
     let after = Board::new([0, 0, 1, 0, 0, 0, 0, 0, 0, 0, 0, 0]);
-    assert_eq!(rt; game.board(), after);
+    expect_equal(&rt, "the board", game.board(), after);
     expect_standing(&rt, &game, 2, 0, Some(1));
 }
 
@@ -41,17 +42,17 @@ fn a_play_without_a_capture_is_stopped(rt: HostRuntime) {
     expect_standing(&rt, &game, 0, 9, None);
     play_all(&rt, &mut game, &[4]);
     let after = Board::new([0, 0, 0, 0, 0, 1, 0, 0, 0, 0, 0, 1]);
-    assert_eq!(rt; game.board(), after);
+    expect_equal(&rt, "the board", game.board(), after);
     expect_standing(&rt, &game, 0, 10, Some(0));
-    assert_eq!(rt; game.outcome(u32::MAX), None);
+    expect_equal(&rt, "the greatest limit", game.outcome(u32::MAX), None);
 }
 
 #[test]
 fn a_refused_step_changes_nothing(rt: HostRuntime) {
     let mut game = Game::start(Board::new([1, 0, 0, 0, 0, 0, 0, 0, 1, 0, 0, 0]));
-    assert_eq!(rt; game.step(0), Ok(()));
+    play_all(&rt, &mut game, &[0]);
     let before = game;
-    assert_eq!(rt; game.step(0), Err(MoveFault::EmptyPit));
-    assert_eq!(rt; game.step(255), Err(MoveFault::NoPit));
-    assert_eq!(rt; game, before);
+    expect_equal(&rt, 0u8, game.step(0), Err(MoveFault::EmptyPit));
+    expect_equal(&rt, 255u8, game.step(255), Err(MoveFault::NoPit));
+    expect_equal(&rt, "the game", game, before);
 }
