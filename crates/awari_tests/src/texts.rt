@@ -1,5 +1,6 @@
 //! The text of tables, read level by level.
 
+use crate::expect::{expect, expect_equal};
 use awari_table::{Entry, Image, TableFault, TableText};
 use std::alloc::Global;
 use std::process::Abort;
@@ -17,19 +18,19 @@ fn expect_level(
     count: usize,
 ) -> Result<Image, Fail> {
     let image = text.next()?.ok_or("a level")?;
-    assert_eq!(rt; (image.level, image.limit), (level, limit));
-    assert_eq!(rt; image.entries.len(), count);
+    let found = (image.level, image.limit, image.entries.len());
+    expect_equal(rt, level, found, (level, limit, count));
     Ok(image)
 }
 
 fn expect_entry(rt: &impl Abort, image: &Image, rank: usize, entry: Entry) {
     assert!(rt; rank < image.entries.len());
-    assert_eq!(rt; image.entries.at(rank), entry);
+    expect_equal(rt, rank, image.entries.at(rank), entry);
 }
 
 /// Reads no further level.
 fn expect_end(rt: &impl Abort, text: &mut TableText<'_>) -> Result<(), Fail> {
-    assert!(rt; text.next()?.is_none());
+    expect(rt, "no further level", text.next()?.is_none());
     Ok(())
 }
 
@@ -98,28 +99,31 @@ fn expect_fault(rt: &impl Abort, alloc: Global, text: &[u8], fault: TableFault) 
     let mut met = None;
     for _ in 0..4 {
         match reader.next() {
-            Ok(image) => assert!(rt; met.is_none() && image.is_some()),
+            Ok(image) => expect(rt, text, met.is_none() && image.is_some()),
             Err(other) => {
-                assert_eq!(rt; other, fault);
+                expect_equal(rt, text, other, fault);
                 met = Some(other);
             }
         }
     }
-    assert!(rt; met.is_some());
+    expect(rt, text, met.is_some());
 }
 
 #[test]
 fn answers_the_first_fault_again_and_again(rt: HostRuntime) {
-    for (text, fault) in FAULTY {
-        expect_fault(&rt, rt.alloc(), text, fault);
+    for (text, fault) in &FAULTY {
+        expect_fault(&rt, rt.alloc(), text, *fault);
     }
 }
 
 #[test]
 fn numbers_of_its_refusals(rt: HostRuntime) {
-    assert_eq!(rt; TableFault::Line { line: 1 }.number(), 10);
-    assert_eq!(rt; TableFault::Order { line: 1 }.number(), 11);
-    assert_eq!(rt; TableFault::High { line: 1 }.number(), 12);
-    assert_eq!(rt; TableFault::Short.number(), 13);
-    assert_eq!(rt; TableFault::Memory.number(), 15);
+    let numbers = [
+        TableFault::Line { line: 1 }.number(),
+        TableFault::Order { line: 1 }.number(),
+        TableFault::High { line: 1 }.number(),
+        TableFault::Short.number(),
+        TableFault::Memory.number(),
+    ];
+    expect_equal(&rt, "numbers", numbers, [10, 11, 12, 13, 15]);
 }
