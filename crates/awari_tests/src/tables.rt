@@ -4,6 +4,7 @@
 ghost use Rattle.std.specs.Prelude.{IfOk};
 ghost use Rattle.awari_table.specs.Shelves.{Consistent};
 
+use crate::expect::expect_equal;
 use awari_board::Board;
 use awari_rank::{size, unrank};
 use awari_table::{Counts, Entries, Entry, HIGHEST_LEVEL, Image, Level, NotYet, Shelf};
@@ -180,20 +181,26 @@ fn third_level(alloc: Global, shelf: &Shelf) -> Result<Level, Fail>
 
 /// The level is that of two stones.
 fn expect_third(rt: &impl Abort, level: &Level) {
-    assert_eq!(rt; (level.number(), level.limit()), (2, 9));
+    expect_equal(
+        rt,
+        "level and limit",
+        (level.number(), level.limit()),
+        (2, 9),
+    );
     let counts = Counts {
         won: 24,
         even: 13,
         lost: 41,
     };
-    assert_eq!(rt; level.counts(), counts);
+    expect_equal(rt, "counts", level.counts(), counts);
 }
 
 /// The shelf has so many levels and this limit, and its level 1 the limit 1.
 fn expect_shelf(rt: &impl Abort, shelf: &Shelf, levels: u8, limit: u32) {
-    assert_eq!(rt; (shelf.levels(), shelf.limit()), (levels, limit));
+    let found = (shelf.levels(), shelf.limit());
+    expect_equal(rt, "levels and limit", found, (levels, limit));
     assert!(rt; shelf.levels() > 1);
-    assert_eq!(rt; shelf.level(1).limit(), 1);
+    expect_equal(rt, "limit of level 1", shelf.level(1).limit(), 1);
 }
 
 #[test]
@@ -215,12 +222,20 @@ const KNOWN: [(u8, u32, i8, Option<u8>, u32); 4] = [
     (1, 11, 1, None, 0),
 ];
 
+fn expect_entry(
+    rt: &impl Abort,
+    shelf: &Shelf,
+    (stones, rank, value, plan, dist): (u8, u32, i8, Option<u8>, u32),
+) {
+    assert!(rt; stones < 2 && rank < size(stones));
+    let found = shelf.entry(&unrank(stones, rank));
+    expect_equal(rt, rank, found, Ok(entry(value, plan, dist)));
+}
+
 /// Looks the known boards up.
 fn expect_entries(rt: &impl Abort, shelf: &Shelf) {
-    for (stones, rank, value, plan, dist) in KNOWN {
-        assert!(rt; stones < 2 && rank < size(stones));
-        let found = shelf.entry(&unrank(stones, rank));
-        assert_eq!(rt; found, Ok(entry(value, plan, dist)), "rank {rank}");
+    for known in &KNOWN {
+        expect_entry(rt, shelf, *known);
     }
 }
 
@@ -229,7 +244,7 @@ fn answers_the_entry_of_a_board(rt: HostRuntime) -> Result<(), Fail> {
     let shelf = two_levels(rt.alloc())?;
     expect_entries(&rt, &shelf);
     let shared = shelf.share()?;
-    assert_eq!(rt; shared.levels(), 2);
+    expect_equal(&rt, "levels", shared.levels(), 2);
     expect_entries(&rt, &shared);
     Ok(())
 }
@@ -239,8 +254,8 @@ fn has_no_entry_of_a_level_above(rt: HostRuntime) -> Result<(), Fail> {
     let shelf = two_levels(rt.alloc())?;
     let above = Board::new([1, 0, 0, 0, 0, 0, 1, 0, 0, 0, 0, 0]);
     let refusal = NotYet { levels: 2 };
-    assert_eq!(rt; shelf.entry(&above), Err(refusal));
-    assert_eq!(rt; refusal.number(), 59);
+    expect_equal(&rt, above, shelf.entry(&above), Err(refusal));
+    expect_equal(&rt, "number", refusal.number(), 59);
     Ok(())
 }
 
@@ -248,16 +263,18 @@ fn has_no_entry_of_a_level_above(rt: HostRuntime) -> Result<(), Fail> {
 fn keeps_a_vector_as_entries(rt: HostRuntime) -> Result<(), Fail> {
     let entries = Entries::from(level_1().to_vec(rt.alloc())?);
     expect_level_1(&rt, &entries);
-    assert!(rt; entries.into_vec().as_slice() == level_1().as_slice());
+    let vector = entries.into_vec();
+    expect_equal(&rt, "a vector", vector.as_slice(), level_1().as_slice());
     Ok(())
 }
 
 /// The entries are those of level 1.
 fn expect_level_1(rt: &impl Abort, entries: &Entries) {
-    assert_eq!(rt; (entries.is_empty(), entries.len()), (false, 12));
+    let size = (entries.is_empty(), entries.len());
+    expect_equal(rt, "size", size, (false, 12));
     assert!(rt; entries.len() > 6);
-    assert_eq!(rt; entries.at(6), entry(-1, Some(5), 1));
-    assert_eq!(rt; entries.as_slice(), level_1().as_slice());
+    expect_equal(rt, "rank 6", entries.at(6), entry(-1, Some(5), 1));
+    expect_equal(rt, "a slice", entries.as_slice(), level_1().as_slice());
 }
 
 /// The verifier has this against the image of these entries.
@@ -270,7 +287,7 @@ fn expect_fault(
     fault: VerifyFault,
 ) -> Result<(), Fail> {
     let found = verify(shelf, image(alloc, level, 0, entries)?).err();
-    assert_eq!(rt; found, Some(fault), "level {level}");
+    expect_equal(rt, level, found, Some(fault));
     Ok(())
 }
 
@@ -344,22 +361,22 @@ fn expect_refusal(
         *slot = wrong;
     }
     let answer = fault_found(alloc, shelf, limit, entries)?;
-    assert_eq!(rt; answer, refusal, "{wrong:?} at rank {place}");
+    expect_equal(rt, (place, wrong), answer, refusal);
     Ok(())
 }
 
 #[test]
 fn refuses_wrong_entries_of_level_1(rt: HostRuntime) -> Result<(), Fail> {
     let shelf = one_level(rt.alloc())?;
-    for (place, value, plan, dist, limit, rank, rule) in WRONG {
+    for (place, value, plan, dist, limit, rank, rule) in &WRONG {
         expect_refusal(
             &rt,
             rt.alloc(),
             &shelf,
             &mut level_1(),
-            (place, entry(value, plan, dist)),
-            limit,
-            refused(rank, rule),
+            (*place, entry(*value, *plan, *dist)),
+            *limit,
+            refused(*rank, *rule),
         )?;
     }
     Ok(())
@@ -408,9 +425,9 @@ fn expect_circle(
 ) -> Result<(), Fail> {
     let circle = false_circle(alloc, dist)?;
     let answer = fault_found(alloc, shelf, limit, &circle)?;
-    assert_eq!(rt; answer, refused(rank, Rule::V6));
+    expect_equal(rt, "by the rules", answer, refused(rank, Rule::V6));
     let answer = old_fault(alloc, shelf, limit, &circle)?;
-    assert_eq!(rt; answer, refused(rank, Rule::V6), "by the old rules");
+    expect_equal(rt, "by the old rules", answer, refused(rank, Rule::V6));
     Ok(())
 }
 
@@ -431,7 +448,7 @@ fn expect_limit(
     limit: u32,
 ) -> Result<(), Fail> {
     let answer = fault_found(alloc, shelf, limit, entries)?;
-    assert_eq!(rt; answer, refused(0, Rule::V7), "limit {limit}");
+    expect_equal(rt, limit, answer, refused(0, Rule::V7));
     Ok(())
 }
 
@@ -458,9 +475,9 @@ fn asks_for_the_least_distances(rt: HostRuntime) -> Result<(), Fail> {
     let shelf = two_levels(rt.alloc())?;
     let entries = doubled(rt.alloc())?;
     let answer = fault_found(rt.alloc(), &shelf, 18, &entries)?;
-    assert_eq!(rt; answer, refused(22, Rule::V6));
+    expect_equal(&rt, "by the rules", answer, refused(22, Rule::V6));
     let answer = old_fault(rt.alloc(), &shelf, 18, &entries)?;
-    assert_eq!(rt; answer, None);
+    expect_equal(&rt, "by the old rules", answer, None);
     Ok(())
 }
 
@@ -476,18 +493,26 @@ fn prints_rules_and_faults(rt: HostRuntime) -> Result<(), Fail> {
         Rule::V7,
     ];
     let mut text = String::new(rt.alloc());
-    for rule in rules {
+    for rule in &rules {
         text.push_str(rule.to_string(rt.alloc())?.as_str())?;
     }
-    assert_eq!(rt; text.as_str(), "V1V2V3V4V5V6V7");
+    expect_equal(&rt, "rules", text.as_str(), "V1V2V3V4V5V6V7");
+    expect_printed(&rt, rt.alloc())
+}
+
+/// A fault is printed with its number, its rank and its rule.
+fn expect_printed(rt: &impl Abort, alloc: Global) -> Result<(), Fail> {
     let fault = VerifyFault::Refused {
         rank: 72,
         rule: Rule::V6,
     };
-    assert_eq!(rt; fault.number(), 22);
-    assert_eq!(rt;
-        fault.to_string(rt.alloc())?.as_str(),
-        "22 Refused rank 72 rule V6"
+    let text = fault.to_string(alloc)?;
+    expect_equal(
+        rt,
+        fault.number(),
+        text.as_str(),
+        "22 Refused rank 72 rule V6",
     );
+    expect_equal(rt, "number", fault.number(), 22);
     Ok(())
 }
