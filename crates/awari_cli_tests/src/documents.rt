@@ -82,6 +82,9 @@ const SIZES: [u32; 13] = [
     1, 12, 78, 364, 1365, 4368, 12376, 31824, 75582, 167960, 352716, 705432, 1352078,
 ];
 
+/// The size of the highest level.
+const HIGHEST_SIZE: u32 = 417225900;
+
 fn expect_rank(rt: &impl Abort, text: &str, expected: u32) -> Result<(), Fail> {
     let board = Board::parse(text.as_bytes())?;
     assert!(rt; board.stones() == 1, "{text}");
@@ -107,6 +110,7 @@ fn levels_have_the_sizes_told(rt: HostRuntime) {
     for (level, expected) in (0..13u8).zip(SIZES) {
         expect_size(&rt, level, expected);
     }
+    expect_size(&rt, HIGHEST_LEVEL, HIGHEST_SIZE);
 }
 
 const FOLDER: &str = "awari_cli_test_documents";
