@@ -1,52 +1,22 @@
 -- Levels that are moved from one folder to another.
-use Rattle.std.proofs.Common.{arith, rules, ◌≡◌, ◌≢◌, ◌<◌, ◌≤◌, ◌+◌, ◌⊎◌, inl, inr, ⊎_elim, Bool, true, false, eqb, cond, List, ℕ, zero, suc, [], ◌∷◌, ◌++◌, length, Option, Some, None, Result, Ok, Err, IfSome, ap, sym, refl, subst, ◌∙◌, length-append}
-use Rattle.std.specs.Prelude.{IsSome, IsSomeAnd, IsNone, IfOk, IfErr, OnErr, replicate}
-use Rattle.std.proofs.lemmas.Bool.{false_from_ne_true, eqb-true, eq-eqb}
+use Rattle.std.proofs.Common.{arith, ◌≡◌, ◌≢◌, ◌<◌, ◌≤◌, ◌+◌, ◌⊎◌, inl, inr, ⊎_elim, List, ℕ, suc, [], ◌∷◌, ◌++◌, length, Option, Some, None, Err, IfSome, ap, sym, refl, subst, ◌∙◌, length-append}
+use Rattle.std.specs.Prelude.{IsSomeAnd, replicate}
 use Rattle.std.proofs.lemmas.Bool.Decides.{eqb_tells}
 use native.Mathlib.Numerals.{unary_clauses}
 use Rattle.awari_table.specs.declared.TheConstants.{HIGHEST_LEVEL}
 use Rattle.awari_table.specs.declared.images.Image.{Image}
-use Rattle.awari_table.specs.declared.rules.Distances.{Distances}
-use Rattle.awari_table.specs.declared.rules.Distances.TheVariants.{Falling, Least}
-use Rattle.awari_table.specs.Shelves.{Consistent, ConsistentBy}
-use Rattle.awari_plan.specs.Least.{NoFarther, IsPlannedLowest}
+use Rattle.awari_table.specs.Shelves.{Consistent}
+use Rattle.awari_table.specs.Counts.{Grew}
 use Rattle.awari_verify.specs.VerifyFault.{IsDueBy}
 use Rattle.awari_verify.specs.declared.verdicts.VerifyFault.{VerifyFault}
 use Rattle.awari_file.specs.declared.contents.Loaded.{Loaded}
-use Rattle.awari_file.specs.FileText.{IsFileOf}
+use Rattle.awari_file.specs.FileText.{IsFileOf, file_text}
 use Rattle.awari_folder.specs.declared.faults.FolderFault.{FolderFault}
 use Rattle.awari_folder.specs.declared.faults.FolderFault.TheVariants.{Below, File, Open, Verify, Memory, Occupied, Old}
+use Rattle.awari_folder.specs.declared.loading.Stored.{Stored}
 use Rattle.awari_folder.specs.declared.migrating.Limits.{Limits}
-use Rattle.awari_folder.specs.FolderFault.{IsSaveFault}
-use Rattle.awari_folder.specs.Contents.{Same, SameBut, Opens, AreNames, HoldsIn}
-use Rattle.awari_folder.specs.Migration.{rules_of, IsMoved, IsMovedFile, MoveLevels, CanMove, IsMoveFault, IsStoreFault, IsMigrated, IsFirstMoveFault, KeepsFiles}
-
--- ---- an image over the shelf
-
-rules_new : (version : ℕ) → version ≢ 1 → rules_of version ≡ Least
-rules_new version other = let differs : eqb version 1 ≡ false = false_from_ne_true _ (λ e. other (eqb-true _ _ e)) in rw differs refl
-
-rules_old : (version : ℕ) → version ≡ 1 → rules_of version ≡ Falling
-rules_old version old = rw old refl
-
-pub moved_new : (version : ℕ) (shelf : List Image) (old new : Image) → version ≢ 1 → Consistent shelf old → new ≡ old → IsMoved version shelf old new
-moved_new version shelf old new other right same = record {
-  was = subst (λ (asked : Distances). ConsistentBy asked shelf old) (sym (rules_new version other)) right;
-  right = subst (Consistent shelf) (sym same) right;
-  nearer = λ is. absurd (other is);
-  planned = λ is. absurd (other is);
-  same = λ _. same;
-}
-
-pub moved_old : (version : ℕ) (shelf : List Image) (old new : Image) → version ≡ 1 → ConsistentBy Falling shelf old → Consistent shelf new → NoFarther old.entries new.entries
-    → IsPlannedLowest shelf new → IsMoved version shelf old new
-moved_old version shelf old new is was right nearer planned = record {
-  was = subst (λ (asked : Distances). ConsistentBy asked shelf old) (sym (rules_old version is)) was;
-  right = right;
-  nearer = λ _. nearer;
-  planned = λ _. planned;
-  same = λ two. absurd (omega (arith, is, two));
-}
+use Rattle.awari_folder.specs.Contents.{Same, SameBut, LeavesNoMore, LeavesToo, Opens, OpenIfRefused, OpenIfEither, AreNames, HoldsIn}
+use Rattle.awari_folder.specs.Migration.{rules_of, IsMovedFile, MoveLevels, CanMove, IsMoveFault, IsStoreFault, IsMigrated, IsFirstMoveFault, LeavesWhole}
 
 -- ---- a file that is opened
 
@@ -62,46 +32,10 @@ none_opened remaining None opened = tt
 none_opened remaining (Some None) opened = refl
 none_opened remaining (Some (Some bytes)) opened = absurd opened
 
--- a file was opened
-pub some_opened : {F : Type 0} (remaining : F → Option (List ℕ)) (stand : Option (Option (List ℕ))) (file : F) → Opens remaining stand (Some file) → IfSome stand IsSome
-some_opened remaining None file opened = tt
-some_opened remaining (Some None) file opened = search rules
-some_opened remaining (Some (Some bytes)) file opened = refl
-
 -- ---- a level that is stored
 
 pub holds_same : (old new : ℕ → Option (Option (List ℕ))) (shelf : List Image) (digest : List ℕ) → Same old new → HoldsIn old shelf digest → HoldsIn new shelf digest
 holds_same old new shelf digest same (names, are, held) = (names, λ n. same n ∙ are n, held)
-
-no_file : {A : Type 0} (stand : Option (Option (List ℕ))) (bytes : List ℕ) → IfSome stand (λ other. other ≡ None) → stand ≡ Some (Some bytes) → A
-no_file None bytes free is = absurd cc
-no_file (Some None) bytes free is = absurd cc
-no_file (Some (Some other)) bytes free is = absurd cc
-
-pub keeps_but : (old mid new : ℕ → Option (Option (List ℕ))) (level : ℕ) → Same old mid → IfSome (old level) (λ other. other ≡ None) → SameBut level mid new → KeepsFiles old new
-keeps_but old mid new level same free others n bytes is =
-    ⊎_elim (λ here. no_file (old level) bytes free (sym (ap old here.1) ∙ is)) (λ other. others n other.1 ∙ same n ∙ is) (eqb_tells n level)
-
-pub keeps_same : (old new : ℕ → Option (Option (List ℕ))) → Same old new → KeepsFiles old new
-keeps_same old new same n bytes is = same n ∙ is
-
-pub keeps_then : (old mid new : ℕ → Option (Option (List ℕ))) → KeepsFiles old mid → KeepsFiles mid new → KeepsFiles old new
-keeps_then old mid new one two n bytes is = two n bytes (one n bytes is)
-
-store_fault : (number : ℕ) (fault : FolderFault) → IsSaveFault number fault → IsStoreFault number None fault
-store_fault number (Below level) told = told
-store_fault number (File level fault) told = (told.0, refl, told.1)
-store_fault number (Open level) told = told
-store_fault number (Verify level fault) told = told
-store_fault number Memory told = tt
-store_fault number (Occupied level) told = absurd told
-store_fault number (Old level) told = told
-
-pub store_faults : {A : Type 0} (number : ℕ) (stand : Option (Option (List ℕ))) (result : Result A FolderFault) → IfSome stand (λ other. other ≡ None) → IfErr result (IsSaveFault number)
-    → IfSome stand (λ other. IfErr result (IsStoreFault number other))
-store_faults number None result free told = tt
-store_faults number (Some other) (Ok x) free told = tt
-store_faults number (Some other) (Err fault) free told = subst (λ (o : Option (List ℕ)). IsStoreFault number o fault) (sym free) (store_fault number fault told)
 
 -- ---- all levels
 
@@ -247,3 +181,63 @@ come_end names others stands n shelf below limits digest long come end = record 
   stored = come.stored;
   rest = subst (λ (k : ℕ). (i : ℕ) → k ≤ i → stands i ≡ Some (others i)) (sym long) come.rest;
 }
+
+-- ---- calls that are refused
+
+pub either_first : (fault : FolderFault) (old mid new other other_new : ℕ) → OpenIfRefused {T = Stored} (Err fault) mid new → mid ≡ old → other_new ≡ other
+    → OpenIfEither {T = Stored} (Err fault) old new other other_new
+either_first (Below level) old mid new other other_new told same others = (told ∙ same, others)
+either_first (File level fault) old mid new other other_new told same others = (told ∙ same, others)
+either_first (Open level) old mid new other other_new told same others = inl (subst (λ (n : ℕ). Grew n new) same told)
+either_first (Verify level fault) old mid new other other_new told same others = (told ∙ same, others)
+either_first Memory old mid new other other_new told same others = (told ∙ same, others)
+either_first (Occupied level) old mid new other other_new told same others = (told ∙ same, others)
+either_first (Old level) old mid new other other_new told same others = (told ∙ same, others)
+
+pub either_second : (fault : FolderFault) (old new other mid other_new : ℕ) → OpenIfRefused {T = Stored} (Err fault) mid other_new → mid ≡ other → new ≡ old
+    → OpenIfEither {T = Stored} (Err fault) old new other other_new
+either_second (Below level) old new other mid other_new told same first = (first, told ∙ same)
+either_second (File level fault) old new other mid other_new told same first = (first, told ∙ same)
+either_second (Open level) old new other mid other_new told same first = inr (subst (λ (n : ℕ). Grew n other_new) same told)
+either_second (Verify level fault) old new other mid other_new told same first = (first, told ∙ same)
+either_second Memory old new other mid other_new told same first = (first, told ∙ same)
+either_second (Occupied level) old new other mid other_new told same first = (first, told ∙ same)
+either_second (Old level) old new other mid other_new told same first = (first, told ∙ same)
+
+-- ---- what a crash may leave
+
+leaves_at : (stand : Option (Option (List ℕ))) (before between after : ℕ → Option (List ℕ) → Type 0) (level : ℕ) (text : List ℕ) → IfSome stand (λ other. other ≡ None)
+    → LeavesNoMore before between → IfSome stand (λ _. LeavesToo level (λ left. left ≡ Some text) between after)
+    → IfSome stand (λ other. LeavesToo level (λ left. (other ≡ None) × (left ≡ Some text)) before after)
+leaves_at None before between after level text free none_more leaves = tt
+leaves_at (Some other) before between after level text free none_more leaves = λ n left end. ⊎_elim (λ l. inl (none_more n left l)) (λ r. inr (r.0, (free, r.1))) (leaves n left end)
+
+pub store_leaves : (first mid last : ℕ → Option (Option (List ℕ))) (before between after : ℕ → Option (List ℕ) → Type 0) (level : ℕ) (text : List ℕ) → Same first mid → IfSome (first level) (λ other. other ≡ None)
+    → LeavesNoMore before between → IfSome (mid level) (λ _. LeavesToo level (λ left. left ≡ Some text) between after)
+    → IfSome (first level) (λ other. LeavesToo level (λ left. (other ≡ None) × (left ≡ Some text)) before after)
+store_leaves first mid last before between after level text same free none_more leaves =
+    leaves_at (first level) before between after level text free none_more (subst (λ (o : Option (Option (List ℕ))). IfSome o (λ _. LeavesToo level (λ left. left ≡ Some text) between after)) (same level) leaves)
+
+-- nothing was done
+pub nothing_leaves : (stand : Option (Option (List ℕ))) (before after : ℕ → Option (List ℕ) → Type 0) (level : ℕ) (text : List ℕ) → LeavesNoMore before after
+    → IfSome stand (λ other. LeavesToo level (λ left. (other ≡ None) × (left ≡ Some text)) before after)
+nothing_leaves None before after level text none_more = tt
+nothing_leaves (Some other) before after level text none_more = λ n left end. inl (none_more n left end)
+
+leaves_of : (stand : Option (Option (List ℕ))) (other : Option (List ℕ)) (before after : ℕ → Option (List ℕ) → Type 0) (level : ℕ) (text : List ℕ) → stand ≡ Some other
+    → IfSome stand (λ o. LeavesToo level (λ left. (o ≡ None) × (left ≡ Some text)) before after) → LeavesToo level (λ left. (other ≡ None) × (left ≡ Some text)) before after
+leaves_of None other before after level text is leaves = absurd cc
+leaves_of (Some o) other before after level text is leaves =
+    let same : o ≡ other = cc in subst (λ (p : Option (List ℕ)). LeavesToo level (λ left. (p ≡ None) × (left ≡ Some text)) before after) same leaves
+
+-- one level more
+pub leaves-more : (others : ℕ → Option (List ℕ)) (stands : ℕ → Option (Option (List ℕ))) (first before after : ℕ → Option (List ℕ) → Type 0) (image : Image) (below : List ℕ) → stands image.level ≡ Some (others image.level)
+    → LeavesWhole others first before → IfSome (stands image.level) (λ o. LeavesToo image.level (λ left. (o ≡ None) × (left ≡ Some (file_text 2 image below))) before after) → LeavesWhole others first after
+leaves-more others stands first before after image below is whole leaves n left end =
+    let one = leaves_of (stands image.level) (others image.level) before after image.level (file_text 2 image below) is leaves in
+    ⊎_elim (λ l. whole n left l) (λ r. inr (ap others r.0 ∙ r.1.0, (image, below, r.1.1))) (one n left end)
+
+-- names that were as they had been, before a level more
+pub rest-more : (others : ℕ → Option (List ℕ)) (old new : ℕ → Option (Option (List ℕ))) (n level : ℕ) → level ≡ n → SameBut level old new → ((i : ℕ) → n ≤ i → old i ≡ Some (others i))
+    → (i : ℕ) → n + 1 ≤ i → new i ≡ Some (others i)
+rest-more others old new n level is same rest i le = same i (λ e. omega (arith, le, e, is)) ∙ rest i (omega (arith, le))

@@ -66,6 +66,11 @@ abbrev pub OpenIfRefused : {T : Type 0} → Result T FolderFault → ℕ → ℕ
 OpenIfRefused (Err (Open level)) old new = Grew old new
 OpenIfRefused result old new = new ≡ old
 
+-- 82 is answered where one of two folders refused a call, and nothing else is
+abbrev pub OpenIfEither : {T : Type 0} → Result T FolderFault → ℕ → ℕ → ℕ → ℕ → Type 0
+OpenIfEither (Err (Open level)) old new other_old other_new = Grew old new ⊎ Grew other_old other_new
+OpenIfEither result old new other_old other_new = (new ≡ old) × (other_new ≡ other_old)
+
 -- it is not 82
 abbrev pub IsOfFile : FolderFault → Type 0
 IsOfFile (Open level) = ⊥

@@ -9,7 +9,7 @@ use Rattle.awari_plan.specs.Least.{NoFarther, IsPlannedLowest}
 use Rattle.awari_verify.specs.VerifyFault.{IsDueBy}
 use Rattle.awari_file.specs.declared.contents.Loaded.{Loaded}
 use Rattle.awari_file.specs.declared.faults.FileFault.TheVariants.{Write}
-use Rattle.awari_file.specs.FileText.{IsFileOf}
+use Rattle.awari_file.specs.FileText.{IsFileOf, file_text}
 use Rattle.awari_file.specs.Reading.{file_in, Fails}
 use Rattle.awari_folder.specs.declared.faults.FolderFault.{FolderFault}
 use Rattle.awari_folder.specs.declared.faults.FolderFault.TheVariants.{Below, File, Open, Verify, Memory, Occupied, Old}
@@ -97,6 +97,14 @@ pub record IsFirstMoveFault (names others : ℕ → Option (List ℕ)) (stands :
   pub stored : HoldsIn stands shelf digest
   pub rest : (n : ℕ) → level ≤ n → stands n ≡ Some (others n)
   pub here : IsMoveFault shelf below (names level) (others level) fault
+
+-- a whole file of version 2
+abbrev pub IsWholeFile : Option (List ℕ) → Type 0
+IsWholeFile left = (image : Image) × (below : List ℕ) × (left ≡ Some (file_text 2 image below))
+
+-- A crash leaves under each name what it might have left before, or a whole file where there was none.
+abbrev pub LeavesWhole : (ℕ → Option (List ℕ)) → (ℕ → Option (List ℕ) → Type 0) → (ℕ → Option (List ℕ) → Type 0) → Type 0
+LeavesWhole others old new = (n : ℕ) (left : Option (List ℕ)) → new n left → old n left ⊎ ((others n ≡ None) × IsWholeFile left)
 
 -- each name that had a file has that file
 abbrev pub KeepsFiles : (ℕ → Option (Option (List ℕ))) → (ℕ → Option (Option (List ℕ))) → Type 0

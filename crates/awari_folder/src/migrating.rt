@@ -5,10 +5,11 @@ ghost use Rattle.awari_table.specs.declared.TheConstants.{HIGHEST_LEVEL};
 ghost use Rattle.awari_table.specs.declared.images.Image.{Image};
 ghost use Rattle.awari_table.specs.Counts.{inner_of};
 ghost use Rattle.awari_table.specs.Shelves.{Consistent};
+ghost use Rattle.awari_file.specs.FileText.{file_text};
 ghost use Rattle.awari_verify.specs.VerifyFault.{IsDueBy};
 ghost use Rattle.awari_folder.specs.FolderFault.{Names, NamesLevel};
-ghost use Rattle.awari_folder.specs.Contents.{Same, SameBut, Stays, LeavesNoMore, LeavesStill, AreNames, HoldsIn};
-ghost use Rattle.awari_folder.specs.Migration.{rules_of, IsMoved, IsMovedFile, IsNextMoved, IsMoveFault, IsMigrated, IsFirstMoveFault, IsStoreFault, KeepsFiles};
+ghost use Rattle.awari_folder.specs.Contents.{Same, SameBut, Stays, LeavesNoMore, LeavesToo, LeavesStill, IsOfFile, OpenIfRefused, OpenIfEither, AreNames, HoldsIn};
+ghost use Rattle.awari_folder.specs.Migration.{rules_of, IsMoved, IsMovedFile, IsNextMoved, IsMoveFault, IsMigrated, IsFirstMoveFault, IsStoreFault, LeavesWhole, KeepsFiles};
 
 use crate::calls::{Folder, Refusal};
 use crate::faults::FolderFault;
@@ -27,7 +28,9 @@ const LEVELS: usize = HIGHEST_LEVEL as usize + 1;
 /// The limit of a level before it was moved, and after.
 #[derive(Clone, Copy, Debug, PartialEq, Eq)]
 pub struct Limits {
+    /// The limit that its file named.
     pub before: u32,
+    /// The greatest of its least distances.
     pub after: u32,
 }
 
@@ -65,6 +68,10 @@ pub fn migrate<F: Folder, G: Folder>(
     // Whether it is refused or not, each file stays that was there.
     ensures kept { KeepsFiles (G.stands to.old) (G.stands to.new) }
     ensures kept_still { LeavesStill (G.may_leave to.old) (G.may_leave to.new) }
+    // A crash at any moment leaves no half of a file, and harms none that was there.
+    ensures whole { (others : ℕ → Option (List ℕ)) → AreNames (G.stands to.old) others → LeavesWhole others (G.may_leave to.old) (G.may_leave to.new) }
+    // 82 is told where one of the folders refused to open, to make or to name a file, and only there.
+    ensures refused { OpenIfEither result (F.refusals from.old) (F.refusals from.new) (G.refusals to.old) (G.refusals to.new) }
     // Nothing is changed in the folder that the levels come from.
     ensures stands { Same (F.stands from.old) (F.stands from.new) }
     ensures crash { LeavesNoMore (F.may_leave from.old) (F.may_leave from.new) }
@@ -110,6 +117,7 @@ fn next_moved<F: Folder>(
         → MatchResult result (IsNextMoved shelf.now below name) (IsMoveFault shelf.now below name other) }
     ensures right { IfOk result (λ next. IfSome next (λ moved. Consistent shelf.now moved.level)) }
     ensures named { IfErr result (Names (length shelf.now)) }
+    ensures refused { OpenIfRefused result (F.refusals from.old) (F.refusals from.new) }
     ensures stands { Same (F.stands from.old) (F.stands from.new) }
     ensures crash { LeavesNoMore (F.may_leave from.old) (F.may_leave from.new) }
     ensures still { LeavesStill (F.may_leave from.old) (F.may_leave from.new) }
@@ -139,6 +147,7 @@ fn read_moved<R: Read>(
     ensures fault { (other : Option (List ℕ)) → IfSome (R.remaining (inner_of reader.old)) (λ bytes. IfErr result (IsMoveFault shelf.now below (Some bytes) other)) }
     ensures right { IfOk result (λ moved. Consistent shelf.now moved.level) }
     ensures named { IfErr result (Names (length shelf.now)) }
+    ensures of_file { IfErr result IsOfFile }
 {
     let level = shelf.levels();
     let loaded = match read_image(alloc, reader) {
@@ -191,7 +200,10 @@ fn store<G: Folder>(to: &mut G, level: &Level, below: [u8; 32]) -> Result<[u8; 3
     ensures kept { KeepsFiles (G.stands to.old) (G.stands to.new) }
     ensures others { SameBut level.now.level (G.stands to.old) (G.stands to.new) }
     ensures err { OnErr result (Same (G.stands to.old) (G.stands to.new)) }
+    ensures refused { OpenIfRefused result (G.refusals to.old) (G.refusals to.new) }
     ensures still { LeavesStill (G.may_leave to.old) (G.may_leave to.new) }
+    ensures crash { IfSome (G.stands to.old level.now.level) (λ other.
+        LeavesToo level.now.level (λ left. (other ≡ None) × (left ≡ Some (file_text 2 level.now below))) (G.may_leave to.old) (G.may_leave to.new)) }
 {
     let number = level.number();
     match to.open(number) {

@@ -1,9 +1,10 @@
-use Rattle.std.proofs.Common.{rules, arith, ◌≡◌, ◌≤◌, ◌+◌, ◌∷◌, ◌++◌, [], ◌∙◌, ap, sym, subst, inl, inr, List, ℕ, Option, Some, None, IfSome, length, refl}
+use Rattle.std.proofs.Common.{rules, arith, ◌≡◌, ◌+◌, ◌∷◌, ◌++◌, [], ◌∙◌, ap, subst, inl, inr, None, IfSome, length, refl}
 use Rattle.std.proofs.lemmas.Result.{err_from_is_err_and}
 use Rattle.awari_folder.specs.declared.faults.FolderFault.TheVariants.{Memory}
 use Rattle.awari_table.specs.Shelves.{Consistent}
+use Rattle.awari_table.specs.declared.images.Image.{Image}
 use Rattle.awari_folder.specs.Migration.{IsNextMoved}
-use Rattle.awari_folder.proofs.Moves.{come-none, come-next, come_end, longer, memory_first, fault_first, store_first}
+use Rattle.awari_folder.proofs.Moves.{come-none, come-next, come_end, longer, leaves-more, rest-more, either_first, either_second, memory_first, fault_first, store_first}
 use Rattle.awari_folder.proofs.migrating.migrate.Goals.{else-loop-test, then-loop-test+in_ok-next+in_default}
 use Rattle.awari_folder.proofs.migrating.migrate.Goals as goal
 
@@ -18,8 +19,12 @@ loop-init g c = record {
   len = c.in_ok-limits.ensures.len;
   room = c.in_ok-limits.ensures.capacity;
   come = λ names others from to. come-none names others _ c.empty-shelf.result c.in_ok-limits.limits.items to c.empty-shelf.ensures c.in_ok-limits.ensures.items;
+  to_rest = λ others to n le. to n;
+  whole = λ others to n left end. inl end;
   kept = λ n bytes is. is;
   kept_still = λ n o h. h;
+  from_refused = refl;
+  to_refused = refl;
   stands = λ n. refl;
   crash = λ n o h. h;
   still = λ n o h. h;
@@ -60,6 +65,10 @@ loop-preserved g c =
     let e = c.next_moved.ensures in
     let next = c.in-Some.next in
     let arc = c.in_ok-level.ensures.ok in
+    let put = c.deref.result.now in
+    let same : put ≡ next.level = search rules in
+    let right = subst (λ o. IfSome o (λ m. Consistent c.loop.shelf m.level)) c.in-Some.is c.in_ok-next.ensures.right in
+    let level : put.level ≡ c.loop.counter = ap (λ (image : Image). image.level) same ∙ right.next ∙ i.levels in
     let after = c.push.ensures ∙ ap (λ x. c.loop.shelf ++ x ∷ []) arc in
     record {
       levels = longer c.loop.shelf c.push.new.self next.level c.loop.counter i.levels after;
@@ -67,14 +76,15 @@ loop-preserved g c =
       room = omega (arith, c.push_reserved.ensures.capacity, i.room);
       come = λ names others from to.
           let n = length c.loop.shelf in
-          let put = c.deref.result.now in
-          let same : put ≡ next.level = search rules in
           let moved = subst (IsNextMoved c.loop.shelf c.loop.below (names n)) c.in-Some.is (c.in_ok-next.ensures.exact (names n) (others n) (i.stands n ∙ from n)) in
-          let right = subst (λ o. IfSome o (λ m. Consistent c.loop.shelf m.level)) c.in-Some.is c.in_ok-next.ensures.right in
           come-next names others _ _ c.loop.counter c.loop.shelf c.push.new.self c.loop.below next.digest c.loop.limits.items c.push_reserved.new.self.items c.loop.digest c.in_ok-digest.digest next.level put next.limits
           i.levels same right (i.come names others from to) moved c.in_ok-digest.ensures.free c.store.ensures.others c.in_ok-digest.ensures.next after c.push_reserved.ensures.items;
+      to_rest = λ others to. rest-more others _ _ c.loop.counter put.level level c.store.ensures.others (i.to_rest others to);
+      whole = λ others to. leaves-more others (g.G.Folder.stands c.loop.to) _ _ _ put c.loop.digest (i.to_rest others to put.level (omega (arith, level))) (i.whole others to) c.store.ensures.crash;
       kept = λ n bytes is. c.store.ensures.kept n bytes (i.kept n bytes is);
       kept_still = λ n o h. c.store.ensures.still n o (i.kept_still n o h);
+      from_refused = c.in_ok-next.ensures.refused ∙ i.from_refused;
+      to_refused = c.in_ok-digest.ensures.refused ∙ i.to_refused;
       stands = λ n. e.stands n ∙ i.stands n;
       crash = λ n o h. i.crash n o (e.crash n o h);
       still = λ n o h. e.still n o (i.still n o h);
@@ -93,3 +103,36 @@ returns-clause-exact g c = λ names others from to.
           let none : names n ≡ None = subst (IsNextMoved c.loop.shelf c.loop.below (names n)) w.in_default.is moved in
           come_end names others _ c.loop.counter c.loop.shelf c.loop.below c.loop.limits.items c.loop.digest i.levels (i.come names others from to) (inl none)
     ]
+
+pub returns-in_err-next-clause-refused : goal.returns-in_err-next-clause-refused
+returns-in_err-next-clause-refused g c =
+    let i = c.loop.invariant in
+    let p = err_from_is_err_and c.from_residual-in_err-next.result c.from_residual-in_err-next.ensures.1 in
+    rw (p.1, p.2) (either_first c.in_err-next.field-0.0 _ _ _ _ _ c.in_err-next.ensures.refused i.from_refused i.to_refused)
+
+pub returns-in_err-digest-clause-refused : goal.returns-in_err-digest-clause-refused
+returns-in_err-digest-clause-refused g c =
+    let i = c.loop.invariant in
+    let p = err_from_is_err_and c.from_residual-in_err-digest.result c.from_residual-in_err-digest.ensures.1 in
+    rw (p.1, p.2) (either_second c.in_err-digest.field-0.0 _ _ _ _ _ c.in_err-digest.ensures.refused i.to_refused (c.in_ok-next.ensures.refused ∙ i.from_refused))
+
+pub returns-in_err-limits-clause-refused : goal.returns-in_err-limits-clause-refused
+returns-in_err-limits-clause-refused g c =
+    let p = err_from_is_err_and c.from_residual.result c.from_residual.ensures.1 in
+    rw (p.1, p.2) (refl, refl)
+
+pub returns-in_err-level-clause-refused : goal.returns-in_err-level-clause-refused
+returns-in_err-level-clause-refused g c =
+    let i = c.loop.invariant in
+    let p = err_from_is_err_and c.from_residual-in_err-level.result c.from_residual-in_err-level.ensures.1 in
+    rw (p.1, p.2) (c.in_ok-next.ensures.refused ∙ i.from_refused, i.to_refused)
+
+pub returns-in_err-digest-clause-whole : goal.returns-in_err-digest-clause-whole
+returns-in_err-digest-clause-whole g c = λ others to.
+    let i = c.loop.invariant in
+    let next = c.in-Some.next in
+    let put = c.deref.result.now in
+    let same : put ≡ next.level = search rules in
+    let right = subst (λ o. IfSome o (λ m. Consistent c.loop.shelf m.level)) c.in-Some.is c.in_ok-next.ensures.right in
+    let level : put.level ≡ c.loop.counter = ap (λ (image : Image). image.level) same ∙ right.next ∙ i.levels in
+    leaves-more others (g.G.Folder.stands c.loop.to) _ _ _ put c.loop.digest (i.to_rest others to put.level (omega (arith, level))) (i.whole others to) c.store.ensures.crash

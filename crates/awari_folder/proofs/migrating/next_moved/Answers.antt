@@ -2,8 +2,8 @@ use Rattle.std.proofs.Common.{subst}
 use Rattle.std.proofs.lemmas.Result.{err_from_is_err_and}
 use Rattle.awari_folder.specs.Contents.{Opens}
 use Rattle.awari_folder.specs.Migration.{IsMoveFault}
-use Rattle.std.proofs.Common.{List, length, Some}
-use Rattle.awari_folder.proofs.Opened.{of_name}
+use Rattle.std.proofs.Common.{length, Some}
+use Rattle.awari_folder.proofs.Opened.{of_name, not_open}
 use Rattle.awari_folder.proofs.Moves.{fault_of_name}
 use Rattle.awari_folder.proofs.migrating.next_moved.Goals as goal
 
@@ -16,3 +16,8 @@ returns-in_err-moved-in-Ok-Some-clause-exact g c = λ name other is.
     let opened = subst (λ o. Opens g.F.File.Read.remaining (g.F.Folder.stands c.args.from.now (length shelf)) o) c.in-Ok-Some.field-0-is (subst (λ n. Opens g.F.File.Read.remaining (g.F.Folder.stands c.args.from.now n) c.in-Ok-Some.field-0) c.levels-level.ensures.levels c.in-Ok-Some.ensures.opened) in
     rw (p.1, p.2) (fault_of_name shelf below name other fault
     (of_name g.F.File.Read.remaining _ _ _ c.in-Ok-Some.file (λ bytes. IsMoveFault shelf below (Some bytes) other fault) c.new.ensures.inner is opened (c.in_err-moved-in-Ok-Some.ensures.fault other)))
+
+pub returns-in_err-moved-in-Ok-Some-clause-refused : goal.returns-in_err-moved-in-Ok-Some-clause-refused
+returns-in_err-moved-in-Ok-Some-clause-refused g c =
+    let p = err_from_is_err_and c.from_residual.result c.from_residual.ensures.1 in
+    rw (p.1, p.2) (not_open c.in_err-moved-in-Ok-Some.field-0.0 _ _ c.in_err-moved-in-Ok-Some.ensures.of_file c.in-Ok-Some.ensures.refused)
