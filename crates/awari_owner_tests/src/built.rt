@@ -4,6 +4,8 @@
 ghost use Rattle.std.specs.Prelude.{IfOk};
 ghost use Rattle.awari_table.specs.Shelves.{Consistent};
 
+use crate::expect::expect_equal;
+use crate::shelves::expect_limit;
 use awari_build::build_alone;
 use awari_plan::least;
 use awari_table::{Entries, Image, Level, Shelf};
@@ -43,13 +45,13 @@ fn expect_verified(
     level: &Level,
 ) -> Result<(), Fail> {
     let verified = verify(shelf, image_of(alloc, level)?)?;
-    assert_eq!(rt; verified.entries(), level.entries());
+    expect_equal(rt, level.number(), verified.entries(), level.entries());
     Ok(())
 }
 
 fn expect_image(rt: &impl Abort, image: &Image, level: &Level) {
-    assert_eq!(rt; image.limit, level.limit());
-    assert_eq!(rt; image.entries.as_slice(), level.entries());
+    expect_equal(rt, image.level, image.limit, level.limit());
+    expect_equal(rt, image.level, image.entries.as_slice(), level.entries());
 }
 
 /// Of the level's double, which keeps the old rules alone, `least` makes the same level again.
@@ -83,6 +85,6 @@ fn levels_0_to_6_are_verified(rt: HostRuntime) -> Result<(), Fail> {
         let level = verified_next(&rt, rt.alloc(), &shelf)?;
         shelf.push(Arc::new(rt.alloc(), level)?);
     }
-    assert_eq!(rt; (shelf.levels(), shelf.limit()), (7, 64));
+    expect_limit(&rt, &shelf, 7, 64);
     Ok(())
 }

@@ -1,5 +1,6 @@
 //! Levels built by several owners, as lists of events.
 
+use crate::expect::{expect, expect_equal};
 use crate::shelves::{levels_below, one_level};
 use awari_build::build_alone;
 use awari_core::{Core, CoreFault, Event, Ran};
@@ -101,7 +102,7 @@ fn is_level(alloc: Global, shelf: &Shelf, core: &Core) -> Result<bool, Fail> {
 
 /// The core, with all gains closed, gives the level that one part builds.
 fn expect_level(rt: &impl Abort, alloc: Global, shelf: &Shelf, core: &Core) -> Result<(), Fail> {
-    assert!(rt; is_level(alloc, shelf, core)?);
+    expect(rt, "the level", is_level(alloc, shelf, core)?);
     Ok(())
 }
 
@@ -121,27 +122,31 @@ fn spread_by_two(rt: &impl Abort, core: &mut Core) {
         taken = taken.saturating_add(ran.taken);
         refused = refused.saturating_add(ran.refused);
     }
-    assert_eq!(rt; (taken, refused), (11, 1));
+    expect_equal(rt, "taken and refused", (taken, refused), (11, 1));
 }
 
 /// The last board of level 1, which owner 1 has, is spread at distance 1, and all gains are closed.
 fn spread_the_last(rt: &impl Abort, core: &mut Core) {
-    assert_eq!(rt; core.next_gain(), Err(CoreFault::NotQuiet));
-    assert_eq!(rt; core.next_wave(), Ok(Some(1)));
-    assert_eq!(rt; core.step(Event::Spread(1)), Ok(()));
+    expect_equal(rt, "gain", core.next_gain(), Err(CoreFault::NotQuiet));
+    expect_equal(rt, "wave", core.next_wave(), Ok(Some(1)));
+    expect_step(rt, core, Event::Spread(1), Ok(()));
     close(rt, core);
 }
 
 /// Closes all gains of a core that is quiet.
 fn close(rt: &impl Abort, core: &mut Core) {
-    assert_eq!(rt; (core.next_wave(), core.quiet()), (Ok(None), true));
-    assert_eq!(rt; (core.next_gain(), core.next_gain()), (Ok(0), Ok(0)));
+    expect_equal(rt, "wave", core.next_wave(), Ok(None));
+    expect_equal(rt, "quiet", core.quiet(), true);
+    expect_equal(rt, "gain", core.next_gain(), Ok(0));
+    expect_equal(rt, "gain again", core.next_gain(), Ok(0));
 }
 
 /// Two owners of level 1 have gain 1 open, and are not quiet.
 fn expect_not_quiet(rt: &impl Abort, alloc: Global, core: &Core) {
-    assert_eq!(rt; (core.gain(), core.wave(), core.quiet()), (1, 0, false));
-    assert_eq!(rt; core.finish(alloc).err(), Some(CoreFault::NotQuiet));
+    let standing = (core.gain(), core.wave(), core.quiet());
+    expect_equal(rt, "gain, wave and quiet", standing, (1, 0, false));
+    let refused = core.finish(alloc).err();
+    expect_equal(rt, "finish", refused, Some(CoreFault::NotQuiet));
 }
 
 #[test]
@@ -156,7 +161,7 @@ fn level_1_is_built_by_two_owners(rt: HostRuntime) -> Result<(), Fail> {
 
 /// Takes an event, or refuses it.
 fn expect_step(rt: &impl Abort, core: &mut Core, event: Event, answer: Result<(), CoreFault>) {
-    assert_eq!(rt; core.step(event), answer);
+    expect_equal(rt, event, core.step(event), answer);
 }
 
 /// The third owner spreads its boards, and sends the second the one note that there is for it.
@@ -167,7 +172,7 @@ fn send_the_note(rt: &impl Abort, core: &mut Core) {
     }
     expect_step(rt, core, Event::Spread(2), Err(CoreFault::NotEnabled));
     expect_step(rt, core, Event::Send(2, 1), Ok(()));
-    assert_eq!(rt; core.next_wave(), Err(CoreFault::NotQuiet));
+    expect_equal(rt, "wave", core.next_wave(), Err(CoreFault::NotQuiet));
     expect_step(rt, core, Event::Take(2, 1), Ok(()));
     expect_step(rt, core, Event::Take(2, 1), Err(CoreFault::NotEnabled));
 }
@@ -208,7 +213,7 @@ fn expect_none_taken(rt: &impl Abort, core: &mut Core) {
         taken: 0,
         refused: 6,
     };
-    assert_eq!(rt; core.run(&NO_EVENTS), refused);
+    expect_equal(rt, "no events", core.run(&NO_EVENTS), refused);
 }
 
 #[test]
@@ -221,7 +226,7 @@ fn events_that_are_none_are_refused(rt: HostRuntime) -> Result<(), Fail> {
 
 /// All gains of level 0 are closed from the start.
 fn expect_quiet(rt: &impl Abort, core: &Core) {
-    assert_eq!(rt; (core.quiet(), core.gain()), (true, 0));
+    expect_equal(rt, "quiet and gain", (core.quiet(), core.gain()), (true, 0));
 }
 
 #[test]
@@ -235,7 +240,7 @@ fn level_0_is_quiet_at_once(rt: HostRuntime) -> Result<(), Fail> {
 /// No core is made for so many owners and so much room.
 fn expect_no_core(rt: &impl Abort, alloc: Global, owners: u8, room: u32, fault: CoreFault) {
     let answer = Core::new(alloc, &Shelf::empty(), owners, room).err();
-    assert_eq!(rt; answer, Some(fault));
+    expect_equal(rt, (owners, room), answer, Some(fault));
 }
 
 #[test]
@@ -253,7 +258,7 @@ fn expect_built_by_chance(
     shelf: &Shelf,
     owners: u8,
 ) -> Result<(), Fail> {
-    assert!(rt; chance_builds(alloc, shelf, owners)?, "{owners} owners");
+    expect(rt, owners, chance_builds(alloc, shelf, owners)?);
     Ok(())
 }
 
@@ -281,7 +286,7 @@ fn expect_built_by_16(
 }
 
 fn expect_closed(rt: &impl Abort, core: &mut Core, events: &[Event]) {
-    assert!(rt; close_by(core, events));
+    expect(rt, "all gains closed", close_by(core, events));
 }
 
 #[test]

@@ -7,6 +7,8 @@ mod built;
 #[cfg(test)]
 mod cores;
 #[cfg(test)]
+mod expect;
+#[cfg(test)]
 mod notes;
 #[cfg(test)]
 mod outboxes;

@@ -3,6 +3,7 @@
 
 ghost use Rattle.std.specs.Prelude.{◌≡◌, ◌<◌, IfOk};
 
+use crate::expect::expect_equal;
 use crate::shelves::one_level;
 use awari_owner::{Kind, Note, OwnerFault, Part};
 use std::alloc::Global;
@@ -29,13 +30,12 @@ fn second_of_three(alloc: Global) -> Result<Part, Fail> {
 
 /// The block is that of ranks 4 to 7, and what is known of the board of this rank is so.
 fn expect_settled(rt: &impl Abort, part: &Part, rank: u32, settled: Option<(i8, u32)>) {
-    assert_eq!(rt; part.block(), (4, 8));
-    assert!(rt; 4 <= rank && rank < 8);
-    assert_eq!(rt; part.settled(rank), settled);
+    assert!(rt; part.block() == (4, 8) && 4 <= rank && rank < 8);
+    expect_equal(rt, rank, part.settled(rank), settled);
 }
 
 fn expect_answer(rt: &impl Abort, part: &mut Part, note: Note, answer: Result<(), OwnerFault>) {
-    assert_eq!(rt; part.take(note), answer);
+    expect_equal(rt, note, part.take(note), answer);
 }
 
 #[test]
@@ -84,8 +84,8 @@ const STRANGERS: [Note; 7] = [
 #[test]
 fn refuses_strangers(rt: HostRuntime) -> Result<(), Fail> {
     let mut part = second_of_three(rt.alloc())?;
-    for stranger in STRANGERS {
-        expect_answer(&rt, &mut part, stranger, Err(OwnerFault::Stranger));
+    for stranger in &STRANGERS {
+        expect_answer(&rt, &mut part, *stranger, Err(OwnerFault::Stranger));
     }
     Ok(())
 }
@@ -108,8 +108,8 @@ fn seventh_of_twelve(alloc: Global, wave: u32) -> Result<Part, Fail>
 
 /// The one board of the part of the seventh of twelve owners is settled so.
 fn expect_rank_6(rt: &impl Abort, part: &Part, settled: Option<(i8, u32)>) {
-    assert_eq!(rt; part.block(), (6, 7));
-    assert_eq!(rt; part.settled(6), settled);
+    assert!(rt; part.block() == (6, 7));
+    expect_equal(rt, "rank 6", part.settled(6), settled);
 }
 
 #[test]
@@ -128,6 +128,6 @@ fn refuses_the_greatest_distance(rt: HostRuntime) -> Result<(), Fail> {
 
 #[test]
 fn faults_have_their_numbers(rt: HostRuntime) {
-    assert_eq!(rt; OwnerFault::Stranger.number(), 30);
-    assert_eq!(rt; OwnerFault::Far.number(), 32);
+    let numbers = (OwnerFault::Stranger.number(), OwnerFault::Far.number());
+    expect_equal(&rt, "numbers", numbers, (30, 32));
 }

@@ -3,6 +3,7 @@
 
 ghost use Rattle.awari_owner.specs.Spread.{IsPartOf};
 
+use crate::expect::{expect, expect_equal};
 use crate::notes::NOTE;
 use crate::parts::{expect_none_due, open_gain_1, spread_next};
 use crate::shelves::one_level;
@@ -16,15 +17,15 @@ fn spread_four(rt: &impl Abort, part: &mut Part, outboxes: &mut Outboxes)
     ensures made { IsPartOf part.new outboxes.new }
 {
     for _board in 0..4u8 {
-        assert!(rt; outboxes.is_empty());
+        expect(rt, "nothing to send", outboxes.is_empty());
         spread_next(rt, part, outboxes);
     }
 }
 
 /// Nothing is sent to the first owner, to the third itself, or to a fourth.
 fn expect_no_other(rt: &impl Abort, outboxes: &Outboxes) {
-    for to in [0, 2, 3] {
-        assert!(rt; outboxes.front(to).is_none());
+    for to in &[0u8, 2, 3] {
+        expect(rt, *to, outboxes.front(*to).is_none());
     }
 }
 
@@ -33,9 +34,9 @@ fn send_the_note(rt: &impl Abort, outboxes: &mut Outboxes) -> Result<(), Fail> {
     let Some(batch) = outboxes.front(1) else {
         return Err("no batch".into());
     };
-    assert_eq!(rt; batch.as_slice(), [NOTE].as_slice());
+    expect_equal(rt, "the note", batch.as_slice(), [NOTE].as_slice());
     outboxes.drop_front(1);
-    assert!(rt; outboxes.is_empty());
+    expect(rt, "nothing to send", outboxes.is_empty());
     Ok(())
 }
 

@@ -3,6 +3,7 @@
 ghost use Rattle.std.specs.Prelude.{◌≡◌};
 ghost use Rattle.awari_owner.specs.Spread.{IsPartOf};
 
+use crate::expect::expect_equal;
 use crate::shelves::one_level;
 use awari_owner::{Outboxes, Part};
 use awari_table::Shelf;
@@ -20,7 +21,7 @@ fn expect_block(
 ) -> Result<(), Fail> {
     assert!(rt; shelf.levels() == 1 && owner < owners && owners <= 16);
     let part = Part::scan(alloc, shelf, owners, owner)?;
-    assert_eq!(rt; part.block(), block);
+    expect_equal(rt, (owners, owner), part.block(), block);
     Ok(())
 }
 
@@ -42,9 +43,10 @@ pub fn open_gain_1(rt: &impl Abort, part: &mut Part, outboxes: &Outboxes)
     ensures made { IsPartOf part.new outboxes.now }
     ensures wave { part.new.wave ≡ 0 }
 {
-    assert_eq!(rt; (part.gain(), part.idle()), (2, true));
+    assert!(rt; part.gain() == 2 && part.idle());
     part.open_gain(1);
-    assert_eq!(rt; (part.gain(), part.wave(), part.due()), (1, 0, Some(0)));
+    let standing = (part.gain(), part.wave(), part.due());
+    expect_equal(rt, "gain, wave and due", standing, (1, 0, Some(0)));
 }
 
 /// Spreads the first fresh board, which has the open distance.
@@ -53,7 +55,7 @@ pub fn spread_next(rt: &impl Abort, part: &mut Part, outboxes: &mut Outboxes)
     ensures made { IsPartOf part.new outboxes.new }
     ensures wave { part.new.wave ≡ part.old.wave }
 {
-    assert_eq!(rt; part.spread_one(outboxes), Ok(true));
+    expect_equal(rt, "a board", part.spread_one(outboxes), Ok(true));
 }
 
 /// No board is due at the open distance.
@@ -62,7 +64,7 @@ pub fn expect_none_due(rt: &impl Abort, part: &mut Part, outboxes: &mut Outboxes
     ensures made { IsPartOf part.new outboxes.new }
     ensures wave { part.new.wave ≡ part.old.wave }
 {
-    assert_eq!(rt; part.spread_one(outboxes), Ok(false));
+    expect_equal(rt, "no board", part.spread_one(outboxes), Ok(false));
 }
 
 /// Eleven of the twelve boards are spread at distance 0.
@@ -83,22 +85,22 @@ fn spread_the_last(rt: &impl Abort, part: &mut Part, outboxes: &mut Outboxes)
     requires made { IsPartOf part.old outboxes.old }
     requires wave { part.old.wave ≡ 0 }
 {
-    assert_eq!(rt; part.due(), Some(1));
+    assert!(rt; part.due() == Some(1));
     part.open_wave(1);
-    assert_eq!(rt; part.wave(), 1);
+    expect_equal(rt, "wave", part.wave(), 1);
     spread_next(rt, part, outboxes);
 }
 
 /// Nothing is due, and nothing to be sent.
 fn expect_at_rest(rt: &impl Abort, part: &Part, outboxes: &Outboxes) {
-    assert_eq!(rt; (part.due(), part.idle()), (None, true));
-    assert!(rt; outboxes.is_empty());
+    let standing = (part.due(), part.idle(), outboxes.is_empty());
+    expect_equal(rt, "due, idle and empty", standing, (None, true, true));
 }
 
 /// The part has all of level 1, and the board of rank 6 is lost in one ply.
 fn expect_level_1(rt: &impl Abort, part: &Part) {
-    assert_eq!(rt; part.block(), (0, 12));
-    assert_eq!(rt; part.settled(6), Some((-1, 1)));
+    assert!(rt; part.block() == (0, 12));
+    expect_equal(rt, "rank 6", part.settled(6), Some((-1, 1)));
 }
 
 #[test]

@@ -1,5 +1,6 @@
 //! Levels that are verified in pieces, and parts that are scanned in pieces, by several threads.
 
+use crate::expect::{expect, expect_equal};
 use crate::shelves::levels_below;
 use awari_build::build_alone;
 use awari_owner::Part;
@@ -50,9 +51,10 @@ fn expect_fault<R: Threads + Sync + Abort>(
     fault: Option<VerifyFault>,
 ) -> Result<(), Fail> {
     let image = with_value_7(alloc, level, ranks)?;
-    assert_eq!(rt; fault_alone(shelf, image), fault);
+    expect_equal(rt, "by one", fault_alone(shelf, image), fault);
     let image = with_value_7(alloc, level, ranks)?;
-    assert_eq!(rt; fault_in_pieces(rt, alloc, shelf, image), fault);
+    let found = fault_in_pieces(rt, alloc, shelf, image);
+    expect_equal(rt, "by several", found, fault);
     Ok(())
 }
 
@@ -111,7 +113,11 @@ fn settles_alike(one: &Part, other: &Part) -> bool {
 fn parts_are_scanned_in_pieces(rt: HostRuntime) -> Result<(), Fail> {
     let shelf = levels_below(rt.alloc(), 6)?;
     for owner in 0..3u8 {
-        assert!(rt; is_scanned_alike(&rt, rt.alloc(), &shelf, owner)?);
+        expect(
+            &rt,
+            owner,
+            is_scanned_alike(&rt, rt.alloc(), &shelf, owner)?,
+        );
     }
     Ok(())
 }

@@ -5,7 +5,8 @@ ghost use Rattle.awari_lines.specs.Lines.{IsGrid};
 ghost use Rattle.awari_table.specs.Shelves.{Consistent};
 ghost use Rattle.awari_phase.specs.Owners.{all_ends};
 
-use crate::shelves::{levels_below, one_level};
+use crate::expect::{expect, expect_equal};
+use crate::shelves::{expect_limit, levels_below, one_level};
 use awari_build::{BuildFault, Pace, build_alone, build_level};
 use awari_phase::{
     Gate, Open, Owner, PhaseFault, gain_phase, open_gain, round, scanned_owners, settle_owners,
@@ -50,7 +51,7 @@ fn standing(owners: &[Owner]) -> [(Option<u32>, bool); 3] {
 }
 
 fn expect_standing(rt: &impl Abort, owners: &[Owner], expected: [(Option<u32>, bool); 3]) {
-    assert_eq!(rt; standing(owners), expected);
+    expect_equal(rt, "standing", standing(owners), expected);
 }
 
 #[test]
@@ -61,7 +62,7 @@ fn rounds_spread_and_send(rt: HostRuntime) -> Result<(), Fail> {
     expect_standing(&rt, &owners, [rest, rank_6, rest]);
     let mut owners = gain_phase(&rt, owners, &Open, 1)?;
     expect_standing(&rt, &owners, [rest, rest, rest]);
-    assert!(rt; settle_owners(owners.as_mut_slice()));
+    expect(&rt, "settled", settle_owners(owners.as_mut_slice()));
     Ok(())
 }
 
@@ -79,9 +80,13 @@ fn expect_built_alike<R: Threads + Wait + Sync + Abort>(
         sweeps,
     };
     let level = build_level(rt, alloc, shelf, pace, &Open)?;
-    let is_alike = level.limit() == alone.limit() && level.entries() == alone.entries();
-    assert!(rt; is_alike, "level {} by {owners} owners", alone.number());
+    expect_alike(rt, owners, &level, alone);
     Ok(())
+}
+
+fn expect_alike(rt: &impl Abort, owners: u8, level: &Level, alone: &Level) {
+    expect_equal(rt, owners, level.limit(), alone.limit());
+    expect_equal(rt, owners, level.entries(), alone.entries());
 }
 
 /// Paces of one, three and sixteen owners.
@@ -103,8 +108,8 @@ fn built_alike<R: Threads + Wait + Sync + Abort>(
     ensures { IfOk result (Consistent shelf.now) }
 {
     let alone = build_alone(alloc, shelf)?;
-    for pace in PACES {
-        expect_built_alike(rt, alloc, shelf, &alone, pace)?;
+    for pace in &PACES {
+        expect_built_alike(rt, alloc, shelf, &alone, *pace)?;
     }
     Ok(alone)
 }
@@ -116,64 +121,54 @@ fn owners_build_what_one_part_builds(rt: HostRuntime) -> Result<(), Fail> {
         let level = built_alike(&rt, rt.alloc(), &shelf)?;
         shelf.push(Arc::new(rt.alloc(), level)?);
     }
-    assert_eq!(rt; (shelf.levels(), shelf.limit()), (7, 64));
+    expect_limit(&rt, &shelf, 7, 64);
     Ok(())
 }
 
-/// Why no level is built at this pace.
-fn fault_at<R: Threads + Wait + Sync>(
-    rt: &R,
-    alloc: Global,
-    shelf: &Shelf,
-    owners: u8,
-    room: u32,
-    sweeps: u32,
-) -> Option<BuildFault> {
-    let pace = Pace {
-        owners,
-        room,
-        sweeps,
-    };
-    build_level(rt, alloc, shelf, pace, &Open).err()
-}
+/// Owners, room and sweeps, and why building level 0 at this pace is refused.
+const REFUSED: [(u8, u32, u32, Option<BuildFault>); 8] = [
+    (0, 64, 1000, Some(BuildFault::Owners)),
+    (17, 64, 1000, Some(BuildFault::Owners)),
+    (17, 0, 1000, Some(BuildFault::Owners)),
+    (2, 0, 1000, Some(BuildFault::Pace)),
+    (2, 257, 1000, Some(BuildFault::Pace)),
+    (2, 64, 0, Some(BuildFault::Pace)),
+    (2, 64, 1001, Some(BuildFault::Pace)),
+    (16, 256, 1, None),
+];
 
 /// What building level 0 at this pace comes to.
 fn expect_fault<R: Threads + Wait + Sync + Abort>(
     rt: &R,
     alloc: Global,
-    (owners, room, sweeps): (u8, u32, u32),
-    fault: Option<BuildFault>,
+    (owners, room, sweeps, fault): (u8, u32, u32, Option<BuildFault>),
 ) {
-    let found = fault_at(rt, alloc, &Shelf::empty(), owners, room, sweeps);
-    assert_eq!(rt; found, fault);
+    let pace = Pace {
+        owners,
+        room,
+        sweeps,
+    };
+    let found = build_level(rt, alloc, &Shelf::empty(), pace, &Open).err();
+    expect_equal(rt, (owners, room, sweeps), found, fault);
 }
 
 #[test]
 fn paces_are_refused_in_order(rt: HostRuntime) {
-    for (owners, room) in [(0, 64), (17, 64), (17, 0)] {
-        let owners_fault = Some(BuildFault::Owners);
-        expect_fault(&rt, rt.alloc(), (owners, room, 1000), owners_fault);
+    for refusal in &REFUSED {
+        expect_fault(&rt, rt.alloc(), *refusal);
     }
-    for (room, sweeps) in [(0, 1000), (257, 1000), (64, 0), (64, 1001)] {
-        let pace_fault = Some(BuildFault::Pace);
-        expect_fault(&rt, rt.alloc(), (2, room, sweeps), pace_fault);
-    }
-    expect_fault(&rt, rt.alloc(), (16, 256, 1), None);
 }
 
 #[test]
 fn phase_faults_have_their_numbers(rt: HostRuntime) {
-    let not_started = BuildFault::Phase {
-        fault: PhaseFault::NotStarted,
-    };
-    assert_eq!(rt;
-        (not_started.number(), PhaseFault::NotStarted.number()),
-        (52, 40)
-    );
-    assert_eq!(rt;
-        (BuildFault::Owners.number(), BuildFault::Pace.number()),
-        (50, 55)
-    );
+    let fault = PhaseFault::NotStarted;
+    let numbers = [
+        BuildFault::Phase { fault }.number(),
+        fault.number(),
+        BuildFault::Owners.number(),
+        BuildFault::Pace.number(),
+    ];
+    expect_equal(&rt, "numbers", numbers, [52, 40, 50, 55]);
 }
 
 /// How often an owner looks whether the other one has come, at most.
@@ -211,12 +206,8 @@ impl Gate for Meeting {
 
 /// Both owners met, twice or more.
 fn expect_met(rt: &impl Abort, gate: &Meeting) {
-    assert_eq!(rt; gate.missed.load(Ordering::SeqCst), 0);
-    assert!(rt; gate.first.load(Ordering::SeqCst) >= 2);
-}
-
-fn expect_limit(rt: &impl Abort, level: &Level, limit: u32) {
-    assert_eq!(rt; level.limit(), limit);
+    expect_equal(rt, "missed", gate.missed.load(Ordering::SeqCst), 0);
+    expect(rt, "met twice", gate.first.load(Ordering::SeqCst) >= 2);
 }
 
 #[test]
@@ -233,7 +224,7 @@ fn owners_work_at_once(rt: HostRuntime) -> Result<(), Fail> {
         sweeps: 1000,
     };
     let level = build_level(&rt, rt.alloc(), &shelf, pace, &gate)?;
-    expect_limit(&rt, &level, 9);
+    expect_equal(&rt, "limit", level.limit(), 9);
     expect_met(&rt, &gate);
     Ok(())
 }

@@ -2,9 +2,11 @@
 
 ghost use Rattle.std.specs.Prelude.{◌≡◌, IfOk, length};
 
+use crate::expect::expect_equal;
 use awari_build::build_alone;
 use awari_table::Shelf;
 use std::alloc::Global;
+use std::process::Abort;
 use std::sync::Arc;
 use std::test::Fail;
 
@@ -26,4 +28,10 @@ pub fn levels_below(alloc: Global, count: u8) -> Result<Shelf, Fail> {
         shelf.push(Arc::new(alloc, level)?);
     }
     Ok(shelf)
+}
+
+/// The shelf has so many levels and this limit.
+pub fn expect_limit(rt: &impl Abort, shelf: &Shelf, levels: u8, limit: u32) {
+    let found = (shelf.levels(), shelf.limit());
+    expect_equal(rt, "levels and limit", found, (levels, limit));
 }
