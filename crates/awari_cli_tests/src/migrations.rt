@@ -2,6 +2,7 @@
 //! brought over from older files.
 
 use crate::commands::expect_run;
+use crate::expect::expect;
 use sha2::{Digest, Sha256};
 use std::alloc::Global;
 use std::fs::File;
@@ -39,7 +40,7 @@ fn expect_same(
     for level in 0..levels {
         let file = file_of(rt, alloc, folder, level)?;
         let same = file_of(rt, alloc, other, level)?;
-        assert!(rt; file == same, "level {level} of {other}");
+        expect(rt, (level, other), file == same);
     }
     Ok(())
 }
@@ -118,20 +119,63 @@ fn double(body: &mut [u8]) {
     }
 }
 
-/// Lays levels 0 to 2 of a folder into another one, in files of version 1, and level 2 with each
-/// distance twice as great.
+/// The twelve boards of two stones whose forced moves lead in a circle, and last one that leads into
+/// it: the rank, and a distance. All are worth 0.
+const CIRCLE: [(u8, u8); 13] = [
+    (71, 12),
+    (70, 11),
+    (59, 10),
+    (58, 9),
+    (48, 8),
+    (47, 7),
+    (38, 6),
+    (37, 5),
+    (29, 4),
+    (28, 3),
+    (21, 2),
+    (72, 1),
+    (61, 12),
+];
+
+/// Has the circle's boards won and lost in turn, and the limit 12. Each of their distances is one more
+/// than that of the next board, but where the circle closes.
+fn falsify(body: &mut [u8]) {
+    for (rank, dist) in CIRCLE {
+        let place = 52 + 6 * usize::from(rank);
+        if let Some(value) = body.get_mut(place) {
+            *value = if dist % 2 == 0 { 2 } else { 0xfe };
+        }
+        if let Some(low) = body.get_mut(place + 5) {
+            *low = dist;
+        }
+    }
+    if let Some(limit) = body.get_mut(19) {
+        *limit = 12;
+    }
+}
+
+/// What is done to the older file of level 2.
+#[derive(Clone, Copy, PartialEq)]
+enum Change {
+    DistancesDoubled,
+    FalseCircle,
+}
+
+/// Lays levels 0 to 2 of a folder into another one, in files of version 1, level 2 with this change.
 fn lay_old(
     rt: &(impl Files<File = File> + AllocGlobal),
     alloc: Global,
-    folder: &str,
-    old: &str,
+    (folder, old): (&str, &str),
+    change: Change,
 ) -> Result<(), Fail> {
     let mut below = [0; 32];
     for level in 0..3u8 {
         let file = file_of(rt, alloc, folder, level)?;
         let mut bytes = old_body(alloc, &file, &below)?;
-        if level == 2 {
-            double(bytes.as_mut_slice());
+        match change {
+            _ if level < 2 => {}
+            Change::DistancesDoubled => double(bytes.as_mut_slice()),
+            Change::FalseCircle => falsify(bytes.as_mut_slice()),
         }
         below = Sha256::digest(bytes.as_slice());
         bytes.extend_from_slice(&below)?;
@@ -156,6 +200,12 @@ levels 3 digest 326cbe86f97046809b09630f35e9ca500777be5ba275edb931a71fa1af1a4a9f
 
 const NO_LEVELS: &str = "\
 levels 0 digest 0000000000000000000000000000000000000000000000000000000000000000
+";
+
+const LEVELS_0_AND_1: &str = "\
+level 0 ok limit 0
+level 1 ok limit 1
+levels 2 digest e5a9a57f6858a25baad0b0a5a6a39407e11a4315b2a1df329ebea00cef062deb
 ";
 
 const NOWHERE: &str = "awari_cli_test_nowhere";
@@ -202,9 +252,36 @@ fn levels_of_older_files_are_brought_over(rt: HostRuntime) -> Result<(), Fail> {
     }
     let words = ["awari", "build", "2", "--folder", built];
     expect_run(&rt, rt.alloc(), words.as_slice(), b"", LEVELS_0_TO_2, 0);
-    lay_old(&rt, rt.alloc(), built, from)?;
+    lay_old(&rt, rt.alloc(), (built, from), Change::DistancesDoubled)?;
     expect_moves(&rt, rt.alloc(), from, to);
     expect_same(&rt, rt.alloc(), (built, to), 3)?;
+    for folder in [built, from, to] {
+        fs::remove_dir_all(&rt, folder)?;
+    }
+    Ok(())
+}
+
+#[test]
+fn a_false_circle_is_not_brought_over(rt: HostRuntime) -> Result<(), Fail> {
+    let built = "awari_cli_test_true";
+    let from = "awari_cli_test_false";
+    let to = "awari_cli_test_unmoved";
+    for folder in [built, from, to] {
+        empty_folder(&rt, folder)?;
+    }
+    let words = ["awari", "build", "2", "--folder", built];
+    expect_run(&rt, rt.alloc(), words.as_slice(), b"", LEVELS_0_TO_2, 0);
+    lay_old(&rt, rt.alloc(), (built, from), Change::FalseCircle)?;
+    let refused = "refused 83 Verify level 2: 22 Refused rank 72 rule V6\n";
+    expect_migrated(&rt, rt.alloc(), (from, to), refused, 1);
+    expect_run(
+        &rt,
+        rt.alloc(),
+        &["awari", "verify", to],
+        b"",
+        LEVELS_0_AND_1,
+        0,
+    );
     for folder in [built, from, to] {
         fs::remove_dir_all(&rt, folder)?;
     }

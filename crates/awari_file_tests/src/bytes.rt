@@ -1,5 +1,6 @@
 //! The bytes of files, and what is answered where some are changed, missing or too many.
 
+use crate::expect::{expect, expect_equal};
 use crate::levels::{changed, digest_in, digested, right_file, right_shelf};
 use crate::plain::{level_of, put_on, read, verdict};
 use awari_file::{FileFault, Loaded};
@@ -43,8 +44,8 @@ fn expect_file(
     (number, length, digest): (u8, usize, [u8; 4]),
 ) -> Result<(), Fail> {
     let file = right_file(alloc, number)?;
-    assert_eq!(rt; file.len(), length, "level {number}");
-    assert!(rt; digest_in(&file).starts_with(&digest), "level {number}");
+    expect_equal(rt, number, file.len(), length);
+    expect(rt, number, digest_in(&file).starts_with(&digest));
     Ok(())
 }
 
@@ -75,14 +76,19 @@ fn bytes_of_level_1(alloc: Global, below: [u8; 32]) -> Result<Vec<u8>, Fail> {
 
 /// The file begins with these bytes.
 fn expect_start(rt: &impl Abort, file: &[u8], start: &[u8]) {
-    assert!(rt; file.starts_with(start));
+    expect(rt, "start", file.starts_with(start));
 }
 
 #[test]
 fn the_file_of_level_0_has_its_bytes(rt: HostRuntime) -> Result<(), Fail> {
     let first = right_file(rt.alloc(), 0)?;
     expect_start(&rt, &first, &LEVEL_0);
-    assert_eq!(rt; digest_in(&first), Sha256::digest(&LEVEL_0[..]));
+    expect_equal(
+        &rt,
+        "digest",
+        digest_in(&first),
+        Sha256::digest(&LEVEL_0[..]),
+    );
     Ok(())
 }
 
@@ -100,15 +106,20 @@ fn digests_are_read_again(rt: HostRuntime) -> Result<(), Fail> {
     let first = right_file(rt.alloc(), 0)?;
     let second = right_file(rt.alloc(), 1)?;
     let Loaded { below, digest, .. } = read_bytes(rt.alloc(), &second)?;
-    assert_eq!(rt; (below, digest), (digest_in(&first), digest_in(&second)));
+    expect_equal(
+        &rt,
+        "digests",
+        (below, digest),
+        (digest_in(&first), digest_in(&second)),
+    );
     Ok(())
 }
 
 /// The file is that of this level.
 fn expect_level(rt: &impl Abort, alloc: Global, level: &Level, file: &[u8]) -> Result<(), Fail> {
     let image = read_bytes(alloc, file)?.image;
-    assert_eq!(rt; (image.level, image.limit), (1, 1));
-    assert!(rt; image.entries.as_slice() == level.entries());
+    expect_equal(rt, "level and limit", (image.level, image.limit), (1, 1));
+    expect(rt, "entries", image.entries.as_slice() == level.entries());
     Ok(())
 }
 
@@ -122,7 +133,7 @@ fn levels_are_read_again(rt: HostRuntime) -> Result<(), Fail> {
 #[test]
 fn the_right_shelf_has_three_levels(rt: HostRuntime) -> Result<(), Fail> {
     let shelf = right_shelf(rt.alloc())?;
-    assert_eq!(rt; shelf.levels(), 3);
+    expect_equal(&rt, "levels", shelf.levels(), 3);
     Ok(())
 }
 
@@ -134,7 +145,7 @@ fn short_files_and_others_are_refused(rt: HostRuntime) {
         (b"AWDC".as_slice(), 61),
     ];
     for (bytes, fault) in cases {
-        assert_eq!(rt; fault_of(rt.alloc(), bytes), fault);
+        expect_equal(&rt, bytes, fault_of(rt.alloc(), bytes), fault);
     }
 }
 
@@ -147,7 +158,7 @@ pub(crate) fn expect_fault(
     fault: u8,
 ) -> Result<(), Fail> {
     let bytes = changed(alloc, file, place, byte)?;
-    assert_eq!(rt; fault_of(alloc, &bytes), fault, "byte {place}");
+    expect_equal(rt, place, fault_of(alloc, &bytes), fault);
     Ok(())
 }
 
@@ -177,7 +188,7 @@ fn faults_come_in_the_order_of_the_bytes(rt: HostRuntime) -> Result<(), Fail> {
 fn a_byte_behind_the_digest_is_a_fault(rt: HostRuntime) -> Result<(), Fail> {
     let mut longer = right_file(rt.alloc(), 1)?;
     longer.push(0)?;
-    assert_eq!(rt; fault_of(rt.alloc(), &longer), 67);
+    expect_equal(&rt, "a byte more", fault_of(rt.alloc(), &longer), 67);
     Ok(())
 }
 
@@ -196,7 +207,7 @@ fn fault_at(place: usize, byte: u8, length: usize) -> u8 {
 /// Cuts the file at this place.
 fn expect_cut(rt: &impl Abort, alloc: Global, file: &[u8], place: usize) -> Result<(), Fail> {
     let cut = file.get(..place).ok_or("a place in the file")?;
-    assert_eq!(rt; fault_of(alloc, cut), 60, "cut to {place}");
+    expect_equal(rt, place, fault_of(alloc, cut), 60);
     Ok(())
 }
 
@@ -233,7 +244,7 @@ fn expect_refused(rt: &impl Abort, alloc: Global, shelf: &Shelf, bytes: &[u8]) -
         rank: 0,
         rule: Rule::V1,
     };
-    assert_eq!(rt; verdict(shelf, image), Some(refused));
+    expect_equal(rt, "wrong value", verdict(shelf, image), Some(refused));
     Ok(())
 }
 

@@ -1,5 +1,6 @@
 //! Folders in memory, of which one call is refused.
 
+use crate::expect::{expect, expect_equal};
 use crate::levels::{digest_in, right_file, right_shelf, save_two};
 use crate::plain::{
     has_draft, level_of, load_from, memory_folder, open, refuse, refuse_files, save_into,
@@ -40,7 +41,7 @@ fn saved(
     let zero = refusal_of(&mut folder, levels.0, [0; 32]);
     let one = refusal_of(&mut folder, levels.1, below);
     refuse(&mut folder, 0);
-    assert!(rt; !has_draft(&folder));
+    expect(rt, "no draft", !has_draft(&folder));
     let count = match levels_in(&mut folder, rt.alloc()) {
         Ok(count) => count,
         Err(_) => 13,
@@ -63,7 +64,7 @@ const SAVES: [(u32, Option<FolderFault>, Option<FolderFault>, u8); 6] = [
 fn refuse_each_save(rt: &(impl Abort + AllocGlobal), levels: (&Level, &Level), below: [u8; 32]) {
     for (call, zero, one, count) in SAVES {
         let found = saved(rt, levels, below, call);
-        assert_eq!(rt; found, (zero, one, count), "call {call}");
+        expect_equal(rt, call, found, (zero, one, count));
     }
 }
 
@@ -89,17 +90,27 @@ fn refuse_each_load(rt: &(impl Abort + AllocGlobal), folder: &mut MemoryFolder) 
     for level in 0..3u8 {
         refuse(folder, u32::from(level).saturating_add(1));
         let refused = FolderFault::Open { level };
-        assert_eq!(rt; levels_in(folder, rt.alloc()), Err(refused));
+        expect_equal(rt, level, levels_in(folder, rt.alloc()), Err(refused));
     }
     refuse(folder, 4);
-    assert_eq!(rt; levels_in(folder, rt.alloc()), Ok(2));
+    expect_equal(
+        rt,
+        "refused behind the levels",
+        levels_in(folder, rt.alloc()),
+        Ok(2),
+    );
 }
 
 #[test]
 fn each_call_of_a_load_is_refused(rt: HostRuntime) -> Result<(), Fail> {
     let mut folder = folder_of_two(rt.alloc())?;
     let second = right_file(rt.alloc(), 1)?;
-    assert_eq!(rt; digest_of(&mut folder, rt.alloc())?, digest_in(&second));
+    expect_equal(
+        &rt,
+        "digest",
+        digest_of(&mut folder, rt.alloc())?,
+        digest_in(&second),
+    );
     refuse_each_load(&rt, &mut folder);
     Ok(())
 }
@@ -124,8 +135,13 @@ fn refuse_file(
     refuse_files(folder, writes, sync);
     let refused = refusal_of(folder, level, [1; 32]);
     let fault = FileFault::Write;
-    assert_eq!(rt; refused, Some(FolderFault::File { level: 0, fault }));
-    assert!(rt; !has_draft(folder));
+    expect_equal(
+        rt,
+        "refused",
+        refused,
+        Some(FolderFault::File { level: 0, fault }),
+    );
+    expect(rt, "no draft", !has_draft(folder));
 }
 
 /// The same, once for each that a new file can refuse.
@@ -136,9 +152,9 @@ fn refuse_each_file(
     first: &[u8],
 ) -> Result<(), Fail> {
     refuse_file(rt, folder, level, (true, false));
-    assert!(rt; has_first(folder, rt.alloc(), first)?);
+    expect(rt, "after a write", has_first(folder, rt.alloc(), first)?);
     refuse_file(rt, folder, level, (false, true));
-    assert!(rt; has_first(folder, rt.alloc(), first)?);
+    expect(rt, "after a sync", has_first(folder, rt.alloc(), first)?);
     refuse_files(folder, false, false);
     Ok(())
 }
@@ -153,8 +169,8 @@ fn refuse_each_call(
     for call in 1..3u32 {
         refuse(folder, call);
         let refused = refusal_of(folder, level, [1; 32]);
-        assert_eq!(rt; refused, Some(FolderFault::Open { level: 0 }));
-        assert!(rt; has_first(folder, rt.alloc(), first)?);
+        expect_equal(rt, call, refused, Some(FolderFault::Open { level: 0 }));
+        expect(rt, call, has_first(folder, rt.alloc(), first)?);
     }
     Ok(())
 }

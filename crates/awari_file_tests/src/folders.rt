@@ -1,5 +1,6 @@
 //! Folders of level files, right and wrong.
 
+use crate::expect::{expect, expect_equal};
 use crate::levels::{digest_in, digested, file_of, right_file, right_shelf, save_two};
 use crate::plain::{level_of, load_from, save_into};
 use awari_file::FileFault;
@@ -59,7 +60,7 @@ fn expect_levels(
     levels: u8,
     digest: [u8; 32],
 ) {
-    assert_eq!(rt; loaded(rt, folder), Ok((levels, digest)));
+    expect_equal(rt, "loaded", loaded(rt, folder), Ok((levels, digest)));
 }
 
 /// The refusal to load the folder.
@@ -72,9 +73,11 @@ fn load_refusal(
 
 /// The folder is refused for its file of level 0, which does not open.
 fn expect_not_opened(rt: &(impl Files<File = File> + AllocGlobal + Abort), folder: &str) {
-    assert_eq!(rt;
+    expect_equal(
+        rt,
+        "not opened",
         load_refusal(rt, folder),
-        Some(FolderFault::Open { level: 0 })
+        Some(FolderFault::Open { level: 0 }),
     );
 }
 
@@ -111,7 +114,12 @@ fn expect_not_saved(
     folder: &str,
 ) -> Result<(), Fail> {
     let refused = save_refusal(rt, folder)?;
-    assert_eq!(rt; refused, Some(FolderFault::Open { level: 0 }));
+    expect_equal(
+        rt,
+        "not saved",
+        refused,
+        Some(FolderFault::Open { level: 0 }),
+    );
     Ok(())
 }
 
@@ -121,7 +129,7 @@ fn expect_file(
     path: &str,
     bytes: &[u8],
 ) -> io::Result<()> {
-    assert!(rt; fs::read(rt, path)?.as_slice() == bytes, "{path}");
+    expect(rt, path, fs::read(rt, path)?.as_slice() == bytes);
     Ok(())
 }
 
@@ -131,7 +139,7 @@ fn expect_count(
     folder: &str,
     count: usize,
 ) -> io::Result<()> {
-    assert_eq!(rt; fs::read_dir(rt, folder)?.count(), count);
+    expect_equal(rt, "files", fs::read_dir(rt, folder)?.count(), count);
     Ok(())
 }
 
@@ -211,7 +219,7 @@ fn expect_saved(
     right: ([u8; 32], [u8; 32]),
 ) -> Result<(), Fail> {
     let digests = save_both(rt, folder)?;
-    assert_eq!(rt; digests, right);
+    expect_equal(rt, "digests", digests, right);
     expect_levels(rt, folder, 2, digests.1);
     Ok(())
 }
@@ -239,7 +247,7 @@ fn a_file_over_another_is_refused(rt: HostRuntime) -> Result<(), Fail> {
     let second = right_file(rt.alloc(), 1)?;
     let unlinked = digested(rt.alloc(), &second, 20, 0)?;
     let met = refusal_of_second(&rt, "awari_folder_test_below", &unlinked)?;
-    assert_eq!(rt; met, Some(FolderFault::Below { level: 1 }));
+    expect_equal(&rt, "below", met, Some(FolderFault::Below { level: 1 }));
     Ok(())
 }
 
@@ -252,7 +260,12 @@ fn a_wrong_level_is_refused(rt: HostRuntime) -> Result<(), Fail> {
         rank: 0,
         rule: Rule::V1,
     };
-    assert_eq!(rt; met, Some(FolderFault::Verify { level: 1, fault }));
+    expect_equal(
+        &rt,
+        "wrong",
+        met,
+        Some(FolderFault::Verify { level: 1, fault }),
+    );
     Ok(())
 }
 
@@ -262,7 +275,7 @@ fn a_file_that_was_cut_is_refused(rt: HostRuntime) -> Result<(), Fail> {
     let cut = second.get(..155).ok_or("a longer file")?;
     let met = refusal_of_second(&rt, "awari_folder_test_cut", cut)?;
     let fault = FileFault::Truncated;
-    assert_eq!(rt; met, Some(FolderFault::File { level: 1, fault }));
+    expect_equal(&rt, "cut", met, Some(FolderFault::File { level: 1, fault }));
     Ok(())
 }
 
@@ -270,7 +283,12 @@ fn a_file_that_was_cut_is_refused(rt: HostRuntime) -> Result<(), Fail> {
 fn level_0_is_looked_for_first(rt: HostRuntime) -> Result<(), Fail> {
     let folder = "awari_folder_test_first";
     let second = right_file(rt.alloc(), 1)?;
-    assert_eq!(rt; refusal(&rt, folder, b"", &second)?, None);
+    expect_equal(
+        &rt,
+        "level 1 alone",
+        refusal(&rt, folder, b"", &second)?,
+        None,
+    );
     expect_levels(&rt, folder, 0, [0; 32]);
     fs::remove_dir_all(&rt, folder)?;
     Ok(())
@@ -288,7 +306,12 @@ fn another_level_is_not_taken_for_level_0(rt: HostRuntime) -> Result<(), Fail> {
     let unlinked = unlinked_file(rt.alloc())?;
     let met = refusal(&rt, folder, &unlinked, b"")?;
     let fault = VerifyFault::WrongLevel;
-    assert_eq!(rt; met, Some(FolderFault::Verify { level: 0, fault }));
+    expect_equal(
+        &rt,
+        "another level",
+        met,
+        Some(FolderFault::Verify { level: 0, fault }),
+    );
     fs::remove_dir_all(&rt, folder)?;
     Ok(())
 }
@@ -326,7 +349,7 @@ fn expect_taken(
     folder: &str,
 ) -> Result<(), Fail> {
     expect_not_saved(rt, folder)?;
-    assert_eq!(rt; loaded(rt, folder)?.0, 1);
+    expect_equal(rt, "beside a builder", loaded(rt, folder)?.0, 1);
     Ok(())
 }
 
@@ -346,7 +369,7 @@ fn expect_free(
     rt: &(impl Files<File = File> + AllocGlobal + Abort),
     folder: &str,
 ) -> Result<(), Fail> {
-    assert_eq!(rt; save_refusal(rt, folder)?, None);
+    expect_equal(rt, "free", save_refusal(rt, folder)?, None);
     Ok(())
 }
 

@@ -2,6 +2,7 @@
 
 ghost use Rattle.std.specs.Prelude.{◌≡◌, IfOk};
 
+use crate::expect::expect_equal;
 use crate::levels::{changed, digest_in, right_file, right_shelf};
 use crate::plain::{level_of, read, write};
 use awari_table::{Counted, Level};
@@ -137,7 +138,7 @@ fn each_read_fails_in_turn(rt: HostRuntime) -> Result<(), Fail> {
     for k in 1..160u32 {
         let calls = Calls::new(k, 1, Bad::Fault(ErrorKind::WouldBlock));
         let expected = if k <= 157 { (68, 1) } else { (0, 0) };
-        assert_eq!(rt; read_slowly(rt.alloc(), &file, calls), expected, "call {k}");
+        expect_equal(&rt, k, read_slowly(rt.alloc(), &file, calls), expected);
     }
     Ok(())
 }
@@ -146,11 +147,7 @@ fn each_read_fails_in_turn(rt: HostRuntime) -> Result<(), Fail> {
 fn a_fault_of_the_bytes_comes_before_the_readers(rt: HostRuntime) {
     for (call, expected) in [(5, (61, 1)), (4, (68, 1))] {
         let calls = Calls::new(call, 1, Bad::Fault(ErrorKind::Other));
-        assert_eq!(rt;
-            read_slowly(rt.alloc(), b"AWDC", calls),
-            expected,
-            "call {call}"
-        );
+        expect_equal(&rt, call, read_slowly(rt.alloc(), b"AWDC", calls), expected);
     }
 }
 
@@ -163,8 +160,13 @@ fn interrupted_read(alloc: Global, bytes: &[u8], times: u32) -> (u8, u64) {
 #[test]
 fn interrupted_reads_are_made_again(rt: HostRuntime) -> Result<(), Fail> {
     let file = right_file(rt.alloc(), 1)?;
-    assert_eq!(rt; interrupted_read(rt.alloc(), &file, 1000), (0, 0));
-    assert_eq!(rt; interrupted_read(rt.alloc(), &file, 1001), (68, 1));
+    expect_equal(&rt, 1000, interrupted_read(rt.alloc(), &file, 1000), (0, 0));
+    expect_equal(
+        &rt,
+        1001,
+        interrupted_read(rt.alloc(), &file, 1001),
+        (68, 1),
+    );
     Ok(())
 }
 
@@ -183,10 +185,11 @@ fn expect_write(rt: &impl Abort, level: &Level, below: [u8; 32], call: u32, bad:
     let found = write_slowly(level, below, &mut sink);
     let expected = if call <= 156 { (70, 1) } else { (0, 0) };
     let taken = call.min(157).saturating_sub(1);
-    assert_eq!(rt;
+    expect_equal(
+        rt,
+        call,
         (found, sink.taken, sink.flushes),
         (expected, taken, 0),
-        "call {call}"
     );
 }
 
@@ -213,8 +216,8 @@ fn interrupted_write(level: &Level, times: u32) -> (u8, u64) {
 fn interrupted_writes_are_made_again(rt: HostRuntime) -> Result<(), Fail> {
     let shelf = right_shelf(rt.alloc())?;
     let level = level_of(&shelf, 1)?;
-    assert_eq!(rt; interrupted_write(level, 1000), (0, 0));
-    assert_eq!(rt; interrupted_write(level, 1001), (70, 1));
+    expect_equal(&rt, 1000, interrupted_write(level, 1000), (0, 0));
+    expect_equal(&rt, 1001, interrupted_write(level, 1001), (70, 1));
     Ok(())
 }
 
@@ -229,10 +232,20 @@ fn flushed(times: u32, kind: ErrorKind) -> (bool, u64, u32) {
 
 #[test]
 fn flushes_are_passed_on(rt: HostRuntime) {
-    assert_eq!(rt; flushed(0, ErrorKind::Other), (true, 0, 1));
-    assert_eq!(rt; flushed(1, ErrorKind::Other), (false, 1, 1));
-    assert_eq!(rt; flushed(1000, ErrorKind::Interrupted), (true, 0, 1001));
-    assert_eq!(rt; flushed(1001, ErrorKind::Interrupted), (false, 1, 1001));
+    expect_equal(&rt, "no fault", flushed(0, ErrorKind::Other), (true, 0, 1));
+    expect_equal(&rt, "a fault", flushed(1, ErrorKind::Other), (false, 1, 1));
+    expect_equal(
+        &rt,
+        1000,
+        flushed(1000, ErrorKind::Interrupted),
+        (true, 0, 1001),
+    );
+    expect_equal(
+        &rt,
+        1001,
+        flushed(1001, ErrorKind::Interrupted),
+        (false, 1, 1001),
+    );
 }
 
 /// Places of the file of level 1 and bytes that are wrong there, with the call at which a fault of the
@@ -257,9 +270,9 @@ fn read_until(alloc: Global, bytes: &[u8], call: u32) -> (u8, u64) {
 /// A wrong file is read by a reader that fails at the call for the last byte of the field with the
 /// fault, and by one that fails at the call after it.
 fn expect_overtaken(rt: &impl Abort, alloc: Global, bytes: &[u8], last: u32, fault: u8) {
-    assert_eq!(rt; read_until(alloc, bytes, last), (68, 1), "call {last}");
+    expect_equal(rt, last, read_until(alloc, bytes, last), (68, 1));
     let (found, _) = read_until(alloc, bytes, last.saturating_add(1));
-    assert_eq!(rt; found, fault, "call {last}");
+    expect_equal(rt, last, found, fault);
 }
 
 #[test]
@@ -328,12 +341,8 @@ fn kinds_of(times: u32, bad: Bad) -> [Option<ErrorKind>; 4] {
 #[test]
 fn faults_keep_their_kind(rt: HostRuntime) {
     for (kind, calls, expected) in KINDS {
-        assert_eq!(rt;
-            kinds_of(calls, Bad::Fault(kind)),
-            [expected; 4],
-            "{calls} times"
-        );
+        expect_equal(&rt, calls, kinds_of(calls, Bad::Fault(kind)), [expected; 4]);
     }
     let none_taken = [None, None, None, Some(ErrorKind::WriteZero)];
-    assert_eq!(rt; kinds_of(1, Bad::Nothing), none_taken);
+    expect_equal(&rt, "nothing taken", kinds_of(1, Bad::Nothing), none_taken);
 }

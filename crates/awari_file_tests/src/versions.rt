@@ -1,6 +1,7 @@
 //! Files of version 1: what is read of them, and how their levels are brought over.
 
 use crate::bytes::expect_fault;
+use crate::expect::{expect, expect_equal};
 use crate::levels::{digest_in, digested, right_file};
 use crate::plain::{bring_over, load_from, memory_folder, open, refuse};
 use awari_folder::{Draft, Folder, FolderFault, Limits, MemoryFolder, Migrated};
@@ -60,8 +61,8 @@ fn expect_old_file(
     (number, length, digest): (u8, usize, [u8; 4]),
 ) -> Result<(), Fail> {
     let file = old_file(alloc, number)?;
-    assert_eq!(rt; file.len(), length, "level {number}");
-    assert!(rt; digest_in(&file).starts_with(&digest), "level {number}");
+    expect_equal(rt, number, file.len(), length);
+    expect(rt, number, digest_in(&file).starts_with(&digest));
     Ok(())
 }
 
@@ -110,7 +111,7 @@ fn expect_bytes(
     let mut file = open(folder, level)?.ok_or("a file")?;
     let mut found = Vec::new(rt.alloc());
     file.read_to_end(&mut found)?;
-    assert!(rt; found.as_slice() == bytes, "level {level}");
+    expect(rt, level, found.as_slice() == bytes);
     Ok(())
 }
 
@@ -150,20 +151,55 @@ fn expect_brought(
     to: &mut MemoryFolder,
 ) -> Result<(), Fail> {
     let Migrated { limits, digest } = bring_over(rt.alloc(), from, to)?;
-    assert!(rt; limits.as_slice() == LIMITS.as_slice());
+    expect(rt, "limits", limits.as_slice() == LIMITS.as_slice());
     let last = right_file(rt.alloc(), 2)?;
-    assert_eq!(rt; digest, digest_in(&last));
+    expect_equal(rt, "digest", digest, digest_in(&last));
     Ok(())
+}
+
+/// The twelve boards of two stones whose forced moves lead in a circle, and last one that leads into
+/// it: the rank, and a distance. All are worth 0.
+const CIRCLE: [(u8, u8); 13] = [
+    (71, 12),
+    (70, 11),
+    (59, 10),
+    (58, 9),
+    (48, 8),
+    (47, 7),
+    (38, 6),
+    (37, 5),
+    (29, 4),
+    (28, 3),
+    (21, 2),
+    (72, 1),
+    (61, 12),
+];
+
+/// The file of level 2 with the circle's boards won and lost in turn, and its limit of 12. Each of
+/// their distances is one more than that of the next board, but where the circle closes.
+fn false_circle(alloc: Global, file: &[u8]) -> Result<Vec<u8>, Fail> {
+    let mut bytes = file.to_vec(alloc)?;
+    for (rank, dist) in CIRCLE {
+        let place = 52 + 6 * usize::from(rank);
+        *bytes.get_mut(place).ok_or("a value")? = if dist % 2 == 0 { 2 } else { 0xfe };
+        *bytes.get_mut(place + 5).ok_or("a distance")? = dist;
+    }
+    digested(alloc, &bytes, 19, 12)
+}
+
+/// A folder with the old files of levels 0 and 1, and this one of level 2.
+fn folder_over(alloc: Global, third: &[u8]) -> Result<MemoryFolder, Fail> {
+    let mut folder = memory_folder(alloc);
+    lay(&mut folder, 0, &old_file(alloc, 0)?)?;
+    lay(&mut folder, 1, &old_file(alloc, 1)?)?;
+    lay(&mut folder, 2, third)?;
+    Ok(folder)
 }
 
 /// A folder with the old files of levels 0 and 1, and of level 2 with its distances doubled.
 fn old_folder(alloc: Global) -> Result<MemoryFolder, Fail> {
     let third = doubled(alloc, &old_file(alloc, 2)?)?;
-    let mut folder = memory_folder(alloc);
-    lay(&mut folder, 0, &old_file(alloc, 0)?)?;
-    lay(&mut folder, 1, &old_file(alloc, 1)?)?;
-    lay(&mut folder, 2, &third)?;
-    Ok(folder)
+    folder_over(alloc, &third)
 }
 
 /// What is brought over stays as it is when it is brought over again, and is loaded.
@@ -174,7 +210,7 @@ fn expect_stays(
 ) -> Result<(), Fail> {
     bring_over(rt.alloc(), from, to)?;
     expect_right_files(rt, to, 2)?;
-    assert_eq!(rt; load_from(to, rt.alloc())?.shelf.levels(), 3);
+    expect_equal(rt, "levels", load_from(to, rt.alloc())?.shelf.levels(), 3);
     Ok(())
 }
 
@@ -201,14 +237,29 @@ fn expect_refused(
     let mut to = memory_folder(rt.alloc());
     refuse(&mut to, u32::from(call));
     let refused = refusal(rt.alloc(), from, &mut to);
-    assert_eq!(rt; refused, Some(FolderFault::Open { level: 0 }));
+    expect_equal(
+        rt,
+        "a call of the other folder",
+        refused,
+        Some(FolderFault::Open { level: 0 }),
+    );
     refuse(&mut to, 0);
     refuse(from, u32::from(call));
     let level = call.saturating_sub(1);
     let refused = refusal(rt.alloc(), from, &mut to);
-    assert_eq!(rt; refused, Some(FolderFault::Open { level }));
+    expect_equal(
+        rt,
+        "a call of the first folder",
+        refused,
+        Some(FolderFault::Open { level }),
+    );
     // What was written before stands.
-    assert_eq!(rt; load_from(&mut to, rt.alloc())?.shelf.levels(), level);
+    expect_equal(
+        rt,
+        "what was written before",
+        load_from(&mut to, rt.alloc())?.shelf.levels(),
+        level,
+    );
     Ok(())
 }
 
@@ -227,7 +278,12 @@ fn no_file_is_written_over(rt: HostRuntime) -> Result<(), Fail> {
     let mut to = memory_folder(rt.alloc());
     lay(&mut to, 1, b"other")?;
     let refused = refusal(rt.alloc(), &mut from, &mut to);
-    assert_eq!(rt; refused, Some(FolderFault::Occupied { level: 1 }));
+    expect_equal(
+        &rt,
+        "occupied",
+        refused,
+        Some(FolderFault::Occupied { level: 1 }),
+    );
     expect_right_files(&rt, &mut to, 0)?;
     expect_bytes(&rt, &mut to, 1, b"other")
 }
@@ -242,17 +298,39 @@ fn new_folder(alloc: Global) -> Result<MemoryFolder, Fail> {
     Ok(folder)
 }
 
+/// The levels are not brought over, since this board of level 2 breaks the rule on distances. Those
+/// below it stand.
+fn expect_wrong_distance(
+    rt: &(impl Abort + AllocGlobal),
+    from: &mut MemoryFolder,
+    rank: u32,
+) -> Result<(), Fail> {
+    let mut to = memory_folder(rt.alloc());
+    let refused = refusal(rt.alloc(), from, &mut to);
+    let fault = VerifyFault::Refused {
+        rank,
+        rule: Rule::V6,
+    };
+    expect_equal(
+        rt,
+        rank,
+        refused,
+        Some(FolderFault::Verify { level: 2, fault }),
+    );
+    expect_right_files(rt, &mut to, 1)
+}
+
 #[test]
 fn each_version_has_its_own_rules(rt: HostRuntime) -> Result<(), Fail> {
     let mut from = new_folder(rt.alloc())?;
-    let mut to = memory_folder(rt.alloc());
-    let refused = refusal(rt.alloc(), &mut from, &mut to);
-    let fault = VerifyFault::Refused {
-        rank: 22,
-        rule: Rule::V6,
-    };
-    assert_eq!(rt; refused, Some(FolderFault::Verify { level: 2, fault }));
-    expect_right_files(&rt, &mut to, 1)
+    expect_wrong_distance(&rt, &mut from, 22)
+}
+
+#[test]
+fn a_false_circle_is_not_brought_over(rt: HostRuntime) -> Result<(), Fail> {
+    let third = false_circle(rt.alloc(), &old_file(rt.alloc(), 2)?)?;
+    let mut from = folder_over(rt.alloc(), &third)?;
+    expect_wrong_distance(&rt, &mut from, 72)
 }
 
 /// A folder with the file of level 0, and the old one of level 1.
@@ -267,9 +345,9 @@ fn mixed_folder(alloc: Global) -> Result<MemoryFolder, Fail> {
 fn old_files_are_not_loaded(rt: HostRuntime) -> Result<(), Fail> {
     let mut folder = mixed_folder(rt.alloc())?;
     let refused = load_from(&mut folder, rt.alloc()).err();
-    assert_eq!(rt; refused, Some(FolderFault::Old { level: 1 }));
+    expect_equal(&rt, "old", refused, Some(FolderFault::Old { level: 1 }));
     // It is not over the file of level 0 in version 2.
     let refused = refusal(rt.alloc(), &mut folder, &mut memory_folder(rt.alloc()));
-    assert_eq!(rt; refused, Some(FolderFault::Below { level: 1 }));
+    expect_equal(&rt, "below", refused, Some(FolderFault::Below { level: 1 }));
     Ok(())
 }
