@@ -7,3 +7,4 @@ pub mod Consistency
 pub mod Lowered
 pub mod Lowerings
 pub mod Alike
+pub mod Worthing

@@ -5,3 +5,4 @@ pub mod BestLine
 pub mod LineFault
 pub mod Least
 pub mod Lowering
+pub mod MoveWorth

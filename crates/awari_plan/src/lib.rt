@@ -8,9 +8,11 @@ mod lines;
 mod lowering;
 mod parallel;
 mod plans;
+mod worths;
 
 pub use finishing::finish;
 pub use laws::{finished_levels_are_consistent, lowest_levels_are_one, lowest_plans_stay};
 pub use lines::{Line, LineFault, best_line};
 pub use lowering::least;
 pub use parallel::finish_parallel;
+pub use worths::{MoveWorth, move_worths};
