@@ -1,8 +1,15 @@
 //! The words that the program understands.
 
-ghost use Rattle.std.specs.Prelude.{IfSome, IsNone};
+ghost use Rattle.std.specs.Prelude.{◌⊎◌, IfSome, IsNone, codes};
 ghost use Rattle.clap.specs.Matches.{found_of};
-ghost use Rattle.awari_cli.specs.Requests.{IsPaceOf, IsRequestOf, IsNoPace, IsNoRequest};
+ghost use Rattle.awari_cli.specs.Requests.{
+  IsNoPace,
+  IsNoRequest,
+  IsPaceOf,
+  IsRequestOf,
+  Lacks,
+  SpellsNone,
+};
 
 use crate::helps::{
     ASK_HELP, AWARI_HELP, BUILD_HELP, CHECK_HELP, JUDGE_HELP, LINE_HELP, MIGRATE_HELP, MOVE_HELP,
@@ -12,7 +19,7 @@ use awari_build::{MOST_OWNERS, MOST_ROOM, MOST_SWEEPS, Pace};
 use awari_table::HIGHEST_LEVEL;
 use clap::builder::ValueParser;
 use clap::{Arg, ArgMatches, Command, Error, value_parser};
-use std::alloc::Global;
+use std::alloc::{AllocError, Global};
 use std::convert::AsStr;
 
 /// What the words ask for.
@@ -84,42 +91,98 @@ fn requested<'a>(name: &str, given: &ArgMatches<'a>) -> Option<Request<'a>>
 {
     match name {
         "check" => Some(Request::Check),
-        "move" => Some(Request::Move {
-            board: given.get_str("BOARD")?,
-            pit: given.get_one("PIT")?,
-        }),
-        "judge" => Some(Request::Judge {
-            board: given.get_str("BOARD")?,
-            limit: given.get_one("LIMIT")?,
-            moves: given.get_str("MOVES").unwrap_or(""),
-        }),
-        "build" => Some(Request::Build {
-            top: given.get_one("TOP")?,
-            folder: given.get_str("folder"),
-            pace: pace_of(given)?,
-        }),
-        "verify" => Some(Request::Verify {
-            folder: given.get_str("FOLDER")?,
-        }),
-        "migrate" => Some(Request::Migrate {
-            from: given.get_str("FROM")?,
-            to: given.get_str("TO")?,
-        }),
-        "ask" => Some(Request::Ask {
-            folder: given.get_str("FOLDER")?,
-            board: given.get_str("BOARD")?,
-        }),
-        "line" => Some(Request::Line {
-            folder: given.get_str("FOLDER")?,
-            board: given.get_str("BOARD")?,
-        }),
-        "serve" => Some(Request::Serve {
-            folder: given.get_str("FOLDER")?,
-            top: given.get_one("TOP")?,
-            owners: given.get_one("OWNERS")?,
-        }),
+        "move" => move_request(given),
+        "judge" => judge_request(given),
+        "build" => build_request(given),
+        "verify" => verify_request(given),
+        "migrate" => migrate_request(given),
+        "ask" => ask_request(given),
+        "line" => line_request(given),
+        "serve" => serve_request(given),
         _ => None,
     }
+}
+
+fn move_request<'a>(given: &ArgMatches<'a>) -> Option<Request<'a>>
+    ensures asked { IfSome result (IsRequestOf (codes "move") (found_of given.now)) }
+    ensures none { IsNone result → Lacks (found_of given.now) (codes "BOARD") ⊎ SpellsNone 8 (found_of given.now) (codes "PIT") }
+{
+    Some(Request::Move {
+        board: given.get_str("BOARD")?,
+        pit: given.get_one("PIT")?,
+    })
+}
+
+fn judge_request<'a>(given: &ArgMatches<'a>) -> Option<Request<'a>>
+    ensures asked { IfSome result (IsRequestOf (codes "judge") (found_of given.now)) }
+    ensures none { IsNone result → Lacks (found_of given.now) (codes "BOARD") ⊎ SpellsNone 32 (found_of given.now) (codes "LIMIT") }
+{
+    Some(Request::Judge {
+        board: given.get_str("BOARD")?,
+        limit: given.get_one("LIMIT")?,
+        moves: given.get_str("MOVES").unwrap_or(""),
+    })
+}
+
+fn build_request<'a>(given: &ArgMatches<'a>) -> Option<Request<'a>>
+    ensures asked { IfSome result (IsRequestOf (codes "build") (found_of given.now)) }
+    ensures none { IsNone result → SpellsNone 8 (found_of given.now) (codes "TOP") ⊎ IsNoPace (found_of given.now) }
+{
+    Some(Request::Build {
+        top: given.get_one("TOP")?,
+        folder: given.get_str("folder"),
+        pace: pace_of(given)?,
+    })
+}
+
+fn verify_request<'a>(given: &ArgMatches<'a>) -> Option<Request<'a>>
+    ensures asked { IfSome result (IsRequestOf (codes "verify") (found_of given.now)) }
+    ensures none { IsNone result → Lacks (found_of given.now) (codes "FOLDER") }
+{
+    Some(Request::Verify {
+        folder: given.get_str("FOLDER")?,
+    })
+}
+
+fn migrate_request<'a>(given: &ArgMatches<'a>) -> Option<Request<'a>>
+    ensures asked { IfSome result (IsRequestOf (codes "migrate") (found_of given.now)) }
+    ensures none { IsNone result → Lacks (found_of given.now) (codes "FROM") ⊎ Lacks (found_of given.now) (codes "TO") }
+{
+    Some(Request::Migrate {
+        from: given.get_str("FROM")?,
+        to: given.get_str("TO")?,
+    })
+}
+
+fn ask_request<'a>(given: &ArgMatches<'a>) -> Option<Request<'a>>
+    ensures asked { IfSome result (IsRequestOf (codes "ask") (found_of given.now)) }
+    ensures none { IsNone result → Lacks (found_of given.now) (codes "FOLDER") ⊎ Lacks (found_of given.now) (codes "BOARD") }
+{
+    Some(Request::Ask {
+        folder: given.get_str("FOLDER")?,
+        board: given.get_str("BOARD")?,
+    })
+}
+
+fn line_request<'a>(given: &ArgMatches<'a>) -> Option<Request<'a>>
+    ensures asked { IfSome result (IsRequestOf (codes "line") (found_of given.now)) }
+    ensures none { IsNone result → Lacks (found_of given.now) (codes "FOLDER") ⊎ Lacks (found_of given.now) (codes "BOARD") }
+{
+    Some(Request::Line {
+        folder: given.get_str("FOLDER")?,
+        board: given.get_str("BOARD")?,
+    })
+}
+
+fn serve_request<'a>(given: &ArgMatches<'a>) -> Option<Request<'a>>
+    ensures asked { IfSome result (IsRequestOf (codes "serve") (found_of given.now)) }
+    ensures none { IsNone result → Lacks (found_of given.now) (codes "FOLDER") ⊎ SpellsNone 8 (found_of given.now) (codes "TOP") ⊎ SpellsNone 8 (found_of given.now) (codes "OWNERS") }
+{
+    Some(Request::Serve {
+        folder: given.get_str("FOLDER")?,
+        top: given.get_one("TOP")?,
+        owners: given.get_one("OWNERS")?,
+    })
 }
 
 /// The pace of a build.
@@ -134,9 +197,8 @@ fn pace_of(given: &ArgMatches<'_>) -> Option<Pace>
     })
 }
 
-fn command<'a>(alloc: Global) -> Result<Command<'a>, Error> {
-    let awari = with_plays(alloc, awari_command(alloc))?;
-    with_folders(alloc, awari)
+fn command<'a>(alloc: Global) -> Result<Command<'a>, AllocError> {
+    with_folders(alloc, with_plays(alloc, awari_command(alloc)))
 }
 
 /// The program, with no command yet.
@@ -149,36 +211,39 @@ fn awari_command<'a>(alloc: Global) -> Command<'a> {
 }
 
 /// The program with the commands that need no folder.
-fn with_plays<'a>(alloc: Global, awari: Command<'a>) -> Result<Command<'a>, Error> {
-    let awari = awari.subcommand(check_command(alloc))?;
-    let awari = with_command(awari, move_command(alloc))?;
+fn with_plays<'a>(alloc: Global, awari: Command<'a>) -> Result<Command<'a>, AllocError> {
+    let awari = awari.subcommand(check_command(alloc));
+    let awari = with_command(awari, move_command(alloc));
     with_command(awari, judge_command(alloc))
 }
 
 /// The program with the commands that work on a folder, or may.
-fn with_folders<'a>(alloc: Global, awari: Command<'a>) -> Result<Command<'a>, Error> {
-    let awari = with_command(awari, build_command(alloc))?;
-    let awari = with_command(awari, verify_command(alloc))?;
-    let awari = with_command(awari, migrate_command(alloc))?;
-    let awari = with_command(awari, ask_command(alloc))?;
-    let awari = with_command(awari, line_command(alloc))?;
+fn with_folders<'a>(
+    alloc: Global,
+    awari: Result<Command<'a>, AllocError>,
+) -> Result<Command<'a>, AllocError> {
+    let awari = with_command(awari, build_command(alloc));
+    let awari = with_command(awari, verify_command(alloc));
+    let awari = with_command(awari, migrate_command(alloc));
+    let awari = with_command(awari, ask_command(alloc));
+    let awari = with_command(awari, line_command(alloc));
     with_command(awari, serve_command(alloc))
 }
 
-/// The program with one more command, where there was room to make it.
+/// The program with one more command, where there was room to make both.
 fn with_command<'a>(
-    awari: Command<'a>,
-    command: Result<Command<'a>, Error>,
-) -> Result<Command<'a>, Error> {
-    match command {
-        Ok(command) => Ok(awari.subcommand(command)?),
-        Err(error) => Err(error),
-    }
+    awari: Result<Command<'a>, AllocError>,
+    command: Result<Command<'a>, AllocError>,
+) -> Result<Command<'a>, AllocError> {
+    awari?.subcommand(command?)
 }
 
-/// The command with one more word.
-fn with_word<'a>(command: Command<'a>, word: Arg<'a>) -> Result<Command<'a>, Error> {
-    Ok(command.arg(word)?)
+/// The command with one more word, where there was room to make it.
+fn with_word<'a>(
+    command: Result<Command<'a>, AllocError>,
+    word: Arg<'a>,
+) -> Result<Command<'a>, AllocError> {
+    command?.arg(word)
 }
 
 fn check_command<'a>(alloc: Global) -> Command<'a> {
@@ -187,11 +252,11 @@ fn check_command<'a>(alloc: Global) -> Command<'a> {
         .after_help(CHECK_HELP)
 }
 
-fn move_command<'a>(alloc: Global) -> Result<Command<'a>, Error> {
+fn move_command<'a>(alloc: Global) -> Result<Command<'a>, AllocError> {
     let command = Command::new(alloc, "move")
         .about("Plays a move, and prints the board after it")
-        .after_help(MOVE_HELP);
-    let command = with_word(command, board(alloc))?;
+        .after_help(MOVE_HELP)
+        .arg(board(alloc));
     with_word(command, pit(alloc))
 }
 
@@ -202,12 +267,12 @@ fn pit<'a>(alloc: Global) -> Arg<'a> {
         .help("The pit to play, 0 to 255")
 }
 
-fn judge_command<'a>(alloc: Global) -> Result<Command<'a>, Error> {
+fn judge_command<'a>(alloc: Global) -> Result<Command<'a>, AllocError> {
     let command = Command::new(alloc, "judge")
         .about("Plays moves, and says where that stands")
-        .after_help(JUDGE_HELP);
-    let command = with_word(command, board(alloc))?;
-    let command = with_word(command, limit(alloc))?;
+        .after_help(JUDGE_HELP)
+        .arg(board(alloc));
+    let command = with_word(command, limit(alloc));
     with_word(command, moves(alloc))
 }
 
@@ -222,12 +287,12 @@ fn moves<'a>(alloc: Global) -> Arg<'a> {
     Arg::new(alloc, "MOVES").help("The pits played, a digit each")
 }
 
-fn build_command<'a>(alloc: Global) -> Result<Command<'a>, Error> {
+fn build_command<'a>(alloc: Global) -> Result<Command<'a>, AllocError> {
     let command = Command::new(alloc, "build")
         .about("Builds levels, and prints a line for each")
-        .after_help(BUILD_HELP);
-    let command = with_word(command, top(alloc))?;
-    let command = with_word(command, start_folder(alloc))?;
+        .after_help(BUILD_HELP)
+        .arg(top(alloc));
+    let command = with_word(command, start_folder(alloc));
     with_pace(alloc, command)
 }
 
@@ -246,9 +311,12 @@ fn start_folder<'a>(alloc: Global) -> Arg<'a> {
 }
 
 /// The command with the options of a pace.
-fn with_pace<'a>(alloc: Global, command: Command<'a>) -> Result<Command<'a>, Error> {
-    let command = with_word(command, owners(alloc))?;
-    let command = with_word(command, room(alloc))?;
+fn with_pace<'a>(
+    alloc: Global,
+    command: Result<Command<'a>, AllocError>,
+) -> Result<Command<'a>, AllocError> {
+    let command = with_word(command, owners(alloc));
+    let command = with_word(command, room(alloc));
     with_word(command, sweeps(alloc))
 }
 
@@ -279,59 +347,70 @@ fn sweeps<'a>(alloc: Global) -> Arg<'a> {
         .help("How often an owner looks about in a round, 1 to 1000")
 }
 
-fn verify_command<'a>(alloc: Global) -> Result<Command<'a>, Error> {
-    let command = Command::new(alloc, "verify")
+fn verify_command<'a>(alloc: Global) -> Result<Command<'a>, AllocError> {
+    Command::new(alloc, "verify")
         .about("Says of the levels in a folder whether each is right")
-        .after_help(VERIFY_HELP);
-    with_word(command, folder(alloc))
+        .after_help(VERIFY_HELP)
+        .arg(folder(alloc))
 }
 
-fn migrate_command<'a>(alloc: Global) -> Result<Command<'a>, Error> {
-    let from = Arg::new(alloc, "FROM").required(true).help(
-        "A folder with the files level_00.awdb and so on, which is only read",
-    );
-    let to = Arg::new(alloc, "TO")
-        .required(true)
-        .help("The folder that the new files are written into");
+fn migrate_command<'a>(alloc: Global) -> Result<Command<'a>, AllocError> {
     let command = Command::new(alloc, "migrate")
         .about("Brings the levels of older files over into another folder")
-        .after_help(MIGRATE_HELP);
-    let command = with_word(command, from)?;
-    with_word(command, to)
+        .after_help(MIGRATE_HELP)
+        .arg(from(alloc));
+    with_word(command, to(alloc))
 }
 
-fn ask_command<'a>(alloc: Global) -> Result<Command<'a>, Error> {
+fn from<'a>(alloc: Global) -> Arg<'a> {
+    Arg::new(alloc, "FROM").required(true).help(
+        "A folder with the files level_00.awdb and so on, which is only read",
+    )
+}
+
+fn to<'a>(alloc: Global) -> Arg<'a> {
+    Arg::new(alloc, "TO")
+        .required(true)
+        .help("The folder that the new files are written into")
+}
+
+fn ask_command<'a>(alloc: Global) -> Result<Command<'a>, AllocError> {
     let command = Command::new(alloc, "ask")
         .about("Looks a board up in the levels of a folder")
-        .after_help(ASK_HELP);
-    let command = with_word(command, folder(alloc))?;
+        .after_help(ASK_HELP)
+        .arg(folder(alloc));
     with_word(command, board(alloc))
 }
 
-fn line_command<'a>(alloc: Global) -> Result<Command<'a>, Error> {
+fn line_command<'a>(alloc: Global) -> Result<Command<'a>, AllocError> {
     let command = Command::new(alloc, "line")
         .about("Plays the plans of both sides, from a board to the outcome")
-        .after_help(LINE_HELP);
-    let command = with_word(command, folder(alloc))?;
+        .after_help(LINE_HELP)
+        .arg(folder(alloc));
     with_word(command, board(alloc))
 }
 
-fn serve_command<'a>(alloc: Global) -> Result<Command<'a>, Error> {
-    let top = Arg::new(alloc, "TOP")
-        .required(true)
-        .value_parser(ValueParser::unsigned(0, u64::from(HIGHEST_LEVEL)))
-        .help("The highest level to build meanwhile, 0 to 24");
-    let owners = Arg::new(alloc, "OWNERS")
-        .required(true)
-        .value_parser(ValueParser::unsigned(0, u64::from(MOST_OWNERS)))
-        .help("How many threads share a level, 0 to 16; with 0 one part has it");
+fn serve_command<'a>(alloc: Global) -> Result<Command<'a>, AllocError> {
     let command = Command::new(alloc, "serve")
         .about("Answers lines on standard input while levels are built")
         .after_help(SERVE_HELP)
-        .arg(folder(alloc))?
-        .arg(top)?
-        .arg(owners)?;
-    Ok(command)
+        .arg(folder(alloc));
+    let command = with_word(command, served_top(alloc));
+    with_word(command, served_owners(alloc))
+}
+
+fn served_top<'a>(alloc: Global) -> Arg<'a> {
+    Arg::new(alloc, "TOP")
+        .required(true)
+        .value_parser(ValueParser::unsigned(0, u64::from(HIGHEST_LEVEL)))
+        .help("The highest level to build meanwhile, 0 to 24")
+}
+
+fn served_owners<'a>(alloc: Global) -> Arg<'a> {
+    Arg::new(alloc, "OWNERS")
+        .required(true)
+        .value_parser(ValueParser::unsigned(0, u64::from(MOST_OWNERS)))
+        .help("How many threads share a level, 0 to 16; with 0 one part has it")
 }
 
 fn folder<'a>(alloc: Global) -> Arg<'a> {
