@@ -7,3 +7,4 @@ pub mod Lines
 pub mod Migrating
 pub mod Requests
 pub mod Serving
+pub mod Worths

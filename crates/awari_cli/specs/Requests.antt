@@ -5,7 +5,7 @@ use Rattle.clap.specs.Matches.{first_value, one_text}
 use Rattle.clap.specs.declared.parser.matches.Found.{Found}
 use Rattle.awari_build.specs.declared.paces.Pace.{Pace}
 use Rattle.awari_cli.specs.declared.requests.Request.{Request}
-use Rattle.awari_cli.specs.declared.requests.Request.TheVariants.{Check, Move, Judge, Build, Verify, Migrate, Ask, Line, Serve}
+use Rattle.awari_cli.specs.declared.requests.Request.TheVariants.{Check, Move, Judge, Build, Verify, Migrate, Ask, Moves, Line, Serve}
 
 -- the first value of this name is this text
 abbrev pub Gives : Found → List ℕ → List ℕ → Type 0
@@ -40,6 +40,7 @@ IsRequestOf name given (Build top folder pace) = (name ≡ codes "build") × Spe
 IsRequestOf name given (Verify folder) = (name ≡ codes "verify") × Gives given (codes "FOLDER") folder.now
 IsRequestOf name given (Migrate from to) = (name ≡ codes "migrate") × Gives given (codes "FROM") from.now × Gives given (codes "TO") to.now
 IsRequestOf name given (Ask folder board) = (name ≡ codes "ask") × Gives given (codes "FOLDER") folder.now × Gives given (codes "BOARD") board.now
+IsRequestOf name given (Moves folder board) = (name ≡ codes "moves") × Gives given (codes "FOLDER") folder.now × Gives given (codes "BOARD") board.now
 IsRequestOf name given (Line folder board) = (name ≡ codes "line") × Gives given (codes "FOLDER") folder.now × Gives given (codes "BOARD") board.now
 IsRequestOf name given (Serve folder top owners) = (name ≡ codes "serve") × Gives given (codes "FOLDER") folder.now × Spells given (codes "TOP") top × Spells given (codes "OWNERS") owners
 
@@ -52,5 +53,6 @@ pub record IsNoRequest (name : List ℕ) (given : Found) : Type 0 where
   pub verify : name ≡ codes "verify" → Lacks given (codes "FOLDER")
   pub migrate : name ≡ codes "migrate" → Lacks given (codes "FROM") ⊎ Lacks given (codes "TO")
   pub ask : name ≡ codes "ask" → Lacks given (codes "FOLDER") ⊎ Lacks given (codes "BOARD")
+  pub moves : name ≡ codes "moves" → Lacks given (codes "FOLDER") ⊎ Lacks given (codes "BOARD")
   pub line : name ≡ codes "line" → Lacks given (codes "FOLDER") ⊎ Lacks given (codes "BOARD")
   pub serve : name ≡ codes "serve" → Lacks given (codes "FOLDER") ⊎ SpellsNone 8 given (codes "TOP") ⊎ SpellsNone 8 given (codes "OWNERS")

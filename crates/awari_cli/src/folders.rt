@@ -85,7 +85,7 @@ fn hex_digit(value: u8) -> char
 
 /// Why a folder gives no entry of a board. Printed, it is the fault inside it.
 #[derive(Clone, Copy)]
-enum LookUpFault {
+pub(crate) enum LookUpFault {
     /// The text is no board.
     Board { fault: BoardFault },
     /// The folder is not loaded.

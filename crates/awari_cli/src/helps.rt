@@ -153,6 +153,23 @@ verified first, so the answer is right.
 
 The status is 0, or 1 for a refusal.";
 
+pub const MOVES_HELP: &str = "\
+It prints a line for each pit that the mover may play, the lowest first:
+
+    pit P captures C value V distance D
+
+V is what the mover gains by the move: the stones that it captures, C, less the
+value of the board that it leaves. In at most D plies a capture or the end comes
+while the side that V favours follows the plans; D is 0 where V is 0. The line of
+the plan ends in ` plan`. Where the play has ended it prints `ended G`, G being
+what the mover gains by that. The levels of the folder are verified first.
+
+    refused 1 to 3            BOARD is no board, as `awari help move` says
+    refused 59 NotYet levels M    the folder has only levels 0 to M - 1
+    refused 80 and higher     the folder, as `awari help verify` says
+
+The status is 0, or 1 for a refusal.";
+
 pub const LINE_HELP: &str = "\
 It prints three lines: the value of the board for its mover, the pits that the
 two players play in turn where both follow the plans, and the outcome:

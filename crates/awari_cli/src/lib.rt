@@ -13,6 +13,7 @@ mod printing;
 mod requests;
 mod runs;
 mod serving;
+mod worths;
 
 pub use awari_check::check;
 pub use building::run_build_in;
@@ -24,3 +25,4 @@ pub use migrating::run_migrate;
 pub use playing::{PlayFault, Played, play_on};
 pub use runs::run;
 pub use serving::run_serve;
+pub use worths::run_moves;

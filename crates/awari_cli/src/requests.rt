@@ -13,7 +13,7 @@ ghost use Rattle.awari_cli.specs.Requests.{
 
 use crate::helps::{
     ASK_HELP, AWARI_HELP, BUILD_HELP, CHECK_HELP, JUDGE_HELP, LINE_HELP, MIGRATE_HELP, MOVE_HELP,
-    SERVE_HELP, VERIFY_HELP,
+    MOVES_HELP, SERVE_HELP, VERIFY_HELP,
 };
 use awari_build::{MOST_OWNERS, MOST_ROOM, MOST_SWEEPS, Pace};
 use awari_table::HIGHEST_LEVEL;
@@ -58,6 +58,11 @@ pub enum Request<'a> {
         folder: &'a str,
         board: &'a str,
     },
+    /// `moves FOLDER BOARD`: what each legal move of a board is worth.
+    Moves {
+        folder: &'a str,
+        board: &'a str,
+    },
     /// `line FOLDER BOARD`: the play from a board in which both sides follow the plans.
     Line {
         folder: &'a str,
@@ -97,6 +102,7 @@ fn requested<'a>(name: &str, given: &ArgMatches<'a>) -> Option<Request<'a>>
         "verify" => verify_request(given),
         "migrate" => migrate_request(given),
         "ask" => ask_request(given),
+        "moves" => moves_request(given),
         "line" => line_request(given),
         "serve" => serve_request(given),
         _ => None,
@@ -164,6 +170,16 @@ fn ask_request<'a>(given: &ArgMatches<'a>) -> Option<Request<'a>>
     })
 }
 
+fn moves_request<'a>(given: &ArgMatches<'a>) -> Option<Request<'a>>
+    ensures asked { IfSome result (IsRequestOf (codes "moves") (found_of given.now)) }
+    ensures none { IsNone result → Lacks (found_of given.now) (codes "FOLDER") ⊎ Lacks (found_of given.now) (codes "BOARD") }
+{
+    Some(Request::Moves {
+        folder: given.get_str("FOLDER")?,
+        board: given.get_str("BOARD")?,
+    })
+}
+
 fn line_request<'a>(given: &ArgMatches<'a>) -> Option<Request<'a>>
     ensures asked { IfSome result (IsRequestOf (codes "line") (found_of given.now)) }
     ensures none { IsNone result → Lacks (found_of given.now) (codes "FOLDER") ⊎ Lacks (found_of given.now) (codes "BOARD") }
@@ -226,6 +242,7 @@ fn with_folders<'a>(
     let awari = with_command(awari, verify_command(alloc));
     let awari = with_command(awari, migrate_command(alloc));
     let awari = with_command(awari, ask_command(alloc));
+    let awari = with_command(awari, moves_command(alloc));
     let awari = with_command(awari, line_command(alloc));
     with_command(awari, serve_command(alloc))
 }
@@ -378,6 +395,14 @@ fn ask_command<'a>(alloc: Global) -> Result<Command<'a>, AllocError> {
     let command = Command::new(alloc, "ask")
         .about("Looks a board up in the levels of a folder")
         .after_help(ASK_HELP)
+        .arg(folder(alloc));
+    with_word(command, board(alloc))
+}
+
+fn moves_command<'a>(alloc: Global) -> Result<Command<'a>, AllocError> {
+    let command = Command::new(alloc, "moves")
+        .about("Says what each legal move of a board is worth")
+        .after_help(MOVES_HELP)
         .arg(folder(alloc));
     with_word(command, board(alloc))
 }

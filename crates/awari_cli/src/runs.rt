@@ -17,6 +17,7 @@ use crate::playing::{Played, play_on};
 use crate::printing::print;
 use crate::requests::{Request, request_of};
 use crate::serving::run_serve;
+use crate::worths::run_moves;
 use awari_check::check_input;
 use awari_folder::HostFolder;
 use awari_table::Counted;
@@ -44,7 +45,7 @@ pub fn run<
     ensures status { result ≤ 2 }
 
     // A yes is said only of tables that are right, a move or a judgement only of a right play, and a
-    // level, an entry, a line of play or an answer only of right levels.
+    // level, an entry, a move's worth, a line of play or an answer only of right levels.
     ensures done { result ≡ 0 → (request : Request) × PrintsFor request (R.remaining reader.old) (W.contents writer.old) (W.contents writer.new) }
 
     // Where the words were not understood, nothing is printed.
@@ -101,6 +102,15 @@ fn run_request<
         }
         Request::Ask { folder, board } => {
             run_ask(
+                rt,
+                &mut host_folder(rt, alloc, folder),
+                alloc,
+                board,
+                writer,
+            )
+        }
+        Request::Moves { folder, board } => {
+            run_moves(
                 rt,
                 &mut host_folder(rt, alloc, folder),
                 alloc,

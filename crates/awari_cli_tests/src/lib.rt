@@ -27,3 +27,5 @@ mod services;
 mod words;
 #[cfg(test)]
 mod worked;
+#[cfg(test)]
+mod worths;

@@ -25,4 +25,4 @@ pub worths-more : (t : Table) (p pits : List ℕ) (ws : List MoveWorth) (i x : �
     → AllZip (IsWorthOf t p) (take (i + 1) pits) (ws ++ w ∷ [])
 worths-more t p pits ws i x w lt is before now =
     subst (λ l. AllZip (IsWorthOf t p) l (ws ++ w ∷ [])) (ap (λ z. take i pits ++ z ∷ []) is ∙ sym (take_more pits i x lt))
-      (all_zipped_more (IsWorthOf t p) (take i pits) ws x w before now)
+    (all_zipped_more (IsWorthOf t p) (take i pits) ws x w before now)
