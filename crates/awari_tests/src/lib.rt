@@ -3,6 +3,8 @@
 #![tactic(auto)]
 
 #[cfg(test)]
+mod deceits;
+#[cfg(test)]
 mod expect;
 #[cfg(test)]
 mod moves;

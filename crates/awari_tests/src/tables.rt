@@ -8,17 +8,17 @@ use crate::expect::expect_equal;
 use awari_board::Board;
 use awari_rank::{size, unrank};
 use awari_table::{Counts, Entries, Entry, HIGHEST_LEVEL, Image, Level, NotYet, Shelf};
-use awari_verify::{Rule, VerifyFault, fault_of, verify, verify_old};
+use awari_verify::{Rule, VerifyFault, fault_of, verify};
 use std::alloc::Global;
 use std::process::Abort;
 use std::sync::Arc;
 use std::test::Fail;
 
-fn entry(value: i8, plan: Option<u8>, dist: u32) -> Entry {
+pub fn entry(value: i8, plan: Option<u8>, dist: u32) -> Entry {
     Entry { value, plan, dist }
 }
 
-fn image(alloc: Global, level: u8, limit: u32, entries: &[Entry]) -> Result<Image, Fail> {
+pub fn image(alloc: Global, level: u8, limit: u32, entries: &[Entry]) -> Result<Image, Fail> {
     Ok(Image {
         level,
         limit,
@@ -46,7 +46,7 @@ fn level_1() -> [Entry; 12] {
 
 /// Where the two stones of a board lie.
 #[derive(Clone, Copy)]
-enum Lie {
+pub enum Lie {
     /// Both on the other side.
     Away,
     /// Both on the mover's side, in these pits.
@@ -55,7 +55,7 @@ enum Lie {
     Across(u8, u8),
 }
 
-fn lie_of(board: &Board) -> Lie {
+pub fn lie_of(board: &Board) -> Lie {
     let mut first = None;
     let mut last = 0u8;
     let mut other = None;
@@ -100,7 +100,7 @@ fn entry_of_two(board: &Board) -> Entry {
 }
 
 /// The entries of the 78 boards with two stones.
-fn level_2(alloc: Global) -> Result<Vec<Entry>, Fail> {
+pub fn level_2(alloc: Global) -> Result<Vec<Entry>, Fail> {
     let mut entries = Vec::new(alloc);
     for rank in 0..size(2) {
         entries.push(entry_of_two(&unrank(2, rank)))?;
@@ -108,39 +108,8 @@ fn level_2(alloc: Global) -> Result<Vec<Entry>, Fail> {
     Ok(entries)
 }
 
-/// A board's place among the twelve boards of value 0 whose forced moves lead in a circle, each to
-/// the next.
-fn place_in_circle(board: &Board) -> Option<u32> {
-    match lie_of(board) {
-        Lie::Across(own, other) if other == own => Some(2 * u32::from(own)),
-        Lie::Across(own, other) if own < other && other - own == 1 => Some(2 * u32::from(own) + 1),
-        Lie::Both(0, 5) => Some(11),
-        _ => None,
-    }
-}
-
-/// Level 2 with the boards of the circle won and lost in turn, and so the board of value 0 that
-/// leads into it. Along the circle the distances fall from 12 to 1, unless all are to be `dist`.
-fn false_circle(alloc: Global, dist: Option<u32>) -> Result<Vec<Entry>, Fail> {
-    let mut entries = level_2(alloc)?;
-    for rank in 0..size(2) {
-        let board = unrank(2, rank);
-        if let Some(slot) = entries.get_mut(rank as usize) {
-            if let Some(place) = place_in_circle(&board) {
-                slot.value = if place % 2 == 0 { 2 } else { -2 };
-                slot.dist = dist.unwrap_or(12u32.saturating_sub(place));
-            }
-            if let Lie::Both(1, 5) = lie_of(&board) {
-                slot.value = 2;
-                slot.dist = dist.unwrap_or(12);
-            }
-        }
-    }
-    Ok(entries)
-}
-
 /// The shelf of levels 0 and 1.
-fn two_levels(alloc: Global) -> Result<Shelf, Fail> {
+pub fn two_levels(alloc: Global) -> Result<Shelf, Fail> {
     let mut shelf = Shelf::empty();
     let level = verify(&shelf, image(alloc, 0, 0, &level_0())?)?;
     shelf.push(Arc::new(alloc, level)?);
@@ -150,7 +119,7 @@ fn two_levels(alloc: Global) -> Result<Shelf, Fail> {
 }
 
 /// What the verifier has against these entries, as the next level of the shelf.
-fn fault_found(
+pub fn fault_found(
     alloc: Global,
     shelf: &Shelf,
     limit: u32,
@@ -166,7 +135,7 @@ fn fault_found(
     }
 }
 
-fn refused(rank: u32, rule: Rule) -> Option<VerifyFault> {
+pub fn refused(rank: u32, rule: Rule) -> Option<VerifyFault> {
     Some(VerifyFault::Refused { rank, rule })
 }
 
@@ -379,105 +348,6 @@ fn refuses_wrong_entries_of_level_1(rt: HostRuntime) -> Result<(), Fail> {
             refused(*rank, *rule),
         )?;
     }
-    Ok(())
-}
-
-/// Level 2 with this value at rank 71 is refused there.
-fn expect_refusal_at_71(
-    rt: &impl Abort,
-    alloc: Global,
-    shelf: &Shelf,
-    value: i8,
-    rule: Rule,
-) -> Result<(), Fail> {
-    let mut entries = level_2(alloc)?;
-    let wrong = (71, entry(value, Some(0), 1));
-    expect_refusal(rt, alloc, shelf, &mut entries, wrong, 9, refused(71, rule))
-}
-
-#[test]
-fn refuses_wrong_entries_of_level_2(rt: HostRuntime) -> Result<(), Fail> {
-    let shelf = two_levels(rt.alloc())?;
-    expect_refusal_at_71(&rt, rt.alloc(), &shelf, 2, Rule::V5)?;
-    expect_refusal_at_71(&rt, rt.alloc(), &shelf, -2, Rule::V4)?;
-    Ok(())
-}
-
-/// What the old rules have against these entries, as level 2 over the shelf.
-fn old_fault(
-    alloc: Global,
-    shelf: &Shelf,
-    limit: u32,
-    entries: &[Entry],
-) -> Result<Option<VerifyFault>, Fail> {
-    let image = image(alloc, 2, limit, entries)?;
-    Ok(verify_old(shelf, &image).err())
-}
-
-/// The false circle is refused at this rank, by the rules and by the old ones.
-fn expect_circle(
-    rt: &impl Abort,
-    alloc: Global,
-    shelf: &Shelf,
-    dist: Option<u32>,
-    limit: u32,
-    rank: u32,
-) -> Result<(), Fail> {
-    let circle = false_circle(alloc, dist)?;
-    let answer = fault_found(alloc, shelf, limit, &circle)?;
-    expect_equal(rt, "by the rules", answer, refused(rank, Rule::V6));
-    let answer = old_fault(alloc, shelf, limit, &circle)?;
-    expect_equal(rt, "by the old rules", answer, refused(rank, Rule::V6));
-    Ok(())
-}
-
-#[test]
-fn refuses_a_circle_of_won_and_lost_boards(rt: HostRuntime) -> Result<(), Fail> {
-    let shelf = two_levels(rt.alloc())?;
-    expect_circle(&rt, rt.alloc(), &shelf, None, 12, 72)?;
-    expect_circle(&rt, rt.alloc(), &shelf, Some(5), 9, 21)?;
-    Ok(())
-}
-
-/// Level 2 with this limit is refused for it.
-fn expect_limit(
-    rt: &impl Abort,
-    alloc: Global,
-    shelf: &Shelf,
-    entries: &[Entry],
-    limit: u32,
-) -> Result<(), Fail> {
-    let answer = fault_found(alloc, shelf, limit, entries)?;
-    expect_equal(rt, limit, answer, refused(0, Rule::V7));
-    Ok(())
-}
-
-#[test]
-fn takes_the_greatest_distance_as_limit(rt: HostRuntime) -> Result<(), Fail> {
-    let shelf = two_levels(rt.alloc())?;
-    let entries = level_2(rt.alloc())?;
-    expect_limit(&rt, rt.alloc(), &shelf, &entries, 8)?;
-    expect_limit(&rt, rt.alloc(), &shelf, &entries, 10)?;
-    Ok(())
-}
-
-/// Level 2 with each distance twice as great.
-fn doubled(alloc: Global) -> Result<Vec<Entry>, Fail> {
-    let mut entries = level_2(alloc)?;
-    for slot in entries.iter_mut() {
-        slot.dist = slot.dist.saturating_mul(2);
-    }
-    Ok(entries)
-}
-
-#[test]
-fn asks_for_the_least_distances(rt: HostRuntime) -> Result<(), Fail> {
-    let shelf = two_levels(rt.alloc())?;
-    let entries = doubled(rt.alloc())?;
-    let answer = fault_found(rt.alloc(), &shelf, 18, &entries)?;
-    expect_equal(&rt, "by the rules", answer, refused(22, Rule::V6));
-    let answer = old_fault(rt.alloc(), &shelf, 18, &entries)?;
-    expect_equal(&rt, "by the old rules", answer, None);
     Ok(())
 }
 
