@@ -6,6 +6,8 @@ mod calls;
 #[cfg(test)]
 mod commands;
 #[cfg(test)]
+mod deceits;
+#[cfg(test)]
 mod desks;
 #[cfg(test)]
 mod documents;
