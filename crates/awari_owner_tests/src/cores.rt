@@ -49,7 +49,7 @@ fn random_events(alloc: Global, owners: u8, number: u64) -> Result<Vec<Event>, A
 }
 
 /// Each owner spreads, each sends to each other one, and each takes of each other one.
-fn all_events(alloc: Global, owners: u8) -> Result<Vec<Event>, AllocError> {
+pub fn all_events(alloc: Global, owners: u8) -> Result<Vec<Event>, AllocError> {
     let mut events = Vec::new(alloc);
     for from in 0..owners {
         events.push(Event::Spread(from))?;
@@ -285,7 +285,7 @@ fn expect_built_by_16(
     expect_level(rt, alloc, shelf, &core)
 }
 
-fn expect_closed(rt: &impl Abort, core: &mut Core, events: &[Event]) {
+pub fn expect_closed(rt: &impl Abort, core: &mut Core, events: &[Event]) {
     expect(rt, "all gains closed", close_by(core, events));
 }
 

@@ -17,6 +17,8 @@ mod parts;
 #[cfg(test)]
 mod pieces;
 #[cfg(test)]
+mod refusals;
+#[cfg(test)]
 mod rounds;
 #[cfg(test)]
 mod shelves;
