@@ -15,6 +15,8 @@ mod levels;
 #[cfg(test)]
 mod plain;
 #[cfg(test)]
+mod refusals;
+#[cfg(test)]
 mod streams;
 #[cfg(test)]
 mod versions;
