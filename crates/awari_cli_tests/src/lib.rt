@@ -24,6 +24,8 @@ mod plain;
 #[cfg(test)]
 mod plays;
 #[cfg(test)]
+mod refusals;
+#[cfg(test)]
 mod services;
 #[cfg(test)]
 mod words;
