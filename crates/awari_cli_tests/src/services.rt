@@ -1,5 +1,7 @@
 //! The command `serve`, and the service of a desk on streams that fail.
 
+ghost use Rattle.std.specs.Prelude.{◌≡◌, IfOk};
+
 use crate::commands::{Line, expect_lines, expect_run};
 use crate::expect::{expect, expect_equal};
 use crate::levels::{LEVELS_0_TO_1, empty_folder};
@@ -9,7 +11,7 @@ use awari_desk::{Publisher, Reader, ServeFault, desk, serve};
 use awari_table::Counted;
 use std::alloc::Global;
 use std::fs::File;
-use std::io::{self, Read, Write};
+use std::io::{self, ErrorKind, Read, Write};
 use std::process::Abort;
 use std::rt::Files;
 use std::sync::{Arc, Wait};
@@ -37,19 +39,46 @@ bye
 
 const ASK_CYCLE: &str = "ask 1,0,0,0,0,0/1,0,0,0,0,0\n";
 
-/// Gives one byte a call, and a fault at the call of this number; none at 0.
+/// What a stream answers at a bad call.
+#[derive(Clone, Copy, Debug)]
+enum Bad {
+    Fault,
+    Interrupted,
+    /// Nothing is taken.
+    Nothing,
+}
+
+impl Bad {
+    fn answer(self) -> io::Result<usize>
+        ensures { IfOk result (λ n. n ≡ 0) }
+    {
+        match self {
+            Bad::Fault => Err(io::Error::other("refused")),
+            Bad::Interrupted => Err(io::Error::from(ErrorKind::Interrupted)),
+            Bad::Nothing => Ok(0),
+        }
+    }
+}
+
+/// Which read and which write is bad, none at 0, and how.
+type Failing = (u32, u32, Bad);
+
+const NONE_FAILS: Failing = (0, 0, Bad::Fault);
+
+/// Gives one byte a call, but at the call of this number, none at 0.
 #[derive(Drop)]
 struct Slow<'a> {
     bytes: &'a [u8],
     calls: u32,
     fails_at: u32,
+    bad: Bad,
 }
 
 impl Read for Slow<'_> {
     fn read(&mut self, buf: &mut [u8]) -> io::Result<usize> {
         self.calls = self.calls.saturating_add(1);
         if self.calls == self.fails_at {
-            return Err(io::Error::other("refused"));
+            return self.bad.answer();
         }
         if buf.is_empty() || self.bytes.is_empty() {
             return Ok(0);
@@ -60,18 +89,22 @@ impl Read for Slow<'_> {
     }
 }
 
-/// Takes one byte a call, and none at the call of this number.
+/// Takes one byte a call, but at the call of this number, none at 0.
 #[derive(Drop)]
 struct Stiff {
     bytes: Vec<u8>,
     calls: u32,
     fails_at: u32,
+    bad: Bad,
 }
 
 impl Write for Stiff {
     fn write(&mut self, buf: &[u8]) -> io::Result<usize> {
         self.calls = self.calls.saturating_add(1);
-        if self.calls == self.fails_at || buf.is_empty() {
+        if self.calls == self.fails_at {
+            return self.bad.answer();
+        }
+        if buf.is_empty() {
             return Ok(0);
         }
         self.bytes.push(buf[0])?;
@@ -112,28 +145,30 @@ fn expect_served(
     alloc: Global,
     reader: &mut Reader,
     input: &[u8],
-    fails_at: (u32, u32),
+    failing: Failing,
     output: &[u8],
     expected: Result<(), ServeFault>,
 ) {
     let mut input = Counted::new(Slow {
         bytes: input,
         calls: 0,
-        fails_at: fails_at.0,
+        fails_at: failing.0,
+        bad: failing.2,
     });
     let mut written = Counted::new(Stiff {
         bytes: Vec::new(alloc),
         calls: 0,
-        fails_at: fails_at.1,
+        fails_at: failing.1,
+        bad: failing.2,
     });
     let served = serve(reader, &mut input, &mut written);
-    expect_equal(rt, fails_at, served, expected);
-    expect_bytes(rt, fails_at, &written.into_inner().bytes, output);
+    expect_equal(rt, failing, served, expected);
+    expect_bytes(rt, failing, &written.into_inner().bytes, output);
 }
 
 /// These bytes were written.
-fn expect_bytes(rt: &impl Abort, fails_at: (u32, u32), written: &[u8], expected: &[u8]) {
-    expect_equal(rt, fails_at, written, expected);
+fn expect_bytes(rt: &impl Abort, failing: Failing, written: &[u8], expected: &[u8]) {
+    expect_equal(rt, failing, written, expected);
 }
 
 /// Requests, and what is written of them by a reader that knows levels 0 and 1.
@@ -157,35 +192,51 @@ fn expect_requests(rt: &impl Abort, alloc: Global, reader: &mut Reader) {
 
 /// Serves lines where no read and no write fails.
 fn expect_written(rt: &impl Abort, alloc: Global, reader: &mut Reader, input: &[u8], output: &str) {
-    expect_served(rt, alloc, reader, input, (0, 0), output.as_bytes(), Ok(()));
+    let output = output.as_bytes();
+    expect_served(rt, alloc, reader, input, NONE_FAILS, output, Ok(()));
 }
 
-/// Serves the worked lines with a read that fails, and with each write failing in turn.
-fn expect_faults(rt: &impl Abort, alloc: Global, reader: &mut Reader) {
+/// Serves the worked lines where a read or a write goes wrong.
+fn expect_worked(
+    rt: &impl Abort,
+    alloc: Global,
+    reader: &mut Reader,
+    failing: Failing,
+    output: &[u8],
+    expected: Result<(), ServeFault>,
+) {
     let input = INPUT.as_bytes();
+    expect_served(rt, alloc, reader, input, failing, output, expected);
+}
+
+/// Serves the worked lines with each write failing in turn.
+fn expect_write_faults(rt: &impl Abort, alloc: Global, reader: &mut Reader, bad: Bad) {
     let output = OUTPUT.as_bytes();
-    expect_served(
-        rt,
-        alloc,
-        reader,
-        input,
-        (6, 0),
-        b"seen 2\n",
-        Err(ServeFault::Read),
-    );
     for (written, call) in (1..50u32).enumerate() {
         let front = output.get(..written).unwrap_or(output);
-        expect_served(
-            rt,
-            alloc,
-            reader,
-            input,
-            (0, call),
-            front,
-            Err(ServeFault::Write),
-        );
+        let failing = (0, call, bad);
+        expect_worked(rt, alloc, reader, failing, front, Err(ServeFault::Write));
     }
-    expect_served(rt, alloc, reader, input, (0, 50), output, Ok(()));
+    expect_worked(rt, alloc, reader, (0, 50, bad), output, Ok(()));
+}
+
+/// Serves the worked lines with a read and a write that are interrupted, and so are made again.
+fn expect_interruptions(rt: &impl Abort, alloc: Global, reader: &mut Reader) {
+    for (read, write) in [(1, 0), (6, 0), (0, 1), (0, 8), (6, 8u32)] {
+        let failing = (read, write, Bad::Interrupted);
+        expect_worked(rt, alloc, reader, failing, OUTPUT.as_bytes(), Ok(()));
+    }
+}
+
+/// Serves the worked lines with a read that fails, with each write failing in turn, and with
+/// interruptions.
+fn expect_faults(rt: &impl Abort, alloc: Global, reader: &mut Reader) {
+    let failing = (6, 0, Bad::Fault);
+    let fault = Err(ServeFault::Read);
+    expect_worked(rt, alloc, reader, failing, b"seen 2\n", fault);
+    expect_write_faults(rt, alloc, reader, Bad::Fault);
+    expect_write_faults(rt, alloc, reader, Bad::Nothing);
+    expect_interruptions(rt, alloc, reader);
 }
 
 /// Serves more bytes than a service takes.
