@@ -23,3 +23,6 @@ returns-then-print-clause-leaves g c = λ names others are have. inl (c.in-Ok.mi
 
 pub returns-clause-leaves : goal.returns-clause-leaves
 returns-clause-leaves g c = λ names others are have. inl (c.in-Ok.migrated.limits.items, c.in-Ok.migrated.digest, c.in-Ok.ensures.exact names others are have)
+
+pub returns-in-Err-clause-migrated : goal.returns-in-Err-clause-migrated
+returns-in-Err-clause-migrated g c = λ done. absurd (omega arith)

@@ -21,3 +21,18 @@ pub returns-in_err-moved-in-Ok-Some-clause-refused : goal.returns-in_err-moved-i
 returns-in_err-moved-in-Ok-Some-clause-refused g c =
     let p = err_from_is_err_and c.from_residual.result c.from_residual.ensures.1 in
     rw (p.1, p.2) (not_open c.in_err-moved-in-Ok-Some.field-0.0 _ _ c.in_err-moved-in-Ok-Some.ensures.of_file c.in-Ok-Some.ensures.refused)
+
+pub returns-in_ok-moved-in-Ok-Some-clause-refused : goal.returns-in_ok-moved-in-Ok-Some-clause-refused
+returns-in_ok-moved-in-Ok-Some-clause-refused g c = c.in-Ok-Some.ensures.refused
+
+pub returns-in_ok-moved-in-Ok-Some-clause-stands : goal.returns-in_ok-moved-in-Ok-Some-clause-stands
+returns-in_ok-moved-in-Ok-Some-clause-stands g c = c.open.ensures.stands
+
+pub returns-in_ok-moved-in-Ok-Some-clause-crash : goal.returns-in_ok-moved-in-Ok-Some-clause-crash
+returns-in_ok-moved-in-Ok-Some-clause-crash g c = c.open.ensures.crash
+
+pub returns-in_ok-moved-in-Ok-Some-clause-clear : goal.returns-in_ok-moved-in-Ok-Some-clause-clear
+returns-in_ok-moved-in-Ok-Some-clause-clear g c = c.open.ensures.clear
+
+pub returns-in_ok-moved-in-Ok-Some-clause-stuck : goal.returns-in_ok-moved-in-Ok-Some-clause-stuck
+returns-in_ok-moved-in-Ok-Some-clause-stuck g c = c.open.ensures.stuck
