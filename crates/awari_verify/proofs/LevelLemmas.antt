@@ -1,19 +1,14 @@
 -- Ranks one after another, and faults.
-use Rattle.std.proofs.Common.{◌≡◌, ℕ, ◌+◌, ◌<◌, ◌≤◌, List, [], ◌∷◌, ◌++◌, length, get_or, sum, inl, inr, sym, subst, ap, ◌∙◌, arith, All}
-use Rattle.std.proofs.lemmas.List.{get_or_default}
-use Rattle.awari_table.specs.declared.images.Entry.{Entry}
+use Rattle.std.proofs.Common.{◌≡◌, ℕ, ◌+◌, ◌≤◌, List, [], ◌∷◌, ◌++◌, sum, inl, inr, sym, subst, ap, ◌∙◌, arith}
 use Rattle.std.proofs.lemmas.Bool.{cases_lt}
 use Rattle.awari_board.specs.Rules.{IsBoard}
 use Rattle.awari_table.specs.Certificate.{Table, IsRightBy}
 use Rattle.awari_table.specs.declared.rules.Distances.{Distances}
-use Rattle.awari_table.specs.declared.rules.Distances.TheVariants.{Falling, Least}
 use Rattle.awari_rank.specs.Rank.{size_of, rank_of}
 use Rattle.awari_rank.proofs.Ranking.{rank_of-below, rank_fixes}
-use Rattle.awari_rank.proofs.Reaching.{board_reached}
 use Rattle.awari_table.specs.declared.images.Image.{Image}
-use Rattle.awari_table.specs.Images.{HasOwnPlan, IsLevel, no_entry, table_of, greatest_dist}
-use Rattle.awari_table.specs.Shelves.{ConsistentBy, highest_by}
-use Rattle.awari_table.proofs.EntryLemmas.{entry_of-rank}
+use Rattle.awari_table.specs.Images.{table_of, greatest_dist}
+use Rattle.awari_table.specs.Shelves.{ConsistentBy}
 use Rattle.awari_verify.specs.FirstFailure.{RightBetween}
 use Rattle.awari_verify.specs.VerifyFault.{IsShaped}
 

@@ -1,12 +1,12 @@
 -- The pieces of a level put together.
-use Rattle.std.proofs.Common.{◌≡◌, ℕ, zero, suc, ◌+◌, ◌*◌, ◌<◌, ◌≤◌, min, List, [], ◌∷◌, length, get_or, Option, inl, inr, refl, sym, subst, ap, ◌∙◌, arith}
+use Rattle.std.proofs.Common.{◌≡◌, ℕ, zero, suc, ◌+◌, ◌*◌, ◌<◌, ◌≤◌, List, [], ◌∷◌, length, get_or, inl, inr, refl, subst, ap, arith}
 use Rattle.std.specs.List.{AllZip, range_with_len}
 use Rattle.std.proofs.lemmas.Bool.{cases_lt}
 use Rattle.awari_rank.specs.Rank.{rank_of}
 use Rattle.awari_table.specs.declared.rules.Distances.TheVariants.{Least}
 use Rattle.awari_table.specs.Certificate.{Table}
 use Rattle.awari_verify.specs.FirstFailure.{RightBetween, IsRefusal}
-use Rattle.awari_verify.specs.Pieces.{piece_start, IsFound}
+use Rattle.awari_verify.specs.Pieces.{piece_start}
 use Rattle.awari_verify.specs.declared.rules.Rule.{Rule}
 
 -- right up to a rank, and from it on

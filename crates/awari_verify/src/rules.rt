@@ -73,6 +73,23 @@ pub struct Seen {
     pub moves: [Option<Reached>; 6],
 }
 
+impl Seen {
+    /// Nothing of any board, to be filled in.
+    pub fn nothing() -> Self {
+        let entry = Entry {
+            value: 0,
+            plan: None,
+            dist: 0,
+        };
+        Seen {
+            stones: 0,
+            entry,
+            end: None,
+            moves: [None; 6],
+        }
+    }
+}
+
 /// The first of V1 to V6 that the board breaks.
 pub fn first_broken_rule(asked: Distances, seen: &Seen) -> Option<Rule>
     ensures { (t : Table) (p : List ℕ) → Sees t p seen.now → MatchOption result (IsRightBy asked t p) (BreaksFirst asked t p) }

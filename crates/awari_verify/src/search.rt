@@ -6,9 +6,10 @@ ghost use Rattle.awari_table.specs.Images.{table_of};
 ghost use Rattle.awari_verify.specs.VerifyFault.{IsShaped};
 ghost use Rattle.awari_verify.specs.FirstFailure.{RightBetween, IsRefusal};
 
-use crate::rules::{Rule, first_broken_rule};
-use crate::sights::seen_at;
-use awari_rank::{successor, unrank};
+use crate::rules::{Rule, Seen, first_broken_rule};
+use crate::sights::see;
+use awari_packed::PackedBoard;
+use awari_rank::unrank;
 use awari_table::{Distances, Image, Shelf};
 
 /// A board that breaks a rule, by its rank, and the first rule that it breaks.
@@ -39,13 +40,15 @@ pub fn refusal_between(
     if low == high {
         return None;
     }
-    let mut board = unrank(image.level, low);
+    let mut board = PackedBoard::new(&unrank(image.level, low));
+    let mut seen = Seen::nothing();
     for rank in low..high {
-        match first_broken_rule(asked, &seen_at(shelf, image, &board, rank)) {
+        see(shelf, image, &board, rank, &mut seen);
+        match first_broken_rule(asked, &seen) {
             Some(rule) => return Some(Refusal { rank, rule }),
             None => {}
         }
-        match successor(&board) {
+        match board.successor() {
             Some(next) => board = next,
             None => return None,
         }

@@ -1,4 +1,4 @@
-use Rattle.std.proofs.Common.{◌≡◌, ◌<◌, ◌≤◌, ◌+◌, ◌++◌, ◌∷◌, [], Some, None, length, vec_len, slice_index_or, sym, subst, ap, ◌∙◌, arith}
+use Rattle.std.proofs.Common.{◌≡◌, ◌<◌, ◌+◌, ◌++◌, ◌∷◌, [], Some, None, vec_len, slice_index_or, subst, arith}
 use Rattle.awari_table.specs.Images.{table_of}
 use Rattle.awari_verify.specs.Pieces.{piece_start, IsFound}
 use Rattle.awari_verify.proofs.PieceLemmas.{RightBetween-then, IsRefusal-then}

@@ -1,4 +1,4 @@
-use Rattle.std.proofs.Common.{◌≡◌, ℕ, ◌+◌, ◌-◌, ◌*◌, ◌/◌, ◌<◌, ◌≤◌, ◌^◌, ◌++◌, ◌∷◌, [], List, Option, length, get_or, vec_len, sym, subst, ap, ◌∙◌, arith}
+use Rattle.std.proofs.Common.{◌≡◌, ◌+◌, ◌-◌, ◌/◌, ◌<◌, ◌^◌, ◌++◌, ◌∷◌, [], length, vec_len, subst, ap, ◌∙◌, arith}
 use Rattle.std.specs.List.{range_with_len, AllZip}
 use Rattle.rayon.specs.Numbers.{nat_range}
 use Rattle.rayon.proofs.ListFacts.{IfOk-then}
@@ -6,7 +6,6 @@ use Rattle.rayon.proofs.ToStd.{nat_range-All}
 use Rattle.awari_verify.proofs.PieceLemmas.{length-numbered, numbered-at}
 use Rattle.awari_table.specs.Images.{table_of}
 use Rattle.awari_verify.specs.Pieces.{IsFound}
-use Rattle.awari_verify.specs.declared.search.Refusal.{Refusal as ARefusal}
 use Rattle.awari_verify.proofs.parallel.found_in_pieces.Goals as goal
 
 pub collect-requires-clause-ready : goal.collect-requires-clause-ready

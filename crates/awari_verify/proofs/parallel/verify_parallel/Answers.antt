@@ -1,4 +1,4 @@
-use Rattle.std.proofs.Common.{refl, sym}
+use Rattle.std.proofs.Common.{refl}
 use Rattle.awari_table.specs.declared.rules.Distances.TheVariants.{Least}
 use Rattle.awari_table.proofs.ShelfLemmas.{IsLevel-consistent}
 use Rattle.awari_verify.proofs.parallel.verify_parallel.Goals as goal

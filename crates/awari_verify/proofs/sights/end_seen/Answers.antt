@@ -2,4 +2,4 @@ use Rattle.awari_verify.proofs.SightLemmas.{SeesEnd-end}
 use Rattle.awari_verify.proofs.sights.end_seen.Goals as goal
 
 pub returns : goal.returns
-returns c = SeesEnd-end c.args.board.now c.end.result c.end.ensures.none c.end.ensures.some
+returns c = rw (← c.board.ensures) (SeesEnd-end c.board.result c.end.result c.end.ensures.none c.end.ensures.some)

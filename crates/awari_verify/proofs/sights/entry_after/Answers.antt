@@ -1,4 +1,4 @@
-use Rattle.std.proofs.Common.{◌≡◌, ◌∷◌, [], length, sum, sym, refl, ◌∙◌, arith}
+use Rattle.std.proofs.Common.{◌≡◌, ◌∷◌, [], length, sum, sym, ◌∙◌, arith}
 use Rattle.awari_table.proofs.EntryLemmas.{entry_of-append, entry_of-top}
 use Rattle.awari_verify.proofs.sights.entry_after.Goals as goal
 
@@ -10,4 +10,5 @@ returns-then-moved-eq0 c =
 
 pub returns : goal.returns
 returns c =
-    c.in-Ok.ensures.entry ∙ sym (entry_of-append c.args.shelf.now (c.args.image.now ∷ []) c.args.moved.now.board (c.in-Ok.ensures.known.0 refl))
+    let next = c.requires.shaped.next in
+    c.entry_below.ensures ∙ sym (entry_of-append c.args.shelf.now (c.args.image.now ∷ []) c.args.moved.now.board (omega arith))

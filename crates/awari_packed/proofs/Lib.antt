@@ -1,0 +1,9 @@
+pub mod Digits
+pub mod Emptying
+pub mod FallTables
+pub mod Halves
+pub mod PairTables
+pub mod RankSums
+pub mod Taking
+pub mod Whole
+pub mod Nexts

@@ -1,0 +1,151 @@
+//! Positions in one number, and the moves from them.
+
+ghost use Rattle.std.specs.Prelude.{◌≡◌, ℕ, ◌+◌, ◌<◌, ◌≤◌, ◌↔◌, IsTrue, IfSome, IsNone, List, sum, slice_index};
+ghost use Rattle.awari_board.specs.Rules.{IsBoard, IsLegal, IsMove};
+ghost use Rattle.awari_rank.specs.Rank.{rank_of, size_of};
+
+use crate::captures::{capture, other_stones};
+use crate::ranks::rank;
+use crate::scattering::last_of;
+use crate::successors::{REST, next};
+use crate::words::{packed_to, pit, right_sums, sow, turned};
+use awari_board::{Board, SIDE};
+use std::marker::Model;
+
+/// A position of at most 24 stones in one number. Contracts see the list of the twelve pits.
+#[derive(Clone, Copy, PartialEq, Eq)]
+pub struct PackedBoard {
+    bits: u64,
+}
+
+impl Model for PackedBoard {
+    ghost use Rattle.std.specs.Prelude.{List, ℕ};
+    ghost use Rattle.std.proofs.Common.{ap};
+    ghost use Rattle.awari_packed.specs.Packed.{IsPacking, packed, pits_of, packed-pits_of};
+
+    ghost Value = { List ℕ };
+
+    ghost view = { λ b. pits_of b.bits };
+
+    ghost invariant = { λ b. IsPacking b.bits };
+
+    ghost inverse = { λ pits. record { bits = packed pits } };
+
+    ghost inverse_ok = { λ b h. ap (λ n. record { bits = n }) (packed-pits_of b.bits h.top) };
+}
+
+/// What playing a pit gives.
+#[derive(Clone, Copy)]
+pub struct PackedMove {
+    /// The position after the move, as the other player sees it.
+    pub board: PackedBoard,
+    /// The stones captured, 0 for a quiet move.
+    pub captured: u8,
+}
+
+impl PackedBoard {
+    /// The same position in a number. Condition: at most 24 stones.
+    pub fn new(board: &Board) -> Self
+        requires { sum board.now ≤ 24 }
+        ensures { result ≡ board.now }
+    {
+        PackedBoard {
+            bits: packed_to(board),
+        }
+    }
+
+    /// The same position, pit by pit.
+    pub fn board(&self) -> Board
+        ensures { result ≡ self.now }
+    {
+        let bits = self.bits;
+        Board::new([
+            pit(bits, 0),
+            pit(bits, 1),
+            pit(bits, 2),
+            pit(bits, 3),
+            pit(bits, 4),
+            pit(bits, 5),
+            pit(bits, 6),
+            pit(bits, 7),
+            pit(bits, 8),
+            pit(bits, 9),
+            pit(bits, 10),
+            pit(bits, 11),
+        ])
+    }
+
+    /// The stones in pit `i`. Condition: `i` is below 12.
+    #[inline(always)]
+    pub fn pit(&self, i: u8) -> u8
+        requires { i < 12 }
+        ensures { result ≡ slice_index self.now i }
+    {
+        pit(self.bits, i)
+    }
+
+    /// The stones on the board, 0 to 24.
+    #[inline(always)]
+    pub fn stones(&self) -> u8
+        ensures stones { result ≡ sum self.now }
+        ensures few { sum self.now ≤ 24 }
+        ensures board { IsBoard self.now }
+    {
+        pit(right_sums(self.bits), 0)
+    }
+
+    /// Whether the mover may play `pit`, which can be any number.
+    #[inline(always)]
+    pub fn legal(&self, pit: u8) -> bool
+        ensures { IsTrue result ↔ IsLegal self.now pit }
+    {
+        if pit >= SIDE {
+            return false;
+        }
+        let stones = self.pit(pit);
+        stones > 0 && (pit + stones >= SIDE || other_stones(self.bits) > 0)
+    }
+
+    /// Plays `origin`: sows its stones, captures, and turns the board to the other player. Condition:
+    /// the pit is legal.
+    #[inline(always)]
+    pub fn play(&self, origin: u8) -> PackedMove
+        requires { IsLegal self.now origin }
+        ensures moved { IsMove self.now origin result.captured result.board }
+        ensures board { IsBoard result.board }
+        ensures kept { sum result.board + result.captured ≡ sum self.now }
+    {
+        let bits = self.bits;
+        let stones = pit(bits, origin);
+        let strewn = sow(bits, origin, stones);
+        let (left, captured) = capture(strewn, last_of(origin, stones));
+        PackedMove {
+            board: PackedBoard { bits: turned(left) },
+            captured,
+        }
+    }
+
+    /// The number of boards with as many stones that come before this one, its rank.
+    #[inline(always)]
+    pub fn rank(&self) -> u32
+        ensures rank { result ≡ rank_of self.now }
+        ensures below { result < size_of (sum self.now) }
+    {
+        rank(self.bits)
+    }
+
+    /// The board of the next rank among those with as many stones, and `None` for the last of them.
+    #[inline(always)]
+    pub fn successor(&self) -> Option<PackedBoard>
+        ensures last { IsNone result ↔ (rank_of self.now + 1 ≡ size_of (sum self.now)) }
+        ensures board { IfSome result (λ b. IsBoard b) }
+        ensures stones { IfSome result (λ b. sum b ≡ sum self.now) }
+        ensures rank { IfSome result (λ b. rank_of b ≡ rank_of self.now + 1) }
+    {
+        let bits = self.bits;
+        if bits % REST == 0 {
+            return None;
+        }
+        Some(PackedBoard { bits: next(bits) })
+    }
+}

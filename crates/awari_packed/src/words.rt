@@ -1,0 +1,77 @@
+//! The number of a board.
+
+ghost use Rattle.std.specs.Prelude.{◌≡◌, ℕ, ◌<◌, ◌≤◌, slice_index, slice_set, sum, drop};
+ghost use Rattle.awari_board.specs.Rules.{sown, turned};
+ghost use Rattle.awari_packed.specs.Packed.{IsPacking, IsPackOf, pits_of};
+
+use crate::scattering::scattered;
+use awari_board::Board;
+
+/// The stones in pit `i`.
+#[inline(always)]
+pub fn pit(bits: u64, i: u8) -> u8
+    requires { i < 12 }
+    ensures { result ≡ slice_index (pits_of bits) i }
+{
+    ((bits >> (55 - 5 * i)) % 32) as u8
+}
+
+/// Empties pit `i`, which holds so many stones.
+#[inline(always)]
+pub fn without(bits: u64, i: u8, stones: u8) -> u64
+    requires packing { IsPacking bits }
+    requires pit { i < 12 }
+    requires stones { stones ≡ slice_index (pits_of bits) i }
+    ensures { IsPackOf result (slice_set (pits_of bits) i 0) }
+{
+    bits - (u64::from(stones) << (55 - 5 * i))
+}
+
+/// Sows the stones of pit `origin`, so many, by one addition.
+#[inline(always)]
+pub fn sow(bits: u64, origin: u8, stones: u8) -> u64
+    requires packing { IsPacking bits }
+    requires pit { origin < 6 }
+    requires stones { stones ≡ slice_index (pits_of bits) origin }
+    ensures { IsPackOf result (sown (pits_of bits) origin) }
+{
+    without(bits, origin, stones) + scattered(origin, stones)
+}
+
+/// How many numbers six pits have.
+const HALF: u64 = 1073741824;
+
+/// Twelve ones in base 32.
+const ONES: u64 = 37191016277640225;
+
+/// The number of the board as the other player sees it.
+#[inline(always)]
+pub fn turned(bits: u64) -> u64
+    requires { IsPacking bits }
+    ensures { IsPackOf result (turned (pits_of bits)) }
+{
+    ((bits % HALF) << 30) + (bits >> 30)
+}
+
+/// The number that has in each pit the stones from that pit on.
+#[inline(always)]
+pub fn right_sums(bits: u64) -> u64
+    requires { IsPacking bits }
+    ensures sums { (i : ℕ) → i < 12 → slice_index (pits_of result) i ≡ sum (drop i (pits_of bits)) }
+    ensures few { (i : ℕ) → i < 12 → slice_index (pits_of result) i ≤ 24 }
+{
+    bits.wrapping_mul(ONES)
+}
+
+/// The number of a board.
+pub fn packed_to(board: &Board) -> u64
+    requires { sum board.now ≤ 24 }
+    ensures { IsPackOf result board.now }
+{
+    let pits = board.pits();
+    let mut bits: u64 = 0;
+    for pit in 0..12 {
+        bits = bits * 32 + u64::from(pits[pit]);
+    }
+    bits
+}
