@@ -1,22 +1,21 @@
 -- Entries whose distances are lowered one after another, and the image that is made of them.
-use Rattle.std.proofs.Common.{true≢false, ◌≡◌, ℕ, ◌+◌, ◌<◌, ◌≤◌, ◌⊎◌, inl, inr, min, Bool, true, false, if◌then◌else◌, List, [], ◌∷◌, ◌++◌, length, get_or, set, sum, ℤ, pos, neg_ℤ, ◌-ℤ◌, ◌≤ℤ◌, ◌<ℤ◌, Option, Some, None, refl, sym, ap, ◌∙◌, subst, arith, length-append, length-set, get_or-set_same, get_or-set_other}
+use Rattle.std.proofs.Common.{true≢false, ◌≡◌, ℕ, ◌+◌, ◌<◌, ◌≤◌, ◌⊎◌, inl, inr, min, Bool, true, false, List, [], ◌∷◌, ◌++◌, length, get_or, set, sum, ℤ, pos, neg_ℤ, ◌-ℤ◌, ◌≤ℤ◌, ◌<ℤ◌, refl, sym, ap, ◌∙◌, subst, arith, length-append, length-set, get_or-set_same, get_or-set_other}
 use Rattle.std.proofs.lemmas.Bool.{cases_lt, cases_eq}
 use Rattle.std.proofs.lemmas.Int.{ints}
 use Rattle.std.proofs.lemmas.List.Sums.{sum_by-set}
-use Rattle.awari_board.specs.Rules.{IsBoard, IsMove, IsLegal, IsEnded, captured, next_board}
+use Rattle.awari_board.specs.Rules.{IsBoard, IsMove, IsEnded, captured, next_board}
 use Rattle.awari_rank.specs.Rank.{rank_of, size_of}
 use Rattle.awari_rank.proofs.Ranking.{rank_fixes}
-use Rattle.awari_table.specs.declared.TheConstants.{HIGHEST_LEVEL}
 use Rattle.awari_table.specs.declared.images.Entry.{Entry}
 use Rattle.awari_table.specs.declared.images.Image.{Image}
 use Rattle.awari_table.specs.declared.rules.Distances.TheVariants.{Falling, Least}
 use Rattle.awari_table.specs.Certificate.{Table, IsRightBy}
 use Rattle.awari_table.specs.Images.{entry_of, table_of, no_entry}
-use Rattle.awari_table.specs.Shelves.{ConsistentBy, highest_by}
+use Rattle.awari_table.specs.Shelves.{ConsistentBy}
 use Rattle.awari_table.proofs.CertificateLemmas.{plies_cases}
 use Rattle.awari_table.proofs.EntryLemmas.{entry_of-append, entry_of-rank, entry_of-above}
 use Rattle.awari_plan.specs.Finished.{IsFinished}
-use Rattle.awari_plan.specs.Least.{NoFarther, IsPlannedLowest}
+use Rattle.awari_plan.specs.Least.{NoFarther}
 use Rattle.awari_plan.specs.Lowering.{IsAbove, IsByMoves, IsBelow, IsBelowTo, AreAbove, AreBelow, AreBelowTo, all_plies, Lowers, LowersBoard, Fell}
 use Rattle.awari_plan.specs.Plan.{Serves, IsLowest}
 use Rattle.awari_plan.specs.Planning.{SameSettled, topped}

@@ -10,7 +10,8 @@ ghost use Rattle.awari_plan.specs.Planning.{topped};
 
 use crate::finishing::greatest;
 use crate::plans::{entry_after, set_plans};
-use awari_board::{Board, SIDE};
+use awari_board::SIDE;
+use awari_packed::PackedBoard;
 use awari_rank::{size, unrank};
 use awari_table::{Distances, Entries, Entry, Image, Shelf, plies};
 
@@ -82,7 +83,7 @@ fn lower_board(shelf: &Shelf, entries: &mut Vec<Entry>, near: u32, rank: u32) ->
     if own.dist <= near {
         return false;
     }
-    let board = unrank(shelf.levels(), rank);
+    let board = PackedBoard::new(&unrank(shelf.levels(), rank));
     let dist = by_moves(shelf, entries.as_slice(), &board, own);
     lower_to(entries, rank, dist)
 }
@@ -116,7 +117,7 @@ fn lowered(entry: Entry, dist: u64) -> Option<Entry>
 }
 
 /// The distance that the moves of the board of this entry give.
-fn by_moves(shelf: &Shelf, entries: &[Entry], board: &Board, own: Entry) -> u64
+fn by_moves(shelf: &Shelf, entries: &[Entry], board: &PackedBoard, own: Entry) -> u64
     requires sized { length entries.now ≡ size_of (length shelf.now) }
     requires stones { sum board.now ≡ length shelf.now }
     requires low { length shelf.now ≤ 24 }
@@ -133,7 +134,7 @@ fn by_moves(shelf: &Shelf, entries: &[Entry], board: &Board, own: Entry) -> u64
 }
 
 /// The fewest plies of a move that gains the board's value, or its distance if that is less.
-fn nearest(shelf: &Shelf, entries: &[Entry], board: &Board, own: Entry) -> u64
+fn nearest(shelf: &Shelf, entries: &[Entry], board: &PackedBoard, own: Entry) -> u64
     requires sized { length entries.now ≡ size_of (length shelf.now) }
     requires stones { sum board.now ≡ length shelf.now }
     requires low { length shelf.now ≤ 24 }
@@ -148,7 +149,7 @@ fn nearest(shelf: &Shelf, entries: &[Entry], board: &Board, own: Entry) -> u64
 }
 
 /// The most plies of a move, 0 where there is none.
-fn farthest(shelf: &Shelf, entries: &[Entry], board: &Board) -> u64
+fn farthest(shelf: &Shelf, entries: &[Entry], board: &PackedBoard) -> u64
     requires sized { length entries.now ≡ size_of (length shelf.now) }
     requires stones { sum board.now ≡ length shelf.now }
     requires low { length shelf.now ≤ 24 }
@@ -193,21 +194,18 @@ pub struct Reached {
 }
 
 /// The move of this pit, if it is legal.
-fn step(shelf: &Shelf, entries: &[Entry], board: &Board, pit: u8) -> Option<Reached>
+fn step(shelf: &Shelf, entries: &[Entry], board: &PackedBoard, pit: u8) -> Option<Reached>
     requires sized { length entries.now ≡ size_of (length shelf.now) }
     requires stones { sum board.now ≡ length shelf.now }
     requires low { length shelf.now ≤ 24 }
     ensures { Steps (table_of (topped shelf.now entries.now)) board.now pit result }
 {
-    // Asked first, since to find why a move is refused takes longer than to play one.
     if !board.legal(pit) {
         return None;
     }
-    match board.play(pit) {
-        Ok(moved) => Some(Reached {
-            captured: moved.captured,
-            entry: entry_after(shelf, entries, &moved),
-        }),
-        Err(_) => None,
-    }
+    let moved = board.play(pit);
+    Some(Reached {
+        captured: moved.captured,
+        entry: entry_after(shelf, entries, &moved),
+    })
 }

@@ -10,7 +10,8 @@ ghost use Rattle.awari_table.specs.declared.TheConstants.{HIGHEST_LEVEL};
 use crate::finishing::{greatest, settled_entry};
 use crate::plans::lowest_plan;
 use awari_owner::Part;
-use awari_rank::{size, successor, unrank};
+use awari_packed::PackedBoard;
+use awari_rank::{size, unrank};
 use awari_table::{Entries, Entry, Image, Shelf};
 use rayon::prelude::*;
 use std::alloc::{AllocError, Global};
@@ -175,10 +176,10 @@ fn find_piece(shelf: &Shelf, boards: u32, entries: &[Entry], first: usize, plans
     if plans.is_empty() {
         return;
     }
-    let mut board = unrank(shelf.levels(), first as u32);
+    let mut board = PackedBoard::new(&unrank(shelf.levels(), first as u32));
     for k in 0..plans.len() {
         plans[k] = lowest_plan(shelf, entries, &board, (first + k) as u32);
-        if let Some(next) = successor(&board) {
+        if let Some(next) = board.successor() {
             board = next;
         }
     }

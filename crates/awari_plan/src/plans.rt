@@ -7,8 +7,9 @@ ghost use Rattle.awari_table.specs.Images.{entry_of, table_of};
 ghost use Rattle.awari_plan.specs.Plan.{IsLowest, Serves};
 ghost use Rattle.awari_plan.specs.Planning.{Gains, IsPlanned, SameSettled, topped};
 
-use awari_board::{Board, Moved, SIDE};
-use awari_rank::{rank, size, successor, unrank};
+use awari_board::SIDE;
+use awari_packed::{PackedBoard, PackedMove};
+use awari_rank::{size, unrank};
 use awari_table::{Entry, Shelf};
 
 /// Sets the plan of each board of the level above the shelf, in order of rank.
@@ -20,18 +21,18 @@ pub fn set_plans(shelf: &Shelf, entries: &mut Vec<Entry>)
 {
     let level = shelf.levels();
     let boards = size(level);
-    let mut board = unrank(level, 0);
+    let mut board = PackedBoard::new(&unrank(level, 0));
     for rank in 0..boards {
         let plan = lowest_plan(shelf, entries.as_slice(), &board, rank);
         entries[rank as usize].plan = plan;
-        if let Some(next) = successor(&board) {
+        if let Some(next) = board.successor() {
             board = next;
         }
     }
 }
 
 /// The lowest pit that serves as the board's plan, none where none does.
-pub fn lowest_plan(shelf: &Shelf, entries: &[Entry], board: &Board, rank: u32) -> Option<u8>
+pub fn lowest_plan(shelf: &Shelf, entries: &[Entry], board: &PackedBoard, rank: u32) -> Option<u8>
     requires sized { length entries.now ≡ size_of (length shelf.now) }
     requires stones { sum board.now ≡ length shelf.now }
     requires low { length shelf.now ≤ 24 }
@@ -50,24 +51,19 @@ pub fn lowest_plan(shelf: &Shelf, entries: &[Entry], board: &Board, rank: u32) -
 
 /// Whether the move from `pit` gains the board's value and, where that is positive, captures or
 /// leads to a smaller distance.
-fn serves(shelf: &Shelf, entries: &[Entry], board: &Board, own: Entry, pit: u8) -> bool
+fn serves(shelf: &Shelf, entries: &[Entry], board: &PackedBoard, own: Entry, pit: u8) -> bool
     requires sized { length entries.now ≡ size_of (length shelf.now) }
     requires stones { sum board.now ≡ length shelf.now }
     requires low { length shelf.now ≤ 24 }
     requires own { own ≡ entry_of (topped shelf.now entries.now) board.now }
     ensures { IsTrue result ↔ Serves (table_of (topped shelf.now entries.now)) board.now pit }
 {
-    // Asked first, since to find why a move is refused takes longer than to play one.
     if !board.legal(pit) {
         return false;
     }
-    match board.play(pit) {
-        Ok(moved) => {
-            let reached = entry_after(shelf, entries, &moved);
-            gains(own, moved.captured, reached)
-        }
-        Err(_) => false,
-    }
+    let moved = board.play(pit);
+    let reached = entry_after(shelf, entries, &moved);
+    gains(own, moved.captured, reached)
 }
 
 /// Whether a move with so many captured stones gains the value of the board's own entry and, where
@@ -86,16 +82,16 @@ fn gains(own: Entry, captured: u8, reached: Entry) -> bool
 
 /// The entry of the board that a move leaves: the level's after a quiet move, and the shelf's after
 /// a capture.
-pub fn entry_after(shelf: &Shelf, entries: &[Entry], moved: &Moved) -> Entry
+pub fn entry_after(shelf: &Shelf, entries: &[Entry], moved: &PackedMove) -> Entry
     requires sized { length entries.now ≡ size_of (length shelf.now) }
     requires stones { sum moved.now.board + moved.now.captured ≡ length shelf.now }
     requires low { length shelf.now ≤ 24 }
     ensures { result ≡ entry_of (topped shelf.now entries.now) moved.now.board }
 {
     if moved.captured == 0 {
-        return entries[rank(&moved.board) as usize];
+        return entries[moved.board.rank() as usize];
     }
-    match shelf.entry(&moved.board) {
+    match shelf.entry(&moved.board.board()) {
         Ok(entry) => entry,
         Err(_) => unreachable!(),
     }

@@ -1,4 +1,4 @@
-use Rattle.std.proofs.Common.{sym, ap, refl, ◌≡◌, ◌<ℤ◌, ◌∙◌, subst, pos, arith}
+use Rattle.std.proofs.Common.{ap, ◌∙◌, arith}
 use Rattle.std.proofs.lemmas.Int.{ints}
 use Rattle.awari_plan.proofs.lowering.by_moves.Goals as goal
 

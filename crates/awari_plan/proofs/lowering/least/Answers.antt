@@ -2,7 +2,6 @@ use Rattle.std.proofs.Common.{◌∙◌, ap, sym, subst, length, List, []}
 use Rattle.awari_rank.specs.Rank.{size_of}
 use Rattle.awari_table.specs.declared.images.Entry.{Entry}
 use Rattle.awari_table.specs.Images.{greatest_dist}
-use Rattle.awari_plan.specs.Finished.{IsFinished}
 use Rattle.awari_plan.specs.Least.{NoFarther}
 use Rattle.awari_plan.specs.Lowering.{AreAbove}
 use Rattle.awari_plan.specs.Planning.{SameSettled}

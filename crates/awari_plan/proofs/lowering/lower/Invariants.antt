@@ -1,4 +1,3 @@
-use Rattle.std.proofs.Common.{◌≡◌, length}
 use Rattle.awari_plan.specs.Least.{NoFarther}
 use Rattle.awari_plan.specs.Lowering.{AreAbove, AreBelowTo, all_plies}
 use Rattle.awari_plan.proofs.lowering.lower.Given as goal

@@ -1,8 +1,7 @@
-use Rattle.std.proofs.Common.{◌≡◌, ◌<◌, ◌∙◌, ap, sym, subst, arith, length, List}
+use Rattle.std.proofs.Common.{◌<◌, ◌∙◌, ap, sym, subst, arith, length}
 use Rattle.awari_rank.specs.Rank.{size_of}
-use Rattle.awari_table.specs.declared.images.Entry.{Entry}
 use Rattle.awari_plan.specs.Lowering.{LowersBoard}
-use Rattle.awari_plan.proofs.Lowerings.{IsLowering, lowering-none, lowering-true, lowering-false, fell_all}
+use Rattle.awari_plan.proofs.Lowerings.{IsLowering, lowering-true, lowering-false, fell_all}
 use Rattle.awari_plan.proofs.lowering.lower_beyond.Goals as goal
 use Rattle.awari_plan.proofs.lowering.lower_beyond.Goals.{then-lower_board, else-lower_board}
 

@@ -15,4 +15,4 @@ pub returns : goal.returns
 returns c =
     let known = c.in-Ok.ensures.known.0 refl in
     let image : Image = record { level = length c.args.shelf.now; limit = 0; entries = c.args.entries.now } in
-    c.in-Ok.ensures.entry ∙ sym (entry_of-append c.args.shelf.now (image ∷ []) c.args.moved.now.board known)
+    rw (← c.board.ensures) (c.in-Ok.ensures.entry ∙ sym (entry_of-append c.args.shelf.now (image ∷ []) c.board.result known))

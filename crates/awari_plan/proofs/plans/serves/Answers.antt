@@ -4,9 +4,9 @@ use Rattle.awari_plan.specs.Planning.{topped}
 use Rattle.awari_plan.proofs.Serving.{serves_by}
 use Rattle.awari_plan.proofs.plans.serves.Goals as goal
 
-pub returns-in-Ok : goal.returns-in-Ok
-returns-in-Ok c =
+pub returns : goal.returns
+returns c =
     let own = c.requires.own in
     let reached = c.entry_after-reached.ensures in
-    serves_by (table_of (topped c.args.shelf.now c.args.entries.now)) _ _ _ _ c.args.own c.entry_after-reached.result _ c.in-Ok.ensures.moved
+    serves_by (table_of (topped c.args.shelf.now c.args.entries.now)) _ _ _ _ c.args.own c.entry_after-reached.result _ c.play-moved.ensures.moved
     (ap (λ e. e.value) own) (ap (λ e. e.dist) own) (ap (λ e. e.value) reached) (ap (λ e. e.dist) reached) c.gains.ensures
