@@ -22,3 +22,5 @@ mod refusals;
 mod rounds;
 #[cfg(test)]
 mod shelves;
+#[cfg(test)]
+mod wrong_builds;
