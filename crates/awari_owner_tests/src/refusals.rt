@@ -14,7 +14,7 @@ use crate::parts::open_gain_1;
 use crate::rounds::three_owners;
 use crate::shelves::{expect_limit, levels_below, one_level};
 use awari_build::{BuildFault, Pace, build_level};
-use awari_core::{Core, CoreFault};
+use awari_core::{Core, CoreFault, Event};
 use awari_owner::{Outboxes, OwnerFault, Part};
 use awari_phase::{Open, Owner, PhaseFault, gain_phase, round};
 use awari_table::{Entries, Entry, Image, Level, Shelf, TableFault, TableText};
@@ -147,14 +147,33 @@ fn scanned_in_pieces<R: Threads + Sync + Abort>(
     }
 }
 
+/// The block of the part that is scanned by one thread.
+fn expect_scanned(rt: &impl Abort, alloc: Global, shelf: &Shelf) -> Result<(), Fail>
+    requires { length shelf.now ≡ 1 }
+{
+    let part = scanned(rt, alloc, shelf)?;
+    expect_equal(rt, "by one thread", part.block(), (8, 12));
+    Ok(())
+}
+
+/// The block of the part that is scanned in pieces.
+fn expect_pieces<R: Threads + Sync + Abort>(
+    rt: &R,
+    alloc: Global,
+    shelf: &Shelf,
+) -> Result<(), Fail>
+    requires { length shelf.now ≡ 1 }
+{
+    let part = scanned_in_pieces(rt, alloc, shelf)?;
+    expect_equal(rt, "in pieces", part.block(), (8, 12));
+    Ok(())
+}
+
 #[test]
 fn a_part_is_scanned(rt: HostRuntime) -> Result<(), Fail> {
     let shelf = one_level(rt.alloc())?;
-    let part = scanned(&rt, rt.alloc(), &shelf)?;
-    let pieces = scanned_in_pieces(&rt, rt.alloc(), &shelf)?;
-    expect_equal(&rt, "blocks", part.block(), (8, 12));
-    expect_equal(&rt, "blocks", pieces.block(), (8, 12));
-    Ok(())
+    expect_scanned(&rt, rt.alloc(), &shelf)?;
+    expect_pieces(&rt, rt.alloc(), &shelf)
 }
 
 /// Spreads the first fresh board, once more where that is refused.
@@ -212,21 +231,31 @@ fn finished(rt: &impl Abort, alloc: Global, core: &Core) -> Result<Image, Fail> 
     }
 }
 
-/// The limit and the number of entries.
-fn expect_image(rt: &impl Abort, image: &Image, expected: (u32, usize)) {
+/// The core, with all gains closed, gives level 2.
+fn expect_level_2(rt: &impl Abort, alloc: Global, core: &Core) -> Result<(), Fail> {
+    let image = finished(rt, alloc, core)?;
     let found = (image.limit, image.entries.len());
-    expect_equal(rt, "limit and entries", found, expected);
+    expect_equal(rt, "limit and entries", found, (9, 78));
+    Ok(())
+}
+
+/// Two owners build level 2 by these events, again and again.
+fn expect_built(
+    rt: &impl Abort,
+    alloc: Global,
+    shelf: &Shelf,
+    events: &[Event],
+) -> Result<(), Fail> {
+    let mut core = core_of_two(rt, alloc, shelf)?;
+    expect_closed(rt, &mut core, events);
+    expect_level_2(rt, alloc, &core)
 }
 
 #[test]
 fn a_core_builds_level_2(rt: HostRuntime) -> Result<(), Fail> {
     let shelf = levels_below(rt.alloc(), 2)?;
     let events = all_events(rt.alloc(), 2)?;
-    let mut core = core_of_two(&rt, rt.alloc(), &shelf)?;
-    expect_closed(&rt, &mut core, &events);
-    let image = finished(&rt, rt.alloc(), &core)?;
-    expect_image(&rt, &image, (9, 78));
-    Ok(())
+    expect_built(&rt, rt.alloc(), &shelf, &events)
 }
 
 /// Two owners, who take turns often.
