@@ -106,8 +106,8 @@ impl PackedBoard {
         stones > 0 && (pit + stones >= SIDE || other_stones(self.bits) > 0)
     }
 
-    /// Plays `origin`: sows its stones, captures, and turns the board to the other player. Condition:
-    /// the pit is legal.
+    /// Plays `origin`: sows its stones, captures, and turns the board to the other player.
+    /// Condition: the pit is legal.
     #[inline(always)]
     pub fn play(&self, origin: u8) -> PackedMove
         requires { IsLegal self.now origin }

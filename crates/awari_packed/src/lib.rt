@@ -1,8 +1,8 @@
 //! Boards of at most 24 stones, each in one number.
 //!
-//! Five bits hold a pit, pit 11 in the lowest, so that the numbers are in the order of the boards. A
-//! move is one addition from a table and half a turn, and a rank is six look-ups. It is for loops over
-//! whole levels. Elsewhere `awari_board` and `awari_rank` say the same. No call takes memory.
+//! Five bits hold a pit, pit 11 in the lowest, so that the numbers are in the order of the boards.
+//! A move is one addition from a table and half a turn, and a rank is six look-ups. It is for loops
+//! over whole levels. Elsewhere `awari_board` and `awari_rank` say the same. No call takes memory.
 #![tactic(auto)]
 
 mod boards;

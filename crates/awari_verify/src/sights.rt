@@ -12,8 +12,8 @@ use awari_board::SIDE;
 use awari_packed::{PackedBoard, PackedMove};
 use awari_table::{Distances, Entry, Image, Shelf};
 
-/// Puts into `seen` what the image says of the board, which is that of this rank, and what image and
-/// shelf say of the boards that its moves lead to. Each is looked up once.
+/// Puts into `seen` what the image says of the board, which is that of this rank, and what image
+/// and shelf say of the boards that its moves lead to. Each is looked up once.
 ///
 /// It is filled in where it stands, since to hand it on copies six moves for each board.
 pub fn see(shelf: &Shelf, image: &Image, board: &PackedBoard, rank: u32, seen: &mut Seen)
