@@ -6,8 +6,8 @@ ghost use Rattle.awari_rank.specs.Rank.{rank_of, size_of};
 ghost use Rattle.awari_owner.specs.Leaving.{IsAmong, IsBlockOf};
 ghost use Rattle.awari_owner.specs.Scan.{first_rank};
 
-use awari_board::Board;
-use awari_rank::{rank, size};
+use awari_packed::PackedBoard;
+use awari_rank::size;
 
 /// The level, the open gain and distance, and where the block begins.
 #[derive(Clone, Copy)]
@@ -54,7 +54,7 @@ impl Block {
     }
 
     /// Whether the board is in the block. Where the block is the whole level no rank is computed.
-    pub fn holds(self, board: &Board) -> bool
+    pub fn holds(self, board: &PackedBoard) -> bool
         requires board { IsBoard board.now }
         requires low { sum board.now ≤ 24 }
         requires sound { IsBlockOf (sum board.now) self }
@@ -63,7 +63,7 @@ impl Block {
         if self.whole {
             return true;
         }
-        let rank = rank(board);
+        let rank = board.rank();
         self.start <= rank && rank < self.end
     }
 }

@@ -15,8 +15,9 @@ ghost use Rattle.awari_owner.specs.Scan.{CanScan, IsOutlook, IsPiece, IsRanged, 
 use crate::blocks::Due;
 use crate::cells::{Cell, Mark};
 use crate::places::Block;
-use awari_board::{Board, Moved, SIDE};
-use awari_rank::{ranks_tell_boards_apart, successor, unrank};
+use awari_board::SIDE;
+use awari_packed::{PackedBoard, PackedMove};
+use awari_rank::{ranks_tell_boards_apart, unrank};
 use awari_table::Shelf;
 use std::alloc::{AllocError, Global};
 use std::collections::BinaryHeap;
@@ -95,12 +96,12 @@ pub fn scan_boards(shelf: &Shelf, block: Block, first: u32, cells: &mut [Cell], 
     if cells.is_empty() {
         return;
     }
-    let mut board = unrank(shelf.levels(), first);
+    let mut board = PackedBoard::new(&unrank(shelf.levels(), first));
     for k in 0..cells.len() {
         let found = scanned(shelf, block, &board);
         cells[k] = found.cell;
         leaving[k] = found.leaving;
-        match successor(&board) {
+        match board.successor() {
             Some(next) => board = next,
             None => return,
         }
@@ -108,7 +109,7 @@ pub fn scan_boards(shelf: &Shelf, block: Block, first: u32, cells: &mut [Cell], 
 }
 
 /// What is found of a board of the shelf's next level.
-fn scanned(shelf: &Shelf, block: Block, board: &Board) -> ScannedBoard
+fn scanned(shelf: &Shelf, block: Block, board: &PackedBoard) -> ScannedBoard
     requires board { IsBoard board.now }
     requires stones { sum board.now ≡ length shelf.now }
     requires low { length shelf.now ≤ HIGHEST_LEVEL }
@@ -132,7 +133,7 @@ fn scanned(shelf: &Shelf, block: Block, board: &Board) -> ScannedBoard
 }
 
 /// The outlook with one pit more.
-fn with_pit(seen: Outlook, shelf: &Shelf, block: Block, board: &Board, pit: u8) -> Outlook
+fn with_pit(seen: Outlook, shelf: &Shelf, block: Block, board: &PackedBoard, pit: u8) -> Outlook
     requires stones { sum board.now ≡ length shelf.now }
     requires low { length shelf.now ≤ HIGHEST_LEVEL }
     requires ranged { IsRanged (table_of shelf.now).value (length shelf.now) }
@@ -146,17 +147,15 @@ fn with_pit(seen: Outlook, shelf: &Shelf, block: Block, board: &Board, pit: u8) 
     if !board.legal(pit) {
         return seen;
     }
-    match board.play(pit) {
-        Ok(moved) => Outlook {
-            leaving: with_leaving(seen.leaving, block, pit, &moved),
-            ..with_move(seen, shelf, &moved)
-        },
-        Err(_) => unreachable!(),
+    let moved = board.play(pit);
+    Outlook {
+        leaving: with_leaving(seen.leaving, block, pit, &moved),
+        ..with_move(seen, shelf, &moved)
     }
 }
 
 /// The pits whose quiet moves lead out of the block, with the move of one pit more.
-fn with_leaving(leaving: u8, block: Block, pit: u8, moved: &Moved) -> u8
+fn with_leaving(leaving: u8, block: Block, pit: u8, moved: &PackedMove) -> u8
     requires own { pit < 6 }
     requires board { IsBoard moved.now.board }
     requires low { sum moved.now.board + moved.now.captured ≤ 24 }
@@ -172,7 +171,7 @@ fn with_leaving(leaving: u8, block: Block, pit: u8, moved: &Moved) -> u8
 }
 
 /// The outlook with the move of one pit more.
-fn with_move(seen: Outlook, shelf: &Shelf, moved: &Moved) -> Outlook
+fn with_move(seen: Outlook, shelf: &Shelf, moved: &PackedMove) -> Outlook
     requires kept { sum moved.now.board + moved.now.captured ≡ length shelf.now }
     requires board { IsBoard moved.now.board }
     requires low { length shelf.now ≤ HIGHEST_LEVEL }
@@ -200,7 +199,7 @@ fn with_move(seen: Outlook, shelf: &Shelf, moved: &Moved) -> Outlook
 }
 
 /// What a capture gains: the stones captured, less the value of the board that it leaves.
-fn gain_of(shelf: &Shelf, moved: &Moved) -> i8
+fn gain_of(shelf: &Shelf, moved: &PackedMove) -> i8
     requires kept { sum moved.now.board + moved.now.captured ≡ length shelf.now }
     requires board { IsBoard moved.now.board }
     requires low { length shelf.now ≤ HIGHEST_LEVEL }
@@ -209,14 +208,14 @@ fn gain_of(shelf: &Shelf, moved: &Moved) -> i8
     ensures gain { result ≡ (pos moved.now.captured -ℤ (table_of shelf.now).value moved.now.board) }
     ensures within { IsWithin (length shelf.now) result }
 {
-    match shelf.entry(&moved.board) {
+    match shelf.entry(&moved.board.board()) {
         Ok(entry) => moved.captured as i8 - entry.value,
         Err(_) => unreachable!(),
     }
 }
 
 /// The cell of a board with this outlook, which is ended where it has no quiet move and no capture.
-fn cell_of(board: &Board, seen: Outlook) -> Cell
+fn cell_of(board: &PackedBoard, seen: Outlook) -> Cell
     requires ended { seen.quiet ≡ 0 → seen.best ≡ None → IsEnded board.now }
     ensures { (value : List ℕ → ℤ) → IsBoard board.now → IsRanged value (sum board.now)
         → IsOutlook value board.now 6 seen.quiet seen.best → IsScanned value board.now result }
@@ -234,11 +233,11 @@ fn cell_of(board: &Board, seen: Outlook) -> Cell
 }
 
 /// What the mover gains where no move is legal.
-fn end_of(board: &Board) -> i8
+fn end_of(board: &PackedBoard) -> i8
     requires { IsEnded board.now }
     ensures { IsEnd board.now result }
 {
-    match board.end() {
+    match board.board().end() {
         Some(gain) => gain,
         None => unreachable!(),
     }

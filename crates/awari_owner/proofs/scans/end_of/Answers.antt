@@ -6,4 +6,4 @@ use Rattle.awari_owner.proofs.scans.end_of.Goals as goal
 pub returns : goal.returns
 returns c =
     let held : SFits w8 c.in-Some.gain = search rules in
-    subst (IsEnd c.args.board.now) (sym (to_z-of_z w8 c.in-Some.gain held)) ((c.end.ensures.some c.in-Some.gain).0 c.in-Some.is)
+    rw (← c.board.ensures) (subst (IsEnd c.board.result) (sym (to_z-of_z w8 c.in-Some.gain held)) ((c.end.ensures.some c.in-Some.gain).0 c.in-Some.is))

@@ -15,7 +15,7 @@ returns-then-not-legal-clause-leaving c =
     (λ leaves. false≢true (sym c.if-not-legal.true ∙ c.legal.ensures.1 leaves.1.legal)) c.requires.leaving
 
 pub returns-clause-seen : goal.returns-clause-seen
-returns-clause-seen c = c.with_move.ensures c.args.board.now c.args.pit c.requires.own c.requires.stones c.in-Ok.ensures.moved c.requires.seen
+returns-clause-seen c = c.with_move.ensures c.args.board.now c.args.pit c.requires.own c.requires.stones c.play-moved.ensures.moved c.requires.seen
 
 pub returns-clause-leaving : goal.returns-clause-leaving
-returns-clause-leaving c = c.with_leaving.ensures c.args.board.now c.in-Ok.ensures.moved c.requires.leaving
+returns-clause-leaving c = c.with_leaving.ensures c.args.board.now c.play-moved.ensures.moved c.requires.leaving
