@@ -1,139 +1,213 @@
-//! Boards, moves and ranks.
+//! Boards packed into a number, moves and ranks.
 
-pub type Board = [u8; 12];
+/// The most stones of a board.
+pub const MOST: usize = 24;
+/// The bits of pit 0.
+const PIT: u64 = 31;
+const ALL: u64 = (1 << 60) - 1;
+/// The mover's pits.
+const OWN: u64 = (1 << 30) - 1;
+/// One in each pit. A board's product with it has in each pit's place the sum of the pits up to it,
+/// since no sum is above 31.
+const ONES: u64 = ALL / PIT;
 
-/// C(n, k), by multiplication.
-fn choose(n: u64, k: u64) -> u64 {
-    (0..k).fold(1, |product, i| product * (n - i) / (i + 1))
-}
+/// Twelve pits of five bits each, pit 0 lowest.
+#[derive(Clone, Copy)]
+pub struct Board(u64);
 
-/// At `[k][n]`, the ways to lay fewer than n stones in k pits.
-pub struct Ways([[u32; 26]; 12]);
+impl Board {
+    #[inline(always)]
+    pub fn pit(self, pit: usize) -> usize {
+        (self.0 >> (5 * pit) & PIT) as usize
+    }
 
-impl Ways {
-    pub fn new() -> Self {
-        let mut ways = [[0; 26]; 12];
-        for (k, row) in ways.iter_mut().enumerate() {
-            for (n, cell) in row.iter_mut().enumerate().skip(1) {
-                *cell = choose((n - 1 + k) as u64, k as u64) as u32;
-            }
+    #[inline(always)]
+    pub fn stones(self) -> usize {
+        (self.0.wrapping_mul(ONES) >> 55 & PIT) as usize
+    }
+
+    /// The board as the other player sees it.
+    #[inline(always)]
+    pub fn turned(self) -> Self {
+        Board((self.0 >> 30 | self.0 << 30) & ALL)
+    }
+
+    #[inline(always)]
+    pub fn has_food(self) -> bool {
+        self.0 > OWN
+    }
+
+    /// With these stones more in the pit.
+    #[inline(always)]
+    pub fn with(self, pit: usize, stones: usize) -> Self {
+        Board(self.0 + ((stones as u64) << (5 * pit)))
+    }
+
+    /// With one stone less in the pit.
+    #[inline(always)]
+    pub fn less_one(self, pit: usize) -> Self {
+        Board(self.0 - (1 << (5 * pit)))
+    }
+
+    /// The pits that a sowing captures which gives this board and ends in this pit, 0 for none.
+    #[inline(always)]
+    pub fn captured(self, last: usize) -> u64 {
+        let mut run = 0;
+        let mut pit = last;
+        while pit >= 6 && self.pit(pit) & 30 == 2 {
+            run |= PIT << (5 * pit);
+            pit -= 1;
         }
-        Ways(ways)
+        if self.0 & !run > OWN { run } else { 0 }
     }
 
-    pub fn size(&self, stones: usize) -> u32 {
-        self.0[11][stones + 1]
+    /// What the mover gains where no move is legal.
+    pub fn gain_at_end(self) -> i8 {
+        let stones = self.stones() as i8;
+        if self.0 & OWN == 0 { -stones } else { stones }
     }
 
-    #[inline]
-    pub fn rank(&self, board: &Board) -> u32 {
-        self.rank_of(board.iter().sum::<u8>() as usize, board)
-    }
-
-    /// The rank of a board of so many stones.
-    #[inline]
-    pub fn rank_of(&self, stones: usize, board: &Board) -> u32 {
-        let mut right = stones as u8;
-        let size = self.size(stones);
-        let mut larger = 0;
-        for i in 0..11 {
-            right -= board[i];
-            larger += self.0[11 - i][right as usize];
+    /// The next board by rank.
+    #[inline(always)]
+    pub fn successor(self) -> Option<Self> {
+        let last = (63 - (self.0 | 1).leading_zeros()) / 5;
+        if last == 0 {
+            return None;
         }
-        size - 1 - larger
+        let stones = self.0 >> (5 * last);
+        let front = self.0 ^ stones << (5 * last);
+        Some(Board(
+            front + (1 << (5 * (last - 1))) + ((stones - 1) << 55),
+        ))
     }
-
-    #[inline]
-    pub fn unrank(&self, stones: usize, rank: u32) -> Board {
-        let mut larger = self.size(stones) - 1 - rank;
-        let mut left = stones;
-        let mut board = [0; 12];
-        for i in 0..11 {
-            let mut right = left;
-            while self.0[11 - i][right] > larger {
-                right -= 1;
-            }
-            larger -= self.0[11 - i][right];
-            board[i] = (left - right) as u8;
-            left = right;
-        }
-        board[11] = left as u8;
-        board
-    }
-}
-
-#[inline]
-pub fn successor(board: &Board) -> Option<Board> {
-    let last = board.iter().rposition(|&stones| stones > 0)?;
-    if last == 0 {
-        return None;
-    }
-    let mut next = *board;
-    next[last] = 0;
-    next[last - 1] += 1;
-    next[11] = board[last] - 1;
-    Some(next)
 }
 
 /// The boards of a level, in order of rank.
 pub fn boards(stones: usize) -> impl Iterator<Item = Board> {
-    let mut first = [0; 12];
-    first[11] = stones as u8;
-    std::iter::successors(Some(first), successor)
+    std::iter::successors(Some(Board((stones as u64) << 55)), |board| {
+        board.successor()
+    })
 }
 
-#[inline]
-pub fn next_pit(pit: usize) -> usize {
-    if pit == 11 { 0 } else { pit + 1 }
+/// What a sowing adds to the pits, and the pit that it ends in.
+#[derive(Clone, Copy)]
+struct Sowing {
+    added: u64,
+    last: usize,
 }
 
-/// The board after the move and the stones captured, if the move is legal.
-#[inline]
-pub fn play(board: &Board, pit: usize) -> Option<(Board, u8)> {
-    let stones = board[pit];
-    let feeds = pit + stones as usize >= 6 || board[6..].iter().any(|&stones| stones > 0);
-    if stones == 0 || !feeds {
-        return None;
-    }
-    let mut pits = *board;
-    pits[pit] = 0;
-    let mut last = pit;
-    for _ in 0..stones {
-        last = next_pit(last);
-        if last == pit {
-            last = next_pit(last);
+impl Sowing {
+    fn new(pit: usize, stones: usize) -> Self {
+        let laps = (0..12).cycle().skip(pit + 1).filter(|&next| next != pit);
+        let mut sowing = Sowing {
+            added: 0,
+            last: pit,
+        };
+        for next in laps.take(stones) {
+            sowing.added += 1 << (5 * next);
+            sowing.last = next;
         }
-        pits[last] += 1;
+        sowing
     }
-    let mut captured = 0;
-    let mut end = last + 1;
-    while end > 6 && (pits[end - 1] == 2 || pits[end - 1] == 3) {
-        end -= 1;
-        captured += pits[end];
-    }
-    if captured > 0 {
-        if captured == pits[6..].iter().sum() {
-            captured = 0;
-        } else {
-            pits[end..=last].fill(0);
+}
+
+/// The numbers by which boards of one level are ranked: of the board of this rank from the last, how
+/// many boards are larger, told by the sums of two pits and all before them at once.
+struct Ranks {
+    last: u32,
+    pairs: Box<[[u32; 1024]; 6]>,
+}
+
+impl Ranks {
+    fn new(fewer: &[[u32; 32]; 12], stones: usize) -> Self {
+        let mut pairs = Box::new([[0; 1024]; 6]);
+        let larger = |pit: usize, before: usize| match stones.checked_sub(before) {
+            Some(right) if pit < 11 => fewer[11 - pit][right],
+            _ => 0,
+        };
+        for (pair, row) in pairs.iter_mut().enumerate() {
+            for (sums, cell) in row.iter_mut().enumerate() {
+                *cell = larger(2 * pair, sums & 31).wrapping_add(larger(2 * pair + 1, sums >> 5));
+            }
+        }
+        Ranks {
+            last: fewer[11][stones + 1] - 1,
+            pairs,
         }
     }
-    Some((turned(&pits), captured))
 }
 
-/// The board as the other player sees it.
-#[inline]
-pub fn turned(pits: &Board) -> Board {
-    let [a, b, c, d, e, f, u, v, w, x, y, z] = *pits;
-    [u, v, w, x, y, z, a, b, c, d, e, f]
+/// Sowings, and the numbers by which boards are ranked.
+pub struct Game {
+    sowings: [[Sowing; 32]; 6],
+    levels: Vec<Ranks>,
+    /// At `[k][n]`, the ways to lay fewer than n stones in k pits.
+    fewer: [[u32; 32]; 12],
 }
 
-/// What the mover of a board with no legal move gains.
-pub fn gain_at_end(board: &Board) -> i16 {
-    let stones = board.iter().sum::<u8>() as i16;
-    if board[..6].iter().all(|&stones| stones == 0) {
-        -stones
-    } else {
-        stones
+impl Game {
+    pub fn new() -> Self {
+        let mut fewer = [[0; 32]; 12];
+        fewer[0] = std::array::from_fn(|stones| u32::from(stones > 0));
+        for pits in 1..12 {
+            for stones in 1..=MOST + 1 {
+                fewer[pits][stones] = fewer[pits][stones - 1] + fewer[pits - 1][stones];
+            }
+        }
+        Game {
+            sowings: std::array::from_fn(|pit| {
+                std::array::from_fn(|stones| Sowing::new(pit, stones.min(MOST)))
+            }),
+            levels: (0..=MOST)
+                .map(|stones| Ranks::new(&fewer, stones))
+                .collect(),
+            fewer,
+        }
+    }
+
+    pub fn size(&self, stones: usize) -> usize {
+        self.fewer[11][stones + 1] as usize
+    }
+
+    /// The board after the move and the stones captured, if the move is legal.
+    #[inline(always)]
+    pub fn play(&self, board: Board, pit: usize) -> Option<(Board, usize)> {
+        let stones = board.pit(pit);
+        if stones == 0 || !(board.has_food() || pit + stones >= 6) {
+            return None;
+        }
+        let Sowing { added, last } = self.sowings[pit][stones];
+        let sown = Board((board.0 & !(PIT << (5 * pit))) + added);
+        let captured = sown.captured(last);
+        let next = Board(sown.0 & !captured).turned();
+        Some((next, Board(sown.0 & captured).stones()))
+    }
+
+    /// The rank of a board of so many stones.
+    #[inline(always)]
+    pub fn rank(&self, stones: usize, board: Board) -> usize {
+        let Ranks { last, pairs } = &self.levels[stones];
+        let sums = board.0.wrapping_mul(ONES);
+        let larger = |pair: usize| pairs[pair][(sums >> (10 * pair) & 1023) as usize];
+        let low = larger(0).wrapping_add(larger(1)).wrapping_add(larger(2));
+        let high = larger(3).wrapping_add(larger(4)).wrapping_add(larger(5));
+        last.wrapping_sub(low.wrapping_add(high)) as usize
+    }
+
+    pub fn unrank(&self, stones: usize, rank: usize) -> Board {
+        let mut larger = self.levels[stones].last - rank as u32;
+        let mut left = stones;
+        let mut board = Board(0);
+        for pit in 0..11 {
+            let fewer = &self.fewer[11 - pit];
+            let mut right = left;
+            while fewer[right] > larger {
+                right -= 1;
+            }
+            larger -= fewer[right];
+            board = board.with(pit, left - right);
+            left = right;
+        }
+        board.with(11, left)
     }
 }

@@ -1,7 +1,7 @@
 //! Folders of level files, in the form of docs/FORMATS.md: levels saved, loaded and verified.
 
-use crate::board::Ways;
-use crate::level::{Entry, Level, refusal};
+use crate::board::{Game, MOST};
+use crate::level::{Entry, Finished, Level, NO_PLAN, refusal};
 use crate::sha256::{Digest, Sha256};
 use std::fs::{self, File};
 use std::io::{self, Read, Write};
@@ -9,11 +9,9 @@ use std::path::{Path, PathBuf};
 
 const MAGIC: [u8; 4] = *b"AWDB";
 const VERSION: [u8; 2] = [0, 2];
-const HIGHEST: usize = 24;
 /// The version of files that are read, and not loaded.
 const OLD_VERSION: [u8; 2] = [0, 1];
-const OLD_HIGHEST: usize = 12;
-const NO_PLAN: u8 = 255;
+const OLD_MOST: usize = 12;
 const ENTRY: usize = 6;
 /// How many entries are read or written at once.
 const PIECE: usize = 680;
@@ -122,7 +120,7 @@ fn read_entry(bytes: &[u8; ENTRY]) -> Result<Entry, FileFault> {
     }
     Ok(Entry {
         value: value as i8,
-        plan: (plan != NO_PLAN).then_some(plan),
+        plan,
         dist: u32::from_be_bytes(dist),
     })
 }
@@ -143,14 +141,14 @@ fn read_entries<R: Read>(input: &mut Hashed<R>, count: usize) -> Result<Vec<Entr
     Ok(entries)
 }
 
-fn read_header<R: Read>(ways: &Ways, input: &mut Hashed<R>) -> Result<Header, FileFault> {
+fn read_header<R: Read>(game: &Game, input: &mut Hashed<R>) -> Result<Header, FileFault> {
     if input.field()? != MAGIC {
         return Err(FileFault::Magic);
     }
     let version = input.field()?;
     let highest = match version {
-        VERSION => HIGHEST,
-        OLD_VERSION => OLD_HIGHEST,
+        VERSION => MOST,
+        OLD_VERSION => OLD_MOST,
         _ => return Err(FileFault::Version),
     };
     let [stones] = input.field()?;
@@ -161,7 +159,7 @@ fn read_header<R: Read>(ways: &Ways, input: &mut Hashed<R>) -> Result<Header, Fi
     if input.field()? != [0] {
         return Err(FileFault::Version);
     }
-    if u64::from_be_bytes(input.field()?) != u64::from(ways.size(stones)) {
+    if u64::from_be_bytes(input.field()?) != game.size(stones) as u64 {
         return Err(FileFault::Count);
     }
     Ok(Header {
@@ -172,15 +170,15 @@ fn read_header<R: Read>(ways: &Ways, input: &mut Hashed<R>) -> Result<Header, Fi
     })
 }
 
-fn read_level(ways: &Ways, file: File) -> Result<Loaded, FileFault> {
+fn read_level(game: &Game, file: File) -> Result<Loaded, FileFault> {
     let mut input = Hashed::new(file);
     let Header {
         version,
         stones,
         limit,
         below,
-    } = read_header(ways, &mut input)?;
-    let entries = read_entries(&mut input, ways.size(stones) as usize)?;
+    } = read_header(game, &mut input)?;
+    let entries = read_entries(&mut input, game.size(stones))?;
     let Hashed { stream, sha } = input;
     let digest = sha.digest();
     let mut end = Hashed::new(stream);
@@ -201,13 +199,13 @@ fn read_level(ways: &Ways, file: File) -> Result<Loaded, FileFault> {
 
 /// The level of a file put on those below it, and the digest of the file; or why it is refused.
 fn loaded(
-    ways: &Ways,
-    below: &[Level],
+    game: &Game,
+    below: &Finished,
     digest: Digest,
     file: File,
 ) -> Result<(Level, Digest), String> {
-    let level = below.len();
-    let loaded = read_level(ways, file)
+    let level = below.levels();
+    let loaded = read_level(game, file)
         .map_err(|fault| format!("refused 81 File level {level}: {}", fault.text()))?;
     if loaded.version != VERSION {
         return Err(format!("refused 86 Old level {level}"));
@@ -218,7 +216,7 @@ fn loaded(
     if loaded.stones != level {
         return Err(format!("refused 83 Verify level {level}: 20 WrongLevel"));
     }
-    match refusal(ways, below, &loaded.level) {
+    match refusal(game, below, &loaded.level) {
         None => Ok((loaded.level, loaded.digest)),
         Some((rank, rule)) => Err(format!(
             "refused 83 Verify level {level}: 22 Refused rank {rank} rule V{rule}"
@@ -227,24 +225,24 @@ fn loaded(
 }
 
 /// Loads and verifies the levels of a folder, and gives the lines to be printed.
-pub fn verify(ways: &Ways, folder: &Path) -> Result<String, String> {
-    let mut below = Vec::new();
+pub fn verify(game: &Game, folder: &Path) -> Result<String, String> {
+    let mut below = Finished::default();
     let mut digest = [0; 32];
     let mut lines = String::new();
-    while below.len() <= HIGHEST {
-        let level = below.len();
+    while below.levels() <= MOST {
+        let level = below.levels();
         let file = match File::open(path_of(folder, level)) {
             Ok(file) => file,
             Err(fault) if fault.kind() == io::ErrorKind::NotFound => break,
             Err(_) => return Err(format!("refused 82 Open level {level}")),
         };
-        let (next, its_digest) = loaded(ways, &below, digest, file)?;
+        let (next, its_digest) = loaded(game, &below, digest, file)?;
         lines += &format!("level {level} ok limit {}\n", next.limit);
-        below.push(next);
+        below.push(&next);
         digest = its_digest;
     }
     let digits: String = digest.iter().map(|byte| format!("{byte:02x}")).collect();
-    Ok(format!("{lines}levels {} digest {digits}", below.len()))
+    Ok(format!("{lines}levels {} digest {digits}", below.levels()))
 }
 
 fn write_level(file: &File, stones: usize, level: &Level, below: &Digest) -> io::Result<Digest> {
@@ -262,7 +260,7 @@ fn write_level(file: &File, stones: usize, level: &Level, below: &Digest) -> io:
         piece.clear();
         for entry in entries {
             let [a, b, c, d] = entry.dist.to_be_bytes();
-            piece.extend([entry.value as u8, entry.plan.unwrap_or(NO_PLAN), a, b, c, d]);
+            piece.extend([entry.value as u8, entry.plan, a, b, c, d]);
         }
         output.put(&piece)?;
     }

@@ -1,16 +1,19 @@
 //! Levels, and whether they keep the rules of a table.
 
-use crate::board::{Board, Ways, boards, gain_at_end, play};
+use crate::board::{Board, Game, boards};
 
 /// What is said of a board, in eight bytes as in the proved program.
 #[derive(Clone, Copy)]
 pub struct Entry {
-    pub value: i8,
-    pub plan: Option<u8>,
     pub dist: u32,
+    pub value: i8,
+    pub plan: u8,
 }
 
 const _: () = assert!(size_of::<Entry>() == 8);
+
+/// The plan of a board with no move.
+pub const NO_PLAN: u8 = 255;
 
 /// The entries of all boards of so many stones, in order of rank.
 pub struct Level {
@@ -18,118 +21,125 @@ pub struct Level {
     pub entries: Vec<Entry>,
 }
 
-impl Level {
-    pub fn of(entries: Vec<Entry>) -> Self {
-        Level {
-            limit: greatest(&entries),
-            entries,
-        }
+/// What is kept of finished levels: their values, and the greatest of their limits.
+#[derive(Default)]
+pub struct Finished {
+    pub limit: u32,
+    pub values: Vec<Vec<i8>>,
+}
+
+impl Finished {
+    /// How many there are, which is how many stones the boards of the next one have.
+    pub fn levels(&self) -> usize {
+        self.values.len()
+    }
+
+    pub fn push(&mut self, level: &Level) {
+        self.limit = self.limit.max(level.limit);
+        let values = level.entries.iter().map(|entry| entry.value);
+        self.values.push(values.collect());
+    }
+
+    /// What a capture gains that leaves this board.
+    #[inline(always)]
+    pub fn gain(&self, game: &Game, next: Board, captured: usize) -> i8 {
+        let stones = self.levels() - captured;
+        captured as i8 - self.values[stones][game.rank(stones, next)]
     }
 }
 
-pub fn greatest(entries: &[Entry]) -> u32 {
-    entries.iter().map(|entry| entry.dist).max().unwrap_or(0)
-}
-
-/// The greatest limit of these levels.
-pub fn limit_of(levels: &[Level]) -> u32 {
-    levels.iter().map(|level| level.limit).max().unwrap_or(0)
-}
-
-/// A legal move: what it gains by the entry of the board that it leaves, and whether it captures or
-/// comes nearer.
-struct Reached {
-    gain: i16,
+/// What the legal moves of a board come to: the most that one gains, the fewest plies of those that
+/// gain the board's value, the most plies of all, what the plan's move gains, and whether it captures
+/// or comes nearer.
+struct Seen {
+    most: i8,
+    soonest: u64,
+    latest: u64,
+    planned: i8,
     nearer: bool,
 }
 
-/// What the legal moves of a board come to: the most that one gains, the fewest plies of those that
-/// gain the board's value, the most plies of all, and the plan's move, if it is legal.
-struct Seen {
-    most: Option<i16>,
-    soonest: Option<u64>,
-    latest: u64,
-    planned: Option<Reached>,
-}
+/// No move gains so little.
+const NONE: i8 = i8::MIN;
 
-fn seen(ways: &Ways, below: &[Level], entries: &[Entry], own: Entry, board: &Board) -> Seen {
-    let stones = below.len();
+#[inline(always)]
+fn seen(game: &Game, below: &Finished, entries: &[Entry], own: Entry, board: Board) -> Seen {
+    let stones = below.levels();
     let mut seen = Seen {
-        most: None,
-        soonest: None,
+        most: NONE,
+        soonest: u64::MAX,
         latest: 0,
-        planned: None,
+        planned: NONE,
+        nearer: false,
     };
     for pit in 0..6 {
-        let Some((next, captured)) = play(board, usize::from(pit)) else {
+        let Some((next, captured)) = game.play(board, pit) else {
             continue;
         };
-        let left = stones - captured as usize;
-        let level = match captured {
-            0 => entries,
-            _ => &below[left].entries,
+        let (gain, plies, nearer) = if captured == 0 {
+            let next = entries[game.rank(stones, next)];
+            let plies = u64::from(next.dist) + 1;
+            (next.value.saturating_neg(), plies, next.dist < own.dist)
+        } else {
+            (below.gain(game, next, captured), 1, true)
         };
-        let next = level[ways.rank_of(left, &next) as usize];
-        let gain = i16::from(captured) - i16::from(next.value);
-        let nearer = captured > 0 || next.dist < own.dist;
-        let plies = match captured {
-            0 => u64::from(next.dist) + 1,
-            _ => 1,
-        };
-        seen.most = seen.most.max(Some(gain));
+        seen.most = seen.most.max(gain);
         seen.latest = seen.latest.max(plies);
-        if gain == i16::from(own.value) {
-            seen.soonest = Some(seen.soonest.map_or(plies, |fewest| fewest.min(plies)));
+        if gain == own.value {
+            seen.soonest = seen.soonest.min(plies);
         }
-        if own.plan == Some(pit) {
-            seen.planned = Some(Reached { gain, nearer });
+        if usize::from(own.plan) == pit {
+            seen.planned = gain;
+            seen.nearer = nearer;
         }
     }
     seen
 }
 
 /// The first rule from V1 to V6 that a board breaks.
+#[inline(always)]
 fn broken(
-    ways: &Ways,
-    below: &[Level],
+    game: &Game,
+    below: &Finished,
     entries: &[Entry],
     own: Entry,
-    board: &Board,
+    board: Board,
 ) -> Option<u8> {
-    let Entry { plan, dist, .. } = own;
-    let value = i16::from(own.value);
-    if usize::from(value.unsigned_abs()) > below.len() || plan.is_some_and(|pit| pit > 5) {
+    let Entry { value, plan, dist } = own;
+    if usize::from(value.unsigned_abs()) > below.levels() || (plan > 5 && plan != NO_PLAN) {
         return Some(1);
     }
-    let seen = seen(ways, below, entries, own, board);
-    let Some(most) = seen.most else {
-        let right = value == gain_at_end(board) && plan.is_none() && dist == 0;
+    let seen = seen(game, below, entries, own, board);
+    if seen.most == NONE {
+        let right = value == board.gain_at_end() && plan == NO_PLAN && dist == 0;
         return (!right).then_some(2);
-    };
-    let Some(planned) = seen.planned else {
+    }
+    if seen.planned == NONE {
         return Some(3);
-    };
-    if most > value {
+    }
+    if seen.most > value {
         return Some(4);
     }
-    if planned.gain != value {
+    if seen.planned != value {
         return Some(5);
     }
     let least = match value {
         0 => dist == 0,
-        1.. => seen.soonest == Some(u64::from(dist)) && planned.nearer,
+        1.. => seen.soonest == u64::from(dist) && seen.nearer,
         _ => seen.latest == u64::from(dist),
     };
     (!least).then_some(6)
 }
 
 /// The first rank and rule by which a level is refused above those below it.
-pub fn refusal(ways: &Ways, below: &[Level], level: &Level) -> Option<(usize, u8)> {
-    boards(below.len())
-        .zip(&level.entries)
-        .enumerate()
-        .find_map(|(rank, (board, own))| {
-            Some((rank, broken(ways, below, &level.entries, *own, &board)?))
-        })
-        .or_else(|| (greatest(&level.entries) != level.limit).then_some((0, 7)))
+pub fn refusal(game: &Game, below: &Finished, level: &Level) -> Option<(usize, u8)> {
+    let Level { limit, entries } = level;
+    let mut greatest = 0;
+    for ((rank, own), board) in entries.iter().enumerate().zip(boards(below.levels())) {
+        if let Some(rule) = broken(game, below, entries, *own, board) {
+            return Some((rank, rule));
+        }
+        greatest = greatest.max(own.dist);
+    }
+    (greatest != *limit).then_some((0, 7))
 }

@@ -14,7 +14,7 @@ mod level;
 mod sha256;
 mod tables;
 
-use board::{Ways, boards, play};
+use board::{Game, boards};
 use std::env;
 use std::hint::black_box;
 use std::io::{Read, stdin};
@@ -23,9 +23,8 @@ use std::process::ExitCode;
 
 const STONES: usize = 10;
 
-/// What a call counts in so many rounds. The boards that a call answers are made whole, as the
-/// proved program makes them, though only one pit is looked at.
-fn measured(ways: &Ways, call: &str, rounds: u32) -> (u64, u64) {
+/// What a call counts in so many rounds.
+fn measured(game: &Game, call: &str, rounds: u32) -> (u64, u64) {
     let (mut calls, mut total) = (0u64, 0u64);
     let mut add = |number: u64| {
         calls += 1;
@@ -35,55 +34,56 @@ fn measured(ways: &Ways, call: &str, rounds: u32) -> (u64, u64) {
         match call {
             "play" => {
                 for board in boards(STONES) {
-                    for (next, captured) in (0..6).filter_map(|pit| black_box(play(&board, pit))) {
-                        add(u64::from(captured) + u64::from(next[3]));
+                    let played = |pit| black_box(game.play(board, pit));
+                    for (next, captured) in (0..6).filter_map(played) {
+                        add((captured + next.pit(3)) as u64);
                     }
                 }
             }
-            "rank" => boards(STONES).for_each(|board| add(u64::from(ways.rank(&board)))),
-            "successor" => boards(STONES).for_each(|board| add(u64::from(board[5]))),
-            "unrank" => (0..ways.size(STONES))
-                .for_each(|rank| add(u64::from(black_box(ways.unrank(STONES, rank))[5]))),
+            "rank" => boards(STONES).for_each(|board| add(game.rank(STONES, board) as u64)),
+            "successor" => boards(STONES).for_each(|board| add(board.pit(5) as u64)),
+            "unrank" => (0..game.size(STONES))
+                .for_each(|rank| add(black_box(game.unrank(STONES, rank)).pit(5) as u64)),
             _ => {}
         }
     }
     (calls, total)
 }
 
-fn report(ways: &Ways, call: &str, rounds: u32) {
-    let (calls, total) = measured(ways, call, rounds);
+fn report(game: &Game, call: &str, rounds: u32) {
+    let (calls, total) = measured(game, call, rounds);
     println!("{call} calls {calls} total {total}");
 }
 
-fn built(ways: &Ways, top: &str, options: &[&str]) -> Result<(), String> {
+fn built(game: &Game, top: &str, options: &[&str]) -> Result<(), String> {
     let top = top.parse().map_err(|_| "no level".to_string())?;
     let verifies = options.contains(&"--verify");
     let folder = options
         .iter()
         .skip_while(|&&word| word != "--folder")
         .nth(1);
-    build::build(ways, top, verifies, folder.map(Path::new))
+    build::build(game, top, verifies, folder.map(Path::new))
 }
 
-fn checked(ways: &Ways) -> Result<(), String> {
-    let mut text = String::new();
+fn checked(game: &Game) -> Result<(), String> {
+    let mut text = Vec::new();
     stdin()
-        .read_to_string(&mut text)
+        .read_to_end(&mut text)
         .map_err(|fault| fault.to_string())?;
-    println!("{}", tables::check(ways, &text)?);
+    println!("{}", tables::check(game, &text)?);
     Ok(())
 }
 
-fn done(ways: &Ways, words: &[&str]) -> Result<(), String> {
+fn done(game: &Game, words: &[&str]) -> Result<(), String> {
     match words {
-        ["tables", top] => print!("{}", tables::text(ways, top.parse().unwrap_or(0))),
-        ["build", top, options @ ..] => built(ways, top, options)?,
-        ["verify", folder] => println!("{}", folder::verify(ways, Path::new(folder))?),
-        ["check"] => checked(ways)?,
-        [call, rounds] => report(ways, call, rounds.parse().unwrap_or(1)),
+        ["tables", top] => print!("{}", tables::text(game, top.parse().unwrap_or(0))),
+        ["build", top, options @ ..] => built(game, top, options)?,
+        ["verify", folder] => println!("{}", folder::verify(game, Path::new(folder))?),
+        ["check"] => checked(game)?,
+        [call, rounds] => report(game, call, rounds.parse().unwrap_or(1)),
         _ => ["play", "rank", "successor", "unrank"]
             .iter()
-            .for_each(|call| report(ways, call, 1)),
+            .for_each(|call| report(game, call, 1)),
     }
     Ok(())
 }
@@ -91,7 +91,7 @@ fn done(ways: &Ways, words: &[&str]) -> Result<(), String> {
 fn main() -> ExitCode {
     let words: Vec<String> = env::args().skip(1).collect();
     let words: Vec<&str> = words.iter().map(String::as_str).collect();
-    match done(&Ways::new(), &words) {
+    match done(&Game::new(), &words) {
         Ok(()) => ExitCode::SUCCESS,
         Err(refusal) => {
             println!("{refusal}");
