@@ -3,7 +3,7 @@
 
 use crate::expect::expect_equal;
 use crate::shelves::levels_below;
-use awari_board::{Board, Moved};
+use awari_board::{Board, MoveFault, Moved, SIDE};
 use awari_rank::{rank, size, unrank};
 use awari_table::{Entries, Entry, HIGHEST_LEVEL, Image, Shelf};
 use awari_unmove::Unmoves;
@@ -23,6 +23,12 @@ enum Slip {
     LastHeard,
     /// A board whose best capture loses is lost, though a quiet move may not lose.
     QuietForgotten,
+    /// No board is told of another to which a grand slam leads, which takes nothing.
+    GrandSlamForgotten,
+    /// A pit that may not be played, since it does not feed, counts as a quiet move too.
+    UnfeedingCounted,
+    /// What is heard of a lost board replaces what a settled board is known to be.
+    SettledReplaced,
 }
 
 /// What is known of a board.
@@ -47,7 +53,7 @@ fn better(shelf: &Shelf, best: Option<i8>, moved: &Moved) -> Option<i8> {
 }
 
 /// What its captures and its end tell of a board.
-fn scanned(shelf: &Shelf, board: &Board) -> Known {
+fn scanned(shelf: &Shelf, board: &Board, slip: Slip) -> Known {
     let mut known = Known {
         settled: board.end().map(|gain| (gain, 0)),
         spread: false,
@@ -59,6 +65,9 @@ fn scanned(shelf: &Shelf, board: &Board) -> Known {
         match board.play(pit) {
             Ok(moved) if moved.captured > 0 => known.best = better(shelf, known.best, &moved),
             Ok(_) => known.left = known.left.saturating_add(1),
+            Err(MoveFault::MustFeed) if slip == Slip::UnfeedingCounted => {
+                known.left = known.left.saturating_add(1)
+            }
             Err(_) => {}
         }
     }
@@ -88,7 +97,7 @@ fn judge(known: &mut Known, gain: i8, slip: Slip) {
 
 /// The board hears that a quiet move leads to one that was settled so.
 fn hear(known: &mut Known, (value, dist): (i8, u32), gain: i8, slip: Slip) {
-    if known.settled.is_some() {
+    if known.settled.is_some() && !(slip == Slip::SettledReplaced && value < 0) {
         return;
     }
     if value < 0 {
@@ -112,9 +121,25 @@ fn place_of(board: &Board) -> usize {
     rank(board) as usize
 }
 
+/// Whether the quiet move by this pit, which led to the board, is a grand slam: its last stone makes
+/// two or three in the other row, and takes nothing all the same. In a level that is built here no pit
+/// sows more than 6 stones.
+fn was_grand_slam(before: &Board, pit: u8, board: &Board) -> bool {
+    if pit >= SIDE {
+        return false;
+    }
+    match pit.saturating_add(before.pit(pit)) {
+        last @ 6..12 => matches!(board.pit(last - 6), 2 | 3),
+        _ => false,
+    }
+}
+
 /// Tells all boards with a quiet move to this one.
 fn spread(all: &mut [Known], board: &Board, settled: (i8, u32), gain: i8, slip: Slip) {
-    for (before, _pit) in Unmoves::of(board) {
+    for (before, pit) in Unmoves::of(board) {
+        if slip == Slip::GrandSlamForgotten && was_grand_slam(&before, pit, board) {
+            continue;
+        }
         if let Some(known) = all.get_mut(place_of(&before)) {
             hear(known, settled, gain, slip);
         }
@@ -191,7 +216,7 @@ fn known_boards(alloc: Global, shelf: &Shelf, slip: Slip) -> Result<Vec<Known>, 
         return Ok(all);
     }
     for rank in 0..size(level) {
-        all.push(scanned(shelf, &unrank(level, rank)))?;
+        all.push(scanned(shelf, &unrank(level, rank), slip))?;
     }
     for less in 0..level {
         close_gain(&mut all, level, (level - less) as i8, slip);
@@ -285,32 +310,31 @@ fn expect_rule<R: Threads + Sync + Abort>(
     Ok(())
 }
 
-const SLIPS_ON_5: [(Slip, Option<Rule>); 4] = [
-    (Slip::None, None),
-    (Slip::DistanceIgnored, Some(Rule::V6)),
-    (Slip::LastHeard, Some(Rule::V6)),
-    (Slip::QuietForgotten, Some(Rule::V6)),
+/// Each slip, and the rule that is refused first on level 5 and on level 6.
+const SLIPS: [(Slip, Option<Rule>, Option<Rule>); 7] = [
+    (Slip::None, None, None),
+    (Slip::DistanceIgnored, Some(Rule::V6), Some(Rule::V6)),
+    (Slip::LastHeard, Some(Rule::V6), Some(Rule::V6)),
+    (Slip::QuietForgotten, Some(Rule::V6), Some(Rule::V6)),
+    (Slip::GrandSlamForgotten, Some(Rule::V5), Some(Rule::V5)),
+    (Slip::UnfeedingCounted, Some(Rule::V5), Some(Rule::V5)),
+    (Slip::SettledReplaced, Some(Rule::V6), Some(Rule::V4)),
 ];
 
 #[test]
 fn slips_on_level_5_are_refused(rt: HostRuntime) -> Result<(), Fail> {
     let shelf = levels_below(rt.alloc(), 5)?;
-    for slip in &SLIPS_ON_5 {
-        expect_rule(&rt, rt.alloc(), &shelf, *slip)?;
+    for (slip, rule, _) in &SLIPS {
+        expect_rule(&rt, rt.alloc(), &shelf, (*slip, *rule))?;
     }
     Ok(())
 }
 
-const SLIPS_ON_6: [(Slip, Option<Rule>); 2] = [
-    (Slip::None, None),
-    (Slip::QuietForgotten, Some(Rule::V6)),
-];
-
 #[test]
 fn slips_on_level_6_are_refused(rt: HostRuntime) -> Result<(), Fail> {
     let shelf = levels_below(rt.alloc(), 6)?;
-    for slip in &SLIPS_ON_6 {
-        expect_rule(&rt, rt.alloc(), &shelf, *slip)?;
+    for (slip, _, rule) in &SLIPS {
+        expect_rule(&rt, rt.alloc(), &shelf, (*slip, *rule))?;
     }
     Ok(())
 }
