@@ -26,7 +26,8 @@ use crate::queues::reserve_others;
 use crate::scans::{ScannedBlock, scanned_block};
 use crate::spreads::{kind_of, tell_all};
 use awari_board::{SIDE, moves_keep_boards};
-use awari_rank::{ranks_tell_boards_apart, size, unrank};
+use awari_packed::PackedBoard;
+use awari_rank::{ranks_tell_boards_apart, size};
 use awari_table::{Shelf, shelves_are_certificates};
 use std::alloc::Global;
 use std::collections::BinaryHeap;
@@ -255,7 +256,7 @@ impl Part {
     ///
     /// The outboxes are those of the part's owner. Predecessors in the block hear of the board at once.
     /// For each other one a note is put to the outbox of the owner of its block, in the order in which
-    /// [`Unmoves`](awari_unmove::Unmoves) gives them. Room for the notes is taken first, and refused as 33
+    /// [`PackedUnmoves`](awari_unmove::PackedUnmoves) gives them. Room for the notes is taken first, and refused as 33
     /// `Memory`; then nothing changes. It takes none where there is no other owner.
     pub fn spread_one(&mut self, outboxes: &mut Outboxes) -> Result<bool, OwnerFault>
         requires part { IsPartOf self.old outboxes.old }
@@ -291,7 +292,7 @@ impl Part {
         ranks_tell_boards_apart();
         let span = block_length(size(self.place.level), outboxes.queues.len() as u8);
         let kind = kind_of(&self.cells[(rank - self.place.start) as usize]);
-        let board = unrank(self.place.level, rank);
+        let board = PackedBoard::unrank(self.place.level, rank);
         let Some(_) = self.fresh.pop() else {
             unreachable!()
         };

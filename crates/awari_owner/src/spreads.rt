@@ -17,9 +17,10 @@ use crate::cells::Cell;
 use crate::notes::{Kind, Note};
 use crate::places::Place;
 use crate::queues::Queue;
-use awari_board::{Board, moves_keep_boards};
-use awari_rank::{rank, ranks_tell_boards_apart};
-use awari_unmove::Unmoves;
+use awari_board::moves_keep_boards;
+use awari_packed::PackedBoard;
+use awari_rank::ranks_tell_boards_apart;
+use awari_unmove::PackedUnmoves;
 use std::collections::BinaryHeap;
 
 /// Tells the predecessors of a board that it is won or lost, where a block has `span` boards.
@@ -30,7 +31,7 @@ pub fn tell_all(
     span: u32,
     place: Place,
     kind: Kind,
-    board: &Board,
+    board: &PackedBoard,
 )
     requires low { place.level ≤ 24 }
     requires gain { (1 ≤ place.gain) × (place.gain ≤ place.level) }
@@ -51,12 +52,13 @@ pub fn tell_all(
     ensures sound { IsBlock place cells.new.items (heap_items fresh.new) (heap_capacity fresh.new) }
 {
     moves_keep_boards();
-    for (source, pit) in Unmoves::of(board) {
+    for (source, pit) in PackedUnmoves::of(board) {
         tell_one(cells, fresh, queues, span, place, kind, &source, pit);
     }
 }
 
 /// Tells this board that its quiet move from `pit` leads to a won or a lost board.
+#[inline(always)]
 fn tell_one(
     cells: &mut Vec<Cell>,
     fresh: &mut BinaryHeap<Due>,
@@ -64,7 +66,7 @@ fn tell_one(
     span: u32,
     place: Place,
     kind: Kind,
-    source: &Board,
+    source: &PackedBoard,
     pit: u8,
 )
     requires low { place.level ≤ 24 }
@@ -90,7 +92,7 @@ fn tell_one(
     ensures sound { IsBlock place cells.new.items (heap_items fresh.new) (heap_capacity fresh.new) }
 {
     ranks_tell_boards_apart();
-    let target = rank(source);
+    let target = source.rank();
     if !is_held(place, cells.len(), target) {
         queues[(target / span) as usize].put(Note {
             level: place.level,

@@ -2,6 +2,7 @@ pub mod Digits
 pub mod Emptying
 pub mod FallTables
 pub mod Halves
+pub mod Moving
 pub mod PairTables
 pub mod RankSums
 pub mod Taking

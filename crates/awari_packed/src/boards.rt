@@ -1,15 +1,16 @@
 //! Positions in one number, and the moves from them.
 
-ghost use Rattle.std.specs.Prelude.{◌≡◌, ℕ, ◌+◌, ◌<◌, ◌≤◌, ◌↔◌, IsTrue, IfSome, IsNone, List, sum, slice_index};
-ghost use Rattle.awari_board.specs.Rules.{IsBoard, IsLegal, IsMove};
+ghost use Rattle.std.specs.Prelude.{◌≡◌, ◌≢◌, ℕ, ◌+◌, ◌-◌, ◌<◌, ◌≤◌, ◌↔◌, IsTrue, IfSome, IsNone, List, sum, slice_index, slice_set};
+ghost use Rattle.awari_board.specs.Rules.{IsBoard, IsLegal, IsMove, captured_stones, turned};
 ghost use Rattle.awari_rank.specs.Rank.{rank_of, size_of};
 
 use crate::captures::{capture, other_stones};
 use crate::ranks::rank;
 use crate::scattering::last_of;
 use crate::successors::{REST, next};
-use crate::words::{packed_to, pit, right_sums, sow, turned};
+use crate::words::{packed_to, pit, right_sums, sow, turned, with_stone_moved};
 use awari_board::{Board, SIDE};
+use awari_rank::unrank;
 use std::marker::Model;
 
 /// A position of at most 24 stones in one number. Contracts see the list of the twelve pits.
@@ -75,6 +76,18 @@ impl PackedBoard {
         ])
     }
 
+    /// The board with so many stones and of that rank. Condition: at most 24 stones, and a rank
+    /// below the number of such boards.
+    pub fn unrank(stones: u8, rank: u32) -> Self
+        requires few { stones ≤ 24 }
+        requires in_range { rank < size_of stones }
+        ensures board { IsBoard result }
+        ensures stones { sum result ≡ stones }
+        ensures rank { rank_of result ≡ rank }
+    {
+        PackedBoard::new(&unrank(stones, rank))
+    }
+
     /// The stones in pit `i`. Condition: `i` is below 12.
     #[inline(always)]
     pub fn pit(&self, i: u8) -> u8
@@ -123,6 +136,43 @@ impl PackedBoard {
             board: PackedBoard { bits: turned(left) },
             captured,
         }
+    }
+
+    /// The position as the other player sees it.
+    #[inline(always)]
+    pub fn turned(&self) -> PackedBoard
+        ensures turned { result ≡ turned self.now }
+        ensures board { IsBoard self.now }
+    {
+        PackedBoard {
+            bits: turned(self.bits),
+        }
+    }
+
+    /// The position with one stone of pit `from` laid into pit `to`. Condition: the pits are two
+    /// below 12, and `from` holds stones.
+    #[inline(always)]
+    pub fn with_stone_moved(&self, from: u8, to: u8) -> PackedBoard
+        requires from { from < 12 }
+        requires to { to < 12 }
+        requires two { to ≢ from }
+        requires held { 0 < slice_index self.now from }
+        ensures { result ≡ slice_set (slice_set self.now from (slice_index self.now from - 1)) to (slice_index self.now to + 1) }
+    {
+        PackedBoard {
+            bits: with_stone_moved(self.bits, from, to),
+        }
+    }
+
+    /// Whether a sowing that gave this position and ended in pit `last` captures nothing.
+    /// Condition: `last` is below 12.
+    #[inline(always)]
+    pub fn captures_nothing(&self, last: u8) -> bool
+        requires { last < 12 }
+        ensures { IsTrue result ↔ (captured_stones self.now last ≡ 0) }
+    {
+        let (_left, captured) = capture(self.bits, last);
+        captured == 0
     }
 
     /// The number of boards with as many stones that come before this one, its rank.

@@ -1,6 +1,6 @@
 //! The number of a board.
 
-ghost use Rattle.std.specs.Prelude.{◌≡◌, ℕ, ◌<◌, ◌≤◌, slice_index, slice_set, sum, drop};
+ghost use Rattle.std.specs.Prelude.{◌≡◌, ◌≢◌, ℕ, ◌+◌, ◌-◌, ◌<◌, ◌≤◌, slice_index, slice_set, sum, drop};
 ghost use Rattle.awari_board.specs.Rules.{sown, turned};
 ghost use Rattle.awari_packed.specs.Packed.{IsPacking, IsPackOf, pits_of};
 
@@ -25,6 +25,19 @@ pub fn without(bits: u64, i: u8, stones: u8) -> u64
     ensures { IsPackOf result (slice_set (pits_of bits) i 0) }
 {
     bits - (u64::from(stones) << (55 - 5 * i))
+}
+
+/// Takes a stone from pit `from`, which holds some, and lays it into pit `to`.
+#[inline(always)]
+pub fn with_stone_moved(bits: u64, from: u8, to: u8) -> u64
+    requires packing { IsPacking bits }
+    requires from { from < 12 }
+    requires to { to < 12 }
+    requires two { to ≢ from }
+    requires held { 0 < slice_index (pits_of bits) from }
+    ensures { IsPackOf result (slice_set (slice_set (pits_of bits) from (slice_index (pits_of bits) from - 1)) to (slice_index (pits_of bits) to + 1)) }
+{
+    bits - (1 << (55 - 5 * from)) + (1 << (55 - 5 * to))
 }
 
 /// Sows the stones of pit `origin`, so many, by one addition.

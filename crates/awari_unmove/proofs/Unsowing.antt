@@ -3,6 +3,7 @@ use Rattle.std.proofs.Common.{◌≡◌, ◌≢◌, ℕ, zero, suc, ◌+◌, ◌
 use Rattle.std.proofs.lemmas.Bool.{cases_eq}
 use Rattle.std.proofs.lemmas.Bool.Decides.{nat_tests}
 use Rattle.std.proofs.lemmas.Grind.{common_steps, elements}
+use Rattle.std.proofs.lemmas.List.{get_or-set_other}
 use Rattle.std.proofs.lemmas.List.FromFn.{fill_by_all, get_or-map-range_with_len}
 use Rattle.awari_board.specs.Rules.{landing, fallen, sown}
 use Rattle.awari_board.proofs.Falling.{fallen-more}
@@ -38,6 +39,12 @@ IsUnsowing-more back x k left last pit before there some =
       each = λ i in_board. grind (arith, elements, nat_tests, cases_eq i last, cases_eq i x, fallen-more x k i, before.each i in_board, before.size);
       stones = grind (arith, common_steps, before.stones, before.size);
     }
+
+-- the same stone, with the origin read before it is taken
+pub IsUnsowing-moved : (back : List ℕ) (x k : ℕ) (left : List ℕ) (last : ℕ) → x < 12 → IsUnsowing back x k left → last ≡ landing x (k + 1) → 0 < get_or left last 0 → IsUnsowing back x (k + 1) (set (set left last (get_or left last 0 - 1)) x (get_or left x 0 + 1))
+IsUnsowing-moved back x k left last pit before there some =
+    let elsewhere : x ≢ last = omega arith in
+    subst (λ n. IsUnsowing back x (k + 1) (set (set left last (get_or left last 0 - 1)) x (n + 1))) (get_or-set_other left last x (get_or left last 0 - 1) 0 elsewhere) (IsUnsowing-more back x k left last pit before there some)
 
 -- where the pit of the next stone is bare, no more can be taken back
 pub IsUnsowing-stuck : (back : List ℕ) (x k n : ℕ) (left p : List ℕ) → x < 12 → IsUnsowing back x k left → get_or left (landing x (k + 1)) 0 ≡ 0 → k < n → IsUnsowing back x n p → ⊥

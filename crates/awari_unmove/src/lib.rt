@@ -4,7 +4,9 @@
 //! this crate takes memory.
 #![tactic(auto)]
 
+mod packed;
 mod search;
 mod unmoves;
 
+pub use packed::PackedUnmoves;
 pub use unmoves::Unmoves;
