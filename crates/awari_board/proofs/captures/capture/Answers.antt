@@ -16,3 +16,9 @@ returns-then-not-ends_a_run-clause-stones c = captured_stones-none c.args.pits.n
 pub returns-then-not-ends_a_run-clause-emptied : goal.returns-then-not-ends_a_run-clause-emptied
 returns-then-not-ends_a_run-clause-emptied c =
     rw (captured_pits-none c.args.pits.now c.args.last (c.ends_a_run.ensures.0 c.if-not-ends_a_run.true)) (emptied-none c.args.pits.now c.args.last (search rules))
+
+pub returns-clause-stones : goal.returns-clause-stones
+returns-clause-stones c = search rules
+
+pub returns-clause-emptied : goal.returns-clause-emptied
+returns-clause-emptied c = search rules
