@@ -1,13 +1,16 @@
-//! What `awari help` says of each command.
+//! What `awari --version` and `awari help` say. A help is at most a screen of 24 lines, and what a
+//! command refuses is told in docs/FORMATS.md alone.
+
+use awari_table::HIGHEST_LEVEL;
+
+/// What `awari --version` says behind the program's name.
+pub const VERSION: &str = "0.1.0, levels 0 to 24";
+
+const _: () = prove!(HIGHEST_LEVEL == 24);
 
 pub const AWARI_HELP: &str = "\
-A table says of each Awari position of n stones the best difference of stones
-that the player to move can still secure, a pit to play, and a distance.
-Whatever this program says yes to is right for every position.
-
-`awari help check` says what a command reads and prints. The program ends with
-status 0 where it is done, 1 where something was refused, and 2 where its words
-were not understood or asked for help.";
+The status is 0 where it is done, 1 where something was refused, and 2 where no
+command was understood. docs/FORMATS.md tells every form.";
 
 pub const CHECK_HELP: &str = "\
 The input has a block of lines for each level 0, 1, 2 and so on, in order:
@@ -21,137 +24,79 @@ It prints one line:
     yes levels M limit K         all M levels are right; K is their limit
     no level L rank R rule Vx    this board is the first that is not right,
                                  and this is the first rule that it breaks
-    refused 10 Line line N       the line is not of the form that is due
-    refused 11 Order line N      the line is not the next level's header
-    refused 12 High line N       the line is of a level above the highest
-    refused 13 Short             the input ends early
-    refused 14 Read              the input could not be read
-    refused 15 Memory            there is not enough memory
+    refused N Name ..            the input is no such text
 
-The status is 0 for a yes, and 1 otherwise. docs/FORMATS.md has the whole form.";
+The status is 0 for a yes, and 1 otherwise. docs/FORMATS.md tells the form, the
+rules and each refusal.";
 
 pub const MOVE_HELP: &str = "\
 BOARD is the stones in the mover's pits 0 to 5 and, after a slash, in the
 opponent's pits 6 to 11. It prints one line:
 
-    BOARD C               the board after the move, as the other player sees
-                          it, and the stones captured
-    refused 1 Shape       BOARD is not twelve fields, parted by five commas,
-                          a slash and five commas
-    refused 2 Number      a field is no number below 100 without a leading 0
-    refused 3 TooMany     there are more than 48 stones
-    refused 4 NoPit       the mover's pits are 0 to 5
-    refused 7 Ended       no pit can be played, so the play has ended
-    refused 5 EmptyPit    the pit is empty
-    refused 6 MustFeed    the opponent has no stones and must be fed
+    BOARD C           the board after the move, as the other player sees it,
+                      and the stones captured
+    refused N Name    BOARD is no board, or PIT may not be played
 
-Of several that hold, the first in this list is printed. The status is 0 for a
-move, and 1 for a refusal.";
+The status is 0 for a move, and 1 for a refusal. docs/FORMATS.md tells each.";
 
 pub const JUDGE_HELP: &str = "\
-The moves are played from the board. It prints four lines:
+The moves are played from the board. It prints four lines, or a refusal alone:
 
-    board BOARD      the board then, as the player to move sees it
-    running R        the stones that the first mover captured less those
-                     that the second captured
-    quiet Q          the plies since the last capture, or since the start
-    outcome X        the outcome, as the first mover sees it: where the play
-                     has ended, with the stones that each side keeps, or where
-                     more than LIMIT plies captured nothing; else `none`
+    board BOARD    the board then, as the player to move sees it
+    running R      the stones that the first mover captured less the second's
+    quiet Q        the plies since the last capture, or since the start
+    outcome X      what the play has come to for the first mover, or `none`
 
-LIMIT is at most 4294967295. A board or a move that is refused is printed
-alone, as `awari help move` says, and a move with its number: `refused 5
-EmptyPit at 2`. A byte of MOVES that is no digit is no pit. The status is 0, or
-1 for a refusal.";
+LIMIT is at most 4294967295. The status is 0, or 1 for a refusal, as `refused 5
+EmptyPit at 2` of the second move. docs/FORMATS.md tells each, and when a play
+has an outcome.";
 
 pub const BUILD_HELP: &str = "\
-Each level is built over those below it. It prints a line for each level, in order:
+It prints a line for each level that it builds, the lowest first:
 
     level L boards S won A even B lost C limit K
 
-with the number of its boards, how many of them the mover wins, holds even and
-loses, and the greatest distance. Without a folder it begins with level 0, and
-saves nothing. With one it begins above the levels that are there, which are
-verified first, and saves each level as level_LL.awdb before its line. Levels
-that are there are not written again. One builder at a time saves into a folder.
+S boards, of which the mover wins A, holds B even and loses C; K is the greatest
+distance. A folder's levels are verified first, and stay; a new one's line comes
+once it is saved. W, R and S change no level, only how soon it comes.
 
-With owners, each of W threads has a share of a level's boards, and they tell
-each other in batches of up to 32 notes what they settled. Each line between two
-of them has room for R batches, and each round gives an owner at most S turns.
-The levels are the same for any W, R and S; as many owners as there are
-processors build the higher ones soonest. Without owners one thread builds.
-
-    refused 52 Phase: ..      a thread could not be started
-    refused 53 Memory         there is not enough memory
-    refused 80, 83, 84, 86    the folder, as `awari help verify` says
-    refused 81 File level L: ..   the file of a level that is there is not read,
-                              or, where it is 70 Write, the new one not written
-    refused 82 Open level L   a file that is there does not open; or to save the
-                              level, the folder is not there, another builder
-                              saves into it, or the file cannot be made
-
-The status is 0, or 1 for a refusal; the lines before it stand.";
+The status is 0, or 1 for a refusal; the lines before it stand. docs/FORMATS.md
+tells each refusal, and how much memory and time a level takes.";
 
 pub const VERIFY_HELP: &str = "\
 It prints a line for each level, in order, and one for them all:
 
-    level L ok limit K        the level is right; K is its greatest distance
-    levels M digest H         there are M levels; H is the SHA-256 that the
-                              last one's file ends in, zeros for none
+    level L ok limit K    the level is right; K is its greatest distance
+    levels M digest H     there are M levels; H is the SHA-256 that the last
+                          one's file ends in, zeros for none
 
 or else one line, of the first file that is at fault:
 
-    refused 80 Below level L        it was written over another file than that
-                                    of the level below
-    refused 81 File level L: ..     it is not read: what is wrong with its
-                                    bytes, as docs/FORMATS.md says
-    refused 82 Open level L         it is there and does not open, or is no file
-    refused 83 Verify level L: ..   what it says is not right: the first rank
-                                    and rule
-    refused 84 Memory               there is not enough memory
-    refused 86 Old level L          it is of version 1: `awari help migrate`
+    refused N Name level L ..
 
-The status is 0, or 1 for a refusal. A folder that is not there is an empty one.";
+The status is 0, or 1 for a refusal. A folder that is not there is an empty one.
+docs/FORMATS.md tells each refusal, and the file of a level.";
 
 pub const MIGRATE_HELP: &str = "\
-The levels of the folder FROM are brought over into the folder TO, which has to
-be there. A file of version 1 may have distances that are not the least: its
-level gets the least ones, and as plans the lowest pits that serve. A level of
-a file of version 2 stays as it is. Each is verified first, by the rules of its
-version, and what TO gets are files of version 2. FROM is never written. It
-prints a line for each level, in order, and one for them all:
+FROM is only read, and TO has to be there. Each level is verified by the rules
+of its file's version: one of version 1 then gets the least distances, and as
+plans the lowest pits that serve; one of version 2 stays as it is. It prints:
 
-    level L limit OLD to NEW  the greatest distance before, and now
-    levels M digest H         there are M levels; H is the SHA-256 that the
-                              last one's new file ends in, zeros for none
+    level L limit OLD to NEW    the greatest distance before, and now
+    levels M digest H           there are M levels; H is the SHA-256 that the
+                                last one's new file ends in, zeros for none
 
-or else one line, of the first level that is refused; the files that were
-written before it stand:
-
-    refused 80 Below level L        its file was written over another file than
-                                    that of the level below
-    refused 81 File level L: ..     its file is not read, or, where it is 70
-                                    Write, the new one not written
-    refused 82 Open level L         its file does not open; or TO is not there,
-                                    a builder saves into it, or the new file
-                                    cannot be made
-    refused 83 Verify level L: ..   what it says is not right: the first rank
-                                    and rule
-    refused 84 Memory               there is not enough memory
-    refused 85 Occupied level L     TO has a file of this name
-
-The status is 0, or 1 for a refusal. A FROM that is not there is an empty one.";
+or a refusal alone; the files that were written before it stand. A FROM that is
+not there is an empty one. The status is 0, or 1 for a refusal. docs/FORMATS.md
+tells each.";
 
 pub const ASK_HELP: &str = "\
 It prints `V P D`: the value of the board for its mover, a pit to play (0 to 5,
 or - where the play has ended), and the distance. The levels of the folder are
 verified first, so the answer is right.
 
-    refused 1 to 3            BOARD is no board, as `awari help move` says
-    refused 59 NotYet levels M    the folder has only levels 0 to M - 1
-    refused 80 and higher     the folder, as `awari help verify` says
-
-The status is 0, or 1 for a refusal.";
+The status is 0, or 1 for a refusal, as `refused 59 NotYet levels M` where the
+folder has only levels 0 to M - 1. docs/FORMATS.md tells each.";
 
 pub const MOVES_HELP: &str = "\
 It prints a line for each pit that the mover may play, the lowest first:
@@ -160,55 +105,33 @@ It prints a line for each pit that the mover may play, the lowest first:
 
 V is what the mover gains by the move: the stones that it captures, C, less the
 value of the board that it leaves. In at most D plies a capture or the end comes
-while the side that V favours follows the plans; D is 0 where V is 0. The line of
-the plan ends in ` plan`. Where the play has ended it prints `ended G`, G being
-what the mover gains by that. The levels of the folder are verified first.
+while the side that V favours follows the plans; D is 0 where V is 0. The line
+of the plan ends in ` plan`. Where the play has ended it prints `ended G`, G
+being what the mover gains by that. The levels of the folder are verified first.
 
-    refused 1 to 3            BOARD is no board, as `awari help move` says
-    refused 59 NotYet levels M    the folder has only levels 0 to M - 1
-    refused 80 and higher     the folder, as `awari help verify` says
-
-The status is 0, or 1 for a refusal.";
+The status is 0, or 1 for a refusal. docs/FORMATS.md tells each.";
 
 pub const LINE_HELP: &str = "\
-It prints three lines: the value of the board for its mover, the pits that the
-two players play in turn where both follow the plans, and the outcome:
+It prints three lines, of the play in which both players follow the plans:
 
-    value V
-    moves P P P
-    outcome X
+    value V        the value of the board for its mover
+    moves P P P    the pits that the two of them play in turn
+    outcome X      what that comes to for the first mover, which is the value
 
 The play goes on to its end, or until more plies captured nothing than the
-greatest limit of the levels; the outcome, as the first mover sees it, is the
-value. The levels of the folder are verified first.
+greatest limit of the levels. The levels of the folder are verified first.
 
-    refused 1 to 3            BOARD is no board, as `awari help move` says
-    refused 56 NotYet levels M    the folder has only levels 0 to M - 1
-    refused 57 Memory         there is not enough memory for the moves
-    refused 80 and higher     the folder, as `awari help verify` says
-
-The status is 0, or 1 for a refusal.";
+The status is 0, or 1 for a refusal. docs/FORMATS.md tells each.";
 
 pub const SERVE_HELP: &str = "\
-It answers each line of standard input by one line, in order, and meanwhile a
-thread builds the levels above those of the folder up to TOP. An answer goes by
-the levels that are built when the line is answered, and by all that an earlier
-answer went by. The levels of the folder are verified first. Nothing is saved.
+A thread builds the levels above those of the folder up to TOP, and saves none.
+Meanwhile each line of standard input is answered by one line, in order, by the
+levels that are there by then. The levels of the folder are verified first.
 
-    ask BOARD    `V P D`, as `awari help ask` says; `not yet M` where only levels
-                 0 to M - 1 are there; or `refused N Name` where BOARD is no board
+    ask BOARD    `V P D`, as `awari help ask` says, `not yet M`, or a refusal
     seen         `seen M`: the last answers went by levels 0 to M - 1
     quit         `bye`, and nothing after it is answered
-    other lines  `what`, as for a line of more than 200 bytes
+    other lines  `what`
 
-It ends at `quit` or where the input ends, once the thread has ended too, and
-then prints why it was refused, where it was:
-
-    refused 40 NotStarted     the thread could not be started
-    refused 52, 53            a level is not built, as `awari help build` says
-    refused 73 Memory         there is not enough memory to publish a level
-    refused 80 and higher     the folder, as `awari help verify` says
-    refused 90 Read           the lines could not be read
-    refused 91 TooLong        they have more than 100000000 bytes
-
-The status is 0, or 1 for a refusal.";
+It ends at `quit` or with the input, once the thread has ended, whose refusal is
+printed. The status is 0, or 1 for a refusal. docs/FORMATS.md tells each.";

@@ -13,7 +13,7 @@ ghost use Rattle.awari_cli.specs.Requests.{
 
 use crate::helps::{
     ASK_HELP, AWARI_HELP, BUILD_HELP, CHECK_HELP, JUDGE_HELP, LINE_HELP, MIGRATE_HELP, MOVE_HELP,
-    MOVES_HELP, SERVE_HELP, VERIFY_HELP,
+    MOVES_HELP, SERVE_HELP, VERIFY_HELP, VERSION,
 };
 use awari_build::{MOST_OWNERS, MOST_ROOM, MOST_SWEEPS, Pace};
 use awari_table::HIGHEST_LEVEL;
@@ -221,6 +221,7 @@ fn command<'a>(alloc: Global) -> Result<Command<'a>, AllocError> {
 fn awari_command<'a>(alloc: Global) -> Command<'a> {
     Command::new(alloc, "awari")
         .about("Awari endgame tables that are proved right")
+        .version(VERSION)
         .after_help(AWARI_HELP)
         .arg_required_else_help(true)
         .subcommand_required(true)
@@ -324,7 +325,7 @@ fn start_folder<'a>(alloc: Global) -> Arg<'a> {
     Arg::new(alloc, "folder")
         .long("folder")
         .value_name("FOLDER")
-        .help("Begin with the levels of this folder, and save each level there")
+        .help("Begin above this folder's levels, and save each there")
 }
 
 /// The command with the options of a pace.
@@ -343,7 +344,7 @@ fn owners<'a>(alloc: Global) -> Arg<'a> {
         .value_name("W")
         .value_parser(ValueParser::unsigned(0, u64::from(MOST_OWNERS)))
         .default_value("0")
-        .help("How many threads share a level, 0 to 16; with 0 one part has it")
+        .help("How many threads share a level, 0 to 16")
 }
 
 fn room<'a>(alloc: Global) -> Arg<'a> {
@@ -352,7 +353,7 @@ fn room<'a>(alloc: Global) -> Arg<'a> {
         .value_name("R")
         .value_parser(ValueParser::unsigned(1, u64::from(MOST_ROOM)))
         .default_value("64")
-        .help("How many batches a line between two owners holds, 1 to 256")
+        .help("Batches that a line holds, 1 to 256")
 }
 
 fn sweeps<'a>(alloc: Global) -> Arg<'a> {
@@ -361,7 +362,7 @@ fn sweeps<'a>(alloc: Global) -> Arg<'a> {
         .value_name("S")
         .value_parser(ValueParser::unsigned(1, u64::from(MOST_SWEEPS)))
         .default_value("1000")
-        .help("How often an owner looks about in a round, 1 to 1000")
+        .help("Most sweeps in a round, 1 to 1000")
 }
 
 fn verify_command<'a>(alloc: Global) -> Result<Command<'a>, AllocError> {
