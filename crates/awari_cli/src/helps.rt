@@ -57,8 +57,8 @@ It prints a line for each level that it builds, the lowest first:
     level L boards S won A even B lost C limit K
 
 S boards, of which the mover wins A, holds B even and loses C; K is the greatest
-distance. A folder's levels are verified first, and stay; a new one's line comes
-once it is saved. W, R and S change no level, only how soon it comes.
+distance. A folder's levels are verified first, and stay. One builder at a time
+may save there. W, R and S change no level, only how soon it comes.
 
 The status is 0, or 1 for a refusal; the lines before it stand. docs/FORMATS.md
 tells each refusal, and how much memory and time a level takes.";
