@@ -58,7 +58,7 @@ pub fn open_cells(cells: &mut Vec<Cell>, fresh: &mut BinaryHeap<Due>, place: Pla
     for i in 0..cells.len() {
         // Most cells have nothing to open, and are passed over without being written.
         let cell = cells[i];
-        if !cell.awaits_gain() {
+        if !cell.awaits_gain(place) {
             continue;
         }
         let opened = cell.with_gain(place);

@@ -112,11 +112,21 @@ impl Cell {
         }
     }
 
-    /// Whether the opening of a gain can change the cell.
-    pub fn awaits_gain(&self) -> bool
-        ensures { result ≡ false → (level gain : ℕ) → after_opening (status_of self.now) level gain ≡ status_of self.now }
+    /// Whether the opening of the gain of the place can change the cell.
+    pub fn awaits_gain(&self, place: Place) -> bool
+        requires low { place.level ≤ 24 }
+        requires gain { place.gain ≤ place.level }
+        requires fits { Fits place self.now }
+        ensures { result ≡ false → after_opening (status_of self.now) place.level place.gain ≡ status_of self.now }
     {
-        self.mark == Mark::Ended || self.mark == Mark::Capturing
+        match self.mark {
+            Mark::Settled | Mark::Quiet => false,
+            Mark::Ended => place.gain == place.level,
+            Mark::Capturing => {
+                let gain = place.gain as i8;
+                self.score == gain || self.score == -gain
+            }
+        }
     }
 
     /// The cell once the gain of the place is opened. An end with the greatest gain settles the

@@ -208,10 +208,9 @@ fn gain_of(shelf: &Shelf, moved: &PackedMove) -> i8
     ensures gain { result ≡ (pos moved.now.captured -ℤ (table_of shelf.now).value moved.now.board) }
     ensures within { IsWithin (length shelf.now) result }
 {
-    match shelf.entry(&moved.board.board()) {
-        Ok(entry) => moved.captured as i8 - entry.value,
-        Err(_) => unreachable!(),
-    }
+    let stones = shelf.levels() - moved.captured;
+    let entry = shelf.entry_below(&moved.board, stones);
+    moved.captured as i8 - entry.value
 }
 
 /// The cell of a board with this outlook, which is ended where it has no quiet move and no capture.

@@ -91,8 +91,5 @@ pub fn entry_after(shelf: &Shelf, entries: &[Entry], moved: &PackedMove) -> Entr
     if moved.captured == 0 {
         return entries[moved.board.rank() as usize];
     }
-    match shelf.entry(&moved.board.board()) {
-        Ok(entry) => entry,
-        Err(_) => unreachable!(),
-    }
+    shelf.entry_below(&moved.board, shelf.levels() - moved.captured)
 }

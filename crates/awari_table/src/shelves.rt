@@ -10,6 +10,7 @@ use crate::images::Entry;
 use crate::levels::Level;
 use arrayvec::ArrayVec;
 use awari_board::Board;
+use awari_packed::PackedBoard;
 use awari_rank::rank;
 use std::alloc::{AllocError, Global};
 use std::fmt;
@@ -143,5 +144,20 @@ impl Shelf {
                 levels: self.levels(),
             })
         }
+    }
+
+    /// The entry of a board in a number. Condition: it has so many stones, fewer than there are
+    /// levels. It takes no memory.
+    #[inline(always)]
+    pub fn entry_below(&self, board: &PackedBoard, stones: u8) -> Entry
+        requires stones { sum board.now ≡ stones }
+        requires known { stones < length self.now }
+        ensures { result ≡ entry_of self.now board.now }
+    {
+        // Only the count says that each level stands at its number.
+        if stones >= self.levels() {
+            unreachable!();
+        }
+        self.level(stones).entry_at(board.rank())
     }
 }

@@ -57,20 +57,7 @@ fn entry_after(shelf: &Shelf, image: &Image, moved: &PackedMove) -> Entry
     if moved.captured == 0 {
         return image.entries.at(moved.board.rank() as usize);
     }
-    entry_below(shelf, &moved.board, image.level - moved.captured)
-}
-
-/// The shelf's entry of a board of so many stones, which has a level there.
-fn entry_below(shelf: &Shelf, board: &PackedBoard, stones: u8) -> Entry
-    requires stones { sum board.now ≡ stones }
-    requires known { stones < length shelf.now }
-    ensures { result ≡ entry_of shelf.now board.now }
-{
-    // Only the count says that each level stands at its number.
-    if stones >= shelf.levels() {
-        unreachable!();
-    }
-    shelf.level(stones).entry_at(board.rank())
+    shelf.entry_below(&moved.board, image.level - moved.captured)
 }
 
 /// The gain of the board's end, if none of its moves is legal.

@@ -20,6 +20,11 @@ with_gain-opened-requires-clause-fits c =
     let high : c.loop-i.i < length c.loop-i.cells.items = search rules in
     subst (Fits c.args.place) (sym c.index.ensures) (c.loop-i.invariant.block.fit c.loop-i.i c.index.result.now high)
 
+pub awaits_gain-requires-clause-fits : goal.awaits_gain-requires-clause-fits
+awaits_gain-requires-clause-fits c =
+    let high : c.loop-i.i < length c.loop-i.cells.items = search rules in
+    subst (Fits c.args.place) (sym c.index.ensures) (c.loop-i.invariant.block.fit c.loop-i.i c.index.result.now high)
+
 pub put-requires-clause-keeps : goal.put-requires-clause-keeps
 put-requires-clause-keeps c =
     let high : c.loop-i.i < length c.loop-i.cells.items = search rules in
@@ -56,7 +61,7 @@ loop-i-preserved-then-not-awaits_gain c =
     let high : c.loop-i.i < length c.loop-i.cells.items = search rules in
     let now = get_or_default c.loop-i.cells.items c.loop-i.i no_cell c.index.result.now high ∙ sym c.index.ensures in
     let was = sym (before.above c.loop-i.i (omega arith)) ∙ now in
-    let stays : status_of c.index.result.now ≡ after_opening (status_of c.index.result.now) c.args.place.level c.args.place.gain = sym (c.awaits_gain.ensures (search rules) _ _) in
+    let stays : status_of c.index.result.now ≡ after_opening (status_of c.index.result.now) c.args.place.level c.args.place.gain = sym (c.awaits_gain.ensures (search rules)) in
     let here = ap status_of now ∙ stays ∙ ap (λ d. after_opening (status_of d) c.args.place.level c.args.place.gain) (sym was) in
     record {
       same_len = before.same_len;

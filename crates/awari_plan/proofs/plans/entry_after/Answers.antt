@@ -1,4 +1,4 @@
-use Rattle.std.proofs.Common.{◌≡◌, ◌∙◌, sum, length, sym, arith, refl, [], ◌∷◌}
+use Rattle.std.proofs.Common.{◌≡◌, ◌∙◌, sum, length, sym, arith, [], ◌∷◌}
 use Rattle.awari_table.specs.declared.images.Image.{Image}
 use Rattle.awari_table.proofs.EntryLemmas.{entry_of-append, entry_of-rank}
 use Rattle.awari_plan.proofs.plans.entry_after.Goals as goal
@@ -13,6 +13,5 @@ returns-then-moved-eq0 c =
 
 pub returns : goal.returns
 returns c =
-    let known = c.in-Ok.ensures.known.0 refl in
     let image : Image = record { level = length c.args.shelf.now; limit = 0; entries = c.args.entries.now } in
-    rw (← c.board.ensures) (c.in-Ok.ensures.entry ∙ sym (entry_of-append c.args.shelf.now (image ∷ []) c.board.result known))
+    c.entry_below.ensures ∙ sym (entry_of-append c.args.shelf.now (image ∷ []) c.args.moved.now.board (omega arith))
