@@ -4,6 +4,7 @@
 use crate::commands::{Line, expect_lines};
 use crate::expect::expect_equal;
 use crate::levels::{LEVELS_0_TO_2, expect_in_folder};
+use crate::worths::LEVELS_3_TO_4;
 use awari_board::Board;
 use awari_rank::{rank, size};
 use awari_table::HIGHEST_LEVEL;
@@ -115,19 +116,28 @@ fn levels_have_the_sizes_told(rt: HostRuntime) {
 
 const FOLDER: &str = "awari_cli_test_documents";
 
-const WON: &str = "1,0,0,0,0,0/0,0,1,0,0,0";
+const CAPTURE: &str = "1,0,0,0,0,1/1,0,1,0,0,0";
 
-/// What README.md says of a board of two stones.
-const README: [Line; 3] = [
+/// What README.md says of its board.
+const README: [Line; 4] = [
     (
         &["awari", "build", "2", "--folder", FOLDER],
         LEVELS_0_TO_2,
         0,
     ),
-    (&["awari", "ask", FOLDER, WON], "2 0 8\n", 0),
     (
-        &["awari", "line", FOLDER, WON],
-        "value 2\nmoves 0 2 1 3 2 4 3 5\noutcome 2\n",
+        &["awari", "build", "4", "--folder", FOLDER],
+        LEVELS_3_TO_4,
+        0,
+    ),
+    (
+        &["awari", "moves", FOLDER, CAPTURE],
+        "pit 0 captures 0 value -4 distance 13\npit 5 captures 2 value 4 distance 1 plan\n",
+        0,
+    ),
+    (
+        &["awari", "line", FOLDER, CAPTURE],
+        "value 4\nmoves 5 2 0 3 1 4 2 5\noutcome 4\n",
         0,
     ),
 ];

@@ -97,13 +97,13 @@ fn has_part(bytes: &[u8], part: &str) -> bool {
 fn usage_goes_to_the_error_stream(rt: HostRuntime) {
     expect_usage(&rt, rt.alloc(), &["awari"], "Usage: awari");
     expect_usage(&rt, rt.alloc(), &["awari", "--help"], "Usage: awari");
-    expect_usage(&rt, rt.alloc(), &["awari", "chek"], "chek");
     expect_usage(
         &rt,
         rt.alloc(),
-        &["awari", "help", "build"],
-        "Usage: awari build",
+        &["awari", "--version"],
+        "awari 0.1.0, levels 0 to 24\n",
     );
+    expect_usage(&rt, rt.alloc(), &["awari", "chek"], "chek");
     expect_usage(&rt, rt.alloc(), &["awari", "build", "25"], "25");
     expect_usage(
         &rt,
@@ -111,6 +111,43 @@ fn usage_goes_to_the_error_stream(rt: HostRuntime) {
         &["awari", "serve", "levels", "25", "0"],
         "25",
     );
+}
+
+const COMMANDS: [&str; 10] = [
+    "check", "move", "judge", "build", "verify", "migrate", "ask", "moves", "line", "serve",
+];
+
+/// Whether the help of this command is its own, of at most 24 lines of at most 80 characters.
+fn expect_screen(
+    rt: &(impl Abort + Files<File = File> + Threads + Wait + Sync + Send + Clone + Drop + 'static),
+    alloc: Global,
+    command: &str,
+) {
+    let mut reader: &[u8] = b"";
+    let mut output = Vec::new(alloc);
+    let mut errors = Vec::new(alloc);
+    let words = ["awari", "help", command];
+    let words = words.as_slice();
+    let _status = run(rt, alloc, words, &mut reader, &mut output, &mut errors);
+    expect(rt, command, is_screen_of(&errors, command));
+}
+
+/// Whether these bytes are the help of this command, of at most 24 lines of at most 80 characters.
+fn is_screen_of(bytes: &[u8], command: &str) -> bool {
+    str::from_utf8(bytes).is_ok_and(|text| {
+        text.contains("Usage: awari ") && text.contains(command) && is_screen(text)
+    })
+}
+
+fn is_screen(text: &str) -> bool {
+    text.lines().count() <= 24 && text.lines().all(|line| line.chars().count() <= 80)
+}
+
+#[test]
+fn each_help_is_a_screen(rt: HostRuntime) {
+    for command in COMMANDS {
+        expect_screen(&rt, rt.alloc(), command);
+    }
 }
 
 /// Runs `build` up to level 1 in the folder, whose lines can't be written.
