@@ -14,6 +14,7 @@ use Rattle.awari_table.specs.Shelves.{Consistent, IsShelf}
 use Rattle.awari_table.specs.Spelling.{entry_line, header_line, block, table_text, line_count, IsImage, AreImages}
 use Rattle.awari_table.specs.TableFault.{Opens, IsDueAt}
 use Rattle.awari_table.specs.Place.{Place, TakesImage, IsAtEnd, Refuses, Repeats}
+use Rattle.awari_table.proofs.Spelled.{AreImages-push}
 use Rattle.awari_table.proofs.TextLaws.{due_once, due_image, same_head, block_some, IsLonger, parting}
 use Rattle.awari_table.proofs.ShelfLemmas.{IsShelf-push}
 use Rattle.awari_verify.specs.VerifyFault.{IsDue}
@@ -40,10 +41,6 @@ empty_shelf = record { few = omega arith; consistent = λ i h. absurd (omega ari
 
 pub checked_none : (text : List ℕ) → IsChecked text [] (record { rest = text; next = 0; line = 1; refused = None })
 checked_none text = record { parts = refl; fits = tt; holds = empty_shelf; next = refl; line = refl; fresh = refl }
-
-AreImages-push : (level : ℕ) (images : List Image) (image : Image) → AreImages level images → IsImage (level + length images) image → AreImages level (images ++ image ∷ [])
-AreImages-push level [] image fits last = let same : level + 0 ≡ level = omega arith in (rw same at last, tt)
-AreImages-push level (i ∷ images) image fits last = let same : level + suc (length images) ≡ level + 1 + length images = omega arith in (fits.0, AreImages-push (level + 1) images image fits.1 (rw same at last))
 
 line_count-push : (images : List Image) (image : Image) → line_count (images ++ image ∷ []) ≡ line_count images + 1 + length image.entries
 line_count-push [] image = omega arith

@@ -1,4 +1,3 @@
 pub mod Grows
-pub mod Words
 pub mod Serves
 pub mod Longer

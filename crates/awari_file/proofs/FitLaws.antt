@@ -4,7 +4,7 @@ use Rattle.std.proofs.lemmas.List.Elements.{recursion_from_All}
 use Rattle.awari_table.specs.Images.{IsLevel}
 use Rattle.awari_table.specs.declared.images.Image.{Image}
 use Rattle.awari_file.specs.FileText.{FitsEntry, HasFile, IsBytes}
-use Rattle.awari_file.specs.Source.{FitsNumbers}
+use Rattle.awari_table.specs.Spelling.{FitsNumbers}
 
 pub has_file : (image : Image) (below : List ℕ) → IsLevel image → All FitsNumbers image.entries → image.limit < 2 ^ 32 → length below ≡ 32 → IsBytes below → HasFile 2 image below
 has_file image below level fit limit whole bytes = record {

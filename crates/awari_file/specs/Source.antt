@@ -1,6 +1,5 @@
 -- What a reader has left, and what a hasher holds of what came before.
-use Rattle.std.specs.Prelude.{◌≡◌, ◌⊎◌, ◌<◌, ◌^◌, IsOk, ℕ, List, ◌++◌, Option, Some, Result, Ok, Err, FitsSigned}
-use Rattle.std.specs.Int.{w8}
+use Rattle.std.specs.Prelude.{◌≡◌, ◌⊎◌, IsOk, ℕ, List, ◌++◌, Option, Some, Result, Ok, Err}
 use Rattle.std.specs.Io.KnownBytes.{Appends, IsAtEnd}
 use Rattle.sha2.specs.Hashers.{Holds256}
 use Rattle.sha2.specs.declared.Sha256.{Sha256}
@@ -78,8 +77,3 @@ AddsAt old new count whole left known hasher (Err e) = Fails e (entries_at count
 pub record Puts (old new : Option (List ℕ)) (before after : Sha256) (bytes : List ℕ) : Type 0 where
   pub appends : Appends old new bytes
   pub holds : (m : List ℕ) → Holds256 before m → Holds256 after (m ++ bytes)
-
--- the value and the distance fit their bytes
-pub record FitsNumbers (e : Entry) : Type 0 where
-  pub value : FitsSigned w8 e.value
-  pub dist : e.dist < 2 ^ 32

@@ -6,9 +6,10 @@ ghost use Rattle.std.specs.Io.KnownBytes.{Appends};
 ghost use Rattle.sha2.specs.Sha256.{sha256};
 ghost use Rattle.awari_table.specs.declared.TheConstants.{HIGHEST_LEVEL};
 ghost use Rattle.awari_table.specs.Counts.{inner_of, faults_of, Grew};
+ghost use Rattle.awari_table.specs.Spelling.{FitsNumbers};
 ghost use Rattle.awari_file.specs.declared.sizes.TheConstants.{BUFFERED};
 ghost use Rattle.awari_file.specs.FileText.{HasFile, header_text, entry_text, body_text, file_text};
-ghost use Rattle.awari_file.specs.Source.{FitsNumbers, Puts};
+ghost use Rattle.awari_file.specs.Source.{Puts};
 
 use crate::faults::FileFault;
 use crate::fields::{MAGIC, NO_PLAN, VERSION};

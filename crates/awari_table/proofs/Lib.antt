@@ -7,3 +7,5 @@ pub mod LineLaws
 pub mod BlockLaws
 pub mod Loop
 pub mod TextLaws
+pub mod Digits
+pub mod Spelled

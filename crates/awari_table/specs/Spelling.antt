@@ -1,5 +1,6 @@
 -- The text of a table: how the images of the levels are spelled.
-use Rattle.std.specs.Prelude.{◌≡◌, ℕ, ◌+◌, pos, ◌<◌, ◌≤◌, ◌^◌, ◌≤ℤ◌, negsuc, List, [], ◌∷◌, ◌++◌, length, Option, Some, None, codes}
+use Rattle.std.specs.Prelude.{◌≡◌, ℕ, ◌+◌, pos, ◌<◌, ◌≤◌, ◌^◌, ◌≤ℤ◌, negsuc, List, [], ◌∷◌, ◌++◌, length, Option, Some, None, FitsSigned, codes}
+use Rattle.std.specs.Int.{w8}
 use Rattle.std.specs.List.{flat_map, AllByRecursion}
 use Rattle.std.specs.Fmt.{decimal, signed_decimal}
 use Rattle.awari_rank.specs.Rank.{size_of}
@@ -37,6 +38,11 @@ pub record IsEntry (e : Entry) : Type 0 where
   pub low : negsuc 127 ≤ℤ e.value
   pub high : e.value ≤ℤ pos 127
   pub plan : HasOwnPlan e
+  pub dist : e.dist < 2 ^ 32
+
+-- the value and the distance fit their bytes
+pub record FitsNumbers (e : Entry) : Type 0 where
+  pub value : FitsSigned w8 e.value
   pub dist : e.dist < 2 ^ 32
 
 -- an image of this level, with an entry for each board

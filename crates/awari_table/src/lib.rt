@@ -12,6 +12,7 @@ mod levels;
 mod lines;
 mod rules;
 mod shelves;
+mod spelling;
 mod text;
 
 pub use counted::Counted;
@@ -24,6 +25,10 @@ pub use laws::{
 pub use levels::Level;
 pub use rules::{Distances, plies};
 pub use shelves::{NotYet, Shelf};
+pub use spelling::{
+    LINE_ROOM, TextLine, line_of_entry, push_number, push_signed, push_text, write_level_text,
+    write_shelf_text,
+};
 pub use text::TableText;
 
 /// The highest level that a shelf may hold, in stones. Every bound on a level goes by this one.

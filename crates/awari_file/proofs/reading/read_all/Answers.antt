@@ -2,7 +2,6 @@ use Rattle.std.proofs.Common.{◌≡◌, ◌∙◌, ◌++◌, List, Ok, Err, sym
 use Rattle.std.proofs.lemmas.Result.{err_from_is_err_and}
 use Rattle.awari_table.specs.declared.images.Entry.{Entry}
 use Rattle.awari_file.proofs.WholeLaws.{known_bytes, bytes_at, both_bytes, known_header, known_fails, known_gives, start_at, header_bad, entries_bad, end_bad, all_ok, loaded_of, known_stops, stops_in_header, stops_in_entries, stops_in_end, known_fault, fault_in_header, fault_in_entries, fault_in_end}
-use Rattle.awari_file.specs.Reading.{IsOwn}
 use Rattle.awari_file.proofs.Steps.{fault_was}
 use Rattle.awari_file.specs.declared.faults.FileFault.{FileFault}
 use Rattle.awari_file.specs.declared.faults.FileFault.TheVariants.{Read}

@@ -1,7 +1,7 @@
-use Rattle.std.proofs.Common.{rules, arith}
+use Rattle.std.proofs.Common.{arith}
 use Rattle.std.proofs.lemmas.Grind.{common_steps}
 use Rattle.std.proofs.lemmas.List.Elements.{All-more}
-use Rattle.awari_file.specs.Source.{FitsNumbers}
+use Rattle.awari_table.specs.Spelling.{FitsNumbers}
 use Rattle.awari_file.proofs.writing.put_some.Goals as goal
 
 pub loop-entry-preserved : goal.loop-entry-preserved

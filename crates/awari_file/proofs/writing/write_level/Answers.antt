@@ -6,7 +6,7 @@ use Rattle.sha2.specs.Sha256.{sha256}
 use Rattle.awari_table.specs.declared.images.Entry.{Entry}
 use Rattle.awari_table.specs.Counts.{inner_of}
 use Rattle.awari_file.specs.FileText.{header_text, entry_text, body_text}
-use Rattle.awari_file.specs.Source.{FitsNumbers}
+use Rattle.awari_table.specs.Spelling.{FitsNumbers}
 use borrow.Author.Rules.{elem_Fits}
 use Rattle.awari_file.proofs.FitLaws.{has_file}
 use Rattle.awari_file.proofs.WriteLaws.{Puts-then, Puts-same}
