@@ -1,5 +1,5 @@
 -- Levels that are built on those of a folder.
-use Rattle.std.proofs.Common.{rules, arith, ◌≡◌, ◌≢◌, ◌<◌, ◌≤◌, ◌+◌, ◌⊎◌, inl, inr, ⊎_elim, List, ℕ, [], ◌∷◌, ◌++◌, length, Option, Some, None, subst, length-append, ap, ◌∙◌}
+use Rattle.std.proofs.Common.{rules, arith, ◌≡◌, ◌<◌, ◌≤◌, ◌+◌, inl, inr, ⊎_elim, List, ℕ, [], ◌∷◌, ◌++◌, length, Option, Some, None, subst, length-append, ap, ◌∙◌}
 use Rattle.std.specs.Prelude.{IfSome, IsSome}
 use Rattle.std.proofs.lemmas.Bool.{cases_lt}
 use Rattle.awari_file.specs.FileText.{file_text}

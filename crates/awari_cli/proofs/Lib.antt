@@ -5,3 +5,4 @@ pub mod FolderBuilds
 pub mod MovedLaws
 pub mod OneFolder
 pub mod WorthLaws
+pub mod TextLaws

@@ -9,12 +9,13 @@ use Rattle.awari_cli.specs.Lines.{PrintsLine}
 use Rattle.awari_cli.specs.Migrating.{PrintsMigrated}
 use Rattle.awari_cli.specs.Playing.{PrintsMove}
 use Rattle.awari_cli.specs.Serving.{PrintsService}
+use Rattle.awari_cli.specs.Texts.{PrintsText}
 use Rattle.awari_cli.specs.Worths.{PrintsWorths}
 use Rattle.awari_cli.specs.declared.requests.Request.{Request}
-use Rattle.awari_cli.specs.declared.requests.Request.TheVariants.{Check, Move, Judge, Build, Verify, Migrate, Ask, Moves, Line, Serve}
+use Rattle.awari_cli.specs.declared.requests.Request.TheVariants.{Check, Move, Judge, Build, Verify, Text, Migrate, Ask, Moves, Line, Serve}
 
 -- the yes for what the reader had left, the move, the judgement of the play, the lines of levels that were built, that lie in a
--- folder or that were brought over, the board's entry, its legal moves, the line of play from it, or the answers to the lines that the reader had left; of what
+-- folder or that were brought over, the text of levels, the board's entry, its legal moves, the line of play from it, or the answers to the lines that the reader had left; of what
 -- a folder's names have nothing is known
 abbrev pub PrintsFor : Request → Option (List ℕ) → Option (List ℕ) → Option (List ℕ) → Type 0
 PrintsFor Check input before after = PrintsYes input before after
@@ -22,6 +23,7 @@ PrintsFor (Move board pit) input before after = PrintsMove board.now pit before 
 PrintsFor (Judge board limit moves) input before after = PrintsJudgement board.now limit moves.now before after
 PrintsFor (Build top folder pace) input before after = PrintsLevels top nothing_known nothing_known before after
 PrintsFor (Verify folder) input before after = PrintsFolder nothing_known before after
+PrintsFor (Text folder level) input before after = PrintsText nothing_known level before after
 PrintsFor (Migrate from to) input before after = PrintsMigrated nothing_known nothing_known nothing_known before after
 PrintsFor (Ask folder board) input before after = PrintsEntry nothing_known board.now before after
 PrintsFor (Moves folder board) input before after = PrintsWorths nothing_known board.now before after

@@ -1,6 +1,6 @@
 -- The commands `verify` and `ask`: what is printed of the levels in a folder.
-use Rattle.std.specs.Prelude.{◌≡◌, ℕ, ◌+◌, ◌/◌, ◌%◌, ◌<◌, nat_lt, if◌then◌else◌, List, ◌++◌, ◌∷◌, [], length, sum, codes, Option, Some, None}
-use Rattle.std.specs.Fmt.{decimal, signed_decimal}
+use Rattle.std.specs.Prelude.{◌≡◌, ℕ, ◌+◌, ◌/◌, ◌%◌, ◌<◌, nat_lt, if◌then◌else◌, List, ◌++◌, ◌∷◌, [], length, sum, codes, Option}
+use Rattle.std.specs.Fmt.{decimal}
 use Rattle.std.specs.List.{flat_map}
 use Rattle.std.specs.Io.KnownBytes.{Appends}
 use Rattle.awari_board.specs.BoardFault.{fault_text as board_fault_text}
@@ -9,6 +9,7 @@ use Rattle.awari_board.specs.Text.{text_of}
 use Rattle.awari_folder.specs.FolderFault.{fault_text as folder_fault_text}
 use Rattle.awari_table.specs.Images.{entry_of}
 use Rattle.awari_table.specs.NotYet.{fault_text as not_yet_text}
+use Rattle.awari_table.specs.Spelling.{entry_line}
 use Rattle.awari_table.specs.Shelves.{IsShelf}
 use Rattle.awari_table.specs.declared.images.Entry.{Entry}
 use Rattle.awari_table.specs.declared.images.Image.{Image}
@@ -44,21 +45,14 @@ abbrev pub PrintsFolder : (ℕ → Option (Option (List ℕ))) → Option (List 
 PrintsFolder stands before after = (images : List Image) × (summary : Summary) × IsShelf images × (summary.levels ≡ length images)
     × IsStoredIn stands images summary.digest × Appends before after (right_lines images ++ (summary_text summary ++ 10 ∷ []))
 
-abbrev pub plan_text : Option ℕ → List ℕ
-plan_text None = codes "-"
-plan_text (Some pit) = decimal pit
-
-abbrev pub entry_text : Entry → List ℕ
-entry_text e = signed_decimal e.value ++ codes " " ++ plan_text e.plan ++ codes " " ++ decimal e.dist
-
 -- what right levels say of the board that the text spells: those that the folder stores, where it is known what its names have
 abbrev pub IsEntryOf : (ℕ → Option (Option (List ℕ))) → List ℕ → Entry → Type 0
 IsEntryOf stands text e = (images : List Image) × (digest board : List ℕ) × IsShelf images × IsStoredIn stands images digest × IsBoard board × (sum board < length images)
     × (text ≡ text_of board) × (e ≡ entry_of images board)
 
--- Where it is known what the writer holds, what was written is such an entry, and the line feed.
+-- Where it is known what the writer holds, what was written is the line of such an entry.
 abbrev pub PrintsEntry : (ℕ → Option (Option (List ℕ))) → List ℕ → Option (List ℕ) → Option (List ℕ) → Type 0
-PrintsEntry stands text before after = (e : Entry) × IsEntryOf stands text e × Appends before after (entry_text e ++ 10 ∷ [])
+PrintsEntry stands text before after = (e : Entry) × IsEntryOf stands text e × Appends before after (entry_line e)
 
 -- the fault inside it
 abbrev pub look_up_fault_text : LookUpFault → List ℕ

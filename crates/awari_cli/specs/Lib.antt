@@ -8,3 +8,4 @@ pub mod Migrating
 pub mod Requests
 pub mod Serving
 pub mod Worths
+pub mod Texts

@@ -1,11 +1,11 @@
 -- Which request a command's name and the values given to it make. A private function alone goes by this: no public contract does.
-use Rattle.std.specs.Prelude.{◌≡◌, ◌≢◌, ◌⊎◌, ℕ, ◌<◌, ◌^◌, List, [], Some, None, codes, option_map, unwrap_or}
+use Rattle.std.specs.Prelude.{◌≡◌, ◌≢◌, ◌⊎◌, ℕ, ◌<◌, ◌^◌, List, [], Some, None, codes, Option, option_map, unwrap_or}
 use Rattle.std.specs.Str.Parse.{IsNumeral, digits_value, without_leading_plus}
 use Rattle.clap.specs.Matches.{first_value, one_text}
 use Rattle.clap.specs.declared.parser.matches.Found.{Found}
 use Rattle.awari_build.specs.declared.paces.Pace.{Pace}
 use Rattle.awari_cli.specs.declared.requests.Request.{Request}
-use Rattle.awari_cli.specs.declared.requests.Request.TheVariants.{Check, Move, Judge, Build, Verify, Migrate, Ask, Moves, Line, Serve}
+use Rattle.awari_cli.specs.declared.requests.Request.TheVariants.{Check, Move, Judge, Build, Verify, Text, Migrate, Ask, Moves, Line, Serve}
 
 -- the first value of this name is this text
 abbrev pub Gives : Found → List ℕ → List ℕ → Type 0
@@ -21,6 +21,11 @@ Spells given id n = (one_text given id ≢ None) × ((t : List ℕ) → one_text
 -- the first value of this name spells no number of so many bits
 abbrev pub SpellsNone : ℕ → Found → List ℕ → Type 0
 SpellsNone bits given id = (t : List ℕ) → one_text given id ≡ Some t → IsNumeral 10 (without_leading_plus t) → digits_value 10 (without_leading_plus t) < 2 ^ bits → ⊥
+
+-- the first value of this name spells the number, and there is none where no number below 2 ^ 8 is spelled
+abbrev pub SpellsOr : Found → List ℕ → Option ℕ → Type 0
+SpellsOr given id None = SpellsNone 8 given id
+SpellsOr given id (Some n) = Spells given id n
 
 -- the pace has the values of its three names
 abbrev pub IsPaceOf : Found → Pace → Type 0
@@ -38,6 +43,7 @@ IsRequestOf name given (Judge board limit moves) = (name ≡ codes "judge") × G
     × (moves.now ≡ unwrap_or (first_value given (codes "MOVES")) [])
 IsRequestOf name given (Build top folder pace) = (name ≡ codes "build") × Spells given (codes "TOP") top × (option_map (λ f. f.now) folder ≡ first_value given (codes "folder")) × IsPaceOf given pace
 IsRequestOf name given (Verify folder) = (name ≡ codes "verify") × Gives given (codes "FOLDER") folder.now
+IsRequestOf name given (Text folder level) = (name ≡ codes "text") × Gives given (codes "FOLDER") folder.now × SpellsOr given (codes "LEVEL") level
 IsRequestOf name given (Migrate from to) = (name ≡ codes "migrate") × Gives given (codes "FROM") from.now × Gives given (codes "TO") to.now
 IsRequestOf name given (Ask folder board) = (name ≡ codes "ask") × Gives given (codes "FOLDER") folder.now × Gives given (codes "BOARD") board.now
 IsRequestOf name given (Moves folder board) = (name ≡ codes "moves") × Gives given (codes "FOLDER") folder.now × Gives given (codes "BOARD") board.now
@@ -51,6 +57,7 @@ pub record IsNoRequest (name : List ℕ) (given : Found) : Type 0 where
   pub judge : name ≡ codes "judge" → Lacks given (codes "BOARD") ⊎ SpellsNone 32 given (codes "LIMIT")
   pub build : name ≡ codes "build" → SpellsNone 8 given (codes "TOP") ⊎ IsNoPace given
   pub verify : name ≡ codes "verify" → Lacks given (codes "FOLDER")
+  pub text : name ≡ codes "text" → Lacks given (codes "FOLDER")
   pub migrate : name ≡ codes "migrate" → Lacks given (codes "FROM") ⊎ Lacks given (codes "TO")
   pub ask : name ≡ codes "ask" → Lacks given (codes "FOLDER") ⊎ Lacks given (codes "BOARD")
   pub moves : name ≡ codes "moves" → Lacks given (codes "FOLDER") ⊎ Lacks given (codes "BOARD")

@@ -13,11 +13,11 @@ ghost use Rattle.awari_folder.specs.Contents.{Same};
 ghost use Rattle.awari_cli.specs.Folders.{IsEntryOf, PrintsFolder, PrintsEntry, digest_text, hex_digit, right_lines};
 ghost use Rattle.awari_cli.specs.declared.folders.LookUpFault.TheVariants as look_up;
 
-use crate::printing::{Refused, print};
+use crate::printing::{Refused, print, print_bytes};
 use arrayvec::ArrayString;
 use awari_board::{Board, BoardFault, one_board_fault_is_due};
 use awari_folder::{Folder, FolderFault, load_parallel};
-use awari_table::{Entry, NotYet, Shelf};
+use awari_table::{Entry, NotYet, Shelf, line_of_entry};
 use std::alloc::Global;
 use std::fmt;
 use std::io::Write;
@@ -133,41 +133,6 @@ impl fmt::Display for LookUpFault {
     }
 }
 
-/// An entry as `ask` prints it: value, plan and distance.
-#[derive(Clone, Copy)]
-struct EntryLine(Entry);
-
-impl fmt::Display for EntryLine {
-    ghost use Rattle.std.specs.Prelude.{Some};
-    ghost use Rattle.awari_cli.specs.Folders.{entry_text};
-
-    ghost output = { λ line. Some (entry_text line.0) };
-
-    fn fmt<W: fmt::Write>(&self, f: &mut fmt::Formatter<W>) -> fmt::Result {
-        let Entry { value, plan, dist } = self.0;
-        let plan = Plan(plan);
-        write!(f, "{value} {plan} {dist}")
-    }
-}
-
-/// A plan, or that there is none.
-#[derive(Clone, Copy)]
-struct Plan(Option<u8>);
-
-impl fmt::Display for Plan {
-    ghost use Rattle.std.specs.Prelude.{Some};
-    ghost use Rattle.awari_cli.specs.Folders.{plan_text};
-
-    ghost output = { λ plan. Some (plan_text plan.0) };
-
-    fn fmt<W: fmt::Write>(&self, f: &mut fmt::Formatter<W>) -> fmt::Result {
-        match self.0 {
-            Some(pit) => write!(f, "{pit}"),
-            None => f.write_str("-"),
-        }
-    }
-}
-
 /// The entry of the board that `text` spells, as the levels in the folder have it. The text is read
 /// before the folder is: where it is no board it is refused for that, whatever the folder holds.
 fn look_up<T: Threads + Sync, F: Folder>(
@@ -203,7 +168,7 @@ pub fn run_ask<T: Threads + Sync, F: Folder, W: Write>(
 {
     match look_up(rt, folder, alloc, board.as_bytes()) {
         Ok(entry) => {
-            if print(writer, &EntryLine(entry)) {
+            if print_bytes(writer, line_of_entry(entry).as_slice()) {
                 0
             } else {
                 1

@@ -77,6 +77,19 @@ or else one line, of the first file that is at fault:
 The status is 0, or 1 for a refusal. A folder that is not there is an empty one.
 docs/FORMATS.md tells each refusal, and the file of a level.";
 
+pub const TEXT_HELP: &str = "\
+It prints the levels of the folder as text, in order; with LEVEL that one alone:
+
+    level L limit K    for each level: its greatest distance K, and then
+    V P D              for each board, by rank: its value, a pit to play (0 to 5,
+                       or - where the play has ended), and its distance
+
+The levels are verified first, so `awari text FOLDER | awari check` says yes. A
+folder with no level prints nothing.
+
+The status is 0, or 1 for a refusal, as `refused 59 NotYet levels M` where the
+folder has only levels 0 to M - 1. docs/FORMATS.md tells each.";
+
 pub const MIGRATE_HELP: &str = "\
 FROM is only read, and TO has to be there. Each level is verified by the rules
 of its file's version: one of version 1 then gets the least distances, and as

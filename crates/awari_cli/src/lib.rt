@@ -13,6 +13,7 @@ mod printing;
 mod requests;
 mod runs;
 mod serving;
+mod texts;
 mod worths;
 
 pub use awari_check::check;
@@ -25,4 +26,5 @@ pub use migrating::run_migrate;
 pub use playing::{PlayFault, Played, play_on};
 pub use runs::run;
 pub use serving::run_serve;
+pub use texts::run_text;
 pub use worths::run_moves;

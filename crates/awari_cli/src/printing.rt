@@ -17,6 +17,13 @@ pub fn print<W: Write, T: Display>(writer: &mut W, lines: &T) -> bool
     }
 }
 
+/// Writes the bytes of lines, and says whether the writer took them.
+pub fn print_bytes<W: Write>(writer: &mut W, lines: &[u8]) -> bool
+    ensures { result ≡ true → Appends (W.contents writer.old) (W.contents writer.new) lines.now }
+{
+    writer.write_all(lines).is_ok() && writer.flush().is_ok()
+}
+
 /// A refusal. Printed, it is `refused` and the fault.
 #[derive(Clone, Copy)]
 pub struct Refused<T>(pub T);

@@ -13,7 +13,7 @@ ghost use Rattle.awari_cli.specs.Requests.{
 
 use crate::helps::{
     ASK_HELP, AWARI_HELP, BUILD_HELP, CHECK_HELP, JUDGE_HELP, LINE_HELP, MIGRATE_HELP, MOVE_HELP,
-    MOVES_HELP, SERVE_HELP, VERIFY_HELP, VERSION,
+    MOVES_HELP, SERVE_HELP, TEXT_HELP, VERIFY_HELP, VERSION,
 };
 use awari_build::{MOST_OWNERS, MOST_ROOM, MOST_SWEEPS, Pace};
 use awari_table::HIGHEST_LEVEL;
@@ -47,6 +47,11 @@ pub enum Request<'a> {
     /// `verify FOLDER`: whether the levels in a folder are right.
     Verify {
         folder: &'a str,
+    },
+    /// `text FOLDER [LEVEL]`: the text of the levels in a folder, or of one.
+    Text {
+        folder: &'a str,
+        level: Option<u8>,
     },
     /// `migrate FROM TO`: the levels of a folder brought over into another one.
     Migrate {
@@ -100,6 +105,7 @@ fn requested<'a>(name: &str, given: &ArgMatches<'a>) -> Option<Request<'a>>
         "judge" => judge_request(given),
         "build" => build_request(given),
         "verify" => verify_request(given),
+        "text" => text_request(given),
         "migrate" => migrate_request(given),
         "ask" => ask_request(given),
         "moves" => moves_request(given),
@@ -147,6 +153,16 @@ fn verify_request<'a>(given: &ArgMatches<'a>) -> Option<Request<'a>>
 {
     Some(Request::Verify {
         folder: given.get_str("FOLDER")?,
+    })
+}
+
+fn text_request<'a>(given: &ArgMatches<'a>) -> Option<Request<'a>>
+    ensures asked { IfSome result (IsRequestOf (codes "text") (found_of given.now)) }
+    ensures none { IsNone result → Lacks (found_of given.now) (codes "FOLDER") }
+{
+    Some(Request::Text {
+        folder: given.get_str("FOLDER")?,
+        level: given.get_one("LEVEL"),
     })
 }
 
@@ -241,6 +257,7 @@ fn with_folders<'a>(
 ) -> Result<Command<'a>, AllocError> {
     let awari = with_command(awari, build_command(alloc));
     let awari = with_command(awari, verify_command(alloc));
+    let awari = with_command(awari, text_command(alloc));
     let awari = with_command(awari, migrate_command(alloc));
     let awari = with_command(awari, ask_command(alloc));
     let awari = with_command(awari, moves_command(alloc));
@@ -370,6 +387,20 @@ fn verify_command<'a>(alloc: Global) -> Result<Command<'a>, AllocError> {
         .about("Says of the levels in a folder whether each is right")
         .after_help(VERIFY_HELP)
         .arg(folder(alloc))
+}
+
+fn text_command<'a>(alloc: Global) -> Result<Command<'a>, AllocError> {
+    let command = Command::new(alloc, "text")
+        .about("Prints the levels of a folder as the text that check reads")
+        .after_help(TEXT_HELP)
+        .arg(folder(alloc));
+    with_word(command, text_level(alloc))
+}
+
+fn text_level<'a>(alloc: Global) -> Arg<'a> {
+    Arg::new(alloc, "LEVEL")
+        .value_parser(ValueParser::unsigned(0, u64::from(HIGHEST_LEVEL)))
+        .help("The one level to print, 0 to 24; without it all are")
 }
 
 fn migrate_command<'a>(alloc: Global) -> Result<Command<'a>, AllocError> {

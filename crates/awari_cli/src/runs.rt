@@ -17,6 +17,7 @@ use crate::playing::{Played, play_on};
 use crate::printing::print;
 use crate::requests::{Request, request_of};
 use crate::serving::run_serve;
+use crate::texts::run_text;
 use crate::worths::run_moves;
 use awari_check::check_input;
 use awari_folder::HostFolder;
@@ -94,6 +95,15 @@ fn run_request<
         }
         Request::Verify { folder } => {
             run_verify(rt, &mut host_folder(rt, alloc, folder), alloc, writer)
+        }
+        Request::Text { folder, level } => {
+            run_text(
+                rt,
+                &mut host_folder(rt, alloc, folder),
+                alloc,
+                level,
+                writer,
+            )
         }
         Request::Migrate { from, to } => {
             let mut from = host_folder(rt, alloc, from);

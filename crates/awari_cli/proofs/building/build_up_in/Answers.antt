@@ -1,6 +1,6 @@
-use Rattle.std.proofs.Common.{arith, ◌≡◌, ◌∙◌, ◌+◌, ◌≤◌, inl, inr, length, refl}
+use Rattle.std.proofs.Common.{arith, ◌≡◌, ◌∙◌, ◌+◌, inl, length, refl}
 use Rattle.awari_cli.proofs.BuildLaws.{built_none, built_more}
-use Rattle.awari_cli.proofs.FolderBuilds.{is_known, longer_by_one, more_files, same_outside}
+use Rattle.awari_cli.proofs.FolderBuilds.{is_known, longer_by_one, more_files}
 use Rattle.awari_cli.proofs.building.build_up_in.Goals as goal
 
 pub loop-alloc-init : goal.loop-alloc-init
