@@ -81,8 +81,8 @@ pub const TEXT_HELP: &str = "\
 It prints the levels of the folder as text, in order; with LEVEL that one alone:
 
     level L limit K    for each level: its greatest distance K, and then
-    V P D              for each board, by rank: its value, a pit to play (0 to 5,
-                       or - where the play has ended), and its distance
+    V P D              for each board, by rank: its value, a pit to play (0 to
+                       5, or - where the play has ended), and its distance
 
 The levels are verified first, so `awari text FOLDER | awari check` says yes. A
 folder with no level prints nothing.
