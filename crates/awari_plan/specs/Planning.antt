@@ -1,5 +1,5 @@
 -- Entries and plans put board by board, or in pieces. Private functions alone go by this: no public contract does.
-use Rattle.std.specs.Prelude.{◌≡◌, ℕ, ◌+◌, ◌<◌, ◌≤◌, ◌-◌, List, [], ◌∷◌, ◌++◌, length, sum, slice_index_or, ◌⊎◌, pos, ◌-ℤ◌, ◌<ℤ◌, Option, None}
+use Rattle.std.specs.Prelude.{◌≡◌, ℕ, ◌+◌, ◌<◌, ◌≤◌, ◌-◌, List, [], ◌∷◌, ◌++◌, length, sum, slice_index_or, ◌⊎◌, ℤ, pos, ◌-ℤ◌, ◌<ℤ◌, Option, Some, None, map, slice_get}
 use Rattle.awari_board.specs.Rules.{IsBoard}
 use Rattle.awari_rank.specs.Rank.{rank_of}
 use Rattle.awari_table.specs.declared.images.Entry.{Entry}
@@ -12,6 +12,14 @@ use Rattle.awari_plan.specs.Plan.{IsLowest}
 -- the shelf with these entries on top
 abbrev pub topped : List Image → List Entry → List Image
 topped shelf entries = shelf ++ record { level = length shelf; limit = 0; entries = entries } ∷ []
+
+-- the values of these entries
+abbrev pub values_of : List Entry → List ℤ
+values_of entries = map (λ e. e.value) entries
+
+-- these are the values of the entries, as far as they go
+abbrev pub AreValues : List ℤ → List Entry → Type 0
+AreValues values entries = (k : ℕ) (v : ℤ) → slice_get values k ≡ Some v → v ≡ (slice_index_or entries k no_entry).value
 
 -- A move with c captured stones to the board of an entry gains the value of the board's own entry; and where that is positive,
 -- it captures or leads to a smaller distance.

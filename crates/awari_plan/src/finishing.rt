@@ -9,7 +9,7 @@ ghost use Rattle.awari_plan.specs.Finished.{HasAllSettled, HasSettled, IsFinishe
 ghost use Rattle.awari_plan.specs.Planning.{PushesBlock};
 ghost use Rattle.awari_table.specs.declared.TheConstants.{HIGHEST_LEVEL};
 
-use crate::plans::set_plans;
+use crate::plans::{set_plans, values_of};
 use awari_owner::Part;
 use awari_rank::size;
 use awari_table::{Entries, Entry, Image, Shelf};
@@ -20,7 +20,7 @@ use std::alloc::{AllocError, Global};
 /// value and, where that is positive, captures or leads to a smaller distance. The limit is the
 /// greatest distance. Conditions: the shelf has at most `HIGHEST_LEVEL` levels, and the parts are
 /// all blocks of its next level in order, with no fresh board and gain 1 open. It takes memory for
-/// the entries, and is refused only where that is.
+/// the entries, and a byte a board while it runs, and is refused only where that is.
 pub fn finish(alloc: Global, shelf: &Shelf, parts: &[Part]) -> Result<Image, AllocError>
     requires low { length shelf.now ≤ HIGHEST_LEVEL }
     requires whole { AreWhole (length shelf.now) parts.now }
@@ -28,7 +28,8 @@ pub fn finish(alloc: Global, shelf: &Shelf, parts: &[Part]) -> Result<Image, All
     ensures { IfOk result (IsFinished shelf.now parts.now) }
 {
     let mut entries = settled_entries(alloc, shelf.levels(), parts)?;
-    set_plans(shelf, &mut entries);
+    let values = values_of(alloc, entries.as_slice())?;
+    set_plans(shelf, values.as_slice(), &mut entries);
     Ok(Image {
         level: shelf.levels(),
         limit: greatest(entries.as_slice()),

@@ -4,11 +4,11 @@ ghost use Rattle.std.specs.Prelude.{◌≡◌, ◌≤◌, ◌+◌, All, IfOk, On
 ghost use Rattle.awari_rank.specs.Rank.{size_of};
 ghost use Rattle.awari_owner.specs.Level.{AreWhole, IsClosed};
 ghost use Rattle.awari_plan.specs.Finished.{HasAllSettled, IsFinished};
-ghost use Rattle.awari_plan.specs.Planning.{AreLowest, AreSettled, IsPlanned, PutsBlock, PutsPlans, SameSettled};
+ghost use Rattle.awari_plan.specs.Planning.{AreLowest, AreSettled, AreValues, IsPlanned, PutsBlock, PutsPlans, SameSettled};
 ghost use Rattle.awari_table.specs.declared.TheConstants.{HIGHEST_LEVEL};
 
 use crate::finishing::{greatest, settled_entry};
-use crate::plans::lowest_plan;
+use crate::plans::{lowest_plan, values_of};
 use awari_owner::Part;
 use awari_packed::PackedBoard;
 use awari_rank::{size, unrank};
@@ -23,7 +23,7 @@ const PIECE: usize = 4096;
 /// What [`finish`](crate::finish) answers, made by as many threads as there are processors.
 /// Conditions: the shelf has at most `HIGHEST_LEVEL` levels, and the parts are all blocks of its
 /// next level in order, with no fresh board and gain 1 open. It takes memory for the entries, and
-/// two bytes a board beside them for the plans, and is refused only where that is.
+/// three bytes a board beside them while plans are found, and is refused only where that is.
 pub fn finish_parallel<R: Threads + Sync>(
     rt: &R,
     alloc: Global,
@@ -131,8 +131,16 @@ fn set_plans_parallel<R: Threads + Sync>(
     ensures planned { OnOk result (IsPlanned shelf.now entries.old.items entries.new.items (size_of (length shelf.now))) }
 {
     let boards = size(shelf.levels());
+    let values = values_of(alloc, entries.as_slice())?;
     let mut plans = vec![in alloc; None; boards as usize]?;
-    find_plans(rt, shelf, boards, entries.as_slice(), plans.as_mut_slice());
+    find_plans(
+        rt,
+        shelf,
+        boards,
+        values.as_slice(),
+        entries.as_slice(),
+        plans.as_mut_slice(),
+    );
     put_plans(plans.as_slice(), entries);
     Ok(())
 }
@@ -142,12 +150,14 @@ fn find_plans<R: Threads + Sync>(
     rt: &R,
     shelf: &Shelf,
     boards: u32,
+    values: &[i8],
     entries: &[Entry],
     plans: &mut [Option<u8>],
 )
     requires low { length shelf.now ≤ 24 }
     requires boards { boards ≡ size_of (length shelf.now) }
     requires sized { length entries.now ≡ boards }
+    requires valued { AreValues values.now entries.now }
     requires len { length plans.old ≡ boards }
     ensures len { length plans.new ≡ boards }
     ensures found { AreLowest shelf.now entries.now 0 boards plans.new }
@@ -157,18 +167,26 @@ fn find_plans<R: Threads + Sync>(
         plans,
         PIECE,
         |first: usize, piece: &mut [Option<u8>]|
-            requires { (length shelf.now ≤ 24) × (boards ≡ size_of (length shelf.now)) × (length entries.now ≡ boards) × (first + length piece.old ≤ boards) }
+            requires { (length shelf.now ≤ 24) × (boards ≡ size_of (length shelf.now)) × (length entries.now ≡ boards) × AreValues values.now entries.now × (first + length piece.old ≤ boards) }
             ensures { (length piece.new ≡ length piece.old) × AreLowest shelf.entry.now entries.entry.now first (first + length piece.old) piece.new }
-        { find_piece(shelf, boards, entries, first, piece) },
+        { find_piece(shelf, boards, values, entries, first, piece) },
     );
 }
 
 /// Finds the plans of the boards from the one of rank `first` on, one for each place. Only the first
 /// board is found by its rank: each other is the successor of the one before.
-fn find_piece(shelf: &Shelf, boards: u32, entries: &[Entry], first: usize, plans: &mut [Option<u8>])
+fn find_piece(
+    shelf: &Shelf,
+    boards: u32,
+    values: &[i8],
+    entries: &[Entry],
+    first: usize,
+    plans: &mut [Option<u8>],
+)
     requires low { length shelf.now ≤ 24 }
     requires boards { boards ≡ size_of (length shelf.now) }
     requires sized { length entries.now ≡ boards }
+    requires valued { AreValues values.now entries.now }
     requires within { first + length plans.old ≤ boards }
     ensures len { length plans.new ≡ length plans.old }
     ensures found { AreLowest shelf.now entries.now first (first + length plans.old) plans.new }
@@ -178,7 +196,7 @@ fn find_piece(shelf: &Shelf, boards: u32, entries: &[Entry], first: usize, plans
     }
     let mut board = PackedBoard::new(&unrank(shelf.levels(), first as u32));
     for k in 0..plans.len() {
-        plans[k] = lowest_plan(shelf, entries, &board, (first + k) as u32);
+        plans[k] = lowest_plan(shelf, values, entries, &board, (first + k) as u32);
         if let Some(next) = board.successor() {
             board = next;
         }

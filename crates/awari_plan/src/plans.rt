@@ -1,21 +1,32 @@
 //! Plans, by the values and distances of a level and of the shelf below it.
 
-ghost use Rattle.std.specs.Prelude.{◌≡◌, ◌<◌, ◌≤◌, ◌+◌, ◌↔◌, IsTrue, length, sum};
+ghost use Rattle.std.specs.Prelude.{◌≡◌, ◌<◌, ◌≤◌, ◌+◌, ◌↔◌, IsTrue, IfOk, length, slice_index_or, sum};
 ghost use Rattle.awari_board.specs.Rules.{IsBoard};
 ghost use Rattle.awari_rank.specs.Rank.{rank_of, size_of};
-ghost use Rattle.awari_table.specs.Images.{entry_of, table_of};
+ghost use Rattle.awari_table.specs.Images.{entry_of, no_entry, table_of};
 ghost use Rattle.awari_plan.specs.Plan.{IsLowest, Serves};
-ghost use Rattle.awari_plan.specs.Planning.{Gains, IsPlanned, SameSettled, topped};
+ghost use Rattle.awari_plan.specs.Planning.{AreValues, Gains, IsPlanned, SameSettled, topped, values_of};
 
 use awari_board::SIDE;
 use awari_packed::{PackedBoard, PackedMove};
 use awari_rank::{size, unrank};
 use awari_table::{Entry, Shelf};
+use std::alloc::{AllocError, Global};
 
-/// Sets the plan of each board of the level above the shelf, in order of rank.
-pub fn set_plans(shelf: &Shelf, entries: &mut Vec<Entry>)
+/// The values of the entries, which lie eight times as close together as these. Most moves do not
+/// gain the board's value, and of those no more is read.
+pub fn values_of(alloc: Global, entries: &[Entry]) -> Result<Vec<i8>, AllocError>
+    ensures { IfOk result (λ values. values.items ≡ values_of entries.now) }
+{
+    entries.iter().map(|entry| entry.value).collect(alloc)
+}
+
+/// Sets the plan of each board of the level above the shelf, in order of rank. The values are those
+/// of the entries, all or none.
+pub fn set_plans(shelf: &Shelf, values: &[i8], entries: &mut Vec<Entry>)
     requires low { length shelf.now ≤ 24 }
     requires sized { length entries.old.items ≡ size_of (length shelf.now) }
+    requires valued { AreValues values.now entries.old.items }
     ensures same { SameSettled entries.old.items entries.new.items }
     ensures planned { IsPlanned shelf.now entries.old.items entries.new.items (size_of (length shelf.now)) }
 {
@@ -23,7 +34,7 @@ pub fn set_plans(shelf: &Shelf, entries: &mut Vec<Entry>)
     let boards = size(level);
     let mut board = PackedBoard::new(&unrank(level, 0));
     for rank in 0..boards {
-        let plan = lowest_plan(shelf, entries.as_slice(), &board, rank);
+        let plan = lowest_plan(shelf, values, entries.as_slice(), &board, rank);
         entries[rank as usize].plan = plan;
         if let Some(next) = board.successor() {
             board = next;
@@ -32,8 +43,15 @@ pub fn set_plans(shelf: &Shelf, entries: &mut Vec<Entry>)
 }
 
 /// The lowest pit that serves as the board's plan, none where none does.
-pub fn lowest_plan(shelf: &Shelf, entries: &[Entry], board: &PackedBoard, rank: u32) -> Option<u8>
+pub fn lowest_plan(
+    shelf: &Shelf,
+    values: &[i8],
+    entries: &[Entry],
+    board: &PackedBoard,
+    rank: u32,
+) -> Option<u8>
     requires sized { length entries.now ≡ size_of (length shelf.now) }
+    requires valued { AreValues values.now entries.now }
     requires stones { sum board.now ≡ length shelf.now }
     requires low { length shelf.now ≤ 24 }
     requires ranked { rank_of board.now ≡ rank }
@@ -42,7 +60,7 @@ pub fn lowest_plan(shelf: &Shelf, entries: &[Entry], board: &PackedBoard, rank: 
 {
     let own = entries[rank as usize];
     for pit in 0..SIDE {
-        if serves(shelf, entries, board, own, pit) {
+        if serves(shelf, values, entries, board, own, pit) {
             return Some(pit);
         }
     }
@@ -51,8 +69,16 @@ pub fn lowest_plan(shelf: &Shelf, entries: &[Entry], board: &PackedBoard, rank: 
 
 /// Whether the move from `pit` gains the board's value and, where that is positive, captures or
 /// leads to a smaller distance.
-fn serves(shelf: &Shelf, entries: &[Entry], board: &PackedBoard, own: Entry, pit: u8) -> bool
+fn serves(
+    shelf: &Shelf,
+    values: &[i8],
+    entries: &[Entry],
+    board: &PackedBoard,
+    own: Entry,
+    pit: u8,
+) -> bool
     requires sized { length entries.now ≡ size_of (length shelf.now) }
+    requires valued { AreValues values.now entries.now }
     requires stones { sum board.now ≡ length shelf.now }
     requires low { length shelf.now ≤ 24 }
     requires own { own ≡ entry_of (topped shelf.now entries.now) board.now }
@@ -62,8 +88,36 @@ fn serves(shelf: &Shelf, entries: &[Entry], board: &PackedBoard, own: Entry, pit
         return false;
     }
     let moved = board.play(pit);
-    let reached = entry_after(shelf, entries, &moved);
+    if moved.captured == 0 {
+        return quiet_gains(own, values, entries, moved.board.rank());
+    }
+    let reached = shelf.entry_below(&moved.board, shelf.levels() - moved.captured);
     gains(own, moved.captured, reached)
+}
+
+/// Whether a quiet move to the board of this rank gains the value of the board's own entry and, where
+/// that is positive, leads to a smaller distance.
+fn quiet_gains(own: Entry, values: &[i8], entries: &[Entry], rank: u32) -> bool
+    requires valued { AreValues values.now entries.now }
+    requires held { rank < length entries.now }
+    ensures { IsTrue result ↔ Gains own 0 (slice_index_or entries.now rank no_entry) }
+{
+    if -i16::from(value_at(values, entries, rank)) != i16::from(own.value) {
+        return false;
+    }
+    own.value <= 0 || entries[rank as usize].dist < own.dist
+}
+
+/// The value of the entry of this rank, which is read of the values where they have it.
+fn value_at(values: &[i8], entries: &[Entry], rank: u32) -> i8
+    requires valued { AreValues values.now entries.now }
+    requires held { rank < length entries.now }
+    ensures { result ≡ (slice_index_or entries.now rank no_entry).value }
+{
+    match values.get(rank as usize) {
+        Some(value) => *value,
+        None => entries[rank as usize].value,
+    }
 }
 
 /// Whether a move with so many captured stones gains the value of the board's own entry and, where
