@@ -172,10 +172,16 @@ fn push_level_2(rt: &impl Abort, alloc: Global, text: &mut String) -> Result<(),
     Ok(())
 }
 
+/// The text of levels 0 to 2.
+pub fn levels_0_to_2(rt: &impl Abort, alloc: Global) -> Result<String, AllocError> {
+    let mut text = levels_0_to_1(alloc, 1, 6, "-1 5 1")?;
+    push_level_2(rt, alloc, &mut text)?;
+    Ok(text)
+}
+
 #[test]
 fn checks_level_2(rt: HostRuntime) -> Result<(), Fail> {
-    let mut text = levels_0_to_1(rt.alloc(), 1, 6, "-1 5 1")?;
-    push_level_2(&rt, rt.alloc(), &mut text)?;
+    let text = levels_0_to_2(&rt, rt.alloc())?;
     let printed = "yes levels 3 limit 9\n";
     expect_check(&rt, rt.alloc(), text.as_bytes(), printed, 0);
     Ok(())

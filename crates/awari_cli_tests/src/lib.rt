@@ -28,6 +28,8 @@ mod refusals;
 #[cfg(test)]
 mod services;
 #[cfg(test)]
+mod texts;
+#[cfg(test)]
 mod words;
 #[cfg(test)]
 mod worked;

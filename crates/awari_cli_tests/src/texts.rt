@@ -1,0 +1,117 @@
+//! The text of the levels in a folder, as `text` prints it.
+
+use crate::commands::{Broken, Line, expect_lines, expect_run, levels_0_to_2};
+use crate::expect::expect_equal;
+use crate::levels::{LEVELS_0_TO_2, empty_folder, expect_in_folder};
+use crate::worths::LEVELS_3_TO_4;
+use awari_cli::run;
+use std::alloc::Global;
+use std::fs;
+use std::fs::File;
+use std::io::Write;
+use std::process::Abort;
+use std::rt::Files;
+use std::sync::Wait;
+use std::test::Fail;
+use std::thread::Threads;
+
+const ALONE: &str = "awari_cli_test_text_alone";
+
+const NOWHERE: &str = "awari_cli_test_text_nowhere";
+
+const LEVEL_1: &str = "\
+level 1 limit 1
+-1 - 0
+-1 - 0
+-1 - 0
+-1 - 0
+-1 - 0
+-1 - 0
+-1 5 1
+1 - 0
+1 - 0
+1 - 0
+1 - 0
+1 - 0
+";
+
+/// Levels that are printed alone, and levels that a folder hasn't.
+const LEVELS: [Line; 8] = [
+    (
+        &["awari", "build", "2", "--folder", ALONE],
+        LEVELS_0_TO_2,
+        0,
+    ),
+    (
+        &["awari", "text", ALONE, "0"],
+        "level 0 limit 0\n0 - 0\n",
+        0,
+    ),
+    (&["awari", "text", ALONE, "1"], LEVEL_1, 0),
+    (
+        &["awari", "text", ALONE, "3"],
+        "refused 59 NotYet levels 3\n",
+        1,
+    ),
+    (&["awari", "text", ALONE, "25"], "", 2),
+    (&["awari", "text", ALONE, "x"], "", 2),
+    (&["awari", "text", NOWHERE], "", 0),
+    (
+        &["awari", "text", NOWHERE, "0"],
+        "refused 59 NotYet levels 0\n",
+        1,
+    ),
+];
+
+#[test]
+fn levels_are_printed_alone(rt: HostRuntime) -> Result<(), Fail> {
+    expect_in_folder(&rt, ALONE, &LEVELS)?;
+    Ok(())
+}
+
+/// The status of `text`, of the levels in this folder and this writer.
+fn text_status(
+    rt: &(impl Abort + Files<File = File> + Threads + Wait + Sync + Send + Clone + Drop + 'static),
+    alloc: Global,
+    folder: &str,
+    writer: &mut impl Write,
+) -> u8 {
+    let words = ["awari", "text", folder];
+    let mut reader: &[u8] = b"";
+    let mut errors = Vec::new(alloc);
+    run(
+        rt,
+        alloc,
+        words.as_slice(),
+        &mut reader,
+        writer,
+        &mut errors,
+    )
+}
+
+const ALL: &str = "awari_cli_test_text_all";
+
+const BUILT_TO_2: [Line; 1] = [(&["awari", "build", "2", "--folder", ALL], LEVELS_0_TO_2, 0)];
+
+const BUILT_TO_4: [Line; 1] = [(&["awari", "build", "4", "--folder", ALL], LEVELS_3_TO_4, 0)];
+
+/// The levels to 2 are printed as they were worked by hand, and those to 4 so that `check` says yes.
+#[test]
+fn what_is_printed_is_checked(rt: HostRuntime) -> Result<(), Fail> {
+    empty_folder(&rt, ALL)?;
+    expect_lines(&rt, rt.alloc(), &BUILT_TO_2);
+    let text = levels_0_to_2(&rt, rt.alloc())?;
+    let words = ["awari", "text", ALL];
+    expect_run(&rt, rt.alloc(), words.as_slice(), b"", text.as_str(), 0);
+    expect_lines(&rt, rt.alloc(), &BUILT_TO_4);
+    let mut output = Vec::new(rt.alloc());
+    let status = text_status(&rt, rt.alloc(), ALL, &mut output);
+    expect_equal(&rt, ALL, status, 0);
+    let words = ["awari", "check"];
+    let yes = "yes levels 5 limit 38\n";
+    expect_run(&rt, rt.alloc(), words.as_slice(), &output, yes, 0);
+    let status = text_status(&rt, rt.alloc(), ALL, &mut Broken);
+    expect_equal(&rt, "a broken writer", status, 1);
+    fs::remove_dir_all(&rt, ALL)?;
+    Ok(())
+}
