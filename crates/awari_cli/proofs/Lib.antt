@@ -4,5 +4,4 @@ pub mod FolderLaws
 pub mod FolderBuilds
 pub mod MovedLaws
 pub mod OneFolder
-pub mod WorthLaws
 pub mod TextLaws

@@ -137,11 +137,12 @@ greatest limit of the levels. The levels of the folder are verified first.
 The status is 0, or 1 for a refusal. docs/FORMATS.md tells each.";
 
 pub const SERVE_HELP: &str = "\
-A thread builds the levels above those of the folder up to TOP, and saves none.
-Meanwhile each line of standard input is answered by one line, in order, by the
-levels that are there by then. The levels of the folder are verified first.
+A thread builds the levels above the folder's, once these are verified, up to
+TOP, and saves none. Meanwhile each line of standard input has its answer, all
+in order. So `awari serve FOLDER 0 0` answers a million: examples/ask_many.py.
 
     ask BOARD    `V P D`, as `awari help ask` says, `not yet M`, or a refusal
+    moves BOARD  as `awari help moves` says, and an empty line; or as of `ask`
     seen         `seen M`: the last answers went by levels 0 to M - 1
     quit         `bye`, and nothing after it is answered
     other lines  `what`

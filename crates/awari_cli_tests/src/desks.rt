@@ -3,12 +3,21 @@
 use crate::expect::expect_equal;
 use crate::services::{desk_of_one, publish_next, publish_two};
 use awari_board::Board;
-use awari_desk::{AskFault, DeskFault, Publisher, Reader, desk};
+use awari_desk::{AskFault, DeskFault, Publisher, Reader, Weighed, desk};
+use awari_plan::MoveWorth;
 use awari_table::Entry;
 use std::alloc::Global;
 use std::process::Abort;
 use std::sync::{Arc, Wait};
 use std::test::Fail;
+
+/// What the one move is worth that this board has.
+const LOST_MOVE: MoveWorth = MoveWorth {
+    pit: 5,
+    captured: 0,
+    value: -1,
+    plies: 1,
+};
 
 const LOST: Entry = Entry {
     value: -1,
@@ -50,7 +59,28 @@ fn expect_told<R: Wait + Drop>(
         reader.ask(&high),
         Err(AskFault::NotYet { levels: 2 }),
     );
+    expect_weighed(rt, reader, &low, Ok(LOST_MOVE));
+    expect_weighed(rt, reader, &high, Err(AskFault::NotYet { levels: 2 }));
     Ok(())
+}
+
+/// The reader answers that the board has this one move, or why it answers none.
+fn expect_weighed(
+    rt: &impl Abort,
+    reader: &mut Reader,
+    board: &Board,
+    expected: Result<MoveWorth, AskFault>,
+) {
+    let answer = reader.moves(board).map(|weighed| only_move(&weighed));
+    expect_equal(rt, *board, answer, expected.map(Some));
+}
+
+/// The one move of a board that has no other.
+fn only_move(weighed: &Weighed) -> Option<MoveWorth> {
+    match weighed.worths.as_slice() {
+        [worth] => Some(*worth),
+        _ => None,
+    }
 }
 
 /// Level 1 again is not the next level, and the book stays as it is.
@@ -114,6 +144,7 @@ fn expect_places<R: Wait + Drop>(
 fn expect_gone(rt: &impl Abort, reader: &mut Reader) -> Result<(), Fail> {
     let board = Board::parse(b"0,0,0,0,0,1/0,0,0,0,0,0")?;
     expect_equal(rt, board, reader.ask(&board), Err(AskFault::Gone));
+    expect_weighed(rt, reader, &board, Err(AskFault::Gone));
     expect_equal(rt, "seen", reader.seen(), 3);
     Ok(())
 }

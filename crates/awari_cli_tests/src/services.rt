@@ -4,7 +4,8 @@ ghost use Rattle.std.specs.Prelude.{◌≡◌, IfOk};
 
 use crate::commands::{Line, expect_lines, expect_run};
 use crate::expect::{expect, expect_equal};
-use crate::levels::{LEVELS_0_TO_1, empty_folder};
+use crate::levels::{LEVELS_0_TO_1, LEVELS_0_TO_2, empty_folder};
+use crate::worths::LEVELS_3_TO_4;
 use awari_build::build_alone;
 use awari_cli::run;
 use awari_desk::{Publisher, Reader, ServeFault, desk, serve};
@@ -22,6 +23,7 @@ use std::{fs, str};
 const INPUT: &str = "\
 seen
 ask 0,0,0,0,0,1/0,0,0,0,0,0
+moves 0,0,0,0,0,1/0,0,0,0,0,0
 ask 1,0,0,0,0,0/1,0,0,0,0,0
 ask 1
 hello
@@ -31,6 +33,8 @@ quit
 const OUTPUT: &str = "\
 seen 2
 -1 5 1
+pit 5 captures 0 value -1 distance 1 plan
+
 not yet 2
 refused 1 Shape
 what
@@ -172,11 +176,19 @@ fn expect_bytes(rt: &impl Abort, failing: Failing, written: &[u8], expected: &[u
 }
 
 /// Requests, and what is written of them by a reader that knows levels 0 and 1.
-const REQUESTS: [(&str, &str); 4] = [
+const REQUESTS: [(&str, &str); 6] = [
     (INPUT, OUTPUT),
     ("", ""),
     ("\nseen", "what\nseen 2\n"),
     ("quit\nseen\n", "bye\n"),
+    (
+        "moves 1,0,0,0,0,0/0,0,0,0,0,0\nseen\n",
+        "ended 1\n\nseen 2\n",
+    ),
+    (
+        "moves 1,0,0,0,0,0/1,0,0,0,0,0\nmoves 0\nmoves\n",
+        "not yet 2\nrefused 1 Shape\nwhat\n",
+    ),
 ];
 
 /// Serves lines with a reader that knows levels 0 and 1, the last ones of 200 bytes and of one more.
@@ -212,12 +224,12 @@ fn expect_worked(
 /// Serves the worked lines with each write failing in turn.
 fn expect_write_faults(rt: &impl Abort, alloc: Global, reader: &mut Reader, bad: Bad) {
     let output = OUTPUT.as_bytes();
-    for (written, call) in (1..50u32).enumerate() {
+    for (written, call) in (1..93u32).enumerate() {
         let front = output.get(..written).unwrap_or(output);
         let failing = (0, call, bad);
         expect_worked(rt, alloc, reader, failing, front, Err(ServeFault::Write));
     }
-    expect_worked(rt, alloc, reader, (0, 50, bad), output, Ok(()));
+    expect_worked(rt, alloc, reader, (0, 93, bad), output, Ok(()));
 }
 
 /// Serves the worked lines with a read and a write that are interrupted, and so are made again.
@@ -358,5 +370,45 @@ fn a_folder_is_served(rt: HostRuntime) -> Result<(), Fail> {
     empty_folder(&rt, SERVED)?;
     expect_service(&rt, rt.alloc())?;
     fs::remove_dir_all(&rt, SERVED)?;
+    Ok(())
+}
+
+const WEIGHED: &str = "awari_cli_test_served_moves";
+
+const FIVE_BUILT: [Line; 2] = [
+    (
+        &["awari", "build", "2", "--folder", WEIGHED],
+        LEVELS_0_TO_2,
+        0,
+    ),
+    (
+        &["awari", "build", "4", "--folder", WEIGHED],
+        LEVELS_3_TO_4,
+        0,
+    ),
+];
+
+/// The board of README.md is asked of a folder with its level, and what is said there is the answer.
+fn expect_moves(
+    rt: &(impl Abort + Files<File = File> + Threads + Wait + Sync + Send + Clone + Drop + 'static),
+    alloc: Global,
+) {
+    let words = ["awari", "serve", WEIGHED, "4", "0"];
+    let input = b"moves 1,0,0,0,0,1/1,0,1,0,0,0\nseen\n";
+    let output = "\
+pit 0 captures 0 value -4 distance 13
+pit 5 captures 2 value 4 distance 1 plan
+
+seen 5
+";
+    expect_run(rt, alloc, &words, input, output, 0);
+}
+
+#[test]
+fn moves_are_served(rt: HostRuntime) -> Result<(), Fail> {
+    empty_folder(&rt, WEIGHED)?;
+    expect_lines(&rt, rt.alloc(), &FIVE_BUILT);
+    expect_moves(&rt, rt.alloc());
+    fs::remove_dir_all(&rt, WEIGHED)?;
     Ok(())
 }

@@ -1,3 +1,4 @@
 pub mod Grows
 pub mod Serves
 pub mod Longer
+pub mod WorthLines

@@ -4,7 +4,7 @@ use Rattle.awari_table.specs.declared.images.Image.{Image}
 use Rattle.awari_desk.specs.Books.{BeginsWith}
 use Rattle.awari_desk.specs.Service.{Answered, none, more, Served, ended, unended, quits, IsAnswerTo}
 use Rattle.awari_desk.specs.declared.answers.Answer.{Answer}
-use Rattle.awari_desk.specs.declared.answers.Answer.TheVariants.{Found, NotYet, Gone, Refused, Seen, Bye, What}
+use Rattle.awari_desk.specs.declared.answers.Answer.TheVariants.{Found, Moves, NotYet, Gone, Refused, Seen, Bye, What}
 use Rattle.awari_desk.proofs.Grows.{begins_all, begins_more}
 
 same : (known book : List Image) → book ≡ known → BeginsWith book known
@@ -12,6 +12,7 @@ same known book e = subst (λ (b : List Image). BeginsWith b known) (sym e) (beg
 
 answer_grows : (known : List Image) (line : List ℕ) (answer : Answer) (book : List Image) → IsAnswerTo known line answer book → BeginsWith book known
 answer_grows known line (Found e) book is = let (board, b, l, seen, low, entry) = is in seen.begins
+answer_grows known line (Moves w) book is = let (board, b, l, seen, weighed) = is in seen.begins
 answer_grows known line (NotYet n) book is = let (board, b, l, seen, low, levels) = is in seen.begins
 answer_grows known line Gone book is = let (board, b, l, e) = is in same known book e
 answer_grows known line (Refused f) book is = let (text, l, short, fault, e) = is in same known book e

@@ -8,9 +8,9 @@ use Rattle.std.specs.Io.KnownBytes.{Appends, Consumes, IsAtEnd}
 use Rattle.std.proofs.KnownBytes.{Appends-trans, Appends-nil}
 use Rattle.awari_table.specs.declared.images.Image.{Image}
 use Rattle.awari_desk.specs.declared.answers.Answer.{Answer}
-use Rattle.awari_desk.specs.declared.answers.Answer.TheVariants.{Found, NotYet, Gone, Refused, Seen, Bye, What}
+use Rattle.awari_desk.specs.declared.answers.Answer.TheVariants.{Found, Moves, NotYet, Gone, Refused, Seen, Bye, What}
 use Rattle.awari_desk.specs.declared.lines.Coming.{Coming}
-use Rattle.awari_desk.specs.Service.{Answered, none, more, Served, ended, unended, quits, IsOneLine, IsAnswerTo, answer_line, IsInput, HasServed, HasBegun}
+use Rattle.awari_desk.specs.Service.{Answered, none, more, Served, ended, unended, quits, IsOneLine, IsAnswerTo, answer_text, IsInput, HasServed, HasBegun}
 use Rattle.awari_desk.specs.Coming.{Holds, Serving}
 
 -- whether an answer ends the service
@@ -52,33 +52,34 @@ module _ (first : List Image) (before : Option (List ℕ)) (taken : List ℕ) (n
 
   module _ (answer : Answer) (book : List Image) (is : IsAnswerTo known s.line answer book) (after : Option (List ℕ)) where
     -- its answer was written
-    pub answers : answer ≢ Bye → Appends now after (answer_line answer) → (next : Coming) → Holds next [] → Serving first before (taken ++ 10 ∷ []) after book next
+    pub answers : answer ≢ Bye → Appends now after (answer_text answer) → (next : Coming) → Holds next [] → Serving first before (taken ++ 10 ∷ []) after book next
     answers other wrote next holds = record {
       done = s.done ++ (s.line ++ 10 ∷ []);
       line = [];
-      output = s.output ++ answer_line answer;
+      output = s.output ++ answer_text answer;
       parts = line_ends [] ∙ sym (append-nil (s.done ++ (s.line ++ 10 ∷ [])));
       answered = more first known book s.done s.output s.line answer s.answered s.one is other;
       one = All-nil (λ b. b ≢ 10);
       holds = holds;
-      wrote = Appends-trans before now after s.output (answer_line answer) s.wrote wrote;
+      wrote = Appends-trans before now after s.output (answer_text answer) s.wrote wrote;
     }
 
     -- it ends the service
-    pub ends : answer ≡ Bye → Appends now after (answer_line answer) → (rest : List ℕ) → HasServed first before ((taken ++ 10 ∷ []) ++ rest) after book
+    pub ends : answer ≡ Bye → Appends now after (answer_text answer) → (rest : List ℕ) → HasServed first before ((taken ++ 10 ∷ []) ++ rest) after book
     ends bye wrote rest =
-        let served : Served first (s.done ++ (s.line ++ 10 ∷ rest)) (s.output ++ answer_line Bye) book =
+        let served : Served first (s.done ++ (s.line ++ 10 ∷ rest)) (s.output ++ answer_text Bye) book =
         quits first known book s.done s.output s.line rest s.answered s.one (subst (λ (a : Answer). IsAnswerTo known s.line a book) bye is) in (
-          s.output ++ answer_line answer,
-          subst (λ (i : List ℕ). Served first i (s.output ++ answer_line answer) book) (sym (append_assoc taken (10 ∷ []) rest ∙ line_ends rest)) (subst (λ (a : Answer). Served first (s.done ++ (s.line ++ 10 ∷ rest)) (s.output ++ answer_line a) book) (sym bye) served),
-          Appends-trans before now after s.output (answer_line answer) s.wrote wrote,
+          s.output ++ answer_text answer,
+          subst (λ (i : List ℕ). Served first i (s.output ++ answer_text answer) book) (sym (append_assoc taken (10 ∷ []) rest ∙ line_ends rest)) (subst (λ (a : Answer). Served first (s.done ++ (s.line ++ 10 ∷ rest)) (s.output ++ answer_text a) book) (sym bye) served),
+          Appends-trans before now after s.output (answer_text answer) s.wrote wrote,
         )
 
     -- the line with its line feed is served
     line_served : (done output : List ℕ) (line : List ℕ) → Answered first done output known → IsOneLine line → (a : Answer) → IsAnswerTo known line a book
-        → Served first (done ++ (line ++ 10 ∷ [])) (output ++ answer_line a) book
+        → Served first (done ++ (line ++ 10 ∷ [])) (output ++ answer_text a) book
     line_served done output line ans one Bye at = quits first known book done output line [] ans one at
     line_served done output line ans one (Found e) at = ended first book _ _ (more first known book done output line (Found e) ans one at (λ x. false≢true (ap is_bye x)))
+    line_served done output line ans one (Moves w) at = ended first book _ _ (more first known book done output line (Moves w) ans one at (λ x. false≢true (ap is_bye x)))
     line_served done output line ans one (NotYet n) at = ended first book _ _ (more first known book done output line (NotYet n) ans one at (λ x. false≢true (ap is_bye x)))
     line_served done output line ans one Gone at = ended first book _ _ (more first known book done output line Gone ans one at (λ x. false≢true (ap is_bye x)))
     line_served done output line ans one (Refused f) at = ended first book _ _ (more first known book done output line (Refused f) ans one at (λ x. false≢true (ap is_bye x)))
@@ -86,7 +87,7 @@ module _ (first : List Image) (before : Option (List ℕ)) (taken : List ℕ) (n
     line_served done output line ans one What at = ended first book _ _ (more first known book done output line What ans one at (λ x. false≢true (ap is_bye x)))
 
     -- the front of its answer was written
-    pub breaks : (front rest : List ℕ) → answer_line answer ≡ front ++ rest → Appends now after front → HasBegun first before (taken ++ 10 ∷ []) after book
+    pub breaks : (front rest : List ℕ) → answer_text answer ≡ front ++ rest → Appends now after front → HasBegun first before (taken ++ 10 ∷ []) after book
     breaks front rest e wrote = record {
       front = s.done ++ (s.line ++ 10 ∷ []);
       behind = [];
@@ -99,14 +100,14 @@ module _ (first : List Image) (before : Option (List ℕ)) (taken : List ℕ) (n
     }
 
     -- it is the last line, with no line feed
-    last_served : s.line ≢ [] → Served first taken (s.output ++ answer_line answer) book
-    last_served some = subst (λ (i : List ℕ). Served first i (s.output ++ answer_line answer) book) (sym s.parts)
+    last_served : s.line ≢ [] → Served first taken (s.output ++ answer_text answer) book
+    last_served some = subst (λ (i : List ℕ). Served first i (s.output ++ answer_text answer) book) (sym s.parts)
         (unended first known book s.done s.output s.line answer s.answered s.one some is)
 
-    pub ends_last : s.line ≢ [] → Appends now after (answer_line answer) → HasServed first before taken after book
-    ends_last some wrote = (s.output ++ answer_line answer, last_served some, Appends-trans before now after s.output (answer_line answer) s.wrote wrote)
+    pub ends_last : s.line ≢ [] → Appends now after (answer_text answer) → HasServed first before taken after book
+    ends_last some wrote = (s.output ++ answer_text answer, last_served some, Appends-trans before now after s.output (answer_text answer) s.wrote wrote)
 
-    pub breaks_last : s.line ≢ [] → (front rest : List ℕ) → answer_line answer ≡ front ++ rest → Appends now after front → HasBegun first before taken after book
+    pub breaks_last : s.line ≢ [] → (front rest : List ℕ) → answer_text answer ≡ front ++ rest → Appends now after front → HasBegun first before taken after book
     breaks_last some front rest e wrote = record {
       front = taken;
       behind = [];
@@ -180,7 +181,7 @@ too_many_come (Some xs) (Some ys) came left c m =
 -- a line feed came
 pub line_feed : (first : List Image) (before : Option (List ℕ)) (taken : List ℕ) (now : Option (List ℕ)) (known : List Image) (coming : Coming) (s : Serving first before taken now known coming)
     (byte : ℕ) → byte ≡ 10 → (answer : Answer) (book : List Image) → IsAnswerTo known s.line answer book → (after : Option (List ℕ)) (quit : Bool) (next : Coming)
-    → ((quit ≡ true) ↔ (answer ≡ Bye)) → Appends now after (answer_line answer) → Holds next []
+    → ((quit ≡ true) ↔ (answer ≡ Bye)) → Appends now after (answer_text answer) → Holds next []
     → (quit ≡ true → (rest : List ℕ) → HasServed first before ((taken ++ byte ∷ []) ++ rest) after book) × (quit ≡ false → Serving first before (taken ++ byte ∷ []) after book next)
 line_feed first before taken now known coming s byte ten answer book is after quit next bye wrote holds = (
   λ q rest. subst (λ (b : ℕ). HasServed first before ((taken ++ b ∷ []) ++ rest) after book) (sym ten) (ends first before taken now known coming s answer book is after (bye.0 q) wrote rest),
@@ -189,7 +190,7 @@ line_feed first before taken now known coming s byte ten answer book is after qu
 
 pub line_breaks : (first : List Image) (before : Option (List ℕ)) (taken : List ℕ) (now : Option (List ℕ)) (known : List Image) (coming : Coming) (s : Serving first before taken now known coming)
     (byte : ℕ) → byte ≡ 10 → (answer : Answer) (book : List Image) → IsAnswerTo known s.line answer book → (after : Option (List ℕ)) (front rest : List ℕ)
-    → answer_line answer ≡ front ++ rest → Appends now after front → HasBegun first before (taken ++ byte ∷ []) after book
+    → answer_text answer ≡ front ++ rest → Appends now after front → HasBegun first before (taken ++ byte ∷ []) after book
 line_breaks first before taken now known coming s byte ten answer book is after front rest e wrote =
     subst (λ (b : ℕ). HasBegun first before (taken ++ b ∷ []) after book) (sym ten) (breaks first before taken now known coming s answer book is after front rest e wrote)
 

@@ -6,7 +6,7 @@ use Rattle.awari_desk.specs.declared.answers.Answer.{Answer}
 use Rattle.awari_desk.specs.declared.answers.Answer.TheVariants.{Bye}
 use Rattle.awari_desk.specs.declared.lines.Coming.{Coming}
 use Rattle.awari_desk.specs.declared.lines.TheConstants.{LONGEST_LINE}
-use Rattle.awari_desk.specs.Service.{Answered, IsOneLine, IsAnswerTo, answer_line, IsInput, HasServed, HasBegun}
+use Rattle.awari_desk.specs.Service.{Answered, IsOneLine, IsAnswerTo, answer_text, IsInput, HasServed, HasBegun}
 
 -- these are the bytes of the line that is coming in
 abbrev pub Holds : Coming → List ℕ → Type 0
@@ -26,8 +26,8 @@ pub record Serving (first : List Image) (before : Option (List ℕ)) (taken : Li
 -- an answer to the line was written, or the front of one
 abbrev pub Responds : {E : Type 0} → List Image → List ℕ → Result Bool E → List Image → Option (List ℕ) → Option (List ℕ) → Type 0
 Responds known line result book before after = (answer : Answer) × IsAnswerTo known line answer book × MatchResult result
-    (λ bye. ((bye ≡ true) ↔ (answer ≡ Bye)) × Appends before after (answer_line answer))
-    (λ _. (front rest : List ℕ) × (answer_line answer ≡ front ++ rest) × Appends before after front)
+    (λ bye. ((bye ≡ true) ↔ (answer ≡ Bye)) × Appends before after (answer_text answer))
+    (λ _. (front rest : List ℕ) × (answer_text answer ≡ front ++ rest) × Appends before after front)
 
 -- the service ended within these bytes, whatever comes behind them; it was refused; or it goes on
 abbrev pub Feeds : {E : Type 0} → List Image → Option (List ℕ) → List ℕ → Result Bool E → Option (List ℕ) → List Image → Coming → Type 0

@@ -8,6 +8,8 @@ use Rattle.awari_desk.specs.Books.{BeginsWith}
 use Rattle.awari_desk.specs.declared.faults.AskFault.{AskFault}
 use Rattle.awari_desk.specs.declared.faults.AskFault.TheVariants.{NotYet, Gone}
 use Rattle.awari_desk.specs.declared.pages.Pages.{Pages}
+use Rattle.awari_desk.specs.declared.weighing.Weighed.{Weighed}
+use Rattle.awari_desk.specs.Worths.{IsWeighed}
 
 -- A book is seen: a shelf that begins with the levels known before.
 pub record IsSeen (known book : List Image) : Type 0 where
@@ -19,6 +21,12 @@ abbrev pub IsAnswer : List Image → List Image → List ℕ → Result Entry As
 IsAnswer known book board (Ok entry) = IsSeen known book × (sum board < length book) × (entry ≡ entry_of book board)
 IsAnswer known book board (Err (NotYet levels)) = IsSeen known book × (length book ≤ sum board) × (levels ≡ length book)
 IsAnswer known book board (Err Gone) = book ≡ known
+
+-- What is said of a board's moves is so of that one book. It is refused as its entry is.
+abbrev pub IsWeighing : List Image → List Image → List ℕ → Result Weighed AskFault → Type 0
+IsWeighing known book board (Ok weighed) = IsSeen known book × IsWeighed book board weighed
+IsWeighing known book board (Err (NotYet levels)) = IsSeen known book × (length book ≤ sum board) × (levels ≡ length book)
+IsWeighing known book board (Err Gone) = book ≡ known
 
 -- the levels that are published
 abbrev pub book_of : Pages → List Image

@@ -1,4 +1,4 @@
--- The service: lines that come in, and the line that each is answered by.
+-- The service: lines that come in, and the lines that each is answered by.
 use Rattle.std.specs.Prelude.{◌≡◌, ◌≢◌, ◌⊎◌, ◌≤◌, ◌<◌, ℕ, List, [], ◌∷◌, ◌++◌, length, sum, codes, All, Option, Some, None, ⊤}
 use Rattle.std.specs.Fmt.{decimal}
 use Rattle.std.specs.Io.KnownBytes.{Appends}
@@ -9,40 +9,52 @@ use Rattle.awari_table.specs.declared.images.Image.{Image}
 use Rattle.awari_table.specs.Images.{entry_of}
 use Rattle.awari_table.specs.Spelling.{entry_line}
 use Rattle.awari_desk.specs.Desks.{IsSeen}
+use Rattle.awari_desk.specs.Worths.{IsWeighed, weighed_text}
 use Rattle.awari_desk.specs.declared.answers.Answer.{Answer}
-use Rattle.awari_desk.specs.declared.answers.Answer.TheVariants.{Found, NotYet, Gone, Refused, Seen, Bye, What}
+use Rattle.awari_desk.specs.declared.answers.Answer.TheVariants.{Found, Moves, NotYet, Gone, Refused, Seen, Bye, What}
 use Rattle.awari_desk.specs.declared.lines.TheConstants.{LONGEST_LINE}
 
--- the line of an answer, with its line feed
-abbrev pub answer_line : Answer → List ℕ
-answer_line (Found entry) = entry_line entry
-answer_line (NotYet levels) = codes "not yet " ++ decimal levels ++ 10 ∷ []
-answer_line Gone = codes "gone" ++ 10 ∷ []
-answer_line (Refused fault) = codes "refused " ++ board_fault_text fault ++ 10 ∷ []
-answer_line (Seen levels) = codes "seen " ++ decimal levels ++ 10 ∷ []
-answer_line Bye = codes "bye" ++ 10 ∷ []
-answer_line What = codes "what" ++ 10 ∷ []
+-- the lines of an answer, each with its line feed; behind those of moves stands an empty line
+abbrev pub answer_text : Answer → List ℕ
+answer_text (Found entry) = entry_line entry
+answer_text (Moves weighed) = weighed_text weighed ++ 10 ∷ []
+answer_text (NotYet levels) = codes "not yet " ++ decimal levels ++ 10 ∷ []
+answer_text Gone = codes "gone" ++ 10 ∷ []
+answer_text (Refused fault) = codes "refused " ++ board_fault_text fault ++ 10 ∷ []
+answer_text (Seen levels) = codes "seen " ++ decimal levels ++ 10 ∷ []
+answer_text Bye = codes "bye" ++ 10 ∷ []
+answer_text What = codes "what" ++ 10 ∷ []
 
 -- what a line has to be to ask for something: this, or this with more behind it
 abbrev pub asking : List ℕ
 asking = codes "ask "
 
+abbrev pub weighing : List ℕ
+weighing = codes "moves "
+
+-- the line asks for what this text spells: for its entry, or for what its moves are worth
+abbrev pub Names : List ℕ → List ℕ → Type 0
+Names line text = (line ≡ asking ++ text) ⊎ (line ≡ weighing ++ text)
+
 abbrev pub IsNoRequest : List ℕ → Type 0
-IsNoRequest line = (line ≢ codes "seen") × (line ≢ codes "quit") × ((text : List ℕ) → line ≢ asking ++ text)
+IsNoRequest line = (line ≢ codes "seen") × (line ≢ codes "quit") × ((text : List ℕ) → line ≢ asking ++ text) × ((text : List ℕ) → line ≢ weighing ++ text)
 
 -- The answer to a line, from the book that the reader knows before to the one that it knows then.
 abbrev pub IsAnswerTo : List Image → List ℕ → Answer → List Image → Type 0
 -- it asks for a board, whose entry is that of the book that is seen
 IsAnswerTo known line (Found entry) book =
     (board : List ℕ) × IsBoard board × (line ≡ asking ++ text_of board) × IsSeen known book × (sum board < length book) × (entry ≡ entry_of book board)
--- it asks for a board of as many stones as that book has levels, or more
+-- it asks for the moves of a board, which are weighed by the book that is seen
+IsAnswerTo known line (Moves weighed) book =
+    (board : List ℕ) × IsBoard board × (line ≡ weighing ++ text_of board) × IsSeen known book × IsWeighed book board weighed
+-- it names a board of as many stones as that book has levels, or more
 IsAnswerTo known line (NotYet levels) book =
-    (board : List ℕ) × IsBoard board × (line ≡ asking ++ text_of board) × IsSeen known book × (length book ≤ sum board) × (levels ≡ length book)
--- it asks for a board, and the publisher is gone
-IsAnswerTo known line Gone book = (board : List ℕ) × IsBoard board × (line ≡ asking ++ text_of board) × (book ≡ known)
--- it asks for what is no board
+    (board : List ℕ) × IsBoard board × Names line (text_of board) × IsSeen known book × (length book ≤ sum board) × (levels ≡ length book)
+-- it names a board, and the publisher is gone
+IsAnswerTo known line Gone book = (board : List ℕ) × IsBoard board × Names line (text_of board) × (book ≡ known)
+-- it names what is no board
 IsAnswerTo known line (Refused fault) book =
-    (text : List ℕ) × (line ≡ asking ++ text) × (length line ≤ LONGEST_LINE) × IsFaulty text fault × (book ≡ known)
+    (text : List ℕ) × Names line text × (length line ≤ LONGEST_LINE) × IsFaulty text fault × (book ≡ known)
 -- it asks how many levels the reader knows
 IsAnswerTo known line (Seen levels) book = (line ≡ codes "seen") × (levels ≡ length known) × (book ≡ known)
 -- it ends the service
@@ -60,7 +72,7 @@ pub data Answered : List Image → List ℕ → List ℕ → List Image → Type
   none : (book : List Image) → Answered book [] [] book
   more : (first known book : List Image) (input output line : List ℕ) (answer : Answer) → Answered first input output known
       → IsOneLine line → IsAnswerTo known line answer book → answer ≢ Bye
-      → Answered first (input ++ (line ++ 10 ∷ [])) (output ++ answer_line answer) book
+      → Answered first (input ++ (line ++ 10 ∷ [])) (output ++ answer_text answer) book
 
 -- The output for an input.
 pub data Served : List Image → List ℕ → List ℕ → List Image → Type 0 where
@@ -69,11 +81,11 @@ pub data Served : List Image → List ℕ → List ℕ → List Image → Type 0
   -- the last line has no line feed
   unended : (first known last : List Image) (input output line : List ℕ) (answer : Answer) → Answered first input output known
       → IsOneLine line → line ≢ [] → IsAnswerTo known line answer last
-      → Served first (input ++ line) (output ++ answer_line answer) last
+      → Served first (input ++ line) (output ++ answer_text answer) last
   -- a line ends the service, and nothing behind it is answered
   quits : (first known last : List Image) (input output line rest : List ℕ) → Answered first input output known
       → IsOneLine line → IsAnswerTo known line Bye last
-      → Served first (input ++ (line ++ 10 ∷ rest)) (output ++ answer_line Bye) last
+      → Served first (input ++ (line ++ 10 ∷ rest)) (output ++ answer_text Bye) last
 
 -- an input that is known to be this one, where it is known
 abbrev pub IsInput : Option (List ℕ) → List ℕ → Type 0

@@ -3,16 +3,20 @@
 ghost use Rattle.std.specs.Prelude.{◌≡◌, ◌≤◌, ◌++◌, ◌∷◌, [], codes, length};
 ghost use Rattle.std.specs.Fmt.{decimal};
 ghost use Rattle.awari_board.specs.BoardFault.{fault_text};
-ghost use Rattle.awari_desk.specs.Service.{answer_line};
+ghost use Rattle.awari_desk.specs.Service.{answer_text};
+ghost use Rattle.awari_desk.specs.Worths.{weighed_text};
 
+use crate::weighing::{MovesText, Weighed, text_of};
 use awari_board::BoardFault;
 use awari_table::{Entry, TextLine, line_of_entry, push_number, push_text};
 
 /// The answer to one line.
-#[derive(Clone, Copy, Debug, PartialEq, Eq)]
+#[derive(Debug, PartialEq, Eq, Drop)]
 pub enum Answer {
     /// The entry of the board, in the book that was seen.
     Found { entry: Entry },
+    /// What the board's legal moves are worth, by the book that was seen.
+    Moves { weighed: Weighed },
     /// That book has only the levels below `levels`.
     NotYet { levels: u8 },
     /// The publisher is gone.
@@ -60,18 +64,28 @@ fn refused_line_of(fault: BoardFault) -> TextLine
 }
 
 impl Answer {
-    /// The line, with its line feed.
-    pub(crate) fn line(&self) -> TextLine
-        ensures { result.items ≡ answer_line self.now }
+    /// The lines, each with its line feed; those of moves have an empty line behind them.
+    pub(crate) fn text(&self) -> MovesText
+        ensures { result.items ≡ answer_text self.now }
     {
-        match *self {
-            Answer::Found { entry } => line_of_entry(entry),
-            Answer::NotYet { levels } => numbered_line_of(b"not yet ", levels),
-            Answer::Gone => line_of_text(b"gone\n"),
-            Answer::Refused { fault } => refused_line_of(fault),
-            Answer::Seen { levels } => numbered_line_of(b"seen ", levels),
-            Answer::Bye => line_of_text(b"bye\n"),
-            Answer::What => line_of_text(b"what\n"),
+        match self {
+            Answer::Found { entry } => text_of(&line_of_entry(*entry)),
+            Answer::Moves { weighed } => text_of_moves(weighed),
+            Answer::NotYet { levels } => text_of(&numbered_line_of(b"not yet ", *levels)),
+            Answer::Gone => text_of(&line_of_text(b"gone\n")),
+            Answer::Refused { fault } => text_of(&refused_line_of(*fault)),
+            Answer::Seen { levels } => text_of(&numbered_line_of(b"seen ", *levels)),
+            Answer::Bye => text_of(&line_of_text(b"bye\n")),
+            Answer::What => text_of(&line_of_text(b"what\n")),
         }
     }
+}
+
+/// The lines of the moves, and an empty line.
+fn text_of_moves(weighed: &Weighed) -> MovesText
+    ensures { result.items ≡ weighed_text weighed.now ++ 10 ∷ [] }
+{
+    let mut text = weighed.text();
+    text.push(b'\n');
+    text
 }

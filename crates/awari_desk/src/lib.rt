@@ -13,6 +13,7 @@ mod publishers;
 mod publishing;
 mod readers;
 mod services;
+mod weighing;
 
 pub use answers::Answer;
 pub use books::{Book, Growing};
@@ -24,3 +25,4 @@ pub use pages::Pages;
 pub use publishers::Publisher;
 pub use readers::{Reader, Told};
 pub use services::{LONGEST_INPUT, serve};
+pub use weighing::{MOVES_ROOM, MovesText, Weighed, weigh};

@@ -1,7 +1,7 @@
 //! The lines that come in, and what they ask for.
 
 ghost use Rattle.std.specs.Prelude.{◌≡◌, ◌≢◌, ◌≤◌, ◌++◌, ◌∷◌, [], ℕ, List, length, true, false};
-ghost use Rattle.awari_desk.specs.Service.{asking, IsAnswerTo};
+ghost use Rattle.awari_desk.specs.Service.{asking, weighing, IsAnswerTo};
 
 use crate::answers::Answer;
 use crate::faults::AskFault;
@@ -72,6 +72,7 @@ fn answer_to(line: &[u8], reader: &mut Reader) -> Answer
 {
     match line {
         [b'a', b's', b'k', b' ', text @ ..] => ask(text, reader),
+        [b'm', b'o', b'v', b'e', b's', b' ', text @ ..] => weigh_moves(text, reader),
         [b's', b'e', b'e', b'n'] => Answer::Seen {
             levels: reader.seen(),
         },
@@ -89,6 +90,21 @@ fn ask(text: &[u8], reader: &mut Reader) -> Answer
         Err(fault) => Answer::Refused { fault },
         Ok(board) => match reader.ask(&board) {
             Ok(entry) => Answer::Found { entry },
+            Err(AskFault::NotYet { levels }) => Answer::NotYet { levels },
+            Err(AskFault::Gone) => Answer::Gone,
+        },
+    }
+}
+
+/// The answer to a line that asks for the moves of the board that `text` spells.
+fn weigh_moves(text: &[u8], reader: &mut Reader) -> Answer
+    requires { length (weighing ++ text.now) ≤ LONGEST_LINE }
+    ensures { IsAnswerTo reader.old (weighing ++ text.now) result reader.new }
+{
+    match Board::parse(text) {
+        Err(fault) => Answer::Refused { fault },
+        Ok(board) => match reader.moves(&board) {
+            Ok(weighed) => Answer::Moves { weighed },
             Err(AskFault::NotYet { levels }) => Answer::NotYet { levels },
             Err(AskFault::Gone) => Answer::Gone,
         },

@@ -4,7 +4,8 @@ ghost use Rattle.std.specs.Prelude.{◌≡◌, length, max};
 
 use crate::books::Seat;
 use crate::faults::AskFault;
-use crate::looks::look;
+use crate::looks::{look, look_at_moves};
+use crate::weighing::Weighed;
 use awari_board::Board;
 use awari_table::Entry;
 use core::mem::replace_with;
@@ -48,7 +49,7 @@ impl Model for Told {
 
 impl Reader {
     ghost use Rattle.awari_desk.specs.Books.{AreOfOneBook, BeginsWith, longer_of};
-    ghost use Rattle.awari_desk.specs.Desks.{IsAnswer};
+    ghost use Rattle.awari_desk.specs.Desks.{IsAnswer, IsWeighing};
 
     /// How many levels the longest book has that this reader has seen or was told of.
     pub fn seen(&self) -> u8
@@ -68,8 +69,27 @@ impl Reader {
             return Err(AskFault::Gone);
         };
         self.levels = seen.levels;
-        match seen.entry {
+        match seen.answer {
             Ok(entry) => Ok(entry),
+            Err(_) => Err(AskFault::NotYet {
+                levels: seen.levels,
+            }),
+        }
+    }
+
+    /// What the book that is published now says of the board's legal moves, and of the board. It begins
+    /// with all that this reader knows, and is what it knows then. Refused are a board of at least as
+    /// many stones as that book has levels, as 74 `NotYet`, and, as 75 `Gone`, a call after the publisher
+    /// was closed. It never waits, and takes no memory.
+    pub fn moves(&mut self, board: &Board) -> Result<Weighed, AskFault>
+        ensures { IsWeighing self.old self.new board.now result }
+    {
+        let Some(seen) = replace_with(&mut self.seat, board, look_at_moves) else {
+            return Err(AskFault::Gone);
+        };
+        self.levels = seen.levels;
+        match seen.answer {
+            Ok(weighed) => Ok(weighed),
             Err(_) => Err(AskFault::NotYet {
                 levels: seen.levels,
             }),

@@ -69,7 +69,7 @@ fn respond<W: Write>(
     ensures fault { OnErr result ((result ≡ Err serve_fault.Write) × Grew (faults_of output.old) (faults_of output.new)) }
 {
     let answer = coming.answer(reader);
-    match send(output, answer.line().as_slice()) {
+    match send(output, answer.text().as_slice()) {
         Ok(()) => Ok(matches!(answer, Answer::Bye)),
         Err(fault) => Err(fault),
     }
