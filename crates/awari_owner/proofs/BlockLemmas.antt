@@ -4,17 +4,16 @@ use Rattle.std.proofs.lemmas.Bool.Decides.{nat_tests}
 use Rattle.std.proofs.lemmas.Bool.{false≢true}
 use Rattle.awari_owner.specs.declared.cells.Mark.{Mark}
 use Rattle.std.proofs.lemmas.List.Sums.{sum_by-cons, sum_by-set}
-use Rattle.std.proofs.lemmas.List.Sorted.{sum_by-IsPermutation, All-permutation}
+use Rattle.std.proofs.lemmas.List.Sorted.{sum_by-IsPermutation, All-permutation, IsPermutation-sym}
 use Rattle.std.proofs.lemmas.List.Elements.{All-set, All-cons, All-tail, recursion_from_All, All-from_recursion}
 use Rattle.std.specs.List.{AllByRecursion}
 use Rattle.std.proofs.Math.ListN.{get_or-eq_default}
 use Rattle.std.proofs.lemmas.Bool.{cases_lt}
 use Rattle.std.specs.List.Sorted.{IsPermutation}
-use Rattle.std.specs.BinaryHeap.{IsHeap}
 use Rattle.awari_owner.specs.declared.cells.Cell.{Cell}
 use Rattle.awari_owner.specs.Cells.{is_settled, Fits, IsEither, IsTimely, Keeps}
 use Rattle.awari_owner.specs.declared.places.Place.{Place}
-use Rattle.awari_owner.specs.Blocks.{Due, due_rank, due_dist, due_cmp, no_cell, cell_in, is_settled_in, times_due, unsettled, IsDueAs, IsBlock, Joins, JoinsIf, JoinNewlySettled}
+use Rattle.awari_owner.specs.Blocks.{Due, due_rank, due_dist, no_cell, cell_in, is_settled_in, times_due, unsettled, IsDueAs, IsBlock, Joins, JoinsIf, JoinNewlySettled}
 
 abbrev pub one_if : Bool → ℕ
 one_if b = cond b 1 0
@@ -98,8 +97,8 @@ kept_due place f a b score dist due = record {
   valued = subst (IsEither place.gain) (sym score) due.valued;
 }
 
-module _ (place : Place) (cells : List Cell) (fresh : List Due) (capacity rank : ℕ) (c : Cell) (low : place.start ≤ rank) (high : rank - place.start < length cells)
-    (sound : IsBlock place cells fresh capacity) where
+module _ (place : Place) (cells : List Cell) (fresh : List Due) (rank : ℕ) (c : Cell) (low : place.start ≤ rank) (high : rank - place.start < length cells)
+    (sound : IsBlock place cells fresh) where
   -- the cells of the fresh boards stay
   due_still : Keeps (cell_in place.start cells rank) c → All (λ (f : Due). IsDueAs place f (cell_in place.start (set cells (rank - place.start) c) (due_rank f))) fresh
   due_still keeps =
@@ -129,16 +128,11 @@ module _ (place : Place) (cells : List Cell) (fresh : List Due) (capacity rank :
 
   -- a cell that is not newly settled
   pub put_kept : Fits place c → Keeps (cell_in place.start cells rank) c → is_settled c.mark ≡ is_settled (cell_in place.start cells rank).mark
-      → IsBlock place (set cells (rank - place.start) c) fresh capacity
+      → IsBlock place (set cells (rank - place.start) c) fresh
   put_kept fits keeps same = record {
     fit = All-set (Fits place) cells (rank - place.start) c fits sound.fit;
-    room = (
-        let sums = sum_by-set (λ (d : Cell). cond (not (is_settled d.mark)) 1 0) cells (rank - place.start) c no_cell high in
-        let alike : one_if (not (is_settled c.mark)) ≡ one_if (not (is_settled (cell_in place.start cells rank).mark)) = ap (λ b. one_if (not b)) same in
-        omega (arith, sums, alike, sound.room));
     settled = λ r. by r (r == rank) refl;
     due = due_still keeps;
-    ordered = sound.ordered;
   }
     where
       differ : (x y : ℕ) → (x == y) ≡ false → x ≢ y
@@ -153,23 +147,17 @@ module _ (place : Place) (cells : List Cell) (fresh : List Due) (capacity rank :
           subst (λ z. times_due fresh r ≤ (if z then 1 else 0)) (sym (is_settled_in-other place.start cells rank r c low (differ r rank e))) (sound.settled r)
 
   -- a newly settled cell, whose board joins the fresh
-  pub put_joined : (f : Due) (after : List Due) (room : ℕ) → Fits place c → IsTimely place c → Keeps (cell_in place.start cells rank) c → is_settled c.mark ≡ true → is_settled (cell_in place.start cells rank).mark ≡ false
-      → due_rank f ≡ rank → due_dist f ≡ c.dist → IsPermutation (f ∷ fresh) after → length after ≡ length fresh + 1 → capacity ≤ room → IsHeap due_cmp after
-      → IsBlock place (set cells (rank - place.start) c) after room
-  put_joined f after room fits timely keeps new old at dist moved longer more heap = record {
+  pub put_joined : (f : Due) (after : List Due) → Fits place c → IsTimely place c → Keeps (cell_in place.start cells rank) c → is_settled c.mark ≡ true → is_settled (cell_in place.start cells rank).mark ≡ false
+      → due_rank f ≡ rank → due_dist f ≡ c.dist → IsPermutation (f ∷ fresh) after
+      → IsBlock place (set cells (rank - place.start) c) after
+  put_joined f after fits timely keeps new old at dist moved = record {
     fit = All-set (Fits place) cells (rank - place.start) c fits sound.fit;
-    room = (
-        let sums = sum_by-set (λ (d : Cell). cond (not (is_settled d.mark)) 1 0) cells (rank - place.start) c no_cell high in
-        let after_one : one_if (not (is_settled c.mark)) ≡ 0 = ap (λ b. one_if (not b)) new in
-        let before_one : one_if (not (is_settled (cell_in place.start cells rank).mark)) ≡ 1 = ap (λ b. one_if (not b)) old in
-        omega (arith, sums, after_one, before_one, sound.room));
     settled = λ r. by r (r == rank) refl;
     due = All-permutation (λ (g : Due). IsDueAs place g (cell_in place.start (set cells (rank - place.start) c) (due_rank g))) (f ∷ fresh) after moved
         (All-cons (λ (g : Due). IsDueAs place g (cell_in place.start (set cells (rank - place.start) c) (due_rank g))) f fresh
         (subst (λ r. IsDueAs place f (cell_in place.start (set cells (rank - place.start) c) r)) (sym at)
         (subst (IsDueAs place f) (sym (cell_in-same place.start cells rank c high)) (record { near = sym dist; timely = timely.1; valued = timely.0 })))
         (due_still keeps));
-    ordered = heap;
   }
     where
       differ : (x y : ℕ) → (x == y) ≡ false → x ≢ y
@@ -266,33 +254,36 @@ settled_inside start cells r e = let (low, settled) = parts start r (is_settled 
         by_lt a b f g = elim (cases_lt a b) [ inl h ↦ h | inr h ↦ g h ]
 
 -- it is a settled board of the block, with its distance
-pub first_due : (place : Place) (cells : List Cell) (fresh : List Due) (capacity : ℕ) → IsBlock place cells fresh capacity → 0 < length fresh → (f : Due) → f ≡ get_or fresh 0 f
+pub first_due : (place : Place) (cells : List Cell) (fresh rest : List Due) (f : Due) → IsBlock place cells fresh → IsPermutation (f ∷ rest) fresh
     → (place.start ≤ due_rank f) × (due_rank f - place.start < length cells) × IsDueAs place f (cell_in place.start cells (due_rank f)) × (0 < times_due fresh (due_rank f))
     × (is_settled (cell_in place.start cells (due_rank f)).mark ≡ true)
-first_due place cells [] capacity sound some f e = absurd (omega arith)
-first_due place cells (g ∷ fresh) capacity sound some f e =
-    let settled = subst (λ (h : Due). is_settled_in place.start cells (due_rank h) ≡ true) (sym e) (due_settled (is_settled_in place.start cells) (g ∷ fresh) sound.settled).0 in
-    let inside = settled_inside place.start cells (due_rank f) settled in (
+first_due place cells fresh rest f sound moved =
+    let inside = settled_inside place.start cells (due_rank f) (settled (is_settled_in place.start cells (due_rank f)) (sound.settled (due_rank f))) in (
       inside.0,
       inside.1,
-      subst (λ (h : Due). IsDueAs place h (cell_in place.start cells (due_rank h))) (sym e) (sound.due 0 g (omega arith)),
-      once (due_rank f) (subst (λ (h : Due). due_rank h ≡ due_rank f) e refl),
+      (All-permutation (λ (g : Due). IsDueAs place g (cell_in place.start cells (due_rank g))) fresh (f ∷ rest) (IsPermutation-sym (f ∷ rest) fresh moved) sound.due) 0 f (omega arith),
+      often,
       inside.2,
     )
   where
-    once : (r : ℕ) → due_rank g ≡ r → 0 < times_due (g ∷ fresh) r
-    once r at = let more = times_due-cons g fresh r in let one : one_if (due_rank g == r) ≡ 1 = subst (λ z. one_if (due_rank g == z) ≡ 1) at (ap one_if (eqb_self (due_rank g))) in omega (arith, more, one)
+    often : 0 < times_due fresh (due_rank f)
+    often =
+        let count = times_due-permuted (f ∷ rest) fresh (due_rank f) moved in
+        let cons = times_due-cons f rest (due_rank f) in
+        let one : one_if (due_rank f == due_rank f) ≡ 1 = ap one_if (eqb_self (due_rank f)) in
+        omega (arith, count, cons, one)
+
+    settled : (b : Bool) → times_due fresh (due_rank f) ≤ (if b then 1 else 0) → b ≡ true
+    settled true most = refl
+    settled false most = absurd (omega (arith, most, often))
 
 -- the others, once it is taken
-pub popped : (place : Place) (cells : List Cell) (fresh rest : List Due) (capacity : ℕ) (f : Due) → IsBlock place cells fresh capacity → IsPermutation fresh (f ∷ rest) → length rest + 1 ≡ length fresh
-    → IsHeap due_cmp rest → IsBlock place cells rest capacity
-popped place cells fresh rest capacity f sound moved len heap = record {
+pub popped : (place : Place) (cells : List Cell) (fresh rest : List Due) (f : Due) → IsBlock place cells fresh → IsPermutation (f ∷ rest) fresh → IsBlock place cells rest
+popped place cells fresh rest f sound moved = record {
   fit = sound.fit;
-  room = omega (arith, sound.room, len);
-  settled = λ r. let count = times_due-permuted fresh (f ∷ rest) r moved in let cons = times_due-cons f rest r in omega (arith, sound.settled r, count, cons);
+  settled = λ r. let count = times_due-permuted (f ∷ rest) fresh r moved in let cons = times_due-cons f rest r in omega (arith, sound.settled r, count, cons);
   due = All-tail (λ (g : Due). IsDueAs place g (cell_in place.start cells (due_rank g))) f rest
-      (All-permutation (λ (g : Due). IsDueAs place g (cell_in place.start cells (due_rank g))) fresh (f ∷ rest) moved sound.due);
-  ordered = heap;
+      (All-permutation (λ (g : Due). IsDueAs place g (cell_in place.start cells (due_rank g))) fresh (f ∷ rest) (IsPermutation-sym (f ∷ rest) fresh moved) sound.due);
 }
 
 -- what is settled stays so, over two steps

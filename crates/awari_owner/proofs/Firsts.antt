@@ -1,17 +1,15 @@
 -- The first fresh board, and what its spread makes of the part.
-use Rattle.std.proofs.Common.{◌≡◌, ℕ, ◌+◌, ◌-◌, ◌^◌, ◌<◌, ◌≤◌, Bool, false, true, inl, inr, if◌then◌else◌, Some, List, ◌∷◌, length, get_or, sum, All, refl, sym, ap, subst, ◌∙◌, arith}
+use Rattle.std.proofs.Common.{◌≡◌, ℕ, ◌+◌, ◌-◌, ◌^◌, ◌<◌, ◌≤◌, Bool, false, true, inl, inr, if◌then◌else◌, Some, List, ◌∷◌, length, sum, All, refl, sym, ap, subst, ◌∙◌, arith}
 use Rattle.std.proofs.lemmas.Int.{ints}
 use Rattle.std.proofs.lemmas.Bool.{false≢true}
-use Rattle.std.proofs.lemmas.Bool.Decides.{nat_tests}
-use Rattle.std.proofs.lemmas.List.Elements.{All-from_recursion, All-weaker}
-use Rattle.std.specs.BinaryHeap.{lt_by_cmp, IsUpperBound}
+use Rattle.std.proofs.lemmas.List.Elements.{All-weaker}
 use Rattle.std.specs.List.Sorted.{IsPermutation}
 use Rattle.awari_board.specs.Rules.{IsBoard}
 use Rattle.awari_rank.specs.Rank.{rank_of}
 use Rattle.awari_unmove.specs.Predecessors.{IsPredecessors}
 use Rattle.awari_owner.specs.Notes.{IsQuietMove, IsNoteOf}
 use Rattle.awari_owner.specs.Cells.{IsEither, IsWithin, Fits, FitsBy, is_settled}
-use Rattle.awari_owner.specs.Blocks.{Due, due_rank, due_dist, due_cmp, cell_in, times_due, is_settled_in, no_cell, IsDueAs, IsBlock, JoinNewlySettled, KeepSettled}
+use Rattle.awari_owner.specs.Blocks.{Due, due_rank, due_dist, cell_in, times_due, is_settled_in, no_cell, IsDueAs, IsBlock, JoinNewlySettled, KeepSettled}
 use Rattle.awari_owner.specs.Part.{Part, InBlock, IsTallied, part_of, stored_at, settled_at}
 use Rattle.awari_owner.specs.Spread.{Source, Tells, kind_of, note_to, with_all_own, LeavesFresh, Spreads, SpreadsOne}
 use Rattle.awari_owner.specs.declared.cells.Cell.{Cell}
@@ -37,19 +35,11 @@ gain_low place c fits settled either = at c.mark settled fits
     at Capturing e f = absurd (false≢true e)
     at Ended e f = absurd (false≢true e)
 
--- what is not before the first: it is not nearer, and as near only with a greater rank
-not_nearer : (x y : Due) → lt_by_cmp due_cmp x y ≡ false → due_dist x ≤ due_dist y
-not_nearer x y h = grind (arith, nat_tests)
-
-not_before : (x y : Due) → lt_by_cmp due_cmp x y ≡ false → due_dist y ≡ due_dist x → due_rank x ≤ due_rank y
-not_before x y h same = grind (arith, nat_tests)
-
-first_of : (x : Due) (fresh : List Due) (wave rank : ℕ) → due_dist x ≡ wave → rank ≡ due_rank x → IsUpperBound due_cmp x fresh
+first_of : (x : Due) (fresh : List Due) (wave rank : ℕ) → due_dist x ≡ wave → rank ≡ due_rank x → All (λ y. (due_dist x ≤ due_dist y) × (due_dist y ≡ due_dist x → due_rank x ≤ due_rank y)) fresh
     → All (λ f. (wave ≤ due_dist f) × (due_dist f ≡ wave → rank ≤ due_rank f)) fresh
-first_of x fresh wave rank near at h =
-    All-weaker (λ y. lt_by_cmp due_cmp x y ≡ false) (λ f. (wave ≤ due_dist f) × (due_dist f ≡ wave → rank ≤ due_rank f))
-    (λ y later. (let n = not_nearer x y later in omega (arith, n, near), λ same. let n = not_before x y later (same ∙ sym near) in omega (arith, n, at)))
-    fresh (All-from_recursion _ fresh h)
+first_of x fresh wave rank near at least =
+    All-weaker (λ y. (due_dist x ≤ due_dist y) × (due_dist y ≡ due_dist x → due_rank x ≤ due_rank y)) (λ f. (wave ≤ due_dist f) × (due_dist f ≡ wave → rank ≤ due_rank f))
+    (λ y later. (let n = later.0 in omega (arith, n, near), λ same. let n = later.1 (same ∙ sym near) in omega (arith, n, at))) fresh least
 
 -- The board is settled at the open gain and distance, and its sources hear of this kind.
 pub record IsTold (part : Part) (q : List ℕ) (sources : List Source) (kind : Kind) : Type 0 where
@@ -59,18 +49,18 @@ pub record IsTold (part : Part) (q : List ℕ) (sources : List Source) (kind : K
   pub are : AreSources q sources
   pub level : sum q ≡ part.level
 
-module _ (place : Place) (cells cells' : List Cell) (fresh rest after : List Due) (capacity : ℕ) (f g : Due) (cell : Cell) (q : List ℕ) (sources : List Source) (kind : Kind) where
+module _ (place : Place) (cells cells' : List Cell) (fresh rest after : List Due) (f : Due) (cell : Cell) (q : List ℕ) (sources : List Source) (kind : Kind) where
   pub spread_by : IsInjective → ((p : List ℕ) (x : ℕ) (r : List ℕ) → IsBoard p → IsQuietMove p x r → IsBoard r) → ((p : List ℕ) (x : ℕ) (r : List ℕ) → IsBoard p → IsQuietMove p x r → sum r + 0 ≡ sum p)
-      → IsBlock place cells fresh capacity → 0 < length fresh → f ≡ get_or fresh 0 f → g ≡ get_or fresh 0 g → IsPermutation fresh (g ∷ rest) → IsUpperBound due_cmp f fresh
+      → IsBlock place cells fresh → IsPermutation (f ∷ rest) fresh → All (λ y. (due_dist f ≤ due_dist y) × (due_dist y ≡ due_dist f → due_rank f ≤ due_rank y)) fresh
       → due_dist f ≡ place.wave → place.wave < 2 ^ 32 - 1 → 1 ≤ place.gain → IsBoard q → sum q ≡ place.level → rank_of q ≡ due_rank f → cell_in place.start cells (due_rank f) ≡ cell → kind ≡ kind_of cell.score
       → IsPredecessors q sources → Tells (part_of place cells rest) (part_of place cells' after) kind sources
       → JoinNewlySettled place.start cells rest cells' after → KeepSettled place.start cells cells' → length cells' ≡ length cells
       → Spreads (part_of place cells fresh) (part_of place cells' after) q sources × IsTold (part_of place cells fresh) q sources kind
-  spread_by injective boards stones sound some at at' moved greatest wave near_wave one is level ranked was kinds predecessors told joined stays len = (
+  spread_by injective boards stones sound moved least wave near_wave one is level ranked was kinds predecessors told joined stays len = (
     record {
       board = is;
       stones = level;
-      first = record { fresh = often; inside = inside; near = near; first = first_of f fresh place.wave (rank_of q) wave ranked greatest };
+      first = record { fresh = often; inside = inside; near = near; first = first_of f fresh place.wave (rank_of q) wave ranked least };
       once = few;
       opened = gain_low place (cell_in place.start cells (due_rank f)) (sound.fit (due_rank f - place.start) no_cell due.1) due.4 due.2.valued;
       valued = either;
@@ -96,7 +86,7 @@ module _ (place : Place) (cells cells' : List Cell) (fresh rest after : List Due
 
       due : (place.start ≤ due_rank f) × (due_rank f - place.start < length cells) × IsDueAs place f (cell_in place.start cells (due_rank f)) × (0 < times_due fresh (due_rank f))
           × (is_settled (cell_in place.start cells (due_rank f)).mark ≡ true)
-      due = first_due place cells fresh capacity sound some f at
+      due = first_due place cells fresh rest f sound moved
 
       are : AreSources q sources
       are = sources_of q sources (λ p x board quiet. stones p x q board quiet) predecessors
@@ -127,7 +117,7 @@ module _ (place : Place) (cells cells' : List Cell) (fresh rest after : List Due
       same = kinds ∙ ap (λ (d : Cell). kind_of d.score) (sym was ∙ ap (cell_in place.start cells) (sym ranked))
 
       leaves : LeavesFresh old new (rank_of q)
-      leaves = subst (LeavesFresh old new) (sym ranked) (joined_but place.start place.start cells cells' fresh rest after f g some at at' moved joined)
+      leaves = subst (LeavesFresh old new) (sym ranked) (joined_but place.start place.start cells cells' fresh rest after f moved joined)
 
       becomes : SpreadsOne old new q (stored_at old (rank_of q)).score place.wave
       becomes = first_spreads old new q (stored_at old (rank_of q)).score is level

@@ -9,8 +9,8 @@ use Rattle.awari_owner.proofs.BlockLemmas.{all_both, due_settled, settled_inside
 use Rattle.awari_owner.proofs.Distances.{settled_cell}
 
 -- they are settled boards of the block, each once
-pub fresh_of_block : (place : Place) (cells : List Cell) (fresh : List Due) (capacity : ℕ) → IsBlock place cells fresh capacity → AreFresh (part_of place cells fresh)
-fresh_of_block place cells fresh capacity sound = record {
+pub fresh_of_block : (place : Place) (cells : List Cell) (fresh : List Due) → IsBlock place cells fresh → AreFresh (part_of place cells fresh)
+fresh_of_block place cells fresh sound = record {
   boards = All-from_recursion (IsFreshIn (part_of place cells fresh)) fresh
       (all_both (λ (f : Due). is_settled_in place.start cells (due_rank f) ≡ true) (λ (f : Due). IsDueAs place f (cell_in place.start cells (due_rank f))) (IsFreshIn (part_of place cells fresh)) fresh one
       (due_settled (is_settled_in place.start cells) fresh sound.settled) (recursion_from_All _ fresh sound.due));
@@ -29,6 +29,6 @@ fresh_of_block place cells fresh capacity sound = record {
     at_most false n h = omega (arith, h)
 
 -- so they are where this is the part's block
-pub fresh_of_part : (place : Place) (cells : List Cell) (fresh : List Due) (capacity : ℕ) (part : Part) → part_of place cells fresh ≡ part → IsBlock place cells fresh capacity
+pub fresh_of_part : (place : Place) (cells : List Cell) (fresh : List Due) (part : Part) → part_of place cells fresh ≡ part → IsBlock place cells fresh
     → AreFresh part
-fresh_of_part place cells fresh capacity part same sound = subst AreFresh same (fresh_of_block place cells fresh capacity sound)
+fresh_of_part place cells fresh part same sound = subst AreFresh same (fresh_of_block place cells fresh sound)

@@ -1,8 +1,14 @@
 pub mod Basics
+pub mod Bits
+pub mod Nearest
+pub mod RunBounds
+pub mod FreshLists
+pub mod FirstBits
 pub mod Legality
 pub mod Statuses
 pub mod Tallies
 pub mod BlockLemmas
+pub mod FreshBlocks
 pub mod Opening
 pub mod Taking
 pub mod Gains

@@ -2,7 +2,6 @@
 use Rattle.std.proofs.Common.{◌≡◌, ℕ, zero, suc, ◌+◌, ◌<◌, ◌≤◌, ◌==◌, ◌⊎◌, inl, inr, Bool, true, false, not, ◌&&◌, cond, if◌then◌else◌, is_some, All, List, [], ◌∷◌, ◌++◌, ◌-◌, ◌≢◌, length, get_or, length-append, subst₂, sum, take, count_by, ℤ, Option, Some, None, pos, neg_ℤ, ◌-ℤ◌, ◌<ℤ◌, ◌≤ℤ◌, refl, sym, ap, subst, ◌∙◌, arith, eqb-true}
 use Rattle.std.proofs.lemmas.Bool.Decides.{nat_tests}
 use Rattle.std.proofs.lemmas.Int.{ints}
-use Rattle.std.proofs.lemmas.List.Sums.{count_by-le-length}
 use Rattle.std.proofs.lemmas.List.{get_or_append_left, get_or_default}
 use Rattle.std.proofs.Math.Seq.{get_or-append_seam}
 use Rattle.awari_board.specs.Rules.{IsBoard, IsEnd, IsEnded, IsLegal, IsMove, captured, next_board, own_stones}
@@ -16,8 +15,7 @@ use Rattle.awari_owner.specs.declared.cells.Mark.TheVariants.{Ended, Quiet, Capt
 use Rattle.awari_owner.specs.declared.places.Place.{Place}
 use Rattle.awari_owner.specs.Scan.{IsRanged, IsBestBelow, IsOutlook, IsScanned, AreScanned}
 use Rattle.awari_rank.specs.Rank.{rank_of}
-use Rattle.awari_owner.specs.Blocks.{Due, due_rank, due_cmp, cell_in, no_cell, times_due, is_settled_in, IsDueAs, IsBlock}
-use Rattle.std.specs.BinaryHeap.{IsHeap}
+use Rattle.awari_owner.specs.Blocks.{Due, due_rank, cell_in, no_cell, times_due, is_settled_in, IsDueAs, IsBlock}
 use Rattle.awari_owner.specs.Part.{Part, InBlock, settled_by, settled_at}
 use Rattle.awari_owner.specs.Spread.{HearsOwn}
 use Rattle.std.proofs.lemmas.Bool.{false≢true}
@@ -297,16 +295,14 @@ module _ (value : List ℕ → ℤ) (n start end : ℕ) (cells : List Cell) (lon
       let at : rank_of board.0 - start ≡ k = omega (arith, board.3) in
       (board.0, board.2, subst (λ j. IsScanned value board.0 (get_or cells j no_cell)) at (scanned_all board.0 board.1 board.2 (omega (arith, board.3)) (omega (arith, board.3, h, long))))
 
-  pub scanned_block : (place : Place) (fresh : List Due) (capacity : ℕ) → place.level ≡ n → fresh ≡ [] → length cells ≤ capacity → IsHeap due_cmp fresh → IsBlock place cells fresh capacity
-  scanned_block place fresh capacity level none room heap = record {
+  pub scanned_block : (place : Place) (fresh : List Due) → place.level ≡ n → fresh ≡ [] → IsBlock place cells fresh
+  scanned_block place fresh level none = record {
     fit = λ k d h.
         let at = scanned_at k h in
         let same : get_or cells k d ≡ get_or cells k no_cell = get_or_default cells k d no_cell h in
         subst (Fits place) (sym same) (subst (λ m. FitsBy (get_or cells k no_cell).mark m place.gain (get_or cells k no_cell).score (get_or cells k no_cell).dist) (at.1 ∙ sym level) (at.2.fits place.gain));
-    room = let e = ap length none in let u = count_by-le-length (λ (c : Cell). not (is_settled c.mark)) cells in omega (arith, e, u, room);
     settled = λ r. subst (λ (fs : List Due). times_due fs r ≤ (if is_settled_in place.start cells r then 1 else 0)) (sym none) (omega arith);
     due = subst (λ (fs : List Due). All (λ f. IsDueAs place f (cell_in place.start cells (due_rank f))) fs) (sym none) (λ k d h. absurd (omega (arith, h)));
-    ordered = heap;
   }
 
   -- no board is settled

@@ -198,11 +198,9 @@ unheard_sources part kind notes q sources injective own are stones inside fresh 
     ])
 
 -- the fresh boards once the first is taken and others joined
-pub joined_but : (start start' : ℕ) (cells cells' : List Cell) (fresh rest after : List Due) (first f : Due) → 0 < length fresh → first ≡ get_or fresh 0 first → f ≡ get_or fresh 0 f
-    → IsPermutation fresh (f ∷ rest) → JoinNewlySettled start cells rest cells' after
-    → (r : ℕ) → times_due after r + (if is_settled_in start cells r then 1 else 0) + (if due_rank first == r then 1 else 0) ≡ times_due fresh r + (if is_settled_in start cells' r then 1 else 0)
-joined_but start start' cells cells' fresh rest after first f some at at' moved joined r =
-    let same : f ≡ first = at' ∙ get_or_default fresh 0 f first some ∙ sym at in
-    let count = times_due-permuted fresh (f ∷ rest) r moved in
-    let cons = times_due-cons f rest r ∙ ap (λ (g : Due). (if due_rank g == r then 1 else 0) + times_due rest r) same in
+pub joined_but : (start start' : ℕ) (cells cells' : List Cell) (fresh rest after : List Due) (f : Due) → IsPermutation (f ∷ rest) fresh → JoinNewlySettled start cells rest cells' after
+    → (r : ℕ) → times_due after r + (if is_settled_in start cells r then 1 else 0) + (if due_rank f == r then 1 else 0) ≡ times_due fresh r + (if is_settled_in start cells' r then 1 else 0)
+joined_but start start' cells cells' fresh rest after f moved joined r =
+    let count = times_due-permuted (f ∷ rest) fresh r moved in
+    let cons = times_due-cons f rest r in
     omega (arith, joined r, count, cons)

@@ -1,10 +1,6 @@
 -- The cells of a block and its fresh boards.
-use Rattle.std.specs.Prelude.{◌≡◌, ℕ, ◌+◌, ◌-◌, ◌≤◌, ◌==◌, Bool, true, false, not, ◌&&◌, if◌then◌else◌, nat_le, List, ◌∷◌, length, All, count_by, slice_index_or, pos}
-use Rattle.std.specs.Ordering.{nat_cmp, ordering_then}
+use Rattle.std.specs.Prelude.{◌≡◌, ℕ, ◌+◌, ◌-◌, ◌≤◌, ◌==◌, Bool, true, false, not, ◌&&◌, if◌then◌else◌, nat_le, List, ◌∷◌, All, count_by, slice_index_or, pos}
 use Rattle.std.specs.List.Sorted.{IsPermutation}
-use Rattle.std.specs.BinaryHeap.{IsHeap}
-use Rattle.std.specs.declared.cmp.Ordering.{Ordering}
-use Rattle.std.specs.declared.cmp.Reverse.{Reverse}
 use Rattle.awari_owner.specs.declared.cells.Cell.{Cell}
 use Rattle.awari_owner.specs.declared.cells.Mark.TheVariants.{Ended}
 use Rattle.awari_owner.specs.Cells.{is_settled, Fits, IsEither, Keeps}
@@ -12,17 +8,13 @@ use Rattle.awari_owner.specs.declared.places.Place.{Place}
 
 -- the distance and the rank of a fresh board
 abbrev pub Due : Type 0
-Due = Reverse (ℕ × ℕ)
+Due = ℕ × ℕ
 
 abbrev pub due_rank : Due → ℕ
-due_rank f = f.0.1
+due_rank f = f.1
 
 abbrev pub due_dist : Due → ℕ
-due_dist f = f.0.0
-
--- nearer boards come first, and of those the ones of smaller rank
-abbrev pub due_cmp : Due → Due → Ordering
-due_cmp a b = ordering_then (nat_cmp b.0.0 a.0.0) (nat_cmp b.0.1 a.0.1)
+due_dist f = f.0
 
 abbrev pub no_cell : Cell
 no_cell = record { heard = 0; left = 0; mark = Ended; score = pos 0; dist = 0 }
@@ -48,14 +40,11 @@ pub record IsDueAs (place : Place) (f : Due) (c : Cell) : Type 0 where
   pub timely : place.wave ≤ c.dist
   pub valued : IsEither place.gain c.score
 
--- Fresh boards are settled boards of the block, each once, with their distances, in a heap with room for the boards that are
--- not settled.
-pub record IsBlock (place : Place) (cells : List Cell) (fresh : List Due) (capacity : ℕ) : Type 0 where
+-- Fresh boards are settled boards of the block, each once, with their distances.
+pub record IsBlock (place : Place) (cells : List Cell) (fresh : List Due) : Type 0 where
   pub fit : All (Fits place) cells
-  pub room : length fresh + unsettled cells ≤ capacity
   pub settled : (rank : ℕ) → times_due fresh rank ≤ (if is_settled_in place.start cells rank then 1 else 0)
   pub due : All (λ f. IsDueAs place f (cell_in place.start cells (due_rank f))) fresh
-  pub ordered : IsHeap due_cmp fresh
 
 -- where the board is newly settled it joins the fresh, and else nothing changes
 abbrev pub JoinsIf : Bool → Cell → ℕ → List Due → List Due → Type 0

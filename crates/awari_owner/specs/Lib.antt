@@ -3,6 +3,7 @@ pub mod Tally
 pub mod Steps
 pub mod Cells
 pub mod Blocks
+pub mod Fresh
 pub mod Part
 pub mod Leaving
 pub mod PartFields

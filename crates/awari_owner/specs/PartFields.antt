@@ -1,6 +1,6 @@
 -- The fields of a part.
 use Rattle.std.specs.Prelude.{◌≡◌, ◌+◌, ◌^◌, ◌<◌, ◌≤◌, vec_len}
-use Rattle.std.specs.BinaryHeap.{heap_items, heap_capacity}
+use Rattle.awari_owner.specs.Fresh.{IsFresh, fresh_of}
 use Rattle.awari_rank.specs.Rank.{size_of}
 use Rattle.awari_owner.specs.Blocks.{IsBlock}
 use Rattle.awari_owner.specs.Leaving.{AreLeaving}
@@ -12,6 +12,7 @@ pub record IsPart (a : Inside) : Type 0 where
   pub inward : a.place.gain ≤ a.place.level + 1
   pub fits : a.place.start + vec_len a.cells < 2 ^ 32
   pub within : a.place.start + vec_len a.cells ≤ size_of a.place.level
-  pub block : IsBlock a.place a.cells.items (heap_items a.fresh) (heap_capacity a.fresh)
+  pub marks : IsFresh a.cells.items a.fresh
+  pub block : IsBlock a.place a.cells.items (fresh_of a.place.start a.cells.items a.fresh)
   pub each : vec_len a.leaving ≡ vec_len a.cells
   pub leaving : AreLeaving a.place.level a.place.start (vec_len a.leaving) a.place.start a.leaving.items

@@ -4,8 +4,8 @@ use Rattle.awari_board.specs.Rules.{IsBoard, IsMove}
 use Rattle.awari_rank.specs.Rank.{rank_of, size_of}
 use Rattle.awari_owner.specs.Tally.{is_left, pits, Captures, IsStatus}
 use Rattle.awari_owner.specs.Cells.{status_of, is_settled, IsWithin, FitsBy}
-use Rattle.std.specs.BinaryHeap.{heap_items, heap_capacity, IsHeap}
-use Rattle.awari_owner.specs.Blocks.{cell_in, due_cmp}
+use Rattle.awari_owner.specs.Fresh.{IsFresh, is_marked}
+use Rattle.awari_owner.specs.Blocks.{cell_in}
 use Rattle.awari_owner.specs.Leaving.{AreLeaving, IsBlockOf}
 use Rattle.awari_owner.specs.Part.{Part, InBlock, settled_at}
 use Rattle.awari_table.specs.declared.TheConstants.{HIGHEST_LEVEL}
@@ -75,9 +75,8 @@ pub record IsPiece (value : List ℕ → ℤ) (n : ℕ) (block : Block) (first b
   pub scanned : AreScanned value n first (first + boards) cells
   pub leaves : AreLeaving n block.start (block.end - block.start) first leaving
 
--- those of all boards of the block, and a heap with room for each of them, in which none is
+-- those of all boards of the block, of which none is fresh
 pub record IsScannedBlock (value : List ℕ → ℤ) (n : ℕ) (block : Block) (found : ScannedBlock) : Type 0 where
   pub piece : IsPiece value n block block.start (block.end - block.start) found.cells.items found.leaving.items
-  pub fresh : heap_items found.fresh ≡ []
-  pub room : length found.cells.items ≤ heap_capacity found.fresh
-  pub ordered : IsHeap due_cmp (heap_items found.fresh)
+  pub marks : IsFresh found.cells.items found.fresh
+  pub none : (rank : ℕ) → is_marked found.fresh.words.items rank ≡ false

@@ -11,6 +11,7 @@
 mod blocks;
 mod cells;
 mod faults;
+mod fresh;
 mod laws;
 mod notes;
 mod outboxes;
@@ -20,6 +21,7 @@ mod places;
 mod queues;
 mod scans;
 mod spreads;
+mod words;
 
 pub use faults::OwnerFault;
 pub use laws::{

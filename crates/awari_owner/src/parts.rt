@@ -15,9 +15,10 @@ ghost use Rattle.awari_table.specs.declared.TheConstants.{HIGHEST_LEVEL};
 ghost use Rattle.awari_owner.specs.declared.faults.OwnerFault.{OwnerFault};
 ghost use Rattle.awari_owner.specs.declared.notes.Note.{Note as NoteView};
 
-use crate::blocks::{Due, open_cells, put};
+use crate::blocks::{open_cells, put, take_first};
 use crate::cells::{Cell, Mark};
 use crate::faults::OwnerFault;
+use crate::fresh::Fresh;
 use crate::notes::Note;
 use crate::outboxes::Outboxes;
 use crate::parallel::scanned_block_parallel;
@@ -30,7 +31,6 @@ use awari_packed::PackedBoard;
 use awari_rank::{ranks_tell_boards_apart, size};
 use awari_table::{Shelf, shelves_are_certificates};
 use std::alloc::Global;
-use std::collections::BinaryHeap;
 use std::marker::Model;
 use std::thread::Threads;
 
@@ -42,18 +42,18 @@ pub struct Part {
     place: Place,
     cells: Vec<Cell>,
     leaving: Vec<u8>,
-    fresh: BinaryHeap<Due>,
+    fresh: Fresh,
 }
 
 impl Model for Part {
-    ghost use Rattle.std.specs.BinaryHeap.{heap_items};
+    ghost use Rattle.awari_owner.specs.Fresh.{fresh_of};
     ghost use Rattle.awari_owner.specs.Part.{Part as PartView, part_of};
 
     ghost Value = { PartView };
 
     ghost use Rattle.awari_owner.specs.PartFields.{IsPart};
 
-    ghost view = { λ a. part_of a.place a.cells.items (heap_items a.fresh) };
+    ghost view = { λ a. part_of a.place a.cells.items (fresh_of a.place.start a.cells.items a.fresh) };
 
     ghost invariant = { IsPart };
 }
@@ -63,7 +63,7 @@ impl Part {
     /// with no note heard, and no gain open. There are 1 to 16 owners, and the shelf has at most
     /// `HIGHEST_LEVEL` levels. Refused as 33 `Memory` where a growth was.
     ///
-    /// It takes all the memory that the part will ever need, 17 bytes a board.
+    /// It takes all the memory that the part will ever need, a little more than nine bytes a board.
     pub fn scan(alloc: Global, shelf: &Shelf, owners: u8, owner: u8) -> Result<Part, OwnerFault>
         requires owners { (1 ≤ owners) × (owners ≤ 16) }
         requires owner { owner < owners }
@@ -152,7 +152,7 @@ impl Part {
     pub fn idle(&self) -> bool
         ensures { IsTrue result ↔ (self.now.fresh ≡ []) }
     {
-        self.fresh.is_empty()
+        self.fresh.len() == 0
     }
 
     /// The least distance of a fresh board in plies, none where no board is fresh. It is that of a
@@ -162,8 +162,8 @@ impl Part {
         ensures timely { IfSome result (λ dist. self.now.wave ≤ dist) }
         ensures settled { IfSome result (λ dist. (rank : ℕ) × (v : ℤ) × InBlock self.now rank × (settled_at self.now rank ≡ Some (v, dist))) }
     {
-        match self.fresh.peek() {
-            Some(due) => Some(due.0.0),
+        match self.fresh.first() {
+            Some((dist, _index)) => Some(dist),
             None => None,
         }
     }
@@ -275,10 +275,9 @@ impl Part {
         ensures kept { result ≡ Ok false → outboxes.new ≡ outboxes.old }
         ensures owner { (outboxes.new.owner ≡ outboxes.old.owner) × (length outboxes.new.queues ≡ length outboxes.old.queues) }
     {
-        let Some(first) = self.fresh.peek() else {
+        let Some((dist, index)) = self.fresh.first() else {
             return Ok(false);
         };
-        let (dist, rank) = first.0;
         if dist != self.place.wave {
             return Ok(false);
         }
@@ -291,11 +290,9 @@ impl Part {
         moves_keep_boards();
         ranks_tell_boards_apart();
         let span = block_length(size(self.place.level), outboxes.queues.len() as u8);
-        let kind = kind_of(&self.cells[(rank - self.place.start) as usize]);
-        let board = PackedBoard::unrank(self.place.level, rank);
-        let Some(_) = self.fresh.pop() else {
-            unreachable!()
-        };
+        let kind = kind_of(&self.cells[index]);
+        let board = PackedBoard::unrank(self.place.level, self.place.start + index as u32);
+        take_first(&mut self.cells, &mut self.fresh, index);
         tell_all(
             &mut self.cells,
             &mut self.fresh,

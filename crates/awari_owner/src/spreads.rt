@@ -2,7 +2,7 @@
 //! that are put to their owners' queues.
 
 ghost use Rattle.std.specs.Prelude.{◌≡◌, ℕ, ℤ, ◌+◌, ◌-◌, ◌^◌, ◌<◌, ◌≤◌, ◌∷◌, ◌/◌, ◌&&◌, nat_le, nat_lt, [], List, length, sum, vec_len, false, IsTrue};
-ghost use Rattle.std.specs.BinaryHeap.{heap_items, heap_capacity};
+ghost use Rattle.awari_owner.specs.Fresh.{IsFresh, fresh_of};
 ghost use Rattle.awari_rank.specs.Rank.{rank_of, size_of};
 ghost use Rattle.awari_owner.specs.Queues.{queue_in, room_in};
 ghost use Rattle.awari_unmove.specs.Predecessors.{IsPredecessors};
@@ -12,8 +12,9 @@ ghost use Rattle.awari_owner.specs.Part.{InBlock, IsTallied, part_of, notes_for}
 ghost use Rattle.awari_owner.specs.Spread.{Source, kind_of, is_held, IsSource, Tells, PutsAll, with_own, with_sent};
 ghost use Rattle.awari_owner.specs.declared.notes.Note.{Note as NoteView};
 
-use crate::blocks::{Due, put};
+use crate::blocks::put;
 use crate::cells::Cell;
+use crate::fresh::Fresh;
 use crate::notes::{Kind, Note};
 use crate::places::Place;
 use crate::queues::Queue;
@@ -21,12 +22,11 @@ use awari_board::moves_keep_boards;
 use awari_packed::PackedBoard;
 use awari_rank::ranks_tell_boards_apart;
 use awari_unmove::PackedUnmoves;
-use std::collections::BinaryHeap;
 
 /// Tells the predecessors of a board that it is won or lost, where a block has `span` boards.
 pub fn tell_all(
     cells: &mut Vec<Cell>,
-    fresh: &mut BinaryHeap<Due>,
+    fresh: &mut Fresh,
     queues: &mut Vec<Queue>,
     span: u32,
     place: Place,
@@ -38,18 +38,20 @@ pub fn tell_all(
     requires near { place.wave < 2 ^ 32 - 1 }
     requires stones { sum board.now ≡ place.level }
     requires blocks { 0 < span }
-    requires room { (r : ℕ) → r < size_of place.level → is_held (part_of place cells.old.items (heap_items fresh.old)) r ≡ false
+    requires room { (r : ℕ) → r < size_of place.level → is_held (part_of place cells.old.items (fresh_of place.start cells.old.items fresh.old)) r ≡ false
         → (r / span < vec_len queues.old) × (288 ≤ room_in queues.old.items (r / span)) }
-    requires sound { IsBlock place cells.old.items (heap_items fresh.old) (heap_capacity fresh.old) }
+    requires marks { IsFresh cells.old.items fresh.old }
+    requires sound { IsBlock place cells.old.items (fresh_of place.start cells.old.items fresh.old) }
     ensures told { (sources : List Source) × IsPredecessors board.now sources
-        × Tells (part_of place cells.old.items (heap_items fresh.old)) (part_of place cells.new.items (heap_items fresh.new)) kind sources
-        × PutsAll (part_of place cells.old.items (heap_items fresh.old)) span kind queues.old.items queues.new.items sources }
+        × Tells (part_of place cells.old.items (fresh_of place.start cells.old.items fresh.old)) (part_of place cells.new.items (fresh_of place.start cells.new.items fresh.new)) kind sources
+        × PutsAll (part_of place cells.old.items (fresh_of place.start cells.old.items fresh.old)) span kind queues.old.items queues.new.items sources }
     ensures queues { vec_len queues.new ≡ vec_len queues.old }
     ensures len { vec_len cells.new ≡ vec_len cells.old }
     ensures stays { KeepSettled place.start cells.old.items cells.new.items }
-    ensures joined { JoinNewlySettled place.start cells.old.items (heap_items fresh.old) cells.new.items (heap_items fresh.new) }
-    ensures unspread { length (heap_items fresh.new) + unsettled cells.new.items ≡ length (heap_items fresh.old) + unsettled cells.old.items }
-    ensures sound { IsBlock place cells.new.items (heap_items fresh.new) (heap_capacity fresh.new) }
+    ensures joined { JoinNewlySettled place.start cells.old.items (fresh_of place.start cells.old.items fresh.old) cells.new.items (fresh_of place.start cells.new.items fresh.new) }
+    ensures unspread { length (fresh_of place.start cells.new.items fresh.new) + unsettled cells.new.items ≡ length (fresh_of place.start cells.old.items fresh.old) + unsettled cells.old.items }
+    ensures marks { IsFresh cells.new.items fresh.new }
+    ensures sound { IsBlock place cells.new.items (fresh_of place.start cells.new.items fresh.new) }
 {
     moves_keep_boards();
     for (source, pit) in PackedUnmoves::of(board) {
@@ -61,7 +63,7 @@ pub fn tell_all(
 #[inline(always)]
 fn tell_one(
     cells: &mut Vec<Cell>,
-    fresh: &mut BinaryHeap<Due>,
+    fresh: &mut Fresh,
     queues: &mut Vec<Queue>,
     span: u32,
     place: Place,
@@ -74,22 +76,24 @@ fn tell_one(
     requires near { place.wave < 2 ^ 32 - 1 }
     requires source { IsSource place.level (source.now, pit) }
     requires blocks { 0 < span }
-    requires room { is_held (part_of place cells.old.items (heap_items fresh.old)) (rank_of source.now) ≡ false
+    requires room { is_held (part_of place cells.old.items (fresh_of place.start cells.old.items fresh.old)) (rank_of source.now) ≡ false
         → (rank_of source.now / span < vec_len queues.old) × (0 < room_in queues.old.items (rank_of source.now / span)) }
-    requires sound { IsBlock place cells.old.items (heap_items fresh.old) (heap_capacity fresh.old) }
+    requires marks { IsFresh cells.old.items fresh.old }
+    requires sound { IsBlock place cells.old.items (fresh_of place.start cells.old.items fresh.old) }
     ensures told { (value : List ℕ → ℤ) (notes : List NoteView)
-        → (InBlock (part_of place cells.old.items (heap_items fresh.old)) (rank_of source.now) → is_heard_at (notes_for (rank_of source.now) notes) pit ≡ false)
-        → IsTallied value (part_of place cells.old.items (heap_items fresh.old)) notes
-        → IsTallied value (part_of place cells.new.items (heap_items fresh.new)) (with_own (part_of place cells.old.items (heap_items fresh.old)) kind notes (source.now, pit)) }
+        → (InBlock (part_of place cells.old.items (fresh_of place.start cells.old.items fresh.old)) (rank_of source.now) → is_heard_at (notes_for (rank_of source.now) notes) pit ≡ false)
+        → IsTallied value (part_of place cells.old.items (fresh_of place.start cells.old.items fresh.old)) notes
+        → IsTallied value (part_of place cells.new.items (fresh_of place.start cells.new.items fresh.new)) (with_own (part_of place cells.old.items (fresh_of place.start cells.old.items fresh.old)) kind notes (source.now, pit)) }
     ensures sent { (to : ℕ) → to < vec_len queues.old → queue_in queues.new.items to
-        ≡ with_sent (part_of place cells.old.items (heap_items fresh.old)) span to kind (queue_in queues.old.items to) (source.now, pit) }
+        ≡ with_sent (part_of place cells.old.items (fresh_of place.start cells.old.items fresh.old)) span to kind (queue_in queues.old.items to) (source.now, pit) }
     ensures room { (to : ℕ) → room_in queues.old.items to ≤ room_in queues.new.items to + 1 }
     ensures queues { vec_len queues.new ≡ vec_len queues.old }
     ensures len { vec_len cells.new ≡ vec_len cells.old }
     ensures stays { KeepSettled place.start cells.old.items cells.new.items }
-    ensures joined { JoinNewlySettled place.start cells.old.items (heap_items fresh.old) cells.new.items (heap_items fresh.new) }
-    ensures unspread { length (heap_items fresh.new) + unsettled cells.new.items ≡ length (heap_items fresh.old) + unsettled cells.old.items }
-    ensures sound { IsBlock place cells.new.items (heap_items fresh.new) (heap_capacity fresh.new) }
+    ensures joined { JoinNewlySettled place.start cells.old.items (fresh_of place.start cells.old.items fresh.old) cells.new.items (fresh_of place.start cells.new.items fresh.new) }
+    ensures unspread { length (fresh_of place.start cells.new.items fresh.new) + unsettled cells.new.items ≡ length (fresh_of place.start cells.old.items fresh.old) + unsettled cells.old.items }
+    ensures marks { IsFresh cells.new.items fresh.new }
+    ensures sound { IsBlock place cells.new.items (fresh_of place.start cells.new.items fresh.new) }
 {
     ranks_tell_boards_apart();
     let target = source.rank();

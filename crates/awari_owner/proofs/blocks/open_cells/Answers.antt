@@ -44,6 +44,7 @@ loop-i-preserved c =
     let read = get_or_default c.loop-i.cells.items c.loop-i.i no_cell c.index.result.now high ∙ sym c.index.ensures in
     record {
       same_len = search rules;
+      marks = c.put.ensures.marks;
       block = c.put.ensures.sound;
       stays = λ r low. keeps_both (cell_in c.args.place.start c.args.cells.now.items r) (cell_in c.args.place.start c.loop-i.cells.items r) (cell_in c.args.place.start c.put.new.cells.items r)
           (c.loop-i.invariant.stays r low) (c.put.ensures.stays r low);
@@ -65,6 +66,7 @@ loop-i-preserved-then-not-awaits_gain c =
     let here = ap status_of now ∙ stays ∙ ap (λ d. after_opening (status_of d) c.args.place.level c.args.place.gain) (sym was) in
     record {
       same_len = before.same_len;
+      marks = before.marks;
       block = before.block;
       stays = before.stays;
       unspread = before.unspread;

@@ -1,8 +1,9 @@
-use Rattle.std.proofs.Common.{◌≡◌, ◌+◌, ◌++◌, ◌∷◌, ◌/◌, ◌-◌, ◌&&◌, nat_le, nat_lt, [], sum, length, heap_items, length-append, refl, ap, sym, ◌∙◌, rules, arith}
+use Rattle.std.proofs.Common.{◌≡◌, ◌+◌, ◌++◌, ◌∷◌, ◌/◌, ◌-◌, ◌&&◌, nat_le, nat_lt, [], sum, length, length-append, refl, ap, sym, ◌∙◌, rules, arith}
 use Rattle.awari_rank.specs.Rank.{rank_of, size_of}
 use Rattle.awari_rank.proofs.Ranking.{rank_of-below}
 use Rattle.awari_unmove.specs.Predecessors.{IsQuiet}
 use Rattle.awari_unmove.proofs.Walking.{IsPredecessors-more, IsPredecessors-end, IsQuiet-next}
+use Rattle.awari_owner.specs.Fresh.{fresh_of}
 use Rattle.awari_owner.specs.Blocks.{cell_in}
 use Rattle.awari_owner.specs.Part.{Part, part_of}
 use Rattle.awari_owner.specs.Spread.{Source}
@@ -31,9 +32,9 @@ tell_one-requires-clause-room c = λ out.
 
 pub loop-source-preserved : goal.loop-source-preserved
 loop-source-preserved c =
-    let old : Part = part_of c.args.place c.args.cells.now.items (heap_items c.args.fresh.now) in
-    let now : Part = part_of c.args.place c.loop-source.cells.items (heap_items c.loop-source.fresh) in
-    let new : Part = part_of c.args.place c.tell_one.new.cells.items (heap_items c.tell_one.new.fresh) in
+    let old : Part = part_of c.args.place c.args.cells.now.items (fresh_of c.args.place.start c.args.cells.now.items c.args.fresh.now) in
+    let now : Part = part_of c.args.place c.loop-source.cells.items (fresh_of c.args.place.start c.loop-source.cells.items c.loop-source.fresh) in
+    let new : Part = part_of c.args.place c.tell_one.new.cells.items (fresh_of c.args.place.start c.tell_one.new.cells.items c.tell_one.new.fresh) in
     let same : length c.loop-source.cells.items ≡ length c.args.cells.now.items = search rules in
     let many : length c.loop-source.queues.items ≡ length c.args.queues.now.items = search rules in
     let y : Source = (c.in-Some.source, c.in-Some.pit) in
@@ -45,6 +46,7 @@ loop-source-preserved c =
       few = (let few = c.loop-source.invariant.few in omega (arith, more, long, pushed, few));
       same_len = search rules;
       same_queues = search rules;
+      marks = c.tell_one.ensures.marks;
       block = c.tell_one.ensures.sound;
       stays = λ r low. keeps_both (cell_in c.args.place.start c.args.cells.now.items r) (cell_in c.args.place.start c.loop-source.cells.items r) (cell_in c.args.place.start c.tell_one.new.cells.items r)
           (c.loop-source.invariant.stays r low) (c.tell_one.ensures.stays r low);

@@ -1,5 +1,5 @@
-use Rattle.std.proofs.Common.{◌≡◌, ◌+◌, ◌++◌, ◌<◌, ◌≤◌, ◌/◌, ℕ, false, length, vec_len, heap_items}
-use Rattle.std.specs.BinaryHeap.{heap_capacity}
+use Rattle.std.proofs.Common.{◌≡◌, ◌+◌, ◌++◌, ◌<◌, ◌≤◌, ◌/◌, ℕ, false, length, vec_len}
+use Rattle.awari_owner.specs.Fresh.{IsFresh, fresh_of}
 use Rattle.awari_rank.specs.Rank.{size_of}
 use Rattle.awari_unmove.specs.Predecessors.{IsPredecessors}
 use Rattle.awari_owner.specs.Blocks.{IsBlock, JoinNewlySettled, KeepSettled, unsettled}
@@ -14,12 +14,13 @@ invariant-loop-source l = record {
   few : length (l.yielded ++ l.source-iterator) ≤ 288;
   same_len : vec_len l.cells ≡ vec_len l.initial.cells;
   same_queues : vec_len l.queues ≡ vec_len l.initial.queues;
-  block : IsBlock l.place l.cells.items (heap_items l.fresh) (heap_capacity l.fresh);
+  marks : IsFresh l.cells.items l.fresh;
+  block : IsBlock l.place l.cells.items (fresh_of l.place.start l.cells.items l.fresh);
   stays : KeepSettled l.place.start l.initial.cells.items l.cells.items;
-  joins : JoinNewlySettled l.place.start l.initial.cells.items (heap_items l.initial.fresh) l.cells.items (heap_items l.fresh);
-  unspread : length (heap_items l.fresh) + unsettled l.cells.items ≡ length (heap_items l.initial.fresh) + unsettled l.initial.cells.items;
-  told : Tells (part_of l.place l.initial.cells.items (heap_items l.initial.fresh)) (part_of l.place l.cells.items (heap_items l.fresh)) l.kind l.yielded;
-  sent : PutsAll (part_of l.place l.initial.cells.items (heap_items l.initial.fresh)) l.span l.kind l.initial.queues.items l.queues.items l.yielded;
-  room : (r : ℕ) → r < size_of l.place.level → is_held (part_of l.place l.initial.cells.items (heap_items l.initial.fresh)) r ≡ false
+  joins : JoinNewlySettled l.place.start l.initial.cells.items (fresh_of l.place.start l.initial.cells.items l.initial.fresh) l.cells.items (fresh_of l.place.start l.cells.items l.fresh);
+  unspread : length (fresh_of l.place.start l.cells.items l.fresh) + unsettled l.cells.items ≡ length (fresh_of l.place.start l.initial.cells.items l.initial.fresh) + unsettled l.initial.cells.items;
+  told : Tells (part_of l.place l.initial.cells.items (fresh_of l.place.start l.initial.cells.items l.initial.fresh)) (part_of l.place l.cells.items (fresh_of l.place.start l.cells.items l.fresh)) l.kind l.yielded;
+  sent : PutsAll (part_of l.place l.initial.cells.items (fresh_of l.place.start l.initial.cells.items l.initial.fresh)) l.span l.kind l.initial.queues.items l.queues.items l.yielded;
+  room : (r : ℕ) → r < size_of l.place.level → is_held (part_of l.place l.initial.cells.items (fresh_of l.place.start l.initial.cells.items l.initial.fresh)) r ≡ false
       → (r / l.span < vec_len l.initial.queues) × (288 ≤ room_in l.queues.items (r / l.span) + length l.yielded);
 }

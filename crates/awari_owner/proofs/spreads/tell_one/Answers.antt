@@ -1,6 +1,7 @@
-use Rattle.std.proofs.Common.{◌≡◌, ◌-◌, ◌/◌, ◌<◌, ◌≤◌, ◌&&◌, nat_le, nat_lt, true, false, length, get_or, set, ap, sym, subst, ◌∙◌, rules, arith, heap_items, vec_len}
+use Rattle.std.proofs.Common.{◌≡◌, ◌-◌, ◌/◌, ◌<◌, ◌≤◌, ◌&&◌, nat_le, nat_lt, true, false, length, get_or, set, ap, sym, subst, ◌∙◌, rules, arith, vec_len}
 use Rattle.std.proofs.lemmas.List.{get_or_default}
 use Rattle.awari_rank.specs.Rank.{rank_of}
+use Rattle.awari_owner.specs.Fresh.{fresh_of}
 use Rattle.awari_owner.specs.Blocks.{no_cell}
 use Rattle.awari_owner.specs.Cells.{Keeps, SettlesTimely}
 use Rattle.awari_owner.specs.Part.{part_of, stored_at}
@@ -14,7 +15,7 @@ use Rattle.awari_owner.proofs.spreads.tell_one.Goals as goal
 
 pub index_mut-requires : goal.index_mut-requires
 index_mut-requires c =
-    let old = part_of c.args.place c.args.cells.now.items (heap_items c.args.fresh.now) in
+    let old = part_of c.args.place c.args.cells.now.items (fresh_of c.args.place.start c.args.cells.now.items c.args.fresh.now) in
     let count : c.len.result ≡ length c.args.cells.now.items = search rules in
     let test : is_held old c.rank-target.result ≡ false = ap (λ k. nat_le c.args.place.start c.rank-target.result && nat_lt (c.rank-target.result - c.args.place.start) k) (sym count) ∙ sym c.is_held.ensures.test ∙ c.if-not-is_held.true in
     let out : is_held old (rank_of c.args.source.now) ≡ false = subst (λ r. is_held old r ≡ false) c.rank-target.ensures.rank test in
@@ -23,7 +24,7 @@ index_mut-requires c =
 
 pub put-requires : goal.put-requires
 put-requires c =
-    let old = part_of c.args.place c.args.cells.now.items (heap_items c.args.fresh.now) in
+    let old = part_of c.args.place c.args.cells.now.items (fresh_of c.args.place.start c.args.cells.now.items c.args.fresh.now) in
     let count : c.len.result ≡ length c.args.cells.now.items = search rules in
     let test : is_held old c.rank-target.result ≡ false = ap (λ k. nat_le c.args.place.start c.rank-target.result && nat_lt (c.rank-target.result - c.args.place.start) k) (sym count) ∙ sym c.is_held.ensures.test ∙ c.if-not-is_held.true in
     let out : is_held old (rank_of c.args.source.now) ≡ false = subst (λ r. is_held old r ≡ false) c.rank-target.ensures.rank test in
@@ -35,7 +36,7 @@ put-requires c =
 
 pub returns-then-not-is_held-clause-sent : goal.returns-then-not-is_held-clause-sent
 returns-then-not-is_held-clause-sent c =
-    let old = part_of c.args.place c.args.cells.now.items (heap_items c.args.fresh.now) in
+    let old = part_of c.args.place c.args.cells.now.items (fresh_of c.args.place.start c.args.cells.now.items c.args.fresh.now) in
     let count : c.len.result ≡ length c.args.cells.now.items = search rules in
     let test : is_held old c.rank-target.result ≡ false = ap (λ k. nat_le c.args.place.start c.rank-target.result && nat_lt (c.rank-target.result - c.args.place.start) k) (sym count) ∙ sym c.is_held.ensures.test ∙ c.if-not-is_held.true in
     let out : is_held old (rank_of c.args.source.now) ≡ false = subst (λ r. is_held old r ≡ false) c.rank-target.ensures.rank test in
@@ -50,7 +51,7 @@ returns-then-not-is_held-clause-sent c =
 
 pub returns-then-not-is_held-clause-room : goal.returns-then-not-is_held-clause-room
 returns-then-not-is_held-clause-room c = λ to.
-    let old = part_of c.args.place c.args.cells.now.items (heap_items c.args.fresh.now) in
+    let old = part_of c.args.place c.args.cells.now.items (fresh_of c.args.place.start c.args.cells.now.items c.args.fresh.now) in
     let count : c.len.result ≡ length c.args.cells.now.items = search rules in
     let test : is_held old c.rank-target.result ≡ false = ap (λ k. nat_le c.args.place.start c.rank-target.result && nat_lt (c.rank-target.result - c.args.place.start) k) (sym count) ∙ sym c.is_held.ensures.test ∙ c.if-not-is_held.true in
     let out : is_held old (rank_of c.args.source.now) ≡ false = subst (λ r. is_held old r ≡ false) c.rank-target.ensures.rank test in
@@ -61,7 +62,7 @@ returns-then-not-is_held-clause-room c = λ to.
 
 pub returns-then-not-is_held-clause-told : goal.returns-then-not-is_held-clause-told
 returns-then-not-is_held-clause-told c = λ value notes unheard tallied.
-    let old = part_of c.args.place c.args.cells.now.items (heap_items c.args.fresh.now) in
+    let old = part_of c.args.place c.args.cells.now.items (fresh_of c.args.place.start c.args.cells.now.items c.args.fresh.now) in
     let count : c.len.result ≡ length c.args.cells.now.items = search rules in
     let test : is_held old c.rank-target.result ≡ false = ap (λ k. nat_le c.args.place.start c.rank-target.result && nat_lt (c.rank-target.result - c.args.place.start) k) (sym count) ∙ sym c.is_held.ensures.test ∙ c.if-not-is_held.true in
     let out : is_held old (rank_of c.args.source.now) ≡ false = subst (λ r. is_held old r ≡ false) c.rank-target.ensures.rank test in
@@ -83,7 +84,7 @@ put-requires-2-clause-timely c =
 
 pub returns-clause-sent : goal.returns-clause-sent
 returns-clause-sent c =
-    let old = part_of c.args.place c.args.cells.now.items (heap_items c.args.fresh.now) in
+    let old = part_of c.args.place c.args.cells.now.items (fresh_of c.args.place.start c.args.cells.now.items c.args.fresh.now) in
     let count : c.len.result ≡ length c.args.cells.now.items = search rules in
     let test : is_held old c.rank-target.result ≡ true = ap (λ k. nat_le c.args.place.start c.rank-target.result && nat_lt (c.rank-target.result - c.args.place.start) k) (sym count) ∙ sym c.is_held.ensures.test ∙ c.if-not-is_held.false in
     let inside : is_held old (rank_of c.args.source.now) ≡ true = subst (λ r. is_held old r ≡ true) c.rank-target.ensures.rank test in
@@ -91,7 +92,7 @@ returns-clause-sent c =
 
 pub returns-clause-told : goal.returns-clause-told
 returns-clause-told c = λ value notes unheard tallied.
-    let old = part_of c.args.place c.args.cells.now.items (heap_items c.args.fresh.now) in
+    let old = part_of c.args.place c.args.cells.now.items (fresh_of c.args.place.start c.args.cells.now.items c.args.fresh.now) in
     let at = c.rank-target.ensures.rank in
     let inside = c.is_held.ensures.inside (search rules) in
     let low : c.args.place.start ≤ rank_of c.args.source.now = let first = inside.0 in omega (arith, at, first) in
@@ -99,7 +100,7 @@ returns-clause-told c = λ value notes unheard tallied.
     let high : rank_of c.args.source.now - c.args.place.start < length c.args.cells.now.items = omega (arith, at, high') in
     let read = get_or_default c.args.cells.now.items (c.rank-target.result - c.args.place.start) no_cell c.index.result.now high' ∙ sym c.index.ensures in
     heard_here value notes old c.args.kind (c.args.source.now, c.args.pit)
-    c.put-2.new.cells.items (heap_items c.put-2.new.fresh) c.index.result.now c.with_note-next.result c.ranks_tell_boards_apart.ensures c.requires.gain.0 c.requires.source (low, high)
+    c.put-2.new.cells.items (fresh_of c.args.place.start c.put-2.new.cells.items c.put-2.new.fresh) c.index.result.now c.with_note-next.result c.ranks_tell_boards_apart.ensures c.requires.gain.0 c.requires.source (low, high)
     (ap (λ r. stored_at old r) (sym at) ∙ read) (unheard (low, high))
     (c.put-2.ensures.cells ∙ ap (λ r. set c.args.cells.now.items (r - c.args.place.start) c.with_note-next.result) at)
     c.with_note-next.ensures.heard c.with_note-next.ensures.status tallied

@@ -1,33 +1,40 @@
-use Rattle.std.proofs.Common.{◌≡◌, ℕ, ℤ, ◌<◌, length, Some, ap, arith, refl, sym, subst, rules, heap_items}
-use Rattle.awari_owner.specs.Part.{Part, InBlock, IsLeastDue, settled_at}
-use Rattle.std.specs.BinaryHeap.{heap_capacity}
+use Rattle.std.proofs.Common.{◌≡◌, ℕ, ℤ, ◌+◌, Some, None, ap, arith, subst}
+use Rattle.awari_owner.specs.Part.{Part, InBlock, IsLeastDue, part_of, settled_at}
+use Rattle.awari_owner.specs.Fresh.{fresh_of}
 use Rattle.awari_owner.proofs.BlockLemmas.{first_due}
+use Rattle.awari_owner.proofs.FreshBlocks.{first_due_is, least_first, none_fresh}
 use Rattle.awari_owner.proofs.Distances.{settled_cell}
-use Rattle.awari_owner.proofs.Gains.{nearest}
-use Rattle.awari_owner.specs.Blocks.{cell_in, due_dist, due_rank}
+use Rattle.awari_owner.specs.Blocks.{cell_in}
 use Rattle.awari_owner.proofs.parts.Part.due.Goals as goal
+
+pub first-requires : goal.first-requires
+first-requires c = c.self.invariant.marks.first.within
 
 pub returns-in-Some-clause-least : goal.returns-in-Some-clause-least
 returns-in-Some-clause-least c =
-    let some : 0 < length (heap_items c.self.inside.fresh) = search rules in
-    subst (λ (o : Part). IsLeastDue o (Some c.in-Some.due.now.0.0)) c.self.view_is (
-      (0, c.in-Some.due.now, some, sym c.in-Some.ensures.lookup, refl),
-      nearest c.in-Some.due.now (heap_items c.self.inside.fresh) (c.in-Some.ensures.greatest c.self.invariant.block.ordered),
-    )
+    let old : Part = part_of c.self.inside.place c.self.inside.cells.items (fresh_of c.self.inside.place.start c.self.inside.cells.items c.self.inside.fresh) in
+    let first = c.in-Some.ensures.first c.self.inside.cells.items c.self.invariant.marks.first in
+    let is = first_due_is c.self.inside.place.start c.self.inside.cells.items c.self.inside.fresh _ _ c.self.invariant.marks first in
+    subst (λ (o : Part). IsLeastDue o (Some c.in-Some.dist)) c.self.view_is (least_first old c.in-Some.dist _ is)
 
 pub returns-in-Some-clause-timely : goal.returns-in-Some-clause-timely
 returns-in-Some-clause-timely c =
-    let some : 0 < length (heap_items c.self.inside.fresh) = search rules in
+    let first = c.in-Some.ensures.first c.self.inside.cells.items c.self.invariant.marks.first in
+    let is = first_due_is c.self.inside.place.start c.self.inside.cells.items c.self.inside.fresh _ _ c.self.invariant.marks first in
+    let due = first_due c.self.inside.place c.self.inside.cells.items (fresh_of c.self.inside.place.start c.self.inside.cells.items c.self.inside.fresh) is.rest _ c.self.invariant.block is.moved in
     let wave : c.self.inside.place.wave ≡ c.args.self.now.wave = ap (λ (v : Part). v.wave) c.self.view_is in
-    let due = (first_due c.self.inside.place c.self.inside.cells.items (heap_items c.self.inside.fresh) (heap_capacity c.self.inside.fresh) c.self.invariant.block some c.in-Some.due.now
-    c.in-Some.ensures.lookup).2 in
+    let due = due.2 in
     let timely = due.timely in omega (arith, wave, timely, due.near)
 
 pub returns-in-Some-clause-settled : goal.returns-in-Some-clause-settled
 returns-in-Some-clause-settled c =
-    let some : 0 < length (heap_items c.self.inside.fresh) = search rules in
-    let due = first_due c.self.inside.place c.self.inside.cells.items (heap_items c.self.inside.fresh) (heap_capacity c.self.inside.fresh) c.self.invariant.block some c.in-Some.due.now
-    c.in-Some.ensures.lookup in
-    let cell = cell_in c.self.inside.place.start c.self.inside.cells.items (due_rank c.in-Some.due.now) in
-    subst (λ (o : Part). (rank : ℕ) × (v : ℤ) × InBlock o rank × (settled_at o rank ≡ Some (v, c.in-Some.due.now.0.0))) c.self.view_is
-    (due_rank c.in-Some.due.now, cell.score, (due.0, due.1), settled_cell cell (due_dist c.in-Some.due.now) due.4 due.2.near)
+    let first = c.in-Some.ensures.first c.self.inside.cells.items c.self.invariant.marks.first in
+    let is = first_due_is c.self.inside.place.start c.self.inside.cells.items c.self.inside.fresh _ _ c.self.invariant.marks first in
+    let due = first_due c.self.inside.place c.self.inside.cells.items (fresh_of c.self.inside.place.start c.self.inside.cells.items c.self.inside.fresh) is.rest _ c.self.invariant.block is.moved in
+    let cell = cell_in c.self.inside.place.start c.self.inside.cells.items (c.self.inside.place.start + c.in-Some._index) in
+    subst (λ (o : Part). (rank : ℕ) × (v : ℤ) × InBlock o rank × (settled_at o rank ≡ Some (v, c.in-Some.dist))) c.self.view_is
+    (c.self.inside.place.start + c.in-Some._index, cell.score, (due.0, due.1), settled_cell cell c.in-Some.dist due.4 due.2.near)
+
+pub returns-in-None-clause-least : goal.returns-in-None-clause-least
+returns-in-None-clause-least c =
+    subst (λ (o : Part). IsLeastDue o None) c.self.view_is (none_fresh c.self.inside.place.start c.self.inside.cells.items c.self.inside.fresh.words.items (c.in-None.ensures.first c.self.inside.cells.items c.self.invariant.marks.first))

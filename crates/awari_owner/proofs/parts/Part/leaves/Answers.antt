@@ -1,4 +1,5 @@
-use Rattle.std.proofs.Common.{◌≡◌, ◌*◌, ◌%◌, ◌^◌, ◌==◌, ◌↔◌, IsTrue, not, bit_and, length, vec_len, heap_items, refl, subst, rules}
+use Rattle.std.proofs.Common.{◌≡◌, ◌*◌, ◌%◌, ◌^◌, ◌==◌, ◌↔◌, IsTrue, not, bit_and, length, vec_len, refl, subst, rules}
+use Rattle.awari_owner.specs.Fresh.{fresh_of}
 use Rattle.awari_owner.specs.Leaving.{AreLeaving}
 use Rattle.awari_owner.specs.Part.{Part, part_of, InBlock, Leaves}
 use Rattle.awari_owner.proofs.Basics.{below_six}
@@ -9,7 +10,7 @@ pub returns : goal.returns
 returns c =
     let place = c.self.inside.place in
     let leaving = c.self.inside.leaving.items in
-    let part : Part = part_of place c.self.inside.cells.items (heap_items c.self.inside.fresh) in
+    let part : Part = part_of place c.self.inside.cells.items (fresh_of c.self.inside.place.start c.self.inside.cells.items c.self.inside.fresh) in
     let boards : vec_len c.self.inside.leaving ≡ length c.self.inside.cells.items = search rules in
     let long : length leaving ≡ length c.self.inside.cells.items = search rules in
     let bit = (1 * 2 ^ c.args.pit) % 256 in
