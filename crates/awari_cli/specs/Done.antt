@@ -11,8 +11,8 @@ use Rattle.awari_cli.specs.Playing.{PrintsMove}
 use Rattle.awari_cli.specs.Serving.{PrintsService}
 use Rattle.awari_cli.specs.Texts.{PrintsText}
 use Rattle.awari_cli.specs.Worths.{PrintsWorths}
-use Rattle.awari_cli.specs.declared.requests.Request.{Request}
-use Rattle.awari_cli.specs.declared.requests.Request.TheVariants.{Check, Move, Judge, Build, Verify, Text, Migrate, Ask, Moves, Line, Serve}
+use Rattle.awari_words.specs.declared.requests.Request.{Request}
+use Rattle.awari_words.specs.declared.requests.Request.TheVariants.{Check, Move, Judge, Build, Verify, Text, Migrate, Ask, Moves, Line, Serve}
 
 -- the yes for what the reader had left, the move, the judgement of the play, the lines of levels that were built, that lie in a
 -- folder or that were brought over, the text of levels, the board's entry, its legal moves, the line of play from it, or the answers to the lines that the reader had left; of what

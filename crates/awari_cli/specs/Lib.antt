@@ -5,7 +5,6 @@ pub mod Building
 pub mod Folders
 pub mod Lines
 pub mod Migrating
-pub mod Requests
 pub mod Serving
 pub mod Worths
 pub mod Texts

@@ -3,14 +3,12 @@
 
 mod building;
 mod folders;
-mod helps;
 mod judgements;
 mod laws;
 mod lines;
 mod migrating;
 mod playing;
 mod printing;
-mod requests;
 mod runs;
 mod serving;
 mod texts;

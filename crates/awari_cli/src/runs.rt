@@ -1,12 +1,16 @@
 //! The commands of the program, over its words and its streams.
 
-ghost use Rattle.std.specs.Prelude.{◌≡◌, ◌≤◌};
+ghost use Rattle.std.specs.Prelude.{◌≡◌, ◌≢◌, ◌≤◌, [], Some, map};
 ghost use Rattle.std.specs.Io.KnownBytes.{Keeps};
 ghost use Rattle.awari_check.specs.Answer.{PrintsYes};
 ghost use Rattle.awari_cli.specs.Done.{PrintsFor};
 ghost use Rattle.awari_cli.specs.Judgement.{PrintsJudgement};
 ghost use Rattle.awari_cli.specs.Playing.{PrintsMove};
-ghost use Rattle.awari_cli.specs.declared.requests.Request.{Request};
+ghost use Rattle.awari_words.specs.Commands.{awari_commands};
+ghost use Rattle.awari_words.specs.Requests.{IsAsked};
+ghost use Rattle.awari_words.specs.declared.requests.Request.{Request};
+ghost use Rattle.clap.specs.Faults.{fault_of};
+ghost use Rattle.clap.specs.Simple.{subcommand_of};
 
 use crate::building::{run_build, run_build_in};
 use crate::folders::{run_ask, run_verify};
@@ -15,13 +19,13 @@ use crate::lines::run_line;
 use crate::migrating::run_migrate;
 use crate::playing::{Played, play_on};
 use crate::printing::print;
-use crate::requests::{Request, request_of};
 use crate::serving::run_serve;
 use crate::texts::run_text;
 use crate::worths::run_moves;
 use awari_check::check_input;
 use awari_folder::HostFolder;
 use awari_table::Counted;
+use awari_words::{Request, request_of};
 use std::alloc::Global;
 use std::convert::AsStr;
 use std::fs::File;
@@ -45,9 +49,13 @@ pub fn run<
 >(rt: &T, alloc: Global, words: &[S], reader: &mut R, writer: &mut W, errors: &mut E) -> u8
     ensures status { result ≤ 2 }
 
-    // A yes is said only of tables that are right, a move or a judgement only of a right play, and a
-    // level, an entry, a move's worth, a line of play or an answer only of right levels.
-    ensures done { result ≡ 0 → (request : Request) × PrintsFor request (R.remaining reader.old) (W.contents writer.old) (W.contents writer.new) }
+    // The words name a request, and have no fault, where it doesn't end with 2. Where it ends with 0,
+    // what is printed is what is due for that request: a yes is said only of tables that are right, a
+    // move or a judgement only of a right play, and a level, an entry, a move's worth, a line of play
+    // or an answer only of right levels.
+    ensures understood { result ≢ 2 → fault_of awari_commands (map S.text words.entry.now) ≡ [] }
+    ensures done { result ≢ 2 → (request : Request) × IsAsked (subcommand_of awari_commands (map S.text words.entry.now)) (Some request)
+        × (result ≡ 0 → PrintsFor request (R.remaining reader.old) (W.contents writer.old) (W.contents writer.new)) }
 
     // Where the words were not understood, nothing is printed.
     ensures nothing { result ≡ 2 → Keeps (W.contents writer.old) (W.contents writer.new) }

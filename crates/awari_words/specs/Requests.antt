@@ -1,47 +1,52 @@
--- Which request a command's name and the values given to it make. A private function alone goes by this: no public contract does.
+-- Which request the words make: that of the command that they name, with the values that they give to each of its names.
 use Rattle.std.specs.Prelude.{◌≡◌, ◌≢◌, ◌⊎◌, ℕ, ◌<◌, ◌^◌, List, [], Some, None, codes, Option, option_map, unwrap_or}
 use Rattle.std.specs.Str.Parse.{IsNumeral, digits_value, without_leading_plus}
-use Rattle.clap.specs.Matches.{first_value, one_text}
-use Rattle.clap.specs.declared.parser.matches.Found.{Found}
+use Rattle.clap.specs.Matches.{found_of}
+use Rattle.clap.specs.Walk.{Row, first_of, one_of, rows_of}
+use Rattle.clap.specs.declared.parser.matches.ArgMatches.{ArgMatches}
 use Rattle.awari_build.specs.declared.paces.Pace.{Pace}
-use Rattle.awari_cli.specs.declared.requests.Request.{Request}
-use Rattle.awari_cli.specs.declared.requests.Request.TheVariants.{Check, Move, Judge, Build, Verify, Text, Migrate, Ask, Moves, Line, Serve}
+use Rattle.awari_words.specs.declared.requests.Request.{Request}
+use Rattle.awari_words.specs.declared.requests.Request.TheVariants.{Check, Move, Judge, Build, Verify, Text, Migrate, Ask, Moves, Line, Serve}
+
+-- the values that `clap` found, by name
+abbrev pub values : ArgMatches → List Row
+values found = rows_of (found_of found)
 
 -- the first value of this name is this text
-abbrev pub Gives : Found → List ℕ → List ℕ → Type 0
-Gives given id text = first_value given id ≡ Some text
+abbrev pub Gives : List Row → List ℕ → List ℕ → Type 0
+Gives given id text = first_of id given ≡ Some text
 
-abbrev pub Lacks : Found → List ℕ → Type 0
-Lacks given id = first_value given id ≡ None
+abbrev pub Lacks : List Row → List ℕ → Type 0
+Lacks given id = first_of id given ≡ None
 
 -- there is a first value of this name, and it spells the number
-abbrev pub Spells : Found → List ℕ → ℕ → Type 0
-Spells given id n = (one_text given id ≢ None) × ((t : List ℕ) → one_text given id ≡ Some t → n ≡ digits_value 10 (without_leading_plus t))
+abbrev pub Spells : List Row → List ℕ → ℕ → Type 0
+Spells given id n = (one_of id given ≢ None) × ((t : List ℕ) → one_of id given ≡ Some t → n ≡ digits_value 10 (without_leading_plus t))
 
 -- the first value of this name spells no number of so many bits
-abbrev pub SpellsNone : ℕ → Found → List ℕ → Type 0
-SpellsNone bits given id = (t : List ℕ) → one_text given id ≡ Some t → IsNumeral 10 (without_leading_plus t) → digits_value 10 (without_leading_plus t) < 2 ^ bits → ⊥
+abbrev pub SpellsNone : ℕ → List Row → List ℕ → Type 0
+SpellsNone bits given id = (t : List ℕ) → one_of id given ≡ Some t → IsNumeral 10 (without_leading_plus t) → digits_value 10 (without_leading_plus t) < 2 ^ bits → ⊥
 
 -- the first value of this name spells the number, and there is none where no number below 2 ^ 8 is spelled
-abbrev pub SpellsOr : Found → List ℕ → Option ℕ → Type 0
+abbrev pub SpellsOr : List Row → List ℕ → Option ℕ → Type 0
 SpellsOr given id None = SpellsNone 8 given id
 SpellsOr given id (Some n) = Spells given id n
 
 -- the pace has the values of its three names
-abbrev pub IsPaceOf : Found → Pace → Type 0
+abbrev pub IsPaceOf : List Row → Pace → Type 0
 IsPaceOf given pace = Spells given (codes "owners") pace.owners × Spells given (codes "room") pace.room × Spells given (codes "sweeps") pace.sweeps
 
 -- one of them is not there, or spells no number
-abbrev pub IsNoPace : Found → Type 0
+abbrev pub IsNoPace : List Row → Type 0
 IsNoPace given = SpellsNone 8 given (codes "owners") ⊎ SpellsNone 32 given (codes "room") ⊎ SpellsNone 32 given (codes "sweeps")
 
 -- The request is that of the command's name, with the values that were given for each of its names.
-abbrev pub IsRequestOf : List ℕ → Found → Request → Type 0
+abbrev pub IsRequestOf : List ℕ → List Row → Request → Type 0
 IsRequestOf name given Check = name ≡ codes "check"
 IsRequestOf name given (Move board pit) = (name ≡ codes "move") × Gives given (codes "BOARD") board.now × Spells given (codes "PIT") pit
 IsRequestOf name given (Judge board limit moves) = (name ≡ codes "judge") × Gives given (codes "BOARD") board.now × Spells given (codes "LIMIT") limit
-    × (moves.now ≡ unwrap_or (first_value given (codes "MOVES")) [])
-IsRequestOf name given (Build top folder pace) = (name ≡ codes "build") × Spells given (codes "TOP") top × (option_map (λ f. f.now) folder ≡ first_value given (codes "folder")) × IsPaceOf given pace
+    × (moves.now ≡ unwrap_or (first_of (codes "MOVES") given) [])
+IsRequestOf name given (Build top folder pace) = (name ≡ codes "build") × Spells given (codes "TOP") top × (option_map (λ f. f.now) folder ≡ first_of (codes "folder") given) × IsPaceOf given pace
 IsRequestOf name given (Verify folder) = (name ≡ codes "verify") × Gives given (codes "FOLDER") folder.now
 IsRequestOf name given (Text folder level) = (name ≡ codes "text") × Gives given (codes "FOLDER") folder.now × SpellsOr given (codes "LEVEL") level
 IsRequestOf name given (Migrate from to) = (name ≡ codes "migrate") × Gives given (codes "FROM") from.now × Gives given (codes "TO") to.now
@@ -51,7 +56,7 @@ IsRequestOf name given (Line folder board) = (name ≡ codes "line") × Gives gi
 IsRequestOf name given (Serve folder top owners) = (name ≡ codes "serve") × Gives given (codes "FOLDER") folder.now × Spells given (codes "TOP") top × Spells given (codes "OWNERS") owners
 
 -- The name is no command's, or a value that its command needs is not there.
-pub record IsNoRequest (name : List ℕ) (given : Found) : Type 0 where
+pub record IsNoRequest (name : List ℕ) (given : List Row) : Type 0 where
   pub check : name ≡ codes "check" → ⊥
   pub moved : name ≡ codes "move" → Lacks given (codes "BOARD") ⊎ SpellsNone 8 given (codes "PIT")
   pub judge : name ≡ codes "judge" → Lacks given (codes "BOARD") ⊎ SpellsNone 32 given (codes "LIMIT")
@@ -63,3 +68,9 @@ pub record IsNoRequest (name : List ℕ) (given : Found) : Type 0 where
   pub moves : name ≡ codes "moves" → Lacks given (codes "FOLDER") ⊎ Lacks given (codes "BOARD")
   pub line : name ≡ codes "line" → Lacks given (codes "FOLDER") ⊎ Lacks given (codes "BOARD")
   pub serve : name ≡ codes "serve" → Lacks given (codes "FOLDER") ⊎ SpellsNone 8 given (codes "TOP") ⊎ SpellsNone 8 given (codes "OWNERS")
+
+-- The words have no fault, and the request is that of the command that they name.
+abbrev pub IsAsked : Option (List ℕ × List Row) → Option Request → Type 0
+IsAsked None request = request ≡ None
+IsAsked (Some named) (Some request) = IsRequestOf named.0 named.1 request
+IsAsked (Some named) None = IsNoRequest named.0 named.1

@@ -1,0 +1,50 @@
+-- Rows that compute.
+use Rattle.std.proofs.Common.{◌≡◌, [], ◌∷◌, Some, codes, refl}
+use Rattle.clap.proofs.OnLiterals.{clap_on_literals}
+use Rattle.clap.specs.Words.{fault_of}
+use Rattle.clap.specs.declared.error.kind.ErrorKind.TheVariants.{DisplayHelpOnMissingArgumentOrSubcommand, InvalidSubcommand, MissingRequiredArgument, UnknownArgument, ValueValidation}
+use Rattle.awari_words.specs.Commands.{awari_commands}
+use Rattle.awari_words.specs.Named.{named}
+
+pub check_row : named (codes "awari" ∷ codes "check" ∷ []) ≡ Some (codes "check", [])
+unfolding clap_on_literals
+check_row = refl
+
+pub ask_row : named (codes "awari" ∷ codes "ask" ∷ codes "levels" ∷ codes "0/1" ∷ [])
+    ≡ Some (codes "ask", (codes "FOLDER", codes "levels" ∷ []) ∷ (codes "BOARD", codes "0/1" ∷ []) ∷ [])
+unfolding clap_on_literals
+ask_row = refl
+
+pub build_row : named (codes "awari" ∷ codes "build" ∷ codes "--owners" ∷ codes "4" ∷ codes "12" ∷ [])
+    ≡ Some (
+      codes "build",
+      (codes "owners", codes "4" ∷ []) ∷ (codes "TOP", codes "12" ∷ [])
+          ∷ (codes "room", codes "64" ∷ []) ∷ (codes "sweeps", codes "1000" ∷ []) ∷ [],
+    )
+unfolding clap_on_literals
+build_row = refl
+
+pub hyphen_row : named (codes "awari" ∷ codes "verify" ∷ codes "--" ∷ codes "-levels" ∷ [])
+    ≡ Some (codes "verify", (codes "FOLDER", codes "-levels" ∷ []) ∷ [])
+unfolding clap_on_literals
+hyphen_row = refl
+
+pub nothing_row : fault_of awari_commands (codes "awari" ∷ []) ≡ DisplayHelpOnMissingArgumentOrSubcommand ∷ []
+unfolding clap_on_literals
+nothing_row = refl
+
+pub unknown_row : fault_of awari_commands (codes "awari" ∷ codes "solve" ∷ []) ≡ UnknownArgument ∷ InvalidSubcommand ∷ []
+unfolding clap_on_literals
+unknown_row = refl
+
+pub missing_row : fault_of awari_commands (codes "awari" ∷ codes "ask" ∷ codes "levels" ∷ []) ≡ MissingRequiredArgument ∷ []
+unfolding clap_on_literals
+missing_row = refl
+
+pub high_row : fault_of awari_commands (codes "awari" ∷ codes "build" ∷ codes "25" ∷ []) ≡ ValueValidation ∷ []
+unfolding clap_on_literals
+high_row = refl
+
+pub highest_row : fault_of awari_commands (codes "awari" ∷ codes "build" ∷ codes "24" ∷ []) ≡ []
+unfolding clap_on_literals
+highest_row = refl

@@ -1,0 +1,15 @@
+use Rattle.awari_words.proofs.WordRows.{ask_row, build_row, check_row, high_row, highest_row, hyphen_row, missing_row, nothing_row, unknown_row}
+use Rattle.awari_words.proofs.laws.worked_words.Goals as goal
+
+pub returns : goal.returns
+returns c = record {
+  check = check_row;
+  ask = ask_row;
+  build = build_row;
+  hyphen = hyphen_row;
+  nothing = nothing_row;
+  unknown = unknown_row;
+  missing = missing_row;
+  high = high_row;
+  highest = highest_row;
+}

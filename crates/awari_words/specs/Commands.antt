@@ -1,0 +1,92 @@
+-- The commands that the program understands, with the words of each, as `clap` reads them: `subcommand_of awari_commands words` is the
+-- command that the words name, with the values that they give to each of its names.
+use Rattle.std.specs.Prelude.{ℕ, List, [], ◌∷◌, ◌++◌, Some, true, false, codes, pos}
+use Rattle.clap.specs.Walk.{Rule}
+use Rattle.clap.specs.Simple.{App, Shape, new_rule, new_shape}
+use Rattle.clap.specs.declared.builder.value_parser.ValueParser.{ValueParser}
+use Rattle.clap.specs.declared.builder.value_parser.ValueParser.TheVariants.{Signed, Unsigned}
+
+-- a word of any text, which has to be there
+abbrev pub word : List ℕ → Rule
+word name = record (new_rule name) { required = true }
+
+-- a word that spells a number, which has to be there
+abbrev pub number : List ℕ → ValueParser → Rule
+number name numbers = record (word name) { parser = Some numbers }
+
+-- the option `--name VALUE`
+abbrev pub option : List ℕ → Rule
+option name = record (new_rule name) { long = Some name; value_names = 1 }
+
+-- the same, of a number, with the text that it has where it isn't given
+abbrev pub number_option : List ℕ → ValueParser → List ℕ → Rule
+number_option name numbers default = record (option name) { parser = Some numbers; defaults = default ∷ [] }
+
+abbrev pub command : List ℕ → List Rule → Shape
+command name words = record (new_shape name) { rules = words }
+
+abbrev pub folder : Rule
+folder = word (codes "FOLDER")
+
+abbrev pub board : Rule
+board = word (codes "BOARD")
+
+-- a level, 0 to 24
+abbrev pub levels : ValueParser
+levels = Unsigned 0 24
+
+abbrev pub top : Rule
+top = number (codes "TOP") levels
+
+abbrev pub check_command : Shape
+check_command = command (codes "check") []
+
+abbrev pub move_command : Shape
+move_command = command (codes "move") (board ∷ number (codes "PIT") (Signed (pos 0) (pos 255)) ∷ [])
+
+abbrev pub judge_command : Shape
+judge_command = command (codes "judge") (board ∷ number (codes "LIMIT") (Signed (pos 0) (pos 4294967295)) ∷ new_rule (codes "MOVES") ∷ [])
+
+-- up to 16 owners, 1 to 256 batches a line, 1 to 1000 sweeps a round
+abbrev pub pace : List Rule
+pace = number_option (codes "owners") (Unsigned 0 16) (codes "0") ∷ number_option (codes "room") (Unsigned 1 256) (codes "64")
+    ∷ number_option (codes "sweeps") (Unsigned 1 1000) (codes "1000") ∷ []
+
+abbrev pub build_command : Shape
+build_command = command (codes "build") (top ∷ option (codes "folder") ∷ pace)
+
+abbrev pub verify_command : Shape
+verify_command = command (codes "verify") (folder ∷ [])
+
+-- the one level to print
+abbrev pub level : Rule
+level = record (new_rule (codes "LEVEL")) { parser = Some levels }
+
+abbrev pub text_command : Shape
+text_command = command (codes "text") (folder ∷ level ∷ [])
+
+abbrev pub migrate_command : Shape
+migrate_command = command (codes "migrate") (word (codes "FROM") ∷ word (codes "TO") ∷ [])
+
+-- the three commands that answer of one board
+abbrev pub look_up_command : List ℕ → Shape
+look_up_command name = command name (folder ∷ board ∷ [])
+
+abbrev pub serve_command : Shape
+serve_command = command (codes "serve") (folder ∷ top ∷ number (codes "OWNERS") (Unsigned 0 16) ∷ [])
+
+-- the program with no command: the first word is its own name, and a command has to follow
+abbrev pub awari : Shape
+awari = record (new_shape (codes "awari")) { has_version = true; arg_required_else_help = true; subcommand_required = true }
+
+-- the commands that need no folder
+abbrev pub play_commands : List Shape
+play_commands = check_command ∷ move_command ∷ judge_command ∷ []
+
+-- the commands that work on a folder, or may
+abbrev pub folder_commands : List Shape
+folder_commands = build_command ∷ verify_command ∷ text_command ∷ migrate_command
+    ∷ look_up_command (codes "ask") ∷ look_up_command (codes "moves") ∷ look_up_command (codes "line") ∷ serve_command ∷ []
+
+abbrev pub awari_commands : App
+awari_commands = record { top = record awari { is_leaf = false }; subs = play_commands ++ folder_commands }

@@ -1,0 +1,4 @@
+pub mod Commands
+pub mod Making
+pub mod Named
+pub mod Requests

@@ -1,0 +1,419 @@
+//! The commands, as `clap` takes them: the words of each, and what its help says.
+
+ghost use Rattle.std.specs.Prelude.{◌≡◌, ◌++◌, ◌∷◌, [], IfOk, codes, pos};
+ghost use Rattle.clap.specs.Simple.{App, Shape, new_rule, with_rule, with_subcommand};
+ghost use Rattle.clap.specs.Walk.{Rule};
+ghost use Rattle.clap.specs.declared.builder.value_parser.ValueParser.TheVariants.{Signed, Unsigned};
+ghost use Rattle.awari_words.specs.Commands.{
+  awari,
+  awari_commands,
+  board,
+  build_command,
+  check_command,
+  command,
+  folder,
+  folder_commands,
+  judge_command,
+  level,
+  levels,
+  look_up_command,
+  migrate_command,
+  move_command,
+  number,
+  number_option,
+  option,
+  pace,
+  play_commands,
+  serve_command,
+  text_command,
+  top,
+  verify_command,
+  word,
+};
+ghost use Rattle.awari_words.specs.Making.{IsApp, IsArg, IsCommand, MakesApp, MakesCommand, with_subcommands, with_words};
+
+use crate::helps::{
+    ASK_HELP, AWARI_HELP, BUILD_HELP, CHECK_HELP, JUDGE_HELP, LINE_HELP, MIGRATE_HELP, MOVE_HELP,
+    MOVES_HELP, SERVE_HELP, TEXT_HELP, VERIFY_HELP, VERSION,
+};
+use awari_build::{MOST_OWNERS, MOST_ROOM, MOST_SWEEPS};
+use awari_table::HIGHEST_LEVEL;
+use clap::builder::ValueParser;
+use clap::{Arg, Command, value_parser};
+use std::alloc::{AllocError, Global};
+
+/// The program with all its commands.
+pub(crate) fn commands<'a>(alloc: Global) -> Result<Command<'a>, AllocError>
+    ensures { MakesApp result awari_commands }
+{
+    with_folders(alloc, with_plays(alloc, Ok(awari_command(alloc))))
+}
+
+/// The program, with no command yet.
+fn awari_command<'a>(alloc: Global) -> Command<'a>
+    ensures { IsCommand result awari }
+{
+    Command::new(alloc, "awari")
+        .about("Awari endgame tables that are proved right")
+        .version(VERSION)
+        .after_help(AWARI_HELP)
+        .arg_required_else_help(true)
+        .subcommand_required(true)
+}
+
+/// The program with the commands that need no folder.
+fn with_plays<'a>(
+    alloc: Global,
+    awari: Result<Command<'a>, AllocError>,
+) -> Result<Command<'a>, AllocError>
+    ensures { (app : App) → MakesApp awari.entry app → MakesApp result (with_subcommands app play_commands) }
+{
+    let awari = with_command(awari, check_command(alloc));
+    let awari = with_command(awari, move_command(alloc));
+    with_command(awari, judge_command(alloc))
+}
+
+/// The program with the commands that work on a folder, or may.
+fn with_folders<'a>(
+    alloc: Global,
+    awari: Result<Command<'a>, AllocError>,
+) -> Result<Command<'a>, AllocError>
+    ensures { (app : App) → MakesApp awari.entry app → MakesApp result (with_subcommands app folder_commands) }
+{
+    let awari = with_command(awari, build_command(alloc));
+    let awari = with_command(awari, verify_command(alloc));
+    let awari = with_command(awari, text_command(alloc));
+    let awari = with_command(awari, migrate_command(alloc));
+    let awari = with_command(awari, ask_command(alloc));
+    let awari = with_command(awari, moves_command(alloc));
+    let awari = with_command(awari, line_command(alloc));
+    with_command(awari, serve_command(alloc))
+}
+
+/// The program with one more command, where there was room to make both.
+fn with_command<'a>(
+    awari: Result<Command<'a>, AllocError>,
+    command: Result<Command<'a>, AllocError>,
+) -> Result<Command<'a>, AllocError>
+    ensures { (app : App) → (shape : Shape) → MakesApp awari.entry app → MakesCommand command.entry shape → MakesApp result (with_subcommand app shape) }
+{
+    awari?.subcommand(command?)
+}
+
+/// The command with one more word, where there was room to make it.
+fn with_word<'a>(
+    command: Result<Command<'a>, AllocError>,
+    word: Arg<'a>,
+) -> Result<Command<'a>, AllocError>
+    ensures { (app : App) → (rule : Rule) → MakesApp command.entry app → IsArg word.entry rule → MakesApp result (with_rule app rule) }
+{
+    command?.arg(word)
+}
+
+/// A command with no words yet, what it does and the end of its help.
+fn new_command<'a>(
+    alloc: Global,
+    name: &'a str,
+    about: &'a str,
+    help: &'a str,
+) -> Result<Command<'a>, AllocError>
+    ensures { MakesCommand result (command name.entry.now []) }
+{
+    Ok(Command::new(alloc, name).about(about).after_help(help))
+}
+
+fn check_command<'a>(alloc: Global) -> Result<Command<'a>, AllocError>
+    ensures { MakesCommand result check_command }
+{
+    new_command(
+        alloc,
+        "check",
+        "Says of tables on standard input whether each is right",
+        CHECK_HELP,
+    )
+}
+
+fn move_command<'a>(alloc: Global) -> Result<Command<'a>, AllocError>
+    ensures { MakesCommand result move_command }
+{
+    let command = new_command(
+        alloc,
+        "move",
+        "Plays a move, and prints the board after it",
+        MOVE_HELP,
+    );
+    let command = with_word(command, board(alloc));
+    with_word(command, pit(alloc))
+}
+
+fn pit<'a>(alloc: Global) -> Arg<'a>
+    ensures { IsArg result (number (codes "PIT") (Signed (pos 0) (pos 255))) }
+{
+    Arg::new(alloc, "PIT")
+        .required(true)
+        .value_parser(value_parser!(u8))
+        .help("The pit to play, 0 to 255")
+}
+
+fn judge_command<'a>(alloc: Global) -> Result<Command<'a>, AllocError>
+    ensures { MakesCommand result judge_command }
+{
+    let command = new_command(
+        alloc,
+        "judge",
+        "Plays moves, and says where that stands",
+        JUDGE_HELP,
+    );
+    let command = with_word(command, board(alloc));
+    let command = with_word(command, limit(alloc));
+    with_word(command, moves(alloc))
+}
+
+fn limit<'a>(alloc: Global) -> Arg<'a>
+    ensures { IsArg result (number (codes "LIMIT") (Signed (pos 0) (pos 4294967295))) }
+{
+    Arg::new(alloc, "LIMIT")
+        .required(true)
+        .value_parser(value_parser!(u32))
+        .help("The plies without a capture that are not yet an outcome")
+}
+
+fn moves<'a>(alloc: Global) -> Arg<'a>
+    ensures { IsArg result (new_rule (codes "MOVES")) }
+{
+    Arg::new(alloc, "MOVES").help("The pits played, a digit each")
+}
+
+fn build_command<'a>(alloc: Global) -> Result<Command<'a>, AllocError>
+    ensures { MakesCommand result build_command }
+{
+    let command = new_command(
+        alloc,
+        "build",
+        "Builds levels, and prints a line for each",
+        BUILD_HELP,
+    );
+    let command = with_word(command, top(alloc));
+    let command = with_word(command, start_folder(alloc));
+    with_pace(alloc, command)
+}
+
+fn top<'a>(alloc: Global) -> Arg<'a>
+    ensures { IsArg result top }
+{
+    Arg::new(alloc, "TOP")
+        .required(true)
+        .value_parser(ValueParser::unsigned(0, u64::from(HIGHEST_LEVEL)))
+        .help("The highest level to build, 0 to 24")
+}
+
+fn start_folder<'a>(alloc: Global) -> Arg<'a>
+    ensures { IsArg result (option (codes "folder")) }
+{
+    Arg::new(alloc, "folder")
+        .long("folder")
+        .value_name("FOLDER")
+        .help("Begin above this folder's levels, and save each there")
+}
+
+/// The command with the options of a pace.
+fn with_pace<'a>(
+    alloc: Global,
+    command: Result<Command<'a>, AllocError>,
+) -> Result<Command<'a>, AllocError>
+    ensures { (app : App) → MakesApp command.entry app → MakesApp result (with_words app pace) }
+{
+    let command = with_word(command, owners(alloc));
+    let command = with_word(command, room(alloc));
+    with_word(command, sweeps(alloc))
+}
+
+fn owners<'a>(alloc: Global) -> Arg<'a>
+    ensures { IsArg result (number_option (codes "owners") (Unsigned 0 16) (codes "0")) }
+{
+    Arg::new(alloc, "owners")
+        .long("owners")
+        .value_name("W")
+        .value_parser(ValueParser::unsigned(0, u64::from(MOST_OWNERS)))
+        .default_value("0")
+        .help("How many threads share a level, 0 to 16")
+}
+
+fn room<'a>(alloc: Global) -> Arg<'a>
+    ensures { IsArg result (number_option (codes "room") (Unsigned 1 256) (codes "64")) }
+{
+    Arg::new(alloc, "room")
+        .long("room")
+        .value_name("R")
+        .value_parser(ValueParser::unsigned(1, u64::from(MOST_ROOM)))
+        .default_value("64")
+        .help("Batches that a line holds, 1 to 256")
+}
+
+fn sweeps<'a>(alloc: Global) -> Arg<'a>
+    ensures { IsArg result (number_option (codes "sweeps") (Unsigned 1 1000) (codes "1000")) }
+{
+    Arg::new(alloc, "sweeps")
+        .long("sweeps")
+        .value_name("S")
+        .value_parser(ValueParser::unsigned(1, u64::from(MOST_SWEEPS)))
+        .default_value("1000")
+        .help("Most sweeps in a round, 1 to 1000")
+}
+
+fn verify_command<'a>(alloc: Global) -> Result<Command<'a>, AllocError>
+    ensures { MakesCommand result verify_command }
+{
+    let command = new_command(
+        alloc,
+        "verify",
+        "Says of the levels in a folder whether each is right",
+        VERIFY_HELP,
+    );
+    with_word(command, folder(alloc))
+}
+
+fn text_command<'a>(alloc: Global) -> Result<Command<'a>, AllocError>
+    ensures { MakesCommand result text_command }
+{
+    let command = new_command(
+        alloc,
+        "text",
+        "Prints the levels of a folder as the text that check reads",
+        TEXT_HELP,
+    );
+    let command = with_word(command, folder(alloc));
+    with_word(command, level(alloc))
+}
+
+fn level<'a>(alloc: Global) -> Arg<'a>
+    ensures { IsArg result level }
+{
+    Arg::new(alloc, "LEVEL")
+        .value_parser(ValueParser::unsigned(0, u64::from(HIGHEST_LEVEL)))
+        .help("The one level to print, 0 to 24; without it all are")
+}
+
+fn migrate_command<'a>(alloc: Global) -> Result<Command<'a>, AllocError>
+    ensures { MakesCommand result migrate_command }
+{
+    let command = new_command(
+        alloc,
+        "migrate",
+        "Brings the levels of older files over into another folder",
+        MIGRATE_HELP,
+    );
+    let command = with_word(command, from(alloc));
+    with_word(command, to(alloc))
+}
+
+fn from<'a>(alloc: Global) -> Arg<'a>
+    ensures { IsArg result (word (codes "FROM")) }
+{
+    Arg::new(alloc, "FROM").required(true).help(
+        "A folder with the files level_00.awdb and so on, which is only read",
+    )
+}
+
+fn to<'a>(alloc: Global) -> Arg<'a>
+    ensures { IsArg result (word (codes "TO")) }
+{
+    Arg::new(alloc, "TO")
+        .required(true)
+        .help("The folder that the new files are written into")
+}
+
+fn ask_command<'a>(alloc: Global) -> Result<Command<'a>, AllocError>
+    ensures { MakesCommand result (look_up_command (codes "ask")) }
+{
+    let command = new_command(
+        alloc,
+        "ask",
+        "Looks a board up in the levels of a folder",
+        ASK_HELP,
+    );
+    with_board(alloc, command)
+}
+
+fn moves_command<'a>(alloc: Global) -> Result<Command<'a>, AllocError>
+    ensures { MakesCommand result (look_up_command (codes "moves")) }
+{
+    let command = new_command(
+        alloc,
+        "moves",
+        "Says what each legal move of a board is worth",
+        MOVES_HELP,
+    );
+    with_board(alloc, command)
+}
+
+fn line_command<'a>(alloc: Global) -> Result<Command<'a>, AllocError>
+    ensures { MakesCommand result (look_up_command (codes "line")) }
+{
+    let command = new_command(
+        alloc,
+        "line",
+        "Plays the plans of both sides, from a board to the outcome",
+        LINE_HELP,
+    );
+    with_board(alloc, command)
+}
+
+/// The command, which answers of a board by the levels of a folder.
+fn with_board<'a>(
+    alloc: Global,
+    command: Result<Command<'a>, AllocError>,
+) -> Result<Command<'a>, AllocError>
+    ensures { (app : App) → MakesApp command.entry app → MakesApp result (with_words app (folder ∷ board ∷ [])) }
+{
+    let command = with_word(command, folder(alloc));
+    with_word(command, board(alloc))
+}
+
+fn serve_command<'a>(alloc: Global) -> Result<Command<'a>, AllocError>
+    ensures { MakesCommand result serve_command }
+{
+    let command = new_command(
+        alloc,
+        "serve",
+        "Answers lines on standard input while levels are built",
+        SERVE_HELP,
+    );
+    let command = with_word(command, folder(alloc));
+    let command = with_word(command, served_top(alloc));
+    with_word(command, served_owners(alloc))
+}
+
+fn served_top<'a>(alloc: Global) -> Arg<'a>
+    ensures { IsArg result top }
+{
+    Arg::new(alloc, "TOP")
+        .required(true)
+        .value_parser(ValueParser::unsigned(0, u64::from(HIGHEST_LEVEL)))
+        .help("The highest level to build meanwhile, 0 to 24")
+}
+
+fn served_owners<'a>(alloc: Global) -> Arg<'a>
+    ensures { IsArg result (number (codes "OWNERS") (Unsigned 0 16)) }
+{
+    Arg::new(alloc, "OWNERS")
+        .required(true)
+        .value_parser(ValueParser::unsigned(0, u64::from(MOST_OWNERS)))
+        .help("How many threads share a level, 0 to 16; with 0 one part has it")
+}
+
+fn folder<'a>(alloc: Global) -> Arg<'a>
+    ensures { IsArg result folder }
+{
+    Arg::new(alloc, "FOLDER").required(true).help(
+        "A folder with the files level_00.awdb, level_01.awdb and so on",
+    )
+}
+
+fn board<'a>(alloc: Global) -> Arg<'a>
+    ensures { IsArg result board }
+{
+    Arg::new(alloc, "BOARD")
+        .required(true)
+        .help("The stones in the pits, as 0,0,0,0,0,1/1,0,0,0,0,0")
+}

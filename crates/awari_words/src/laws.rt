@@ -1,0 +1,43 @@
+//! What the definitions say of words that are written out. The law is proved, and a caller has it by
+//! calling its function, which does nothing.
+
+ghost use Rattle.std.specs.Prelude.{◌≡◌, [], ◌∷◌, Some, codes};
+ghost use Rattle.awari_words.specs.Commands.{awari_commands};
+ghost use Rattle.awari_words.specs.Named.{named};
+ghost use Rattle.clap.specs.Faults.{fault_of};
+ghost use Rattle.clap.specs.declared.error.kind.ErrorKind.TheVariants.{
+  DisplayHelpOnMissingArgumentOrSubcommand,
+  InvalidSubcommand,
+  MissingRequiredArgument,
+  UnknownArgument,
+  ValueValidation,
+};
+
+/// The commands that words name, and why words are refused.
+pub fn worked_words()
+    ensures check { named (codes "awari" ∷ codes "check" ∷ []) ≡ Some (codes "check", []) }
+
+    // The values stand under their names, in the order in which they were given.
+    ensures ask { named (codes "awari" ∷ codes "ask" ∷ codes "levels" ∷ codes "0/1" ∷ [])
+        ≡ Some (codes "ask", (codes "FOLDER", codes "levels" ∷ []) ∷ (codes "BOARD", codes "0/1" ∷ []) ∷ []) }
+
+    // An option may stand before the words, and each that isn't given has its default.
+    ensures build { named (codes "awari" ∷ codes "build" ∷ codes "--owners" ∷ codes "4" ∷ codes "12" ∷ [])
+        ≡ Some (
+          codes "build",
+          (codes "owners", codes "4" ∷ []) ∷ (codes "TOP", codes "12" ∷ [])
+              ∷ (codes "room", codes "64" ∷ []) ∷ (codes "sweeps", codes "1000" ∷ []) ∷ [],
+        ) }
+
+    // Behind `--` a word may begin with a hyphen.
+    ensures hyphen { named (codes "awari" ∷ codes "verify" ∷ codes "--" ∷ codes "-levels" ∷ [])
+        ≡ Some (codes "verify", (codes "FOLDER", codes "-levels" ∷ []) ∷ []) }
+
+    // No command, a word that is none, for either of two reasons, a word too few, and a level above
+    // the highest.
+    ensures nothing { fault_of awari_commands (codes "awari" ∷ []) ≡ DisplayHelpOnMissingArgumentOrSubcommand ∷ [] }
+    ensures unknown { fault_of awari_commands (codes "awari" ∷ codes "solve" ∷ []) ≡ UnknownArgument ∷ InvalidSubcommand ∷ [] }
+    ensures missing { fault_of awari_commands (codes "awari" ∷ codes "ask" ∷ codes "levels" ∷ []) ≡ MissingRequiredArgument ∷ [] }
+    ensures high { fault_of awari_commands (codes "awari" ∷ codes "build" ∷ codes "25" ∷ []) ≡ ValueValidation ∷ [] }
+    ensures highest { fault_of awari_commands (codes "awari" ∷ codes "build" ∷ codes "24" ∷ []) ≡ [] }
+{}

@@ -1,0 +1,265 @@
+//! The words that the program understands.
+
+ghost use Rattle.std.specs.Prelude.{◌≡◌, ◌⊎◌, IfOk, IfSome, IsNone, codes, map, option_map};
+ghost use Rattle.clap.specs.Kinds.{FailsBy};
+ghost use Rattle.clap.specs.Faults.{fault_of};
+ghost use Rattle.clap.specs.Simple.{subcommand_of, subcommand_rows_of};
+ghost use Rattle.clap.specs.Walk.{first_of};
+ghost use Rattle.awari_words.specs.Commands.{awari_commands};
+ghost use Rattle.awari_words.specs.Requests.{
+  IsAsked,
+  IsNoPace,
+  IsNoRequest,
+  IsPaceOf,
+  IsRequestOf,
+  Lacks,
+  Spells,
+  SpellsNone,
+  values,
+};
+
+use crate::commands::commands;
+use awari_build::Pace;
+use clap::{ArgMatches, Error};
+use std::alloc::Global;
+use std::convert::AsStr;
+
+/// What the words ask for.
+#[derive(Clone, Copy)]
+pub enum Request<'a> {
+    /// `check`: whether the tables on standard input are right.
+    Check,
+    /// `move BOARD PIT`: the board after a move.
+    Move {
+        board: &'a str,
+        pit: u8,
+    },
+    /// `judge BOARD LIMIT [MOVES]`: where a play stands.
+    Judge {
+        board: &'a str,
+        limit: u32,
+        moves: &'a str,
+    },
+    /// `build TOP [--folder FOLDER] [--owners W] [--room R] [--sweeps S]`: the levels up to this one.
+    Build {
+        top: u8,
+        folder: Option<&'a str>,
+        pace: Pace,
+    },
+    /// `verify FOLDER`: whether the levels in a folder are right.
+    Verify {
+        folder: &'a str,
+    },
+    /// `text FOLDER [LEVEL]`: the text of the levels in a folder, or of one.
+    Text {
+        folder: &'a str,
+        level: Option<u8>,
+    },
+    /// `migrate FROM TO`: the levels of a folder brought over into another one.
+    Migrate {
+        from: &'a str,
+        to: &'a str,
+    },
+    /// `ask FOLDER BOARD`: the entry of a board.
+    Ask {
+        folder: &'a str,
+        board: &'a str,
+    },
+    /// `moves FOLDER BOARD`: what each legal move of a board is worth.
+    Moves {
+        folder: &'a str,
+        board: &'a str,
+    },
+    /// `line FOLDER BOARD`: the play from a board in which both sides follow the plans.
+    Line {
+        folder: &'a str,
+        board: &'a str,
+    },
+    /// `serve FOLDER TOP OWNERS`: the answers to lines, while levels are built.
+    Serve {
+        folder: &'a str,
+        top: u8,
+        owners: u8,
+    },
+}
+
+/// What the words ask for, of which the first is the program's own name. The error has the text of
+/// `clap`, for `--help` as well. There is none of both only if `clap` lets through what the program
+/// doesn't offer. It takes memory.
+pub fn request_of<'a, S: AsStr>(alloc: Global, words: &'a [S]) -> Result<Option<Request<'a>>, Error>
+    // The request is that of the command that the words name, with the values that they give.
+    ensures asked { IfOk result (IsAsked (subcommand_of awari_commands (map S.text words.entry.now))) }
+
+    // Words are refused for their first fault, and for want of memory alone where they have none.
+    ensures faults { FailsBy (fault_of awari_commands (map S.text words.entry.now)) result }
+{
+    let matches = commands(alloc)?.try_get_matches_from(words)?;
+    Ok(named(&matches))
+}
+
+/// The request of the command that was found, with the values that were given to it.
+fn named<'a>(matches: &ArgMatches<'a>) -> Option<Request<'a>>
+    ensures { IsAsked (subcommand_rows_of matches.now) result }
+{
+    match matches.subcommand() {
+        Some((name, given)) => requested(name, given),
+        None => None,
+    }
+}
+
+fn requested<'a>(name: &str, given: &ArgMatches<'a>) -> Option<Request<'a>>
+    ensures asked { IfSome result (IsRequestOf name.now (values given.now)) }
+    ensures none { IsNone result → IsNoRequest name.now (values given.now) }
+{
+    match name {
+        "check" => Some(Request::Check),
+        "move" => move_request(given),
+        "judge" => judge_request(given),
+        "build" => build_request(given),
+        "verify" => verify_request(given),
+        "text" => text_request(given),
+        "migrate" => migrate_request(given),
+        "ask" => ask_request(given),
+        "moves" => moves_request(given),
+        "line" => line_request(given),
+        "serve" => serve_request(given),
+        _ => None,
+    }
+}
+
+fn move_request<'a>(given: &ArgMatches<'a>) -> Option<Request<'a>>
+    ensures asked { IfSome result (IsRequestOf (codes "move") (values given.now)) }
+    ensures none { IsNone result → Lacks (values given.now) (codes "BOARD") ⊎ SpellsNone 8 (values given.now) (codes "PIT") }
+{
+    Some(Request::Move {
+        board: text(given, "BOARD")?,
+        pit: byte(given, "PIT")?,
+    })
+}
+
+fn judge_request<'a>(given: &ArgMatches<'a>) -> Option<Request<'a>>
+    ensures asked { IfSome result (IsRequestOf (codes "judge") (values given.now)) }
+    ensures none { IsNone result → Lacks (values given.now) (codes "BOARD") ⊎ SpellsNone 32 (values given.now) (codes "LIMIT") }
+{
+    Some(Request::Judge {
+        board: text(given, "BOARD")?,
+        limit: number(given, "LIMIT")?,
+        moves: text(given, "MOVES").unwrap_or(""),
+    })
+}
+
+fn build_request<'a>(given: &ArgMatches<'a>) -> Option<Request<'a>>
+    ensures asked { IfSome result (IsRequestOf (codes "build") (values given.now)) }
+    ensures none { IsNone result → SpellsNone 8 (values given.now) (codes "TOP") ⊎ IsNoPace (values given.now) }
+{
+    Some(Request::Build {
+        top: byte(given, "TOP")?,
+        folder: text(given, "folder"),
+        pace: pace_of(given)?,
+    })
+}
+
+fn verify_request<'a>(given: &ArgMatches<'a>) -> Option<Request<'a>>
+    ensures asked { IfSome result (IsRequestOf (codes "verify") (values given.now)) }
+    ensures none { IsNone result → Lacks (values given.now) (codes "FOLDER") }
+{
+    Some(Request::Verify {
+        folder: text(given, "FOLDER")?,
+    })
+}
+
+fn text_request<'a>(given: &ArgMatches<'a>) -> Option<Request<'a>>
+    ensures asked { IfSome result (IsRequestOf (codes "text") (values given.now)) }
+    ensures none { IsNone result → Lacks (values given.now) (codes "FOLDER") }
+{
+    Some(Request::Text {
+        folder: text(given, "FOLDER")?,
+        level: byte(given, "LEVEL"),
+    })
+}
+
+fn migrate_request<'a>(given: &ArgMatches<'a>) -> Option<Request<'a>>
+    ensures asked { IfSome result (IsRequestOf (codes "migrate") (values given.now)) }
+    ensures none { IsNone result → Lacks (values given.now) (codes "FROM") ⊎ Lacks (values given.now) (codes "TO") }
+{
+    Some(Request::Migrate {
+        from: text(given, "FROM")?,
+        to: text(given, "TO")?,
+    })
+}
+
+fn ask_request<'a>(given: &ArgMatches<'a>) -> Option<Request<'a>>
+    ensures asked { IfSome result (IsRequestOf (codes "ask") (values given.now)) }
+    ensures none { IsNone result → Lacks (values given.now) (codes "FOLDER") ⊎ Lacks (values given.now) (codes "BOARD") }
+{
+    Some(Request::Ask {
+        folder: text(given, "FOLDER")?,
+        board: text(given, "BOARD")?,
+    })
+}
+
+fn moves_request<'a>(given: &ArgMatches<'a>) -> Option<Request<'a>>
+    ensures asked { IfSome result (IsRequestOf (codes "moves") (values given.now)) }
+    ensures none { IsNone result → Lacks (values given.now) (codes "FOLDER") ⊎ Lacks (values given.now) (codes "BOARD") }
+{
+    Some(Request::Moves {
+        folder: text(given, "FOLDER")?,
+        board: text(given, "BOARD")?,
+    })
+}
+
+fn line_request<'a>(given: &ArgMatches<'a>) -> Option<Request<'a>>
+    ensures asked { IfSome result (IsRequestOf (codes "line") (values given.now)) }
+    ensures none { IsNone result → Lacks (values given.now) (codes "FOLDER") ⊎ Lacks (values given.now) (codes "BOARD") }
+{
+    Some(Request::Line {
+        folder: text(given, "FOLDER")?,
+        board: text(given, "BOARD")?,
+    })
+}
+
+fn serve_request<'a>(given: &ArgMatches<'a>) -> Option<Request<'a>>
+    ensures asked { IfSome result (IsRequestOf (codes "serve") (values given.now)) }
+    ensures none { IsNone result → Lacks (values given.now) (codes "FOLDER") ⊎ SpellsNone 8 (values given.now) (codes "TOP") ⊎ SpellsNone 8 (values given.now) (codes "OWNERS") }
+{
+    Some(Request::Serve {
+        folder: text(given, "FOLDER")?,
+        top: byte(given, "TOP")?,
+        owners: byte(given, "OWNERS")?,
+    })
+}
+
+/// The pace of a build.
+fn pace_of(given: &ArgMatches<'_>) -> Option<Pace>
+    ensures asked { IfSome result (IsPaceOf (values given.now)) }
+    ensures none { IsNone result → IsNoPace (values given.now) }
+{
+    Some(Pace {
+        owners: byte(given, "owners")?,
+        room: number(given, "room")?,
+        sweeps: number(given, "sweeps")?,
+    })
+}
+
+/// The value of this name, as it was written.
+fn text<'a>(given: &ArgMatches<'a>, name: &str) -> Option<&'a str>
+    ensures { option_map (λ s. s.now) result ≡ first_of name.now (values given.now) }
+{
+    given.get_str(name)
+}
+
+/// The value of this name, where it spells a number below 2^8.
+fn byte(given: &ArgMatches<'_>, name: &str) -> Option<u8>
+    ensures some { IfSome result (Spells (values given.now) name.now) }
+    ensures none { IsNone result → SpellsNone 8 (values given.now) name.now }
+{
+    given.get_one(name)
+}
+
+/// The value of this name, where it spells a number below 2^32.
+fn number(given: &ArgMatches<'_>, name: &str) -> Option<u32>
+    ensures some { IfSome result (Spells (values given.now) name.now) }
+    ensures none { IsNone result → SpellsNone 32 (values given.now) name.now }
+{
+    given.get_one(name)
+}
