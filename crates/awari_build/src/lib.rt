@@ -1,4 +1,10 @@
 //! The next level of a shelf, built whole.
+//!
+//! A level built on those of a book, and published, in `crates/awari_cli_tests/src/services.rt`:
+//!
+//!     let level = build_alone(alloc, publisher.pages.book())?;
+//!     let level = Arc::new(alloc, level)?;
+//!     publisher.publish(level)?;
 #![tactic(auto)]
 
 mod alone;

@@ -1,4 +1,11 @@
 //! The commands of the program `awari`.
+//!
+//! A command on words and streams, in `crates/awari_cli_tests/src/commands.rt`:
+//!
+//!     let mut reader = input;
+//!     let mut output = Vec::new(alloc);
+//!     let mut errors = Vec::new(alloc);
+//!     let status = run(rt, alloc, words, &mut reader, &mut output, &mut errors);
 #![tactic(auto)]
 
 mod building;

@@ -1,4 +1,15 @@
 //! A level that is built by any number of owners, as a list of events.
+//!
+//! A core, the events that it runs, the next distance or gain, and the level at the end, by lines of
+//! `crates/awari_owner_tests/src/cores.rt`:
+//!
+//!     let mut core = Core::new(alloc, shelf, owners, 1)?;
+//!     core.run(events);
+//!     match core.next_wave() {
+//!         Ok(None) => core.next_gain() == Ok(0),
+//!         _ => false,
+//!     }
+//!     let image = core.finish(alloc)?;
 #![tactic(auto)]
 
 mod cores;

@@ -1,4 +1,14 @@
 //! Readers of one book of levels, which never wait, and its publisher.
+//!
+//! A desk of one reader, who is told of the levels that are published, in
+//! `crates/awari_cli/src/serving.rt`:
+//!
+//!     let (mut publisher, mut readers) = desk(rt, alloc, 1)?;
+//!     publish_each(&mut publisher, shelf)?;
+//!     let Some(mut reader) = readers.pop() else {
+//!         unreachable!()
+//!     };
+//!     reader.learn(publisher.pages.tell()?);
 #![tactic(auto)]
 
 mod answers;

@@ -1,5 +1,13 @@
 //! A folder with the files of levels: a shelf is loaded from one, a level saved into one, and the
 //! levels of one are brought over to another.
+//!
+//! The levels of a folder, and what one of their boards is worth, in
+//! `crates/awari_example/src/main.rt`:
+//!
+//!     let mut folder = HostFolder::new(rt, rt.alloc(), Path::new(folder));
+//!     let shelf = load(&mut folder, rt.alloc())?.shelf;
+//!     let value = shelf.entry(&board)?.value;
+//!     println!(rt; "{board} is worth {value}")?;
 #![tactic(auto)]
 
 mod calls;

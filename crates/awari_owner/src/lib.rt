@@ -6,6 +6,15 @@
 //! or lost that gain, which may settle those. What a cell has to know of the notes that its board
 //! heard is defined in `specs/Tally.antt`; `specs/Level.antt` says what the parts of a level heard
 //! together, and `specs/Finish.antt` what is right once all is heard.
+//!
+//! The part of an owner who has all of level 1: a gain, a distance and a board of it, by lines of
+//! `crates/awari_owner_tests/src/parts.rt`:
+//!
+//!     let mut part = Part::scan(rt.alloc(), &shelf, 1, 0)?;
+//!     let mut outboxes = Outboxes::new(rt.alloc(), 1, 0)?;
+//!     part.open_gain(1);
+//!     part.open_wave(1);
+//!     expect_equal(rt, "a board", part.spread_one(outboxes), Ok(true));
 #![tactic(auto)]
 
 mod blocks;

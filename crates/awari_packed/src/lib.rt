@@ -3,6 +3,21 @@
 //! Five bits hold a pit, pit 11 in the lowest, so that the numbers are in the order of the boards.
 //! A move is one addition from a table and half a turn, and a rank is six look-ups. It is for loops
 //! over whole levels. Elsewhere `awari_board` and `awari_rank` say the same. No call takes memory.
+//!
+//! A loop over a level, in `crates/awari_verify/src/search.rt`:
+//!
+//!     let mut board = PackedBoard::new(&unrank(image.level, low));
+//!     let mut seen = Seen::nothing();
+//!     for rank in low..high {
+//!         see(shelf, image, &board, rank, &mut seen);
+//!         match first_broken_rule(asked, &seen) {
+//!             Some(rule) => return Some(Refusal { rank, rule }),
+//!             None => {}
+//!         }
+//!         match board.successor() {
+//!             Some(next) => board = next,
+//!             None => return None,
+//!         }
 #![tactic(auto)]
 
 mod boards;

@@ -1,4 +1,13 @@
 //! Owners that work side by side, each in a thread of its own, until a gain is closed.
+//!
+//! Three owners of level 1, a round of them, and all rounds up to the end of the gain, by lines of
+//! `crates/awari_owner_tests/src/rounds.rt`:
+//!
+//!     let mut owners = scanned_owners(rt, alloc, &shelf, 3, 1)?;
+//!     open_gain(rt, owners.as_mut_slice());
+//!     let owners = round(rt, owners, &Open, 1)?;
+//!     let mut owners = gain_phase(&rt, owners, &Open, 1)?;
+//!     expect(&rt, "settled", settle_owners(owners.as_mut_slice()));
 #![tactic(auto)]
 
 mod faults;

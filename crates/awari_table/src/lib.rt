@@ -1,6 +1,15 @@
 //! Tables of Awari: what is known of each board of a level, the shelf that holds the levels that
 //! were verified, from the lowest on, the text that tables are spelled in, and readers and writers whose
 //! faults are counted.
+//!
+//! A text of three levels, read onto a shelf, in `crates/awari_file_tests/src/levels.rt`:
+//!
+//!     let mut text = TableText::new(alloc, text.as_slice());
+//!     let mut shelf = Shelf::empty();
+//!     for _ in 0..3u8 {
+//!         let image = next_image(&mut text)?;
+//!         put_on(alloc, &mut shelf, image)?;
+//!     }
 #![tactic(auto)]
 
 mod blocks;

@@ -2,6 +2,13 @@
 //!
 //! [`Unmoves::of`] lists them; what it lists is defined in `specs/Predecessors.antt`. Nothing in
 //! this crate takes memory.
+//!
+//! The one quiet move that leads to a board, in `crates/awari_tests/src/predecessors.rt`:
+//!
+//!     let mut unmoves = Unmoves::of(&Board::new(pits));
+//!     let only = Board::new(before);
+//!     expect_equal(&rt, pits, unmoves.next(), Some((only, 5)));
+//!     expect_equal(&rt, pits, unmoves.next(), None);
 #![tactic(auto)]
 
 mod packed;

@@ -1,4 +1,13 @@
 //! Says whether an image may stand as the next level of a shelf, and else which rule fails first.
+//!
+//! Two levels that are verified, and put on a shelf, in `crates/awari_tests/src/tables.rt`:
+//!
+//!     let mut shelf = Shelf::empty();
+//!     let level = verify(&shelf, image(alloc, 0, 0, &level_0())?)?;
+//!     shelf.push(Arc::new(alloc, level)?);
+//!     let level = verify(&shelf, image(alloc, 1, 1, &level_1())?)?;
+//!     shelf.push(Arc::new(alloc, level)?);
+//!     Ok(shelf)
 #![tactic(auto)]
 
 mod laws;
