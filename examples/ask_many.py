@@ -7,9 +7,9 @@ prints for each board, of one a line, what `./awari ask` says of it. With --move
 `./awari moves` says, and an empty line behind that. The service loads the levels of the folder and
 verifies them, once; it builds nothing where the folder has a level.
 
-    python3 examples/ask_many.py levels --random 1000000 10
+    python3 examples/ask_many.py levels --random 100000 8
 
-asks that many random boards of ten stones instead. How many were answered a second stands on
+asks that many random boards of eight stones instead. How many were answered a second stands on
 standard error. With --in-turn a board is asked once the one before it was answered.
 """
 import argparse
