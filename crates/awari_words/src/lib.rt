@@ -1,4 +1,12 @@
 //! What the words that the program is called with ask for.
+//!
+//! The request that they name is done, in `crates/awari_cli/src/runs.rt`:
+//!
+//!     match request_of(alloc, words) {
+//!         Ok(Some(request)) => run_request(rt, alloc, request, reader, writer),
+//!         // `clap` lets no other command through.
+//!         Ok(None) => 2,
+//!         Err(error) => {
 #![tactic(auto)]
 
 mod commands;
