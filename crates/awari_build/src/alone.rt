@@ -13,7 +13,9 @@ ghost use Rattle.awari_theory.specs.Truth.{TellsTruth};
 
 use crate::faults::BuildFault;
 use awari_owner::{Outboxes, Part, distances_fit};
+use awari_phase::{Progress, Silent};
 use awari_plan::{finish, finished_levels_are_consistent};
+use awari_rank::size;
 use awari_table::{HIGHEST_LEVEL, Level, Shelf};
 use std::alloc::Global;
 use std::slice;
@@ -32,10 +34,31 @@ pub fn build_alone(alloc: Global, shelf: &Shelf) -> Result<Level, BuildFault>
     ensures too_high { (result ≡ Err BuildFault.TooHigh) ↔ (HIGHEST_LEVEL < length shelf.now) }
     ensures fault { IfErr result (λ fault. (fault ≡ BuildFault.TooHigh) ⊎ (fault ≡ BuildFault.Memory)) }
 {
+    build_alone_with_progress(alloc, shelf, &mut Silent)
+}
+
+/// What `build_alone` does; `progress` is told that the level begins, at each gain and distance how many
+/// boards are settled, and that the plans are begun.
+pub fn build_alone_with_progress<P: Progress>(
+    alloc: Global,
+    shelf: &Shelf,
+    progress: &mut P,
+) -> Result<Level, BuildFault>
+    ensures consistent { IfOk result (λ level. Consistent shelf.now level) }
+    ensures meaning { IfOk result (λ level. TellsTruth (shelf.now ++ level ∷ [])) }
+
+    // Its plans are the lowest, so there is one level that it may be.
+    ensures planned { IfOk result (IsPlannedLowest shelf.now) }
+    ensures too_high { (result ≡ Err BuildFault.TooHigh) ↔ (HIGHEST_LEVEL < length shelf.now) }
+    ensures fault { IfErr result (λ fault. (fault ≡ BuildFault.TooHigh) ⊎ (fault ≡ BuildFault.Memory)) }
+{
     if shelf.levels() > HIGHEST_LEVEL {
         return Err(BuildFault::TooHigh);
     }
-    let part = settled_part(alloc, shelf)?;
+    let number = shelf.levels();
+    progress.begin(usize::from(number), size(number) as usize);
+    let part = settled_part(alloc, shelf, progress)?;
+    progress.plan();
     level_of(alloc, shelf, &part)
 }
 
@@ -59,7 +82,11 @@ fn level_of(alloc: Global, shelf: &Shelf, part: &Part) -> Result<Level, BuildFau
 }
 
 /// The part of all boards of the shelf's next level, with all gains closed.
-fn settled_part(alloc: Global, shelf: &Shelf) -> Result<Part, BuildFault>
+fn settled_part<P: Progress>(
+    alloc: Global,
+    shelf: &Shelf,
+    progress: &mut P,
+) -> Result<Part, BuildFault>
     requires low { length shelf.now ≤ HIGHEST_LEVEL }
     ensures whole { IfOk result (λ part. IsWhole part × (part.level ≡ length shelf.now)) }
     ensures closed { IfOk result IsClosed }
@@ -72,15 +99,23 @@ fn settled_part(alloc: Global, shelf: &Shelf) -> Result<Part, BuildFault>
     let Ok(mut outboxes) = Outboxes::new(alloc, 1, 0) else {
         return Err(BuildFault::Memory);
     };
+    let mut spread: usize = 0;
     while part.gain() > 1 {
         part.open_gain(part.gain() - 1);
-        spread_all(&mut part, &mut outboxes);
+        progress.settled(usize::from(part.gain()), spread);
+        spread = spread_all(&mut part, &mut outboxes, spread, progress);
     }
     Ok(part)
 }
 
-/// Spreads all boards that are settled at the open gain, the nearest ones first.
-fn spread_all(part: &mut Part, outboxes: &mut Outboxes)
+/// Spreads all boards that are settled at the open gain, the nearest ones first. So many were spread
+/// before, and the result says how many are now; whenever another distance is begun, that is told.
+fn spread_all<P: Progress>(
+    part: &mut Part,
+    outboxes: &mut Outboxes,
+    before: usize,
+    progress: &mut P,
+) -> usize
     requires whole { IsWhole part.old }
     requires alone { (outboxes.old.owner ≡ 0) × (length outboxes.old.queues ≡ 1) }
     requires low { part.old.level ≤ HIGHEST_LEVEL }
@@ -90,9 +125,15 @@ fn spread_all(part: &mut Part, outboxes: &mut Outboxes)
     ensures alone { (outboxes.new.owner ≡ 0) × (length outboxes.new.queues ≡ 1) }
     ensures sound { (value : List ℕ → ℤ) → IsSound value part.old → IsSound value part.new }
 {
+    let mut spread = before;
     while let Some(dist) = part.due() {
+        if part.wave() < dist {
+            progress.settled(usize::from(part.gain()), spread);
+        }
         spread_nearest(part, outboxes, dist);
+        spread = spread.saturating_add(1);
     }
+    spread
 }
 
 /// Spreads the first fresh board, which is of this distance.

@@ -12,7 +12,7 @@ mod faults;
 mod owned;
 mod paces;
 
-pub use alone::build_alone;
+pub use alone::{build_alone, build_alone_with_progress};
 pub use faults::BuildFault;
-pub use owned::build_level;
+pub use owned::{build_level, build_level_with_progress};
 pub use paces::{MOST_OWNERS, MOST_ROOM, MOST_SWEEPS, Pace};

@@ -15,10 +15,11 @@ ghost use Rattle.awari_build.specs.Paces.{HasOwners, IsPaced};
 use crate::faults::BuildFault;
 use crate::paces::{MOST_OWNERS, MOST_ROOM, MOST_SWEEPS, Pace};
 use awari_phase::{
-    Gate, Owner, PhaseFault, finished_owners_are_right, gain_phase, into_parts, open_gain,
-    scanned_owners,
+    Gate, Owner, PhaseFault, Progress, Silent, finished_owners_are_right, gain_phase_with_progress,
+    into_parts, open_gain, scanned_owners,
 };
 use awari_plan::{finish_parallel, finished_levels_are_consistent};
+use awari_rank::size;
 use awari_table::{HIGHEST_LEVEL, Level, Shelf};
 use std::alloc::Global;
 use std::sync::Wait;
@@ -52,6 +53,31 @@ pub fn build_level<R: Threads + Wait + Sync, G: Gate + Sync>(
     // No owner refuses a note that another one sent.
     ensures phase { (fault : PhaseFault) → result ≡ Err (BuildFault.Phase fault) → fault ≡ PhaseFault.NotStarted }
 {
+    build_level_with_progress(rt, alloc, shelf, pace, gate, &mut Silent)
+}
+
+/// What `build_level` does; `progress` is told that the level begins, after each round which gain is open
+/// and how many boards are settled, and that the plans are begun.
+pub fn build_level_with_progress<R: Threads + Wait + Sync, G: Gate + Sync, P: Progress>(
+    rt: &R,
+    alloc: Global,
+    shelf: &Shelf,
+    pace: Pace,
+    gate: &G,
+    progress: &mut P,
+) -> Result<Level, BuildFault>
+    ensures consistent { IfOk result (λ level. Consistent shelf.now level) }
+    ensures meaning { IfOk result (λ level. TellsTruth (shelf.now ++ level ∷ [])) }
+
+    // Its plans are the lowest, so there is one level that it may be, that of `build_alone`.
+    ensures planned { IfOk result (IsPlannedLowest shelf.now) }
+    ensures owners { (result ≡ Err BuildFault.Owners) ↔ (HasOwners pace → ⊥) }
+    ensures pace { (result ≡ Err BuildFault.Pace) ↔ (HasOwners pace × (IsPaced pace → ⊥)) }
+    ensures too_high { (result ≡ Err BuildFault.TooHigh) ↔ (HasOwners pace × IsPaced pace × (HIGHEST_LEVEL < length shelf.now)) }
+
+    // No owner refuses a note that another one sent.
+    ensures phase { (fault : PhaseFault) → result ≡ Err (BuildFault.Phase fault) → fault ≡ PhaseFault.NotStarted }
+{
     if !(1..=MOST_OWNERS).contains(&pace.owners) {
         return Err(BuildFault::Owners);
     }
@@ -61,7 +87,10 @@ pub fn build_level<R: Threads + Wait + Sync, G: Gate + Sync>(
     if shelf.levels() > HIGHEST_LEVEL {
         return Err(BuildFault::TooHigh);
     }
-    let owners = settled_owners(rt, alloc, shelf, pace, gate)?;
+    let number = shelf.levels();
+    progress.begin(usize::from(number), size(number) as usize);
+    let owners = settled_owners(rt, alloc, shelf, pace, gate, progress)?;
+    progress.plan();
     level_of(rt, alloc, shelf, owners)
 }
 
@@ -92,12 +121,13 @@ fn level_of<R: Threads + Sync>(
 }
 
 /// The owners of the shelf's next level, with all gains closed.
-fn settled_owners<R: Threads + Wait + Sync, G: Gate + Sync>(
+fn settled_owners<R: Threads + Wait + Sync, G: Gate + Sync, P: Progress>(
     rt: &R,
     alloc: Global,
     shelf: &Shelf,
     pace: Pace,
     gate: &G,
+    progress: &mut P,
 ) -> Result<Vec<Owner>, BuildFault>
     requires low { length shelf.now ≤ HIGHEST_LEVEL }
     requires owners { HasOwners pace }
@@ -109,17 +139,18 @@ fn settled_owners<R: Threads + Wait + Sync, G: Gate + Sync>(
         return Err(BuildFault::Memory);
     };
     for _gain in 0..shelf.levels() {
-        owners = closed_gain(rt, owners, gate, pace.sweeps)?;
+        owners = closed_gain(rt, owners, gate, pace.sweeps, progress)?;
     }
     Ok(owners)
 }
 
 /// The owners with the next smaller gain closed.
-fn closed_gain<R: Threads + Wait + Sync, G: Gate + Sync>(
+fn closed_gain<R: Threads + Wait + Sync, G: Gate + Sync, P: Progress>(
     rt: &R,
     mut owners: Vec<Owner>,
     gate: &G,
     sweeps: u32,
+    progress: &mut P,
 ) -> Result<Vec<Owner>, BuildFault>
     requires sweeps { (1 ≤ sweeps) × (sweeps ≤ 1000) }
     requires rest { (value : List ℕ → ℤ) × (n : ℕ) × (gain : ℕ) × (2 ≤ gain) × AreAt value n gain owners.items × (gain ≤ n + 1) × (n ≤ HIGHEST_LEVEL) }
@@ -127,7 +158,7 @@ fn closed_gain<R: Threads + Wait + Sync, G: Gate + Sync>(
     ensures phase { IfErr result IsOfPhase }
 {
     open_gain(rt, owners.as_mut_slice());
-    match gain_phase(rt, owners, gate, sweeps) {
+    match gain_phase_with_progress(rt, owners, gate, sweeps, progress) {
         Ok(all) => Ok(all),
         Err(fault) => Err(of_phase(fault)),
     }

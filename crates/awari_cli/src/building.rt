@@ -12,9 +12,9 @@ ghost use Rattle.awari_cli.specs.Building.{IsToldOf, KeepsLevels, LeavesFiles, P
 ghost use Rattle.awari_cli.specs.declared.building.BuildingFault.TheVariants as building_fault;
 
 use crate::printing::{Refused, print, refuse};
-use awari_build::{BuildFault, Pace, build_alone, build_level};
+use awari_build::{BuildFault, Pace, build_alone_with_progress, build_level_with_progress};
 use awari_folder::{Folder, FolderFault, load_parallel, save};
-use awari_phase::Open;
+use awari_phase::{Open, Progress};
 use awari_plan::lowest_plans_stay;
 use awari_rank::size;
 use awari_table::{Counts, Level, Shelf};
@@ -23,6 +23,16 @@ use std::fmt;
 use std::io::Write;
 use std::sync::{Arc, Wait};
 use std::thread::Threads;
+
+/// What builds levels: the threads and the memory that it takes, how its owners work, and who is told
+/// how far it is.
+#[derive(Drop)]
+pub struct Builder<'a, T, P> {
+    pub rt: &'a T,
+    pub alloc: Global,
+    pub pace: Pace,
+    pub progress: &'a mut P,
+}
 
 /// What is told of a level that was built. Printed, it is its line without the line feed.
 #[derive(Clone, Copy)]
@@ -116,27 +126,23 @@ impl fmt::Display for BuildingFault {
 
 /// Builds the levels up to `top` and prints the line of each. A refusal is printed, and the lines
 /// before it stand.
-pub fn run_build<T: Threads + Wait + Sync, W: Write>(
-    rt: &T,
-    alloc: Global,
+pub fn run_build<T: Threads + Wait + Sync, P: Progress, W: Write>(
+    builder: &mut Builder<'_, T, P>,
     top: u8,
-    pace: Pace,
     writer: &mut W,
 ) -> u8
     ensures status { result ≤ 1 }
     ensures built { result ≡ 0 → PrintsLevels top nothing_known nothing_known (W.contents writer.old) (W.contents writer.new) }
 {
-    build_up(rt, alloc, top, pace, &mut Shelf::empty(), writer)
+    build_up(builder, top, &mut Shelf::empty(), writer)
 }
 
 /// Builds the levels up to `top` above those of the folder, and prints the line of each once it is
 /// saved there. A refusal is printed, and the lines before it stand.
-pub fn run_build_in<T: Threads + Wait + Sync, F: Folder, W: Write>(
-    rt: &T,
+pub fn run_build_in<T: Threads + Wait + Sync, P: Progress, F: Folder, W: Write>(
+    builder: &mut Builder<'_, T, P>,
     folder: &mut F,
-    alloc: Global,
     top: u8,
-    pace: Pace,
     writer: &mut W,
 ) -> u8
     ensures status { result ≤ 1 }
@@ -147,31 +153,20 @@ pub fn run_build_in<T: Threads + Wait + Sync, F: Folder, W: Write>(
     ensures keeps { (names : ℕ → Option (List ℕ)) → AreNames (F.stands folder.old) names
         → KeepsLevels top names (F.stands folder.old) (F.stands folder.new) (F.may_leave folder.old) (F.may_leave folder.new) }
 {
-    let stored = match load_parallel(rt, folder, alloc) {
+    let stored = match load_parallel(builder.rt, folder, builder.alloc) {
         Ok(stored) => stored,
         Err(fault) => return refuse(writer, fault),
     };
     let mut shelf = stored.shelf;
     let mut digest = stored.digest;
-    let status = build_up_in(
-        rt,
-        folder,
-        alloc,
-        top,
-        pace,
-        &mut shelf,
-        &mut digest,
-        writer,
-    );
+    let status = build_up_in(builder, folder, top, &mut shelf, &mut digest, writer);
     status
 }
 
 /// Builds the levels above the shelf up to `top`, and prints the line of each.
-fn build_up<T: Threads + Wait + Sync, W: Write>(
-    rt: &T,
-    alloc: Global,
+fn build_up<T: Threads + Wait + Sync, P: Progress, W: Write>(
+    builder: &mut Builder<'_, T, P>,
     top: u8,
-    pace: Pace,
     shelf: &mut Shelf,
     writer: &mut W,
 ) -> u8
@@ -182,7 +177,7 @@ fn build_up<T: Threads + Wait + Sync, W: Write>(
     ensures planned { result ≡ 0 → HasLowestPlans shelf.old → HasLowestPlans shelf.new }
 {
     while shelf.levels() <= top {
-        match build_next(rt, alloc, pace, shelf) {
+        match build_next(builder, shelf) {
             Ok(told) => {
                 if !print(writer, &told) {
                     return 1;
@@ -199,12 +194,10 @@ fn build_up<T: Threads + Wait + Sync, W: Write>(
 
 /// Builds the levels above the shelf up to `top`, saves each in the folder, of whose last file this
 /// is the digest, and prints its line.
-fn build_up_in<T: Threads + Wait + Sync, F: Folder, W: Write>(
-    rt: &T,
+fn build_up_in<T: Threads + Wait + Sync, P: Progress, F: Folder, W: Write>(
+    builder: &mut Builder<'_, T, P>,
     folder: &mut F,
-    alloc: Global,
     top: u8,
-    pace: Pace,
     shelf: &mut Shelf,
     digest: &mut [u8; 32],
     writer: &mut W,
@@ -220,7 +213,7 @@ fn build_up_in<T: Threads + Wait + Sync, F: Folder, W: Write>(
         → LeavesFiles (length shelf.old) (F.may_leave folder.old) (F.may_leave folder.new) }
 {
     while shelf.levels() <= top {
-        match save_next(rt, folder, alloc, pace, shelf, digest) {
+        match save_next(builder, folder, shelf, digest) {
             Ok(told) => {
                 if !print(writer, &told) {
                     return 1;
@@ -236,10 +229,8 @@ fn build_up_in<T: Threads + Wait + Sync, F: Folder, W: Write>(
 }
 
 /// Builds the level above the shelf, and puts it on top.
-fn build_next<T: Threads + Wait + Sync>(
-    rt: &T,
-    alloc: Global,
-    pace: Pace,
+fn build_next<T: Threads + Wait + Sync, P: Progress>(
+    builder: &mut Builder<'_, T, P>,
     shelf: &mut Shelf,
 ) -> Result<BuiltLevel, BuildingFault>
     ensures built { IfOk result (λ told. (image : Image) × (shelf.new ≡ shelf.old ++ image ∷ []) × IsToldOf image told) }
@@ -247,7 +238,7 @@ fn build_next<T: Threads + Wait + Sync>(
 {
     // That the plans stay the lowest is what this call tells the proof.
     lowest_plans_stay();
-    let level = built_level(rt, alloc, pace, shelf)?;
+    let level = built_level(builder, shelf)?;
     let told = told_of(&level);
     shelf.push(level);
     Ok(told)
@@ -255,11 +246,9 @@ fn build_next<T: Threads + Wait + Sync>(
 
 /// Builds the level above the shelf, saves it, and puts it on top. The file comes last of what may be
 /// refused, so a level that is saved is told of.
-fn save_next<T: Threads + Wait + Sync, F: Folder>(
-    rt: &T,
+fn save_next<T: Threads + Wait + Sync, P: Progress, F: Folder>(
+    builder: &mut Builder<'_, T, P>,
     folder: &mut F,
-    alloc: Global,
-    pace: Pace,
     shelf: &mut Shelf,
     digest: &mut [u8; 32],
 ) -> Result<BuiltLevel, BuildingFault>
@@ -272,7 +261,7 @@ fn save_next<T: Threads + Wait + Sync, F: Folder>(
 {
     // That the plans stay the lowest is what this call tells the proof.
     lowest_plans_stay();
-    let level = built_level(rt, alloc, pace, shelf)?;
+    let level = built_level(builder, shelf)?;
     let own = save(folder, &level, *digest)?;
     *digest = own;
     let told = told_of(&level);
@@ -282,21 +271,27 @@ fn save_next<T: Threads + Wait + Sync, F: Folder>(
 
 /// The level above the shelf, built by so many owners or, where there are to be none, by one part,
 /// with the room that it takes on a shelf.
-fn built_level<T: Threads + Wait + Sync>(
-    rt: &T,
-    alloc: Global,
-    pace: Pace,
+fn built_level<T: Threads + Wait + Sync, P: Progress>(
+    builder: &mut Builder<'_, T, P>,
     shelf: &Shelf,
 ) -> Result<Arc<Level>, BuildingFault>
     ensures consistent { IfOk result (λ level. Consistent shelf.now (arc_value level)) }
     ensures planned { IfOk result (λ level. IsPlannedLowest shelf.now (arc_value level)) }
 {
-    let level = if pace.owners == 0 {
-        build_alone(alloc, shelf)?
+    let progress = &mut *builder.progress;
+    let level = if builder.pace.owners == 0 {
+        build_alone_with_progress(builder.alloc, shelf, progress)?
     } else {
-        build_level(rt, alloc, shelf, pace, &Open)?
+        build_level_with_progress(
+            builder.rt,
+            builder.alloc,
+            shelf,
+            builder.pace,
+            &Open,
+            progress,
+        )?
     };
-    let shared = Arc::new(alloc, level)?;
+    let shared = Arc::new(builder.alloc, level)?;
     Ok(shared)
 }
 

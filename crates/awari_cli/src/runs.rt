@@ -3,6 +3,8 @@
 ghost use Rattle.std.specs.Prelude.{◌≡◌, ◌≢◌, ◌≤◌, [], Some, map};
 ghost use Rattle.std.specs.Io.KnownBytes.{Keeps};
 ghost use Rattle.awari_check.specs.Answer.{PrintsYes};
+ghost use Rattle.awari_folder.specs.Contents.{nothing_known};
+ghost use Rattle.awari_cli.specs.Building.{PrintsLevels};
 ghost use Rattle.awari_cli.specs.Done.{PrintsFor};
 ghost use Rattle.awari_cli.specs.Judgement.{PrintsJudgement};
 ghost use Rattle.awari_cli.specs.Playing.{PrintsMove};
@@ -12,18 +14,21 @@ ghost use Rattle.awari_words.specs.declared.requests.Request.{Request};
 ghost use Rattle.clap.specs.Faults.{fault_of};
 ghost use Rattle.clap.specs.Simple.{subcommand_of};
 
-use crate::building::{run_build, run_build_in};
+use crate::building::{Builder, run_build, run_build_in};
 use crate::folders::{run_ask, run_verify};
 use crate::judgements::{Judged, judge};
 use crate::lines::run_line;
 use crate::migrating::run_migrate;
 use crate::playing::{Played, play_on};
 use crate::printing::print;
+use crate::progress::ProgressLines;
 use crate::serving::run_serve;
 use crate::texts::run_text;
 use crate::worths::run_moves;
+use awari_build::Pace;
 use awari_check::check_input;
 use awari_folder::HostFolder;
+use awari_phase::{Progress, Silent};
 use awari_table::Counted;
 use awari_words::{Request, request_of};
 use std::alloc::Global;
@@ -34,6 +39,7 @@ use std::path::Path;
 use std::rt::Files;
 use std::sync::Wait;
 use std::thread::Threads;
+use std::time::Clock;
 
 /// Runs the command that the words name, of which the first is the program's own name. What it
 /// prints goes to the writer, and the text of `clap` to `errors`. The result is the status that the
@@ -41,7 +47,7 @@ use std::thread::Threads;
 /// where the words were not understood, or asked for help. It takes memory for the words,
 /// and for what the commands read and build; want of it is a refusal.
 pub fn run<
-    T: Files<File = File> + Threads + Wait + Sync + Send + Clone + Drop + 'static,
+    T: Files<File = File> + Threads + Clock + Wait + Sync + Send + Clone + Drop + 'static,
     S: AsStr,
     R: Read,
     W: Write,
@@ -61,7 +67,7 @@ pub fn run<
     ensures nothing { result ≡ 2 → Keeps (W.contents writer.old) (W.contents writer.new) }
 {
     match request_of(alloc, words) {
-        Ok(Some(request)) => run_request(rt, alloc, request, reader, writer),
+        Ok(Some(request)) => run_request(rt, alloc, request, reader, writer, errors),
         // `clap` lets no other command through.
         Ok(None) => 2,
         Err(error) => {
@@ -73,10 +79,11 @@ pub fn run<
 }
 
 fn run_request<
-    T: Files<File = File> + Threads + Wait + Sync + Send + Clone + Drop + 'static,
+    T: Files<File = File> + Threads + Clock + Wait + Sync + Send + Clone + Drop + 'static,
     R: Read,
     W: Write,
->(rt: &T, alloc: Global, request: Request<'_>, reader: &mut R, writer: &mut W) -> u8
+    E: Write,
+>(rt: &T, alloc: Global, request: Request<'_>, reader: &mut R, writer: &mut W, errors: &mut E) -> u8
     ensures status { result ≤ 1 }
     ensures done { result ≡ 0 → PrintsFor request.entry (R.remaining reader.old) (W.contents writer.old) (W.contents writer.new) }
 {
@@ -90,16 +97,18 @@ fn run_request<
         } => run_judge(board, limit, moves, writer),
         Request::Build {
             top,
-            folder: None,
+            folder,
             pace,
-        } => run_build(rt, alloc, top, pace, writer),
+            progress: false,
+        } => run_build_by(rt, alloc, top, folder, pace, &mut Silent, writer),
         Request::Build {
             top,
-            folder: Some(folder),
+            folder,
             pace,
+            progress: true,
         } => {
-            let mut folder = host_folder(rt, alloc, folder);
-            run_build_in(rt, &mut folder, alloc, top, pace, writer)
+            let mut lines = ProgressLines::new(rt, errors);
+            run_build_by(rt, alloc, top, folder, pace, &mut lines, writer)
         }
         Request::Verify { folder } => {
             run_verify(rt, &mut host_folder(rt, alloc, folder), alloc, writer)
@@ -152,6 +161,34 @@ fn run_request<
         } => {
             let mut folder = host_folder(rt, alloc, folder);
             run_serve(rt, &mut folder, alloc, top, owners, reader, writer)
+        }
+    }
+}
+
+/// Builds the levels up to `top`, in this folder if there is one.
+fn run_build_by<T: Files<File = File> + Threads + Wait + Sync, P: Progress, W: Write>(
+    rt: &T,
+    alloc: Global,
+    top: u8,
+    folder: Option<&str>,
+    pace: Pace,
+    progress: &mut P,
+    writer: &mut W,
+) -> u8
+    ensures status { result ≤ 1 }
+    ensures built { result ≡ 0 → PrintsLevels top nothing_known nothing_known (W.contents writer.old) (W.contents writer.new) }
+{
+    let mut builder = Builder {
+        rt,
+        alloc,
+        pace,
+        progress,
+    };
+    match folder {
+        None => run_build(&mut builder, top, writer),
+        Some(folder) => {
+            let mut folder = host_folder(rt, alloc, folder);
+            run_build_in(&mut builder, &mut folder, top, writer)
         }
     }
 }

@@ -13,6 +13,7 @@ use std::rt::Files;
 use std::sync::Wait;
 use std::test::Fail;
 use std::thread::Threads;
+use std::time::Clock;
 use std::{io, str};
 
 /// Words of the program, what it prints of them, and its status.
@@ -20,7 +21,16 @@ pub type Line = (&'static [&'static str], &'static str, u8);
 
 /// Runs the program on these words, and compares what it prints and its status.
 pub fn expect_run(
-    rt: &(impl Abort + Files<File = File> + Threads + Wait + Sync + Send + Clone + Drop + 'static),
+    rt: &(impl Abort
+        + Files<File = File>
+        + Threads
+        + Clock
+        + Wait
+        + Sync
+        + Send
+        + Clone
+        + Drop
+        + 'static),
     alloc: Global,
     words: &[&str],
     input: &[u8],
@@ -43,7 +53,16 @@ fn expect_text(rt: &impl Abort, words: &[&str], output: &[u8], printed: &str) {
 
 /// Runs the program on the words of each line, with no input.
 pub fn expect_lines(
-    rt: &(impl Abort + Files<File = File> + Threads + Wait + Sync + Send + Clone + Drop + 'static),
+    rt: &(impl Abort
+        + Files<File = File>
+        + Threads
+        + Clock
+        + Wait
+        + Sync
+        + Send
+        + Clone
+        + Drop
+        + 'static),
     alloc: Global,
     lines: &[Line],
 ) {
@@ -53,7 +72,16 @@ pub fn expect_lines(
 }
 
 fn expect_check(
-    rt: &(impl Abort + Files<File = File> + Threads + Wait + Sync + Send + Clone + Drop + 'static),
+    rt: &(impl Abort
+        + Files<File = File>
+        + Threads
+        + Clock
+        + Wait
+        + Sync
+        + Send
+        + Clone
+        + Drop
+        + 'static),
     alloc: Global,
     input: &[u8],
     printed: &str,
@@ -189,7 +217,16 @@ fn checks_level_2(rt: HostRuntime) -> Result<(), Fail> {
 
 /// Levels 0 and 1 with this line for rank 6, and then a line that is not of the form.
 fn expect_before(
-    rt: &(impl Abort + Files<File = File> + Threads + Wait + Sync + Send + Clone + Drop + 'static),
+    rt: &(impl Abort
+        + Files<File = File>
+        + Threads
+        + Clock
+        + Wait
+        + Sync
+        + Send
+        + Clone
+        + Drop
+        + 'static),
     alloc: Global,
     line: &str,
     printed: &str,
@@ -277,7 +314,16 @@ impl Write for Stuck {
 
 /// The status of `check`, of what this reader gives to this writer.
 fn check_status(
-    rt: &(impl Abort + Files<File = File> + Threads + Wait + Sync + Send + Clone + Drop + 'static),
+    rt: &(impl Abort
+        + Files<File = File>
+        + Threads
+        + Clock
+        + Wait
+        + Sync
+        + Send
+        + Clone
+        + Drop
+        + 'static),
     alloc: Global,
     reader: &mut impl Read,
     writer: &mut impl Write,

@@ -12,6 +12,7 @@ use std::rt::Files;
 use std::sync::Wait;
 use std::test::Fail;
 use std::thread::Threads;
+use std::time::Clock;
 
 /// The twelve boards whose forced moves lead in a circle, and the one that leads into it, as ranks and
 /// distances. All are worth 0.
@@ -162,6 +163,7 @@ fn expect_deceit(
     rt: &(impl Abort
         + Files<File = File>
         + Threads
+        + Clock
         + Wait
         + Sync
         + Send

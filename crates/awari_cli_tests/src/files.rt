@@ -10,6 +10,7 @@ use std::rt::Files;
 use std::sync::Wait;
 use std::test::Fail;
 use std::thread::Threads;
+use std::time::Clock;
 use std::{fs, io};
 
 const RIGHT_LEVELS_0_TO_1: &str = "\
@@ -46,6 +47,7 @@ fn expect_refusal(
     rt: &(impl Abort
         + Files<File = File>
         + Threads
+        + Clock
         + Wait
         + Sync
         + Send
@@ -73,6 +75,7 @@ fn expect_refusals(
     rt: &(impl Abort
         + Files<File = File>
         + Threads
+        + Clock
         + Wait
         + Sync
         + Send

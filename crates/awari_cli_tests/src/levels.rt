@@ -7,6 +7,7 @@ use std::process::Abort;
 use std::rt::Files;
 use std::sync::Wait;
 use std::thread::Threads;
+use std::time::Clock;
 use std::{fs, io};
 
 const CYCLE: &str = "1,0,0,0,0,0/1,0,0,0,0,0";
@@ -56,7 +57,16 @@ level 12 boards 1352078 won 714572 even 197753 lost 439753 limit 184
 
 /// Runs `build` up to this level, with no folder.
 pub fn expect_built(
-    rt: &(impl Abort + Files<File = File> + Threads + Wait + Sync + Send + Clone + Drop + 'static),
+    rt: &(impl Abort
+        + Files<File = File>
+        + Threads
+        + Clock
+        + Wait
+        + Sync
+        + Send
+        + Clone
+        + Drop
+        + 'static),
     alloc: Global,
     top: &str,
     printed: &str,
@@ -119,6 +129,7 @@ pub fn expect_in_folder(
     rt: &(impl Abort
         + Files<File = File>
         + Threads
+        + Clock
         + Wait
         + Sync
         + Send

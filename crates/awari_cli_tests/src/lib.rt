@@ -24,6 +24,8 @@ mod plain;
 #[cfg(test)]
 mod plays;
 #[cfg(test)]
+mod progress;
+#[cfg(test)]
 mod refusals;
 #[cfg(test)]
 mod services;

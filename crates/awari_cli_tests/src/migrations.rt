@@ -11,6 +11,7 @@ use std::rt::Files;
 use std::sync::Wait;
 use std::test::Fail;
 use std::thread::Threads;
+use std::time::Clock;
 use std::{fs, io};
 
 /// A new folder of this name.
@@ -61,6 +62,7 @@ fn build(
     rt: &(impl Abort
         + Files<File = File>
         + Threads
+        + Clock
         + Wait
         + Sync
         + Send
@@ -212,7 +214,16 @@ const NOWHERE: &str = "awari_cli_test_nowhere";
 
 /// Brings the levels of one folder over into the other.
 fn expect_migrated(
-    rt: &(impl Abort + Files<File = File> + Threads + Wait + Sync + Send + Clone + Drop + 'static),
+    rt: &(impl Abort
+        + Files<File = File>
+        + Threads
+        + Clock
+        + Wait
+        + Sync
+        + Send
+        + Clone
+        + Drop
+        + 'static),
     alloc: Global,
     (from, to): (&str, &str),
     printed: &str,
@@ -225,7 +236,16 @@ fn expect_migrated(
 /// What the command says of a folder of older files, of one that isn't there, and of one that has
 /// files already.
 fn expect_moves(
-    rt: &(impl Abort + Files<File = File> + Threads + Wait + Sync + Send + Clone + Drop + 'static),
+    rt: &(impl Abort
+        + Files<File = File>
+        + Threads
+        + Clock
+        + Wait
+        + Sync
+        + Send
+        + Clone
+        + Drop
+        + 'static),
     alloc: Global,
     from: &str,
     to: &str,

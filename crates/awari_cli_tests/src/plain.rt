@@ -3,11 +3,13 @@
 //! test runs.
 
 use awari_build::Pace;
-use awari_cli::{run_ask, run_build_in, run_line, run_verify};
+use awari_cli::{Builder, ProgressLines, run_ask, run_build_in, run_line, run_verify};
 use awari_folder::MemoryFolder;
+use awari_phase::{Progress, Silent};
 use std::alloc::Global;
 use std::sync::Wait;
 use std::thread::Threads;
+use std::time::Clock;
 
 /// A build by one part.
 const ALONE: Pace = Pace {
@@ -42,7 +44,37 @@ pub fn build(
     folder: &mut MemoryFolder,
     output: &mut Vec<u8>,
 ) -> u8 {
-    run_build_in(rt, folder, rt.alloc(), 1, ALONE, output)
+    build_to(rt, folder, 1, &mut Silent, output)
+}
+
+/// Builds up to this level in the folder by one part, and gives the status.
+fn build_to(
+    rt: &(impl AllocGlobal + Threads + Wait + Sync),
+    folder: &mut MemoryFolder,
+    top: u8,
+    progress: &mut impl Progress,
+    output: &mut Vec<u8>,
+) -> u8 {
+    let mut builder = Builder {
+        rt,
+        alloc: rt.alloc(),
+        pace: ALONE,
+        progress,
+    };
+    run_build_in(&mut builder, folder, top, output)
+}
+
+/// Builds up to this level by one part, tells on this stream how far it is, and gives the status.
+pub fn build_telling(
+    rt: &(impl AllocGlobal + Threads + Wait + Sync),
+    clock: &impl Clock,
+    top: u8,
+    errors: &mut Vec<u8>,
+) -> u8 {
+    let mut output = Vec::new(rt.alloc());
+    let mut folder = memory_folder(rt.alloc());
+    let mut lines = ProgressLines::new(clock, errors);
+    build_to(rt, &mut folder, top, &mut lines, &mut output)
 }
 
 /// Verifies the folder, and gives the status.

@@ -18,6 +18,7 @@ use std::rt::Files;
 use std::sync::{Arc, Wait};
 use std::test::Fail;
 use std::thread::Threads;
+use std::time::Clock;
 use std::{fs, str};
 
 const INPUT: &str = "\
@@ -318,7 +319,16 @@ fn more_bytes_than_a_service_takes(rt: HostRuntime) -> Result<(), Fail> {
 /// Asks for a board of level 2 many times while that level is built by three owners: once there is an
 /// answer, there is one to each further line.
 fn expect_growing(
-    rt: &(impl Abort + Files<File = File> + Threads + Wait + Sync + Send + Clone + Drop + 'static),
+    rt: &(impl Abort
+        + Files<File = File>
+        + Threads
+        + Clock
+        + Wait
+        + Sync
+        + Send
+        + Clone
+        + Drop
+        + 'static),
     alloc: Global,
 ) -> Result<(), Fail> {
     let input = ASK_CYCLE.repeat(alloc, 2000)?;
@@ -356,7 +366,16 @@ const BUILT: [Line; 1] = [(
 
 /// Builds two levels into the folder, serves them, and then builds a third while it serves.
 fn expect_service(
-    rt: &(impl Abort + Files<File = File> + Threads + Wait + Sync + Send + Clone + Drop + 'static),
+    rt: &(impl Abort
+        + Files<File = File>
+        + Threads
+        + Clock
+        + Wait
+        + Sync
+        + Send
+        + Clone
+        + Drop
+        + 'static),
     alloc: Global,
 ) -> Result<(), Fail> {
     expect_lines(rt, alloc, &BUILT);
@@ -390,7 +409,16 @@ const FIVE_BUILT: [Line; 2] = [
 
 /// The board of README.md is asked of a folder with its level, and what is said there is the answer.
 fn expect_moves(
-    rt: &(impl Abort + Files<File = File> + Threads + Wait + Sync + Send + Clone + Drop + 'static),
+    rt: &(impl Abort
+        + Files<File = File>
+        + Threads
+        + Clock
+        + Wait
+        + Sync
+        + Send
+        + Clone
+        + Drop
+        + 'static),
     alloc: Global,
 ) {
     let words = ["awari", "serve", WEIGHED, "4", "0"];

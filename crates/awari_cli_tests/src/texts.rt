@@ -5,6 +5,7 @@ use crate::expect::expect_equal;
 use crate::levels::{LEVELS_0_TO_2, empty_folder, expect_in_folder};
 use crate::worths::LEVELS_3_TO_4;
 use awari_cli::run;
+use sha2::{Digest, Sha256};
 use std::alloc::Global;
 use std::fs;
 use std::fs::File;
@@ -14,6 +15,7 @@ use std::rt::Files;
 use std::sync::Wait;
 use std::test::Fail;
 use std::thread::Threads;
+use std::time::Clock;
 
 const ALONE: &str = "awari_cli_test_text_alone";
 
@@ -71,7 +73,16 @@ fn levels_are_printed_alone(rt: HostRuntime) -> Result<(), Fail> {
 
 /// The status of `text`, of the levels in this folder and this writer.
 fn text_status(
-    rt: &(impl Abort + Files<File = File> + Threads + Wait + Sync + Send + Clone + Drop + 'static),
+    rt: &(impl Abort
+        + Files<File = File>
+        + Threads
+        + Clock
+        + Wait
+        + Sync
+        + Send
+        + Clone
+        + Drop
+        + 'static),
     alloc: Global,
     folder: &str,
     writer: &mut impl Write,
@@ -95,7 +106,14 @@ const BUILT_TO_2: [Line; 1] = [(&["awari", "build", "2", "--folder", ALL], LEVEL
 
 const BUILT_TO_4: [Line; 1] = [(&["awari", "build", "4", "--folder", ALL], LEVELS_3_TO_4, 0)];
 
-/// The levels to 2 are printed as they were worked by hand, and those to 4 so that `check` says yes.
+/// The SHA-256 of the text of levels 0 to 4, as a program that shares nothing with this one made it.
+const TEXT_OF_LEVELS_0_TO_4: [u8; 32] = [
+    0x9c, 0x0b, 0xf1, 0x3b, 0x38, 0x10, 0x7a, 0xb0, 0x6c, 0xa3, 0xdf, 0x8f, 0x0b, 0x80, 0x2a, 0xb8,
+    0x29, 0x78, 0x44, 0xf6, 0xae, 0x78, 0x3a, 0xe6, 0x7b, 0x90, 0xc2, 0xdb, 0xf0, 0x96, 0xe2, 0x41,
+];
+
+/// The levels to 2 are printed as they were worked by hand, and those to 4 as another program made them,
+/// and so that `check` says yes.
 #[test]
 fn what_is_printed_is_checked(rt: HostRuntime) -> Result<(), Fail> {
     empty_folder(&rt, ALL)?;
@@ -107,6 +125,8 @@ fn what_is_printed_is_checked(rt: HostRuntime) -> Result<(), Fail> {
     let mut output = Vec::new(rt.alloc());
     let status = text_status(&rt, rt.alloc(), ALL, &mut output);
     expect_equal(&rt, ALL, status, 0);
+    let digest: [u8; 32] = Sha256::digest(output.as_slice());
+    expect_equal(&rt, "digest", digest, TEXT_OF_LEVELS_0_TO_4);
     let words = ["awari", "check"];
     let yes = "yes levels 5 limit 38\n";
     expect_run(&rt, rt.alloc(), words.as_slice(), &output, yes, 0);

@@ -10,6 +10,7 @@ use std::process::Abort;
 use std::rt::Files;
 use std::sync::Wait;
 use std::thread::Threads;
+use std::time::Clock;
 use std::{fs, io, str};
 
 const WON: &str = "1,0,0,0,0,0/0,0,1,0,0,0";
@@ -75,7 +76,16 @@ fn numbers_in_other_forms(rt: HostRuntime) {
 
 /// Whether the text that these words bring goes to the error stream, and has this in it.
 fn expect_usage(
-    rt: &(impl Abort + Files<File = File> + Threads + Wait + Sync + Send + Clone + Drop + 'static),
+    rt: &(impl Abort
+        + Files<File = File>
+        + Threads
+        + Clock
+        + Wait
+        + Sync
+        + Send
+        + Clone
+        + Drop
+        + 'static),
     alloc: Global,
     words: &[&str],
     part: &str,
@@ -119,7 +129,16 @@ const COMMANDS: [&str; 11] = [
 
 /// Whether the help of this command is its own, of at most 24 lines of at most 80 characters.
 fn expect_screen(
-    rt: &(impl Abort + Files<File = File> + Threads + Wait + Sync + Send + Clone + Drop + 'static),
+    rt: &(impl Abort
+        + Files<File = File>
+        + Threads
+        + Clock
+        + Wait
+        + Sync
+        + Send
+        + Clone
+        + Drop
+        + 'static),
     alloc: Global,
     command: &str,
 ) {
@@ -152,7 +171,16 @@ fn each_help_is_a_screen(rt: HostRuntime) {
 
 /// Runs `build` up to level 1 in the folder, whose lines can't be written.
 fn build_unwritten(
-    rt: &(impl Abort + Files<File = File> + Threads + Wait + Sync + Send + Clone + Drop + 'static),
+    rt: &(impl Abort
+        + Files<File = File>
+        + Threads
+        + Clock
+        + Wait
+        + Sync
+        + Send
+        + Clone
+        + Drop
+        + 'static),
     alloc: Global,
     folder: &str,
 ) {

@@ -13,6 +13,7 @@ use std::rt::Files;
 use std::sync::{Arc, Wait};
 use std::test::Fail;
 use std::thread::Threads;
+use std::time::Clock;
 
 /// So many levels, built.
 fn built(alloc: Global, levels: u8) -> Result<Shelf, Fail> {
@@ -91,7 +92,16 @@ fn levels_0_to_3(alloc: Global, first: &str) -> Result<String, Fail> {
 
 /// What `check` prints of levels 0 to 3, with this line for the first board of level 3.
 fn expect_checked(
-    rt: &(impl Abort + Files<File = File> + Threads + Wait + Sync + Send + Clone + Drop + 'static),
+    rt: &(impl Abort
+        + Files<File = File>
+        + Threads
+        + Clock
+        + Wait
+        + Sync
+        + Send
+        + Clone
+        + Drop
+        + 'static),
     alloc: Global,
     first: &str,
     printed: &str,

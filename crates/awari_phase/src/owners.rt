@@ -20,6 +20,7 @@ pub struct Owner {
     pub ends: Ends,
     pub outboxes: Outboxes,
     pub(crate) fault: Option<OwnerFault>,
+    boards_spread: usize,
     ghost queues: { length outboxes.queues ≡ owners_of ends },
     ghost numbered: { outboxes.owner ≡ ends.owner },
     ghost part_of: { IsPartOf part outboxes },
@@ -47,7 +48,13 @@ impl Owner {
             ends,
             outboxes,
             fault: None,
+            boards_spread: 0,
         }
+    }
+
+    /// How many boards of its part are settled and were spread.
+    pub(crate) fn settled_boards(&self) -> usize {
+        self.boards_spread
     }
 
     /// Takes at most one batch from another owner. True where there was one.
@@ -111,6 +118,7 @@ impl Owner {
         ensures stopped { IfErr result (Stopped self.old self.new) }
     {
         let done = spread_one(&mut self.part, &mut self.outboxes)?;
+        self.boards_spread = self.boards_spread.saturating_add(usize::from(done));
         Ok(done)
     }
 

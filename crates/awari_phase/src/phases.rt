@@ -13,6 +13,7 @@ use crate::faults::PhaseFault;
 use crate::gates::Gate;
 use crate::openings::open_waves;
 use crate::owners::Owner;
+use crate::progress::{Progress, Silent};
 use crate::rounding::{round, round_in_turn};
 use crate::settling::settle_owners;
 use std::sync::Wait;
@@ -61,9 +62,32 @@ pub fn gain_phase<R: Threads + Wait + Sync, G: Gate + Sync>(
     ensures refused { IfErr result (IsRefusal owners.items) }
     ensures wanting { IfErr result (λ fault. (value : List ℕ → ℤ) (n : ℕ) → n ≤ HIGHEST_LEVEL → AreTogether value n owners.items → IsWant fault) }
 {
+    gain_phase_with_progress(rt, owners, gate, sweeps, &mut Silent)
+}
+
+/// What `gain_phase` does; after each round `progress` is told which gain is open, and how many boards
+/// are settled.
+pub fn gain_phase_with_progress<R: Threads + Wait + Sync, G: Gate + Sync, P: Progress>(
+    rt: &R,
+    owners: Vec<Owner>,
+    gate: &G,
+    sweeps: u32,
+    progress: &mut P,
+) -> Result<Vec<Owner>, PhaseFault>
+    requires sweeps { (1 ≤ sweeps) × (sweeps ≤ 1000) }
+    requires grid { IsGrid (all_ends owners.items) }
+    ensures grown { IfOk result (λ all. AllGrown owners.items all.items) }
+    ensures idle { IfOk result (λ all. AreIdle all.items) }
+    ensures sent { IfOk result (λ all. AreSent all.items) }
+    ensures received { IfOk result (λ all. AreReceived all.items) }
+    ensures finished { IfOk result (λ all. (value : List ℕ → ℤ) (n : ℕ) → AreFinished value n owners.items → AreFinished value n all.items) }
+    ensures refused { IfErr result (IsRefusal owners.items) }
+    ensures wanting { IfErr result (λ fault. (value : List ℕ → ℤ) (n : ℕ) → n ≤ HIGHEST_LEVEL → AreTogether value n owners.items → IsWant fault) }
+{
     let mut all = round(rt, owners, gate, sweeps)?;
     let mut in_turn = false;
     for _ in rt.forever() {
+        tell(progress, all.as_slice());
         let Some(next) = look_ahead(&mut all, in_turn) else {
             return Ok(all);
         };
@@ -122,6 +146,22 @@ fn fresh_boards(owners: &[Owner]) -> usize {
     owners.iter().fold(
         0,
         |sum: usize, owner: &Owner| sum.saturating_add(owner.part.fresh_boards()),
+    )
+}
+
+/// Tells which gain is open, and how many boards are settled, of all owners together.
+fn tell<P: Progress>(progress: &mut P, owners: &[Owner]) {
+    if let Some(owner) = owners.first() {
+        let gain = owner.part.gain();
+        progress.settled(usize::from(gain), settled_boards(owners));
+    }
+}
+
+/// How many boards are settled and were spread, of all owners together.
+fn settled_boards(owners: &[Owner]) -> usize {
+    owners.iter().fold(
+        0,
+        |sum: usize, owner: &Owner| sum.saturating_add(owner.settled_boards()),
     )
 }
 

@@ -18,11 +18,20 @@ ask_row = refl
 pub build_row : named (codes "awari" ∷ codes "build" ∷ codes "--owners" ∷ codes "4" ∷ codes "12" ∷ [])
     ≡ Some (
       codes "build",
-      (codes "owners", codes "4" ∷ []) ∷ (codes "TOP", codes "12" ∷ [])
+      (codes "owners", codes "4" ∷ []) ∷ (codes "TOP", codes "12" ∷ []) ∷ (codes "progress", codes "false" ∷ [])
           ∷ (codes "room", codes "64" ∷ []) ∷ (codes "sweeps", codes "1000" ∷ []) ∷ [],
     )
 unfolding clap_on_literals
 build_row = refl
+
+pub progress_row : named (codes "awari" ∷ codes "build" ∷ codes "12" ∷ codes "--progress" ∷ [])
+    ≡ Some (
+      codes "build",
+      (codes "TOP", codes "12" ∷ []) ∷ (codes "progress", codes "true" ∷ []) ∷ (codes "owners", codes "0" ∷ [])
+          ∷ (codes "room", codes "64" ∷ []) ∷ (codes "sweeps", codes "1000" ∷ []) ∷ [],
+    )
+unfolding clap_on_literals
+progress_row = refl
 
 pub hyphen_row : named (codes "awari" ∷ codes "verify" ∷ codes "--" ∷ codes "-levels" ∷ [])
     ≡ Some (codes "verify", (codes "FOLDER", codes "-levels" ∷ []) ∷ [])

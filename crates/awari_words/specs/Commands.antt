@@ -3,6 +3,7 @@
 use Rattle.std.specs.Prelude.{ℕ, List, [], ◌∷◌, ◌++◌, Some, true, false, codes, pos}
 use Rattle.clap.specs.Walk.{Rule}
 use Rattle.clap.specs.Simple.{App, Shape, new_rule, new_shape}
+use Rattle.clap.specs.declared.builder.action.ArgAction.TheVariants.{SetTrue}
 use Rattle.clap.specs.declared.builder.value_parser.ValueParser.{ValueParser}
 use Rattle.clap.specs.declared.builder.value_parser.ValueParser.TheVariants.{Signed, Unsigned}
 
@@ -21,6 +22,10 @@ option name = record (new_rule name) { long = Some name; value_names = 1 }
 -- the same, of a number, with the text that it has where it isn't given
 abbrev pub number_option : List ℕ → ValueParser → List ℕ → Rule
 number_option name numbers default = record (option name) { parser = Some numbers; defaults = default ∷ [] }
+
+-- the flag `--name`
+abbrev pub flag : List ℕ → Rule
+flag name = record (new_rule name) { long = Some name; action = Some SetTrue }
 
 abbrev pub command : List ℕ → List Rule → Shape
 command name words = record (new_shape name) { rules = words }
@@ -53,7 +58,7 @@ pace = number_option (codes "owners") (Unsigned 0 16) (codes "0") ∷ number_opt
     ∷ number_option (codes "sweeps") (Unsigned 1 1000) (codes "1000") ∷ []
 
 abbrev pub build_command : Shape
-build_command = command (codes "build") (top ∷ option (codes "folder") ∷ pace)
+build_command = command (codes "build") (top ∷ option (codes "folder") ∷ flag (codes "progress") ∷ pace)
 
 abbrev pub verify_command : Shape
 verify_command = command (codes "verify") (folder ∷ [])

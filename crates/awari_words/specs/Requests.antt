@@ -1,5 +1,5 @@
 -- Which request the words make: that of the command that they name, with the values that they give to each of its names.
-use Rattle.std.specs.Prelude.{◌≡◌, ◌≢◌, ◌⊎◌, ℕ, ◌<◌, ◌^◌, List, [], Some, None, codes, Option, option_map, unwrap_or}
+use Rattle.std.specs.Prelude.{◌≡◌, ◌≢◌, ◌⊎◌, ℕ, ◌<◌, ◌^◌, Bool, true, false, List, [], Some, None, codes, Option, option_map, unwrap_or}
 use Rattle.std.specs.Str.Parse.{IsNumeral, digits_value, without_leading_plus}
 use Rattle.clap.specs.Matches.{found_of}
 use Rattle.clap.specs.Walk.{Row, first_of, one_of, rows_of}
@@ -40,13 +40,20 @@ IsPaceOf given pace = Spells given (codes "owners") pace.owners × Spells given 
 abbrev pub IsNoPace : List Row → Type 0
 IsNoPace given = SpellsNone 8 given (codes "owners") ⊎ SpellsNone 32 given (codes "room") ⊎ SpellsNone 32 given (codes "sweeps")
 
+-- the flag is true where its value is said to be `true`, and false where that is `false` or there is none
+pub record IsFlagOf (given : List Row) (id : List ℕ) (flag : Bool) : Type 0 where
+  pub lacks : one_of id given ≡ None → flag ≡ false
+  pub set : one_of id given ≡ Some (codes "true") → flag ≡ true
+  pub unset : one_of id given ≡ Some (codes "false") → flag ≡ false
+
 -- The request is that of the command's name, with the values that were given for each of its names.
 abbrev pub IsRequestOf : List ℕ → List Row → Request → Type 0
 IsRequestOf name given Check = name ≡ codes "check"
 IsRequestOf name given (Move board pit) = (name ≡ codes "move") × Gives given (codes "BOARD") board.now × Spells given (codes "PIT") pit
 IsRequestOf name given (Judge board limit moves) = (name ≡ codes "judge") × Gives given (codes "BOARD") board.now × Spells given (codes "LIMIT") limit
     × (moves.now ≡ unwrap_or (first_of (codes "MOVES") given) [])
-IsRequestOf name given (Build top folder pace) = (name ≡ codes "build") × Spells given (codes "TOP") top × (option_map (λ f. f.now) folder ≡ first_of (codes "folder") given) × IsPaceOf given pace
+IsRequestOf name given (Build top folder pace progress) = (name ≡ codes "build") × Spells given (codes "TOP") top × (option_map (λ f. f.now) folder ≡ first_of (codes "folder") given) × IsPaceOf given pace
+    × IsFlagOf given (codes "progress") progress
 IsRequestOf name given (Verify folder) = (name ≡ codes "verify") × Gives given (codes "FOLDER") folder.now
 IsRequestOf name given (Text folder level) = (name ≡ codes "text") × Gives given (codes "FOLDER") folder.now × SpellsOr given (codes "LEVEL") level
 IsRequestOf name given (Migrate from to) = (name ≡ codes "migrate") × Gives given (codes "FROM") from.now × Gives given (codes "TO") to.now

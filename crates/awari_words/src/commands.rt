@@ -11,6 +11,7 @@ ghost use Rattle.awari_words.specs.Commands.{
   build_command,
   check_command,
   command,
+  flag,
   folder,
   folder_commands,
   judge_command,
@@ -39,7 +40,7 @@ use crate::helps::{
 use awari_build::{MOST_OWNERS, MOST_ROOM, MOST_SWEEPS};
 use awari_table::HIGHEST_LEVEL;
 use clap::builder::ValueParser;
-use clap::{Arg, Command, value_parser};
+use clap::{Arg, ArgAction, Command, value_parser};
 use std::alloc::{AllocError, Global};
 
 /// The program with all its commands.
@@ -195,6 +196,7 @@ fn build_command<'a>(alloc: Global) -> Result<Command<'a>, AllocError>
     );
     let command = with_word(command, top(alloc));
     let command = with_word(command, start_folder(alloc));
+    let command = with_word(command, progress(alloc));
     with_pace(alloc, command)
 }
 
@@ -214,6 +216,15 @@ fn start_folder<'a>(alloc: Global) -> Arg<'a>
         .long("folder")
         .value_name("FOLDER")
         .help("Begin above this folder's levels, and save each there")
+}
+
+fn progress<'a>(alloc: Global) -> Arg<'a>
+    ensures { IsArg result (flag (codes "progress")) }
+{
+    Arg::new(alloc, "progress")
+        .long("progress")
+        .action(ArgAction::SetTrue)
+        .help("Tell on the error stream how far a level is")
 }
 
 /// The command with the options of a pace.

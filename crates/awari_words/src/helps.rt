@@ -58,10 +58,9 @@ It prints a line for each level that it builds, the lowest first:
 
 S boards, of which the mover wins A, holds B even and loses C; K is the greatest
 distance. A folder's levels are verified first, and stay. One builder at a time
-may save there. W, R and S change no level, only how soon it comes.
-
-The status is 0, or 1 for a refusal; the lines before it stand. docs/FORMATS.md
-tells each refusal, and how much memory and time a level takes.";
+may save there. W, R and S change no level, only how soon it comes. The status
+is 0, or 1 for a refusal; the lines before it stand. docs/FORMATS.md tells each,
+and how much memory and time a level takes.";
 
 pub const VERIFY_HELP: &str = "\
 It prints a line for each level, in order, and one for them all:

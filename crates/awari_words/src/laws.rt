@@ -25,7 +25,15 @@ pub fn worked_words()
     ensures build { named (codes "awari" ∷ codes "build" ∷ codes "--owners" ∷ codes "4" ∷ codes "12" ∷ [])
         ≡ Some (
           codes "build",
-          (codes "owners", codes "4" ∷ []) ∷ (codes "TOP", codes "12" ∷ [])
+          (codes "owners", codes "4" ∷ []) ∷ (codes "TOP", codes "12" ∷ []) ∷ (codes "progress", codes "false" ∷ [])
+              ∷ (codes "room", codes "64" ∷ []) ∷ (codes "sweeps", codes "1000" ∷ []) ∷ [],
+        ) }
+
+    // A flag has the value that says whether it is given.
+    ensures progress { named (codes "awari" ∷ codes "build" ∷ codes "12" ∷ codes "--progress" ∷ [])
+        ≡ Some (
+          codes "build",
+          (codes "TOP", codes "12" ∷ []) ∷ (codes "progress", codes "true" ∷ []) ∷ (codes "owners", codes "0" ∷ [])
               ∷ (codes "room", codes "64" ∷ []) ∷ (codes "sweeps", codes "1000" ∷ []) ∷ [],
         ) }
 

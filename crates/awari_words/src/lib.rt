@@ -3,7 +3,7 @@
 //! The request that they name is done, in `crates/awari_cli/src/runs.rt`:
 //!
 //!     match request_of(alloc, words) {
-//!         Ok(Some(request)) => run_request(rt, alloc, request, reader, writer),
+//!         Ok(Some(request)) => run_request(rt, alloc, request, reader, writer, errors),
 //!         // `clap` lets no other command through.
 //!         Ok(None) => 2,
 //!         Err(error) => {

@@ -8,6 +8,7 @@ ghost use Rattle.clap.specs.Walk.{first_of};
 ghost use Rattle.awari_words.specs.Commands.{awari_commands};
 ghost use Rattle.awari_words.specs.Requests.{
   IsAsked,
+  IsFlagOf,
   IsNoPace,
   IsNoRequest,
   IsPaceOf,
@@ -40,11 +41,13 @@ pub enum Request<'a> {
         limit: u32,
         moves: &'a str,
     },
-    /// `build TOP [--folder FOLDER] [--owners W] [--room R] [--sweeps S]`: the levels up to this one.
+    /// `build TOP [--folder FOLDER] [--progress] [--owners W] [--room R] [--sweeps S]`: the levels up to
+    /// this one.
     Build {
         top: u8,
         folder: Option<&'a str>,
         pace: Pace,
+        progress: bool,
     },
     /// `verify FOLDER`: whether the levels in a folder are right.
     Verify {
@@ -156,6 +159,7 @@ fn build_request<'a>(given: &ArgMatches<'a>) -> Option<Request<'a>>
         top: byte(given, "TOP")?,
         folder: text(given, "folder"),
         pace: pace_of(given)?,
+        progress: flag(given, "progress"),
     })
 }
 
@@ -246,6 +250,13 @@ fn text<'a>(given: &ArgMatches<'a>, name: &str) -> Option<&'a str>
     ensures { option_map (λ s. s.now) result ≡ first_of name.now (values given.now) }
 {
     given.get_str(name)
+}
+
+/// Whether the flag of this name was given.
+fn flag(given: &ArgMatches<'_>, name: &str) -> bool
+    ensures { IsFlagOf (values given.now) name.now result }
+{
+    given.get_flag(name)
 }
 
 /// The value of this name, where it spells a number below 2^8.

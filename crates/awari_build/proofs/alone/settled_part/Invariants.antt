@@ -5,7 +5,7 @@ use Rattle.awari_build.specs.Sound.{IsSound}
 use Rattle.awari_build.proofs.alone.settled_part.Given as goal
 
 abbrev pub invariant-loop-part : goal.invariant-loop-part
-invariant-loop-part l = record {
+invariant-loop-part g l = record {
   whole : IsWhole l.part;
   level : l.part.level ≡ length l.shelf;
   alone : (l.outboxes.owner ≡ 0) × (length l.outboxes.queues ≡ 1);
@@ -14,4 +14,4 @@ invariant-loop-part l = record {
 }
 
 abbrev pub decreases-loop-part : goal.decreases-loop-part
-decreases-loop-part l = l.part.gain
+decreases-loop-part g l = l.part.gain

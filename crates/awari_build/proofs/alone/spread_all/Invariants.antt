@@ -5,7 +5,7 @@ use Rattle.awari_build.specs.Sound.{IsSound}
 use Rattle.awari_build.proofs.alone.spread_all.Given as goal
 
 abbrev pub invariant-loop-dist : goal.invariant-loop-dist
-invariant-loop-dist l = record {
+invariant-loop-dist g l = record {
   whole : IsWhole l.part;
   alone : (l.outboxes.owner ≡ 0) × (length l.outboxes.queues ≡ 1);
   level : l.part.level ≡ l.fn.part.level;
@@ -14,4 +14,4 @@ invariant-loop-dist l = record {
 }
 
 abbrev pub decreases-loop-dist : goal.decreases-loop-dist
-decreases-loop-dist l = unspread l.part
+decreases-loop-dist g l = unspread l.part

@@ -5,8 +5,8 @@ use Rattle.awari_phase.specs.Owners.{AreFinished, AreTogether, all_ends}
 use Rattle.awari_build.proofs.Gains.{next_open, opened_together, phase_ends}
 use Rattle.awari_build.proofs.owned.closed_gain.Goals as goal
 
-pub gain_phase-requires-clause-grid : goal.gain_phase-requires-clause-grid
-gain_phase-requires-clause-grid g c κs within =
+pub gain_phase_with_progress-requires-clause-grid : goal.gain_phase_with_progress-requires-clause-grid
+gain_phase_with_progress-requires-clause-grid g c κs within =
     let same = written c.open_gain.new.owners c.args.owners.items c.args.owners.len (c.open_gain.auto.owners ∙ ap length c.as_mut_slice.ensures.value ∙ sym c.args.owners.ok.0) (sym c.args.owners.ok.0) in
     let rest = c.requires.rest in
     subst (λ l. IsGrid (all_ends l)) (sym same) (c.open_gain.ensures.finished rest.0 rest.1 (subst (AreFinished rest.0 rest.1) (sym c.as_mut_slice.ensures.value) rest.4.finished)).grid

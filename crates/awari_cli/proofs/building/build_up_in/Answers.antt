@@ -3,8 +3,8 @@ use Rattle.awari_cli.proofs.BuildLaws.{built_none, built_more}
 use Rattle.awari_cli.proofs.FolderBuilds.{is_known, longer_by_one, more_files}
 use Rattle.awari_cli.proofs.building.build_up_in.Goals as goal
 
-pub loop-alloc-init : goal.loop-alloc-init
-loop-alloc-init g c = record {
+pub loop-builder-init : goal.loop-builder-init
+loop-builder-init g c = record {
   built = built_none _ _;
   planned = λ lowest. lowest;
   holds = λ held. held;
@@ -15,12 +15,12 @@ loop-alloc-init g c = record {
   crash = λ names are n c left. inl left;
 }
 
-pub loop-alloc-preserved : goal.loop-alloc-preserved
-loop-alloc-preserved g c =
-    let i = c.loop-alloc.invariant in
+pub loop-builder-preserved : goal.loop-builder-preserved
+loop-builder-preserved g c =
+    let i = c.loop-builder.invariant in
     let e = c.save_next.ensures in
     let (image, put, tells) = c.in-Ok.ensures.built in
-    let size : length c.save_next.new.shelf ≡ length c.loop-alloc.shelf + 1 = longer_by_one c.loop-alloc.shelf image c.save_next.new.shelf put in
+    let size : length c.save_next.new.shelf ≡ length c.loop-builder.shelf + 1 = longer_by_one c.loop-builder.shelf image c.save_next.new.shelf put in
     record {
       built = built_more _ _ _ image c.in-Ok.told _ _ _ i.built put tells (c.print.ensures c.if-not-print.false);
       planned = λ lowest. c.in-Ok.ensures.planned (i.planned lowest);
@@ -30,17 +30,17 @@ loop-alloc-preserved g c =
       below = λ n low. e.others n (λ same. omega (arith, low, i.longer, same)) ∙ i.below n low;
       above = λ n high. e.others n (λ same. omega (arith, high, size, same)) ∙ i.above n (omega (arith, high, size));
       crash = λ names are. more_files _ _ _ _ _ i.longer (i.crash names are)
-          (e.crash (is_known _ (names (length c.loop-alloc.shelf)) (i.above (length c.loop-alloc.shelf) (omega arith) ∙ are (length c.loop-alloc.shelf))));
+          (e.crash (is_known _ (names (length c.loop-builder.shelf)) (i.above (length c.loop-builder.shelf) (omega arith) ∙ are (length c.loop-builder.shelf))));
     }
 
 pub returns-then-not-print-clause-crash : goal.returns-then-not-print-clause-crash
 returns-then-not-print-clause-crash g c = λ names are.
-    let i = c.loop-alloc.invariant in
+    let i = c.loop-builder.invariant in
     more_files _ _ _ _ _ i.longer (i.crash names are)
-    (c.save_next.ensures.crash (is_known _ (names (length c.loop-alloc.shelf)) (i.above (length c.loop-alloc.shelf) (omega arith) ∙ are (length c.loop-alloc.shelf))))
+    (c.save_next.ensures.crash (is_known _ (names (length c.loop-builder.shelf)) (i.above (length c.loop-builder.shelf) (omega arith) ∙ are (length c.loop-builder.shelf))))
 
 pub returns-in-Err-clause-crash : goal.returns-in-Err-clause-crash
 returns-in-Err-clause-crash g c = λ names are.
-    let i = c.loop-alloc.invariant in
+    let i = c.loop-builder.invariant in
     more_files _ _ _ _ _ i.longer (i.crash names are)
-    (c.save_next.ensures.crash (is_known _ (names (length c.loop-alloc.shelf)) (i.above (length c.loop-alloc.shelf) (omega arith) ∙ are (length c.loop-alloc.shelf))))
+    (c.save_next.ensures.crash (is_known _ (names (length c.loop-builder.shelf)) (i.above (length c.loop-builder.shelf) (omega arith) ∙ are (length c.loop-builder.shelf))))

@@ -5,8 +5,8 @@ use Rattle.awari_cli.specs.Building.{LeavesFiles}
 use Rattle.awari_cli.proofs.BuildLaws.{IsBuilt}
 use Rattle.awari_cli.proofs.building.build_up_in.Given as goal
 
-abbrev pub invariant-loop-alloc : goal.invariant-loop-alloc
-invariant-loop-alloc g l =
+abbrev pub invariant-loop-builder : goal.invariant-loop-builder
+invariant-loop-builder g l =
     let stands = g.F.Folder.stands in
     let may_leave = g.F.Folder.may_leave in
     record {
@@ -20,5 +20,5 @@ invariant-loop-alloc g l =
       crash : (names : ℕ → Option (List ℕ)) → AreNames (stands l.fn.folder) names → LeavesFiles (length l.fn.shelf) (may_leave l.fn.folder) (may_leave l.folder);
     }
 
-abbrev pub decreases-loop-alloc : goal.decreases-loop-alloc
-decreases-loop-alloc g l = l.top + 1 - length l.shelf
+abbrev pub decreases-loop-builder : goal.decreases-loop-builder
+decreases-loop-builder g l = l.top + 1 - length l.shelf

@@ -1,4 +1,4 @@
-use Rattle.awari_words.proofs.WordRows.{ask_row, build_row, check_row, high_row, highest_row, hyphen_row, missing_row, nothing_row, unknown_row}
+use Rattle.awari_words.proofs.WordRows.{ask_row, build_row, check_row, high_row, highest_row, hyphen_row, missing_row, nothing_row, progress_row, unknown_row}
 use Rattle.awari_words.proofs.laws.worked_words.Goals as goal
 
 pub returns : goal.returns
@@ -6,6 +6,7 @@ returns c = record {
   check = check_row;
   ask = ask_row;
   build = build_row;
+  progress = progress_row;
   hyphen = hyphen_row;
   nothing = nothing_row;
   unknown = unknown_row;

@@ -1,6 +1,6 @@
 use Rattle.std.proofs.Common.{ℕ, ℤ, List}
 use Rattle.awari_phase.specs.Owners.{AllGrown, AreTogether}
-use Rattle.awari_phase.proofs.phases.gain_phase.Given as goal
+use Rattle.awari_phase.proofs.phases.gain_phase_with_progress.Given as goal
 
 abbrev pub invariant-loop : goal.invariant-loop
 invariant-loop g l = record {

@@ -1,7 +1,7 @@
 use Rattle.std.proofs.Common.{refl}
 use Rattle.std.proofs.lemmas.Result.{err_from_is_err_and}
 use Rattle.awari_phase.proofs.Gaining.{all_grown_round, all_grown_trans, finished_grown}
-use Rattle.awari_phase.proofs.phases.gain_phase.Goals as goal
+use Rattle.awari_phase.proofs.phases.gain_phase_with_progress.Goals as goal
 
 pub loop-init : goal.loop-init
 loop-init g c = record {

@@ -1,0 +1,26 @@
+//! Who is told how far a build is.
+
+/// Is told how far the build of a level is. What it does with that is its own affair: no level and no
+/// table depends on it.
+pub trait Progress {
+    /// A level of so many stones begins, which has so many boards.
+    fn begin(&mut self, level: usize, boards: usize);
+
+    /// This gain is open, and so many boards of the level are settled and were spread.
+    fn settled(&mut self, gain: usize, boards: usize);
+
+    /// All gains are closed, and the plans are begun.
+    fn plan(&mut self);
+}
+
+/// The one that tells nobody.
+#[derive(Clone, Copy)]
+pub struct Silent;
+
+impl Progress for Silent {
+    fn begin(&mut self, _level: usize, _boards: usize) {}
+
+    fn settled(&mut self, _gain: usize, _boards: usize) {}
+
+    fn plan(&mut self) {}
+}
