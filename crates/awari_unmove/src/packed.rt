@@ -1,8 +1,8 @@
 //! The predecessors of a board in a number, as an iterator, for loops over whole levels.
 
-ghost use Rattle.std.specs.Prelude.{◌≡◌, ℕ, ◌+◌, ◌<◌, ◌≤◌, ◌↔◌, ◌*◌, ◌∷◌, [], IsTrue, None, true, false, length, MatchOption};
+ghost use Rattle.std.specs.Prelude.{◌≡◌, ℕ, ◌+◌, ◌<◌, ◌≤◌, ◌↔◌, ◌*◌, ◌∷◌, [], IsTrue, None, length, IfSome, MatchOption};
 ghost use Rattle.std.specs.Iterator.{YieldsFirst, item_count};
-ghost use Rattle.awari_board.specs.Rules.{IsLegal, captured_stones};
+ghost use Rattle.awari_board.specs.Rules.{IsLegal, captured_stones, landing};
 ghost use Rattle.awari_unmove.specs.Predecessors.{IsPredecessors};
 ghost use Rattle.awari_unmove.specs.Undoing.{IsUndoing, TakesBack, unmove, unmoves_after};
 
@@ -107,39 +107,41 @@ fn step(
         (λ pair. unmoves_after back.now pit.old stones.old ≡ pair ∷ unmoves_after back.now pit.new stones.new) }
 {
     let origin = *pit;
-    if !take_back(back, origin, stones, left) {
+    let Some(last) = take_back(back, origin, stones, left) else {
         *pit += 1;
         *stones = 0;
         *left = *back;
         return None;
-    }
+    };
     let board = *left;
-    if is_quiet(back, &board, origin, landing(origin, *stones)) {
+    if is_quiet(back, &board, origin, last) {
         Some((board, origin))
     } else {
         None
     }
 }
 
-/// Takes one more stone back into pit `origin`, or finds that no more can be taken back: the pit
-/// is not empty now, as one is that was just played, or the pit that the stone fell into is empty.
+/// Takes one more stone back into pit `origin` and gives the pit that it had fallen into, or finds
+/// that no more can be taken back: `origin` is not empty now, as one is that was just played, or the
+/// pit that the stone fell into is empty.
 #[inline(always)]
-fn take_back(back: &PackedBoard, origin: u8, stones: &mut u8, left: &mut PackedBoard) -> bool
+fn take_back(back: &PackedBoard, origin: u8, stones: &mut u8, left: &mut PackedBoard) -> Option<u8>
     requires own { origin < 6 }
     requires undoing { IsUndoing back.now origin stones.old left.old }
-    ensures taken { result ≡ true → TakesBack back.now origin stones.old stones.new left.new }
-    ensures stuck { result ≡ false → (k : ℕ) → stones.old < k → unmove back.now origin k ≡ None }
+    ensures taken { IfSome result (λ _. TakesBack back.now origin stones.old stones.new left.new) }
+    ensures last { IfSome result (λ last. (last ≡ landing origin stones.new) × (last < 12)) }
+    ensures stuck { result ≡ None → (k : ℕ) → stones.old < k → unmove back.now origin k ≡ None }
 {
     if back.pit(origin) > 0 {
-        return false;
+        return None;
     }
     let last = landing(origin, *stones + 1);
     if left.pit(last) == 0 {
-        return false;
+        return None;
     }
     *left = left.with_stone_moved(last, origin);
     *stones += 1;
-    true
+    Some(last)
 }
 
 /// Whether the move of pit `origin` that sows to `back` and ends in pit `last` is legal and quiet.

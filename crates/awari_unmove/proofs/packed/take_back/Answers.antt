@@ -27,7 +27,7 @@ overflow_add-stones-2 c =
     omega arith
 
 pub returns-clause-taken : goal.returns-clause-taken
-returns-clause-taken c = λ _. record {
+returns-clause-taken c = record {
   empty = omega (arith, c.pit.ensures);
   more = refl;
   unsowing = rw c.with_stone_moved.ensures (IsUnsowing-moved _ _ _ _ _ (omega arith) c.requires.undoing.unsowing c.landing-last.ensures.pit (omega (arith, c.pit-2.ensures)));
