@@ -1,8 +1,7 @@
 -- The first of the fresh boards in a range.
-use Rattle.std.proofs.Common.{◌≡◌, ℕ, ◌+◌, ◌-◌, ◌*◌, ◌/◌, ◌%◌, ◌<◌, ◌≤◌, ◌==◌, inl, inr, Bool, true, false, List, get_or, Option, Some, None, refl, ap, subst, ◌∙◌, arith}
+use Rattle.std.proofs.Common.{◌≡◌, ℕ, ◌+◌, ◌*◌, ◌/◌, ◌%◌, ◌<◌, ◌≤◌, ◌==◌, inl, inr, Bool, true, false, List, get_or, Option, Some, None, ap, subst, ◌∙◌, arith}
 use Rattle.std.proofs.lemmas.Bool.{cases_lt}
 use Rattle.std.specs.Int.{bit_at}
-use Rattle.std.proofs.lemmas.Nat.Bits.{bit_at-zero}
 use Rattle.awari_owner.specs.declared.cells.Cell.{Cell}
 use Rattle.awari_owner.specs.Fresh.{dist_at, is_marked, IsBefore, IsNearest}
 
@@ -43,35 +42,6 @@ module _ (cells : List Cell) (words : List ℕ) (low : ℕ) where
         | inr not_lt ↦ inr (omega (arith, not_lt, less, farther), omega (arith, at_most, ge))
       ]
 
-  -- nor do boards before it that are farther
-  pub nearest_lower : (lower high b : ℕ) → lower ≤ low → ((k : ℕ) → lower ≤ k → k < low → is_marked words k ≡ true → dist_at cells b < dist_at cells k)
-      → IsNearest cells words low high (Some b) → IsNearest cells words lower high (Some b)
-  nearest_lower lower high b order far (at_least, at_most, is, first) = (
-    omega (arith, order, at_least),
-    at_most,
-    is,
-    λ k above below marked. elim (cases_lt k low) [
-      | inl lt ↦ inl (far k above lt marked)
-      | inr ge ↦ first k (omega (arith, ge)) below marked
-    ],
-  )
-
-  -- where the first one is farther so are all
-  pub all_farther : (high dist : ℕ) (best : Option ℕ) → (((b : ℕ) × (best ≡ Some b) × (dist_at cells b ≤ dist)) → ⊥) → IsNearest cells words low high best
-      → (k : ℕ) → low ≤ k → k < high → is_marked words k ≡ true → dist < dist_at cells k
-  all_farther high dist None not_near none = λ k above below marked. absurd (none k above below marked)
-  all_farther high dist (Some b) not_near (at_least, at_most, is, first) = λ k above below marked. by k (first k above below marked)
-    where
-      by : (k : ℕ) → IsBefore cells b k → dist < dist_at cells k
-      by k before = elim (cases_lt dist (dist_at cells k)) [
-        | inl lt ↦ lt
-        | inr ge ↦ absurd (not_near (b, refl, near k (omega (arith, ge)) before))
-      ]
-        where
-          near : (k : ℕ) → dist_at cells k ≤ dist → IsBefore cells b k → dist_at cells b ≤ dist
-          near k most (inl less) = omega (arith, most, less)
-          near k most (inr (same, _)) = omega (arith, most, same)
-
 -- the mark of a place is a bit of its run's word
 pub mark_is : (words : List ℕ) (run i : ℕ) → i < 64 → is_marked words (64 * run + i) ≡ (bit_at (get_or words run 0) i == 1)
 mark_is words run i within =
@@ -87,13 +57,6 @@ bit_unmarked words run i within clear marked = not_both _ (mark_is words run i w
   where
     not_both : (b : Bool) → b ≡ false → b ≡ true → ⊥
     not_both b e f = grind arith
-
--- a word of 0 marks nothing
-pub zero_unmarked : (words : List ℕ) (run : ℕ) → get_or words run 0 ≡ 0 → (k : ℕ) → 64 * run ≤ k → k < 64 * run + 64 → is_marked words k ≡ true → ⊥
-zero_unmarked words run zero k low high marked =
-    let j = k - 64 * run in
-    let at : k ≡ 64 * run + j = omega (arith, low) in
-    bit_unmarked words run j (omega (arith, low, high)) (ap (λ n. bit_at n j) zero ∙ bit_at-zero j) (subst (λ n. is_marked words n ≡ true) at marked)
 
 -- the marked boards of a run are no nearer than what is kept of it
 pub near_in : (cells : List Cell) (words least : List ℕ) (run : ℕ) → ((k : ℕ) → is_marked words k ≡ true → get_or least (k / 64) 0 ≤ dist_at cells k)

@@ -1,13 +1,12 @@
 -- What a board that becomes fresh keeps.
 use Rattle.std.proofs.Common.{◌≡◌, ℕ, ◌/◌, ◌^◌, ◌<◌, ◌≤◌, inl, inr, Bool, true, false, List, length, get_or, set, sym, ap, subst, ◌∙◌, arith, get_or-set_same, get_or-set_other}
-use Rattle.std.proofs.lemmas.Bool.{cases_lt, cases_eq}
+use Rattle.std.proofs.lemmas.Bool.{cases_eq}
 use Rattle.std.proofs.lemmas.List.{length-set}
 use Rattle.awari_owner.specs.declared.cells.Cell.{Cell}
 use Rattle.awari_owner.specs.Fresh.{dist_at, is_marked, AreKept, MarksOne, UnmarksOne}
-use Rattle.awari_owner.proofs.Nearest.{zero_unmarked}
 
 pub kept_more : (cells : List Cell) (old new least : List ℕ) (place bound : ℕ) → place < length cells → place / 64 < length old → AreKept cells old least → MarksOne place old new
-    → bound ≤ dist_at cells place → (0 < get_or old (place / 64) 0 → bound ≤ get_or least (place / 64) 0) → AreKept cells new (set least (place / 64) bound)
+    → bound ≤ dist_at cells place → bound ≤ get_or least (place / 64) 0 → AreKept cells new (set least (place / 64) bound)
 kept_more cells old new least place bound here room kept marks low lower = record {
   few = subst (λ n. n ≤ 2 ^ 26) (sym marks.size) kept.few;
   runs = length-set least (place / 64) bound ∙ kept.runs ∙ sym marks.size;
@@ -26,20 +25,13 @@ kept_more cells old new least place bound here room kept marks low lower = recor
     within : place / 64 < length least
     within = subst (λ n. place / 64 < n) (sym kept.runs) room
 
-    some_bit : (k : ℕ) → k / 64 ≡ place / 64 → is_marked old k ≡ true → 0 < get_or old (place / 64) 0
-    some_bit k run marked = elim (cases_lt 0 (get_or old (place / 64) 0)) [
-      | inl lt ↦ lt
-      | inr ge ↦ absurd (zero_unmarked old (place / 64) (omega (arith, ge)) k (omega (arith, run)) (omega (arith, run)) marked)
-    ]
-
     in_run : (k : ℕ) → k / 64 ≡ place / 64 → is_marked new k ≡ true → bound ≤ dist_at cells k
     in_run k run marked = elim (cases_eq k place) [
       | inl same ↦ subst (λ n. bound ≤ dist_at cells n) (sym same) low
       | inr other ↦
           let was : is_marked old k ≡ true = sym (marks.others k other) ∙ marked in
-          let a = lower (some_bit k run was) in
           let b = subst (λ n. get_or least n 0 ≤ dist_at cells k) run (kept.near k was) in
-          omega (arith, a, b)
+          omega (arith, lower, b)
     ]
 
 -- a board is fresh no longer, and what is kept of its run is set

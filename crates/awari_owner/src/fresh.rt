@@ -16,7 +16,7 @@ use std::alloc::{AllocError, Global};
 pub struct Fresh {
     /// A bit for each board, a word for each run.
     words: Vec<u64>,
-    /// No fresh board of a run is nearer than this.
+    /// No fresh board of a run is nearer than this, which is the greatest there is where none is fresh.
     least: Vec<u32>,
     /// How many boards are fresh.
     count: usize,
@@ -44,7 +44,7 @@ impl Fresh {
     {
         let runs = boards / 64 + 1;
         let words = vec![in alloc; 0; runs]?;
-        let least = vec![in alloc; 0; runs]?;
+        let least = vec![in alloc; u32::MAX; runs]?;
         Ok(Fresh {
             words,
             least,
@@ -86,7 +86,7 @@ impl Fresh {
     {
         let run = place / 64;
         let dist = cells[place].dist;
-        let bound = lower(self.words[run], self.least[run], dist);
+        let bound = self.least[run].min(dist);
         mark(&mut self.words, place);
         self.least[run] = bound;
         self.count += 1;
@@ -164,16 +164,15 @@ fn behind(
     ensures first { AreFirst cells.now words.new.items result.run result.dist result.bits }
 {
     least[run] = bound_of(cells, words.as_slice(), run);
-    let first = next_first(cells, words.as_slice(), least.as_slice(), run, dist);
-    first_at(cells, words.as_slice(), first)
-}
-
-/// What is kept of a run of this word, to which a board of this distance comes.
-fn lower(word: u64, least: u32, dist: u32) -> u32
-    ensures new { result ≤ dist }
-    ensures others { 0 < word → result ≤ least }
-{
-    if word == 0 { dist } else { least.min(dist) }
+    match first_as_near(cells, words.as_slice(), least.as_slice(), run, dist) {
+        Some(first) => first,
+        None => {
+            // All are farther, and most often one is farther by a ply.
+            let enough = dist.saturating_add(1);
+            let first = nearest(cells, words.as_slice(), least.as_slice(), enough);
+            first_at(cells, words.as_slice(), first)
+        }
+    }
 }
 
 /// The first boards, where one at this place and of this distance comes to those of which these are.
@@ -292,35 +291,27 @@ fn bound_of(cells: &[Cell], words: &[u64], run: usize) -> u32
     }
 }
 
-/// The first fresh board, where none is nearer than this distance, and those before this run are
-/// farther.
-fn next_first(cells: &[Cell], words: &[u64], least: &[u32], run: usize, dist: u32) -> Option<usize>
-    requires kept { AreKept cells.now words.now least.now }
-    requires run { run ≤ length words.now }
-    requires enough { (k : ℕ) → is_marked words.now k ≡ true → dist ≤ dist_at cells.now k }
-    requires before { (k : ℕ) → k < 64 * run → is_marked words.now k ≡ true → dist < dist_at cells.now k }
-    ensures { IsNearest cells.now words.now 0 (64 * length words.now) result }
-{
-    match nearest_at(cells, words, least, run, dist) {
-        Some(b) => Some(b),
-        None => nearest_from(cells, words, least, 0, dist),
-    }
-}
-
-/// The first fresh board of this distance from this run on, where none is nearer.
-fn nearest_at(cells: &[Cell], words: &[u64], least: &[u32], from: usize, dist: u32) -> Option<usize>
+/// The first boards, where none is nearer than this distance, and those before this run are farther.
+/// There is none where all are farther.
+fn first_as_near(
+    cells: &[Cell],
+    words: &[u64],
+    least: &[u32],
+    from: usize,
+    dist: u32,
+) -> Option<First>
     requires kept { AreKept cells.now words.now least.now }
     requires from { from ≤ length words.now }
     requires enough { (k : ℕ) → is_marked words.now k ≡ true → dist ≤ dist_at cells.now k }
-    ensures some { IfSome result (λ b. IsNearest cells.now words.now (64 * from) (64 * length words.now) (Some b)) }
-    ensures near { IfSome result (λ b. dist_at cells.now b ≤ dist) }
-    ensures none { result ≡ None → (k : ℕ) → 64 * from ≤ k → k < 64 * length words.now → is_marked words.now k ≡ true → dist < dist_at cells.now k }
+    requires before { (k : ℕ) → k < 64 * from → is_marked words.now k ≡ true → dist < dist_at cells.now k }
+    ensures some { IfSome result (λ first. AreFirst cells.now words.now first.run first.dist first.bits) }
+    ensures none { result ≡ None → (k : ℕ) → is_marked words.now k ≡ true → dist < dist_at cells.now k }
 {
     let mut run = next_run(least, from, dist);
     while run < words.len() {
-        let best = nearest_in(cells, words, run, None);
-        if is_as_near(cells, best, dist) {
-            return best;
+        let bits = bits_at(cells, words, run, dist);
+        if bits > 0 {
+            return Some(First { run, dist, bits });
         }
         run = next_run(least, run + 1, dist);
     }
@@ -342,22 +333,14 @@ fn next_run(least: &[u32], from: usize, dist: u32) -> usize
     least.len()
 }
 
-/// The first of the fresh boards from this run of 64 on. None is nearer than `enough`, so that one
-/// that is as near is the first.
-fn nearest_from(
-    cells: &[Cell],
-    words: &[u64],
-    least: &[u32],
-    from: usize,
-    enough: u32,
-) -> Option<usize>
+/// The first of the fresh boards. None is nearer than `enough`, so that one that is as near is the first.
+fn nearest(cells: &[Cell], words: &[u64], least: &[u32], enough: u32) -> Option<usize>
     requires kept { AreKept cells.now words.now least.now }
-    requires from { from ≤ length words.now }
     requires enough { (k : ℕ) → is_marked words.now k ≡ true → enough ≤ dist_at cells.now k }
-    ensures { IsNearest cells.now words.now (64 * from) (64 * length words.now) result }
+    ensures { IsNearest cells.now words.now 0 (64 * length words.now) result }
 {
     let mut best = None;
-    for run in from..words.len() {
+    for run in 0..words.len() {
         if is_as_near(cells, best, enough) {
             return best;
         }
@@ -378,7 +361,7 @@ fn is_as_near(cells: &[Cell], best: Option<usize>, dist: u32) -> bool
 }
 
 /// The first of the fresh boards so far, and of those of this run, which is passed over where none of
-/// its boards is fresh or may be nearer.
+/// its boards may be nearer.
 fn with_run(
     cells: &[Cell],
     words: &[u64],
@@ -392,9 +375,6 @@ fn with_run(
     ensures nearest { (low : ℕ) → low ≤ 64 * run → IsNearest cells.now words.now low (64 * run) best → IsNearest cells.now words.now low (64 * run + 64) result }
     ensures held { IfSome result (λ b. b < length cells.now) }
 {
-    if words[run] == 0 {
-        return best;
-    }
     if is_as_near(cells, best, least[run]) {
         return best;
     }

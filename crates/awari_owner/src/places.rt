@@ -85,5 +85,9 @@ pub fn block_length(boards: u32, owners: u8) -> u32
     requires some { 1 ≤ owners }
     ensures { result ≡ (boards + (owners - 1)) / owners }
 {
+    // This is asked for each board that is spread, and one owner needs no division.
+    if owners == 1 {
+        return boards;
+    }
     ((u64::from(boards) + (u64::from(owners) - 1)) / u64::from(owners)) as u32
 }

@@ -37,11 +37,3 @@ pub fn next_bit(word: u64, from: u32) -> Option<u32>
     }
     Some(rest.trailing_zeros())
 }
-
-/// Whether the word has this bit.
-pub fn has_bit(word: u64, k: u32) -> bool
-    requires { k < 64 }
-    ensures { result ≡ (bit_at word k == 1) }
-{
-    (word >> k) & 1 == 1
-}

@@ -1,12 +1,11 @@
 use Rattle.std.proofs.Common.{◌≡◌, ℕ, ◌-◌, ◌*◌, ◌<◌, ◌≤◌, true, length}
 use Rattle.awari_owner.specs.Fresh.{dist_at, is_marked}
-use Rattle.awari_owner.proofs.fresh.nearest_at.Given as goal
+use Rattle.awari_owner.proofs.fresh.first_as_near.Given as goal
 
 abbrev pub invariant-loop-run : goal.invariant-loop-run
 invariant-loop-run l = record {
-  low : l.from ≤ l.run;
   high : l.run ≤ length l.words;
-  far : (k : ℕ) → 64 * l.from ≤ k → k < 64 * l.run → is_marked l.words k ≡ true → l.dist < dist_at l.cells k;
+  far : (k : ℕ) → k < 64 * l.run → is_marked l.words k ≡ true → l.dist < dist_at l.cells k;
 }
 
 abbrev pub decreases-loop-run : goal.decreases-loop-run
