@@ -12,42 +12,6 @@ use std::test::Fail;
 /// How often a test runs its events, at most.
 const MOST_TURNS: u32 = 1_000_000;
 
-/// How many events a random list has.
-const LIST_LENGTH: u32 = 256;
-
-/// What each random list begins with is so far from what the one before it began with.
-const STRIDE: u64 = 0x9e37_79b9_7f4a_7c15;
-
-/// The next of a row of numbers that are as good as random, and the same in each run.
-fn next_number(number: u64) -> u64 {
-    number
-        .wrapping_mul(6_364_136_223_846_793_005)
-        .wrapping_add(1_442_695_040_888_963_407)
-}
-
-/// An event that the number tells, mostly of owners that are there.
-fn event_of(number: u64, owners: u8) -> Event {
-    let most = u64::from(owners.max(1));
-    let from = ((number >> 32) % most) as u8;
-    let to = ((number >> 40) % most) as u8;
-    match (number >> 60) % 3 {
-        0 => Event::Spread(from),
-        1 => Event::Send(from, to),
-        _ => Event::Take(from, to),
-    }
-}
-
-/// A list of events from this number on.
-fn random_events(alloc: Global, owners: u8, number: u64) -> Result<Vec<Event>, AllocError> {
-    let mut events = Vec::with_capacity(alloc, LIST_LENGTH as usize)?;
-    let mut next = number;
-    for _event in 0..LIST_LENGTH {
-        next = next_number(next);
-        events.push(event_of(next, owners))?;
-    }
-    Ok(events)
-}
-
 /// Each owner spreads, each sends to each other one, and each takes of each other one.
 pub fn all_events(alloc: Global, owners: u8) -> Result<Vec<Event>, AllocError> {
     let mut events = Vec::new(alloc);
@@ -68,18 +32,6 @@ fn opens_last(core: &mut Core) -> bool {
         Ok(None) => core.next_gain() == Ok(0),
         _ => false,
     }
-}
-
-/// Runs random lists until all gains are closed.
-fn close_by_chance(alloc: Global, core: &mut Core, owners: u8) -> Result<bool, AllocError> {
-    for turn in 0..MOST_TURNS {
-        let number = u64::from(turn).wrapping_mul(STRIDE);
-        core.run(&random_events(alloc, owners, number)?);
-        if opens_last(core) {
-            return Ok(true);
-        }
-    }
-    Ok(false)
 }
 
 /// Runs these events again and again until all gains are closed.
@@ -104,12 +56,6 @@ fn is_level(alloc: Global, shelf: &Shelf, core: &Core) -> Result<bool, Fail> {
 fn expect_level(rt: &impl Abort, alloc: Global, shelf: &Shelf, core: &Core) -> Result<(), Fail> {
     expect(rt, "the level", is_level(alloc, shelf, core)?);
     Ok(())
-}
-
-/// Whether owners who take events by chance build the level that one part builds.
-fn chance_builds(alloc: Global, shelf: &Shelf, owners: u8) -> Result<bool, Fail> {
-    let mut core = Core::new(alloc, shelf, owners, 1)?;
-    Ok(close_by_chance(alloc, &mut core, owners)? && is_level(alloc, shelf, &core)?)
 }
 
 /// Two owners of level 1 spread what is due at distance 0, 11 boards, and one try is refused.
@@ -249,28 +195,6 @@ fn cores_are_refused_in_order(rt: HostRuntime) {
     expect_no_core(&rt, rt.alloc(), 0, 1, CoreFault::Owners);
     expect_no_core(&rt, rt.alloc(), 2, 0, CoreFault::Room);
     expect_no_core(&rt, rt.alloc(), 2, 257, CoreFault::Room);
-}
-
-/// Owners who take events by chance build the shelf's next level.
-fn expect_built_by_chance(
-    rt: &impl Abort,
-    alloc: Global,
-    shelf: &Shelf,
-    owners: u8,
-) -> Result<(), Fail> {
-    expect(rt, owners, chance_builds(alloc, shelf, owners)?);
-    Ok(())
-}
-
-#[test]
-fn chance_builds_levels_2_to_4(rt: HostRuntime) -> Result<(), Fail> {
-    for count in 2..5u8 {
-        let shelf = levels_below(rt.alloc(), count)?;
-        for owners in [2, 3, 16u8] {
-            expect_built_by_chance(&rt, rt.alloc(), &shelf, owners)?;
-        }
-    }
-    Ok(())
 }
 
 /// Sixteen owners build the shelf's next level by these events, again and again.

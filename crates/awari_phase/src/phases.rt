@@ -40,12 +40,13 @@ enum Standing {
 /// on one grid. Refused as a round is, and never as 42 where the owners were sound together; then the
 /// owners are gone.
 ///
-/// The first round is made in threads, since a gain can begin with many ended boards, and so is the
-/// first one of a distance with many fresh boards, nearly all of which are of the distance that was just
-/// opened. To start four threads takes 0.1 to 0.2 ms, in which one thread spreads some hundred boards,
-/// and most distances have fewer. Those are gone through in turn on the caller's thread, and so is what a
-/// round in threads leaves: mostly a few batches that came when their owner had ended already. Where a
-/// round in turn leaves something too, threads are started for it.
+/// One owner works on the caller's thread. Of several, the first round is made in threads, since a gain
+/// can begin with many ended boards, and so is the first one of a distance with many fresh boards, nearly
+/// all of which are of the distance that was just opened. To start four threads takes 0.1 to 0.2 ms, in
+/// which one thread spreads some hundred boards, and most distances have fewer. Those are gone through in
+/// turn on the caller's thread, and so is what a round in threads leaves: mostly a few batches that came
+/// when their owner had ended already. Where a round in turn leaves something too, threads are started
+/// for it.
 pub fn gain_phase<R: Threads + Wait + Sync, G: Gate + Sync>(
     rt: &R,
     owners: Vec<Owner>,
@@ -84,7 +85,7 @@ pub fn gain_phase_with_progress<R: Threads + Wait + Sync, G: Gate + Sync, P: Pro
     ensures refused { IfErr result (IsRefusal owners.items) }
     ensures wanting { IfErr result (λ fault. (value : List ℕ → ℤ) (n : ℕ) → n ≤ HIGHEST_LEVEL → AreTogether value n owners.items → IsWant fault) }
 {
-    let mut all = round(rt, owners, gate, sweeps)?;
+    let mut all = next_round(rt, owners, gate, sweeps, false)?;
     let mut in_turn = false;
     for _ in rt.forever() {
         tell(progress, all.as_slice());
@@ -118,7 +119,7 @@ fn look_ahead(owners: &mut Vec<Owner>, in_turn: bool) -> Option<bool>
     }
 }
 
-/// One round, in threads or in turn.
+/// One round, in threads or in turn. One owner has no others to work beside, and needs no thread.
 fn next_round<R: Threads + Wait + Sync, G: Gate + Sync>(
     rt: &R,
     owners: Vec<Owner>,
@@ -135,7 +136,7 @@ fn next_round<R: Threads + Wait + Sync, G: Gate + Sync>(
     ensures refused { IfErr result (IsRefusal owners.items) }
     ensures wanting { IfErr result (λ fault. (value : List ℕ → ℤ) (n : ℕ) → n ≤ HIGHEST_LEVEL → AreTogether value n owners.items → IsWant fault) }
 {
-    if in_turn {
+    if in_turn || owners.len() == 1 {
         return round_in_turn(owners, gate, sweeps.min(SWEEPS_IN_TURN));
     }
     round(rt, owners, gate, sweeps)

@@ -1,0 +1,148 @@
+//! Levels built by owners who take events by chance.
+
+ghost use Rattle.std.specs.Prelude.{◌<◌, ◌≤◌};
+
+use crate::drawing::Numbers;
+use awari_build::build_alone;
+use awari_core::Core;
+use awari_table::{Image, Level, Shelf};
+use std::alloc::Global;
+use std::io;
+use std::sync::Arc;
+
+/// The greatest number of stones of a level that is built so.
+pub const LEVELS: usize = 4;
+
+/// How many events are drawn before it is looked whether the next distance can be opened.
+const LIST_LENGTH: usize = 256;
+
+/// How many such lists a schedule has, at most.
+const MOST_LISTS: u32 = 1_000_000;
+
+/// What became of all schedules.
+#[derive(Drop)]
+pub struct Outcome {
+    /// How many ended in the level that one part builds, by the stones on its boards.
+    pub same: [u32; LEVELS + 1],
+    /// How many ended in another one, or not at all.
+    pub other: u32,
+    /// How many events were taken.
+    pub taken: u64,
+}
+
+/// The levels below one that is to be built, and that one as one part builds it.
+#[derive(Drop)]
+struct Task {
+    shelf: Shelf,
+    level: Arc<Level>,
+}
+
+/// Draws so many schedules, and compares what each of them ends in.
+pub fn outcome_of(alloc: Global, count: u32) -> io::Result<Outcome> {
+    let tasks = tasks(alloc)?;
+    let mut outcome = Outcome {
+        same: [0; LEVELS + 1],
+        other: 0,
+        taken: 0,
+    };
+    for schedule in 0..count {
+        draw(alloc, tasks.as_slice(), schedule, &mut outcome)?;
+    }
+    Ok(outcome)
+}
+
+/// The levels from 1 on that are to be built.
+fn tasks(alloc: Global) -> io::Result<Vec<Task>> {
+    let mut tasks = Vec::with_capacity(alloc, LEVELS)?;
+    let mut shelf = Shelf::empty();
+    for _stones in 0..=LEVELS {
+        let Ok(level) = build_alone(alloc, &shelf) else {
+            return Ok(tasks);
+        };
+        let level = Arc::new(alloc, level)?;
+        if shelf.levels() > 0 {
+            tasks.push(Task {
+                shelf: shelf.share()?,
+                level: Arc::try_clone(&level)?,
+            })?;
+        }
+        shelf.push(level);
+    }
+    Ok(tasks)
+}
+
+/// Draws a schedule, and counts what it ends in.
+fn draw(alloc: Global, tasks: &[Task], schedule: u32, outcome: &mut Outcome) -> io::Result<()> {
+    let mut numbers = Numbers::of(schedule);
+    let place = numbers.below(LEVELS as u64) as usize;
+    let Some(task) = tasks.get(place) else {
+        return Ok(());
+    };
+    let ended = taken_by_chance(alloc, task, &mut numbers)?;
+    count(outcome, place + 1, ended);
+    Ok(())
+}
+
+/// Counts a schedule of a level of so many stones.
+fn count(outcome: &mut Outcome, stones: usize, ended: Option<u64>)
+    requires { stones ≤ 4 }
+{
+    let Some(taken) = ended else {
+        outcome.other = outcome.other.saturating_add(1);
+        return;
+    };
+    outcome.same[stones] = outcome.same[stones].saturating_add(1);
+    outcome.taken = outcome.taken.wrapping_add(taken);
+}
+
+/// How many events were taken, where they ended in the level that one part builds.
+fn taken_by_chance(alloc: Global, task: &Task, numbers: &mut Numbers) -> io::Result<Option<u64>> {
+    let owners = 1 + numbers.below(16) as u8;
+    let room = 1 + numbers.below(3) as u32;
+    let Ok(mut core) = Core::new(alloc, &task.shelf, owners, room) else {
+        return Ok(None);
+    };
+    let Some(taken) = close_by_chance(alloc, &mut core, owners, numbers)? else {
+        return Ok(None);
+    };
+    let Ok(image) = core.finish(alloc) else {
+        return Ok(None);
+    };
+    Ok(says_the_same(&image, &task.level).then_some(taken))
+}
+
+/// Runs lists of events until all gains are closed, and counts how many events were taken; none where
+/// that never came.
+fn close_by_chance(
+    alloc: Global,
+    core: &mut Core,
+    owners: u8,
+    numbers: &mut Numbers,
+) -> io::Result<Option<u64>>
+    requires { 0 < owners }
+{
+    let mut taken: u64 = 0;
+    for _list in 0..MOST_LISTS {
+        let events = numbers.events(alloc, owners, LIST_LENGTH)?;
+        let ran = core.run(&events);
+        taken = taken.wrapping_add(ran.taken as u64);
+        if opens_last(core) {
+            return Ok(Some(taken));
+        }
+    }
+    Ok(None)
+}
+
+/// Opens the next distance, or the next gain where no board is fresh. It is true once all gains are
+/// closed.
+fn opens_last(core: &mut Core) -> bool {
+    match core.next_wave() {
+        Ok(None) => core.next_gain() == Ok(0),
+        _ => false,
+    }
+}
+
+/// Whether the image says what the level does.
+fn says_the_same(image: &Image, level: &Level) -> bool {
+    image.limit == level.limit() && image.entries.as_slice() == level.entries()
+}
