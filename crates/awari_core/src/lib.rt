@@ -3,7 +3,7 @@
 //! A core, the events that it runs, the next distance or gain, and the level at the end, by lines of
 //! `crates/awari_owner_tests/src/cores.rt`:
 //!
-//!     let mut core = Core::new(alloc, shelf, owners, 1)?;
+//!     let mut core = Core::new(alloc, shelf, 16, 1)?;
 //!     core.run(events);
 //!     match core.next_wave() {
 //!         Ok(None) => core.next_gain() == Ok(0),
