@@ -1,4 +1,4 @@
--- What a call answers that verifies the image of a shelf's next level.
+-- What a call answers that verifies the image of a shelf's next level. Private functions alone go by this.
 use Rattle.std.specs.Prelude.{◌≡◌, ◌⊎◌, List, [], ◌∷◌, ◌++◌, Result, MatchResult}
 use Rattle.std.specs.Borrow.{Bor}
 use Rattle.awari_table.specs.declared.images.Image.{Image}

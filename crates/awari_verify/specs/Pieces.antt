@@ -1,4 +1,4 @@
--- A level in pieces of 4096 boards, the last one shorter.
+-- A level in pieces of 4096 boards, the last one shorter. Private functions alone go by this: no public contract does.
 use Rattle.std.specs.Prelude.{ℕ, ◌+◌, ◌*◌, min, Option, MatchOption}
 use Rattle.awari_table.specs.declared.rules.Distances.TheVariants.{Least}
 use Rattle.awari_table.specs.Certificate.{Table}
