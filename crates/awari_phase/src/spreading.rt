@@ -1,7 +1,7 @@
 //! How an owner spreads a board.
 
-ghost use Rattle.std.specs.Prelude.{◌≡◌, ◌⊎◌, ◌++◌, ℕ, ℤ, List, IfErr, OnErr, OnOk, Ok, Some, false, length};
-ghost use Rattle.awari_owner.specs.Part.{HasFarthest, IsLeastDue};
+ghost use Rattle.std.specs.Prelude.{◌≡◌, ◌⊎◌, ◌+◌, ◌++◌, ℕ, ℤ, List, IfErr, OnErr, OnOk, Ok, Some, true, false, length};
+ghost use Rattle.awari_owner.specs.Part.{HasFarthest, IsLeastDue, unspread};
 ghost use Rattle.awari_owner.specs.Spread.{IsPartOf};
 ghost use Rattle.awari_owner.specs.declared.faults.OwnerFault.{OwnerFault};
 ghost use Rattle.awari_phase.specs.Sound.{Batches, queue_to, OwnerSound, SameBlock};
@@ -19,6 +19,8 @@ pub fn spread_one(part: &mut Part, outboxes: &mut Outboxes) -> Result<bool, Owne
     ensures sound { OnOk result ((value : List ℕ → ℤ) (taken sent : ℕ → Batches)
         → OwnerSound value outboxes.old.owner (length outboxes.old.queues) part.old taken (λ j. sent j ++ queue_to outboxes.old j) (queue_to outboxes.old)
         → OwnerSound value outboxes.old.owner (length outboxes.old.queues) part.new taken (λ j. sent j ++ queue_to outboxes.new j) (queue_to outboxes.new)) }
+    ensures unspread { result ≡ Ok true → unspread part.new + 1 ≡ unspread part.old }
+    ensures none { result ≡ Ok false → (part.new ≡ part.old) × (outboxes.new ≡ outboxes.old) }
     ensures due { result ≡ Ok false → IsLeastDue part.old (Some part.old.wave) → ⊥ }
     ensures fault { IfErr result (λ fault. (fault ≡ OwnerFault.Memory) ⊎ ((fault ≡ OwnerFault.Far) × HasFarthest part.old)) }
     ensures err { OnErr result ((part.new ≡ part.old) × (outboxes.new ≡ outboxes.old)) }
