@@ -1,4 +1,4 @@
--- Where the last stones of a board lie.
+-- Where the last stones of a board lie. Private functions alone go by this: no public contract does.
 use Rattle.std.specs.Prelude.{◌≡◌, ℕ, ◌+◌, ◌<◌, List, sum, drop, slice_index}
 
 -- the last pit that holds stones, or pit 0 where none does
