@@ -12,6 +12,10 @@ use Rattle.awari_owner.proofs.Levels.{one_whole, one_heard, heard_told}
 use Rattle.awari_plan.specs.Finished.{IsFinished}
 use Rattle.awari_build.specs.Sound.{IsSound}
 
+-- its blocks are all boards
+pub whole_blocks : (n : ℕ) (part : Part) → IsWhole part × (part.level ≡ n) → AreWhole n (part ∷ [])
+whole_blocks n part whole = subst (λ m. AreWhole m (part ∷ [])) whole.1 (one_whole part whole.0.start whole.0.all)
+
 -- what was finished is consistent
 pub whole_consistent : (shelf : List Image) (part : Part) (image : Image)
     → ((shelf : List Image) (parts : List Part) (image : Image) → IsShelf shelf → length shelf ≤ HIGHEST_LEVEL → AreWhole (length shelf) parts → All IsClosed parts
@@ -19,7 +23,7 @@ pub whole_consistent : (shelf : List Image) (part : Part) (image : Image)
     → IsShelf shelf → length shelf ≤ HIGHEST_LEVEL → IsWhole part × (part.level ≡ length shelf) → IsClosed part → IsSound (table_of shelf).value part
     → IsFinished shelf (part ∷ []) image → Consistent shelf image
 whole_consistent shelf part image law on_shelf low whole closed (notes, tallied, own) finished =
-    law shelf (part ∷ []) image on_shelf low (subst (λ n. AreWhole n (part ∷ [])) whole.1 (one_whole part whole.0.start whole.0.all))
+    law shelf (part ∷ []) image on_shelf low (whole_blocks (length shelf) part whole)
     (All-cons IsClosed part [] closed (All-nil IsClosed)) (one_heard (table_of shelf).value part notes tallied own) finished
 
 -- its distances fit

@@ -12,13 +12,12 @@ ghost use Rattle.awari_table.specs.declared.TheConstants.{HIGHEST_LEVEL};
 ghost use Rattle.awari_theory.specs.Truth.{TellsTruth};
 
 use crate::faults::BuildFault;
-use awari_owner::{Outboxes, Part, distances_fit};
+use awari_owner::{ClosedPart, Outboxes, Part, distances_fit};
 use awari_phase::{Progress, Silent};
-use awari_plan::{finish, finished_levels_are_consistent};
+use awari_plan::{finish_closed, finished_levels_are_consistent};
 use awari_rank::size;
 use awari_table::{HIGHEST_LEVEL, Level, Shelf};
-use std::alloc::Global;
-use std::slice;
+use std::alloc::{AllocError, Global};
 
 /// The shelf's next level, built by one part. It always returns. Refused are a shelf that has all
 /// levels, as 51 `TooHigh`, and want of memory as 53 `Memory`. It takes memory for the part, a little
@@ -59,26 +58,39 @@ pub fn build_alone_with_progress<P: Progress>(
     progress.begin(usize::from(number), size(number) as usize);
     let part = settled_part(alloc, shelf, progress)?;
     progress.plan();
-    level_of(alloc, shelf, &part)
+    level_of(alloc, shelf, part)
 }
 
 /// The level that a part with all its boards has settled.
-fn level_of(alloc: Global, shelf: &Shelf, part: &Part) -> Result<Level, BuildFault>
+fn level_of(alloc: Global, shelf: &Shelf, part: Part) -> Result<Level, BuildFault>
     requires shelf { IsShelf shelf.now }
     requires low { length shelf.now ≤ HIGHEST_LEVEL }
-    requires whole { IsWhole part.now × (part.now.level ≡ length shelf.now) }
-    requires closed { IsClosed part.now }
-    requires sound { IsSound (table_of shelf.now).value part.now }
+    requires whole { IsWhole part × (part.level ≡ length shelf.now) }
+    requires closed { IsClosed part }
+    requires sound { IsSound (table_of shelf.now).value part }
     ensures consistent { IfOk result (λ level. Consistent shelf.now level) }
     ensures meaning { IfOk result (λ level. TellsTruth (shelf.now ++ level ∷ [])) }
     ensures planned { IfOk result (IsPlannedLowest shelf.now) }
     ensures memory { IfErr result (λ fault. fault ≡ BuildFault.Memory) }
 {
     finished_levels_are_consistent();
-    match finish(alloc, shelf, slice::from_ref(part)) {
+    let Ok(parts) = closed_alone(alloc, part) else {
+        return Err(BuildFault::Memory);
+    };
+    match finish_closed(alloc, shelf, parts) {
         Ok(image) => Ok(Level::new(image)),
         Err(_) => Err(BuildFault::Memory),
     }
+}
+
+/// The one part of a level, closed.
+fn closed_alone(alloc: Global, part: Part) -> Result<Vec<ClosedPart>, AllocError>
+    requires { IsClosed part }
+    ensures { IfOk result (λ parts. parts.items ≡ part ∷ []) }
+{
+    let mut parts = Vec::with_capacity(alloc, 1)?;
+    parts.push(part.close())?;
+    Ok(parts)
 }
 
 /// The part of all boards of the shelf's next level, with all gains closed.

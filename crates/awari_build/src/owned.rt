@@ -15,8 +15,8 @@ ghost use Rattle.awari_build.specs.Paces.{HasOwners, IsPaced};
 use crate::faults::BuildFault;
 use crate::paces::{MOST_OWNERS, MOST_ROOM, MOST_SWEEPS, Pace};
 use awari_phase::{
-    Gate, Owner, PhaseFault, Progress, Silent, finished_owners_are_right, gain_phase_with_progress,
-    into_parts, open_gain, scanned_owners,
+    Gate, Owner, PhaseFault, Progress, Silent, closed_parts, finished_owners_are_right,
+    gain_phase_with_progress, open_gain, scanned_owners,
 };
 use awari_plan::{finish_parallel, finished_levels_are_consistent};
 use awari_rank::size;
@@ -111,10 +111,10 @@ fn level_of<R: Threads + Sync>(
 {
     finished_owners_are_right();
     finished_levels_are_consistent();
-    let Ok(parts) = into_parts(alloc, owners) else {
+    let Ok(parts) = closed_parts(alloc, owners) else {
         return Err(BuildFault::Memory);
     };
-    match finish_parallel(rt, alloc, shelf, parts.as_slice()) {
+    match finish_parallel(rt, alloc, shelf, parts) {
         Ok(image) => Ok(Level::new(image)),
         Err(_) => Err(BuildFault::Memory),
     }

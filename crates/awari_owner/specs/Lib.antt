@@ -7,6 +7,7 @@ pub mod Fresh
 pub mod Part
 pub mod Leaving
 pub mod PartFields
+pub mod ClosedFields
 pub mod Spread
 pub mod OwnerFault
 pub mod Level

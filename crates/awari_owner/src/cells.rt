@@ -1,9 +1,11 @@
 //! What is kept of each board of a block.
 
-ghost use Rattle.std.specs.Prelude.{◌≡◌, ℕ, false, ◌+◌, ◌-◌, ◌^◌, ◌<◌, ◌≤◌, ◌↔◌, IsTrue, pos, neg_ℤ, ◌≤ℤ◌};
+ghost use Rattle.std.specs.Prelude.{◌≡◌, ℕ, false, ◌+◌, ◌-◌, ◌^◌, ◌<◌, ◌≤◌, ◌↔◌, IsTrue, IfSome, pos, neg_ℤ, ◌≤ℤ◌};
 ghost use Rattle.awari_owner.specs.Tally.{Open, has_pit, with_pit};
-ghost use Rattle.awari_owner.specs.Cells.{status_of, is_settled, Fits, Keeps, SettlesTimely};
+ghost use Rattle.awari_owner.specs.Cells.{status_of, is_settled, Fits, IsBeyond, IsWithin, Keeps, SettlesTimely};
+ghost use Rattle.awari_owner.specs.Part.{settled_by};
 ghost use Rattle.awari_owner.specs.Steps.{after_note, after_opening};
+ghost use Rattle.awari_owner.specs.declared.places.Place.{Place as PlaceView};
 
 use crate::notes::Kind;
 use crate::places::Place;
@@ -54,6 +56,18 @@ impl Cell {
         ensures { result ≡ is_settled self.now.mark }
     {
         self.mark == Mark::Settled
+    }
+
+    /// Value and distance of the board, if it is settled.
+    pub fn settled(&self) -> Option<(i8, u32)>
+        ensures known { result ≡ settled_by (status_of self.now) }
+        ensures ranged { (place : PlaceView) → Fits place self.now → IfSome result (λ s. IsWithin place.level s.0 × IsBeyond place.gain s.0) }
+    {
+        if self.mark == Mark::Settled {
+            Some((self.score, self.dist))
+        } else {
+            None
+        }
     }
 
     /// Whether a note of this pit was heard.

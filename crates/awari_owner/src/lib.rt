@@ -19,6 +19,7 @@
 
 mod blocks;
 mod cells;
+mod closed;
 mod faults;
 mod fresh;
 mod laws;
@@ -32,6 +33,7 @@ mod scans;
 mod spreads;
 mod words;
 
+pub use closed::ClosedPart;
 pub use faults::OwnerFault;
 pub use laws::{
     closed_parts_are_right, distances_fit, one_part_hears_all, quiet_boards_are_right,

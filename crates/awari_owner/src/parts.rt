@@ -8,6 +8,7 @@ ghost use Rattle.awari_owner.specs.Blocks.{due_dist, KeepSettled};
 ghost use Rattle.awari_owner.specs.Part.{Part as PartView, InBlock, Leaves, IsExpected, IsTallied, stored_at, PutsCell, SameLevel, JoinsFresh, settled_at, IsLeastDue, AreFresh, HasFarthest, unspread};
 ghost use Rattle.awari_owner.specs.OwnerFault.{IsFaultOf};
 ghost use Rattle.awari_owner.specs.Leaving.{IsBlockOf};
+ghost use Rattle.awari_owner.specs.Level.{IsClosed};
 ghost use Rattle.awari_owner.specs.Scan.{first_rank, IsScan, IsScannedBlock, IsWhole};
 ghost use Rattle.awari_owner.specs.Spread.{HearsOwn, IsPartOf, Sends, Source, Spreads};
 ghost use Rattle.awari_table.specs.Images.{table_of};
@@ -16,7 +17,8 @@ ghost use Rattle.awari_owner.specs.declared.faults.OwnerFault.{OwnerFault};
 ghost use Rattle.awari_owner.specs.declared.notes.Note.{Note as NoteView};
 
 use crate::blocks::{open_cells, put, take_first};
-use crate::cells::{Cell, Mark};
+use crate::cells::Cell;
+use crate::closed::ClosedPart;
 use crate::faults::OwnerFault;
 use crate::fresh::Fresh;
 use crate::notes::Note;
@@ -116,12 +118,7 @@ impl Part {
         ensures known { result ≡ settled_at self.now rank }
         ensures ranged { IfSome result (λ s. IsWithin self.now.level s.0 × IsBeyond self.now.gain s.0) }
     {
-        let cell = self.cells[(rank - self.place.start) as usize];
-        if cell.mark == Mark::Settled {
-            Some((cell.score, cell.dist))
-        } else {
-            None
-        }
+        self.cells[(rank - self.place.start) as usize].settled()
     }
 
     /// The ranks of the boards of the block: from the first number up to, not including, the second.
@@ -303,6 +300,18 @@ impl Part {
             &board,
         );
         Ok(true)
+    }
+
+    /// What is kept of the part once its gains are all closed. It needs gain 1 to be open, and no board
+    /// to be fresh. Nothing is heard or spread any more, so what serves that alone is given back.
+    pub fn close(self) -> ClosedPart
+        requires { IsClosed self }
+        ensures { result ≡ self }
+    {
+        ClosedPart {
+            place: self.place,
+            cells: self.cells,
+        }
     }
 
     /// The part of this owner, one of so many, of the shelf's next level, of what was found of its block.

@@ -27,7 +27,7 @@ mod starting;
 pub use faults::PhaseFault;
 pub use gates::{Gate, Open};
 pub use laws::finished_owners_are_right;
-pub use making::{into_parts, scanned_owners};
+pub use making::{closed_parts, scanned_owners};
 pub use openings::open_gain;
 pub use owners::Owner;
 pub use phases::{gain_phase, gain_phase_with_progress};

@@ -1,7 +1,8 @@
 //! The owners of a level, before any gain is open, and their parts at the end.
 
-ghost use Rattle.std.specs.Prelude.{◌≡◌, ◌+◌, ◌<◌, ◌≤◌, ℕ, IfOk, length, slice_index_or, vec_len};
+ghost use Rattle.std.specs.Prelude.{◌≡◌, ◌+◌, ◌<◌, ◌≤◌, ℕ, All, IfOk, length, slice_index_or, vec_len};
 ghost use Rattle.awari_lines.specs.Lines.{owners_of};
+ghost use Rattle.awari_owner.specs.Level.{IsClosed};
 ghost use Rattle.awari_table.specs.Images.{table_of};
 ghost use Rattle.awari_table.specs.declared.TheConstants.{HIGHEST_LEVEL};
 ghost use Rattle.awari_phase.specs.Owners.{AreFinished, AreIdle, IsScanned, parts_of};
@@ -9,7 +10,7 @@ ghost use Rattle.awari_phase.specs.declared.owners.Owner.{Owner as AnOwner};
 
 use crate::owners::Owner;
 use awari_lines::{Ends, grid};
-use awari_owner::{Outboxes, Part};
+use awari_owner::{ClosedPart, Outboxes, Part};
 use awari_table::Shelf;
 use std::alloc::{AllocError, Global};
 use std::thread::Threads;
@@ -63,13 +64,15 @@ fn scanned_owner<R: Threads + Sync>(
     Ok(Owner::new(part, ends, outboxes))
 }
 
-/// The parts of the owners, in their order. Refused where a growth was: it takes room for them all.
-pub fn into_parts(alloc: Global, owners: Vec<Owner>) -> Result<Vec<Part>, AllocError>
+/// The parts of the owners, in their order, each closed. It needs all of them to have gain 1 open, and no
+/// fresh board. Refused where a growth was: it takes room for them all.
+pub fn closed_parts(alloc: Global, owners: Vec<Owner>) -> Result<Vec<ClosedPart>, AllocError>
+    requires { All IsClosed (parts_of owners.items) }
     ensures { IfOk result (λ parts. parts.items ≡ parts_of owners.items) }
 {
     let mut parts = Vec::with_capacity(alloc, owners.len())?;
     for owner in owners {
-        parts.push(owner.part)?;
+        parts.push(owner.part.close())?;
     }
     Ok(parts)
 }

@@ -1,10 +1,10 @@
 -- Entries and plans put board by board, or in pieces. Private functions alone go by this: no public contract does.
 use Rattle.std.specs.Prelude.{◌≡◌, ℕ, ◌+◌, ◌<◌, ◌≤◌, ◌-◌, List, [], ◌∷◌, ◌++◌, length, sum, slice_index_or, ◌⊎◌, ℤ, pos, ◌-ℤ◌, ◌<ℤ◌, Option, Some, None, map, slice_get}
 use Rattle.awari_board.specs.Rules.{IsBoard}
-use Rattle.awari_rank.specs.Rank.{rank_of}
+use Rattle.awari_rank.specs.Rank.{rank_of, size_of}
 use Rattle.awari_table.specs.declared.images.Entry.{Entry}
 use Rattle.awari_table.specs.declared.images.Image.{Image}
-use Rattle.awari_table.specs.Images.{table_of, no_entry}
+use Rattle.awari_table.specs.Images.{table_of, greatest_dist, no_entry}
 use Rattle.awari_owner.specs.Part.{Part, InBlock, settled_at}
 use Rattle.awari_plan.specs.Finished.{HasSettled}
 use Rattle.awari_plan.specs.Plan.{IsLowest}
@@ -36,6 +36,13 @@ pub record SameSettled (old new : List Entry) : Type 0 where
 abbrev pub IsPlanned : List Image → List Entry → List Entry → ℕ → Type 0
 IsPlanned shelf old new high =
     (p : List ℕ) → IsBoard p → sum p ≡ length shelf → rank_of p < high → IsLowest (table_of (topped shelf old)) p (slice_index_or new (rank_of p) no_entry).plan
+
+-- The image of the level above the shelf: the entries with their plans, and the greatest distance.
+pub record IsPlannedImage (shelf : List Image) (entries : List Entry) (image : Image) : Type 0 where
+  pub level : image.level ≡ length shelf
+  pub same : SameSettled entries image.entries
+  pub planned : IsPlanned shelf entries image.entries (size_of (length shelf))
+  pub limited : image.limit ≡ greatest_dist image.entries
 
 -- the entries of the first `count` boards of the block are put after those that were there
 pub record PushesBlock (part : Part) (old new : List Entry) (count : ℕ) : Type 0 where

@@ -4,13 +4,12 @@ ghost use Rattle.std.specs.Prelude.{◌≡◌, ◌≤◌, ◌<◌, ◌+◌, All,
 ghost use Rattle.awari_rank.specs.Rank.{size_of};
 ghost use Rattle.awari_table.specs.Images.{greatest_dist};
 ghost use Rattle.awari_owner.specs.Level.{AreWhole, IsClosed};
-ghost use Rattle.awari_owner.specs.Part.{InBlock, settled_at};
 ghost use Rattle.awari_plan.specs.Finished.{HasAllSettled, HasSettled, IsFinished};
-ghost use Rattle.awari_plan.specs.Planning.{PushesBlock};
+ghost use Rattle.awari_plan.specs.Planning.{IsPlannedImage, PushesBlock};
 ghost use Rattle.awari_table.specs.declared.TheConstants.{HIGHEST_LEVEL};
 
 use crate::plans::{set_plans, values_of};
-use awari_owner::Part;
+use awari_owner::{ClosedPart, Part};
 use awari_rank::size;
 use awari_table::{Entries, Entry, Image, Shelf};
 use std::alloc::{AllocError, Global};
@@ -27,7 +26,39 @@ pub fn finish(alloc: Global, shelf: &Shelf, parts: &[Part]) -> Result<Image, All
     requires closed { All IsClosed parts.now }
     ensures { IfOk result (IsFinished shelf.now parts.now) }
 {
-    let mut entries = settled_entries(alloc, shelf.levels(), parts)?;
+    let entries = settled_entries(alloc, shelf.levels(), parts)?;
+    planned_image(alloc, shelf, entries)
+}
+
+/// What [`finish`] answers, of parts that are given up. Each is closed, which its type says. The cells
+/// are given back before plans are looked for. So a level never takes more than sixteen bytes a board:
+/// eight of a cell and eight of an entry, and then eight of an entry and one of its value.
+pub fn finish_closed(
+    alloc: Global,
+    shelf: &Shelf,
+    parts: Vec<ClosedPart>,
+) -> Result<Image, AllocError>
+    requires low { length shelf.now ≤ HIGHEST_LEVEL }
+    requires whole { AreWhole (length shelf.now) parts.items }
+    ensures { IfOk result (IsFinished shelf.now parts.items) }
+{
+    let entries = closed_entries(alloc, shelf.levels(), parts.as_slice())?;
+
+    // No cell is read any more, and plans take memory.
+    drop(parts);
+    planned_image(alloc, shelf, entries)
+}
+
+/// The image of the level above the shelf, of its entries with no plans.
+fn planned_image(
+    alloc: Global,
+    shelf: &Shelf,
+    mut entries: Vec<Entry>,
+) -> Result<Image, AllocError>
+    requires low { length shelf.now ≤ 24 }
+    requires sized { length entries.items ≡ size_of (length shelf.now) }
+    ensures { IfOk result (IsPlannedImage shelf.now entries.items) }
+{
     let values = values_of(alloc, entries.as_slice())?;
     set_plans(shelf, values.as_slice(), &mut entries);
     Ok(Image {
@@ -58,17 +89,46 @@ fn push_block(entries: &mut Vec<Entry>, part: &Part) -> Result<(), AllocError>
 {
     let (start, end) = part.block();
     for rank in start..end {
-        entries.push(settled_entry(part, rank))?;
+        entries.push(settled_entry(part.settled(rank)))?;
     }
     Ok(())
 }
 
-/// The entry of a board of the block, with no plan.
-pub fn settled_entry(part: &Part, rank: u32) -> Entry
-    requires inside { InBlock part.now rank }
-    ensures { HasSettled (settled_at part.now rank) result }
+/// The entries of the level with no plans, of closed parts.
+fn closed_entries(
+    alloc: Global,
+    level: u8,
+    parts: &[ClosedPart],
+) -> Result<Vec<Entry>, AllocError>
+    requires low { level ≤ 24 }
+    requires whole { AreWhole level parts.now }
+    ensures sized { IfOk result (λ entries. length entries.items ≡ size_of level) }
+    ensures settled { IfOk result (λ entries. HasAllSettled parts.now entries.items) }
 {
-    let (value, dist) = part.settled(rank).unwrap_or((0, 0));
+    let mut entries = Vec::with_capacity(alloc, size(level) as usize)?;
+    for part in parts {
+        push_closed_block(&mut entries, part)?;
+    }
+    Ok(entries)
+}
+
+/// Puts the entries of a closed block after those of the blocks before it.
+fn push_closed_block(entries: &mut Vec<Entry>, part: &ClosedPart) -> Result<(), AllocError>
+    requires next { part.now.start ≡ length entries.old.items }
+    ensures pushed { OnOk result (PushesBlock part.now entries.old.items entries.new.items (length part.now.cells)) }
+{
+    let (start, end) = part.block();
+    for rank in start..end {
+        entries.push(settled_entry(part.settled(rank)))?;
+    }
+    Ok(())
+}
+
+/// The entry of a board, with no plan, where it is settled so.
+pub fn settled_entry(settled: Option<(i8, u32)>) -> Entry
+    ensures { HasSettled settled result }
+{
+    let (value, dist) = settled.unwrap_or((0, 0));
     Entry {
         value,
         plan: None,

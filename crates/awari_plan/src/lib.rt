@@ -16,7 +16,7 @@ mod parallel;
 mod plans;
 mod worths;
 
-pub use finishing::finish;
+pub use finishing::{finish, finish_closed};
 pub use laws::{finished_levels_are_consistent, lowest_levels_are_one, lowest_plans_stay};
 pub use lines::{Line, LineFault, best_line};
 pub use lowering::least;

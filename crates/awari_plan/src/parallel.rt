@@ -1,15 +1,15 @@
 //! The image of a level, made by as many threads as there are processors.
 
-ghost use Rattle.std.specs.Prelude.{◌≡◌, ◌≤◌, ◌+◌, All, IfOk, OnOk, length};
+ghost use Rattle.std.specs.Prelude.{◌≡◌, ◌≤◌, ◌+◌, IfOk, OnOk, length};
 ghost use Rattle.awari_rank.specs.Rank.{size_of};
-ghost use Rattle.awari_owner.specs.Level.{AreWhole, IsClosed};
+ghost use Rattle.awari_owner.specs.Level.{AreWhole};
 ghost use Rattle.awari_plan.specs.Finished.{HasAllSettled, IsFinished};
 ghost use Rattle.awari_plan.specs.Planning.{AreLowest, AreSettled, AreValues, IsPlanned, PutsBlock, PutsPlans, SameSettled};
 ghost use Rattle.awari_table.specs.declared.TheConstants.{HIGHEST_LEVEL};
 
 use crate::finishing::{greatest, settled_entry};
 use crate::plans::{lowest_plan, values_of};
-use awari_owner::Part;
+use awari_owner::ClosedPart;
 use awari_packed::PackedBoard;
 use awari_rank::{size, unrank};
 use awari_table::{Entries, Entry, Image, Shelf};
@@ -20,22 +20,24 @@ use std::thread::Threads;
 /// How many boards a thread goes over at once. Where there are fewer, one thread does it all.
 const PIECE: usize = 4096;
 
-/// What [`finish`](crate::finish) answers, made by as many threads as there are processors.
-/// Conditions: the shelf has at most `HIGHEST_LEVEL` levels, and the parts are all blocks of its
-/// next level in order, with no fresh board and gain 1 open. It takes memory for the entries, and
+/// What [`finish_closed`](crate::finish_closed) answers, made by as many threads as there are
+/// processors. Conditions: the shelf has at most `HIGHEST_LEVEL` levels, and the parts are all blocks
+/// of its next level in order. It takes memory for the entries, and, once the cells are given back,
 /// three bytes a board beside them while plans are found, and is refused only where that is.
 pub fn finish_parallel<R: Threads + Sync>(
     rt: &R,
     alloc: Global,
     shelf: &Shelf,
-    parts: &[Part],
+    parts: Vec<ClosedPart>,
 ) -> Result<Image, AllocError>
     requires low { length shelf.now ≤ HIGHEST_LEVEL }
-    requires whole { AreWhole (length shelf.now) parts.now }
-    requires closed { All IsClosed parts.now }
-    ensures { IfOk result (IsFinished shelf.now parts.now) }
+    requires whole { AreWhole (length shelf.now) parts.items }
+    ensures { IfOk result (IsFinished shelf.now parts.items) }
 {
-    let mut entries = settled_entries_parallel(rt, alloc, shelf.levels(), parts)?;
+    let mut entries = settled_entries_parallel(rt, alloc, shelf.levels(), parts.as_slice())?;
+
+    // No cell is read any more, and plans take memory.
+    drop(parts);
     set_plans_parallel(rt, alloc, shelf, &mut entries)?;
     Ok(Image {
         level: shelf.levels(),
@@ -50,7 +52,7 @@ fn settled_entries_parallel<R: Threads + Sync>(
     rt: &R,
     alloc: Global,
     level: u8,
-    parts: &[Part],
+    parts: &[ClosedPart],
 ) -> Result<Vec<Entry>, AllocError>
     requires low { level ≤ 24 }
     requires whole { AreWhole level parts.now }
@@ -68,7 +70,7 @@ fn settled_entries_parallel<R: Threads + Sync>(
 }
 
 /// Puts the entries of each block at its ranks.
-fn put_blocks<R: Threads + Sync>(rt: &R, level: u8, parts: &[Part], entries: &mut [Entry])
+fn put_blocks<R: Threads + Sync>(rt: &R, level: u8, parts: &[ClosedPart], entries: &mut [Entry])
     requires whole { AreWhole level parts.now }
     requires sized { length entries.old ≡ size_of level }
     ensures sized { length entries.new ≡ size_of level }
@@ -80,7 +82,7 @@ fn put_blocks<R: Threads + Sync>(rt: &R, level: u8, parts: &[Part], entries: &mu
 }
 
 /// Puts the entries of the block at its ranks.
-fn put_block<R: Threads + Sync>(rt: &R, part: &Part, entries: &mut [Entry])
+fn put_block<R: Threads + Sync>(rt: &R, part: &ClosedPart, entries: &mut [Entry])
     requires inside { part.now.start + length part.now.cells ≤ length entries.old }
     ensures { PutsBlock part.now entries.old entries.new }
 {
@@ -89,7 +91,7 @@ fn put_block<R: Threads + Sync>(rt: &R, part: &Part, entries: &mut [Entry])
 }
 
 /// Makes the entries those of the block, in pieces.
-fn fill_block<R: Threads + Sync>(rt: &R, part: &Part, entries: &mut [Entry])
+fn fill_block<R: Threads + Sync>(rt: &R, part: &ClosedPart, entries: &mut [Entry])
     requires len { length entries.old ≡ length part.now.cells }
     ensures len { length entries.new ≡ length entries.old }
     ensures settled { AreSettled part.now part.now.start (length entries.old) entries.new }
@@ -106,14 +108,14 @@ fn fill_block<R: Threads + Sync>(rt: &R, part: &Part, entries: &mut [Entry])
 }
 
 /// Makes the entries those of the boards of the block from the one of this place on.
-fn fill_piece(part: &Part, first: usize, entries: &mut [Entry])
+fn fill_piece(part: &ClosedPart, first: usize, entries: &mut [Entry])
     requires inside { first + length entries.old ≤ length part.now.cells }
     ensures len { length entries.new ≡ length entries.old }
     ensures settled { AreSettled part.now (part.now.start + first) (length entries.old) entries.new }
 {
     let (start, _) = part.block();
     for k in 0..entries.len() {
-        entries[k] = settled_entry(part, start + (first + k) as u32);
+        entries[k] = settled_entry(part.settled(start + (first + k) as u32));
     }
 }
 

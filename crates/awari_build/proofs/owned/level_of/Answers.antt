@@ -1,4 +1,4 @@
-use Rattle.std.proofs.Common.{List, length, sym, subst, ◌∙◌}
+use Rattle.std.proofs.Common.{List, length, sym, subst}
 use Rattle.awari_table.specs.Images.{table_of}
 use Rattle.awari_table.specs.Shelves.{Consistent}
 use Rattle.awari_table.specs.declared.rules.Distances.TheVariants.{Least}
@@ -10,9 +10,14 @@ use Rattle.awari_phase.specs.Owners.{parts_of}
 use Rattle.awari_plan.specs.Finished.{IsFinished}
 use Rattle.awari_build.proofs.owned.level_of.Goals as goal
 
+pub closed_parts-requires : goal.closed_parts-requires
+closed_parts-requires g c =
+    let at = c.requires.closed in
+    c.finished_owners_are_right.ensures.closed c.args.owners.items at.idle at.gain
+
 pub finish_parallel-requires-clause-whole : goal.finish_parallel-requires-clause-whole
 finish_parallel-requires-clause-whole g c κs within =
-    subst (AreWhole (length c.args.shelf.now)) (sym (c.as_slice.ensures.value ∙ c.in-Ok.ensures))
+    subst (AreWhole (length c.args.shelf.now)) (sym c.in-Ok.ensures)
     (c.finished_owners_are_right.ensures.heard (table_of c.args.shelf.now).value (length c.args.shelf.now) c.args.owners.items c.requires.closed.finished).0
 
 pub returns-in-Ok-finish_parallel-clause-consistent : goal.returns-in-Ok-finish_parallel-clause-consistent
@@ -20,7 +25,7 @@ returns-in-Ok-finish_parallel-clause-consistent g c =
     let at = c.requires.closed in
     let heard = c.finished_owners_are_right.ensures.heard (table_of c.args.shelf.now).value (length c.args.shelf.now) c.args.owners.items at.finished in
     let closed = c.finished_owners_are_right.ensures.closed c.args.owners.items at.idle at.gain in
-    let finished = subst (λ (parts : List Part). IsFinished c.args.shelf.now parts c.in-Ok-finish_parallel.image) (c.as_slice.ensures.value ∙ c.in-Ok.ensures) c.in-Ok-finish_parallel.ensures in
+    let finished = subst (λ (parts : List Part). IsFinished c.args.shelf.now parts c.in-Ok-finish_parallel.image) c.in-Ok.ensures c.in-Ok-finish_parallel.ensures in
     subst (Consistent c.args.shelf.now) (sym c.new.ensures)
     (c.finished_levels_are_consistent.ensures c.args.shelf.now (parts_of c.args.owners.items) c.in-Ok-finish_parallel.image c.requires.shelf c.requires.low heard.0 closed heard.1 finished)
 
@@ -29,7 +34,7 @@ new-requires g c =
     let at = c.requires.closed in
     let heard = c.finished_owners_are_right.ensures.heard (table_of c.args.shelf.now).value (length c.args.shelf.now) c.args.owners.items at.finished in
     let closed = c.finished_owners_are_right.ensures.closed c.args.owners.items at.idle at.gain in
-    let finished = subst (λ (parts : List Part). IsFinished c.args.shelf.now parts c.in-Ok-finish_parallel.image) (c.as_slice.ensures.value ∙ c.in-Ok.ensures) c.in-Ok-finish_parallel.ensures in
+    let finished = subst (λ (parts : List Part). IsFinished c.args.shelf.now parts c.in-Ok-finish_parallel.image) c.in-Ok.ensures c.in-Ok-finish_parallel.ensures in
     IsLevel-consistent Least c.args.shelf.now c.in-Ok-finish_parallel.image
     (c.finished_levels_are_consistent.ensures c.args.shelf.now (parts_of c.args.owners.items) c.in-Ok-finish_parallel.image c.requires.shelf c.requires.low heard.0 closed heard.1 finished)
 

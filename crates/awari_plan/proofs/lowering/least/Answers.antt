@@ -5,7 +5,7 @@ use Rattle.awari_table.specs.Images.{greatest_dist}
 use Rattle.awari_plan.specs.Least.{NoFarther}
 use Rattle.awari_plan.specs.Lowering.{AreAbove}
 use Rattle.awari_plan.specs.Planning.{SameSettled}
-use Rattle.awari_plan.proofs.Whole.{finished}
+use Rattle.awari_plan.proofs.Whole.{finished, planned}
 use Rattle.awari_plan.proofs.Lowerings.{above_image, least_consistent}
 use Rattle.awari_plan.proofs.lowering.least.Goals as goal
 
@@ -14,16 +14,16 @@ lower-requires-clause-above c = subst (AreAbove c.args.shelf.now) (sym c.into_ve
 
 pub returns-clause-planned : goal.returns-clause-planned
 returns-clause-planned c =
-    (finished c.args.shelf.now [] _ c.lower.new.entries.items _ c.requires.next c.from.ensures (c.greatest.ensures ∙ ap greatest_dist c.as_slice.ensures.value)
+    (finished c.args.shelf.now [] _ c.lower.new.entries.items
     (c.lower.ensures.nearer.size ∙ ap (λ (es : List Entry). length es) c.into_vec-entries.ensures ∙ c.requires.sized ∙ ap size_of c.requires.next) tt
-    c.set_plans.ensures.same c.set_plans.ensures.planned).planned
+    (planned _ _ _ _ c.requires.next c.from.ensures (c.greatest.ensures ∙ ap greatest_dist c.as_slice.ensures.value) c.set_plans.ensures.same c.set_plans.ensures.planned)).planned
 
 pub returns-clause-consistent : goal.returns-clause-consistent
 returns-clause-consistent c =
     let done =
-    finished c.args.shelf.now [] _ c.lower.new.entries.items _ c.requires.next c.from.ensures (c.greatest.ensures ∙ ap greatest_dist c.as_slice.ensures.value)
+    finished c.args.shelf.now [] _ c.lower.new.entries.items
     (c.lower.ensures.nearer.size ∙ ap (λ (es : List Entry). length es) c.into_vec-entries.ensures ∙ c.requires.sized ∙ ap size_of c.requires.next) tt
-    c.set_plans.ensures.same c.set_plans.ensures.planned in
+    (planned _ _ _ _ c.requires.next c.from.ensures (c.greatest.ensures ∙ ap greatest_dist c.as_slice.ensures.value) c.set_plans.ensures.same c.set_plans.ensures.planned) in
     least_consistent c.args.shelf.now c.args.image _ c.lower.new.entries.items c.requires
     (subst (λ (es : List Entry). NoFarther es c.lower.new.entries.items) c.into_vec-entries.ensures c.lower.ensures.nearer)
     c.lower.ensures.above c.lower.ensures.below (subst (SameSettled c.lower.new.entries.items) (sym c.from.ensures) c.set_plans.ensures.same) done

@@ -1,10 +1,13 @@
-use Rattle.std.proofs.Common.{◌∙◌, ap}
+use Rattle.std.proofs.Common.{List, subst, ◌∙◌, ap}
 use Rattle.awari_rank.specs.Rank.{size_of}
 use Rattle.awari_table.specs.Images.{greatest_dist}
-use Rattle.awari_plan.proofs.Whole.{finished}
+use Rattle.awari_owner.specs.Part.{Part}
+use Rattle.awari_plan.specs.Finished.{HasAllSettled}
+use Rattle.awari_plan.proofs.Whole.{finished, planned}
 use Rattle.awari_plan.proofs.parallel.finish_parallel.Goals as goal
 
 pub returns : goal.returns
 returns g c =
-    finished _ _ _ _ _ c.levels-2.ensures.levels c.from.ensures (c.greatest.ensures ∙ ap greatest_dist c.as_slice.ensures.value)
-    (c.in_ok-entries.ensures.sized ∙ ap size_of c.levels.ensures.levels) c.in_ok-entries.ensures.settled c.in_ok-set_plans_parallel.ensures.same c.in_ok-set_plans_parallel.ensures.planned
+    let settled = subst (λ (parts : List Part). HasAllSettled parts c.in_ok-entries.entries.items) c.as_slice.ensures.value c.in_ok-entries.ensures.settled in
+    finished _ _ _ _ (c.in_ok-entries.ensures.sized ∙ ap size_of c.levels.ensures.levels) settled
+    (planned _ _ _ _ c.levels-2.ensures.levels c.from.ensures (c.greatest.ensures ∙ ap greatest_dist c.as_slice-2.ensures.value) c.in_ok-set_plans_parallel.ensures.same c.in_ok-set_plans_parallel.ensures.planned)

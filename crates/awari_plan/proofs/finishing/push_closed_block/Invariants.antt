@@ -1,0 +1,6 @@
+use Rattle.std.proofs.Common.{◌-◌}
+use Rattle.awari_plan.specs.Planning.{PushesBlock}
+use Rattle.awari_plan.proofs.finishing.push_closed_block.Given as goal
+
+abbrev pub invariant-loop-rank : goal.invariant-loop-rank
+invariant-loop-rank l = PushesBlock l.part l.fn.entries.items l.entries.items (l.rank - l.start)
