@@ -13,10 +13,18 @@ use Rattle.std.specs.List.Sorted.{IsPermutation}
 use Rattle.awari_owner.specs.declared.cells.Cell.{Cell}
 use Rattle.awari_owner.specs.Cells.{is_settled, Fits, IsEither, IsTimely, Keeps}
 use Rattle.awari_owner.specs.declared.places.Place.{Place}
-use Rattle.awari_owner.specs.Blocks.{Due, due_rank, due_dist, no_cell, cell_in, is_settled_in, times_due, unsettled, IsDueAs, IsBlock, Joins, JoinsIf, JoinNewlySettled}
+use Rattle.awari_owner.specs.Blocks.{Due, due_rank, due_dist, no_cell, cell_in, is_settled_in, times_due, unsettled, IsDueAs, IsBlock, JoinNewlySettled}
 
 abbrev pub one_if : Bool → ℕ
 one_if b = cond b 1 0
+
+-- where the board of a cell that is put is newly settled it joins the fresh, and else nothing changes
+abbrev pub JoinsIf : Bool → Cell → ℕ → List Due → List Due → Type 0
+JoinsIf true new rank fresh after = (f : Due) × (due_rank f ≡ rank) × (due_dist f ≡ new.dist) × IsPermutation (f ∷ fresh) after
+JoinsIf false new rank fresh after = after ≡ fresh
+
+abbrev pub Joins : Cell → Cell → ℕ → List Due → List Due → Type 0
+Joins old new rank fresh after = JoinsIf (is_settled new.mark && not (is_settled old.mark)) new rank fresh after
 
 -- the cell at another rank stays, and the one at the rank is the new one
 pub cell_in-same : (start : ℕ) (cells : List Cell) (rank : ℕ) (c : Cell) → rank - start < length cells → cell_in start (set cells (rank - start) c) rank ≡ c

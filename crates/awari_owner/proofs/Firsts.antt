@@ -1,5 +1,5 @@
 -- The first fresh board, and what its spread makes of the part.
-use Rattle.std.proofs.Common.{◌≡◌, ℕ, ◌+◌, ◌-◌, ◌^◌, ◌<◌, ◌≤◌, Bool, false, true, inl, inr, if◌then◌else◌, Some, List, ◌∷◌, length, sum, All, refl, sym, ap, subst, ◌∙◌, arith}
+use Rattle.std.proofs.Common.{◌≡◌, ℕ, ◌+◌, ◌-◌, ◌^◌, ◌<◌, ◌≤◌, Bool, false, true, inl, inr, if◌then◌else◌, Some, List, ◌∷◌, length, sum, All, refl, sym, ap, subst, subst₂, ◌∙◌, arith}
 use Rattle.std.proofs.lemmas.Int.{ints}
 use Rattle.std.proofs.lemmas.Bool.{false≢true}
 use Rattle.std.proofs.lemmas.List.Elements.{All-weaker}
@@ -10,14 +10,17 @@ use Rattle.awari_unmove.specs.Predecessors.{IsPredecessors}
 use Rattle.awari_owner.specs.Notes.{IsQuietMove, IsNoteOf}
 use Rattle.awari_owner.specs.Cells.{IsEither, IsWithin, Fits, FitsBy, is_settled}
 use Rattle.awari_owner.specs.Blocks.{Due, due_rank, due_dist, cell_in, times_due, is_settled_in, no_cell, IsDueAs, IsBlock, JoinNewlySettled, KeepSettled}
-use Rattle.awari_owner.specs.Part.{Part, InBlock, IsTallied, part_of, stored_at, settled_at}
+use Rattle.awari_owner.specs.Part.{Part, InBlock, IsTallied, part_of, stored_at, settled_at, unspread}
 use Rattle.awari_owner.specs.Spread.{Source, Tells, kind_of, note_to, with_all_own, LeavesFresh, Spreads, SpreadsOne}
 use Rattle.awari_owner.specs.declared.cells.Cell.{Cell}
 use Rattle.awari_owner.specs.declared.cells.Mark.{Mark}
 use Rattle.awari_owner.specs.declared.cells.Mark.TheVariants.{Ended, Quiet, Capturing, Settled}
 use Rattle.awari_owner.specs.declared.notes.Kind.{Kind}
 use Rattle.awari_owner.specs.declared.places.Place.{Place}
+use Rattle.awari_owner.specs.Boards.{Settles, TakesFirst, place_of}
+use Rattle.std.proofs.lemmas.List.Sorted.{length_permutation}
 use Rattle.awari_owner.proofs.BlockLemmas.{first_due}
+use Rattle.awari_owner.proofs.Settling.{same_place}
 use Rattle.awari_owner.proofs.Spreading.{IsInjective, AreSources, sources_of, unheard_sources, joined_but}
 use Rattle.awari_owner.proofs.Hearing.{settled_value, first_spreads, hears_first, note_fits}
 
@@ -126,3 +129,38 @@ module _ (place : Place) (cells cells' : List Cell) (fresh rest after : List Due
 
       gives : (y : Source) → IsQuietMove y.0 y.1 q → sum y.0 ≡ place.level → IsNoteOf q (stored_at old (rank_of q)).score place.wave y.0 y.1 (note_to old (kind_of (stored_at old (rank_of q)).score) y)
       gives y quiet st = note_fits old q (stored_at old (rank_of q)).score y one (subst (λ r. IsEither place.gain (cell_in place.start cells r).score) (sym ranked) due.2.valued) st quiet
+
+-- ---- the same of a part whose first fresh board is taken and then told of
+
+module _ (old taken new : Part) (rank : ℕ) (takes : TakesFirst old taken rank) (settles : Settles taken new) where
+  -- only the fresh boards differ before
+  pub taken_settles : Settles (record old { fresh = taken.fresh }) new
+  taken_settles = subst (λ (t : Part). Settles t new) takes.rest settles
+
+  at_place : part_of (place_of old) new.cells new.fresh ≡ new
+  at_place = same_place (record old { fresh = taken.fresh }) new taken_settles.same
+
+  pub fewer_unspread : unspread new + 1 ≡ unspread old
+  fewer_unspread =
+      let fewer = length_permutation ((old.wave, rank) ∷ taken.fresh) old.fresh takes.moved in
+      let kept = taken_settles.unspread in
+      omega (arith, fewer, kept)
+
+  pub spread_first : (cell : Cell) (q : List ℕ) (sources : List Source) (kind : Kind) → IsInjective
+      → ((p : List ℕ) (x : ℕ) (r : List ℕ) → IsBoard p → IsQuietMove p x r → IsBoard r) → ((p : List ℕ) (x : ℕ) (r : List ℕ) → IsBoard p → IsQuietMove p x r → sum r + 0 ≡ sum p)
+      → old.wave < 2 ^ 32 - 1 → 1 ≤ old.gain → IsBoard q → sum q ≡ old.level → rank_of q ≡ rank → cell ≡ stored_at taken rank → kind ≡ kind_of cell.score
+      → IsPredecessors q sources → Tells taken new kind sources
+      → Spreads old new q sources × IsTold old q sources kind
+  spread_first cell q sources kind injective boards stones near one is level ranked was kinds predecessors told =
+      subst (λ (n : Part). Spreads old n q sources × IsTold old q sources kind) at_place
+      (spread_by (place_of old) old.cells new.cells old.fresh taken.fresh new.fresh (old.wave, rank) cell q sources kind injective boards stones takes.sound takes.moved takes.first
+      refl near one is level ranked (sym (subst (λ (t : Part). cell ≡ stored_at t rank) takes.rest was)) kinds predecessors
+      (subst₂ (λ (t n : Part). Tells t n kind sources) takes.rest (sym at_place) told)
+      taken_settles.joins taken_settles.stays taken_settles.size)
+
+-- the open gain is one that the level has
+pub taken_low : (old taken : Part) (rank : ℕ) → TakesFirst old taken rank → taken.gain ≤ taken.level
+taken_low old taken rank takes =
+    subst (λ (t : Part). t.gain ≤ t.level) (sym takes.rest)
+    (let due = first_due (place_of old) old.cells old.fresh taken.fresh (old.wave, rank) takes.sound takes.moved in
+    gain_low (place_of old) (stored_at old rank) (takes.sound.fit (rank - old.start) no_cell due.1) due.4 due.2.valued)

@@ -1,8 +1,8 @@
 -- What the fresh boards of a part are.
-use Rattle.std.proofs.Common.{◌≡◌, ℕ, ◌≤◌, Bool, true, false, if◌then◌else◌, List, subst, arith}
+use Rattle.std.proofs.Common.{◌≡◌, ℕ, ◌≤◌, Bool, true, false, if◌then◌else◌, List, arith}
 use Rattle.std.proofs.lemmas.List.Elements.{All-from_recursion, recursion_from_All}
 use Rattle.awari_owner.specs.Blocks.{Due, due_rank, due_dist, cell_in, is_settled_in, times_due, IsDueAs, IsBlock}
-use Rattle.awari_owner.specs.Part.{Part, AreFresh, IsFreshIn, part_of}
+use Rattle.awari_owner.specs.Part.{AreFresh, IsFreshIn, part_of}
 use Rattle.awari_owner.specs.declared.cells.Cell.{Cell}
 use Rattle.awari_owner.specs.declared.places.Place.{Place}
 use Rattle.awari_owner.proofs.BlockLemmas.{all_both, due_settled, settled_inside}
@@ -27,8 +27,3 @@ fresh_of_block place cells fresh sound = record {
     at_most : (b : Bool) (n : ℕ) → n ≤ (if b then 1 else 0) → n ≤ 1
     at_most true n h = h
     at_most false n h = omega (arith, h)
-
--- so they are where this is the part's block
-pub fresh_of_part : (place : Place) (cells : List Cell) (fresh : List Due) (part : Part) → part_of place cells fresh ≡ part → IsBlock place cells fresh
-    → AreFresh part
-fresh_of_part place cells fresh part same sound = subst AreFresh same (fresh_of_block place cells fresh sound)

@@ -19,6 +19,7 @@ pub mod Scanning
 pub mod PieceLemmas
 pub mod Firsts
 pub mod Freshness
+pub mod Settling
 pub mod Sending
 pub mod Queueing
 pub mod Sharing

@@ -1,5 +1,5 @@
 -- What the notes of a board that is spread make of its own part.
-use Rattle.std.proofs.Common.{◌≡◌, ℕ, suc, ◌||◌, eqb-true, ◌+◌, ◌-◌, ◌<◌, ◌≤◌, ◌==◌, ◌⊎◌, inl, inr, Bool, true, false, ◌&&◌, cond, if◌then◌else◌, nat_le, nat_lt, List, [], ◌∷◌, ◌++◌, length, length-append, append_assoc, get_or, slice_index, fold, set, sum, ℤ, All, Contains, refl, sym, ap, subst, subst₂, ◌∙◌, arith}
+use Rattle.std.proofs.Common.{◌≡◌, ◌↔◌, IsTrue, ℕ, suc, ◌||◌, eqb-true, ◌+◌, ◌-◌, ◌<◌, ◌≤◌, ◌==◌, ◌⊎◌, inl, inr, Bool, true, false, ◌&&◌, cond, if◌then◌else◌, nat_le, nat_lt, List, [], ◌∷◌, ◌++◌, length, length-append, append_assoc, get_or, slice_index, fold, sum, ℤ, All, Contains, refl, sym, ap, subst, subst₂, ◌∙◌, arith}
 use Rattle.std.proofs.lemmas.Bool.Decides.{nat_tests}
 use Rattle.std.proofs.lemmas.List.{get_or_default, get_or_append_left}
 use Rattle.std.proofs.Math.Seq.{get_or-append_seam}
@@ -8,17 +8,16 @@ use Rattle.awari_owner.proofs.BlockLemmas.{times_due-cons, times_due-permuted}
 use Rattle.awari_board.specs.Rules.{IsBoard}
 use Rattle.awari_rank.specs.Rank.{rank_of}
 use Rattle.awari_owner.specs.Notes.{IsQuietMove, Has, is_heard_at}
-use Rattle.awari_owner.specs.Tally.{has_pit, with_pit}
-use Rattle.awari_owner.specs.Steps.{after_note}
-use Rattle.awari_owner.specs.Cells.{status_of}
+use Rattle.awari_owner.specs.Tally.{has_pit}
 use Rattle.awari_owner.specs.Blocks.{Due, due_rank, times_due, is_settled_in, JoinNewlySettled}
-use Rattle.awari_owner.specs.Part.{Part, InBlock, IsTallied, stored_at, notes_for}
+use Rattle.awari_owner.specs.Part.{Part, InBlock, IsTallied, SameLevel, stored_at, notes_for}
+use Rattle.awari_owner.specs.Boards.{HearsNote}
 use Rattle.awari_owner.specs.Spread.{Source, is_held, note_to, with_own, with_all_own, IsSource, AreUnheard, Tells, HearsOwn}
 use Rattle.awari_unmove.specs.Predecessors.{IsPredecessors, ComesBefore}
 use Rattle.awari_owner.specs.declared.notes.Note.{Note}
 use Rattle.awari_owner.specs.declared.notes.Kind.{Kind}
 use Rattle.awari_owner.specs.declared.cells.Cell.{Cell}
-use Rattle.awari_owner.proofs.Taking.{IsTakeable, added_put}
+use Rattle.awari_owner.proofs.Taking.{IsTakeable, added_heard}
 
 pub held_is : (a b n : ℕ) → a ≤ b → b - a < n → (nat_le a b && nat_lt (b - a) n) ≡ true
 held_is a b n h k = grind (arith, nat_tests)
@@ -47,22 +46,35 @@ held_inside part rank e = (low part.start rank (length part.cells) e, high part.
     high : (a b n : ℕ) → (nat_le a b && nat_lt (b - a) n) ≡ true → b - a < n
     high a b n e = grind (arith, nat_tests)
 
--- a source of the block hears the note; its cell in the tally is silent at the pit
-pub heard_here : (value : List ℕ → ℤ) (notes : List Note) (part : Part) (kind : Kind) (y : Source) (cells : List Cell) (fresh : List Due) (cell next : Cell) → IsInjective → 1 ≤ part.gain
-    → IsSource part.level y → InBlock part (rank_of y.0) → stored_at part (rank_of y.0) ≡ cell → is_heard_at (notes_for (rank_of y.0) notes) y.1 ≡ false
-    → cells ≡ set part.cells (rank_of y.0 - part.start) next
-    → next.heard ≡ with_pit cell.heard y.1 → status_of next ≡ after_note (status_of cell) kind part.gain part.wave
-    → IsTallied value part notes
-    → IsTallied value (record { level = part.level; gain = part.gain; wave = part.wave; start = part.start; cells = cells; fresh = fresh }) (with_own part kind notes y)
-heard_here value notes part kind y cells fresh cell next injective one source inside was unheard put heard status tallied =
-    subst (λ b. IsTallied value (record { level = part.level; gain = part.gain; wave = part.wave; start = part.start; cells = cells; fresh = fresh }) (cond b (note_to part kind y ∷ notes) notes))
-    (sym (held_is part.start (rank_of y.0) (length part.cells) inside.0 inside.1))
-    (added_put value notes part (note_to part kind y) cells fresh cell next one due was silent put heard status tallied)
+-- so it is the same as any other test of that
+pub held_by : (part : Part) (rank : ℕ) (b : Bool) → IsTrue b ↔ InBlock part rank → is_held part rank ≡ b
+held_by part rank true is = let inside = is.0 (grind arith) in held_is part.start rank (length part.cells) inside.0 inside.1
+held_by part rank false is = by (is_held part rank) refl
   where
-    silent : has_pit cell.heard y.1 ≡ false
-    silent =
-        subst (λ (d : Cell). has_pit d.heard y.1 ≡ false) was
-        ((tallied y.0 source.0 source.1 inside).heard y.1 source.2.1.legal.own ∙ unheard)
+    never : IsTrue false → ⊥
+    never t = grind arith
+
+    by : (h : Bool) → is_held part rank ≡ h → is_held part rank ≡ false
+    by false e = e
+    by true e = absurd (never (is.1 (held_inside part rank e)))
+
+-- and what it says hangs on the block's bounds alone
+pub held_still : (part other : Part) (rank : ℕ) → other.start ≡ part.start → length other.cells ≡ length part.cells → is_held other rank ≡ is_held part rank
+held_still part other rank start size =
+    ap (λ s. nat_le s rank && nat_lt (rank - s) (length other.cells)) start ∙ ap (λ n. nat_le part.start rank && nat_lt (rank - part.start) n) size
+
+-- a source of the block hears the note; its cell in the tally is silent at the pit
+pub heard_here : (value : List ℕ → ℤ) (notes : List Note) (part new : Part) (kind : Kind) (y : Source) → IsInjective → 1 ≤ part.gain
+    → IsSource part.level y → InBlock part (rank_of y.0) → is_heard_at (notes_for (rank_of y.0) notes) y.1 ≡ false
+    → SameLevel part new → HearsNote part new (rank_of y.0) y.1 kind
+    → IsTallied value part notes → IsTallied value new (with_own part kind notes y)
+heard_here value notes part new kind y injective one source inside unheard same hears tallied =
+    subst (λ b. IsTallied value new (cond b (note_to part kind y ∷ notes) notes))
+    (sym (held_is part.start (rank_of y.0) (length part.cells) inside.0 inside.1))
+    (added_heard value notes part new (note_to part kind y) one due silent same hears tallied)
+  where
+    silent : has_pit (stored_at part (rank_of y.0)).heard y.1 ≡ false
+    silent = (tallied y.0 source.0 source.1 inside).heard y.1 source.2.1.legal.own ∙ unheard
 
     due : IsTakeable part (note_to part kind y)
     due = record {

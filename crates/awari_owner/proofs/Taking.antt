@@ -8,7 +8,8 @@ use Rattle.awari_owner.specs.Tally.{IsTally, has_pit, with_pit}
 use Rattle.awari_owner.specs.Tally as tally
 use Rattle.awari_owner.specs.Steps.{after_note}
 use Rattle.awari_owner.specs.Cells.{status_of}
-use Rattle.awari_owner.specs.Blocks.{cell_in, Due}
+use Rattle.awari_owner.specs.Blocks.{cell_in}
+use Rattle.awari_owner.specs.Boards.{HearsNote}
 use Rattle.std.proofs.lemmas.List.{get_or_default}
 use Rattle.awari_owner.specs.Leaving.{AreLeaving, LeavesAt}
 use Rattle.awari_owner.specs.Part.{Part, InBlock, Leaves, IsExpected, IsTallied, SameLevel, cell_at, stored_at, notes_for}
@@ -16,7 +17,7 @@ use Rattle.awari_owner.specs.declared.notes.Note.{Note}
 use Rattle.awari_owner.specs.declared.cells.Cell.{Cell}
 use Rattle.awari_owner.proofs.Statuses.{IsNew}
 use Rattle.awari_owner.proofs.Tallies.{note_tally}
-use Rattle.awari_owner.proofs.BlockLemmas.{cell_in-other, cell_in-same}
+use Rattle.awari_owner.proofs.BlockLemmas.{cell_in-other}
 
 -- a note for a board of the block, of one of its quiet moves, of the open gain and distance
 pub record IsTakeable (part : Part) (note : Note) : Type 0 where
@@ -104,22 +105,12 @@ added value notes old new note one due silent same_level put heard status tallie
         (moved_tally value (cell_at old (rank_of p)) (cell_at new (rank_of p)) p (notes_for (rank_of p) notes) old.gain old.wave new.gain new.wave same_level.gain same_level.wave
         (ap (λ (d : Cell). d.heard) same) (ap status_of same) before)
 
--- the same, where a cell is put into the block
-pub added_put : (value : List ℕ → ℤ) (notes : List Note) (old : Part) (note : Note) (cells : List Cell) (fresh : List Due) (cell next : Cell) → 1 ≤ old.gain → IsTakeable old note
-    → stored_at old note.target ≡ cell → has_pit cell.heard note.pit ≡ false → cells ≡ set old.cells (note.target - old.start) next
-    → next.heard ≡ with_pit cell.heard note.pit → status_of next ≡ after_note (status_of cell) note.kind old.gain note.dist
-    → IsTallied value old notes
-    → IsTallied value (record { level = old.level; gain = old.gain; wave = old.wave; start = old.start; cells = cells; fresh = fresh }) (note ∷ notes)
-added_put value notes old note cells fresh cell next one due was silent put heard status tallied =
-    let there : cell_in old.start cells note.target ≡ next =
-    subst (λ (cs : List Cell). cell_in old.start cs note.target ≡ next) (sym put) (cell_in-same old.start old.cells note.target next due.held.1) in
-    added value notes old (record { level = old.level; gain = old.gain; wave = old.wave; start = old.start; cells = cells; fresh = fresh }) note one due
-    (subst (λ (d : Cell). has_pit d.heard note.pit ≡ false) (sym was) silent)
-    (record { level = refl; gain = refl; wave = refl; start = refl })
-    (subst (λ (d : Cell). cells ≡ set old.cells (note.target - old.start) d) (sym there) put)
-    (subst₂ (λ (d e : Cell). d.heard ≡ with_pit e.heard note.pit) (sym there) (sym was) heard)
-    (subst₂ (λ (d e : Cell). status_of d ≡ after_note (status_of e) note.kind old.gain note.dist) (sym there) (sym was) status)
-    tallied
+-- the same of a note that is heard
+pub added_heard : (value : List ℕ → ℤ) (notes : List Note) (old new : Part) (note : Note) → 1 ≤ old.gain → IsTakeable old note → has_pit (stored_at old note.target).heard note.pit ≡ false
+    → SameLevel old new → HearsNote old new note.target note.pit note.kind → IsTallied value old notes → IsTallied value new (note ∷ notes)
+added_heard value notes old new note one due silent same hears tallied =
+    added value notes old new note one due silent same hears.cells hears.heard
+    (hears.status ∙ ap (after_note (status_of (stored_at old note.target)) note.kind old.gain) (sym due.dist)) tallied
 
 pub expected_takeable : (part : Part) (note : Note) → IsExpected part note → IsTakeable part note
 expected_takeable part note e = record {

@@ -1,6 +1,5 @@
 -- The cells of a block and its fresh boards.
-use Rattle.std.specs.Prelude.{◌≡◌, ℕ, ◌+◌, ◌-◌, ◌≤◌, ◌==◌, Bool, true, false, not, ◌&&◌, if◌then◌else◌, nat_le, List, ◌∷◌, All, count_by, slice_index_or, pos}
-use Rattle.std.specs.List.Sorted.{IsPermutation}
+use Rattle.std.specs.Prelude.{◌≡◌, ℕ, ◌+◌, ◌-◌, ◌≤◌, ◌==◌, Bool, not, ◌&&◌, if◌then◌else◌, nat_le, List, All, count_by, slice_index_or, pos}
 use Rattle.awari_owner.specs.declared.cells.Cell.{Cell}
 use Rattle.awari_owner.specs.declared.cells.Mark.TheVariants.{Ended}
 use Rattle.awari_owner.specs.Cells.{is_settled, Fits, IsEither, Keeps}
@@ -45,14 +44,6 @@ pub record IsBlock (place : Place) (cells : List Cell) (fresh : List Due) : Type
   pub fit : All (Fits place) cells
   pub settled : (rank : ℕ) → times_due fresh rank ≤ (if is_settled_in place.start cells rank then 1 else 0)
   pub due : All (λ f. IsDueAs place f (cell_in place.start cells (due_rank f))) fresh
-
--- where the board is newly settled it joins the fresh, and else nothing changes
-abbrev pub JoinsIf : Bool → Cell → ℕ → List Due → List Due → Type 0
-JoinsIf true new rank fresh after = (f : Due) × (due_rank f ≡ rank) × (due_dist f ≡ new.dist) × IsPermutation (f ∷ fresh) after
-JoinsIf false new rank fresh after = after ≡ fresh
-
-abbrev pub Joins : Cell → Cell → ℕ → List Due → List Due → Type 0
-Joins old new rank fresh after = JoinsIf (is_settled new.mark && not (is_settled old.mark)) new rank fresh after
 
 -- the fresh boards gain those that are newly settled
 abbrev pub JoinNewlySettled : ℕ → List Cell → List Due → List Cell → List Due → Type 0

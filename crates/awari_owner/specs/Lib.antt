@@ -5,6 +5,8 @@ pub mod Cells
 pub mod Blocks
 pub mod Fresh
 pub mod Part
+pub mod Boards
+pub mod BoardsFields
 pub mod Leaving
 pub mod PartFields
 pub mod ClosedFields

@@ -1,18 +1,11 @@
 -- The fields of a part.
-use Rattle.std.specs.Prelude.{◌≡◌, ◌+◌, ◌^◌, ◌<◌, ◌≤◌, vec_len}
-use Rattle.awari_owner.specs.Fresh.{IsFresh, fresh_of}
-use Rattle.awari_rank.specs.Rank.{size_of}
-use Rattle.awari_owner.specs.Blocks.{IsBlock}
+use Rattle.std.specs.Prelude.{◌≡◌, ◌≤◌, length, vec_len}
 use Rattle.awari_owner.specs.Leaving.{AreLeaving}
+use Rattle.awari_owner.specs.Part.{AreFresh}
 use Rattle.awari_owner.specs.declared.parts.Part.TheInside.{Inside}
 
 pub record IsPart (a : Inside) : Type 0 where
-  pub low : a.place.level ≤ 24
-  pub opened : 1 ≤ a.place.gain
-  pub inward : a.place.gain ≤ a.place.level + 1
-  pub fits : a.place.start + vec_len a.cells < 2 ^ 32
-  pub within : a.place.start + vec_len a.cells ≤ size_of a.place.level
-  pub marks : IsFresh a.cells.items a.fresh
-  pub block : IsBlock a.place a.cells.items (fresh_of a.place.start a.cells.items a.fresh)
-  pub each : vec_len a.leaving ≡ vec_len a.cells
-  pub leaving : AreLeaving a.place.level a.place.start (vec_len a.leaving) a.place.start a.leaving.items
+  pub opened : 1 ≤ a.boards.gain
+  pub each : vec_len a.leaving ≡ length a.boards.cells
+  pub leaving : AreLeaving a.boards.level a.boards.start (length a.boards.cells) a.boards.start a.leaving.items
+  pub fresh : AreFresh a.boards

@@ -17,7 +17,7 @@
 //!     expect_equal(rt, "a board", part.spread_one(outboxes), Ok(true));
 #![tactic(auto)]
 
-mod blocks;
+mod boards;
 mod cells;
 mod closed;
 mod faults;

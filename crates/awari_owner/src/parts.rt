@@ -1,6 +1,6 @@
 //! One owner's part of a level, and what is asked of it between two spreads.
 
-ghost use Rattle.std.specs.Prelude.{◌≡◌, ◌≢◌, ◌⊎◌, ℕ, ℤ, ◌+◌, ◌-◌, ◌^◌, ◌<◌, ◌≤◌, ◌∷◌, ◌↔◌, List, IsTrue, OnOk, OnErr, IfOk, IfErr, IfSome, All, sum, true, false, length, []};
+ghost use Rattle.std.specs.Prelude.{◌≡◌, ◌⊎◌, ℕ, ℤ, ◌+◌, ◌-◌, ◌^◌, ◌<◌, ◌≤◌, ◌∷◌, ◌↔◌, List, IsTrue, OnOk, OnErr, IfOk, IfErr, IfSome, All, sum, true, false, length, []};
 ghost use Rattle.awari_rank.specs.Rank.{size_of};
 ghost use Rattle.awari_owner.specs.Tally.{has_pit};
 ghost use Rattle.awari_owner.specs.Cells.{IsWithin, IsBeyond};
@@ -16,15 +16,13 @@ ghost use Rattle.awari_table.specs.declared.TheConstants.{HIGHEST_LEVEL};
 ghost use Rattle.awari_owner.specs.declared.faults.OwnerFault.{OwnerFault};
 ghost use Rattle.awari_owner.specs.declared.notes.Note.{Note as NoteView};
 
-use crate::blocks::{open_cells, put, take_first};
-use crate::cells::Cell;
+use crate::boards::Boards;
 use crate::closed::ClosedPart;
 use crate::faults::OwnerFault;
-use crate::fresh::Fresh;
 use crate::notes::Note;
 use crate::outboxes::Outboxes;
 use crate::parallel::scanned_block_parallel;
-use crate::places::{Block, Place, block_length};
+use crate::places::{Block, block_length};
 use crate::queues::reserve_others;
 use crate::scans::{ScannedBlock, scanned_block};
 use crate::spreads::{kind_of, tell_all};
@@ -36,26 +34,23 @@ use std::alloc::Global;
 use std::marker::Model;
 use std::thread::Threads;
 
-/// One owner's part of a level that is being built: what is known of each board of its block, the pits
-/// of each whose quiet moves lead out of the block, a bit for each, and which of the settled boards are
-/// fresh, that is, not spread yet.
+/// One owner's part of a level that is being built: what is known of each board of its block, which of
+/// the settled boards are fresh, that is, not spread yet, and the pits of each board whose quiet moves
+/// lead out of the block, a bit for each.
 #[derive(Drop)]
 pub struct Part {
-    place: Place,
-    cells: Vec<Cell>,
+    boards: Boards,
     leaving: Vec<u8>,
-    fresh: Fresh,
 }
 
 impl Model for Part {
-    ghost use Rattle.awari_owner.specs.Fresh.{fresh_of};
-    ghost use Rattle.awari_owner.specs.Part.{Part as PartView, part_of};
+    ghost use Rattle.awari_owner.specs.Part.{Part as PartView};
 
     ghost Value = { PartView };
 
     ghost use Rattle.awari_owner.specs.PartFields.{IsPart};
 
-    ghost view = { λ a. part_of a.place a.cells.items (fresh_of a.place.start a.cells.items a.fresh) };
+    ghost view = { λ a. a.boards };
 
     ghost invariant = { IsPart };
 }
@@ -118,7 +113,7 @@ impl Part {
         ensures known { result ≡ settled_at self.now rank }
         ensures ranged { IfSome result (λ s. IsWithin self.now.level s.0 × IsBeyond self.now.gain s.0) }
     {
-        self.cells[(rank - self.place.start) as usize].settled()
+        self.boards.cell(rank).settled()
     }
 
     /// The ranks of the boards of the block: from the first number up to, not including, the second.
@@ -126,8 +121,7 @@ impl Part {
         ensures start { result.0 ≡ self.now.start }
         ensures end { result.1 ≡ self.now.start + length self.now.cells }
     {
-        let start = self.place.start;
-        (start, start + self.cells.len() as u32)
+        self.boards.block()
     }
 
     /// The open gain in stones, one more than the level where none was opened yet.
@@ -135,21 +129,21 @@ impl Part {
         ensures gain { result ≡ self.now.gain }
         ensures range { (1 ≤ self.now.gain) × (self.now.gain ≤ self.now.level + 1) }
     {
-        self.place.gain
+        self.boards.place().gain
     }
 
     /// The open distance in plies.
     pub fn wave(&self) -> u32
         ensures { result ≡ self.now.wave }
     {
-        self.place.wave
+        self.boards.place().wave
     }
 
     /// Whether no board is fresh.
     pub fn idle(&self) -> bool
         ensures { IsTrue result ↔ (self.now.fresh ≡ []) }
     {
-        self.fresh.len() == 0
+        self.boards.idle()
     }
 
     /// The least distance of a fresh board in plies, none where no board is fresh. It is that of a
@@ -159,17 +153,14 @@ impl Part {
         ensures timely { IfSome result (λ dist. self.now.wave ≤ dist) }
         ensures settled { IfSome result (λ dist. (rank : ℕ) × (v : ℤ) × InBlock self.now rank × (settled_at self.now rank ≡ Some (v, dist))) }
     {
-        match self.fresh.first() {
-            Some((dist, _index)) => Some(dist),
-            None => None,
-        }
+        self.boards.due()
     }
 
     /// How many boards are fresh, at whatever distance.
     pub fn fresh_boards(&self) -> usize
         ensures { result ≡ length self.now.fresh }
     {
-        self.fresh.len()
+        self.boards.fresh_boards()
     }
 
     /// Opens the next smaller gain: the boards that a capture settles at that gain are settled, and
@@ -188,12 +179,7 @@ impl Part {
         ensures unspread { unspread self.new ≡ unspread self.old }
         ensures fresh { AreFresh self.new }
     {
-        self.place = Place {
-            gain,
-            wave: 0,
-            ..self.place
-        };
-        open_cells(&mut self.cells, &mut self.fresh, self.place);
+        self.boards.open_gain(gain);
     }
 
     /// Opens a greater distance. It needs no fresh board to have a smaller one. It takes no memory.
@@ -205,10 +191,7 @@ impl Part {
         ensures wave { self.new ≡ record self.old { wave = dist } }
         ensures fresh { AreFresh self.new }
     {
-        self.place = Place {
-            wave: dist,
-            ..self.place
-        };
+        self.boards.open_wave(dist);
     }
 
     /// Hears a note of another owner, which may settle the board that it is for. It takes no
@@ -228,21 +211,13 @@ impl Part {
         if !self.expects(&note) {
             return Err(OwnerFault::Stranger);
         }
-        let cell = self.cells[(note.target - self.place.start) as usize];
-        if cell.has_heard(note.pit) {
+        if self.boards.cell(note.target).has_heard(note.pit) {
             return Err(OwnerFault::Doubled);
         }
         if note.dist == u32::MAX {
             return Err(OwnerFault::Far);
         }
-        let next = cell.with_note(self.place, note.pit, note.kind);
-        put(
-            &mut self.cells,
-            &mut self.fresh,
-            self.place,
-            note.target,
-            next,
-        );
+        self.boards.hear(note.target, note.pit, note.kind);
         Ok(())
     }
 
@@ -272,10 +247,11 @@ impl Part {
         ensures kept { result ≡ Ok false → outboxes.new ≡ outboxes.old }
         ensures owner { (outboxes.new.owner ≡ outboxes.old.owner) × (length outboxes.new.queues ≡ length outboxes.old.queues) }
     {
-        let Some((dist, index)) = self.fresh.first() else {
+        let Some(dist) = self.boards.due() else {
             return Ok(false);
         };
-        if dist != self.place.wave {
+        let place = self.boards.place();
+        if dist != place.wave {
             return Ok(false);
         }
         if dist == u32::MAX {
@@ -286,19 +262,11 @@ impl Part {
         };
         moves_keep_boards();
         ranks_tell_boards_apart();
-        let span = block_length(size(self.place.level), outboxes.queues.len() as u8);
-        let kind = kind_of(&self.cells[index]);
-        let board = PackedBoard::unrank(self.place.level, self.place.start + index as u32);
-        take_first(&mut self.cells, &mut self.fresh, index);
-        tell_all(
-            &mut self.cells,
-            &mut self.fresh,
-            &mut outboxes.queues,
-            span,
-            self.place,
-            kind,
-            &board,
-        );
+        let span = block_length(size(place.level), outboxes.queues.len() as u8);
+        let rank = self.boards.take_first();
+        let kind = kind_of(&self.boards.cell(rank));
+        let board = PackedBoard::unrank(place.level, rank);
+        tell_all(&mut self.boards, &mut outboxes.queues, span, kind, &board);
         Ok(true)
     }
 
@@ -308,10 +276,7 @@ impl Part {
         requires { IsClosed self }
         ensures { result ≡ self }
     {
-        ClosedPart {
-            place: self.place,
-            cells: self.cells,
-        }
+        self.boards.close()
     }
 
     /// The part of this owner, one of so many, of the shelf's next level, of what was found of its block.
@@ -328,17 +293,9 @@ impl Part {
         ensures hears { HearsOwn result [] }
         ensures fresh { AreFresh result }
     {
-        let level = shelf.levels();
         Part {
-            place: Place {
-                level,
-                gain: level + 1,
-                wave: 0,
-                start: block.start,
-            },
-            cells: found.cells,
+            boards: Boards::unopened(shelf.levels(), block.start, found.cells, found.fresh),
             leaving: found.leaving,
-            fresh: found.fresh,
         }
     }
 
@@ -346,21 +303,14 @@ impl Part {
     fn expects(&self, note: &Note) -> bool
         ensures { IsTrue result ↔ IsExpected self.now note.now }
     {
-        let place = self.place;
+        let place = self.boards.place();
         if note.level != place.level || note.gain != place.gain || place.gain > place.level {
             return false;
         }
-        if note.dist != place.wave || note.pit >= SIDE || !self.holds(note.target) {
+        if note.dist != place.wave || note.pit >= SIDE || !self.boards.holds(note.target) {
             return false;
         }
         self.leaves(note.target, note.pit)
-    }
-
-    /// Whether the board of this rank is in the block.
-    fn holds(&self, rank: u32) -> bool
-        ensures { IsTrue result ↔ InBlock self.now rank }
-    {
-        self.place.start <= rank && ((rank - self.place.start) as usize) < self.cells.len()
     }
 
     /// Whether the move from `pit` of the board of this rank is quiet and leads to a board of another
@@ -370,6 +320,7 @@ impl Part {
         requires own { pit < 6 }
         ensures { IsTrue result ↔ Leaves self.now target pit }
     {
-        self.leaving[(target - self.place.start) as usize] & (1 << pit) != 0
+        let index = (target - self.boards.place().start) as usize;
+        self.leaving[index] & (1 << pit) != 0
     }
 }

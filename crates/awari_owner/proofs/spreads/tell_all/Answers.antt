@@ -1,14 +1,12 @@
-use Rattle.std.proofs.Common.{◌≡◌, ◌+◌, ◌++◌, ◌∷◌, ◌/◌, ◌-◌, ◌&&◌, nat_le, nat_lt, [], sum, length, length-append, refl, ap, sym, ◌∙◌, rules, arith}
+use Rattle.std.proofs.Common.{◌≡◌, ◌+◌, ◌++◌, ◌∷◌, ◌/◌, [], sum, length, length-append, ap, sym, ◌∙◌, rules, arith}
 use Rattle.awari_rank.specs.Rank.{rank_of, size_of}
 use Rattle.awari_rank.proofs.Ranking.{rank_of-below}
 use Rattle.awari_unmove.specs.Predecessors.{IsQuiet}
 use Rattle.awari_unmove.proofs.Walking.{IsPredecessors-more, IsPredecessors-end, IsQuiet-next}
-use Rattle.awari_owner.specs.Fresh.{fresh_of}
-use Rattle.awari_owner.specs.Blocks.{cell_in}
-use Rattle.awari_owner.specs.Part.{Part, part_of}
+use Rattle.awari_owner.specs.Part.{Part}
 use Rattle.awari_owner.specs.Spread.{Source}
-use Rattle.awari_owner.proofs.BlockLemmas.{keeps_both}
-use Rattle.awari_owner.proofs.Spreading.{told_more}
+use Rattle.awari_owner.proofs.Settling.{settles_both}
+use Rattle.awari_owner.proofs.Spreading.{held_still, told_more}
 use Rattle.awari_owner.proofs.Sending.{puts_more, seen_more}
 use Rattle.awari_owner.proofs.spreads.tell_all.Goals as goal
 
@@ -16,26 +14,28 @@ pub tell_one-requires-clause-source : goal.tell_one-requires-clause-source
 tell_one-requires-clause-source c =
     let quiet : IsQuiet c.in-Some.source c.in-Some.pit c.args.board.now = IsQuiet-next c.args.board.now c.loop-source.yielded c.loop-source.source-iterator c.next.new.self c.in-Some.source c.in-Some.pit c.loop-source.invariant.pairs c.in-Some.ensures.steps in
     let kept : sum c.args.board.now + 0 ≡ sum c.in-Some.source = c.moves_keep_boards.ensures.stones c.in-Some.source c.args.board.now c.in-Some.pit 0 quiet.board quiet.move in
-    (quiet.board, omega (arith, kept, c.requires.stones), (c.args.board.now, quiet.move))
+    let level = c.loop-source.invariant.settles.same.level in
+    (quiet.board, omega (arith, kept, c.requires.stones, level), (c.args.board.now, quiet.move))
 
 pub tell_one-requires-clause-room : goal.tell_one-requires-clause-room
 tell_one-requires-clause-room c = λ out.
     let quiet : IsQuiet c.in-Some.source c.in-Some.pit c.args.board.now = IsQuiet-next c.args.board.now c.loop-source.yielded c.loop-source.source-iterator c.next.new.self c.in-Some.source c.in-Some.pit c.loop-source.invariant.pairs c.in-Some.ensures.steps in
     let kept : sum c.args.board.now + 0 ≡ sum c.in-Some.source = c.moves_keep_boards.ensures.stones c.in-Some.source c.args.board.now c.in-Some.pit 0 quiet.board quiet.move in
-    let level : size_of (sum c.in-Some.source) ≡ size_of c.args.place.level = ap size_of (let same : sum c.in-Some.source ≡ c.args.place.level = omega (arith, kept, c.requires.stones) in same) in
+    let level : size_of (sum c.in-Some.source) ≡ size_of c.args.boards.now.level = ap size_of (let same : sum c.in-Some.source ≡ c.args.boards.now.level = omega (arith, kept, c.requires.stones) in same) in
     let below = rank_of-below c.in-Some.source quiet.board.pits in
-    let same : length c.loop-source.cells.items ≡ length c.args.cells.now.items = search rules in
+    let settles = c.loop-source.invariant.settles in
     let room = c.loop-source.invariant.room (rank_of c.in-Some.source) (omega (arith, below, level))
-    (ap (λ k. nat_le c.args.place.start (rank_of c.in-Some.source) && nat_lt (rank_of c.in-Some.source - c.args.place.start) k) (sym same) ∙ out) in
+    (sym (held_still c.args.boards.now c.loop-source.boards (rank_of c.in-Some.source) settles.same.start settles.size) ∙ out) in
     let more = seen_more c.loop-source.yielded c.loop-source.source-iterator c.next.new.self (c.in-Some.source, c.in-Some.pit) c.in-Some.ensures.steps in
     (search (rules, room.0), (let much = room.1 in let few = c.loop-source.invariant.few in omega (arith, much, few, more)))
 
 pub loop-source-preserved : goal.loop-source-preserved
 loop-source-preserved c =
-    let old : Part = part_of c.args.place c.args.cells.now.items (fresh_of c.args.place.start c.args.cells.now.items c.args.fresh.now) in
-    let now : Part = part_of c.args.place c.loop-source.cells.items (fresh_of c.args.place.start c.loop-source.cells.items c.loop-source.fresh) in
-    let new : Part = part_of c.args.place c.tell_one.new.cells.items (fresh_of c.args.place.start c.tell_one.new.cells.items c.tell_one.new.fresh) in
-    let same : length c.loop-source.cells.items ≡ length c.args.cells.now.items = search rules in
+    let old : Part = c.args.boards.now in
+    let now : Part = c.loop-source.boards in
+    let new : Part = c.tell_one.new.boards in
+    let settles = c.loop-source.invariant.settles in
+    let same = settles.same in
     let many : length c.loop-source.queues.items ≡ length c.args.queues.now.items = search rules in
     let y : Source = (c.in-Some.source, c.in-Some.pit) in
     let more = seen_more c.loop-source.yielded c.loop-source.source-iterator c.next.new.self y c.in-Some.ensures.steps in
@@ -44,16 +44,10 @@ loop-source-preserved c =
     record {
       pairs = IsPredecessors-more _ _ _ _ _ c.loop-source.invariant.pairs c.in-Some.ensures.steps;
       few = (let few = c.loop-source.invariant.few in omega (arith, more, long, pushed, few));
-      same_len = search rules;
       same_queues = search rules;
-      marks = c.tell_one.ensures.marks;
-      block = c.tell_one.ensures.sound;
-      stays = λ r low. keeps_both (cell_in c.args.place.start c.args.cells.now.items r) (cell_in c.args.place.start c.loop-source.cells.items r) (cell_in c.args.place.start c.tell_one.new.cells.items r)
-          (c.loop-source.invariant.stays r low) (c.tell_one.ensures.stays r low);
-      joins = λ r. omega (arith, c.tell_one.ensures.joined r, c.loop-source.invariant.joins r);
-      unspread = omega (arith, c.tell_one.ensures.unspread, c.loop-source.invariant.unspread);
-      told = told_more old now new c.args.kind c.loop-source.yielded y refl refl refl refl same c.loop-source.invariant.told c.tell_one.ensures.told;
-      sent = puts_more old now c.args.span c.args.kind c.args.queues.now.items c.loop-source.queues.items c.tell_one.new.queues.items c.loop-source.yielded y refl refl refl refl same many
+      settles = settles_both old now new settles c.tell_one.ensures.settles;
+      told = told_more old now new c.args.kind c.loop-source.yielded y same.level same.gain same.wave same.start settles.size c.loop-source.invariant.told c.tell_one.ensures.told;
+      sent = puts_more old now c.args.span c.args.kind c.args.queues.now.items c.loop-source.queues.items c.tell_one.new.queues.items c.loop-source.yielded y same.level same.gain same.wave same.start settles.size many
           c.loop-source.invariant.sent (λ to inside. c.tell_one.ensures.sent to (search (rules, inside)));
       room = λ r below out.
           let before = c.loop-source.invariant.room r below out in

@@ -1,12 +1,13 @@
-use Rattle.std.proofs.Common.{rules}
-use Rattle.awari_owner.specs.Fresh.{fresh_of}
-use Rattle.awari_owner.specs.Blocks.{IsBlock}
-use Rattle.awari_owner.specs.declared.places.Place.{Place}
-use Rattle.awari_owner.proofs.Freshness.{fresh_of_block}
+use Rattle.std.proofs.Common.{◌≤◌, length, ap, sym, subst, ◌∙◌}
+use Rattle.awari_owner.specs.Leaving.{AreLeaving}
+use Rattle.awari_owner.specs.Part.{Part}
 use Rattle.awari_owner.proofs.parts.Part.open_wave.Goals as goal
 
-pub returns-clause-fresh : goal.returns-clause-fresh
-returns-clause-fresh c =
-    let place : Place = record c.self.inside.place { wave = c.args.dist } in
-    let block : IsBlock place c.self.inside.cells.items (fresh_of c.self.inside.place.start c.self.inside.cells.items c.self.inside.fresh) = search rules in
-    fresh_of_block place c.self.inside.cells.items (fresh_of c.self.inside.place.start c.self.inside.cells.items c.self.inside.fresh) block
+pub invariant_of-self : goal.invariant_of-self
+invariant_of-self c =
+    record {
+      opened = subst (λ (o : Part). 1 ≤ o.gain) (sym c.open_wave.ensures.wave) c.self.invariant.opened;
+      each = c.self.invariant.each ∙ ap (λ (o : Part). length o.cells) (sym c.open_wave.ensures.wave);
+      leaving = subst (λ (o : Part). AreLeaving o.level o.start (length o.cells) o.start c.self.inside.leaving.items) (sym c.open_wave.ensures.wave) c.self.invariant.leaving;
+      fresh = c.open_wave.ensures.fresh;
+    }

@@ -1,6 +1,6 @@
 use Rattle.std.proofs.Common.{ap, sym, ◌∙◌}
 use Rattle.awari_owner.specs.Part.{Part, part_of}
-use Rattle.awari_owner.proofs.parts.Part.close.Goals as goal
+use Rattle.awari_owner.proofs.boards.Boards.close.Goals as goal
 
 pub returns : goal.returns
 returns c =

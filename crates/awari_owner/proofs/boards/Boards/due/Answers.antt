@@ -5,7 +5,7 @@ use Rattle.awari_owner.proofs.BlockLemmas.{first_due}
 use Rattle.awari_owner.proofs.FreshBlocks.{first_due_is, least_first, none_fresh}
 use Rattle.awari_owner.proofs.Distances.{settled_cell}
 use Rattle.awari_owner.specs.Blocks.{cell_in}
-use Rattle.awari_owner.proofs.parts.Part.due.Goals as goal
+use Rattle.awari_owner.proofs.boards.Boards.due.Goals as goal
 
 pub first-requires : goal.first-requires
 first-requires c = c.self.invariant.marks.first.within
