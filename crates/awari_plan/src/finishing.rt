@@ -50,11 +50,7 @@ pub fn finish_closed(
 }
 
 /// The image of the level above the shelf, of its entries with no plans.
-fn planned_image(
-    alloc: Global,
-    shelf: &Shelf,
-    mut entries: Vec<Entry>,
-) -> Result<Image, AllocError>
+fn planned_image(alloc: Global, shelf: &Shelf, mut entries: Vec<Entry>) -> Result<Image, AllocError>
     requires low { length shelf.now ≤ 24 }
     requires sized { length entries.items ≡ size_of (length shelf.now) }
     ensures { IfOk result (IsPlannedImage shelf.now entries.items) }
@@ -95,11 +91,7 @@ fn push_block(entries: &mut Vec<Entry>, part: &Part) -> Result<(), AllocError>
 }
 
 /// The entries of the level with no plans, of closed parts.
-fn closed_entries(
-    alloc: Global,
-    level: u8,
-    parts: &[ClosedPart],
-) -> Result<Vec<Entry>, AllocError>
+fn closed_entries(alloc: Global, level: u8, parts: &[ClosedPart]) -> Result<Vec<Entry>, AllocError>
     requires low { level ≤ 24 }
     requires whole { AreWhole level parts.now }
     ensures sized { IfOk result (λ entries. length entries.items ≡ size_of level) }
