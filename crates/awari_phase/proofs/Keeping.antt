@@ -1,5 +1,5 @@
 -- What a worker's steps keep.
-use Rattle.std.proofs.Common.{◌≡◌, ◌≢◌, ℕ, suc, ◌+◌, ◌==◌, ◌<◌, List, [], ◌∷◌, ◌++◌, length, map, All, ℤ, Option, Some, None, Bool, true, false, if◌then◌else◌, refl, sym, ap, subst, subst₂, ◌∙◌, inl, inr, arith, append_assoc, vec_len, get_or}
+use Rattle.std.proofs.Common.{◌≡◌, ◌≢◌, ℕ, suc, ◌+◌, ◌==◌, ◌<◌, ◌≤◌, List, [], ◌∷◌, ◌++◌, length, map, All, ℤ, Option, Some, None, Bool, true, false, if◌then◌else◌, refl, sym, ap, subst, subst₂, ◌∙◌, inl, inr, arith, append_assoc, vec_len, get_or}
 use Rattle.std.proofs.lemmas.List.{append-nil, map-append}
 use Rattle.std.proofs.lemmas.List.Elements.{All-append}
 use Rattle.std.proofs.lemmas.Bool.{cases_eq, eqb-true}
@@ -8,7 +8,7 @@ use Rattle.std.specs.List.{slice_get}
 use mathlib.Core.List.{IsPrefix}
 use Rattle.awari_owner.specs.Notes.{Has}
 use Rattle.awari_owner.specs.Outboxes.{Outboxes}
-use Rattle.awari_owner.specs.Part.{Part}
+use Rattle.awari_owner.specs.Part.{Part, unspread}
 use Rattle.awari_lines.specs.declared.lines.Ends.{Ends}
 use Rattle.awari_lines.specs.declared.lines.Line.{Line}
 use Rattle.awari_owner.specs.declared.notes.Note.{Note}
@@ -124,6 +124,7 @@ module _ (e e' : Ends) (j : ℕ) (lines : SameLines e e') (others : SameBut e e'
     sound = λ value h. moved value e e' part (taken_from e') (given_to e' o) (queue_to o) lines
         (OwnerSound-same value e.owner (owners_of e) part (taken_from e) (taken_from e') (given_to e o) (given_to e' o) (queue_to o) (queue_to o)
         (λ k q. ap (map items_of) (received_same r k q)) (λ k q. ap (λ (l : List Notes). map items_of l ++ queue_to o k) (sent_same s k q)) (λ k q a. a) h);
+    unspread = omega arith;
   }
 
   -- a batch was popped and heard
@@ -140,10 +141,11 @@ module _ (e e' : Ends) (j : ℕ) (lines : SameLines e e') (others : SameBut e e'
       by false f = ap (λ (l : Option Line). map items_of (received_on l)) (others k (differ k j f) o.0)
 
   pub take_keeps : (part part' : Part) (o : Outboxes) (b : Notes) → sent_to e' j ≡ sent_to e j → received_from e' j ≡ received_from e j ++ b ∷ [] → IsOther e j → SameBlock part part'
+      → unspread part' ≡ unspread part
       → ((value : List ℕ → ℤ) (owner owners from : ℕ) (taken given boxed : ℕ → Batches) → IsOtherOf owner owners from
       → OwnerSound value owner owners part taken given boxed → OwnerSound value owner owners part' (with_taken taken from b.items) given boxed)
       → Keeps e part o e' part' o
-  take_keeps part part' o b s r other block hears = record {
+  take_keeps part part' o b s r other block left hears = record {
     lines = lines;
     block = block;
     owner = refl;
@@ -154,6 +156,7 @@ module _ (e e' : Ends) (j : ℕ) (lines : SameLines e e') (others : SameBut e e'
         (OwnerSound-same value e.owner (owners_of e) part' (with_taken (taken_from e) j b.items) (taken_from e') (given_to e o) (given_to e' o) (queue_to o) (queue_to o)
         (taken_more b r) (λ k q. ap (λ (l : List Notes). map items_of l ++ queue_to o k) (sent_same s k q)) (λ k q a. a)
         (hears value e.owner (owners_of e) j (taken_from e) (given_to e o) (queue_to o) other h));
+    unspread = omega (arith, left);
   }
 
   -- the first batch of the queue was pushed
@@ -170,6 +173,7 @@ module _ (e e' : Ends) (j : ℕ) (lines : SameLines e e') (others : SameBut e e'
     sound = λ value h. moved value e e' part (taken_from e') (given_to e' o') (queue_to o') lines
         (OwnerSound-same value e.owner (owners_of e) part (taken_from e) (taken_from e') (given_to e o) (given_to e' o') (queue_to o) (queue_to o')
         (λ k q. ap (map items_of) (received_same r k q)) given_at boxed_at h);
+    unspread = omega arith;
   }
     where
       P : List Note → Type 0
@@ -215,11 +219,12 @@ module _ (e e' : Ends) (j : ℕ) (lines : SameLines e e') (others : SameBut e e'
 -- ---- a spread
 
 pub spread_keeps : (e : Ends) (part part' : Part) (o o' : Outboxes) → length o.queues ≡ owners_of e → o.owner ≡ e.owner → SameBlock part part' → o'.owner ≡ o.owner → length o'.queues ≡ length o.queues
+    → unspread part' ≤ unspread part
     → ((value : List ℕ → ℤ) (taken sent : ℕ → Batches)
     → OwnerSound value o.owner (length o.queues) part taken (λ j. sent j ++ queue_to o j) (queue_to o)
     → OwnerSound value o.owner (length o.queues) part' taken (λ j. sent j ++ queue_to o' j) (queue_to o'))
     → Keeps e part o e part' o'
-spread_keeps e part part' o o' many number block owner owners spreads = record {
+spread_keeps e part part' o o' many number block owner owners left spreads = record {
   lines = same_lines e;
   block = block;
   owner = owner;
@@ -230,6 +235,7 @@ spread_keeps e part part' o o' many number block owner owners spreads = record {
       subst₂ (λ (i n : ℕ). OwnerSound value i n part' (taken_from e) (λ j. map items_of (sent_to e j) ++ queue_to o' j) (queue_to o')) number many
       (spreads value (taken_from e) (λ j. map items_of (sent_to e j))
       (subst₂ (λ (i n : ℕ). OwnerSound value i n part (taken_from e) (λ j. map items_of (sent_to e j) ++ queue_to o j) (queue_to o)) (sym number) (sym many) h));
+  unspread = left;
 }
 
 -- ---- one step after another
@@ -243,6 +249,7 @@ kept_refl a = record {
   received = λ k q. ([], append-nil (received_from a.ends k));
   sent = λ k q. ([], sym (append-nil (sent_to a.ends k)), λ value h i d lt. absurd (omega (arith, lt)));
   sound = λ value h. h;
+  unspread = omega arith;
 }
 
 pub kept_trans : (a b c : Owner) → Kept a b → Kept b c → Kept a c
@@ -262,6 +269,7 @@ kept_trans a b c s t = record {
             (λ i d lt. open_back a.part b.part s.block _ (next.2 value (s.sound value h) i d lt))),
       ));
   sound = λ value h. t.sound value (s.sound value h);
+  unspread = (let one = s.unspread in let other = t.unspread in omega (arith, one, other));
 }
 
 pub kept_owners : (a b : Owner) → Kept a b → owners_of b.ends ≡ owners_of a.ends

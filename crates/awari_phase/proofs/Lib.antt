@@ -12,3 +12,4 @@ pub mod Giving
 pub mod Together
 pub mod Refusing
 pub mod Worked
+pub mod Sweeping

@@ -2,3 +2,4 @@ pub mod Sound
 pub mod Owners
 pub mod PhaseFault
 pub mod Stops
+pub mod Steps

@@ -1,11 +1,11 @@
 -- What a worker keeps of its owner.
-use Rattle.std.specs.Prelude.{◌≡◌, ◌≢◌, ℕ, ◌+◌, ◌<◌, ◌≤◌, max, List, [], ◌++◌, length, map, All, ℤ, slice_index_or}
+use Rattle.std.specs.Prelude.{◌≡◌, ◌≢◌, ◌⊎◌, ℕ, ◌+◌, ◌<◌, ◌≤◌, max, List, [], ◌++◌, length, map, All, ℤ, Some, slice_index_or}
 use mathlib.Core.List.{IsPrefix}
-use Rattle.awari_lines.specs.Lines.{Notes, IsOther, IsGrid, SameLines, owners_of, sent_to, received_from}
+use Rattle.awari_lines.specs.Lines.{Notes, IsOther, IsGrid, SameLines, owners_of, sent_to, received_from, waiting_from, free_to}
 use Rattle.awari_lines.specs.declared.lines.Ends.{Ends}
 use Rattle.awari_owner.specs.declared.notes.Note.{Note}
 use Rattle.awari_owner.specs.Outboxes.{Outboxes}
-use Rattle.awari_owner.specs.Part.{Part, IsTallied}
+use Rattle.awari_owner.specs.Part.{Part, IsLeastDue, IsTallied, unspread}
 use Rattle.awari_owner.specs.Scan.{IsScan}
 use Rattle.awari_owner.specs.Spread.{HearsOwn}
 use Rattle.awari_core.specs.Sound.{IsSeenAs}
@@ -27,7 +27,7 @@ abbrev pub IsSound : (List ℕ → ℤ) → Ends → Part → Outboxes → Type 
 IsSound value e part o = OwnerSound value e.owner (owners_of e) part (taken_from e) (given_to e o) (queue_to o)
 
 -- The owner on the same lines, with the same block, gain and distance, is sound where it was; what it took and sent has only
--- grown, and what it sent is of the open gain and distance where what it had to send was.
+-- grown, and what it sent is of the open gain and distance where what it had to send was. It has no board more to spread.
 pub record Keeps (e : Ends) (part : Part) (o : Outboxes) (e' : Ends) (part' : Part) (o' : Outboxes) : Type 0 where
   pub lines : SameLines e e'
   pub block : SameBlock part part'
@@ -36,9 +36,28 @@ pub record Keeps (e : Ends) (part : Part) (o : Outboxes) (e' : Ends) (part' : Pa
   pub received : (j : ℕ) → IsOther e j → IsPrefix (received_from e j) (received_from e' j)
   pub sent : (j : ℕ) → IsOther e j → (gone : List Notes) × (sent_to e' j ≡ sent_to e j ++ gone) × ((value : List ℕ → ℤ) → IsSound value e part o → All (IsOpenBatch part) (map items_of gone))
   pub sound : (value : List ℕ → ℤ) → IsSound value e part o → IsSound value e' part' o'
+  pub unspread : unspread part' ≤ unspread part
 
 abbrev pub Kept : Owner → Owner → Type 0
 Kept a b = Keeps a.ends a.part a.outboxes b.ends b.part b.outboxes
+
+-- a batch of owner j was taken, or none was seen to wait
+abbrev pub HasTaken : Owner → Owner → ℕ → Type 0
+HasTaken a b j = (waiting_from b.ends j ≡ []) ⊎ (length (received_from a.ends j) < length (received_from b.ends j))
+
+-- 64 boards were spread, or none of the open distance is fresh
+abbrev pub HasSpread : Owner → Owner → Type 0
+HasSpread a b = IsLeastDue b.part (Some b.part.wave) → unspread b.part + 64 ≤ unspread a.part
+
+-- a batch was sent to owner j, or there is none to send, or the line was seen to be full
+abbrev pub HasSent : Owner → Owner → ℕ → Type 0
+HasSent a b j = (queue_to b.outboxes j ≡ []) ⊎ ((free_to b.ends j ≡ 0) ⊎ (length (sent_to a.ends j) < length (sent_to b.ends j)))
+
+-- what a sweep does, and so what sweeps do
+pub record Swept (a b : Owner) : Type 0 where
+  pub took : (j : ℕ) → IsOther a.ends j → HasTaken a b j
+  pub spread : HasSpread a b
+  pub sent : (j : ℕ) → IsOther a.ends j → HasSent a b j
 
 abbrev pub ends_of : Owner → Ends
 ends_of o = o.ends

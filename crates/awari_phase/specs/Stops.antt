@@ -9,7 +9,7 @@ use Rattle.awari_owner.specs.declared.faults.OwnerFault.{OwnerFault}
 use Rattle.awari_owner.specs.declared.faults.OwnerFault.TheVariants.{Far, Memory}
 use Rattle.awari_owner.specs.declared.notes.Note.{Note}
 use Rattle.awari_phase.specs.Sound.{Batches, IsOtherOf, OwnerSound, SameBlock, with_taken}
-use Rattle.awari_phase.specs.Owners.{Kept}
+use Rattle.awari_phase.specs.Owners.{Kept, Swept}
 use Rattle.awari_phase.specs.declared.owners.Owner.{Owner}
 
 -- The part heard the notes of this batch up to one, which it refused.
@@ -52,9 +52,11 @@ pub record StopsAt (a : Owner) (e : Ends) (part : Part) (o : Outboxes) (fault : 
 abbrev pub Stopped : Owner → Owner → OwnerFault → Type 0
 Stopped a b fault = StopsAt a b.ends b.part b.outboxes fault
 
--- what became of an owner that worked: it kept what a worker keeps, or its worker stopped at the fault that it has
+-- what became of an owner that worked: it kept what a worker keeps and made a sweep, or its worker stopped at the fault that
+-- it has
 pub record HasWorked (a b : Owner) : Type 0 where
   pub kept : b.fault ≡ None → Kept a b
+  pub swept : b.fault ≡ None → Swept a b
   pub stopped : (fault : OwnerFault) → b.fault ≡ Some fault → Stopped a b fault
 
 -- so it is of each of these owners

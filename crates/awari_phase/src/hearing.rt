@@ -1,6 +1,7 @@
 //! How an owner hears what another one sent.
 
 ghost use Rattle.std.specs.Prelude.{◌≡◌, ℕ, ℤ, List, OnOk, IfErr};
+ghost use Rattle.awari_owner.specs.Part.{unspread};
 ghost use Rattle.awari_phase.specs.Sound.{Batches, OwnerSound, SameBlock, with_taken, IsOtherOf};
 ghost use Rattle.awari_phase.specs.Stops.{RefusesNote};
 
@@ -13,6 +14,7 @@ pub fn take_batch(part: &mut Part, batch: &Batch) -> Result<(), OwnerFault>
         → OwnerSound value owner owners part.old taken given boxed
         → OwnerSound value owner owners part.new (with_taken taken from batch.now.items) given boxed) }
     ensures refused { IfErr result (RefusesNote part.old part.new batch.now.items) }
+    ensures unspread { unspread part.new ≡ unspread part.old }
 {
     for note in batch.as_slice() {
         match part.take(*note) {

@@ -1,6 +1,6 @@
 //! One owner, with all that its worker works on.
 
-ghost use Rattle.std.specs.Prelude.{◌≡◌, length};
+ghost use Rattle.std.specs.Prelude.{◌≡◌, ◌≤◌, length};
 ghost use Rattle.awari_lines.specs.Lines.{owners_of};
 ghost use Rattle.awari_owner.specs.Spread.{IsPartOf};
 
@@ -24,12 +24,15 @@ pub struct Owner {
     ghost queues: { length outboxes.queues ≡ owners_of ends },
     ghost numbered: { outboxes.owner ≡ ends.owner },
     ghost part_of: { IsPartOf part outboxes },
+    ghost few: { owners_of ends ≤ 16 },
 }
 
 impl Owner {
-    ghost use Rattle.std.specs.Prelude.{◌≡◌, ◌<◌, None, IfErr, OnOk};
+    ghost use Rattle.std.specs.Prelude.{◌≡◌, ◌+◌, ◌<◌, ◌≤◌, ℕ, None, Ok, Some, IfErr, OnOk, false, true};
     ghost use Rattle.awari_lines.specs.Lines.{IsOther, owners_of};
-    ghost use Rattle.awari_phase.specs.Owners.{Kept};
+    ghost use Rattle.awari_owner.specs.Part.{IsLeastDue, unspread};
+    ghost use Rattle.awari_phase.specs.Owners.{HasSent, HasSpread, HasTaken, Kept, Swept};
+    ghost use Rattle.awari_phase.specs.Steps.{SendsAt, TakesAt, TakesNothing};
     ghost use Rattle.awari_phase.specs.Stops.{HasWorked, Stopped};
 
     /// The owner of this part of a level, with these ends of its lines to the others and these
@@ -43,6 +46,8 @@ impl Owner {
         ensures outboxes { result.outboxes ≡ outboxes }
         ensures fault { result.fault ≡ None }
     {
+        // That there are at most 16 owners is what this call tells the proof.
+        outboxes.is_empty();
         Owner {
             part,
             ends,
@@ -61,6 +66,7 @@ impl Owner {
     fn take_from(&mut self, from: u8) -> Result<bool, OwnerFault>
         requires { IsOther self.old.ends from }
         ensures kept { OnOk result (Kept self.old self.new) }
+        ensures took { OnOk result (TakesAt self.old self.new from) }
         ensures stopped { IfErr result (Stopped self.old self.new) }
     {
         let Some(batch) = self.ends.pop(from) else {
@@ -73,7 +79,8 @@ impl Owner {
     /// Sends at most one batch to another owner. True where one went.
     fn send_to(&mut self, to: u8) -> bool
         requires { IsOther self.old.ends to }
-        ensures { Kept self.old self.new }
+        ensures kept { Kept self.old self.new }
+        ensures sent { SendsAt self.old self.new to }
     {
         let Some(batch) = self.outboxes.front(to) else {
             return false;
@@ -92,6 +99,7 @@ impl Owner {
     fn take_at(&mut self, place: usize) -> Result<bool, OwnerFault>
         requires { place < owners_of self.old.ends }
         ensures kept { OnOk result (Kept self.old self.new) }
+        ensures took { OnOk result (TakesAt self.old self.new place) }
         ensures stopped { IfErr result (Stopped self.old self.new) }
     {
         match u8::try_from(place) {
@@ -104,7 +112,8 @@ impl Owner {
     #[tactic(auto, using(crate::proofs::Keeping::keeping))]
     fn send_at(&mut self, place: usize) -> bool
         requires { place < owners_of self.old.ends }
-        ensures { Kept self.old self.new }
+        ensures kept { Kept self.old self.new }
+        ensures sent { SendsAt self.old self.new place }
     {
         match u8::try_from(place) {
             Ok(other) if other != self.ends.owner() => self.send_to(other),
@@ -115,6 +124,9 @@ impl Owner {
     /// Spreads at most one board. True where there was one.
     fn spread(&mut self) -> Result<bool, OwnerFault>
         ensures kept { OnOk result (Kept self.old self.new) }
+        ensures ends { OnOk result (self.new.ends ≡ self.old.ends) }
+        ensures fewer { result ≡ Ok true → unspread self.new.part + 1 ≡ unspread self.old.part }
+        ensures none { result ≡ Ok false → IsLeastDue self.new.part (Some self.new.part.wave) → ⊥ }
         ensures stopped { IfErr result (Stopped self.old self.new) }
     {
         let done = spread_one(&mut self.part, &mut self.outboxes)?;
@@ -122,36 +134,75 @@ impl Owner {
         Ok(done)
     }
 
+    /// At most one batch from each other owner. True where there was one.
+    #[tactic(auto, using(crate::proofs::Stopping::stopping))]
+    fn take_each(&mut self) -> Result<bool, OwnerFault>
+        ensures kept { OnOk result (Kept self.old self.new) }
+        ensures took { OnOk result ((j : ℕ) → IsOther self.old.ends j → HasTaken self.old self.new j) }
+        ensures stopped { IfErr result (Stopped self.old self.new) }
+    {
+        let owners = self.ends.owners();
+        let mut busy = false;
+        for place in 0..owners {
+            let came = self.take_at(place)?;
+            busy = busy || came;
+        }
+        Ok(busy)
+    }
+
+    /// At most 64 boards spread. True where there was one.
+    #[tactic(auto, using(crate::proofs::Stopping::stopping))]
+    fn spread_some(&mut self) -> Result<bool, OwnerFault>
+        ensures kept { OnOk result (Kept self.old self.new) }
+        ensures ends { OnOk result (self.new.ends ≡ self.old.ends) }
+        ensures spread { OnOk result (HasSpread self.old self.new) }
+        ensures stopped { IfErr result (Stopped self.old self.new) }
+    {
+        for spread in 0..MOST_SPREADS {
+            if !self.spread()? {
+                return Ok(spread > 0);
+            }
+        }
+        Ok(true)
+    }
+
+    /// At most one batch to each other owner. True where one went.
+    #[tactic(auto, using(crate::proofs::Keeping::keeping))]
+    fn send_each(&mut self) -> bool
+        ensures kept { Kept self.old self.new }
+        ensures part { self.new.part ≡ self.old.part }
+        ensures received { TakesNothing self.old self.new }
+        ensures sent { (j : ℕ) → IsOther self.old.ends j → HasSent self.old self.new j }
+    {
+        let owners = self.ends.owners();
+        let mut busy = false;
+        for place in 0..owners {
+            let went = self.send_at(place);
+            busy = busy || went;
+        }
+        busy
+    }
+
     /// At most one batch from each other owner, at most 64 boards spread, and at most one batch to
     /// each other owner. True where anything was done.
     #[tactic(auto, using(crate::proofs::Stopping::stopping))]
     fn sweep(&mut self) -> Result<bool, OwnerFault>
         ensures kept { OnOk result (Kept self.old self.new) }
+        ensures swept { OnOk result (Swept self.old self.new) }
         ensures stopped { IfErr result (Stopped self.old self.new) }
     {
-        let owners = self.ends.owners();
-        let mut busy = false;
-        'taking: for place in 0..owners {
-            let came = self.take_at(place)?;
-            busy = busy || came;
-        }
-        'spreading: for _ in 0..MOST_SPREADS {
-            if !self.spread()? {
-                break;
-            }
-            busy = true;
-        }
-        'sending: for place in 0..owners {
-            let went = self.send_at(place);
-            busy = busy || went;
-        }
-        Ok(busy)
+        let came = self.take_each()?;
+        let spread = self.spread_some()?;
+        let went = self.send_each();
+        Ok(came || spread || went)
     }
 
     /// Sweeps until nothing is done, or so many times.
     #[tactic(auto, using(crate::proofs::Stopping::stopping))]
     fn sweeps<G: Gate>(&mut self, gate: &G, most: u32) -> Result<(), OwnerFault>
+        requires { 1 ≤ most }
         ensures kept { OnOk result (Kept self.old self.new) }
+        ensures swept { OnOk result (Swept self.old self.new) }
         ensures stopped { IfErr result (Stopped self.old self.new) }
     {
         for _ in 0..most {
@@ -166,6 +217,7 @@ impl Owner {
     /// Sweeps until nothing is done, or so many times, and keeps the fault that came, if one did.
     #[tactic(auto, using(crate::proofs::Stopping::stopping))]
     pub(crate) fn work<G: Gate>(&mut self, gate: &G, most: u32)
+        requires { 1 ≤ most }
         ensures { HasWorked self.old self.new }
     {
         let swept = self.sweeps(gate, most);

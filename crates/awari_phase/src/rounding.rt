@@ -3,7 +3,7 @@
 ghost use Rattle.std.specs.Prelude.{◌≡◌, ◌<◌, ◌≤◌, ℕ, ℤ, List, IsNone, IfOk, IfErr, IfSome, slice_index_or, vec_len};
 ghost use Rattle.awari_lines.specs.Lines.{IsGrid};
 ghost use Rattle.awari_table.specs.declared.TheConstants.{HIGHEST_LEVEL};
-ghost use Rattle.awari_phase.specs.Owners.{AreTogether, Kept, all_ends};
+ghost use Rattle.awari_phase.specs.Owners.{AreTogether, Kept, Swept, all_ends};
 ghost use Rattle.awari_phase.specs.PhaseFault.{AreWell, IsFirstFault, IsRefusal, IsWant, fault_of};
 ghost use Rattle.awari_phase.specs.Stops.{HaveWorked};
 ghost use Rattle.awari_phase.specs.declared.owners.Owner.{Owner as AnOwner};
@@ -21,6 +21,10 @@ use std::thread::Threads;
 /// Each owner works in a thread of its own until it has nothing to do, or for so many sweeps, and
 /// comes back to its place. There are 1 to 1000 sweeps, and the owners stand on one grid.
 ///
+/// Each makes one sweep at least. So from each other owner it took a batch, or it saw none wait; it
+/// spread 64 boards, or all fresh ones of the open distance; and to each other owner it sent a batch,
+/// or had none to send, or saw the line full.
+///
 /// All threads that were started are joined before anything is answered. Refused as 40 `NotStarted`
 /// where one could not be started, as 41 `Memory` where a growth was refused, else as 41 or 42
 /// `BadNote` by the fault of the least owner that had one. Then the owners are gone. It is never 42
@@ -35,6 +39,7 @@ pub fn round<R: Threads + Wait + Sync, G: Gate + Sync>(
     requires grid { IsGrid (all_ends owners.items) }
     ensures len { IfOk result (λ all. vec_len all ≡ vec_len owners) }
     ensures kept { IfOk result (λ all. (i : ℕ) (d : AnOwner) → i < vec_len owners → Kept (slice_index_or owners.items i d) (slice_index_or all.items i d)) }
+    ensures swept { IfOk result (λ all. (i : ℕ) (d : AnOwner) → i < vec_len owners → Swept (slice_index_or owners.items i d) (slice_index_or all.items i d)) }
     ensures grid { IfOk result (λ all. IsGrid (all_ends all.items)) }
     ensures together { IfOk result (λ all. (value : List ℕ → ℤ) (n : ℕ) → AreTogether value n owners.items → AreTogether value n all.items) }
     ensures refused { IfErr result (IsRefusal owners.items) }
@@ -57,6 +62,7 @@ pub(crate) fn round_in_turn<G: Gate>(
     requires grid { IsGrid (all_ends owners.items) }
     ensures len { IfOk result (λ all. vec_len all ≡ vec_len owners) }
     ensures kept { IfOk result (λ all. (i : ℕ) (d : AnOwner) → i < vec_len owners → Kept (slice_index_or owners.items i d) (slice_index_or all.items i d)) }
+    ensures swept { IfOk result (λ all. (i : ℕ) (d : AnOwner) → i < vec_len owners → Swept (slice_index_or owners.items i d) (slice_index_or all.items i d)) }
     ensures grid { IfOk result (λ all. IsGrid (all_ends all.items)) }
     ensures together { IfOk result (λ all. (value : List ℕ → ℤ) (n : ℕ) → AreTogether value n owners.items → AreTogether value n all.items) }
     ensures refused { IfErr result (IsRefusal owners.items) }
@@ -71,6 +77,7 @@ pub(crate) fn round_in_turn<G: Gate>(
 
 /// Each owner works where it stands.
 fn work_in_turn<G: Gate>(owners: &mut [Owner], gate: &G, sweeps: u32)
+    requires { 1 ≤ sweeps }
     ensures { HaveWorked owners.old owners.new }
 {
     for i in 0..owners.len() {

@@ -1,6 +1,6 @@
 //! Owners that are started, each in a thread of its own, so that a start that fails is told.
 
-ghost use Rattle.std.specs.Prelude.{◌≡◌, IfOk, IfErr, vec_len, ◌+◌, ◌++◌, ◌∷◌, [], Ok};
+ghost use Rattle.std.specs.Prelude.{◌≡◌, ◌≤◌, IfOk, IfErr, vec_len, ◌+◌, ◌++◌, ◌∷◌, [], Ok};
 ghost use Rattle.std.specs.declared.vec.Vec.{Vec as AVec};
 ghost use Rattle.std.specs.declared.alloc.Global.{Global};
 ghost use denote.Param.Send.{IsSync};
@@ -26,6 +26,7 @@ impl Promise<Owner> for KeptFrom {
 
 /// Works by value.
 fn worked<G: Gate>(mut owner: Owner, gate: &G, sweeps: u32) -> Owner
+    requires { 1 ≤ sweeps }
     ensures { HasWorked owner result }
 {
     owner.work(gate, sweeps);
@@ -42,6 +43,7 @@ pub(crate) fn start_each<R: Threads + Wait + Sync, G: Gate + Sync>(
     gate: &G,
     sweeps: u32,
 ) -> Result<Vec<Owner>, PhaseFault>
+    requires { 1 ≤ sweeps }
     ensures len { IfOk result (λ all. vec_len all ≡ vec_len owners) }
     ensures worked { IfOk result (λ all. HaveWorked owners.items all.items) }
     ensures wanting { IfErr result IsWant }
@@ -53,7 +55,7 @@ pub(crate) fn start_each<R: Threads + Wait + Sync, G: Gate + Sync>(
         thread::scope_env(),
         rt,
         |scope| -> Result<Vec<Owner>, PhaseFault>
-            requires { IsSync R.row × IsSync G.row }
+            requires { IsSync R.row × IsSync G.row × (1 ≤ sweeps) }
             ensures { IfOk result (λ all. (vec_len all ≡ vec_len owners + 1) × HaveWorked (owners.items ++ owner ∷ []) all.items) × IfErr result IsWant }
         {
             let promise = KeptFrom(Snapshot::of(&owner));

@@ -1,4 +1,4 @@
-use Rattle.std.proofs.Common.{◌≡◌, ◌-◌, ◌<◌, suc, List, drop, length, get_or, take, ap, subst, sym, ◌∙◌, rules, length-set}
+use Rattle.std.proofs.Common.{◌≡◌, ◌-◌, ◌<◌, suc, List, drop, length, get_or, take, ap, subst, sym, ◌∙◌, refl, rules, length-set}
 use Rattle.awari_owner.specs.OwnerFault.{IsFaultOf}
 use Rattle.awari_owner.specs.Part.{Part, stored_at}
 use Rattle.awari_owner.specs.declared.notes.Note.{Note}
@@ -10,6 +10,7 @@ use Rattle.awari_phase.proofs.hearing.take_batch.Goals as goal
 pub loop-note-init : goal.loop-note-init
 loop-note-init c = record {
   block = same_block c.args.part.now;
+  left = refl;
   sound = λ value owner owners from taken given boxed apart s. sound_first value owner owners from c.args.part.now taken given boxed s;
 }
 
@@ -24,6 +25,7 @@ loop-note-preserved c =
     let long : length c.take.new.self.cells ≡ length c.loop-note.part.cells = ap length puts.cells ∙ length-set c.loop-note.part.cells (m.target - c.loop-note.part.start) (stored_at c.take.new.self m.target) in
     record {
       block = block_then c.args.part.now c.loop-note.part c.take.new.self c.loop-note.invariant.block (record { level = puts.same; long = long });
+      left = c.take.ensures.unspread ∙ c.loop-note.invariant.left;
       sound = λ value owner owners from taken given boxed apart s.
           subst (λ (b : List Note). OwnerSound value owner owners c.take.new.self (with_taken taken from b) given boxed) (sym at)
           (sound_more c.loop-note.part c.take.new.self puts.same long c.in-Ok.ensures.stays puts.joins value owner owners from taken given boxed (take k items) m apart

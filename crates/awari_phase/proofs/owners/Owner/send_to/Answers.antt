@@ -6,11 +6,11 @@ use Rattle.awari_phase.specs.Sound.{Batches, queue_to}
 use Rattle.awari_phase.proofs.Keeping.{still_keeps, send_keeps}
 use Rattle.awari_phase.proofs.owners.Owner.send_to.Goals as goal
 
-pub returns-in-Err : goal.returns-in-Err
-returns-in-Err c = still_keeps _ _ c.args.to c.push.ensures.lines c.push.ensures.others _ _ c.in-Err.ensures.full.1 c.push.ensures.received.0
+pub returns-in-Err-clause-kept : goal.returns-in-Err-clause-kept
+returns-in-Err-clause-kept c = still_keeps _ _ c.args.to c.push.ensures.lines c.push.ensures.others _ _ c.in-Err.ensures.full.1 c.push.ensures.received.0
 
-pub returns-in-Ok : goal.returns-in-Ok
-returns-in-Ok c =
+pub returns-in-Ok-clause-kept : goal.returns-in-Ok-clause-kept
+returns-in-Ok-clause-kept c =
     let o = c.args.self.now.outboxes in
     let dropped = c.drop_front.ensures in
     let found = c.in-Some.ensures.some in

@@ -10,7 +10,7 @@ returns-in_default-clause-kept c = still_keeps _ _ c.args.from c.in_default.ensu
 pub returns-clause-kept : goal.returns-clause-kept
 returns-clause-kept c =
     take_keeps _ _ c.args.from c.in-Some.ensures.lines c.in-Some.ensures.others _ _ _ c.in-Some.batch c.in-Some.ensures.sent c.in-Some.ensures.some c.requires
-    c.take_batch.ensures.block c.in_ok-take_batch.ensures.sound
+    c.take_batch.ensures.block c.take_batch.ensures.unspread c.in_ok-take_batch.ensures.sound
 
 pub returns-in_err-take_batch-clause-stopped : goal.returns-in_err-take_batch-clause-stopped
 returns-in_err-take_batch-clause-stopped c =
