@@ -1,8 +1,8 @@
 -- A part stays sound.
 use Rattle.std.proofs.Common.{ℕ, ℤ, List}
-use Rattle.awari_owner.specs.Part.{Part, IsTallied}
+use Rattle.awari_block.specs.Part.{Part, IsTallied}
 use Rattle.awari_owner.specs.Spread.{HearsOwn, Source, Spreads}
-use Rattle.awari_owner.specs.declared.notes.Note.{Note}
+use Rattle.awari_block.specs.declared.notes.Note.{Note}
 use Rattle.awari_build.specs.Sound.{IsSound}
 
 -- where a gain or a distance is opened the notes are the same

@@ -5,8 +5,8 @@ use Rattle.awari_table.specs.Images.{table_of}
 use Rattle.awari_table.specs.Shelves.{Consistent, IsShelf}
 use Rattle.awari_table.specs.declared.TheConstants.{HIGHEST_LEVEL}
 use Rattle.awari_table.specs.declared.images.Image.{Image}
-use Rattle.awari_owner.specs.Part.{Part}
-use Rattle.awari_owner.specs.Level.{AreHeard, AreTold, AreWhole, DistancesFit, IsClosed}
+use Rattle.awari_block.specs.Part.{Part, IsClosed}
+use Rattle.awari_owner.specs.Level.{AreHeard, AreTold, AreWhole, DistancesFit}
 use Rattle.awari_owner.specs.Scan.{IsWhole}
 use Rattle.awari_owner.proofs.Levels.{one_whole, one_heard, heard_told}
 use Rattle.awari_plan.specs.Finished.{IsFinished}

@@ -1,8 +1,7 @@
 //! A level built by one part, in one thread.
 
 ghost use Rattle.std.specs.Prelude.{◌≡◌, ◌≤◌, ◌<◌, ◌+◌, ◌⊎◌, ◌↔◌, ◌++◌, ◌∷◌, [], ℕ, ℤ, List, length, IfOk, IfErr, Err, Some};
-ghost use Rattle.awari_owner.specs.Level.{IsClosed};
-ghost use Rattle.awari_owner.specs.Part.{IsLeastDue, unspread};
+ghost use Rattle.awari_block.specs.Part.{IsLeastDue, unspread, IsClosed};
 ghost use Rattle.awari_owner.specs.Scan.{IsWhole};
 ghost use Rattle.awari_build.specs.Sound.{IsSound};
 ghost use Rattle.awari_plan.specs.Least.{IsPlannedLowest};
@@ -12,7 +11,8 @@ ghost use Rattle.awari_table.specs.declared.TheConstants.{HIGHEST_LEVEL};
 ghost use Rattle.awari_theory.specs.Truth.{TellsTruth};
 
 use crate::faults::BuildFault;
-use awari_owner::{ClosedPart, Outboxes, Part, distances_fit};
+use awari_block::ClosedPart;
+use awari_owner::{Outboxes, Part, distances_fit};
 use awari_phase::{Progress, Silent};
 use awari_plan::{finish_closed, finished_levels_are_consistent};
 use awari_rank::size;

@@ -3,14 +3,14 @@ use Rattle.std.specs.Prelude.{ℕ, List, Option}
 use Rattle.awari_check.specs.Answer.{PrintsYes}
 use Rattle.awari_folder.specs.Contents.{nothing_known}
 use Rattle.awari_cli.specs.Building.{PrintsLevels}
-use Rattle.awari_cli.specs.Folders.{PrintsFolder, PrintsEntry}
-use Rattle.awari_cli.specs.Judgement.{PrintsJudgement}
-use Rattle.awari_cli.specs.Lines.{PrintsLine}
+use Rattle.awari_answers.specs.Folders.{PrintsFolder, PrintsEntry}
+use Rattle.awari_answers.specs.Judgement.{PrintsJudgement}
+use Rattle.awari_answers.specs.Lines.{PrintsLine}
 use Rattle.awari_cli.specs.Migrating.{PrintsMigrated}
-use Rattle.awari_cli.specs.Playing.{PrintsMove}
+use Rattle.awari_answers.specs.Playing.{PrintsMove}
 use Rattle.awari_cli.specs.Serving.{PrintsService}
-use Rattle.awari_cli.specs.Texts.{PrintsText}
-use Rattle.awari_cli.specs.Worths.{PrintsWorths}
+use Rattle.awari_answers.specs.Texts.{PrintsText}
+use Rattle.awari_answers.specs.Worths.{PrintsWorths}
 use Rattle.awari_words.specs.declared.requests.Request.{Request}
 use Rattle.awari_words.specs.declared.requests.Request.TheVariants.{Check, Move, Judge, Build, Verify, Text, Migrate, Ask, Moves, Line, Serve}
 

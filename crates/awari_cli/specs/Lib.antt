@@ -1,10 +1,4 @@
-pub mod Playing
-pub mod Judgement
 pub mod Done
 pub mod Building
-pub mod Folders
-pub mod Lines
 pub mod Migrating
 pub mod Serving
-pub mod Worths
-pub mod Texts

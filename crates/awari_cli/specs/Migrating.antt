@@ -6,8 +6,8 @@ use Rattle.awari_folder.specs.Contents.{AreNames}
 use Rattle.awari_folder.specs.Migration.{IsFirstMoveFault, IsMigrated}
 use Rattle.awari_folder.specs.declared.faults.FolderFault.{FolderFault}
 use Rattle.awari_folder.specs.declared.migrating.Limits.{Limits}
-use Rattle.awari_cli.specs.Folders.{summary_text}
-use Rattle.awari_cli.specs.declared.folders.Summary.{Summary}
+use Rattle.awari_answers.specs.Folders.{summary_text}
+use Rattle.awari_answers.specs.declared.folders.Summary.{Summary}
 use Rattle.awari_cli.specs.declared.migrating.MovedLevel.{MovedLevel}
 
 abbrev pub moved_text : MovedLevel → List ℕ

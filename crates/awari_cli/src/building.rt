@@ -11,7 +11,7 @@ ghost use Rattle.awari_folder.specs.Contents.{AreNames, HoldsIn, Same, SameBut, 
 ghost use Rattle.awari_cli.specs.Building.{IsToldOf, KeepsLevels, LeavesFiles, PrintsLevels, SameOutside, level_lines};
 ghost use Rattle.awari_cli.specs.declared.building.BuildingFault.TheVariants as building_fault;
 
-use crate::printing::{Refused, print, refuse};
+use awari_answers::{Refused, print, refuse};
 use awari_build::{BuildFault, Pace, build_alone_with_progress, build_level_with_progress};
 use awari_folder::{Folder, FolderFault, load_parallel, save};
 use awari_phase::{Open, Progress};

@@ -6,8 +6,7 @@ ghost use Rattle.awari_folder.specs.Contents.{LeavesNoMore, Same};
 ghost use Rattle.awari_folder.specs.Migration.{KeepsFiles};
 ghost use Rattle.awari_cli.specs.Migrating.{LeavesMigrated, PrintsMigrated, moved_lines};
 
-use crate::folders::Summary;
-use crate::printing::{print, refuse};
+use awari_answers::{Summary, print, refuse};
 use awari_folder::{Folder, Limits, migrate};
 use std::alloc::Global;
 use std::fmt;

@@ -6,8 +6,8 @@ ghost use Rattle.awari_check.specs.Answer.{PrintsYes};
 ghost use Rattle.awari_folder.specs.Contents.{nothing_known};
 ghost use Rattle.awari_cli.specs.Building.{PrintsLevels};
 ghost use Rattle.awari_cli.specs.Done.{PrintsFor};
-ghost use Rattle.awari_cli.specs.Judgement.{PrintsJudgement};
-ghost use Rattle.awari_cli.specs.Playing.{PrintsMove};
+ghost use Rattle.awari_answers.specs.Judgement.{PrintsJudgement};
+ghost use Rattle.awari_answers.specs.Playing.{PrintsMove};
 ghost use Rattle.awari_words.specs.Commands.{awari_commands};
 ghost use Rattle.awari_words.specs.Requests.{IsAsked};
 ghost use Rattle.awari_words.specs.declared.requests.Request.{Request};
@@ -15,16 +15,12 @@ ghost use Rattle.clap.specs.Faults.{fault_of};
 ghost use Rattle.clap.specs.Simple.{subcommand_of};
 
 use crate::building::{Builder, run_build, run_build_in};
-use crate::folders::{run_ask, run_verify};
-use crate::judgements::{Judged, judge};
-use crate::lines::run_line;
 use crate::migrating::run_migrate;
-use crate::playing::{Played, play_on};
-use crate::printing::print;
 use crate::progress::ProgressLines;
 use crate::serving::run_serve;
-use crate::texts::run_text;
-use crate::worths::run_moves;
+use awari_answers::{
+    Judged, Played, judge, play_on, print, run_ask, run_line, run_moves, run_text, run_verify,
+};
 use awari_build::Pace;
 use awari_check::check_input;
 use awari_folder::HostFolder;

@@ -9,7 +9,7 @@ ghost use Rattle.awari_table.specs.Shelves.{Consistent, IsShelf};
 ghost use Rattle.awari_cli.specs.Serving.{PrintsService, IsServed};
 ghost use Rattle.awari_cli.specs.declared.serving.ServingFault.TheVariants as serving_fault;
 
-use crate::printing::refuse;
+use awari_answers::refuse;
 use awari_build::{BuildFault, Pace, build_alone, build_level};
 use awari_desk::{DeskFault, Publisher, Reader, ServeFault, desk, serve};
 use awari_folder::{Folder, FolderFault, load_parallel};

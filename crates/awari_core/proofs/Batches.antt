@@ -3,15 +3,15 @@ use Rattle.std.proofs.Common.{◌≡◌, ℕ, ◌+◌, ◌^◌, ◌-◌, ◌<◌
 use Rattle.std.proofs.lemmas.Bool.{cases_eq, false≢true}
 use Rattle.std.proofs.lemmas.Bool.Decides.{nat_tests}
 use Rattle.std.proofs.lemmas.List.{drop_more, take_more, take_all, drop_all, get_or_default}
-use Rattle.awari_owner.specs.Tally.{has_pit}
-use Rattle.awari_owner.specs.Blocks.{KeepSettled}
-use Rattle.awari_owner.specs.Part.{Part, IsTallied, IsExpected, JoinsFresh, SameLevel, stored_at}
+use Rattle.awari_block.specs.Tally.{has_pit}
+use Rattle.awari_block.specs.Blocks.{KeepSettled}
+use Rattle.awari_block.specs.Part.{Part, IsTallied, IsExpected, JoinsFresh, SameLevel, stored_at}
 use Rattle.awari_owner.specs.Spread.{HearsOwn}
-use Rattle.awari_owner.specs.declared.notes.Note.{Note}
+use Rattle.awari_block.specs.declared.notes.Note.{Note}
 use Rattle.awari_owner.specs.OwnerFault.{IsFaultOf}
 use Rattle.awari_owner.specs.declared.faults.OwnerFault.{OwnerFault}
 use Rattle.awari_owner.specs.declared.faults.OwnerFault.TheVariants.{Stranger, Doubled, Far, Memory}
-use Rattle.awari_owner.specs.declared.notes.Kind.TheVariants.{Won}
+use Rattle.awari_block.specs.declared.notes.Kind.TheVariants.{Won}
 use Rattle.awari_owner.proofs.Spreading.{IsInjective}
 use Rattle.awari_owner.specs.Level.{AreSound}
 use Rattle.awari_core.specs.Sound.{with_part, with_list, AreNext, AreTaken}

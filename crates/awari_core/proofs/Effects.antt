@@ -1,11 +1,11 @@
 -- From what the parts and senders of a core do to what the core does.
 use Rattle.std.proofs.Common.{◌≡◌, ℕ, ◌+◌, ◌-◌, ◌^◌, ◌<◌, Bool, false, IsTrue, inl, inr, List, [], ◌∷◌, ◌++◌, All, Some, length, get_or, set, refl, sym, ap, subst, subst₂, ◌∙◌, arith, get_or-set_same}
 use Rattle.std.proofs.lemmas.List.{get_or_default, set-get_or}
-use Rattle.awari_owner.specs.Blocks.{KeepSettled}
+use Rattle.awari_block.specs.Blocks.{KeepSettled}
 use Rattle.awari_owner.specs.Level.{DistancesFit, no_part}
-use Rattle.awari_owner.specs.Part.{Part, SameLevel, IsLeastDue, HasFarthest}
+use Rattle.awari_block.specs.Part.{Part, SameLevel, IsLeastDue, HasFarthest}
 use Rattle.awari_owner.specs.Spread.{Source, Spreads, Sends}
-use Rattle.awari_owner.specs.declared.notes.Note.{Note}
+use Rattle.awari_block.specs.declared.notes.Note.{Note}
 use Rattle.awari_core.specs.Core.{Core, Sender, Sound, DoesSpread, DoesTake, HearsBatch, Does, IsEnabled, IsFaultOf, Runs, no_sender, part_at, sender_at, line_at}
 use Rattle.awari_core.specs.declared.events.Event.{Event}
 use Rattle.awari_core.specs.declared.faults.CoreFault.{CoreFault}

@@ -1,9 +1,9 @@
 -- Lists of notes, joined end to end.
 use Rattle.std.proofs.Common.{◌≡◌, ℕ, ◌⊎◌, inl, inr, Bool, true, false, cond, nat_lt, ◌==◌, ◌||◌, List, [], ◌∷◌, ◌++◌, length, refl, sym, ap, subst, ◌∙◌, append_assoc, append-nil, eqb-true}
-use Rattle.awari_owner.specs.Notes.{Has, is_heard_at}
-use Rattle.awari_owner.specs.Part.{notes_for}
+use Rattle.awari_block.specs.Notes.{Has, is_heard_at}
+use Rattle.awari_block.specs.Part.{notes_for}
 use Rattle.awari_owner.specs.Outboxes.{put_behind, with_note, with_notes}
-use Rattle.awari_owner.specs.declared.notes.Note.{Note}
+use Rattle.awari_block.specs.declared.notes.Note.{Note}
 use Rattle.awari_owner.specs.Level.{AreOfOtherMoves}
 use Rattle.awari_core.specs.Sound.{notes_of}
 

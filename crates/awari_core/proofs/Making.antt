@@ -7,12 +7,12 @@ use Rattle.awari_table.specs.Images.{table_of}
 use Rattle.awari_table.specs.Shelves.{IsShelf}
 use Rattle.awari_owner.specs.Level.{AreSound, no_part}
 use Rattle.awari_owner.specs.Level as level
-use Rattle.awari_owner.specs.Notes as notes
+use Rattle.awari_block.specs.Notes as notes
 use Rattle.awari_owner.specs.Outboxes.{AreBatches, IsBatch}
-use Rattle.awari_owner.specs.Part.{AreFresh, Part, IsTallied}
+use Rattle.awari_block.specs.Part.{AreFresh, Part, IsTallied}
 use Rattle.awari_owner.specs.Scan.{IsScan}
 use Rattle.awari_owner.specs.Spread.{HearsOwn}
-use Rattle.awari_owner.specs.declared.notes.Note.{Note}
+use Rattle.awari_block.specs.declared.notes.Note.{Note}
 use Rattle.awari_core.specs.Core.{Core, IsAllTaken, IsLinked, IsSilent, Line, Sender, Sound, coming, no_line, no_sender}
 use Rattle.awari_core.proofs.Opening.{sound_none}
 use Rattle.awari_core.proofs.Telling.{nothing_comes, silent_to}

@@ -2,11 +2,11 @@
 use Rattle.std.proofs.Common.{◌≡◌, ℕ, ◌<◌, List, [], ◌++◌, ℤ, is_some, refl, sym, ap, subst, ◌∙◌}
 use Rattle.std.proofs.lemmas.Bool.{false≢true}
 use Rattle.awari_rank.specs.Rank.{rank_of}
-use Rattle.awari_owner.specs.Notes.{Has}
-use Rattle.awari_owner.specs.Part.{Part, IsTallied}
+use Rattle.awari_block.specs.Notes.{Has}
+use Rattle.awari_block.specs.Part.{Part, IsTallied}
 use Rattle.awari_owner.specs.Scan.{IsScan}
 use Rattle.awari_owner.specs.Spread.{HearsOwn}
-use Rattle.awari_owner.specs.declared.notes.Note.{Note}
+use Rattle.awari_block.specs.declared.notes.Note.{Note}
 use Rattle.awari_owner.specs.Level.{AreSound}
 use Rattle.awari_core.specs.Sound.{IsSeenAs}
 use Rattle.awari_core.proofs.Taking.{given_still, share_still, inside_old, leaves_old}

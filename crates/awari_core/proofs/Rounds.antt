@@ -6,11 +6,11 @@ use Rattle.std.proofs.lemmas.Bool.{cases_eq, cases_lt, eq-eqb}
 use Rattle.std.proofs.lemmas.List.{get_or_default, get_or_push, get_or_append_left, take_all, drop_all}
 use Rattle.std.proofs.lemmas.List.Elements.{All-nil}
 use Rattle.awari_table.specs.Images.{table_of}
-use Rattle.awari_owner.specs.Blocks.{Due, KeepSettled, due_dist}
+use Rattle.awari_block.specs.Blocks.{Due, KeepSettled, due_dist}
 use Rattle.awari_owner.specs.Level.{AreSound, no_part}
-use Rattle.awari_owner.specs.Part.{AreFresh, Part, IsLeastDue, IsTallied, JoinsFresh}
+use Rattle.awari_block.specs.Part.{AreFresh, Part, IsLeastDue, IsTallied, JoinsFresh}
 use Rattle.awari_owner.specs.Spread.{HearsOwn}
-use Rattle.awari_owner.specs.declared.notes.Note.{Note}
+use Rattle.awari_block.specs.declared.notes.Note.{Note}
 use Rattle.awari_core.specs.Sound.{IsSeenAs, notes_of}
 use Rattle.awari_core.specs.Core.{Core, IsAllTaken, IsLeastOf, IsLinked, IsNearer, IsQuiet, IsWaveDone, OpensGain, Sound, coming, part_at, sender_at}
 use Rattle.awari_core.proofs.Opening.{sound_opened}

@@ -7,15 +7,15 @@ use Rattle.std.proofs.lemmas.Bool.Decides.{nat_tests}
 use Rattle.awari_board.specs.Rules.{IsBoard, next_board}
 use Rattle.awari_rank.specs.Rank.{rank_of, size_of}
 use Rattle.awari_unmove.specs.Predecessors.{ComesBefore}
-use Rattle.awari_owner.specs.Notes.{IsQuietMove, Has, IsNoteOf, gain_by}
-use Rattle.awari_owner.specs.Cells.{IsEither}
-use Rattle.awari_owner.specs.Blocks.{KeepSettled}
-use Rattle.awari_owner.specs.Part.{Part, InBlock, Leaves, SameLevel, settled_at, stored_at}
-use Rattle.awari_owner.specs.Scan.{first_rank}
+use Rattle.awari_block.specs.Notes.{IsQuietMove, Has, IsNoteOf, gain_by}
+use Rattle.awari_block.specs.Cells.{IsEither}
+use Rattle.awari_block.specs.Blocks.{KeepSettled}
+use Rattle.awari_block.specs.Part.{Part, InBlock, Leaves, SameLevel, settled_at, stored_at}
+use Rattle.awari_block.specs.Leaving.{first_rank}
 use Rattle.awari_owner.specs.Spread.{Source, IsSpread, Spreads, AreNotesOf, is_held, is_in_block, kind_of, note_to, with_own, with_all_own}
-use Rattle.awari_owner.specs.declared.notes.Kind.{Kind}
-use Rattle.awari_owner.specs.declared.notes.Kind.TheVariants.{Won, Lost}
-use Rattle.awari_owner.specs.declared.notes.Note.{Note}
+use Rattle.awari_block.specs.declared.notes.Kind.{Kind}
+use Rattle.awari_block.specs.declared.notes.Kind.TheVariants.{Won, Lost}
+use Rattle.awari_block.specs.declared.notes.Note.{Note}
 use Rattle.awari_owner.proofs.Spreading.{IsInjective, AreSources, sources_of}
 use Rattle.awari_owner.proofs.Hearing.{spread_back, spread_forth, settled_still}
 use Rattle.awari_owner.specs.Level.{AreOfOtherMoves, IsShare, HearsTaken, AreSpreadNotes, IsTimely, AreSound}

@@ -8,12 +8,12 @@ use Rattle.awari_rank.specs.Rank.{size_of}
 use Rattle.awari_table.specs.declared.images.Image.{Image}
 use Rattle.awari_table.specs.Images.{table_of}
 use Rattle.awari_table.specs.Shelves.{IsShelf}
-use Rattle.awari_owner.specs.Notes.{IsQuietMove, Has}
-use Rattle.awari_owner.specs.Part.{AreFresh, Part}
+use Rattle.awari_block.specs.Notes.{IsQuietMove, Has}
+use Rattle.awari_block.specs.Part.{AreFresh, Part}
 use Rattle.awari_owner.specs.Outboxes.{AreBatches, IsBatch, queue_to, with_note, with_notes}
 use Rattle.awari_owner.specs.Spread.{Source, Sends, IsPartOf}
-use Rattle.awari_owner.specs.Scan.{first_rank}
-use Rattle.awari_owner.specs.declared.notes.Note.{Note}
+use Rattle.awari_block.specs.Leaving.{first_rank}
+use Rattle.awari_block.specs.declared.notes.Note.{Note}
 use Rattle.awari_owner.proofs.Spreading.{IsInjective}
 use Rattle.awari_owner.proofs.Sending.{note_batches}
 use Rattle.awari_owner.specs.Level.{HearsTaken, AreSpreadNotes, IsShare, IsTimely, AreSound, no_part}

@@ -4,13 +4,13 @@ use Rattle.std.proofs.lemmas.Bool.{cases_lt, cases_eq}
 use Rattle.std.proofs.lemmas.Nat.{mul-le}
 use Rattle.awari_board.specs.Rules.{IsBoard, next_board}
 use Rattle.awari_rank.specs.Rank.{rank_of, size_of}
-use Rattle.awari_owner.specs.Notes.{IsQuietMove, Has, IsNoteOf, is_heard_at}
-use Rattle.awari_owner.specs.Tally.{has_pit}
-use Rattle.awari_owner.specs.Blocks.{KeepSettled}
-use Rattle.awari_owner.specs.Part.{Part, InBlock, Leaves, IsTallied, IsExpected, JoinsFresh, SameLevel, stored_at, notes_for}
-use Rattle.awari_owner.specs.Scan.{first_rank}
+use Rattle.awari_block.specs.Notes.{IsQuietMove, Has, IsNoteOf, is_heard_at}
+use Rattle.awari_block.specs.Tally.{has_pit}
+use Rattle.awari_block.specs.Blocks.{KeepSettled}
+use Rattle.awari_block.specs.Part.{Part, InBlock, Leaves, IsTallied, IsExpected, JoinsFresh, SameLevel, stored_at, notes_for}
+use Rattle.awari_block.specs.Leaving.{first_rank}
 use Rattle.awari_owner.specs.Spread.{HearsOwn, IsSpread}
-use Rattle.awari_owner.specs.declared.notes.Note.{Note}
+use Rattle.awari_block.specs.declared.notes.Note.{Note}
 use Rattle.awari_owner.proofs.Spreading.{IsInjective}
 use Rattle.awari_owner.proofs.Hearing.{spread_stays, spread_before}
 use Rattle.awari_owner.specs.Level.{IsShare, HearsTaken, AreSpreadNotes, IsTimely, AreSound}

@@ -4,13 +4,13 @@ use Rattle.awari_table.specs.declared.images.Image.{Image}
 use Rattle.awari_table.specs.declared.TheConstants.{HIGHEST_LEVEL}
 use Rattle.awari_table.specs.Images.{table_of}
 use Rattle.awari_table.specs.Shelves.{IsShelf}
-use Rattle.awari_owner.specs.Blocks.{due_dist, KeepSettled}
-use Rattle.awari_owner.specs.Part.{Part, SameLevel, JoinsFresh, IsTallied, IsLeastDue, AreFresh}
+use Rattle.awari_block.specs.Blocks.{due_dist, KeepSettled}
+use Rattle.awari_block.specs.Part.{Part, SameLevel, JoinsFresh, IsTallied, IsLeastDue, AreFresh}
 use Rattle.awari_owner.specs.Level.{AreSound, no_part}
 use Rattle.awari_owner.specs.Scan.{IsScan}
 use Rattle.awari_owner.specs.Outboxes.{Outboxes, AreBatches, queue_to}
 use Rattle.awari_owner.specs.Spread.{HearsOwn, Source, Spreads, Sends}
-use Rattle.awari_owner.specs.declared.notes.Note.{Note}
+use Rattle.awari_block.specs.declared.notes.Note.{Note}
 use Rattle.awari_core.specs.declared.events.Event.{Event}
 use Rattle.awari_core.specs.declared.events.Event.TheVariants.{Spread, Send, Take}
 use Rattle.awari_core.specs.declared.faults.CoreFault.{CoreFault}

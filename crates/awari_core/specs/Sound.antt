@@ -1,9 +1,9 @@
 -- Sound owners, and what a step of one of them makes of that.
 use Rattle.std.specs.Prelude.{◌≡◌, ℕ, ◌<◌, ◌==◌, ◌&&◌, if◌then◌else◌, List, [], ◌∷◌, ◌++◌, length, ℤ}
 use Rattle.awari_owner.specs.Level.{AreSound}
-use Rattle.awari_owner.specs.Part.{Part, InBlock}
+use Rattle.awari_block.specs.Part.{Part, InBlock}
 use Rattle.awari_owner.specs.Spread.{IsSpread}
-use Rattle.awari_owner.specs.declared.notes.Note.{Note}
+use Rattle.awari_block.specs.declared.notes.Note.{Note}
 
 -- the notes of these batches, in order
 abbrev pub notes_of : List (List Note) → List Note

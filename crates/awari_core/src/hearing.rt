@@ -1,9 +1,9 @@
 //! How a part hears a batch.
 
 ghost use Rattle.std.specs.Prelude.{◌≡◌, ℕ, ℤ, List, length};
-ghost use Rattle.awari_owner.specs.Blocks.{KeepSettled};
-ghost use Rattle.awari_owner.specs.Part.{AreFresh, JoinsFresh, Part as PartView, SameLevel};
-ghost use Rattle.awari_owner.specs.declared.notes.Note.{Note as NoteView};
+ghost use Rattle.awari_block.specs.Blocks.{KeepSettled};
+ghost use Rattle.awari_block.specs.Part.{AreFresh, JoinsFresh, Part as PartView, SameLevel};
+ghost use Rattle.awari_block.specs.declared.notes.Note.{Note as NoteView};
 ghost use Rattle.awari_core.specs.Sound.{AreNext, AreTaken};
 
 use awari_owner::{Batch, Part};

@@ -3,11 +3,11 @@
 ghost use Rattle.std.specs.Prelude.{◌≡◌, ℕ, ℤ, ◌<◌, ◌≤◌, ◌^◌, ◌-◌, ◌∷◌, [], false, All, List, length, sum};
 ghost use Rattle.awari_board.specs.Rules.{IsBoard};
 ghost use Rattle.awari_rank.specs.Rank.{rank_of};
-ghost use Rattle.awari_owner.specs.Part.{Part, IsExpected, IsTallied, stored_at};
+ghost use Rattle.awari_block.specs.Part.{Part, IsExpected, IsTallied, stored_at};
 ghost use Rattle.awari_owner.specs.Scan.{IsScan};
 ghost use Rattle.awari_owner.specs.Spread.{HearsOwn};
-ghost use Rattle.awari_owner.specs.Tally.{has_pit};
-ghost use Rattle.awari_owner.specs.declared.notes.Note.{Note};
+ghost use Rattle.awari_block.specs.Tally.{has_pit};
+ghost use Rattle.awari_block.specs.declared.notes.Note.{Note};
 ghost use Rattle.awari_owner.specs.Level.{AreHeard, AreSound, AreWhole, DistancesFit};
 ghost use Rattle.awari_table.specs.Images.{table_of};
 ghost use Rattle.awari_core.specs.Core.{Core, Sound, IsAllTaken};

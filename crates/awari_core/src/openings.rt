@@ -1,12 +1,12 @@
 //! What is done with all parts of a level, one after the other.
 
 ghost use Rattle.std.specs.Prelude.{◌≡◌, ◌+◌, ◌<◌, ◌≤◌, ℕ, ℤ, List, [], All, IfOk, length, vec_len, slice_index_or};
-ghost use Rattle.awari_owner.specs.Blocks.{due_dist};
+ghost use Rattle.awari_block.specs.Blocks.{due_dist};
 ghost use Rattle.awari_owner.specs.Level.{no_part};
-ghost use Rattle.awari_owner.specs.Part.{AreFresh, IsTallied};
+ghost use Rattle.awari_block.specs.Part.{AreFresh, IsTallied};
 ghost use Rattle.awari_owner.specs.Scan.{IsScan};
 ghost use Rattle.awari_owner.specs.Spread.{HearsOwn};
-ghost use Rattle.awari_owner.specs.declared.notes.Note.{Note};
+ghost use Rattle.awari_block.specs.declared.notes.Note.{Note};
 ghost use Rattle.awari_table.specs.Images.{table_of};
 ghost use Rattle.awari_table.specs.declared.TheConstants.{HIGHEST_LEVEL};
 ghost use Rattle.awari_core.specs.Core.{IsNearer, OpensGain};

@@ -1,12 +1,12 @@
 //! What an owner sends by.
 
 ghost use Rattle.std.specs.Prelude.{◌≡◌, ◌≢◌, ◌≤◌, ◌<◌, ◌-◌, ◌^◌, ◌⊎◌, ◌∷◌, ◌++◌, ◌↔◌, [], ℕ, List, Some, OnErr, IfOk, IfErr, IfSome, IfNone, IsTrue, length, vec_len, All, replicate, true, false, slice_set, slice_index_or};
-ghost use Rattle.awari_owner.specs.Blocks.{KeepSettled};
-ghost use Rattle.awari_owner.specs.Part.{AreFresh, SameLevel, IsLeastDue, HasFarthest};
+ghost use Rattle.awari_block.specs.Blocks.{KeepSettled};
+ghost use Rattle.awari_block.specs.Part.{AreFresh, SameLevel, IsLeastDue, HasFarthest};
 ghost use Rattle.awari_owner.specs.Outboxes.{queue_to};
 ghost use Rattle.awari_owner.specs.Spread.{IsPartOf, Source, Spreads, Sends};
 ghost use Rattle.awari_owner.specs.declared.faults.OwnerFault.{OwnerFault};
-ghost use Rattle.awari_owner.specs.declared.notes.Note.{Note as NoteView};
+ghost use Rattle.awari_block.specs.declared.notes.Note.{Note as NoteView};
 ghost use Rattle.awari_core.specs.Core.{IsLinked, IsSilent, Sender as SenderView, no_line, no_sender};
 
 use crate::lines::Line;

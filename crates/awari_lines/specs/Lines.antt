@@ -3,7 +3,7 @@ use Rattle.std.specs.Prelude.{◌≡◌, ◌≢◌, ℕ, ◌+◌, ◌<◌, List,
 use Rattle.rtrb.specs.Ring.{sent, received, known_free, known_items, producer_capacity, consumer_capacity, SameProducer, SameConsumer, IsPair}
 use Rattle.awari_lines.specs.declared.lines.Line.{Line}
 use Rattle.awari_lines.specs.declared.lines.Ends.{Ends}
-use Rattle.awari_owner.specs.declared.notes.Note.{Note}
+use Rattle.awari_block.specs.declared.notes.Note.{Note}
 use Rattle.arrayvec.specs.ArrayVec.{ArrayVec}
 use Rattle.awari_lines.specs.Seats.{seat_of}
 

@@ -8,18 +8,18 @@ use Rattle.awari_rank.specs.Rank.{rank_of, size_of}
 use Rattle.awari_rank.proofs.Examples.{highest}
 use Rattle.awari_rank.proofs.Ranking.{rank_of-below}
 use Rattle.awari_rank.proofs.Reaching.{board_reached, size_of-grows}
-use Rattle.awari_owner.specs.Notes.{Has}
-use Rattle.awari_owner.specs.Tally.{Settled, IsDistance, IsStatus}
-use Rattle.awari_owner.specs.Tally as tally
-use Rattle.awari_owner.specs.Cells.{is_settled, status_by, status_of}
-use Rattle.awari_owner.specs.Blocks.{no_cell, cell_in}
+use Rattle.awari_block.specs.Notes.{Has}
+use Rattle.awari_block.specs.Tally.{Settled, IsDistance, IsStatus}
+use Rattle.awari_block.specs.Tally as tally
+use Rattle.awari_block.specs.Cells.{status_by, status_of}
+use Rattle.awari_block.specs.Blocks.{no_cell, cell_in}
 use Rattle.awari_owner.specs.Finish.{dist_by}
-use Rattle.awari_owner.specs.Part.{Part, InBlock, cell_at, notes_for, settled_by, settled_at}
+use Rattle.awari_block.specs.Part.{Part, InBlock, cell_at, notes_for, settled_by, settled_at}
 use Rattle.awari_owner.specs.Level.{AreWhole, AreTold, IsSpreadNote, all_cells, known_at, no_part, part_at}
-use Rattle.awari_owner.specs.declared.cells.Cell.{Cell}
-use Rattle.awari_owner.specs.declared.cells.Mark.{Mark}
-use Rattle.awari_owner.specs.declared.cells.Mark.TheVariants as mark
-use Rattle.awari_owner.specs.declared.notes.Note.{Note}
+use Rattle.awari_block.specs.declared.cells.Cell.{Cell}
+use Rattle.awari_block.specs.declared.cells.Mark.{Mark}
+use Rattle.awari_block.specs.declared.cells.Mark.TheVariants as mark
+use Rattle.awari_block.specs.declared.notes.Note.{Note}
 use Rattle.awari_owner.proofs.Basics.{far_attained}
 use Rattle.awari_owner.proofs.Finishing.{settled_status}
 use Rattle.awari_owner.proofs.Levels.{block_at, cells_in_all, holds, known_there, next_board_is, of_level}
@@ -48,16 +48,6 @@ stored_dist c v d e = at c.mark c.left c.score c.dist e
     at mark.Ended left score dist e = absurd (false≢true (ap is_some e))
     at mark.Quiet left score dist e = absurd (false≢true (ap is_some e))
     at mark.Capturing left score dist e = absurd (false≢true (ap is_some e))
-
--- a settled cell of this distance
-pub settled_cell : (c : Cell) (d : ℕ) → is_settled c.mark ≡ true → c.dist ≡ d → settled_by (status_of c) ≡ Some (c.score, d)
-settled_cell c d settled near = at c.mark settled c.score c.left c.dist near
-  where
-    at : (m : Mark) → is_settled m ≡ true → (score : ℤ) (left dist : ℕ) → dist ≡ d → settled_by (status_by m left score dist) ≡ Some (score, d)
-    at mark.Settled e score left dist near = ap (λ n. Some (score, n)) near
-    at mark.Ended e score left dist near = absurd (false≢true e)
-    at mark.Quiet e score left dist near = absurd (false≢true e)
-    at mark.Capturing e score left dist near = absurd (false≢true e)
 
 -- ---- as many boards as distances
 

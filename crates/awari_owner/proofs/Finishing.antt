@@ -4,14 +4,14 @@ use Rattle.std.proofs.lemmas.Bool.Decides.{nat_tests}
 use Rattle.std.proofs.lemmas.Bool.{false≢true}
 use Rattle.std.proofs.lemmas.Int.{ints}
 use Rattle.awari_board.specs.Rules.{IsMove, IsEnd, IsEnded, captured, next_board, own_stones}
-use Rattle.awari_owner.specs.Notes.{IsQuietMove, Has, is_won, gain_by, is_won_at}
+use Rattle.awari_block.specs.Notes.{IsQuietMove, Has, is_won, gain_by, is_won_at}
 use Rattle.awari_board.specs.Tests.{is_legal}
-use Rattle.awari_owner.specs.Tally.{Status, Ended, Open, Settled, Cell, is_left, left_of, Captures, Knows, IsOpen, IsSettledAs, IsDistance, IsStatus}
+use Rattle.awari_block.specs.Tally.{Status, Ended, Open, Settled, Cell, is_left, left_of, Captures, Knows, IsOpen, IsSettledAs, IsDistance, IsStatus}
 use Rattle.awari_owner.specs.Finish.{value_by, dist_by, IsQuietAt, gains, IsRightAt}
-use Rattle.awari_owner.specs.declared.notes.Note.{Note}
-use Rattle.awari_owner.specs.declared.notes.Kind.{Kind}
-use Rattle.awari_owner.specs.declared.notes.Kind.TheVariants.{Won, Lost}
-use Rattle.awari_owner.specs.Part.{settled_by}
+use Rattle.awari_block.specs.declared.notes.Note.{Note}
+use Rattle.awari_block.specs.declared.notes.Kind.{Kind}
+use Rattle.awari_block.specs.declared.notes.Kind.TheVariants.{Won, Lost}
+use Rattle.awari_block.specs.Part.{settled_by}
 use Rattle.awari_table.specs.Certificate.{plies}
 use Rattle.awari_table.proofs.CertificateLemmas.{plies_cases, plies_taken}
 use Rattle.awari_owner.proofs.Basics.{won_note, far_of-won, far_attained, count_by-none, count_by-some}

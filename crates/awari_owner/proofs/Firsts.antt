@@ -7,20 +7,20 @@ use Rattle.std.specs.List.Sorted.{IsPermutation}
 use Rattle.awari_board.specs.Rules.{IsBoard}
 use Rattle.awari_rank.specs.Rank.{rank_of}
 use Rattle.awari_unmove.specs.Predecessors.{IsPredecessors}
-use Rattle.awari_owner.specs.Notes.{IsQuietMove, IsNoteOf}
-use Rattle.awari_owner.specs.Cells.{IsEither, IsWithin, Fits, FitsBy, is_settled}
-use Rattle.awari_owner.specs.Blocks.{Due, due_rank, due_dist, cell_in, times_due, is_settled_in, no_cell, IsDueAs, IsBlock, JoinNewlySettled, KeepSettled}
-use Rattle.awari_owner.specs.Part.{Part, InBlock, IsTallied, part_of, stored_at, settled_at, unspread}
+use Rattle.awari_block.specs.Notes.{IsQuietMove, IsNoteOf}
+use Rattle.awari_block.specs.Cells.{IsEither, IsWithin, Fits, FitsBy, is_settled}
+use Rattle.awari_block.specs.Blocks.{Due, due_rank, due_dist, cell_in, times_due, is_settled_in, no_cell, IsDueAs, IsBlock, JoinNewlySettled, KeepSettled}
+use Rattle.awari_block.specs.Part.{Part, InBlock, IsTallied, part_of, stored_at, settled_at, unspread}
 use Rattle.awari_owner.specs.Spread.{Source, Tells, kind_of, note_to, with_all_own, LeavesFresh, Spreads, SpreadsOne}
-use Rattle.awari_owner.specs.declared.cells.Cell.{Cell}
-use Rattle.awari_owner.specs.declared.cells.Mark.{Mark}
-use Rattle.awari_owner.specs.declared.cells.Mark.TheVariants.{Ended, Quiet, Capturing, Settled}
-use Rattle.awari_owner.specs.declared.notes.Kind.{Kind}
-use Rattle.awari_owner.specs.declared.places.Place.{Place}
-use Rattle.awari_owner.specs.Boards.{Settles, TakesFirst, place_of}
+use Rattle.awari_block.specs.declared.cells.Cell.{Cell}
+use Rattle.awari_block.specs.declared.cells.Mark.{Mark}
+use Rattle.awari_block.specs.declared.cells.Mark.TheVariants.{Ended, Quiet, Capturing, Settled}
+use Rattle.awari_block.specs.declared.notes.Kind.{Kind}
+use Rattle.awari_block.specs.declared.places.Place.{Place}
+use Rattle.awari_block.specs.Boards.{Settles, TakesFirst, place_of}
 use Rattle.std.proofs.lemmas.List.Sorted.{length_permutation}
-use Rattle.awari_owner.proofs.BlockLemmas.{first_due}
-use Rattle.awari_owner.proofs.Settling.{same_place}
+use Rattle.awari_block.proofs.BlockLemmas.{first_due}
+use Rattle.awari_block.proofs.Settling.{same_place}
 use Rattle.awari_owner.proofs.Spreading.{IsInjective, AreSources, sources_of, unheard_sources, joined_but}
 use Rattle.awari_owner.proofs.Hearing.{settled_value, first_spreads, hears_first, note_fits}
 

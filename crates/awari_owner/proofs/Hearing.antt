@@ -5,19 +5,19 @@ use Rattle.std.specs.Prelude.{int_lt}
 use Rattle.std.proofs.lemmas.Bool.Decides.{nat_tests}
 use Rattle.awari_board.specs.Rules.{IsBoard, next_board}
 use Rattle.awari_rank.specs.Rank.{rank_of}
-use Rattle.awari_owner.specs.Notes.{IsQuietMove, Has, IsNoteOf, gain_by}
-use Rattle.awari_owner.specs.Part.{Part, InBlock, Leaves, JoinsFresh, settled_at, settled_by, notes_for}
-use Rattle.awari_owner.specs.declared.notes.Kind.TheVariants.{Won, Lost}
-use Rattle.awari_owner.specs.Cells.{IsEither, is_settled, status_of, status_by, Keeps}
-use Rattle.awari_owner.specs.declared.cells.Cell.{Cell}
-use Rattle.awari_owner.specs.declared.cells.Mark.{Mark}
-use Rattle.awari_owner.specs.declared.cells.Mark.TheVariants.{Ended, Quiet, Capturing, Settled}
+use Rattle.awari_block.specs.Notes.{IsQuietMove, Has, IsNoteOf, gain_by}
+use Rattle.awari_block.specs.Part.{Part, InBlock, Leaves, JoinsFresh, settled_at, settled_by, notes_for}
+use Rattle.awari_block.specs.declared.notes.Kind.TheVariants.{Won, Lost}
+use Rattle.awari_block.specs.Cells.{IsEither, is_settled, status_of, status_by, Keeps}
+use Rattle.awari_block.specs.declared.cells.Cell.{Cell}
+use Rattle.awari_block.specs.declared.cells.Mark.{Mark}
+use Rattle.awari_block.specs.declared.cells.Mark.TheVariants.{Ended, Quiet, Capturing, Settled}
 use Rattle.std.proofs.lemmas.Bool.{false≢true}
-use Rattle.awari_owner.specs.Blocks.{is_settled_in, times_due, cell_in, KeepSettled}
+use Rattle.awari_block.specs.Blocks.{is_settled_in, times_due, cell_in, KeepSettled}
 use Rattle.awari_owner.specs.Spread.{Source, HearsOwn, IsSpread, LeavesFresh, kind_of, is_held, note_to, with_own, with_all_own, SpreadsOne}
-use Rattle.awari_owner.specs.declared.notes.Kind.{Kind}
+use Rattle.awari_block.specs.declared.notes.Kind.{Kind}
 use Rattle.awari_owner.proofs.Spreading.{IsInjective, AreSources, held_is}
-use Rattle.awari_owner.specs.declared.notes.Note.{Note}
+use Rattle.awari_block.specs.declared.notes.Note.{Note}
 
 abbrev one_if : Bool → ℕ
 one_if b = cond b 1 0

@@ -5,8 +5,8 @@ use Rattle.std.proofs.lemmas.Bool.Decides.{nat_tests}
 use Rattle.std.proofs.lemmas.List.{get_or_append_left, get_or-append_right, get_or-set_same, get_or-set_other}
 use Rattle.awari_board.specs.Rules.{IsBoard, IsMove}
 use Rattle.awari_rank.specs.Rank.{rank_of}
-use Rattle.awari_owner.specs.Tally.{has_pit, with_pit}
-use Rattle.awari_owner.specs.Leaving.{IsAmong, LeavesFrom, LeavesAt, AreLeavingBelow, AreLeaving}
+use Rattle.awari_block.specs.Tally.{has_pit, with_pit}
+use Rattle.awari_block.specs.Leaving.{IsAmong, LeavesFrom, LeavesAt, AreLeavingBelow, AreLeaving}
 use Rattle.awari_owner.proofs.Basics.{below_six}
 use Rattle.awari_owner.proofs.Tallies.{has_pit-with}
 

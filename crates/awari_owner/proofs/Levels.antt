@@ -1,7 +1,8 @@
 -- The parts of a level, one block after another: the cell of a board, and what all of them heard.
 use Rattle.std.specs.List.{AllZip}
 use Rattle.std.proofs.Math.Nat.{lt-div-mul-add, mul_comm}
-use Rattle.awari_owner.specs.Scan.{IsScan, first_rank}
+use Rattle.awari_owner.specs.Scan.{IsScan}
+use Rattle.awari_block.specs.Leaving.{first_rank}
 use Rattle.std.proofs.Common.{length, ◌≡◌, ℕ, zero, suc, ◌+◌, ◌-◌, ◌<◌, ◌≤◌, ◌==◌, inl, inr, Bool, true, false, cond, List, [], ◌∷◌, get_or, sum, ℤ, All, refl, sym, ap, subst, subst₂, ◌∙◌, arith, eqb-true, ◌++◌, length-append, append-nil, ◌/◌}
 use Rattle.std.proofs.Math.ListN.{get_or-append}
 use Rattle.std.proofs.Math.Seq.{get_or-append_right}
@@ -12,15 +13,15 @@ use Rattle.awari_board.specs.Rules.{IsBoard, next_board}
 use Rattle.awari_board.proofs.Keeping.{IsBoard-next, sum-from_IsMove}
 use Rattle.awari_rank.specs.Rank.{rank_of, size_of}
 use Rattle.awari_rank.proofs.Ranking.{rank_of-below, rank_fixes}
-use Rattle.awari_owner.specs.Notes.{IsQuietMove, Has, IsNoteOf}
-use Rattle.awari_owner.specs.Tally as tally
-use Rattle.awari_owner.specs.Cells.{view_of}
-use Rattle.awari_owner.specs.Blocks.{Due, no_cell, times_due}
-use Rattle.awari_owner.specs.Part.{Part, InBlock, IsTallied, Leaves, cell_at, notes_for, settled_by}
+use Rattle.awari_block.specs.Notes.{IsQuietMove, Has, IsNoteOf}
+use Rattle.awari_block.specs.Tally as tally
+use Rattle.awari_block.specs.Cells.{view_of}
+use Rattle.awari_block.specs.Blocks.{Due, no_cell, times_due}
+use Rattle.awari_block.specs.Part.{Part, InBlock, IsTallied, Leaves, cell_at, notes_for, settled_by, IsClosed}
 use Rattle.awari_owner.specs.Spread.{Hears, HearsTruth, HearsOwn, IsSpread, SameBlock}
-use Rattle.awari_owner.specs.Level.{AreBlocks, AreWhole, IsClosed, all_cells, known_at, AreHeard, AreTold, AreSound, IsShare, no_part, part_at}
+use Rattle.awari_owner.specs.Level.{AreBlocks, AreWhole, all_cells, known_at, AreHeard, AreTold, AreSound, IsShare, no_part, part_at}
 use Rattle.awari_owner.specs.Finish.{IsQuietAt, IsRightAt}
-use Rattle.awari_owner.specs.declared.notes.Note.{Note}
+use Rattle.awari_block.specs.declared.notes.Note.{Note}
 use Rattle.awari_owner.proofs.Finishing.{quiet_right, settled_status}
 
 -- ---- blocks one after another

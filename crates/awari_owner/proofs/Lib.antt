@@ -1,15 +1,7 @@
 pub mod Basics
-pub mod Bits
-pub mod Nearest
-pub mod RunBounds
-pub mod FreshLists
-pub mod FirstBits
 pub mod Legality
 pub mod Statuses
 pub mod Tallies
-pub mod BlockLemmas
-pub mod FreshBlocks
-pub mod Opening
 pub mod Taking
 pub mod Gains
 pub mod Spreading
@@ -18,8 +10,6 @@ pub mod LeavingMoves
 pub mod Scanning
 pub mod PieceLemmas
 pub mod Firsts
-pub mod Freshness
-pub mod Settling
 pub mod Sending
 pub mod Queueing
 pub mod Sharing

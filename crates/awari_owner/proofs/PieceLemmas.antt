@@ -1,14 +1,13 @@
 -- Boards that were scanned in two pieces.
-use Rattle.std.proofs.Common.{◌≡◌, ℕ, ◌+◌, ◌-◌, ◌++◌, inl, inr, false, List, length, vec_len, get_or, ℤ, subst, subst₂, sym, ap, ◌∙◌, arith, length-append}
+use Rattle.std.proofs.Common.{◌≡◌, ℕ, ◌+◌, ◌-◌, ◌++◌, inl, inr, List, vec_len, get_or, ℤ, subst, subst₂, sym, ap, ◌∙◌, arith, length-append}
 use Rattle.std.proofs.lemmas.Bool.{cases_lt}
 use Rattle.std.proofs.lemmas.List.{get_or_append_left, get_or-append_right, with_items_is}
-use Rattle.awari_owner.specs.Fresh.{IsFresh, is_marked}
 use Rattle.std.specs.Vec.{with_items}
 use Rattle.awari_rank.specs.Rank.{rank_of}
-use Rattle.awari_owner.specs.declared.cells.Cell.{Cell}
-use Rattle.awari_owner.specs.declared.places.Block.{Block}
+use Rattle.awari_block.specs.declared.cells.Cell.{Cell}
+use Rattle.awari_block.specs.declared.places.Block.{Block}
 use Rattle.awari_owner.specs.declared.scans.ScannedBlock.{ScannedBlock}
-use Rattle.awari_owner.specs.Blocks.{no_cell}
+use Rattle.awari_block.specs.Blocks.{no_cell}
 use Rattle.awari_owner.specs.Scan.{IsScanned, IsPiece, IsScannedBlock}
 use Rattle.awari_owner.proofs.LeavingMoves.{leaving-both}
 
@@ -34,14 +33,11 @@ piece-both value n block first middle half rest boards low high bytes more meet 
 -- a block whose cells and bytes are written over by those of all its boards is scanned
 pub block_scanned : (value : List ℕ → ℤ) (n : ℕ) (block : Block) (found : ScannedBlock) (boards : ℕ) (cells : List Cell) (leaving : List ℕ)
     → boards ≡ block.end - block.start → vec_len found.cells ≡ boards → vec_len found.leaving ≡ boards
-    → ((all : List Cell) → length all ≡ boards → IsFresh all found.fresh) → ((k : ℕ) → is_marked found.fresh.words.items k ≡ false)
     → IsPiece value n block block.start boards cells leaving
-    → IsScannedBlock value n block (record { cells = with_items found.cells cells; leaving = with_items found.leaving leaving; fresh = found.fresh })
-block_scanned value n block found boards cells leaving all long bytes marks none piece = record {
+    → IsScannedBlock value n block (record { cells = with_items found.cells cells; leaving = with_items found.leaving leaving })
+block_scanned value n block found boards cells leaving all long bytes piece = record {
   piece = subst₂ (λ (cs : List Cell) (bs : List ℕ). IsPiece value n block block.start (block.end - block.start) cs bs) (sym wrote) (sym put)
       (subst (λ m. IsPiece value n block block.start m cells leaving) all piece);
-  marks = subst (λ (cs : List Cell). IsFresh cs found.fresh) (sym wrote) (marks cells piece.len);
-  none = none;
 }
   where
     wrote : (with_items found.cells cells).items ≡ cells

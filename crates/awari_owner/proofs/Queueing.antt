@@ -4,7 +4,7 @@ use Rattle.std.proofs.lemmas.Bool.Decides.{nat_tests}
 use Rattle.std.proofs.lemmas.List.{get_or-map, length-map, map-set, map-append, length_push}
 use Rattle.awari_owner.specs.Outboxes.{put_behind, with_note}
 use Rattle.awari_owner.specs.Queues.{spare_behind, spare, room_of}
-use Rattle.awari_owner.specs.declared.notes.Note.{Note}
+use Rattle.awari_block.specs.declared.notes.Note.{Note}
 
 -- a queue with a batch that is not full at its end
 behind_last : (b : List Note) (rest : List (List Note)) (m : Note) → 0 < spare_behind b rest

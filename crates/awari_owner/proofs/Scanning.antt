@@ -7,20 +7,20 @@ use Rattle.std.proofs.Math.Seq.{get_or-append_seam}
 use Rattle.awari_board.specs.Rules.{IsBoard, IsEnd, IsEnded, IsLegal, IsMove, captured, next_board, own_stones}
 use Rattle.awari_board.specs.Tests.{is_legal}
 use Rattle.awari_board.proofs.Legal.{legal_is}
-use Rattle.awari_owner.specs.Tally.{Open, has_pit, is_left, left_of, pits, Captures, IsBest, Knows, IsStatus, IsTally}
-use Rattle.awari_owner.specs.Cells.{IsWithin, IsEither, Fits, FitsBy, view_of, status_of, status_by, is_settled}
-use Rattle.awari_owner.specs.declared.cells.Cell.{Cell}
-use Rattle.awari_owner.specs.declared.cells.Mark.{Mark}
-use Rattle.awari_owner.specs.declared.cells.Mark.TheVariants.{Ended, Quiet, Capturing, Settled}
-use Rattle.awari_owner.specs.declared.places.Place.{Place}
+use Rattle.awari_block.specs.Tally.{Open, has_pit, is_left, left_of, pits, Captures, IsBest, Knows, IsStatus, IsTally}
+use Rattle.awari_block.specs.Cells.{IsWithin, IsEither, Fits, FitsBy, view_of, status_of, status_by, is_settled}
+use Rattle.awari_block.specs.declared.cells.Cell.{Cell}
+use Rattle.awari_block.specs.declared.cells.Mark.{Mark}
+use Rattle.awari_block.specs.declared.cells.Mark.TheVariants.{Ended, Quiet, Capturing, Settled}
+use Rattle.awari_block.specs.declared.places.Place.{Place}
 use Rattle.awari_owner.specs.Scan.{IsRanged, IsBestBelow, IsOutlook, IsScanned, AreScanned}
 use Rattle.awari_rank.specs.Rank.{rank_of}
-use Rattle.awari_owner.specs.Blocks.{Due, due_rank, cell_in, no_cell, times_due, is_settled_in, IsDueAs, IsBlock}
-use Rattle.awari_owner.specs.Part.{Part, InBlock, settled_by, settled_at}
+use Rattle.awari_block.specs.Blocks.{Due, due_rank, cell_in, no_cell, times_due, is_settled_in, IsDueAs, IsBlock}
+use Rattle.awari_block.specs.Part.{Part, InBlock, settled_by, settled_at}
 use Rattle.awari_owner.specs.Spread.{HearsOwn}
 use Rattle.std.proofs.lemmas.Bool.{false≢true}
 use Rattle.awari_owner.proofs.Basics.{below_six, count_by-none, count_by-some}
-use Rattle.awari_owner.proofs.BlockLemmas.{one_if}
+use Rattle.awari_block.proofs.BlockLemmas.{one_if}
 use Rattle.awari_owner.proofs.Legality.{quiet_counted}
 
 pub scanned : (value : List ℕ → ℤ) (p : List ℕ) (best : Option ℤ) → ((x : ℕ) × IsLegal p x) → IsBest value p best

@@ -7,11 +7,11 @@ use Rattle.std.proofs.lemmas.Bool.{cases_lt, cases_eq}
 use Rattle.std.proofs.lemmas.Bool.Decides.{nat_tests}
 use Rattle.awari_rank.specs.Rank.{rank_of}
 use Rattle.awari_owner.specs.Outboxes.{put_behind, with_note, IsBatch, AreBatches}
-use Rattle.awari_owner.specs.Part.{Part}
+use Rattle.awari_block.specs.Part.{Part}
 use Rattle.awari_owner.specs.Spread.{Source, is_held, note_to, goes_to, with_sent, with_all_sent, PutsAll}
-use Rattle.awari_owner.specs.declared.notes.Kind.{Kind}
+use Rattle.awari_block.specs.declared.notes.Kind.{Kind}
 use Rattle.awari_owner.specs.Queues.{Queue, batches_of, queue_in, room_in, no_queue}
-use Rattle.awari_owner.specs.declared.notes.Note.{Note}
+use Rattle.awari_block.specs.declared.notes.Note.{Note}
 
 pub batches_length : (queues : List Queue) → length (batches_of queues) ≡ length queues
 batches_length queues = length-map queues (λ (q : Queue). q.batches)

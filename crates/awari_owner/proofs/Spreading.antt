@@ -4,19 +4,19 @@ use Rattle.std.proofs.lemmas.Bool.Decides.{nat_tests}
 use Rattle.std.proofs.lemmas.List.{get_or_default, get_or_append_left}
 use Rattle.std.proofs.Math.Seq.{get_or-append_seam}
 use Rattle.std.specs.List.Sorted.{IsPermutation}
-use Rattle.awari_owner.proofs.BlockLemmas.{times_due-cons, times_due-permuted}
+use Rattle.awari_block.proofs.BlockLemmas.{times_due-cons, times_due-permuted}
 use Rattle.awari_board.specs.Rules.{IsBoard}
 use Rattle.awari_rank.specs.Rank.{rank_of}
-use Rattle.awari_owner.specs.Notes.{IsQuietMove, Has, is_heard_at}
-use Rattle.awari_owner.specs.Tally.{has_pit}
-use Rattle.awari_owner.specs.Blocks.{Due, due_rank, times_due, is_settled_in, JoinNewlySettled}
-use Rattle.awari_owner.specs.Part.{Part, InBlock, IsTallied, SameLevel, stored_at, notes_for}
-use Rattle.awari_owner.specs.Boards.{HearsNote}
+use Rattle.awari_block.specs.Notes.{IsQuietMove, Has, is_heard_at}
+use Rattle.awari_block.specs.Tally.{has_pit}
+use Rattle.awari_block.specs.Blocks.{Due, due_rank, times_due, is_settled_in, JoinNewlySettled}
+use Rattle.awari_block.specs.Part.{Part, InBlock, IsTallied, SameLevel, stored_at, notes_for}
+use Rattle.awari_block.specs.Boards.{HearsNote}
 use Rattle.awari_owner.specs.Spread.{Source, is_held, note_to, with_own, with_all_own, IsSource, AreUnheard, Tells, HearsOwn}
 use Rattle.awari_unmove.specs.Predecessors.{IsPredecessors, ComesBefore}
-use Rattle.awari_owner.specs.declared.notes.Note.{Note}
-use Rattle.awari_owner.specs.declared.notes.Kind.{Kind}
-use Rattle.awari_owner.specs.declared.cells.Cell.{Cell}
+use Rattle.awari_block.specs.declared.notes.Note.{Note}
+use Rattle.awari_block.specs.declared.notes.Kind.{Kind}
+use Rattle.awari_block.specs.declared.cells.Cell.{Cell}
 use Rattle.awari_owner.proofs.Taking.{IsTakeable, added_heard}
 
 pub held_is : (a b n : ℕ) → a ≤ b → b - a < n → (nat_le a b && nat_lt (b - a) n) ≡ true

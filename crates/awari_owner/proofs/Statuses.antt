@@ -5,13 +5,13 @@ use Rattle.std.proofs.lemmas.Bool.{and_parts, false≢true}
 use Rattle.std.proofs.lemmas.Int.{ints, by_lt_z}
 use Rattle.std.specs.Ordering.{int_eq}
 use Rattle.awari_board.specs.Rules.{IsEnded, captured}
-use Rattle.awari_owner.specs.Notes.{IsQuietMove, Has, is_won, gain_by, is_heard_at, is_won_at, far_of}
+use Rattle.awari_block.specs.Notes.{IsQuietMove, Has, is_won, gain_by, is_heard_at, is_won_at, far_of}
 use Rattle.awari_board.specs.Tests.{is_legal}
-use Rattle.awari_owner.specs.Tally.{Status, Ended, Open, Settled, is_left, left_of, pits, Captures, IsBest, Knows, IsOpen, IsSettledAs, IsDistance, IsCount, IsStatus}
-use Rattle.awari_owner.specs.Steps.{after_note, after_opening, is_at_most, is_best}
-use Rattle.awari_owner.specs.declared.notes.Note.{Note}
-use Rattle.awari_owner.specs.declared.notes.Kind.{Kind}
-use Rattle.awari_owner.specs.declared.notes.Kind.TheVariants.{Won, Lost}
+use Rattle.awari_block.specs.Tally.{Status, Ended, Open, Settled, is_left, left_of, pits, Captures, IsBest, Knows, IsOpen, IsSettledAs, IsDistance, IsCount, IsStatus}
+use Rattle.awari_block.specs.Steps.{after_note, after_opening, is_at_most, is_best}
+use Rattle.awari_block.specs.declared.notes.Note.{Note}
+use Rattle.awari_block.specs.declared.notes.Kind.{Kind}
+use Rattle.awari_block.specs.declared.notes.Kind.TheVariants.{Won, Lost}
 use Rattle.awari_owner.proofs.Basics.{unwon_at, count_by-one_less, count_by-same, count_by-none}
 use Rattle.awari_owner.proofs.Legality.{quiet_counted}
 

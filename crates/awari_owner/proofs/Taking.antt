@@ -3,21 +3,21 @@ use Rattle.std.proofs.Common.{bit_and, get_or, ◌+◌, ◌^◌, ◌↔◌, ◌�
 use Rattle.std.proofs.lemmas.Bool.Decides.{nat_tests}
 use Rattle.awari_board.specs.Rules.{IsBoard}
 use Rattle.awari_rank.specs.Rank.{rank_of}
-use Rattle.awari_owner.specs.Notes.{IsQuietMove, is_heard_at}
-use Rattle.awari_owner.specs.Tally.{IsTally, has_pit, with_pit}
-use Rattle.awari_owner.specs.Tally as tally
-use Rattle.awari_owner.specs.Steps.{after_note}
-use Rattle.awari_owner.specs.Cells.{status_of}
-use Rattle.awari_owner.specs.Blocks.{cell_in}
-use Rattle.awari_owner.specs.Boards.{HearsNote}
+use Rattle.awari_block.specs.Notes.{IsQuietMove, is_heard_at}
+use Rattle.awari_block.specs.Tally.{IsTally, has_pit, with_pit}
+use Rattle.awari_block.specs.Tally as tally
+use Rattle.awari_block.specs.Steps.{after_note}
+use Rattle.awari_block.specs.Cells.{status_of}
+use Rattle.awari_block.specs.Blocks.{cell_in}
+use Rattle.awari_block.specs.Boards.{HearsNote}
 use Rattle.std.proofs.lemmas.List.{get_or_default}
-use Rattle.awari_owner.specs.Leaving.{AreLeaving, LeavesAt}
-use Rattle.awari_owner.specs.Part.{Part, InBlock, Leaves, IsExpected, IsTallied, SameLevel, cell_at, stored_at, notes_for}
-use Rattle.awari_owner.specs.declared.notes.Note.{Note}
-use Rattle.awari_owner.specs.declared.cells.Cell.{Cell}
+use Rattle.awari_block.specs.Leaving.{AreLeaving, LeavesAt}
+use Rattle.awari_block.specs.Part.{Part, InBlock, Leaves, IsExpected, IsTallied, SameLevel, cell_at, stored_at, notes_for}
+use Rattle.awari_block.specs.declared.notes.Note.{Note}
+use Rattle.awari_block.specs.declared.cells.Cell.{Cell}
 use Rattle.awari_owner.proofs.Statuses.{IsNew}
 use Rattle.awari_owner.proofs.Tallies.{note_tally}
-use Rattle.awari_owner.proofs.BlockLemmas.{cell_in-other}
+use Rattle.awari_block.proofs.BlockLemmas.{cell_in-other}
 
 -- a note for a board of the block, of one of its quiet moves, of the open gain and distance
 pub record IsTakeable (part : Part) (note : Note) : Type 0 where

@@ -2,10 +2,10 @@
 use Rattle.std.proofs.Common.{◌≡◌, ◌≢◌, ℕ, ◌+◌, ◌^◌, ◌<◌, ◌≤◌, ◌==◌, inl, inr, Bool, true, false, not, ◌||◌, List, ◌∷◌, sum, ℤ, refl, sym, ap, subst, ◌∙◌, arith, bit_and, bit_or}
 use Rattle.std.proofs.lemmas.Bool.Decides.{nat_tests}
 use Rattle.std.proofs.lemmas.Nat.{and_or_self, and_or_apart, pow_apart, pow_pos}
-use Rattle.awari_owner.specs.Notes.{IsQuietMove}
-use Rattle.awari_owner.specs.Tally.{Cell, has_pit, with_pit, IsTally}
-use Rattle.awari_owner.specs.Steps.{after_note, after_opening}
-use Rattle.awari_owner.specs.declared.notes.Note.{Note}
+use Rattle.awari_block.specs.Notes.{IsQuietMove}
+use Rattle.awari_block.specs.Tally.{Cell, has_pit, with_pit, IsTally}
+use Rattle.awari_block.specs.Steps.{after_note, after_opening}
+use Rattle.awari_block.specs.declared.notes.Note.{Note}
 use Rattle.awari_owner.proofs.Statuses.{IsNew, note_status, opening_status}
 
 -- a pit is among these and x where it is x or among these

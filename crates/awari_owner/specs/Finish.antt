@@ -2,9 +2,9 @@
 use Rattle.std.specs.Prelude.{◌≡◌, ℕ, ◌<◌, ◌≤◌, ◌⊎◌, List, ℤ, pos, neg_ℤ, ◌-ℤ◌, ◌≤ℤ◌, ◌<ℤ◌}
 use Rattle.awari_board.specs.Rules.{IsMove, IsEnd, IsEnded}
 use Rattle.awari_table.specs.Certificate.{plies}
-use Rattle.awari_owner.specs.Notes.{IsQuietMove, Has, gain_by}
-use Rattle.awari_owner.specs.Tally.{Status, Ended, Open, Settled, Cell, IsTally}
-use Rattle.awari_owner.specs.declared.notes.Note.{Note}
+use Rattle.awari_block.specs.Notes.{IsQuietMove, Has, gain_by}
+use Rattle.awari_block.specs.Tally.{Status, Ended, Open, Settled, Cell, IsTally}
+use Rattle.awari_block.specs.declared.notes.Note.{Note}
 
 -- what the image has of a board: value and distance where it is settled, and else 0 and 0
 abbrev pub value_by : Status → ℤ

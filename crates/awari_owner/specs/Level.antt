@@ -3,15 +3,15 @@ use Rattle.std.specs.Prelude.{◌≡◌, ℕ, ◌+◌, ◌-◌, ◌^◌, ◌<◌
 use Rattle.std.specs.List.{flat_map}
 use Rattle.awari_board.specs.Rules.{IsBoard}
 use Rattle.awari_rank.specs.Rank.{rank_of, size_of}
-use Rattle.awari_owner.specs.Notes.{IsQuietMove, Has, IsNoteOf}
-use Rattle.awari_owner.specs.Tally as tally
-use Rattle.awari_owner.specs.Cells.{view_of}
-use Rattle.awari_owner.specs.Blocks.{cell_in}
-use Rattle.awari_owner.specs.Part.{Part, InBlock, IsTallied, Leaves, settled_at}
-use Rattle.awari_owner.specs.Scan.{first_rank}
+use Rattle.awari_block.specs.Notes.{IsQuietMove, Has, IsNoteOf}
+use Rattle.awari_block.specs.Tally as tally
+use Rattle.awari_block.specs.Cells.{view_of}
+use Rattle.awari_block.specs.Blocks.{cell_in}
+use Rattle.awari_block.specs.Part.{Part, InBlock, IsTallied, Leaves, settled_at}
+use Rattle.awari_block.specs.Leaving.{first_rank}
 use Rattle.awari_owner.specs.Spread.{HearsTruth, Hears, HearsOwn, IsSpread}
-use Rattle.awari_owner.specs.declared.cells.Cell.{Cell}
-use Rattle.awari_owner.specs.declared.notes.Note.{Note}
+use Rattle.awari_block.specs.declared.cells.Cell.{Cell}
+use Rattle.awari_block.specs.declared.notes.Note.{Note}
 
 -- The blocks of these parts are the boards of the level from rank `low` up to, not including, rank `high`, one block after the
 -- other.
@@ -22,10 +22,6 @@ AreBlocks level low high (part ∷ parts) = ((part.level ≡ level) × (part.sta
 -- and all boards of the level
 abbrev pub AreWhole : ℕ → List Part → Type 0
 AreWhole level parts = AreBlocks level 0 (size_of level) parts
-
--- the last gain is open, and no board is fresh
-abbrev pub IsClosed : Part → Type 0
-IsClosed part = (part.gain ≡ 1) × (part.fresh ≡ [])
 
 -- the cells of all these blocks, and what they know of the board of this rank
 abbrev pub all_cells : List Part → List Cell

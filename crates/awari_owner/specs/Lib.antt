@@ -1,15 +1,4 @@
-pub mod Notes
-pub mod Tally
-pub mod Steps
-pub mod Cells
-pub mod Blocks
-pub mod Fresh
-pub mod Part
-pub mod Boards
-pub mod BoardsFields
-pub mod Leaving
 pub mod PartFields
-pub mod ClosedFields
 pub mod Spread
 pub mod OwnerFault
 pub mod Level

@@ -1,6 +1,6 @@
 -- What an owner has still to send.
 use Rattle.std.specs.Prelude.{◌≡◌, ℕ, ◌<◌, ◌≤◌, if◌then◌else◌, nat_lt, List, [], ◌∷◌, ◌++◌, length, fold, All, slice_index_or}
-use Rattle.awari_owner.specs.declared.notes.Note.{Note}
+use Rattle.awari_block.specs.declared.notes.Note.{Note}
 
 -- the owner, and for each owner the batches to be sent there, in order
 pub record Outboxes : Type 0 where

@@ -1,9 +1,9 @@
 -- Why a note is refused.
 use Rattle.std.specs.Prelude.{◌≡◌, ℕ, ◌-◌, ◌^◌, true, false, List, ◌++◌, codes}
 use Rattle.std.specs.Fmt.{decimal}
-use Rattle.awari_owner.specs.Tally.{has_pit}
-use Rattle.awari_owner.specs.Part.{Part, IsExpected, stored_at}
-use Rattle.awari_owner.specs.declared.notes.Note.{Note}
+use Rattle.awari_block.specs.Tally.{has_pit}
+use Rattle.awari_block.specs.Part.{Part, IsExpected, stored_at}
+use Rattle.awari_block.specs.declared.notes.Note.{Note}
 use Rattle.awari_owner.specs.declared.faults.OwnerFault.{OwnerFault}
 use Rattle.awari_owner.specs.declared.faults.OwnerFault.TheVariants.{Stranger, Doubled, Far, Memory}
 

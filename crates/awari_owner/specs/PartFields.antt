@@ -1,7 +1,7 @@
 -- The fields of a part.
 use Rattle.std.specs.Prelude.{◌≡◌, ◌≤◌, length, vec_len}
-use Rattle.awari_owner.specs.Leaving.{AreLeaving}
-use Rattle.awari_owner.specs.Part.{AreFresh}
+use Rattle.awari_block.specs.Leaving.{AreLeaving}
+use Rattle.awari_block.specs.Part.{AreFresh}
 use Rattle.awari_owner.specs.declared.parts.Part.TheInside.{Inside}
 
 pub record IsPart (a : Inside) : Type 0 where

@@ -1,6 +1,6 @@
 -- A queue of batches that are to be sent, and the room in it.
 use Rattle.std.specs.Prelude.{ℕ, ◌+◌, ◌-◌, ◌*◌, List, [], ◌∷◌, length, map, slice_index_or}
-use Rattle.awari_owner.specs.declared.notes.Note.{Note}
+use Rattle.awari_block.specs.declared.notes.Note.{Note}
 
 -- the batches, the first to be sent at the front, and how many notes can be put with no more memory
 pub record Queue : Type 0 where

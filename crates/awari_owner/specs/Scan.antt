@@ -1,22 +1,16 @@
 -- What a part is before any gain is open and any note is heard.
-use Rattle.std.specs.Prelude.{◌≡◌, ℕ, ◌+◌, ◌-◌, ◌*◌, ◌/◌, ◌<◌, ◌≤◌, false, min, List, [], length, sum, take, count_by, ℤ, pos, ◌-ℤ◌, ◌≤ℤ◌, Option, Some, None}
+use Rattle.std.specs.Prelude.{◌≡◌, ℕ, ◌+◌, ◌-◌, ◌<◌, ◌≤◌, false, List, [], length, sum, take, count_by, ℤ, pos, ◌-ℤ◌, ◌≤ℤ◌, Option, Some, None}
 use Rattle.awari_board.specs.Rules.{IsBoard, IsMove}
 use Rattle.awari_rank.specs.Rank.{rank_of, size_of}
-use Rattle.awari_owner.specs.Tally.{is_left, pits, Captures, IsStatus}
-use Rattle.awari_owner.specs.Cells.{status_of, is_settled, IsWithin, FitsBy}
-use Rattle.awari_owner.specs.Fresh.{IsFresh, is_marked}
-use Rattle.awari_owner.specs.Blocks.{cell_in}
-use Rattle.awari_owner.specs.Leaving.{AreLeaving, IsBlockOf}
-use Rattle.awari_owner.specs.Part.{Part, InBlock, settled_at}
+use Rattle.awari_block.specs.Tally.{is_left, pits, Captures, IsStatus}
+use Rattle.awari_block.specs.Cells.{status_of, is_settled, IsWithin, FitsBy}
+use Rattle.awari_block.specs.Blocks.{cell_in}
+use Rattle.awari_block.specs.Leaving.{AreLeaving, IsBlockOf, first_rank}
+use Rattle.awari_block.specs.Part.{Part, InBlock, settled_at}
 use Rattle.awari_table.specs.declared.TheConstants.{HIGHEST_LEVEL}
-use Rattle.awari_owner.specs.declared.cells.Cell.{Cell}
-use Rattle.awari_owner.specs.declared.places.Block.{Block}
+use Rattle.awari_block.specs.declared.cells.Cell.{Cell}
+use Rattle.awari_block.specs.declared.places.Block.{Block}
 use Rattle.awari_owner.specs.declared.scans.ScannedBlock.{ScannedBlock}
-
--- Of so many boards each owner has as many, the last ones fewer or none where they don't divide. This is the rank of an
--- owner's first board, or the number of boards where there is none.
-abbrev pub first_rank : ℕ → ℕ → ℕ → ℕ
-first_rank boards owners owner = min (owner * ((boards + (owners - 1)) / owners)) boards
 
 -- the part of this owner of so many, with no gain open
 pub record IsScan (n owners owner : ℕ) (part : Part) : Type 0 where
@@ -75,8 +69,6 @@ pub record IsPiece (value : List ℕ → ℤ) (n : ℕ) (block : Block) (first b
   pub scanned : AreScanned value n first (first + boards) cells
   pub leaves : AreLeaving n block.start (block.end - block.start) first leaving
 
--- those of all boards of the block, of which none is fresh
+-- those of all boards of the block
 pub record IsScannedBlock (value : List ℕ → ℤ) (n : ℕ) (block : Block) (found : ScannedBlock) : Type 0 where
   pub piece : IsPiece value n block block.start (block.end - block.start) found.cells.items found.leaving.items
-  pub marks : IsFresh found.cells.items found.fresh
-  pub none : (rank : ℕ) → is_marked found.fresh.words.items rank ≡ false

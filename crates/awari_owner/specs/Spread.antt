@@ -2,17 +2,17 @@
 use Rattle.std.specs.Prelude.{◌≡◌, ℕ, ◌+◌, ◌-◌, ◌^◌, ◌<◌, ◌≤◌, ◌⊎◌, ◌&&◌, Bool, false, ◌==◌, nat_le, nat_lt, if◌then◌else◌, List, ◌∷◌, ◌++◌, [], ◌/◌, not, length, fold, filter, sum, All, ℤ, pos, int_lt, Some}
 use Rattle.awari_board.specs.Rules.{IsBoard}
 use Rattle.awari_rank.specs.Rank.{rank_of, size_of}
-use Rattle.awari_owner.specs.Notes.{IsQuietMove, Has, is_heard_at, IsNoteOf}
+use Rattle.awari_block.specs.Notes.{IsQuietMove, Has, is_heard_at, IsNoteOf}
 use Rattle.awari_unmove.specs.Predecessors.{IsPredecessors}
-use Rattle.awari_owner.specs.Cells.{IsEither}
-use Rattle.awari_owner.specs.Blocks.{times_due, due_dist, due_rank, is_settled_in}
-use Rattle.awari_owner.specs.declared.notes.Kind.TheVariants.{Won, Lost}
-use Rattle.awari_owner.specs.Part.{Part, InBlock, IsTallied, notes_for, settled_at, stored_at}
-use Rattle.awari_owner.specs.Scan.{first_rank}
+use Rattle.awari_block.specs.Cells.{IsEither}
+use Rattle.awari_block.specs.Blocks.{times_due, due_dist, due_rank, is_settled_in}
+use Rattle.awari_block.specs.declared.notes.Kind.TheVariants.{Won, Lost}
+use Rattle.awari_block.specs.Part.{Part, InBlock, IsTallied, notes_for, settled_at, stored_at}
+use Rattle.awari_block.specs.Leaving.{first_rank}
 use Rattle.awari_owner.specs.Outboxes.{Outboxes, queue_to, with_note, with_notes}
 use Rattle.awari_owner.specs.Queues.{Queue, queue_in}
-use Rattle.awari_owner.specs.declared.notes.Note.{Note}
-use Rattle.awari_owner.specs.declared.notes.Kind.{Kind}
+use Rattle.awari_block.specs.declared.notes.Note.{Note}
+use Rattle.awari_block.specs.declared.notes.Kind.{Kind}
 
 -- a board, and a pit of it whose quiet move leads to the board that is spread
 abbrev pub Source : Type 0

@@ -4,13 +4,13 @@ ghost use Rattle.std.specs.Prelude.{◌≡◌, ℕ, ℤ, ◌<◌, ◌≤◌, Lis
 ghost use Rattle.std.specs.List.{AllZip};
 ghost use Rattle.awari_board.specs.Rules.{IsBoard};
 ghost use Rattle.awari_rank.specs.Rank.{rank_of};
-ghost use Rattle.awari_owner.specs.Tally.{Cell};
+ghost use Rattle.awari_block.specs.Tally.{Cell};
 ghost use Rattle.awari_owner.specs.Finish.{IsQuietAt, IsRightAt};
-ghost use Rattle.awari_owner.specs.Level.{AreHeard, AreSound, AreTold, AreWhole, DistancesFit, IsClosed, NotesFit, known_at, part_at};
-ghost use Rattle.awari_owner.specs.Part.{Part, IsTallied};
+ghost use Rattle.awari_owner.specs.Level.{AreHeard, AreSound, AreTold, AreWhole, DistancesFit, NotesFit, known_at, part_at};
+ghost use Rattle.awari_block.specs.Part.{Part, IsTallied, IsClosed};
 ghost use Rattle.awari_owner.specs.Scan.{IsScan, IsWhole};
 ghost use Rattle.awari_owner.specs.Spread.{HearsOwn, SameBlock};
-ghost use Rattle.awari_owner.specs.declared.notes.Note.{Note};
+ghost use Rattle.awari_block.specs.declared.notes.Note.{Note};
 
 /// Where a cell is a tally at gain 1 of the notes of the settled boards that the quiet moves of its
 /// board lead to, and of no others, the board keeps the rules of a table: settled boards with their

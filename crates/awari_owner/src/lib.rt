@@ -4,8 +4,8 @@
 //! of its block. Gains are opened from the greatest inward to 1, and within a gain distances from 0
 //! on. A board that is settled tells the boards whose quiet moves lead to it that its mover has won
 //! or lost that gain, which may settle those. What a cell has to know of the notes that its board
-//! heard is defined in `specs/Tally.antt`; `specs/Level.antt` says what the parts of a level heard
-//! together, and `specs/Finish.antt` what is right once all is heard.
+//! heard is defined in `specs/Tally.antt` of `awari_block`; `specs/Level.antt` says what the parts of a
+//! level heard together, and `specs/Finish.antt` what is right once all is heard.
 //!
 //! The part of an owner who has all of level 1: a gain, a distance and a board of it, by lines of
 //! `crates/awari_owner_tests/src/parts.rt`:
@@ -17,29 +17,20 @@
 //!     expect_equal(rt, "a board", part.spread_one(outboxes), Ok(true));
 #![tactic(auto)]
 
-mod boards;
-mod cells;
-mod closed;
 mod faults;
-mod fresh;
 mod laws;
-mod notes;
 mod outboxes;
 mod parallel;
 mod parts;
-mod places;
 mod queues;
 mod scans;
 mod spreads;
-mod words;
 
-pub use closed::ClosedPart;
 pub use faults::OwnerFault;
 pub use laws::{
     closed_parts_are_right, distances_fit, one_part_hears_all, quiet_boards_are_right,
     scanned_parts_are_whole, sound_parts_are_told,
 };
-pub use notes::{Kind, Note};
 pub use outboxes::Outboxes;
 pub use parts::Part;
 pub use queues::{Batch, MOST_NOTES};

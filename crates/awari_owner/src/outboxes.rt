@@ -2,7 +2,7 @@
 
 ghost use Rattle.std.specs.Prelude.{◌≡◌, ◌≢◌, ◌≤◌, ◌<◌, ◌↔◌, ◌∷◌, [], All, List, IfOk, IfSome, IfNone, IsTrue, replicate, slice_set};
 ghost use Rattle.awari_owner.specs.Outboxes.{AreOutboxes, Outboxes as OutboxesView, queue_to};
-ghost use Rattle.awari_owner.specs.declared.notes.Note.{Note as NoteView};
+ghost use Rattle.awari_block.specs.declared.notes.Note.{Note as NoteView};
 
 use crate::queues::{Batch, Queue};
 use std::alloc::{AllocError, Global};

@@ -4,12 +4,11 @@ ghost use Rattle.std.specs.Prelude.{◌≡◌, ◌≤◌, ◌+◌, ◌-◌, IfOk
 ghost use Rattle.std.specs.Thread.{IsSync};
 ghost use Rattle.awari_table.specs.Images.{table_of};
 ghost use Rattle.awari_table.specs.declared.TheConstants.{HIGHEST_LEVEL};
-ghost use Rattle.awari_owner.specs.Leaving.{IsBlockOf};
+ghost use Rattle.awari_block.specs.Leaving.{IsBlockOf};
 ghost use Rattle.awari_owner.specs.Scan.{CanScan, IsPiece, IsRanged, IsScannedBlock};
 
-use crate::cells::Cell;
-use crate::places::Block;
 use crate::scans::{ScannedBlock, scan_boards, unscanned_block};
+use awari_block::{Block, Cell};
 use awari_table::Shelf;
 use rayon::{current_num_threads, join_mut};
 use std::alloc::{AllocError, Global};

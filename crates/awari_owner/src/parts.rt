@@ -1,31 +1,27 @@
 //! One owner's part of a level, and what is asked of it between two spreads.
 
-ghost use Rattle.std.specs.Prelude.{◌≡◌, ◌⊎◌, ℕ, ℤ, ◌+◌, ◌-◌, ◌^◌, ◌<◌, ◌≤◌, ◌∷◌, ◌↔◌, List, IsTrue, OnOk, OnErr, IfOk, IfErr, IfSome, All, sum, true, false, length, []};
+ghost use Rattle.std.specs.Prelude.{◌≡◌, ◌⊎◌, ℕ, ℤ, ◌+◌, ◌-◌, ◌^◌, ◌<◌, ◌≤◌, ◌∷◌, ◌↔◌, List, IsTrue, OnOk, OnErr, IfOk, IfErr, IfSome, All, true, false, length, []};
 ghost use Rattle.awari_rank.specs.Rank.{size_of};
-ghost use Rattle.awari_owner.specs.Tally.{has_pit};
-ghost use Rattle.awari_owner.specs.Cells.{IsWithin, IsBeyond};
-ghost use Rattle.awari_owner.specs.Blocks.{due_dist, KeepSettled};
-ghost use Rattle.awari_owner.specs.Part.{Part as PartView, InBlock, Leaves, IsExpected, IsTallied, stored_at, PutsCell, SameLevel, JoinsFresh, settled_at, IsLeastDue, AreFresh, HasFarthest, unspread};
+ghost use Rattle.awari_block.specs.Tally.{has_pit};
+ghost use Rattle.awari_block.specs.Cells.{IsWithin, IsBeyond};
+ghost use Rattle.awari_block.specs.Blocks.{due_dist, KeepSettled};
+ghost use Rattle.awari_block.specs.Part.{Part as PartView, InBlock, Leaves, IsExpected, IsTallied, stored_at, PutsCell, SameLevel, JoinsFresh, settled_at, IsLeastDue, AreFresh, HasFarthest, unspread, IsClosed};
 ghost use Rattle.awari_owner.specs.OwnerFault.{IsFaultOf};
-ghost use Rattle.awari_owner.specs.Leaving.{IsBlockOf};
-ghost use Rattle.awari_owner.specs.Level.{IsClosed};
-ghost use Rattle.awari_owner.specs.Scan.{first_rank, IsScan, IsScannedBlock, IsWhole};
+ghost use Rattle.awari_block.specs.Leaving.{IsBlockOf, first_rank};
+ghost use Rattle.awari_owner.specs.Scan.{IsScan, IsScannedBlock, IsWhole};
 ghost use Rattle.awari_owner.specs.Spread.{HearsOwn, IsPartOf, Sends, Source, Spreads};
 ghost use Rattle.awari_table.specs.Images.{table_of};
 ghost use Rattle.awari_table.specs.declared.TheConstants.{HIGHEST_LEVEL};
 ghost use Rattle.awari_owner.specs.declared.faults.OwnerFault.{OwnerFault};
-ghost use Rattle.awari_owner.specs.declared.notes.Note.{Note as NoteView};
+ghost use Rattle.awari_block.specs.declared.notes.Note.{Note as NoteView};
 
-use crate::boards::Boards;
-use crate::closed::ClosedPart;
 use crate::faults::OwnerFault;
-use crate::notes::Note;
 use crate::outboxes::Outboxes;
 use crate::parallel::scanned_block_parallel;
-use crate::places::{Block, block_length};
 use crate::queues::reserve_others;
 use crate::scans::{ScannedBlock, scanned_block};
 use crate::spreads::{kind_of, tell_all};
+use awari_block::{Block, Boards, ClosedPart, Note, block_length};
 use awari_board::{SIDE, moves_keep_boards};
 use awari_packed::PackedBoard;
 use awari_rank::{ranks_tell_boards_apart, size};
@@ -44,7 +40,7 @@ pub struct Part {
 }
 
 impl Model for Part {
-    ghost use Rattle.awari_owner.specs.Part.{Part as PartView};
+    ghost use Rattle.awari_block.specs.Part.{Part as PartView};
 
     ghost Value = { PartView };
 
@@ -75,7 +71,7 @@ impl Part {
         shelves_are_certificates();
         let block = Block::of(shelf.levels(), owners, owner);
         match scanned_block(alloc, shelf, block) {
-            Ok(found) => Ok(Part::from_scanned(shelf, owners, owner, block, found)),
+            Ok(found) => Part::from_scanned(alloc, shelf, owners, owner, block, found),
             Err(_) => Err(OwnerFault::Memory),
         }
     }
@@ -101,7 +97,7 @@ impl Part {
         shelves_are_certificates();
         let block = Block::of(shelf.levels(), owners, owner);
         match scanned_block_parallel(rt, alloc, shelf, block) {
-            Ok(found) => Ok(Part::from_scanned(shelf, owners, owner, block, found)),
+            Ok(found) => Part::from_scanned(alloc, shelf, owners, owner, block, found),
             Err(_) => Err(OwnerFault::Memory),
         }
     }
@@ -280,23 +276,34 @@ impl Part {
     }
 
     /// The part of this owner, one of so many, of the shelf's next level, of what was found of its block.
-    fn from_scanned(shelf: &Shelf, owners: u8, owner: u8, block: Block, found: ScannedBlock) -> Part
+    fn from_scanned(
+        alloc: Global,
+        shelf: &Shelf,
+        owners: u8,
+        owner: u8,
+        block: Block,
+        found: ScannedBlock,
+    ) -> Result<Part, OwnerFault>
         requires low { length shelf.now ≤ HIGHEST_LEVEL }
         requires some { owner < owners }
         requires start { block.start ≡ first_rank (size_of (length shelf.now)) owners owner }
         requires end { block.end ≡ first_rank (size_of (length shelf.now)) owners (owner + 1) }
         requires block { IsBlockOf (length shelf.now) block }
         requires found { IsScannedBlock (table_of shelf.now).value (length shelf.now) block found }
-        ensures scanned { IsScan (length shelf.now) owners owner result }
-        ensures whole { owners ≡ 1 → IsWhole result }
-        ensures tallied { IsTallied (table_of shelf.now).value result [] }
-        ensures hears { HearsOwn result [] }
-        ensures fresh { AreFresh result }
+        ensures scanned { IfOk result (IsScan (length shelf.now) owners owner) }
+        ensures whole { owners ≡ 1 → IfOk result IsWhole }
+        ensures tallied { IfOk result (λ part. IsTallied (table_of shelf.now).value part []) }
+        ensures hears { IfOk result (λ part. HearsOwn part []) }
+        ensures fresh { IfOk result AreFresh }
+        ensures memory { IfErr result (λ fault. fault ≡ OwnerFault.Memory) }
     {
-        Part {
-            boards: Boards::unopened(shelf.levels(), block.start, found.cells, found.fresh),
+        let Ok(boards) = Boards::unopened(alloc, shelf.levels(), block.start, found.cells) else {
+            return Err(OwnerFault::Memory);
+        };
+        Ok(Part {
+            boards,
             leaving: found.leaving,
-        }
+        })
     }
 
     /// Whether the note is one that other owners may send now.

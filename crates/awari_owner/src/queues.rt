@@ -3,10 +3,10 @@
 ghost use Rattle.std.specs.Prelude.{◌≡◌, ◌≢◌, ◌+◌, ◌<◌, ◌≤◌, ◌↔◌, ◌∷◌, [], ℕ, List, IsTrue, IsOk, IfSome, IfNone, OnOk, vec_len};
 ghost use Rattle.awari_owner.specs.Outboxes.{with_note};
 ghost use Rattle.awari_owner.specs.Queues.{Queue as QueueView, spare, batches_of, room_in};
-ghost use Rattle.awari_owner.specs.declared.notes.Note.{Note as NoteView};
+ghost use Rattle.awari_block.specs.declared.notes.Note.{Note as NoteView};
 
-use crate::notes::Note;
 use arrayvec::ArrayVec;
+use awari_block::Note;
 use std::alloc::{AllocError, Global};
 use std::collections::VecDeque;
 use std::marker::Model;

@@ -1,33 +1,28 @@
 //! What is known of a board before any note is heard: how many quiet moves it has, which of them lead
 //! out of the block, and what its best capture gains by the shelf.
 
-ghost use Rattle.std.specs.Prelude.{◌≡◌, ◌<◌, ◌≤◌, ◌+◌, ℕ, ℤ, pos, ◌-ℤ◌, ◌-◌, List, None, false, IfOk, length, sum, vec_len};
-ghost use Rattle.awari_owner.specs.Fresh.{IsFresh, is_marked};
-ghost use Rattle.awari_owner.specs.declared.cells.Cell.{Cell as CellView};
+ghost use Rattle.std.specs.Prelude.{◌≡◌, ◌<◌, ◌≤◌, ◌+◌, ℕ, ℤ, pos, ◌-ℤ◌, ◌-◌, List, None, IfOk, length, sum, vec_len};
 ghost use Rattle.awari_board.specs.Rules.{IsBoard, IsEnd, IsEnded, IsMove};
 ghost use Rattle.awari_rank.specs.Rank.{size_of};
 ghost use Rattle.awari_table.specs.Images.{table_of};
 ghost use Rattle.awari_table.specs.declared.TheConstants.{HIGHEST_LEVEL};
-ghost use Rattle.awari_owner.specs.Cells.{IsWithin};
-ghost use Rattle.awari_owner.specs.Leaving.{AreLeavingBelow, IsBlockOf};
+ghost use Rattle.awari_block.specs.Cells.{IsWithin};
+ghost use Rattle.awari_block.specs.Leaving.{AreLeavingBelow, IsBlockOf};
 ghost use Rattle.awari_owner.specs.Scan.{CanScan, IsOutlook, IsPiece, IsRanged, IsScanned, IsScannedBlock};
 
-use crate::cells::{Cell, Mark};
-use crate::fresh::Fresh;
-use crate::places::Block;
+use awari_block::{Block, Cell, Mark};
 use awari_board::SIDE;
 use awari_packed::{PackedBoard, PackedMove};
 use awari_rank::{ranks_tell_boards_apart, unrank};
 use awari_table::Shelf;
 use std::alloc::{AllocError, Global};
 
-/// A block that is scanned, or will be: the cell of each board, the pits whose quiet moves lead out of
-/// the block, a bit for each, and no fresh board.
+/// A block that is scanned, or will be: the cell of each board, and the pits whose quiet moves lead out
+/// of the block, a bit for each.
 #[derive(Drop)]
 pub struct ScannedBlock {
     pub cells: Vec<Cell>,
     pub leaving: Vec<u8>,
-    pub fresh: Fresh,
 }
 
 /// What is found of one board: its cell, and the pits whose quiet moves lead out of the block.
@@ -64,23 +59,16 @@ pub fn scanned_block(alloc: Global, shelf: &Shelf, block: Block) -> Result<Scann
     Ok(found)
 }
 
-/// A block of which no board is scanned yet, with all the memory that it takes.
+/// A block of which no board is scanned yet, with the memory of cells and bits.
 pub fn unscanned_block(alloc: Global, block: Block) -> Result<ScannedBlock, AllocError>
     requires order { block.start ≤ block.end }
     ensures cells { IfOk result (λ found. length found.cells.items ≡ block.end - block.start) }
     ensures leaving { IfOk result (λ found. length found.leaving.items ≡ block.end - block.start) }
-    ensures marks { IfOk result (λ found. (cells : List CellView) → length cells ≡ block.end - block.start → IsFresh cells found.fresh) }
-    ensures none { IfOk result (λ found. (k : ℕ) → is_marked found.fresh.words.items k ≡ false) }
 {
     let boards = (block.end - block.start) as usize;
     let cells = vec![in alloc; Cell::unheard(Mark::Ended, 0, 0); boards]?;
     let leaving = vec![in alloc; 0; boards]?;
-    let fresh = Fresh::new(alloc, boards)?;
-    Ok(ScannedBlock {
-        cells,
-        leaving,
-        fresh,
-    })
+    Ok(ScannedBlock { cells, leaving })
 }
 
 /// Scans boards of the block from rank `first` on, one for each cell.

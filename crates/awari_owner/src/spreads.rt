@@ -5,16 +5,14 @@ ghost use Rattle.std.specs.Prelude.{◌≡◌, ℕ, ℤ, ◌+◌, ◌-◌, ◌^�
 ghost use Rattle.awari_rank.specs.Rank.{rank_of, size_of};
 ghost use Rattle.awari_owner.specs.Queues.{queue_in, room_in};
 ghost use Rattle.awari_unmove.specs.Predecessors.{IsPredecessors};
-ghost use Rattle.awari_owner.specs.Notes.{is_heard_at};
-ghost use Rattle.awari_owner.specs.Part.{InBlock, IsTallied, notes_for};
-ghost use Rattle.awari_owner.specs.Boards.{Settles};
+ghost use Rattle.awari_block.specs.Notes.{is_heard_at};
+ghost use Rattle.awari_block.specs.Part.{InBlock, IsTallied, notes_for};
+ghost use Rattle.awari_block.specs.Boards.{Settles};
 ghost use Rattle.awari_owner.specs.Spread.{Source, kind_of, is_held, IsSource, Tells, PutsAll, with_own, with_sent};
-ghost use Rattle.awari_owner.specs.declared.notes.Note.{Note as NoteView};
+ghost use Rattle.awari_block.specs.declared.notes.Note.{Note as NoteView};
 
-use crate::boards::Boards;
-use crate::cells::Cell;
-use crate::notes::Kind;
 use crate::queues::Queue;
+use awari_block::{Boards, Cell, Kind};
 use awari_board::moves_keep_boards;
 use awari_packed::PackedBoard;
 use awari_rank::ranks_tell_boards_apart;

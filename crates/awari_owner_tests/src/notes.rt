@@ -5,7 +5,8 @@ ghost use Rattle.std.specs.Prelude.{◌≡◌, ◌<◌, IfOk};
 
 use crate::expect::expect_equal;
 use crate::shelves::one_level;
-use awari_owner::{Kind, Note, OwnerFault, Part};
+use awari_block::{Kind, Note};
+use awari_owner::{OwnerFault, Part};
 use std::alloc::Global;
 use std::process::Abort;
 use std::test::Fail;

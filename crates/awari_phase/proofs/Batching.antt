@@ -5,12 +5,12 @@ use Rattle.std.proofs.lemmas.Bool.Decides.{nat_tests}
 use Rattle.std.proofs.lemmas.List.{take_more, take_all, get_or_default}
 use Rattle.std.proofs.lemmas.List.Elements.{All-weaker}
 use Rattle.awari_rank.specs.Rank.{rank_of}
-use Rattle.awari_owner.specs.Notes.{Has}
-use Rattle.awari_owner.specs.Blocks.{KeepSettled}
-use Rattle.awari_owner.specs.Part.{Part, InBlock, IsTallied, JoinsFresh, Leaves, SameLevel}
+use Rattle.awari_block.specs.Notes.{Has}
+use Rattle.awari_block.specs.Blocks.{KeepSettled}
+use Rattle.awari_block.specs.Part.{Part, InBlock, IsTallied, JoinsFresh, Leaves, SameLevel}
 use Rattle.awari_owner.specs.Spread.{HearsOwn}
-use Rattle.awari_owner.specs.declared.notes.Kind.TheVariants.{Won}
-use Rattle.awari_owner.specs.declared.notes.Note.{Note}
+use Rattle.awari_block.specs.declared.notes.Kind.TheVariants.{Won}
+use Rattle.awari_block.specs.declared.notes.Note.{Note}
 use Rattle.awari_owner.proofs.Hearing.{spread_stays, spread_before}
 use Rattle.awari_core.specs.Sound.{notes_of}
 use Rattle.awari_phase.specs.Sound.{Batches, IsInBlockOf, HoldsNotes, IsOpenBatch, IsOtherOf, OwnerSound, with_taken}

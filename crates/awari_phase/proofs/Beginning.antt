@@ -3,7 +3,7 @@ use Rattle.std.proofs.Common.{◌≡◌, ℕ, ◌<◌, ◌≤◌, Option, Some, 
 use Rattle.std.proofs.lemmas.List.{length-map, map-append}
 use Rattle.std.proofs.lemmas.List.Elements.{All-nil, All-push}
 use Rattle.awari_rank.specs.Rank.{rank_of}
-use Rattle.awari_owner.specs.Notes.{Has}
+use Rattle.awari_block.specs.Notes.{Has}
 use Rattle.awari_core.specs.Sound.{notes_of}
 use Rattle.awari_lines.specs.Lines.{AllUnused, IsGrid, IsUnused, UnusedOn, Notes, owners_of, received_from, received_on, sent_on, sent_to}
 use Rattle.awari_lines.specs.Seats.{seat_of}

@@ -4,12 +4,12 @@ use Rattle.std.proofs.lemmas.Bool.Decides.{nat_tests}
 use Rattle.std.proofs.lemmas.List.Elements.{All-cons, All-nil, All-push, All-weaker}
 use Rattle.awari_board.specs.Rules.{IsBoard, next_board}
 use Rattle.awari_rank.specs.Rank.{rank_of, size_of}
-use Rattle.awari_owner.specs.Notes.{IsQuietMove, Has, IsNoteOf}
+use Rattle.awari_block.specs.Notes.{IsQuietMove, Has, IsNoteOf}
 use Rattle.awari_owner.specs.Outboxes.{Outboxes, put_behind, with_note, with_notes}
-use Rattle.awari_owner.specs.Part.{Part, InBlock, Leaves, SameLevel, stored_at}
-use Rattle.awari_owner.specs.Scan.{first_rank}
+use Rattle.awari_block.specs.Part.{Part, InBlock, Leaves, SameLevel, stored_at}
+use Rattle.awari_block.specs.Leaving.{first_rank}
 use Rattle.awari_owner.specs.Spread.{Source, IsSpread, Sends, Spreads, is_in_block, kind_of, note_to, with_all_own}
-use Rattle.awari_owner.specs.declared.notes.Note.{Note}
+use Rattle.awari_block.specs.declared.notes.Note.{Note}
 use Rattle.awari_owner.proofs.Spreading.{IsInjective, AreSources, sources_of}
 use Rattle.awari_core.specs.Sound.{notes_of}
 use Rattle.awari_core.proofs.Lists.{Has-append_left, Has-append_right, Has-append_cases, notes_of-append, notes_of-with_notes, once_more}

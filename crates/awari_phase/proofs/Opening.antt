@@ -2,9 +2,9 @@
 use Rattle.std.proofs.Common.{◌≡◌, ℕ, ◌<◌, List, [], length, All, ℤ, sym, subst, ◌∙◌, arith, get_or}
 use Rattle.awari_rank.specs.Rank.{rank_of}
 use Rattle.awari_owner.specs.Outboxes.{Outboxes}
-use Rattle.awari_owner.specs.Part.{Part, IsTallied}
+use Rattle.awari_block.specs.Part.{Part, IsTallied}
 use Rattle.awari_owner.specs.Spread.{HearsOwn}
-use Rattle.awari_owner.specs.declared.notes.Note.{Note}
+use Rattle.awari_block.specs.declared.notes.Note.{Note}
 use Rattle.awari_core.specs.Sound.{IsSeenAs}
 use Rattle.awari_core.proofs.Taking.{inside_new, inside_old, leaves_old}
 use Rattle.awari_lines.specs.Lines.{IsGrid, owners_of, received_from, sent_to}

@@ -2,14 +2,14 @@
 use Rattle.std.proofs.Common.{◌≡◌, ◌⊎◌, ℕ, ◌<◌, ◌≤◌, ◌^◌, ◌-◌, Some, None, List, [], ◌∷◌, ◌++◌, length, map, drop, All, ℤ, false, refl, sym, ap, subst, ◌∙◌, inl, inr, arith, get_or, append_assoc, suc}
 use Rattle.std.proofs.lemmas.Bool.{cases_lt, false≢true}
 use Rattle.std.proofs.lemmas.List.{append_cancel_left, drop_at, length-map, map-append, get_or_past}
-use Rattle.awari_owner.specs.Notes.{Has}
-use Rattle.awari_owner.specs.Tally.{has_pit}
+use Rattle.awari_block.specs.Notes.{Has}
+use Rattle.awari_block.specs.Tally.{has_pit}
 use Rattle.awari_owner.specs.OwnerFault.{IsFaultOf}
-use Rattle.awari_owner.specs.Part.{Part, IsExpected, stored_at}
+use Rattle.awari_block.specs.Part.{Part, IsExpected, stored_at}
 use Rattle.awari_owner.specs.Level.{AreSound, AreTold, AreWhole, DistancesFit, IsTimely, no_part, part_at}
 use Rattle.awari_owner.specs.declared.faults.OwnerFault.{OwnerFault}
 use Rattle.awari_owner.specs.declared.faults.OwnerFault.TheVariants as owner_fault
-use Rattle.awari_owner.specs.declared.notes.Note.{Note}
+use Rattle.awari_block.specs.declared.notes.Note.{Note}
 use Rattle.awari_table.specs.declared.TheConstants.{HIGHEST_LEVEL}
 use Rattle.awari_lines.specs.Lines.{Notes, IsGrid, IsOther, SameHistory, SameLines, sent_to, received_from, waiting_from}
 use Rattle.awari_lines.specs.declared.lines.Ends.{Ends}

@@ -4,7 +4,7 @@ use Rattle.std.proofs.lemmas.Bool.{cases_eq}
 use mathlib.Core.List.{IsPrefix}
 use Rattle.awari_lines.specs.declared.lines.Ends.{Ends}
 use Rattle.awari_lines.specs.Lines.{Notes, IsOther, sent_to, received_from, received_on, waiting_from, waiting_on, free_to}
-use Rattle.awari_owner.specs.Part.{Part, IsLeastDue, unspread}
+use Rattle.awari_block.specs.Part.{Part, IsLeastDue, unspread}
 use Rattle.awari_owner.specs.declared.faults.OwnerFault.{OwnerFault}
 use Rattle.awari_phase.specs.declared.owners.Owner.{Owner}
 use Rattle.awari_phase.specs.Sound.{queue_to}

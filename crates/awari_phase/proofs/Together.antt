@@ -3,11 +3,11 @@ use Rattle.std.proofs.Common.{◌≡◌, ℕ, zero, suc, ◌+◌, ◌<◌, ◌�
 use Rattle.std.proofs.lemmas.List.{get_or_default, length-map}
 use Rattle.awari_board.proofs.Keeping.{IsBoard-next}
 use Rattle.awari_rank.specs.Rank.{rank_of, size_of}
-use Rattle.awari_owner.specs.Notes.{Has}
-use Rattle.awari_owner.specs.Part.{Part, InBlock}
-use Rattle.awari_owner.specs.Scan.{first_rank}
-use Rattle.awari_owner.specs.Level.{AreSound, AreSpreadNotes, HearsTaken, IsClosed, IsShare, IsTimely, no_part, part_at}
-use Rattle.awari_owner.specs.declared.notes.Note.{Note}
+use Rattle.awari_block.specs.Notes.{Has}
+use Rattle.awari_block.specs.Part.{Part, InBlock, IsClosed}
+use Rattle.awari_block.specs.Leaving.{first_rank}
+use Rattle.awari_owner.specs.Level.{AreSound, AreSpreadNotes, HearsTaken, IsShare, IsTimely, no_part, part_at}
+use Rattle.awari_block.specs.declared.notes.Note.{Note}
 use Rattle.awari_lines.specs.Lines.{IsGrid, owners_of, sent_to, received_from}
 use Rattle.awari_lines.specs.declared.lines.Ends.{Ends}
 use Rattle.awari_core.specs.Sound.{notes_of}

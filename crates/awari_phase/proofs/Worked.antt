@@ -6,9 +6,9 @@ use Rattle.std.proofs.lemmas.Bool.{cases_lt}
 use Rattle.std.proofs.Math.Seq.{get_or-append_seam}
 use Rattle.awari_lines.specs.Lines.{IsGrid, SameHistory, SameLines, received_from, sent_to}
 use Rattle.awari_lines.specs.declared.lines.Ends.{Ends}
-use Rattle.awari_owner.specs.Part.{Part}
+use Rattle.awari_block.specs.Part.{Part}
 use Rattle.awari_owner.specs.declared.faults.OwnerFault.{OwnerFault}
-use Rattle.awari_owner.specs.declared.notes.Note.{Note}
+use Rattle.awari_block.specs.declared.notes.Note.{Note}
 use Rattle.awari_phase.specs.declared.owners.Owner.{Owner}
 use Rattle.awari_phase.specs.Sound.{IsOpenBatch}
 use Rattle.awari_phase.specs.Owners.{AllGrown, AreFinished, AreReceived, AreTogether, Kept, OpenBehind, OpensWave, all_ends, ends_of, items_of, rest_of}

@@ -2,14 +2,14 @@
 use Rattle.std.specs.Prelude.{◌≡◌, ◌≢◌, ℕ, ◌+◌, ◌-◌, ◌^◌, ◌<◌, ◌≤◌, ◌==◌, if◌then◌else◌, List, [], ◌∷◌, ◌++◌, length, sum, All, ℤ, slice_index_or}
 use Rattle.awari_board.specs.Rules.{IsBoard}
 use Rattle.awari_rank.specs.Rank.{rank_of, size_of}
-use Rattle.awari_owner.specs.Notes.{IsQuietMove, Has, IsNoteOf}
+use Rattle.awari_block.specs.Notes.{IsQuietMove, Has, IsNoteOf}
 use Rattle.awari_core.specs.Sound.{notes_of}
 use Rattle.awari_owner.specs.Level.{AreOfOtherMoves}
 use Rattle.awari_owner.specs.Outboxes.{Outboxes}
-use Rattle.awari_owner.specs.Part.{Part, InBlock, IsTallied, Leaves, SameLevel}
-use Rattle.awari_owner.specs.Scan.{first_rank}
+use Rattle.awari_block.specs.Part.{Part, InBlock, IsTallied, Leaves, SameLevel}
+use Rattle.awari_block.specs.Leaving.{first_rank}
 use Rattle.awari_owner.specs.Spread.{HearsOwn, IsSpread}
-use Rattle.awari_owner.specs.declared.notes.Note.{Note}
+use Rattle.awari_block.specs.declared.notes.Note.{Note}
 
 abbrev pub Batches : Type 0
 Batches = List (List Note)

@@ -4,10 +4,10 @@ use Rattle.awari_lines.specs.Lines.{Notes, IsOther, SameLines, sent_to, received
 use Rattle.awari_lines.specs.declared.lines.Ends.{Ends}
 use Rattle.awari_owner.specs.Outboxes.{Outboxes}
 use Rattle.awari_owner.specs.OwnerFault.{IsFaultOf}
-use Rattle.awari_owner.specs.Part.{Part, HasFarthest}
+use Rattle.awari_block.specs.Part.{Part, HasFarthest}
 use Rattle.awari_owner.specs.declared.faults.OwnerFault.{OwnerFault}
 use Rattle.awari_owner.specs.declared.faults.OwnerFault.TheVariants.{Far, Memory}
-use Rattle.awari_owner.specs.declared.notes.Note.{Note}
+use Rattle.awari_block.specs.declared.notes.Note.{Note}
 use Rattle.awari_phase.specs.Sound.{Batches, IsOtherOf, OwnerSound, SameBlock, with_taken}
 use Rattle.awari_phase.specs.Owners.{Kept, Swept}
 use Rattle.awari_phase.specs.declared.owners.Owner.{Owner}

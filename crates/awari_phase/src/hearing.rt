@@ -1,7 +1,7 @@
 //! How an owner hears what another one sent.
 
 ghost use Rattle.std.specs.Prelude.{◌≡◌, ℕ, ℤ, List, OnOk, IfErr};
-ghost use Rattle.awari_owner.specs.Part.{unspread};
+ghost use Rattle.awari_block.specs.Part.{unspread};
 ghost use Rattle.awari_phase.specs.Sound.{Batches, OwnerSound, SameBlock, with_taken, IsOtherOf};
 ghost use Rattle.awari_phase.specs.Stops.{RefusesNote};
 

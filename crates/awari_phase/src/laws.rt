@@ -4,7 +4,8 @@ ghost use Rattle.std.specs.Prelude.{◌≡◌, ◌<◌, ℕ, ℤ, All, List, len
 ghost use Rattle.awari_board.specs.Rules.{IsBoard};
 ghost use Rattle.awari_rank.specs.Rank.{rank_of};
 ghost use Rattle.awari_owner.specs.Finish.{IsRightAt};
-ghost use Rattle.awari_owner.specs.Level.{AreHeard, AreWhole, IsClosed, known_at};
+ghost use Rattle.awari_owner.specs.Level.{AreHeard, AreWhole, known_at};
+ghost use Rattle.awari_block.specs.Part.{IsClosed};
 ghost use Rattle.awari_phase.specs.Owners.{AreFinished, AreIdle, parts_of};
 ghost use Rattle.awari_phase.specs.declared.owners.Owner.{Owner};
 

@@ -2,15 +2,16 @@
 
 ghost use Rattle.std.specs.Prelude.{◌≡◌, ◌+◌, ◌<◌, ◌≤◌, ℕ, All, IfOk, length, slice_index_or, vec_len};
 ghost use Rattle.awari_lines.specs.Lines.{owners_of};
-ghost use Rattle.awari_owner.specs.Level.{IsClosed};
+ghost use Rattle.awari_block.specs.Part.{IsClosed};
 ghost use Rattle.awari_table.specs.Images.{table_of};
 ghost use Rattle.awari_table.specs.declared.TheConstants.{HIGHEST_LEVEL};
 ghost use Rattle.awari_phase.specs.Owners.{AreFinished, AreIdle, IsScanned, parts_of};
 ghost use Rattle.awari_phase.specs.declared.owners.Owner.{Owner as AnOwner};
 
 use crate::owners::Owner;
+use awari_block::ClosedPart;
 use awari_lines::{Ends, grid};
-use awari_owner::{ClosedPart, Outboxes, Part};
+use awari_owner::{Outboxes, Part};
 use awari_table::Shelf;
 use std::alloc::{AllocError, Global};
 use std::thread::Threads;

@@ -30,7 +30,7 @@ pub struct Owner {
 impl Owner {
     ghost use Rattle.std.specs.Prelude.{◌≡◌, ◌+◌, ◌<◌, ◌≤◌, ℕ, None, Ok, Some, IfErr, OnOk, false, true};
     ghost use Rattle.awari_lines.specs.Lines.{IsOther, owners_of};
-    ghost use Rattle.awari_owner.specs.Part.{IsLeastDue, unspread};
+    ghost use Rattle.awari_block.specs.Part.{IsLeastDue, unspread};
     ghost use Rattle.awari_phase.specs.Owners.{HasSent, HasSpread, HasTaken, Kept, Swept};
     ghost use Rattle.awari_phase.specs.Steps.{SendsAt, TakesAt, TakesNothing};
     ghost use Rattle.awari_phase.specs.Stops.{HasWorked, Stopped};

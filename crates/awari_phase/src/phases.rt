@@ -2,7 +2,7 @@
 
 ghost use Rattle.std.specs.Prelude.{◌≡◌, ◌<◌, ◌≤◌, ℕ, ℤ, All, List, IsTrue, IsNone, IfSome, IfOk, IfErr, length, slice_index_or, vec_len, []};
 ghost use Rattle.awari_lines.specs.Lines.{IsGrid};
-ghost use Rattle.awari_owner.specs.Blocks.{due_dist};
+ghost use Rattle.awari_block.specs.Blocks.{due_dist};
 ghost use Rattle.awari_phase.specs.Owners.{AllGrown, AreFinished, AreIdle, AreReceived, AreSent, AreTogether, Kept, all_ends};
 ghost use Rattle.awari_phase.specs.PhaseFault.{IsRefusal, IsWant};
 ghost use Rattle.awari_phase.specs.declared.owners.Owner.{Owner as AnOwner};

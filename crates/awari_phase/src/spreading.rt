@@ -1,7 +1,7 @@
 //! How an owner spreads a board.
 
 ghost use Rattle.std.specs.Prelude.{◌≡◌, ◌⊎◌, ◌+◌, ◌++◌, ℕ, ℤ, List, IfErr, OnErr, OnOk, Ok, Some, true, false, length};
-ghost use Rattle.awari_owner.specs.Part.{HasFarthest, IsLeastDue, unspread};
+ghost use Rattle.awari_block.specs.Part.{HasFarthest, IsLeastDue, unspread};
 ghost use Rattle.awari_owner.specs.Spread.{IsPartOf};
 ghost use Rattle.awari_owner.specs.declared.faults.OwnerFault.{OwnerFault};
 ghost use Rattle.awari_phase.specs.Sound.{Batches, queue_to, OwnerSound, SameBlock};

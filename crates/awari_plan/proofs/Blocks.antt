@@ -4,13 +4,13 @@ use Rattle.std.proofs.Math.ListN.{get_or-append}
 use Rattle.std.proofs.Math.Seq.{get_or-append_seam, drop-cons}
 use Rattle.std.proofs.lemmas.List.{take_more, take_all, drop_all}
 use Rattle.std.proofs.lemmas.Bool.{cases_lt}
-use Rattle.awari_owner.specs.Part.{Part, InBlock, settled_at, settled_by}
+use Rattle.awari_block.specs.Part.{Part, InBlock, settled_at, settled_by}
 use Rattle.awari_table.specs.declared.images.Entry.{Entry}
 use Rattle.awari_table.specs.Images.{no_entry}
 use Rattle.awari_board.specs.Rules.{IsBoard}
 use Rattle.awari_rank.specs.Rank.{rank_of}
 use Rattle.awari_owner.specs.Level.{AreBlocks, AreWhole, known_at, part_at}
-use Rattle.awari_owner.specs.Tally.{Cell}
+use Rattle.awari_block.specs.Tally.{Cell}
 use Rattle.awari_owner.proofs.Levels.{blocks_in_order, holds, known_there}
 use Rattle.awari_plan.specs.Finished.{HasSettled, HasAllSettled}
 use Rattle.awari_plan.specs.Planning.{PushesBlock, PutsBlock, SameSettled}

@@ -17,10 +17,10 @@ use Rattle.awari_table.proofs.CertificateLemmas.{plies_taken}
 use Rattle.awari_table.specs.Images.{table_of, no_entry}
 use Rattle.awari_table.specs.Shelves.{Consistent}
 use Rattle.awari_table.proofs.EntryLemmas.{entry_of-append, entry_of-rank}
-use Rattle.awari_owner.specs.Tally.{Status, Ended, Open, Settled, Cell}
-use Rattle.awari_owner.specs.Cells.{IsWithin}
+use Rattle.awari_block.specs.Tally.{Status, Ended, Open, Settled, Cell}
+use Rattle.awari_block.specs.Cells.{IsWithin}
 use Rattle.awari_owner.specs.Finish.{value_by, dist_by, gains, IsRightAt}
-use Rattle.awari_owner.specs.Part.{Part, settled_by}
+use Rattle.awari_block.specs.Part.{Part, settled_by}
 use Rattle.awari_owner.specs.Scan.{IsRanged}
 use Rattle.awari_plan.specs.Finished.{HasSettled, IsFinished}
 use Rattle.awari_plan.specs.Plan.{Serves, IsLowest}

@@ -3,7 +3,7 @@ use Rattle.std.proofs.Common.{◌≡◌, ◌<◌, List, [], ◌∷◌, ◌++◌,
 use Rattle.std.specs.Prelude.{IfOk}
 use Rattle.awari_rank.specs.Rank.{rank_of, size_of}
 use Rattle.awari_rank.proofs.Ranking.{rank_of-below}
-use Rattle.awari_owner.specs.Part.{Part}
+use Rattle.awari_block.specs.Part.{Part}
 use Rattle.awari_table.specs.declared.images.Entry.{Entry}
 use Rattle.awari_table.specs.declared.images.Image.{Image}
 use Rattle.awari_table.specs.Images.{entry_of, table_of, no_entry, greatest_dist}

@@ -5,7 +5,7 @@ use Rattle.awari_rank.specs.Rank.{rank_of, size_of}
 use Rattle.awari_table.specs.declared.images.Entry.{Entry}
 use Rattle.awari_table.specs.declared.images.Image.{Image}
 use Rattle.awari_table.specs.Images.{table_of, greatest_dist, no_entry}
-use Rattle.awari_owner.specs.Part.{Part, InBlock, settled_at}
+use Rattle.awari_block.specs.Part.{Part, InBlock, settled_at}
 use Rattle.awari_plan.specs.Finished.{HasSettled}
 use Rattle.awari_plan.specs.Plan.{IsLowest}
 

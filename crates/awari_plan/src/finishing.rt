@@ -3,13 +3,15 @@
 ghost use Rattle.std.specs.Prelude.{◌≡◌, ◌≤◌, ◌<◌, ◌+◌, All, IfOk, OnOk, length};
 ghost use Rattle.awari_rank.specs.Rank.{size_of};
 ghost use Rattle.awari_table.specs.Images.{greatest_dist};
-ghost use Rattle.awari_owner.specs.Level.{AreWhole, IsClosed};
+ghost use Rattle.awari_owner.specs.Level.{AreWhole};
+ghost use Rattle.awari_block.specs.Part.{IsClosed};
 ghost use Rattle.awari_plan.specs.Finished.{HasAllSettled, HasSettled, IsFinished};
 ghost use Rattle.awari_plan.specs.Planning.{IsPlannedImage, PushesBlock};
 ghost use Rattle.awari_table.specs.declared.TheConstants.{HIGHEST_LEVEL};
 
 use crate::plans::{set_plans, values_of};
-use awari_owner::{ClosedPart, Part};
+use awari_block::ClosedPart;
+use awari_owner::Part;
 use awari_rank::size;
 use awari_table::{Entries, Entry, Image, Shelf};
 use std::alloc::{AllocError, Global};
@@ -31,7 +33,7 @@ pub fn finish(alloc: Global, shelf: &Shelf, parts: &[Part]) -> Result<Image, All
 }
 
 /// What [`finish`] answers, of parts that are given up. Each is closed, which its type says. The cells
-/// are given back before plans are looked for. So a level never takes more than sixteen bytes a board:
+/// are given back before plans are looked for. So no more than sixteen bytes a board are ever allocated:
 /// eight of a cell and eight of an entry, and then eight of an entry and one of its value.
 pub fn finish_closed(
     alloc: Global,

@@ -1,8 +1,8 @@
 //! What follows of a level that was finished.
 
 ghost use Rattle.std.specs.Prelude.{◌≡◌, ◌≤◌, ◌++◌, ◌∷◌, [], List, All, length};
-ghost use Rattle.awari_owner.specs.Level.{AreHeard, AreWhole, IsClosed};
-ghost use Rattle.awari_owner.specs.Part.{Part};
+ghost use Rattle.awari_owner.specs.Level.{AreHeard, AreWhole};
+ghost use Rattle.awari_block.specs.Part.{Part, IsClosed};
 ghost use Rattle.awari_plan.specs.Finished.{IsFinished};
 ghost use Rattle.awari_plan.specs.Least.{HasLowestPlans, IsPlannedLowest};
 ghost use Rattle.awari_table.specs.Images.{table_of};

@@ -1,7 +1,7 @@
 //! A level whose gains are all closed made an image: the settled values and distances, and for each
 //! board the plan that they make. And play by the plans of a shelf, from a board to its outcome.
 //!
-//! The play in which both sides follow the plans, in `crates/awari_cli/src/lines.rt`:
+//! The play in which both sides follow the plans, in `crates/awari_answers/src/lines.rt`:
 //!
 //!     let board = Board::parse(text)?;
 //!     let shelf = load_parallel(rt, folder, alloc)?.shelf;

@@ -9,7 +9,7 @@ ghost use Rattle.awari_table.specs.declared.TheConstants.{HIGHEST_LEVEL};
 
 use crate::finishing::{greatest, settled_entry};
 use crate::plans::{lowest_plan, values_of};
-use awari_owner::ClosedPart;
+use awari_block::ClosedPart;
 use awari_packed::PackedBoard;
 use awari_rank::{size, unrank};
 use awari_table::{Entries, Entry, Image, Shelf};

@@ -5,7 +5,7 @@ use Rattle.awari_table.specs.declared.rules.Distances.TheVariants.{Least}
 use Rattle.awari_table.proofs.ShelfLemmas.{IsLevel-consistent, IsShelf-push}
 use Rattle.awari_theory.proofs.Truths.{TellsTruth-shelf}
 use Rattle.awari_owner.specs.Level.{AreWhole}
-use Rattle.awari_owner.specs.Part.{Part}
+use Rattle.awari_block.specs.Part.{Part}
 use Rattle.awari_phase.specs.Owners.{parts_of}
 use Rattle.awari_plan.specs.Finished.{IsFinished}
 use Rattle.awari_build.proofs.owned.level_of.Goals as goal

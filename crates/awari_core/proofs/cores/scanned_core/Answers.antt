@@ -2,7 +2,7 @@ use Rattle.std.proofs.Common.{rules, ◌≡◌, ◌+◌, ◌<◌, ℕ, List, [],
 use Rattle.awari_table.specs.declared.images.Image.{Image}
 use Rattle.awari_table.specs.Images.{table_of}
 use Rattle.awari_owner.specs.Level as level
-use Rattle.awari_owner.specs.Part as part
+use Rattle.awari_block.specs.Part as part
 use Rattle.awari_owner.specs.Scan as scan
 use Rattle.awari_owner.specs.Spread as spread
 use Rattle.awari_core.specs.Core as core

@@ -1,8 +1,8 @@
 use Rattle.std.proofs.Common.{◌≡◌, ◌<◌, ◌-◌, ◌+◌, ◌++◌, List, cond, length, get_or, take, drop, ap, subst, refl, ◌∙◌, rules, arith, length-set}
-use Rattle.awari_owner.specs.Blocks.{KeepSettled, cell_in, is_settled_in, times_due}
-use Rattle.awari_owner.specs.Part.{JoinsFresh, Part, stored_at}
-use Rattle.awari_owner.proofs.BlockLemmas.{keeps_both}
-use Rattle.awari_owner.specs.declared.notes.Note.{Note}
+use Rattle.awari_block.specs.Blocks.{KeepSettled, cell_in, is_settled_in, times_due}
+use Rattle.awari_block.specs.Part.{JoinsFresh, Part, stored_at}
+use Rattle.awari_block.proofs.BlockLemmas.{keeps_both}
+use Rattle.awari_block.specs.declared.notes.Note.{Note}
 use Rattle.awari_core.proofs.Batches.{way_none, way_at, way_more, way_done, way_end, way_expected, way_unheard, way_near, not_refused, no_note, read_at}
 use Rattle.awari_core.proofs.hearing.hear_batch.Goals as goal
 

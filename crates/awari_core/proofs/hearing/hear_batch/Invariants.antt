@@ -1,7 +1,7 @@
 use Rattle.std.proofs.Common.{◌≡◌, ◌++◌, ℕ, ℤ, List, length, take, drop}
-use Rattle.awari_owner.specs.Blocks.{KeepSettled}
-use Rattle.awari_owner.specs.Part.{AreFresh, JoinsFresh, Part, SameLevel}
-use Rattle.awari_owner.specs.declared.notes.Note.{Note}
+use Rattle.awari_block.specs.Blocks.{KeepSettled}
+use Rattle.awari_block.specs.Part.{AreFresh, JoinsFresh, Part, SameLevel}
+use Rattle.awari_block.specs.declared.notes.Note.{Note}
 use Rattle.awari_core.specs.Sound.{AreNext}
 use Rattle.awari_core.proofs.Batches.{IsWay}
 use Rattle.awari_core.proofs.hearing.hear_batch.Given as goal

@@ -1,6 +1,6 @@
 use Rattle.std.proofs.Common.{◌≡◌, ◌<◌, ◌≤◌, ℕ, get_or, length}
 use Rattle.awari_owner.specs.Level.{no_part}
-use Rattle.awari_owner.specs.Part.{AreFresh}
+use Rattle.awari_block.specs.Part.{AreFresh}
 use Rattle.awari_core.specs.Core.{OpensGain}
 use Rattle.awari_core.proofs.openings.open_gains.Given as goal
 

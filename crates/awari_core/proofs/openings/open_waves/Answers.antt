@@ -1,9 +1,9 @@
 use Rattle.std.proofs.Common.{rules, ◌≡◌, ◌<◌, ◌≤◌, ℕ, ℤ, List, length, get_or, ap, sym, subst, ◌∙◌, arith, length-set, vec_len}
 use Rattle.std.proofs.lemmas.List.{get_or_default}
 use Rattle.awari_owner.specs.Level.{no_part}
-use Rattle.awari_owner.specs.Part.{AreFresh, IsTallied, Part}
+use Rattle.awari_block.specs.Part.{AreFresh, IsTallied, Part}
 use Rattle.awari_owner.specs.Spread.{HearsOwn}
-use Rattle.awari_owner.specs.declared.notes.Note.{Note}
+use Rattle.awari_block.specs.declared.notes.Note.{Note}
 use Rattle.awari_core.proofs.Rounds.{later_set, more_set, written}
 use Rattle.awari_core.proofs.openings.open_waves.Goals as goal
 

@@ -2,7 +2,7 @@ use Rattle.std.proofs.Common.{◌≡◌, ◌<◌, ◌+◌, ◌++◌, ◌∷◌, 
 use Rattle.std.proofs.lemmas.List.{length_push}
 use Rattle.awari_table.specs.Images.{table_of}
 use Rattle.awari_owner.specs.Level.{no_part}
-use Rattle.awari_owner.specs.Part.{AreFresh, IsTallied, Part}
+use Rattle.awari_block.specs.Part.{AreFresh, IsTallied, Part}
 use Rattle.awari_owner.specs.Scan.{IsScan}
 use Rattle.awari_owner.specs.Spread.{HearsOwn}
 use Rattle.awari_core.proofs.Rounds.{more_push}

@@ -1,6 +1,6 @@
 use Rattle.std.proofs.Common.{◌≡◌, ◌<◌, ℕ, [], get_or, length}
 use Rattle.awari_owner.specs.Level.{no_part}
-use Rattle.awari_owner.specs.Part.{AreFresh, IsTallied}
+use Rattle.awari_block.specs.Part.{AreFresh, IsTallied}
 use Rattle.awari_owner.specs.Scan.{IsScan}
 use Rattle.awari_owner.specs.Spread.{HearsOwn}
 use Rattle.awari_table.specs.Images.{table_of}

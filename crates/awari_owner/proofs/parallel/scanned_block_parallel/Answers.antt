@@ -4,5 +4,5 @@ use Rattle.awari_owner.proofs.parallel.scanned_block_parallel.Goals as goal
 
 pub returns : goal.returns
 returns g c =
-    block_scanned _ _ c.args.block c.in_ok-found.found _ c.scan_pieces.new.cells c.scan_pieces.new.leaving (search rules) (search rules) (search rules) (search rules) (search rules)
+    block_scanned _ _ c.args.block c.in_ok-found.found _ c.scan_pieces.new.cells c.scan_pieces.new.leaving (search rules) (search rules) (search rules)
     c.scan_pieces.ensures

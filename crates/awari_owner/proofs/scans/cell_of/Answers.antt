@@ -2,9 +2,9 @@ use Rattle.std.proofs.Common.{◌≡◌, ◌+◌, ℕ, ℤ, List, SFits, w8, sum
 use Rattle.std.proofs.lemmas.Int.{to_z-of_z}
 use Rattle.awari_board.specs.Rules.{IsBoard, IsMove}
 use Rattle.awari_board.proofs.Keeping.{IsBoard-next, sum-from_IsMove}
-use Rattle.awari_owner.specs.declared.cells.Cell.{Cell}
-use Rattle.awari_owner.specs.declared.cells.Mark.{Mark}
-use Rattle.awari_owner.specs.declared.cells.Mark.TheVariants.{Ended, Capturing}
+use Rattle.awari_block.specs.declared.cells.Cell.{Cell}
+use Rattle.awari_block.specs.declared.cells.Mark.{Mark}
+use Rattle.awari_block.specs.declared.cells.Mark.TheVariants.{Ended, Capturing}
 use Rattle.awari_owner.proofs.Scanning.{scanned_capturing, scanned_quiet, scanned_ended}
 use Rattle.awari_owner.proofs.scans.cell_of.Goals as goal
 

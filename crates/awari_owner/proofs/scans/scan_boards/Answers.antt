@@ -2,8 +2,8 @@ use Rattle.std.proofs.Common.{◌≡◌, ◌+◌, ◌-◌, ◌<◌, ◌≤◌, �
 use Rattle.std.proofs.lemmas.List.{take_more_set, take_all}
 use Rattle.awari_rank.specs.Rank.{rank_of, size_of}
 use Rattle.awari_table.specs.Images.{table_of}
-use Rattle.awari_owner.specs.declared.cells.Cell.{Cell}
-use Rattle.awari_owner.specs.Blocks.{cell_in}
+use Rattle.awari_block.specs.declared.cells.Cell.{Cell}
+use Rattle.awari_block.specs.Blocks.{cell_in}
 use Rattle.awari_owner.specs.Scan.{IsScanned}
 use Rattle.awari_owner.proofs.LeavingMoves.{leaving_to-more}
 use Rattle.awari_owner.proofs.Scanning.{IsScanning, IsScanning-more, scanned-more}

@@ -1,6 +1,6 @@
 use Rattle.std.proofs.Common.{◌≡◌, ◌-◌, subst, sym, arith}
 use Rattle.awari_table.specs.Images.{table_of}
-use Rattle.awari_owner.specs.Leaving.{AreLeavingBelow}
+use Rattle.awari_block.specs.Leaving.{AreLeavingBelow}
 use Rattle.awari_owner.specs.Scan.{IsOutlook, IsRanged}
 use Rattle.awari_owner.proofs.LeavingMoves.{leaving-none}
 use Rattle.awari_owner.proofs.Scanning.{outlook-none, outlook-ended}

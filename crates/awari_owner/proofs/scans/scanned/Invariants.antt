@@ -1,6 +1,6 @@
 use Rattle.std.proofs.Common.{◌-◌}
 use Rattle.awari_table.specs.Images.{table_of}
-use Rattle.awari_owner.specs.Leaving.{AreLeavingBelow}
+use Rattle.awari_block.specs.Leaving.{AreLeavingBelow}
 use Rattle.awari_owner.specs.Scan.{IsOutlook}
 use Rattle.awari_owner.proofs.scans.scanned.Given as goal
 

@@ -4,5 +4,5 @@ use Rattle.awari_owner.proofs.scans.scanned_block.Goals as goal
 
 pub returns : goal.returns
 returns c =
-    block_scanned _ _ c.args.block c.in_ok-found.found _ c.scan_boards.new.cells c.scan_boards.new.leaving (search rules) (search rules) (search rules) (search rules) (search rules)
+    block_scanned _ _ c.args.block c.in_ok-found.found _ c.scan_boards.new.cells c.scan_boards.new.leaving (search rules) (search rules) (search rules)
     c.scan_boards.ensures

@@ -1,5 +1,5 @@
 use Rattle.std.proofs.Common.{◌+◌, Bool, IsTrue, false, ◌≡◌, ◌-◌, ◌*◌, ◌%◌, ◌^◌, bit_or, false, IsTrue, subst, sym, refl, rules, arith}
-use Rattle.awari_owner.specs.Leaving.{AreLeavingBelow}
+use Rattle.awari_block.specs.Leaving.{AreLeavingBelow}
 use Rattle.awari_owner.proofs.Basics.{below_six}
 use Rattle.awari_owner.proofs.LeavingMoves.{leaving-stays, leaving-more, captures-stays, inside-stays, outside-leaves}
 use Rattle.awari_owner.proofs.scans.with_leaving.Goals.{then-moved-gt0-via-then-moved-gt0, then-moved-gt0-via-else-moved-gt0+then-holds}

@@ -5,7 +5,7 @@ use Rattle.std.specs.Prelude.{int_lt}
 use Rattle.std.proofs.lemmas.Bool.Decides.{nat_tests}
 use Rattle.awari_board.specs.Rules.{IsMove}
 use Rattle.awari_table.specs.Images.{table_of}
-use Rattle.awari_owner.specs.Cells.{IsWithin}
+use Rattle.awari_block.specs.Cells.{IsWithin}
 use Rattle.awari_owner.proofs.Scanning.{outlook-quiet, outlook-capture}
 use Rattle.awari_owner.proofs.scans.with_move.Goals as goal
 

@@ -3,9 +3,9 @@ use Rattle.awari_rank.specs.Rank.{rank_of, size_of}
 use Rattle.awari_rank.proofs.Ranking.{rank_of-below}
 use Rattle.awari_unmove.specs.Predecessors.{IsQuiet}
 use Rattle.awari_unmove.proofs.Walking.{IsPredecessors-more, IsPredecessors-end, IsQuiet-next}
-use Rattle.awari_owner.specs.Part.{Part}
+use Rattle.awari_block.specs.Part.{Part}
 use Rattle.awari_owner.specs.Spread.{Source}
-use Rattle.awari_owner.proofs.Settling.{settles_both}
+use Rattle.awari_block.proofs.Settling.{settles_both}
 use Rattle.awari_owner.proofs.Spreading.{held_still, told_more}
 use Rattle.awari_owner.proofs.Sending.{puts_more, seen_more}
 use Rattle.awari_owner.proofs.spreads.tell_all.Goals as goal

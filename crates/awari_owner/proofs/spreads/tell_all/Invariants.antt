@@ -1,7 +1,7 @@
 use Rattle.std.proofs.Common.{◌≡◌, ◌+◌, ◌++◌, ◌<◌, ◌≤◌, ◌/◌, ℕ, false, length, vec_len}
 use Rattle.awari_rank.specs.Rank.{size_of}
 use Rattle.awari_unmove.specs.Predecessors.{IsPredecessors}
-use Rattle.awari_owner.specs.Boards.{Settles}
+use Rattle.awari_block.specs.Boards.{Settles}
 use Rattle.awari_owner.specs.Queues.{room_in}
 use Rattle.awari_owner.specs.Spread.{is_held, Tells, PutsAll}
 use Rattle.awari_owner.proofs.spreads.tell_all.Given as goal

@@ -1,13 +1,13 @@
 use Rattle.std.proofs.Common.{◌≡◌, ◌/◌, ◌<◌, true, false, length, get_or, ap, sym, subst, ◌∙◌, rules, arith, vec_len}
 use Rattle.std.proofs.lemmas.List.{get_or_default}
 use Rattle.awari_rank.specs.Rank.{rank_of}
-use Rattle.awari_owner.specs.Boards.{HearsNote}
-use Rattle.awari_owner.specs.Part.{InBlock}
+use Rattle.awari_block.specs.Boards.{HearsNote}
+use Rattle.awari_block.specs.Part.{InBlock}
 use Rattle.awari_owner.specs.Spread.{is_held}
 use Rattle.awari_owner.specs.Queues.{Queue, no_queue}
 use Rattle.awari_owner.specs.Outboxes.{with_note}
-use Rattle.awari_owner.specs.declared.notes.Note.{Note}
-use Rattle.awari_owner.proofs.Settling.{settles_none}
+use Rattle.awari_block.specs.declared.notes.Note.{Note}
+use Rattle.awari_block.proofs.Settling.{settles_none}
 use Rattle.awari_owner.proofs.Spreading.{heard_here, heard_outside, held_by}
 use Rattle.awari_owner.proofs.Sending.{sent_here, sent_nothing, room_left}
 use Rattle.awari_owner.proofs.spreads.tell_one.Goals as goal

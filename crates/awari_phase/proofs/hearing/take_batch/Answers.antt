@@ -1,7 +1,7 @@
 use Rattle.std.proofs.Common.{◌≡◌, ◌-◌, ◌<◌, suc, List, drop, length, get_or, take, ap, subst, sym, ◌∙◌, refl, rules, length-set}
 use Rattle.awari_owner.specs.OwnerFault.{IsFaultOf}
-use Rattle.awari_owner.specs.Part.{Part, stored_at}
-use Rattle.awari_owner.specs.declared.notes.Note.{Note}
+use Rattle.awari_block.specs.Part.{Part, stored_at}
+use Rattle.awari_block.specs.declared.notes.Note.{Note}
 use Rattle.awari_phase.specs.Sound.{OwnerSound, with_taken}
 use Rattle.awari_phase.proofs.Keeping.{same_block, block_then}
 use Rattle.awari_phase.proofs.Batching.{no_note, read_at, split_at, sound_first, sound_last, sound_more}

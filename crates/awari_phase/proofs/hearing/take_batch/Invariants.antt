@@ -1,5 +1,5 @@
 use Rattle.std.proofs.Common.{◌≡◌, ℕ, ℤ, List, take}
-use Rattle.awari_owner.specs.Part.{unspread}
+use Rattle.awari_block.specs.Part.{unspread}
 use Rattle.awari_phase.specs.Sound.{Batches, OwnerSound, SameBlock, with_taken, IsOtherOf}
 use Rattle.awari_phase.proofs.hearing.take_batch.Given as goal
 

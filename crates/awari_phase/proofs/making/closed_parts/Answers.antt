@@ -1,7 +1,7 @@
 use Rattle.std.proofs.Common.{◌∷◌, ◌++◌, [], append_assoc, sym, ap, subst, ◌∙◌, All}
 use Rattle.std.proofs.lemmas.List.{map-append}
 use Rattle.std.proofs.lemmas.List.Elements.{All-head, All-tail}
-use Rattle.awari_owner.specs.Level.{IsClosed}
+use Rattle.awari_block.specs.Part.{IsClosed}
 use Rattle.awari_phase.specs.Owners.{parts_of}
 use Rattle.awari_phase.specs.declared.owners.Owner.{Owner}
 use Rattle.awari_phase.proofs.making.closed_parts.Goals as goal

@@ -1,5 +1,5 @@
 use Rattle.std.proofs.Common.{◌≡◌, ◌++◌, All}
-use Rattle.awari_owner.specs.Level.{IsClosed}
+use Rattle.awari_block.specs.Part.{IsClosed}
 use Rattle.awari_phase.specs.Owners.{parts_of}
 use Rattle.awari_phase.proofs.making.closed_parts.Given as goal
 

@@ -2,10 +2,10 @@ use Rattle.std.proofs.Common.{◌≡◌, [], All, List, length, refl, sym, subst
 use Rattle.std.proofs.lemmas.List.Elements.{All-replicate}
 use Rattle.awari_table.specs.Images.{table_of}
 use Rattle.awari_owner.specs.Outboxes.{Outboxes}
-use Rattle.awari_owner.specs.Part.{Part, IsTallied}
+use Rattle.awari_block.specs.Part.{Part, IsTallied}
 use Rattle.awari_owner.specs.Scan.{IsScan}
 use Rattle.awari_owner.specs.Spread.{HearsOwn}
-use Rattle.awari_owner.specs.declared.notes.Note.{Note}
+use Rattle.awari_block.specs.declared.notes.Note.{Note}
 use Rattle.awari_phase.proofs.making.scanned_owner.Goals as goal
 
 pub returns : goal.returns

@@ -1,5 +1,5 @@
 use Rattle.std.proofs.Common.{refl, ap, arith}
-use Rattle.awari_owner.specs.Part.{Part}
+use Rattle.awari_block.specs.Part.{Part}
 use Rattle.awari_phase.proofs.Gaining.{grown_wave}
 use Rattle.awari_phase.proofs.openings.open_wave.Goals as goal
 

@@ -1,5 +1,5 @@
 use Rattle.std.proofs.Common.{◌≡◌, ℕ, ◌<◌, ◌≤◌, [], All, IsNone, IfSome, slice_index_or}
-use Rattle.awari_owner.specs.Blocks.{due_dist}
+use Rattle.awari_block.specs.Blocks.{due_dist}
 use Rattle.awari_phase.specs.declared.owners.Owner.{Owner}
 use Rattle.awari_phase.proofs.phases.least_due.Given as goal
 

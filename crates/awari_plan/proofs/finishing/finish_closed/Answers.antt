@@ -1,6 +1,6 @@
 use Rattle.std.proofs.Common.{List, IfOk, subst, ◌∙◌, ap}
 use Rattle.awari_rank.specs.Rank.{size_of}
-use Rattle.awari_owner.specs.Part.{Part}
+use Rattle.awari_block.specs.Part.{Part}
 use Rattle.awari_plan.specs.Finished.{IsFinished}
 use Rattle.awari_plan.proofs.Whole.{finished_if}
 use Rattle.awari_plan.proofs.finishing.finish_closed.Goals as goal

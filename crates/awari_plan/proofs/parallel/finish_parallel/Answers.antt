@@ -1,7 +1,7 @@
 use Rattle.std.proofs.Common.{List, subst, ◌∙◌, ap}
 use Rattle.awari_rank.specs.Rank.{size_of}
 use Rattle.awari_table.specs.Images.{greatest_dist}
-use Rattle.awari_owner.specs.Part.{Part}
+use Rattle.awari_block.specs.Part.{Part}
 use Rattle.awari_plan.specs.Finished.{HasAllSettled}
 use Rattle.awari_plan.proofs.Whole.{finished, planned}
 use Rattle.awari_plan.proofs.parallel.finish_parallel.Goals as goal

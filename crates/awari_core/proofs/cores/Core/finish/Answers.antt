@@ -1,6 +1,6 @@
 use Rattle.std.proofs.Common.{rules, List, ap, sym, subst, ◌∙◌}
 use Rattle.awari_table.specs.Shelves.{Consistent}
-use Rattle.awari_owner.specs.Part.{Part}
+use Rattle.awari_block.specs.Part.{Part}
 use Rattle.awari_plan.specs.Finished.{IsFinished}
 use Rattle.awari_core.specs.Core.{Core, IsQuiet}
 use Rattle.awari_core.proofs.Ending.{closed_parts}

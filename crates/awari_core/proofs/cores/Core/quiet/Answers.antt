@@ -1,6 +1,6 @@
 use Rattle.std.proofs.Common.{rules, ◌≡◌, ◌≤◌, [], length, ap, ◌∙◌, arith}
 use Rattle.awari_owner.specs.Level.{no_part}
-use Rattle.awari_owner.specs.Part.{Part}
+use Rattle.awari_block.specs.Part.{Part}
 use Rattle.awari_core.specs.Core.{Core}
 use Rattle.awari_core.proofs.Rounds.{all_below}
 use Rattle.awari_core.proofs.cores.Core.quiet.Goals as goal

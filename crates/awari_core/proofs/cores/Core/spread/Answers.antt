@@ -1,6 +1,6 @@
 use Rattle.std.proofs.Common.{rules, ◌<◌, Ok, Some, inl, inr, length, ap, sym, subst, arith, ◌∙◌, get_or-set_same}
 use Rattle.awari_owner.specs.Level.{no_part}
-use Rattle.awari_owner.specs.Part.{AreFresh, IsLeastDue, Part}
+use Rattle.awari_block.specs.Part.{AreFresh, IsLeastDue, Part}
 use Rattle.awari_core.specs.Core.{Core, Sound, DoesSpread, part_at}
 use Rattle.awari_core.proofs.Effects.{as_many, both_same, due_here, never_far, part_was, sender_was, spread_does, with_both}
 use Rattle.awari_core.proofs.Steps.{spread_step}

@@ -2,7 +2,7 @@ use Rattle.std.proofs.Common.{◌≡◌, ◌<◌, ◌∷◌, ℕ, List, [], leng
 use Rattle.awari_owner.specs.Queues.{batches_of}
 use Rattle.awari_owner.specs.Outboxes.{AreBatches, AreOutboxes, IsBatch, Outboxes}
 use Rattle.std.proofs.lemmas.List.Elements.{All-set, All-tail}
-use Rattle.awari_owner.specs.declared.notes.Note.{Note}
+use Rattle.awari_block.specs.declared.notes.Note.{Note}
 use Rattle.awari_owner.proofs.Sending.{batches_at, batches_length, batches_set, high_from_some}
 use Rattle.awari_owner.proofs.outboxes.Outboxes.drop_front.Goals as goal
 

@@ -1,7 +1,7 @@
 use Rattle.std.proofs.Common.{◌≡◌, IsTrue, ap, subst, ◌∙◌, rules, arith}
-use Rattle.awari_owner.specs.Boards.{place_of}
-use Rattle.awari_owner.specs.Part.{Part, InBlock}
-use Rattle.awari_owner.specs.declared.places.Place.{Place}
+use Rattle.awari_block.specs.Boards.{place_of}
+use Rattle.awari_block.specs.Part.{Part, InBlock}
+use Rattle.awari_block.specs.declared.places.Place.{Place}
 use Rattle.awari_owner.proofs.parts.Part.expects.Goals as goal
 
 pub returns : goal.returns

@@ -1,6 +1,6 @@
 use Rattle.std.proofs.Common.{◌≡◌, ◌*◌, ◌-◌, ◌%◌, ◌^◌, ◌==◌, ◌↔◌, ◌∙◌, IsTrue, not, bit_and, get_or, length, refl, ap, subst, rules}
-use Rattle.awari_owner.specs.Part.{Part, InBlock, Leaves}
-use Rattle.awari_owner.specs.declared.places.Place.{Place}
+use Rattle.awari_block.specs.Part.{Part, InBlock, Leaves}
+use Rattle.awari_block.specs.declared.places.Place.{Place}
 use Rattle.awari_owner.proofs.Basics.{below_six}
 use Rattle.awari_owner.proofs.Taking.{leaves_read}
 use Rattle.awari_owner.proofs.parts.Part.leaves.Goals as goal

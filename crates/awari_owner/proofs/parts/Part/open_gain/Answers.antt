@@ -1,11 +1,11 @@
 use Rattle.std.proofs.Common.{◌≡◌, ◌+◌, subst, sym, ap, ◌∙◌, arith}
-use Rattle.awari_owner.specs.Boards.{Settles}
-use Rattle.awari_owner.specs.Blocks.{KeepSettled}
-use Rattle.awari_owner.specs.Part.{Part, IsTallied, JoinsFresh}
+use Rattle.awari_block.specs.Boards.{Settles}
+use Rattle.awari_block.specs.Blocks.{KeepSettled}
+use Rattle.awari_block.specs.Part.{Part, IsTallied, JoinsFresh}
 use Rattle.awari_owner.specs.Spread.{HearsOwn}
 use Rattle.awari_owner.proofs.Gains.{opened}
 use Rattle.awari_owner.proofs.Hearing.{hears_still}
-use Rattle.awari_owner.proofs.Settling.{leaving_still, same_place}
+use Rattle.awari_block.proofs.Settling.{leaving_still, same_place}
 use Rattle.awari_owner.proofs.parts.Part.open_gain.Goals as goal
 
 pub invariant_of-self : goal.invariant_of-self

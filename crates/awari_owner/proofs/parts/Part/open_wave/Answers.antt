@@ -1,6 +1,6 @@
 use Rattle.std.proofs.Common.{◌≤◌, length, ap, sym, subst, ◌∙◌}
-use Rattle.awari_owner.specs.Leaving.{AreLeaving}
-use Rattle.awari_owner.specs.Part.{Part}
+use Rattle.awari_block.specs.Leaving.{AreLeaving}
+use Rattle.awari_block.specs.Part.{Part}
 use Rattle.awari_owner.proofs.parts.Part.open_wave.Goals as goal
 
 pub invariant_of-self : goal.invariant_of-self

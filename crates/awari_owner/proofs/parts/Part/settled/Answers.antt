@@ -1,7 +1,7 @@
-use Rattle.std.proofs.Common.{◌≡◌, subst}
-use Rattle.awari_owner.specs.Boards.{place_of}
-use Rattle.awari_owner.specs.Cells.{Fits}
-use Rattle.awari_owner.specs.Part.{Part}
+use Rattle.std.proofs.Common.{subst}
+use Rattle.awari_block.specs.Boards.{place_of}
+use Rattle.awari_block.specs.Cells.{Fits}
+use Rattle.awari_block.specs.Part.{Part}
 use Rattle.awari_owner.proofs.parts.Part.settled.Goals as goal
 
 pub returns-clause-ranged : goal.returns-clause-ranged

@@ -1,16 +1,16 @@
 use Rattle.std.proofs.Common.{◌≡◌, ◌+◌, ◌-◌, ◌/◌, ◌<◌, ◌≤◌, ◌∙◌, ℕ, false, List, Some, length, ap, subst, subst₂, sym, rules, arith}
 use Rattle.awari_rank.specs.Rank.{size_of}
-use Rattle.awari_owner.specs.Blocks.{KeepSettled}
-use Rattle.awari_owner.specs.Boards.{TakesFirst, place_of}
-use Rattle.awari_owner.specs.Part.{Part, unspread, IsLeastDue}
+use Rattle.awari_block.specs.Blocks.{KeepSettled}
+use Rattle.awari_block.specs.Boards.{TakesFirst, place_of}
+use Rattle.awari_block.specs.Part.{Part, unspread, IsLeastDue}
 use Rattle.awari_owner.specs.Spread.{Source, Spreads, PutsAll, IsPartOf, Sends, is_held}
 use Rattle.awari_owner.specs.Outboxes.{Outboxes}
 use Rattle.awari_owner.specs.Queues.{batches_of, room_in}
-use Rattle.awari_owner.specs.declared.notes.Note.{Note}
-use Rattle.awari_owner.specs.declared.places.Place.{Place}
+use Rattle.awari_block.specs.declared.notes.Note.{Note}
+use Rattle.awari_block.specs.declared.places.Place.{Place}
 use Rattle.awari_owner.proofs.Firsts.{fewer_unspread, spread_first, taken_low, taken_settles, IsTold}
 use Rattle.awari_owner.proofs.Sending.{batches_length, all_batches}
-use Rattle.awari_owner.proofs.Settling.{leaving_still}
+use Rattle.awari_block.proofs.Settling.{leaving_still}
 use Rattle.awari_owner.proofs.Sharing.{outboxes_of, own_stays, room_for, sends_by}
 use Rattle.awari_owner.proofs.Spreading.{sources_of}
 use Rattle.awari_owner.proofs.parts.Part.spread_one.Goals as goal

@@ -1,12 +1,12 @@
 use Rattle.std.proofs.Common.{◌≡◌, false, ◌∷◌, subst, sym, ap, ◌∙◌, rules, arith}
-use Rattle.awari_owner.specs.Boards.{Settles}
-use Rattle.awari_owner.specs.Blocks.{KeepSettled}
-use Rattle.awari_owner.specs.Tally.{has_pit}
-use Rattle.awari_owner.specs.Part.{Part, stored_at, IsExpected, IsTallied, PutsCell}
+use Rattle.awari_block.specs.Boards.{Settles}
+use Rattle.awari_block.specs.Blocks.{KeepSettled}
+use Rattle.awari_block.specs.Tally.{has_pit}
+use Rattle.awari_block.specs.Part.{Part, stored_at, IsExpected, IsTallied, PutsCell}
 use Rattle.awari_owner.specs.Spread.{HearsOwn}
-use Rattle.awari_owner.specs.declared.cells.Cell.{Cell}
+use Rattle.awari_block.specs.declared.cells.Cell.{Cell}
 use Rattle.awari_owner.proofs.Hearing.{hears_kept}
-use Rattle.awari_owner.proofs.Settling.{leaving_still}
+use Rattle.awari_block.proofs.Settling.{leaving_still}
 use Rattle.awari_owner.proofs.Taking.{added_heard, expected_takeable}
 use Rattle.awari_owner.proofs.parts.Part.take.Goals as goal
 

@@ -1,7 +1,7 @@
 use Rattle.std.proofs.Common.{◌≡◌, ◌<◌, ◌≤◌, ◌-◌, ◌==◌, ℕ, List, Bool, IsTrue, not, length, get_or, map, ap, sym, rules, arith, ◌∙◌}
 use Rattle.std.proofs.lemmas.Bool.Decides.{nat_tests}
 use Rattle.awari_owner.specs.Queues.{Queue, spare}
-use Rattle.awari_owner.specs.declared.notes.Note.{Note}
+use Rattle.awari_block.specs.declared.notes.Note.{Note}
 use Rattle.awari_owner.proofs.Queueing.{open_last}
 use Rattle.awari_owner.proofs.queues.Queue.has_open_batch.Goals as goal
 

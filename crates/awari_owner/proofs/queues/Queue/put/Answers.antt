@@ -1,7 +1,7 @@
 use Rattle.std.proofs.Common.{◌≡◌, ◌<◌, ◌-◌, ◌+◌, ◌∷◌, ◌++◌, ℕ, zero, suc, List, [], Bool, IsTrue, false, length, get_or, set, map, ap, sym, subst, refl, rules, arith, ◌∙◌, deque_capacity}
 use Rattle.std.proofs.lemmas.List.{length-map}
 use Rattle.awari_owner.specs.Queues.{Queue, spare, room_of}
-use Rattle.awari_owner.specs.declared.notes.Note.{Note}
+use Rattle.awari_block.specs.declared.notes.Note.{Note}
 use Rattle.awari_owner.specs.Outboxes.{with_note}
 use Rattle.awari_owner.proofs.Queueing.{put_last, put_new, open_last, some_batch}
 use Rattle.awari_owner.proofs.queues.Queue.put.Goals as goal

@@ -1,5 +1,5 @@
 use Rattle.std.proofs.Common.{◌≡◌, ◌+◌, ◌≤◌}
-use Rattle.awari_owner.specs.Part.{unspread}
+use Rattle.awari_block.specs.Part.{unspread}
 use Rattle.awari_phase.specs.Owners.{Kept}
 use Rattle.awari_phase.proofs.owners.Owner.spread_some.Given as goal
 

@@ -1,0 +1,61 @@
+-- The commands `verify` and `ask`: what is printed of the levels in a folder.
+use Rattle.std.specs.Prelude.{◌≡◌, ℕ, ◌+◌, ◌/◌, ◌%◌, ◌<◌, nat_lt, if◌then◌else◌, List, ◌++◌, ◌∷◌, [], length, sum, codes, Option}
+use Rattle.std.specs.Fmt.{decimal}
+use Rattle.std.specs.List.{flat_map}
+use Rattle.std.specs.Io.KnownBytes.{Appends}
+use Rattle.awari_board.specs.BoardFault.{fault_text as board_fault_text}
+use Rattle.awari_board.specs.Rules.{IsBoard}
+use Rattle.awari_board.specs.Text.{text_of}
+use Rattle.awari_folder.specs.FolderFault.{fault_text as folder_fault_text}
+use Rattle.awari_table.specs.Images.{entry_of}
+use Rattle.awari_table.specs.NotYet.{fault_text as not_yet_text}
+use Rattle.awari_table.specs.Spelling.{entry_line}
+use Rattle.awari_table.specs.Shelves.{IsShelf}
+use Rattle.awari_table.specs.declared.images.Entry.{Entry}
+use Rattle.awari_table.specs.declared.images.Image.{Image}
+use Rattle.awari_folder.specs.Contents.{IsStoredIn}
+use Rattle.awari_answers.specs.declared.folders.LookUpFault.{LookUpFault}
+use Rattle.awari_answers.specs.declared.folders.LookUpFault.TheVariants.{Board, Folder, NotYet}
+use Rattle.awari_answers.specs.declared.folders.RightLevel.{RightLevel}
+use Rattle.awari_answers.specs.declared.folders.Summary.{Summary}
+
+-- a hexadecimal digit in lower case, and the two of a byte
+abbrev pub hex_digit : ℕ → ℕ
+hex_digit n = if nat_lt n 10 then 48 + n else 87 + n
+
+abbrev pub byte_text : ℕ → List ℕ
+byte_text b = hex_digit (b / 16) ∷ hex_digit (b % 16) ∷ []
+
+unfoldable pub digest_text : List ℕ → List ℕ
+digest_text digest = flat_map byte_text digest
+
+abbrev pub right_text : RightLevel → List ℕ
+right_text right = codes "level " ++ decimal right.level ++ codes " ok limit " ++ decimal right.limit
+
+-- the lines of right levels, each ended by a line feed
+abbrev pub right_lines : List Image → List ℕ
+right_lines images = flat_map (λ image. right_text (record { level = image.level; limit = image.limit }) ++ 10 ∷ []) images
+
+abbrev pub summary_text : Summary → List ℕ
+summary_text summary = codes "levels " ++ decimal summary.levels ++ codes " digest " ++ digest_text summary.digest
+
+-- Where it is known what the writer holds, what was written are the lines of right levels, and the line of them all. They are
+-- those that the folder stores, where it is known what its names have.
+abbrev pub PrintsFolder : (ℕ → Option (Option (List ℕ))) → Option (List ℕ) → Option (List ℕ) → Type 0
+PrintsFolder stands before after = (images : List Image) × (summary : Summary) × IsShelf images × (summary.levels ≡ length images)
+    × IsStoredIn stands images summary.digest × Appends before after (right_lines images ++ (summary_text summary ++ 10 ∷ []))
+
+-- what right levels say of the board that the text spells: those that the folder stores, where it is known what its names have
+abbrev pub IsEntryOf : (ℕ → Option (Option (List ℕ))) → List ℕ → Entry → Type 0
+IsEntryOf stands text e = (images : List Image) × (digest board : List ℕ) × IsShelf images × IsStoredIn stands images digest × IsBoard board × (sum board < length images)
+    × (text ≡ text_of board) × (e ≡ entry_of images board)
+
+-- Where it is known what the writer holds, what was written is the line of such an entry.
+abbrev pub PrintsEntry : (ℕ → Option (Option (List ℕ))) → List ℕ → Option (List ℕ) → Option (List ℕ) → Type 0
+PrintsEntry stands text before after = (e : Entry) × IsEntryOf stands text e × Appends before after (entry_line e)
+
+-- the fault inside it
+abbrev pub look_up_fault_text : LookUpFault → List ℕ
+look_up_fault_text (Board fault) = board_fault_text fault
+look_up_fault_text (Folder fault) = folder_fault_text fault
+look_up_fault_text (NotYet fault) = not_yet_text fault

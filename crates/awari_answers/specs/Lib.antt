@@ -1,0 +1,6 @@
+pub mod Playing
+pub mod Judgement
+pub mod Folders
+pub mod Lines
+pub mod Worths
+pub mod Texts

@@ -1,0 +1,226 @@
+//! The commands `verify` and `ask`: the levels in a folder verified, and asked for an entry.
+
+ghost use Rattle.std.specs.Prelude.{◌≡◌, ◌≤◌, ◌<◌, ◌↔◌, ℕ, List, true, length, sum, Err, IfOk};
+ghost use Rattle.std.specs.Io.KnownBytes.{Appends};
+ghost use Rattle.awari_board.specs.BoardFault.{IsFaulty};
+ghost use Rattle.awari_board.specs.Rules.{IsBoard};
+ghost use Rattle.awari_board.specs.Text.{text_of};
+ghost use Rattle.awari_board.specs.declared.text.BoardFault.{BoardFault};
+ghost use Rattle.awari_table.specs.Images.{entry_of};
+ghost use Rattle.awari_table.specs.Shelves.{IsShelf};
+ghost use Rattle.awari_table.specs.declared.images.Image.{Image};
+ghost use Rattle.awari_folder.specs.Contents.{Same};
+ghost use Rattle.awari_answers.specs.Folders.{IsEntryOf, PrintsFolder, PrintsEntry, digest_text, hex_digit, right_lines};
+ghost use Rattle.awari_answers.specs.declared.folders.LookUpFault.TheVariants as look_up;
+
+use crate::printing::{Refused, print, print_bytes};
+use arrayvec::ArrayString;
+use awari_board::{Board, BoardFault, one_board_fault_is_due};
+use awari_folder::{Folder, FolderFault, load_parallel};
+use awari_table::{Entry, NotYet, Shelf, line_of_entry};
+use std::alloc::Global;
+use std::fmt;
+use std::io::Write;
+use std::thread::Threads;
+
+/// A level of a folder that is right. Printed, it is its line without the line feed.
+#[derive(Clone, Copy)]
+struct RightLevel {
+    level: u8,
+    limit: u32,
+}
+
+impl fmt::Display for RightLevel {
+    ghost use Rattle.std.specs.Prelude.{Some};
+    ghost use Rattle.awari_answers.specs.Folders.{right_text};
+
+    ghost output = { λ right. Some (right_text right) };
+
+    fn fmt<W: fmt::Write>(&self, f: &mut fmt::Formatter<W>) -> fmt::Result {
+        write!(f, "level {} ok limit {}", self.level, self.limit)
+    }
+}
+
+/// The last line of a folder: how many levels it has, and the digest of the last one's file.
+#[derive(Clone, Copy)]
+pub struct Summary {
+    pub levels: usize,
+    pub digest: [u8; 32],
+}
+
+impl fmt::Display for Summary {
+    ghost use Rattle.std.specs.Prelude.{Some};
+    ghost use Rattle.awari_answers.specs.Folders.{summary_text};
+
+    ghost output = { λ summary. Some (summary_text summary) };
+
+    fn fmt<W: fmt::Write>(&self, f: &mut fmt::Formatter<W>) -> fmt::Result {
+        let digits = hex_of(&self.digest);
+        write!(f, "levels {} digest {digits}", self.levels)
+    }
+}
+
+/// The digest in hexadecimal.
+fn hex_of(digest: &[u8; 32]) -> ArrayString<64>
+    ensures { result.bytes ≡ digest_text digest.now }
+{
+    let mut text = ArrayString::new();
+    for byte in digest {
+        text.push(hex_digit(*byte / 16));
+        text.push(hex_digit(*byte % 16));
+    }
+    text
+}
+
+fn hex_digit(value: u8) -> char
+    requires { value < 16 }
+    ensures { result ≡ hex_digit value }
+{
+    char::from(if value < 10 {
+        b'0' + value
+    } else {
+        b'a' + (value - 10)
+    })
+}
+
+/// Why a folder gives no entry of a board. Printed, it is the fault inside it.
+#[derive(Clone, Copy)]
+pub(crate) enum LookUpFault {
+    /// The text is no board.
+    Board { fault: BoardFault },
+    /// The folder is not loaded.
+    Folder { fault: FolderFault },
+    /// 59: the folder has only so many levels, and the board has at least as many stones.
+    NotYet { fault: NotYet },
+}
+
+impl From<BoardFault> for LookUpFault {
+    ghost from_gives = { λ fault e. e ≡ look_up.Board fault };
+
+    fn from(fault: BoardFault) -> Self {
+        LookUpFault::Board { fault }
+    }
+}
+
+impl From<FolderFault> for LookUpFault {
+    ghost from_gives = { λ fault e. e ≡ look_up.Folder fault };
+
+    fn from(fault: FolderFault) -> Self {
+        LookUpFault::Folder { fault }
+    }
+}
+
+impl From<NotYet> for LookUpFault {
+    ghost from_gives = { λ fault e. e ≡ look_up.NotYet fault };
+
+    fn from(fault: NotYet) -> Self {
+        LookUpFault::NotYet { fault }
+    }
+}
+
+impl fmt::Display for LookUpFault {
+    ghost use Rattle.std.specs.Prelude.{Some};
+    ghost use Rattle.awari_answers.specs.Folders.{look_up_fault_text};
+
+    ghost output = { λ fault. Some (look_up_fault_text fault) };
+
+    fn fmt<W: fmt::Write>(&self, f: &mut fmt::Formatter<W>) -> fmt::Result {
+        match *self {
+            LookUpFault::Board { fault } => write!(f, "{fault}"),
+            LookUpFault::Folder { fault } => write!(f, "{fault}"),
+            LookUpFault::NotYet { fault } => write!(f, "{fault}"),
+        }
+    }
+}
+
+/// The entry of the board that `text` spells, as the levels in the folder have it. The text is read
+/// before the folder is: where it is no board it is refused for that, whatever the folder holds.
+fn look_up<T: Threads + Sync, F: Folder>(
+    rt: &T,
+    folder: &mut F,
+    alloc: Global,
+    text: &[u8],
+) -> Result<Entry, LookUpFault>
+    ensures entry { IfOk result (IsEntryOf (F.stands folder.old) text.now) }
+    ensures same { Same (F.stands folder.old) (F.stands folder.new) }
+    ensures board { (fault : BoardFault) → (result ≡ Err (look_up.Board fault)) ↔ IsFaulty text.now fault }
+{
+    // That a text has one fault at most is what this call tells the proof.
+    one_board_fault_is_due();
+    let board = Board::parse(text)?;
+    let shelf = load_parallel(rt, folder, alloc)?.shelf;
+    // That the levels are a shelf is what this call tells the proof.
+    let _levels = shelf.levels();
+    Ok(shelf.entry(&board)?)
+}
+
+/// Prints the entry of a board, or the refusal.
+pub fn run_ask<T: Threads + Sync, F: Folder, W: Write>(
+    rt: &T,
+    folder: &mut F,
+    alloc: Global,
+    board: &str,
+    writer: &mut W,
+) -> u8
+    ensures status { result ≤ 1 }
+    ensures found { result ≡ 0 → PrintsEntry (F.stands folder.old) board.now (W.contents writer.old) (W.contents writer.new) }
+    ensures same { Same (F.stands folder.old) (F.stands folder.new) }
+{
+    match look_up(rt, folder, alloc, board.as_bytes()) {
+        Ok(entry) => {
+            if print_bytes(writer, line_of_entry(entry).as_slice()) {
+                0
+            } else {
+                1
+            }
+        }
+        Err(fault) => {
+            print(writer, &Refused(fault));
+            1
+        }
+    }
+}
+
+/// Verifies the levels of a folder, and prints a line for each and one for all. A refusal is
+/// printed alone.
+pub fn run_verify<T: Threads + Sync, F: Folder, W: Write>(
+    rt: &T,
+    folder: &mut F,
+    alloc: Global,
+    writer: &mut W,
+) -> u8
+    ensures status { result ≤ 1 }
+    ensures verified { result ≡ 0 → PrintsFolder (F.stands folder.old) (W.contents writer.old) (W.contents writer.new) }
+    ensures same { Same (F.stands folder.old) (F.stands folder.new) }
+{
+    let stored = match load_parallel(rt, folder, alloc) {
+        Ok(stored) => stored,
+        Err(fault) => {
+            print(writer, &Refused(fault));
+            return 1;
+        }
+    };
+    if !print_levels(&stored.shelf, writer) {
+        return 1;
+    }
+    let levels = usize::from(stored.shelf.levels());
+    let digest = stored.digest;
+    if print(writer, &Summary { levels, digest }) {
+        0
+    } else {
+        1
+    }
+}
+
+/// Prints the line of each level, and says whether the writer took them.
+fn print_levels<W: Write>(shelf: &Shelf, writer: &mut W) -> bool
+    ensures { result ≡ true → IsShelf shelf.now × Appends (W.contents writer.old) (W.contents writer.new) (right_lines shelf.now) }
+{
+    for level in 0..shelf.levels() {
+        let limit = shelf.level(level).limit();
+        if !print(writer, &RightLevel { level, limit }) {
+            return false;
+        }
+    }
+    true
+}

@@ -1,0 +1,162 @@
+//! The command `judge`: where a play stands, and its outcome.
+
+ghost use Rattle.std.specs.Prelude.{◌≡◌, ◌↔◌, ℤ, IfOk, IfErr, Some};
+ghost use Rattle.awari_game.specs.Plays.{Standing, IsOutcome};
+ghost use Rattle.awari_game.specs.Shown.{IsShown};
+ghost use Rattle.awari_answers.specs.declared.judgements.JudgeFault.TheVariants as judge_fault;
+ghost use Rattle.awari_answers.specs.Judgement.{IsJudgement, IsJudgeFault, pit_named};
+
+use awari_board::{Board, BoardFault, MoveFault};
+use awari_game::Game;
+use std::fmt;
+use thiserror::Error;
+
+/// Where a play stands.
+#[derive(Clone, Copy, Debug, PartialEq, Eq)]
+pub struct Judgement {
+    /// The position, as the player to move sees it.
+    pub board: Board,
+    /// The stones that the first mover captured less those of the second.
+    pub running: i16,
+    /// The plies since the last capture, or since the start.
+    pub quiet: u64,
+    /// The outcome in stones, as the first mover sees it, if the play has come to one.
+    pub outcome: Option<i16>,
+}
+
+/// Why a play could not be judged. Printed, it is the fault inside it, and the number of the move.
+#[derive(Clone, Copy, Debug, PartialEq, Eq, Error)]
+pub enum JudgeFault {
+    /// The text is no board.
+    Board { fault: BoardFault },
+    /// The move of this number, counted from 1, can't be played.
+    Move { fault: MoveFault, number: usize },
+}
+
+impl fmt::Display for JudgeFault {
+    ghost use Rattle.std.specs.Prelude.{Some};
+    ghost use Rattle.awari_answers.specs.Judgement.{judge_fault_text};
+
+    ghost output = { λ fault. Some (judge_fault_text fault) };
+
+    fn fmt<W: fmt::Write>(&self, f: &mut fmt::Formatter<W>) -> fmt::Result {
+        match *self {
+            JudgeFault::Board { fault } => write!(f, "{fault}"),
+            JudgeFault::Move { fault, number } => write!(f, "{fault} at {number}"),
+        }
+    }
+}
+
+impl From<BoardFault> for JudgeFault {
+    ghost from_gives = { λ fault e. e ≡ judge_fault.Board fault };
+
+    fn from(fault: BoardFault) -> Self {
+        JudgeFault::Board { fault }
+    }
+}
+
+/// Plays the moves from the board that `text` spells, and judges where that stands: with the
+/// outcome where the play has ended, or once more than `limit` plies captured nothing. Each byte of
+/// `moves` is the digit of a pit; any other byte is no pit's. Refused are a text that is no board,
+/// as [`Board::parse`] refuses it, and the first move that can't be played. It takes no memory.
+pub fn judge(text: &[u8], limit: u32, moves: &[u8]) -> Result<Judgement, JudgeFault>
+    ensures judged { IfOk result (IsJudgement text.now limit moves.now) }
+    ensures fault { IfErr result (IsJudgeFault text.now moves.now) }
+{
+    let board = Board::parse(text)?;
+    let mut game = Game::start(board);
+    for (index, byte) in moves.iter().enumerate() {
+        match game.step(pit_named(*byte)) {
+            Ok(()) => {}
+            Err(fault) => {
+                return Err(JudgeFault::Move {
+                    fault,
+                    number: index + 1,
+                });
+            }
+        }
+    }
+    Ok(judgement_of(&game, limit))
+}
+
+/// Where the game stands.
+fn judgement_of(game: &Game, limit: u32) -> Judgement
+    ensures board { result.board ≡ game.now.board }
+    ensures running { result.running ≡ game.now.running }
+    ensures quiet { result.quiet ≡ game.now.quiet }
+    ensures outcome { (s : Standing) (x : ℤ) → IsShown game.now s → (result.outcome ≡ Some x) ↔ IsOutcome limit s x }
+{
+    Judgement {
+        board: game.board(),
+        running: game.running(),
+        quiet: game.quiet(),
+        outcome: game.outcome(limit),
+    }
+}
+
+/// The pit that a byte names, or 255, which is none.
+fn pit_named(byte: u8) -> u8
+    ensures { result ≡ pit_named byte }
+{
+    match byte {
+        b'0'..=b'9' => byte - b'0',
+        _ => 255,
+    }
+}
+
+/// What `judge` prints, without the last line feed: four lines, or the refusal.
+#[derive(Clone, Copy)]
+pub struct Judged(pub Result<Judgement, JudgeFault>);
+
+impl fmt::Display for Judged {
+    ghost use Rattle.std.specs.Prelude.{Some};
+    ghost use Rattle.awari_answers.specs.Judgement.{judge_text};
+
+    ghost output = { λ judged. Some (judge_text judged.0) };
+
+    fn fmt<W: fmt::Write>(&self, f: &mut fmt::Formatter<W>) -> fmt::Result {
+        match self.0 {
+            Ok(judgement) => write!(f, "{judgement}"),
+            Err(fault) => write!(f, "refused {fault}"),
+        }
+    }
+}
+
+impl fmt::Display for Judgement {
+    ghost use Rattle.std.specs.Prelude.{Some};
+    ghost use Rattle.awari_answers.specs.Judgement.{judgement_text};
+
+    ghost output = { λ judgement. Some (judgement_text judgement) };
+
+    fn fmt<W: fmt::Write>(&self, f: &mut fmt::Formatter<W>) -> fmt::Result {
+        let Judgement {
+            board,
+            running,
+            quiet,
+            outcome,
+        } = *self;
+        let outcome = Outcome(outcome);
+        write!(
+            f,
+            "board {board}\nrunning {running}\nquiet {quiet}\noutcome {outcome}"
+        )
+    }
+}
+
+/// An outcome, or that there is none.
+#[derive(Clone, Copy)]
+struct Outcome(Option<i16>);
+
+impl fmt::Display for Outcome {
+    ghost use Rattle.std.specs.Prelude.{Some};
+    ghost use Rattle.awari_answers.specs.Judgement.{outcome_text};
+
+    ghost output = { λ outcome. Some (outcome_text outcome.0) };
+
+    fn fmt<W: fmt::Write>(&self, f: &mut fmt::Formatter<W>) -> fmt::Result {
+        match self.0 {
+            Some(outcome) => write!(f, "{outcome}"),
+            None => f.write_str("none"),
+        }
+    }
+}

@@ -1,0 +1,90 @@
+//! The command `text`: the levels in a folder as the text of tables.
+
+ghost use Rattle.std.specs.Prelude.{◌≡◌, ◌≤◌, ◌<◌, ◌↔◌, true, IsTrue, IfSome, OnOk, length};
+ghost use Rattle.awari_table.specs.Counts.{inner_of};
+ghost use Rattle.awari_table.specs.Shelves.{IsShelf};
+ghost use Rattle.awari_folder.specs.Contents.{Same};
+ghost use Rattle.awari_answers.specs.Texts.{AppendsText, PrintsText};
+
+use crate::printing::refuse;
+use awari_folder::{Folder, load_parallel};
+use awari_table::{Counted, NotYet, Shelf, write_level_text, write_shelf_text};
+use core::mem::replace_with;
+use std::alloc::Global;
+use std::io::{self, Write};
+use std::thread::Threads;
+
+/// Prints the text of the levels in a folder, or of the one of this number, or the refusal: 59 where the
+/// folder has no level of this number.
+pub fn run_text<T: Threads + Sync, F: Folder, W: Write>(
+    rt: &T,
+    folder: &mut F,
+    alloc: Global,
+    level: Option<u8>,
+    writer: &mut W,
+) -> u8
+    ensures status { result ≤ 1 }
+    ensures text { result ≡ 0 → PrintsText (F.stands folder.old) level (W.contents writer.old) (W.contents writer.new) }
+    ensures same { Same (F.stands folder.old) (F.stands folder.new) }
+{
+    let stored = match load_parallel(rt, folder, alloc) {
+        Ok(stored) => stored,
+        Err(fault) => return refuse(writer, fault),
+    };
+    if !has_level(&stored.shelf, level) {
+        let levels = stored.shelf.levels();
+        return refuse(writer, NotYet { levels });
+    }
+    if print_text(&stored.shelf, level, writer) {
+        0
+    } else {
+        1
+    }
+}
+
+/// Whether the shelf has the level of this number, where there is one.
+fn has_level(shelf: &Shelf, level: Option<u8>) -> bool
+    ensures has { IsTrue result ↔ IfSome level (λ number. number < length shelf.now) }
+    ensures shelf { IsShelf shelf.now }
+{
+    let levels = shelf.levels();
+    match level {
+        None => true,
+        Some(number) => number < levels,
+    }
+}
+
+/// Prints the text of the shelf, or of its level of this number, and says whether the writer took it.
+fn print_text<W: Write>(shelf: &Shelf, level: Option<u8>, writer: &mut W) -> bool
+    requires { IfSome level (λ number. number < length shelf.now) }
+    ensures { result ≡ true → AppendsText shelf.now level (W.contents writer.old) (W.contents writer.new) }
+{
+    replace_with(writer, (shelf, level), |writer, (shelf, level)| {
+        text_by(shelf, level, writer)
+    })
+}
+
+/// The writer with the text written, so far as that went.
+fn text_by<W: Write>(shelf: &Shelf, level: Option<u8>, writer: W) -> (W, bool)
+    requires { IfSome level (λ number. number < length shelf.now) }
+    ensures { result.1 ≡ true → AppendsText shelf.now level (W.contents writer) (W.contents result.0) }
+{
+    let mut output = Counted::new(writer);
+    let written = write_text(shelf, level, &mut output).is_ok() && output.flush().is_ok();
+    (output.into_inner(), written)
+}
+
+/// Writes the text of the shelf, or of its level of this number.
+fn write_text<W: Write>(shelf: &Shelf, level: Option<u8>, output: &mut Counted<W>) -> io::Result<()>
+    requires { IfSome level (λ number. number < length shelf.now) }
+    ensures { OnOk result (AppendsText shelf.now level (W.contents (inner_of output.old)) (W.contents (inner_of output.new))) }
+{
+    // That the levels are a shelf is what this call tells the proof.
+    let _levels = shelf.levels();
+    let Some(number) = level else {
+        write_shelf_text(shelf, output)?;
+        return Ok(());
+    };
+    write_level_text(shelf.level(number), output)?;
+    Ok(())
+}

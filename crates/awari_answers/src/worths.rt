@@ -1,0 +1,64 @@
+//! The command `moves`: what each legal move of a board is worth, by the levels in a folder.
+
+ghost use Rattle.std.specs.Prelude.{◌≡◌, ◌≤◌, ◌↔◌, Err, IfOk};
+ghost use Rattle.awari_board.specs.BoardFault.{IsFaulty};
+ghost use Rattle.awari_board.specs.declared.text.BoardFault.{BoardFault};
+ghost use Rattle.awari_folder.specs.Contents.{Same};
+ghost use Rattle.awari_answers.specs.Worths.{IsWeighedIn, PrintsWorths};
+ghost use Rattle.awari_answers.specs.declared.folders.LookUpFault.TheVariants as look_up;
+
+use crate::folders::LookUpFault;
+use crate::printing::{print_bytes, refuse};
+use awari_board::{Board, one_board_fault_is_due};
+use awari_desk::{Weighed, weigh};
+use awari_folder::{Folder, load_parallel};
+use std::alloc::Global;
+use std::io::Write;
+use std::thread::Threads;
+
+/// What the board is worth that `text` spells, and each of its legal moves, by the levels in the folder.
+/// The text is read before the folder is: where it is no board it is refused for that, whatever the
+/// folder holds.
+fn weigh_in<T: Threads + Sync, F: Folder>(
+    rt: &T,
+    folder: &mut F,
+    alloc: Global,
+    text: &[u8],
+) -> Result<Weighed, LookUpFault>
+    ensures weighed { IfOk result (IsWeighedIn (F.stands folder.old) text.now) }
+    ensures same { Same (F.stands folder.old) (F.stands folder.new) }
+    ensures board { (fault : BoardFault) → (result ≡ Err (look_up.Board fault)) ↔ IsFaulty text.now fault }
+{
+    // That a text has one fault at most is what this call tells the proof.
+    one_board_fault_is_due();
+    let board = Board::parse(text)?;
+    let shelf = load_parallel(rt, folder, alloc)?.shelf;
+    // That the levels are a shelf is what this call tells the proof.
+    let _levels = shelf.levels();
+    Ok(weigh(&shelf, &board)?)
+}
+
+/// Prints what each legal move of a board is worth, a line each, or that the play has ended there, or
+/// the refusal.
+pub fn run_moves<T: Threads + Sync, F: Folder, W: Write>(
+    rt: &T,
+    folder: &mut F,
+    alloc: Global,
+    board: &str,
+    writer: &mut W,
+) -> u8
+    ensures status { result ≤ 1 }
+    ensures same { Same (F.stands folder.old) (F.stands folder.new) }
+    ensures found { result ≡ 0 → PrintsWorths (F.stands folder.old) board.now (W.contents writer.old) (W.contents writer.new) }
+{
+    match weigh_in(rt, folder, alloc, board.as_bytes()) {
+        Ok(weighed) => {
+            if print_bytes(writer, weighed.text().as_slice()) {
+                0
+            } else {
+                1
+            }
+        }
+        Err(fault) => refuse(writer, fault),
+    }
+}

@@ -1,0 +1,10 @@
+pub mod Bits
+pub mod Nearest
+pub mod RunBounds
+pub mod FreshLists
+pub mod FirstBits
+pub mod BlockLemmas
+pub mod FreshBlocks
+pub mod Opening
+pub mod Freshness
+pub mod Settling

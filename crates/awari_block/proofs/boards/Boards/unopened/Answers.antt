@@ -1,0 +1,19 @@
+use Rattle.std.proofs.Common.{◌≡◌, ◌+◌, [], ap, sym, ◌∙◌, rules}
+use Rattle.std.proofs.lemmas.Bool.{false≢true}
+use Rattle.awari_block.specs.Fresh.{IsFresh, fresh_of}
+use Rattle.awari_block.specs.Part.{part_of}
+use Rattle.awari_block.proofs.FreshBlocks.{none_fresh}
+use Rattle.awari_block.proofs.boards.Boards.unopened.Goals as goal
+
+pub invariant_of-result : goal.invariant_of-result
+invariant_of-result c =
+    let cells = c.args.cells.items in
+    let marks : IsFresh cells c.in_ok-fresh.fresh = c.in_ok-fresh.ensures.sound cells (search rules) in
+    let none : fresh_of c.args.start cells c.in_ok-fresh.fresh ≡ [] =
+    none_fresh c.args.start cells c.in_ok-fresh.fresh.words.items (λ k marked. absurd (false≢true (sym (c.in_ok-fresh.ensures.none k) ∙ marked))) in
+    search rules
+
+pub returns : goal.returns
+returns c =
+    ap (part_of (record { level = c.args.level; gain = c.args.level + 1; wave = 0; start = c.args.start }) c.args.cells.items)
+    (none_fresh c.args.start c.args.cells.items c.in_ok-fresh.fresh.words.items (λ k marked. absurd (false≢true (sym (c.in_ok-fresh.ensures.none k) ∙ marked))))

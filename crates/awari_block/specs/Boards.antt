@@ -1,0 +1,52 @@
+-- What becomes of the boards of a block, and what is needed for it. The contracts of `Boards` go by this; those of a part do not.
+use Rattle.std.specs.Prelude.{◌≡◌, ℕ, ◌-◌, ◌^◌, ◌<◌, ◌≤◌, ◌∷◌, length, All, slice_set}
+use Rattle.std.specs.List.Sorted.{IsPermutation}
+use Rattle.awari_block.specs.Tally.{with_pit}
+use Rattle.awari_block.specs.Steps.{after_note}
+use Rattle.awari_block.specs.Cells.{Fits, Keeps, SettlesTimely, status_of}
+use Rattle.awari_block.specs.Blocks.{due_dist, due_rank, IsBlock, KeepSettled}
+use Rattle.awari_block.specs.Part.{Part, AreFresh, InBlock, JoinsFresh, SameLevel, stored_at, unspread}
+use Rattle.awari_block.specs.declared.cells.Cell.{Cell}
+use Rattle.awari_block.specs.declared.notes.Kind.{Kind}
+use Rattle.awari_block.specs.declared.places.Place.{Place}
+
+-- where a part stands
+abbrev pub place_of : Part → Place
+place_of part = record { level = part.level; gain = part.gain; wave = part.wave; start = part.start }
+
+-- The part stands where it did, over the same boards. Settled boards keep value and distance, and those that are newly settled
+-- join the fresh ones, so that none becomes spread.
+pub record Settles (old new : Part) : Type 0 where
+  pub same : SameLevel old new
+  pub size : length new.cells ≡ length old.cells
+  pub stays : KeepSettled old.start old.cells new.cells
+  pub joins : JoinsFresh old new
+  pub unspread : unspread new ≡ unspread old
+  pub fresh : AreFresh old → AreFresh new
+
+-- this cell may take the place of that of the board of this rank
+pub record CanPut (part : Part) (rank : ℕ) (cell : Cell) : Type 0 where
+  pub held : InBlock part rank
+  pub fits : Fits (place_of part) cell
+  pub keeps : Keeps (stored_at part rank) cell
+  pub timely : SettlesTimely (place_of part) (stored_at part rank) cell
+
+-- a note of this pit, of the open gain and distance, may be heard for the board of this rank
+pub record CanHear (part : Part) (target pit : ℕ) : Type 0 where
+  pub held : InBlock part target
+  pub own : pit < 6
+  pub opened : part.gain ≤ part.level
+  pub near : part.wave < 2 ^ 32 - 1
+
+-- it is heard: only the cell of that board changes, by what the note says
+pub record HearsNote (old new : Part) (target pit : ℕ) (kind : Kind) : Type 0 where
+  pub cells : new.cells ≡ slice_set old.cells (target - old.start) (stored_at new target)
+  pub heard : (stored_at new target).heard ≡ with_pit (stored_at old target).heard pit
+  pub status : status_of (stored_at new target) ≡ after_note (status_of (stored_at old target)) kind old.gain old.wave
+
+-- The first fresh board is of the open distance and of this rank, and is fresh no longer.
+pub record TakesFirst (old new : Part) (rank : ℕ) : Type 0 where
+  pub rest : new ≡ record old { fresh = new.fresh }
+  pub moved : IsPermutation ((old.wave, rank) ∷ new.fresh) old.fresh
+  pub first : All (λ f. (old.wave ≤ due_dist f) × (due_dist f ≡ old.wave → rank ≤ due_rank f)) old.fresh
+  pub sound : IsBlock (place_of old) old.cells old.fresh

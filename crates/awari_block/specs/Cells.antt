@@ -1,0 +1,60 @@
+-- What a stored cell means.
+use Rattle.std.specs.Prelude.{◌≡◌, ℕ, ◌-◌, ◌^◌, ◌<◌, ◌≤◌, ◌⊎◌, Bool, true, false, ℤ, pos, neg_ℤ, ◌≤ℤ◌, Some, None}
+use Rattle.awari_block.specs.Tally.{Status, Ended, Open, Settled}
+use Rattle.awari_block.specs.Tally as tally
+use Rattle.awari_block.specs.declared.cells.Cell.{Cell}
+use Rattle.awari_block.specs.declared.cells.Mark.{Mark}
+use Rattle.awari_block.specs.declared.cells.Mark.TheVariants as mark
+use Rattle.awari_block.specs.declared.places.Place.{Place}
+
+abbrev pub status_by : Mark → ℕ → ℤ → ℕ → Status
+status_by mark.Ended left score dist = Ended score
+status_by mark.Quiet left score dist = Open left None dist
+status_by mark.Capturing left score dist = Open left (Some score) dist
+status_by mark.Settled left score dist = Settled score dist
+
+abbrev pub status_of : Cell → Status
+status_of c = status_by c.mark c.left c.score c.dist
+
+abbrev pub is_settled : Mark → Bool
+is_settled mark.Settled = true
+is_settled mark.Quiet = false
+is_settled mark.Capturing = false
+is_settled mark.Ended = false
+
+abbrev pub view_of : Cell → tally.Cell
+view_of c = record { heard = c.heard; status = status_of c }
+
+-- v is at most n stones, either way
+abbrev pub IsWithin : ℕ → ℤ → Type 0
+IsWithin n v = (neg_ℤ (pos n) ≤ℤ v) × (v ≤ℤ pos n)
+
+-- v is at least t stones, either way
+abbrev pub IsBeyond : ℕ → ℤ → Type 0
+IsBeyond t v = (pos t ≤ℤ v) ⊎ (v ≤ℤ neg_ℤ (pos t))
+
+-- v is t stones, either way
+abbrev pub IsEither : ℕ → ℤ → Type 0
+IsEither t v = (v ≡ pos t) ⊎ (v ≡ neg_ℤ (pos t))
+
+-- Of the level of n stones at the open gain t: a settled value is between t and n stones, a capture gains at most n, an end
+-- gains n, each either way, and the distance of an open cell can still grow by one.
+abbrev pub FitsBy : Mark → ℕ → ℕ → ℤ → ℕ → Type 0
+FitsBy mark.Settled n t score dist = IsWithin n score × IsBeyond t score
+FitsBy mark.Quiet n t score dist = dist < 2 ^ 32 - 1
+FitsBy mark.Capturing n t score dist = (dist < 2 ^ 32 - 1) × IsWithin n score
+FitsBy mark.Ended n t score dist = IsEither n score
+
+abbrev pub Fits : Place → Cell → Type 0
+Fits place c = FitsBy c.mark place.level place.gain c.score c.dist
+
+-- a settled cell keeps value and distance
+abbrev pub Keeps : Cell → Cell → Type 0
+Keeps old new = is_settled old.mark ≡ true → (new.mark ≡ old.mark) × (new.score ≡ old.score) × (new.dist ≡ old.dist)
+
+-- what is newly settled has the open gain as value, either way, and a distance that is not below the open one
+abbrev pub IsTimely : Place → Cell → Type 0
+IsTimely place c = IsEither place.gain c.score × (place.wave ≤ c.dist)
+
+abbrev pub SettlesTimely : Place → Cell → Cell → Type 0
+SettlesTimely place old new = is_settled old.mark ≡ false → is_settled new.mark ≡ true → IsTimely place new

@@ -1,0 +1,11 @@
+pub mod Notes
+pub mod Tally
+pub mod Steps
+pub mod Cells
+pub mod Blocks
+pub mod Fresh
+pub mod Part
+pub mod Boards
+pub mod BoardsFields
+pub mod Leaving
+pub mod ClosedFields

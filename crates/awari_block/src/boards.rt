@@ -1,0 +1,258 @@
+//! The boards of a block: what is known of each, which are fresh, and where their analysis stands.
+
+ghost use Rattle.std.specs.Prelude.{◌≡◌, ℕ, ℤ, ◌+◌, ◌-◌, ◌^◌, ◌<◌, ◌≤◌, ◌↔◌, IsTrue, IfOk, IfSome, All, Some, [], length, vec_len, slice_set, slice_index_or};
+ghost use Rattle.awari_rank.specs.Rank.{size_of};
+ghost use Rattle.awari_block.specs.Cells.{Fits, FitsBy, status_of};
+ghost use Rattle.awari_block.specs.Steps.{after_opening};
+ghost use Rattle.awari_block.specs.Blocks.{due_dist, no_cell};
+ghost use Rattle.awari_block.specs.Part.{Part as PartView, AreFresh, InBlock, IsLeastDue, settled_at, stored_at, IsClosed};
+ghost use Rattle.awari_block.specs.Boards.{CanHear, CanPut, HearsNote, Settles, TakesFirst, place_of};
+
+use crate::cells::Cell;
+use crate::closed::ClosedPart;
+use crate::fresh::Fresh;
+use crate::notes::{Kind, Note};
+use crate::places::Place;
+use std::alloc::{AllocError, Global};
+use std::marker::Model;
+
+/// The boards of a block: where the analysis of the level stands, a cell for each board, and which
+/// boards are fresh, that is, settled and not spread yet.
+///
+/// The three go together. The fresh boards are ordered by the distances in the cells, and what a cell
+/// may hold goes by the open gain.
+#[derive(Drop)]
+pub struct Boards {
+    place: Place,
+    cells: Vec<Cell>,
+    fresh: Fresh,
+}
+
+impl Model for Boards {
+    ghost use Rattle.awari_block.specs.Fresh.{fresh_of};
+    ghost use Rattle.awari_block.specs.Part.{Part as PartView, part_of};
+
+    ghost Value = { PartView };
+
+    ghost use Rattle.awari_block.specs.BoardsFields.{IsBoards};
+
+    ghost view = { λ a. part_of a.place a.cells.items (fresh_of a.place.start a.cells.items a.fresh) };
+
+    ghost invariant = { IsBoards };
+}
+
+impl Boards {
+    /// The boards of a block of this level, from this rank on, with no gain open and none of them
+    /// fresh. It takes the memory that the fresh boards will ever need, a little more than a bit for each
+    /// board, and is refused where that was.
+    pub fn unopened(
+        alloc: Global,
+        level: u8,
+        start: u32,
+        cells: Vec<Cell>,
+    ) -> Result<Boards, AllocError>
+        requires low { level ≤ 24 }
+        requires short { start + vec_len cells < 2 ^ 32 }
+        requires within { start + vec_len cells ≤ size_of level }
+        requires fit { All (λ c. FitsBy c.mark level (level + 1) c.score c.dist) cells.items }
+        ensures { IfOk result (λ boards. boards ≡ record { level = level; gain = level + 1; wave = 0; start = start; cells = cells.items; fresh = [] }) }
+    {
+        let fresh = Fresh::new(alloc, cells.len())?;
+        Ok(Boards {
+            place: Place {
+                level,
+                gain: level + 1,
+                wave: 0,
+                start,
+            },
+            cells,
+            fresh,
+        })
+    }
+
+    /// Where their analysis stands.
+    #[inline(always)]
+    pub fn place(&self) -> Place
+        ensures place { result ≡ place_of self.now }
+        ensures low { self.now.level ≤ 24 }
+        ensures range { (1 ≤ self.now.gain) × (self.now.gain ≤ self.now.level + 1) }
+    {
+        self.place
+    }
+
+    /// Their ranks: from the first number up to, not including, the second.
+    #[inline(always)]
+    pub fn block(&self) -> (u32, u32)
+        ensures start { result.0 ≡ self.now.start }
+        ensures end { result.1 ≡ self.now.start + length self.now.cells }
+    {
+        let start = self.place.start;
+        (start, start + self.cells.len() as u32)
+    }
+
+    /// Whether the board of this rank is one of them.
+    #[inline(always)]
+    pub fn holds(&self, rank: u32) -> bool
+        ensures { IsTrue result ↔ InBlock self.now rank }
+    {
+        self.place.start <= rank && ((rank - self.place.start) as usize) < self.cells.len()
+    }
+
+    /// What is known of the board of this rank.
+    #[inline(always)]
+    pub fn cell(&self, rank: u32) -> Cell
+        requires held { InBlock self.now rank }
+        ensures stored { result ≡ stored_at self.now rank }
+        ensures fits { Fits (place_of self.now) result }
+    {
+        self.cells[(rank - self.place.start) as usize]
+    }
+
+    /// Whether none is fresh.
+    pub fn idle(&self) -> bool
+        ensures { IsTrue result ↔ (self.now.fresh ≡ []) }
+    {
+        self.fresh.len() == 0
+    }
+
+    /// How many are fresh.
+    pub fn fresh_boards(&self) -> usize
+        ensures { result ≡ length self.now.fresh }
+    {
+        self.fresh.len()
+    }
+
+    /// The least distance of a fresh board, none where no board is fresh.
+    pub fn due(&self) -> Option<u32>
+        ensures least { IsLeastDue self.now result }
+        ensures timely { IfSome result (λ dist. self.now.wave ≤ dist) }
+        ensures settled { IfSome result (λ dist. (rank : ℕ) × (v : ℤ) × InBlock self.now rank × (settled_at self.now rank ≡ Some (v, dist))) }
+    {
+        match self.fresh.first() {
+            Some((dist, _index)) => Some(dist),
+            None => None,
+        }
+    }
+
+    /// Takes the first fresh board from the fresh ones, and gives its rank. It has the open distance.
+    pub fn take_first(&mut self) -> u32
+        requires due { IsLeastDue self.old (Some self.old.wave) }
+        ensures first { TakesFirst self.old self.new result }
+        ensures held { InBlock self.new result }
+        ensures fresh { AreFresh self.new }
+    {
+        let Some((_dist, index)) = self.fresh.first() else {
+            unreachable!()
+        };
+        self.fresh.remove(self.cells.as_slice(), index);
+        self.place.start + index as u32
+    }
+
+    /// The note of the open gain and distance that is due to the board of this rank, in this block
+    /// or another.
+    #[inline(always)]
+    pub fn note(&self, target: u32, pit: u8, kind: Kind) -> Note
+        ensures { result ≡ record { level = self.now.level; target = target; pit = pit; kind = kind; gain = self.now.gain; dist = self.now.wave } }
+    {
+        Note {
+            level: self.place.level,
+            target,
+            pit,
+            kind,
+            gain: self.place.gain,
+            dist: self.place.wave,
+        }
+    }
+
+    /// Hears for the board of this rank that its quiet move from `pit` leads to a won or a lost
+    /// board, of the open gain and distance. That may settle it.
+    #[inline(always)]
+    pub fn hear(&mut self, target: u32, pit: u8, kind: Kind)
+        requires { CanHear self.old target pit }
+        ensures settles { Settles self.old self.new }
+        ensures hears { HearsNote self.old self.new target pit kind }
+    {
+        let cell = self.cell(target);
+        let next = cell.with_note(self.place, pit, kind);
+        self.put(target, next);
+    }
+
+    /// Opens the next smaller gain: the boards that a capture settles at that gain are settled, and
+    /// so are fresh. It needs no board to be fresh.
+    pub fn open_gain(&mut self, gain: u8)
+        requires idle { self.old.fresh ≡ [] }
+        requires next { gain + 1 ≡ self.old.gain }
+        requires positive { 1 ≤ gain }
+        ensures settles { Settles (record self.old { gain = gain; wave = 0 }) self.new }
+        ensures heard { (k : ℕ) → k < length self.old.cells → (slice_index_or self.new.cells k no_cell).heard ≡ (slice_index_or self.old.cells k no_cell).heard }
+        ensures status { (k : ℕ) → k < length self.old.cells → status_of (slice_index_or self.new.cells k no_cell) ≡ after_opening (status_of (slice_index_or self.old.cells k no_cell)) self.old.level gain }
+        ensures fresh { AreFresh self.new }
+    {
+        self.place = Place {
+            gain,
+            wave: 0,
+            ..self.place
+        };
+        self.open_cells();
+    }
+
+    /// Opens a greater distance. It needs no fresh board to have a smaller one.
+    pub fn open_wave(&mut self, dist: u32)
+        requires farther { self.old.wave < dist }
+        requires nearest { All (λ f. dist ≤ due_dist f) self.old.fresh }
+        ensures wave { self.new ≡ record self.old { wave = dist } }
+        ensures fresh { AreFresh self.new }
+    {
+        self.place = Place {
+            wave: dist,
+            ..self.place
+        };
+    }
+
+    /// What is kept of them once all gains are closed: gain 1 is open, and no board is fresh.
+    pub fn close(self) -> ClosedPart
+        requires { IsClosed self }
+        ensures { result ≡ self }
+    {
+        ClosedPart {
+            place: self.place,
+            cells: self.cells,
+        }
+    }
+
+    /// Opens the gain of the place in each cell, in order of rank.
+    fn open_cells(&mut self)
+        requires gain { self.old.gain ≤ self.old.level }
+        requires opened { self.old.wave ≡ 0 }
+        ensures settles { Settles self.old self.new }
+        ensures heard { (k : ℕ) → k < length self.old.cells → (slice_index_or self.new.cells k no_cell).heard ≡ (slice_index_or self.old.cells k no_cell).heard }
+        ensures status { (k : ℕ) → k < length self.old.cells → status_of (slice_index_or self.new.cells k no_cell) ≡ after_opening (status_of (slice_index_or self.old.cells k no_cell)) self.old.level self.old.gain }
+    {
+        let place = self.place();
+        let (start, end) = self.block();
+        for rank in start..end {
+            // Most cells have nothing to open, and are passed over without being written.
+            let cell = self.cell(rank);
+            if !cell.awaits_gain(place) {
+                continue;
+            }
+            self.put(rank, cell.with_gain(place));
+        }
+    }
+
+    /// Puts the cell of the board of this rank, which joins the fresh boards where it is newly
+    /// settled.
+    #[inline(always)]
+    fn put(&mut self, rank: u32, cell: Cell)
+        requires { CanPut self.old rank cell }
+        ensures settles { Settles self.old self.new }
+        ensures cells { self.new.cells ≡ slice_set self.old.cells (rank - self.old.start) cell }
+    {
+        let index = (rank - self.place.start) as usize;
+        let was_settled = self.cells[index].is_settled();
+        self.cells[index] = cell;
+        if cell.is_settled() && !was_settled {
+            self.fresh.insert(self.cells.as_slice(), index);
+        }
+    }
+}

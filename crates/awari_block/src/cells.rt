@@ -1,0 +1,194 @@
+//! What is kept of each board of a block.
+
+ghost use Rattle.std.specs.Prelude.{◌≡◌, ℕ, false, ◌+◌, ◌-◌, ◌^◌, ◌<◌, ◌≤◌, ◌↔◌, IsTrue, IfSome, pos, neg_ℤ, ◌≤ℤ◌};
+ghost use Rattle.awari_block.specs.Tally.{Open, has_pit, with_pit};
+ghost use Rattle.awari_block.specs.Cells.{status_of, is_settled, Fits, IsBeyond, IsWithin, Keeps, SettlesTimely};
+ghost use Rattle.awari_block.specs.Part.{settled_by};
+ghost use Rattle.awari_block.specs.Steps.{after_note, after_opening};
+ghost use Rattle.awari_block.specs.declared.places.Place.{Place as PlaceView};
+
+use crate::notes::Kind;
+use crate::places::Place;
+
+/// What a cell knows of its board.
+#[derive(Clone, Copy, PartialEq)]
+pub enum Mark {
+    /// No move is legal, and the gain of the end, which is the score, is not open yet.
+    Ended,
+    /// No move captures, and the board is not settled.
+    Quiet,
+    /// The best capture gains the score, and the board is not settled.
+    Capturing,
+    /// The score is the board's value.
+    Settled,
+}
+
+/// The cell of a board, in eight bytes. Once it is settled it keeps mark, score and distance.
+#[derive(Clone, Copy)]
+pub struct Cell {
+    /// The pits of which a note was heard, a bit for each.
+    pub heard: u8,
+    /// How many quiet moves have no Won note.
+    pub left: u8,
+    pub mark: Mark,
+    /// Stones, for the mover.
+    pub score: i8,
+    /// The greatest distance of a Won note, or the distance of a settled board, in plies.
+    pub dist: u32,
+}
+
+impl Cell {
+    /// The cell of a board of which no note was heard.
+    pub fn unheard(mark: Mark, left: u8, score: i8) -> Cell
+        ensures { result ≡ record { heard = 0; left = left; mark = mark; score = score; dist = 0 } }
+    {
+        Cell {
+            heard: 0,
+            left,
+            mark,
+            score,
+            dist: 0,
+        }
+    }
+
+    /// Whether the board is settled.
+    pub(crate) fn is_settled(&self) -> bool
+        ensures { result ≡ is_settled self.now.mark }
+    {
+        self.mark == Mark::Settled
+    }
+
+    /// Value and distance of the board, if it is settled.
+    pub fn settled(&self) -> Option<(i8, u32)>
+        ensures known { result ≡ settled_by (status_of self.now) }
+        ensures ranged { (place : PlaceView) → Fits place self.now → IfSome result (λ s. IsWithin place.level s.0 × IsBeyond place.gain s.0) }
+    {
+        if self.mark == Mark::Settled {
+            Some((self.score, self.dist))
+        } else {
+            None
+        }
+    }
+
+    /// Whether a note of this pit was heard.
+    pub fn has_heard(&self, pit: u8) -> bool
+        requires { pit < 6 }
+        ensures { result ≡ has_pit self.now.heard pit }
+    {
+        self.heard & (1 << pit) != 0
+    }
+
+    /// The cell once the note of this pit and kind, of the open gain and distance, was heard.
+    ///
+    /// A lost board gives the gain at once. A won one leaves one move less that might do better; the
+    /// last, where no capture does better either, settles the board.
+    pub(crate) fn with_note(self, place: Place, pit: u8, kind: Kind) -> Cell
+        requires pit { pit < 6 }
+        requires low { place.level ≤ 24 }
+        requires gain { place.gain ≤ place.level }
+        requires near { place.wave < 2 ^ 32 - 1 }
+        requires fits { Fits place self }
+        ensures heard { result.heard ≡ with_pit self.heard pit }
+        ensures status { status_of result ≡ after_note (status_of self) kind place.gain place.wave }
+        ensures keeps { Keeps self result }
+        ensures timely { SettlesTimely place self result }
+        ensures fits { Fits place result }
+    {
+        let heard = self.heard | (1 << pit);
+        if self.mark == Mark::Settled || self.mark == Mark::Ended {
+            return Cell { heard, ..self };
+        }
+        if kind == Kind::Lost {
+            return Cell {
+                heard,
+                left: 0,
+                mark: Mark::Settled,
+                score: place.gain as i8,
+                dist: place.wave + 1,
+            };
+        }
+        let far = place.wave.max(self.dist);
+        if self.left == 1 && (self.mark == Mark::Quiet || self.score <= -(place.gain as i8)) {
+            return Cell {
+                heard,
+                left: 0,
+                mark: Mark::Settled,
+                score: -(place.gain as i8),
+                dist: far + 1,
+            };
+        }
+        Cell {
+            heard,
+            left: self.left.saturating_sub(1),
+            mark: self.mark,
+            score: self.score,
+            dist: far,
+        }
+    }
+
+    /// Whether the opening of the gain of the place can change the cell.
+    pub(crate) fn awaits_gain(&self, place: Place) -> bool
+        requires low { place.level ≤ 24 }
+        requires gain { place.gain ≤ place.level }
+        requires fits { Fits place self.now }
+        ensures { result ≡ false → after_opening (status_of self.now) place.level place.gain ≡ status_of self.now }
+    {
+        match self.mark {
+            Mark::Settled | Mark::Quiet => false,
+            Mark::Ended => place.gain == place.level,
+            Mark::Capturing => {
+                let gain = place.gain as i8;
+                self.score == gain || self.score == -gain
+            }
+        }
+    }
+
+    /// The cell once the gain of the place is opened. An end with the greatest gain settles the
+    /// board, and so does a capture that gains just that, or that loses just that where each quiet
+    /// move has a Won note.
+    pub(crate) fn with_gain(self, place: Place) -> Cell
+        requires low { place.level ≤ 24 }
+        requires gain { place.gain ≤ place.level }
+        requires opened { place.wave ≡ 0 }
+        requires fits { Fits place self }
+        ensures heard { result.heard ≡ self.heard }
+        ensures status { status_of result ≡ after_opening (status_of self) place.level place.gain }
+        ensures keeps { Keeps self result }
+        ensures timely { SettlesTimely place self result }
+        ensures fits { Fits place result }
+    {
+        match self.mark {
+            Mark::Settled | Mark::Quiet => self,
+            Mark::Ended => {
+                if place.gain == place.level {
+                    Cell {
+                        mark: Mark::Settled,
+                        dist: 0,
+                        ..self
+                    }
+                } else {
+                    self
+                }
+            }
+            Mark::Capturing => {
+                if self.score == place.gain as i8 {
+                    return Cell {
+                        mark: Mark::Settled,
+                        dist: 1,
+                        ..self
+                    };
+                }
+                if self.left == 0 && self.score == -(place.gain as i8) {
+                    return Cell {
+                        mark: Mark::Settled,
+                        dist: self.dist + 1,
+                        ..self
+                    };
+                }
+                self
+            }
+        }
+    }
+}
+
+const _: () = prove!(size_of::<Cell>() == 8);

@@ -1,0 +1,50 @@
+//! What is kept of a part once its gains are all closed.
+
+ghost use Rattle.std.specs.Prelude.{◌≡◌, ◌+◌, length};
+ghost use Rattle.awari_block.specs.Part.{InBlock, settled_at, IsClosed};
+
+use crate::cells::Cell;
+use crate::places::Place;
+use std::marker::Model;
+
+/// A part with all gains closed: gain 1 is open, and no board is fresh. Nothing is heard or spread any
+/// more, so it has the cells alone, which are eight bytes a board.
+#[derive(Drop)]
+pub struct ClosedPart {
+    pub(crate) place: Place,
+    pub(crate) cells: Vec<Cell>,
+}
+
+impl Model for ClosedPart {
+    ghost use Rattle.std.specs.Prelude.{[]};
+    ghost use Rattle.awari_block.specs.Part.{Part as PartView, part_of};
+
+    ghost Value = { PartView };
+
+    ghost use Rattle.awari_block.specs.ClosedFields.{IsClosedPart};
+
+    ghost view = { λ a. part_of a.place a.cells.items [] };
+
+    ghost invariant = { IsClosedPart };
+}
+
+impl ClosedPart {
+    /// Value in stones and distance in plies of the board of this rank, if it is settled. The rank
+    /// is one of the block.
+    pub fn settled(&self, rank: u32) -> Option<(i8, u32)>
+        requires { InBlock self.now rank }
+        ensures { result ≡ settled_at self.now rank }
+    {
+        self.cells[(rank - self.place.start) as usize].settled()
+    }
+
+    /// The ranks of the boards of the block: from the first number up to, not including, the second.
+    pub fn block(&self) -> (u32, u32)
+        ensures start { result.0 ≡ self.now.start }
+        ensures end { result.1 ≡ self.now.start + length self.now.cells }
+        ensures closed { IsClosed self.now }
+    {
+        let start = self.place.start;
+        (start, start + self.cells.len() as u32)
+    }
+}

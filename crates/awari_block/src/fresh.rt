@@ -1,0 +1,420 @@
+//! The fresh boards of a block: those that are settled and not spread.
+
+ghost use Rattle.std.specs.Prelude.{◌≡◌, ◌≢◌, ℕ, ◌+◌, ◌*◌, ◌/◌, ◌%◌, ◌^◌, ◌<◌, ◌≤◌, ◌↔◌, false, true, None, List, length, IfOk, IfSome, IsTrue, slice_index_or, Option, Some};
+ghost use Rattle.std.specs.Int.{bit_at};
+ghost use Rattle.awari_block.specs.declared.cells.Cell.{Cell as CellView};
+ghost use Rattle.awari_block.specs.Fresh.{AreBehind, AreFirst, AreKept, AreOfRun, IsFirstOf, IsFresh, IsNearest, MarksOne, UnmarksOne, dist_at, is_marked, marked_of};
+
+use crate::cells::Cell;
+use crate::words::{next_bit, with_bit, without_bit};
+use std::alloc::{AllocError, Global};
+
+/// Which boards of a block are fresh, by their places in it, and the first of them: those of the
+/// least distance, in order of rank. What their distances are stands in the cells. Sixty-four boards
+/// are a run, and those of the first run that are first are kept at hand.
+#[derive(Drop)]
+pub struct Fresh {
+    /// A bit for each board, a word for each run.
+    words: Vec<u64>,
+    /// No fresh board of a run is nearer than this, which is the greatest there is where none is fresh.
+    least: Vec<u32>,
+    /// How many boards are fresh.
+    count: usize,
+    /// The run of the first fresh board, and its distance.
+    run: usize,
+    dist: u32,
+    /// The fresh boards of that run that are of that distance, a bit for each.
+    bits: u64,
+}
+
+/// The first fresh board with those of its run that are as near.
+#[derive(Clone, Copy)]
+struct First {
+    run: usize,
+    dist: u32,
+    bits: u64,
+}
+
+impl Fresh {
+    /// No fresh boards, with room for so many.
+    pub fn new(alloc: Global, boards: usize) -> Result<Fresh, AllocError>
+        requires { boards < 2 ^ 32 }
+        ensures sound { IfOk result (λ fresh. (cells : List CellView) → length cells ≡ boards → IsFresh cells fresh) }
+        ensures none { IfOk result (λ fresh. (k : ℕ) → is_marked fresh.words.items k ≡ false) }
+    {
+        let runs = boards / 64 + 1;
+        let words = vec![in alloc; 0; runs]?;
+        let least = vec![in alloc; u32::MAX; runs]?;
+        Ok(Fresh {
+            words,
+            least,
+            count: 0,
+            run: 0,
+            dist: 0,
+            bits: 0,
+        })
+    }
+
+    /// How many boards are fresh.
+    pub fn len(&self) -> usize
+        ensures { result ≡ self.now.count }
+    {
+        self.count
+    }
+
+    /// The distance and the place of the first fresh board, none where no board is fresh.
+    pub fn first(&self) -> Option<(u32, usize)>
+        requires { self.now.run ≤ 2 ^ 26 }
+        ensures first { (cells : List CellView) → AreFirst cells self.now.words.items self.now.run self.now.dist self.now.bits → IsFirstOf cells self.now.words.items result }
+        ensures here { IfSome result (λ x. (x.1 / 64 ≡ self.now.run) × (bit_at self.now.bits (x.1 % 64) ≡ 1)) }
+    {
+        match next_bit(self.bits, 0) {
+            Some(i) => Some((self.dist, 64 * self.run + i as usize)),
+            None => None,
+        }
+    }
+
+    /// The board at this place is fresh from now on.
+    pub fn insert(&mut self, cells: &[Cell], place: usize)
+        requires place { place < length cells.now }
+        requires room { place / 64 < length self.old.words.items }
+        requires few { self.old.count < length cells.now }
+        requires new { is_marked self.old.words.items place ≡ false }
+        requires sound { IsFresh cells.now self.old }
+        ensures marks { MarksOne place self.old.words.items self.new.words.items }
+        ensures sound { IsFresh cells.now self.new }
+    {
+        let run = place / 64;
+        let dist = cells[place].dist;
+        let bound = self.least[run].min(dist);
+        mark(&mut self.words, place);
+        self.least[run] = bound;
+        self.count += 1;
+        let first = First {
+            run: self.run,
+            dist: self.dist,
+            bits: self.bits,
+        };
+        self.put_first(first_with(first, place, dist));
+    }
+
+    /// The board at this place, which is one of the first at hand, is fresh no longer.
+    pub fn remove(&mut self, cells: &[Cell], place: usize)
+        requires run { place / 64 ≡ self.old.run }
+        requires bit { bit_at self.old.bits (place % 64) ≡ 1 }
+        requires sound { IsFresh cells.now self.old }
+        ensures marks { UnmarksOne place self.old.words.items self.new.words.items }
+        ensures sound { IsFresh cells.now self.new }
+    {
+        let (run, dist) = (self.run, self.dist);
+        unmark(&mut self.words, place);
+        self.count -= 1;
+        let rest = without_bit(self.bits, (place % 64) as u32);
+        if rest > 0 {
+            self.bits = rest;
+            return;
+        }
+        let first = behind(cells, &mut self.words, &mut self.least, run, dist);
+        self.put_first(first);
+    }
+
+    /// Keeps these as the first.
+    fn put_first(&mut self, first: First)
+        ensures { self.new ≡ record self.old { run = first.run; dist = first.dist; bits = first.bits } }
+    {
+        self.run = first.run;
+        self.dist = first.dist;
+        self.bits = first.bits;
+    }
+}
+
+/// Marks the board at this place.
+fn mark(words: &mut Vec<u64>, place: usize)
+    requires { place / 64 < length words.old.items }
+    ensures { MarksOne place words.old.items words.new.items }
+{
+    let run = place / 64;
+    words[run] = with_bit(words[run], (place % 64) as u32);
+}
+
+/// Takes the mark of the board at this place away.
+fn unmark(words: &mut Vec<u64>, place: usize)
+    requires { place / 64 < length words.old.items }
+    ensures { UnmarksOne place words.old.items words.new.items }
+{
+    let run = place / 64;
+    words[run] = without_bit(words[run], (place % 64) as u32);
+}
+
+/// The first boards, where there is none any more of this distance up to this run, of which the least
+/// distance is kept anew.
+fn behind(
+    cells: &[Cell],
+    words: &mut Vec<u64>,
+    least: &mut Vec<u32>,
+    run: usize,
+    dist: u32,
+) -> First
+    requires kept { AreKept cells.now words.old.items least.old.items }
+    requires run { run < length words.old.items }
+    requires behind { AreBehind cells.now words.old.items run dist }
+    requires none { (i : ℕ) → i < 64 → is_marked words.old.items (64 * run + i) ≡ true → dist_at cells.now (64 * run + i) ≡ dist → ⊥ }
+    ensures same { words.new.items ≡ words.old.items }
+    ensures kept { AreKept cells.now words.new.items least.new.items }
+    ensures first { AreFirst cells.now words.new.items result.run result.dist result.bits }
+{
+    least[run] = bound_of(cells, words.as_slice(), run);
+    match first_as_near(cells, words.as_slice(), least.as_slice(), run, dist) {
+        Some(first) => first,
+        None => {
+            // All are farther, and most often one is farther by a ply.
+            let enough = dist.saturating_add(1);
+            let first = nearest(cells, words.as_slice(), least.as_slice(), enough);
+            first_at(cells, words.as_slice(), first)
+        }
+    }
+}
+
+/// The first boards, where one at this place and of this distance comes to those of which these are.
+fn first_with(first: First, place: usize, dist: u32) -> First
+    requires { place < 2 ^ 32 }
+    ensures { (cells : List CellView) (old new : List ℕ) → dist_at cells place ≡ dist → is_marked old place ≡ false → MarksOne place old new
+        → AreFirst cells old first.run first.dist first.bits → AreFirst cells new result.run result.dist result.bits }
+{
+    let run = place / 64;
+    if first.bits == 0 {
+        return alone(place, dist);
+    }
+    if dist < first.dist {
+        return alone(place, dist);
+    }
+    if dist > first.dist {
+        return first;
+    }
+    if run < first.run {
+        return alone(place, dist);
+    }
+    if run > first.run {
+        return first;
+    }
+    First {
+        bits: with_bit(first.bits, (place % 64) as u32),
+        ..first
+    }
+}
+
+/// The one board at this place, of this distance.
+fn alone(place: usize, dist: u32) -> First
+    ensures run { result.run ≡ place / 64 }
+    ensures dist { result.dist ≡ dist }
+    ensures here { bit_at result.bits (place % 64) ≡ 1 }
+    ensures others { (i : ℕ) → i ≢ place % 64 → bit_at result.bits i ≡ bit_at 0 i }
+{
+    First {
+        run: place / 64,
+        dist,
+        bits: with_bit(0, (place % 64) as u32),
+    }
+}
+
+/// The first boards, where the first of all is at this place.
+fn first_at(cells: &[Cell], words: &[u64], first: Option<usize>) -> First
+    requires few { length words.now ≤ 2 ^ 26 }
+    requires inside { (k : ℕ) → is_marked words.now k ≡ true → k < length cells.now }
+    requires first { IsNearest cells.now words.now 0 (64 * length words.now) first }
+    ensures { AreFirst cells.now words.now result.run result.dist result.bits }
+{
+    match first {
+        Some(place) => {
+            let (run, dist) = (place / 64, cells[place].dist);
+            First {
+                run,
+                dist,
+                bits: bits_at(cells, words, run, dist),
+            }
+        }
+        None => First {
+            run: 0,
+            dist: 0,
+            bits: 0,
+        },
+    }
+}
+
+/// The fresh boards of this run that are of this distance, a bit for each.
+fn bits_at(cells: &[Cell], words: &[u64], run: usize, dist: u32) -> u64
+    requires few { length words.now ≤ 2 ^ 26 }
+    requires inside { (k : ℕ) → is_marked words.now k ≡ true → k < length cells.now }
+    requires run { run < length words.now }
+    ensures { AreOfRun cells.now words.now run dist result }
+{
+    let word = words[run];
+    let mut bits = 0;
+    let mut from = 0;
+    while let Some(i) = next_bit(word, from) {
+        let near = is_at(cells, 64 * run + i as usize, dist);
+        bits = with_bit_if(near, bits, i);
+        from = i + 1;
+    }
+    bits
+}
+
+/// Whether the board at this place is of this distance.
+fn is_at(cells: &[Cell], place: usize, dist: u32) -> bool
+    requires { place < length cells.now }
+    ensures yes { result ≡ true → dist_at cells.now place ≡ dist }
+    ensures no { result ≡ false → dist_at cells.now place ≡ dist → ⊥ }
+{
+    cells[place].dist == dist
+}
+
+/// The bits with this one where that is so, and else as they are.
+fn with_bit_if(so: bool, bits: u64, i: u32) -> u64
+    requires { i < 64 }
+    ensures set { so ≡ true → bit_at result i ≡ 1 }
+    ensures same { so ≡ false → result ≡ bits }
+    ensures others { (j : ℕ) → j ≢ i → bit_at result j ≡ bit_at bits j }
+{
+    if so { with_bit(bits, i) } else { bits }
+}
+
+/// The least distance of the fresh boards of this run, the greatest there is where none is.
+fn bound_of(cells: &[Cell], words: &[u64], run: usize) -> u32
+    requires few { length words.now ≤ 2 ^ 26 }
+    requires inside { (k : ℕ) → is_marked words.now k ≡ true → k < length cells.now }
+    requires run { run < length words.now }
+    ensures { (k : ℕ) → k / 64 ≡ run → is_marked words.now k ≡ true → result ≤ dist_at cells.now k }
+{
+    match nearest_in(cells, words, run, None) {
+        Some(b) => cells[b].dist,
+        None => u32::MAX,
+    }
+}
+
+/// The first boards, where none is nearer than this distance, and those before this run are farther.
+/// There is none where all are farther.
+fn first_as_near(
+    cells: &[Cell],
+    words: &[u64],
+    least: &[u32],
+    from: usize,
+    dist: u32,
+) -> Option<First>
+    requires kept { AreKept cells.now words.now least.now }
+    requires from { from ≤ length words.now }
+    requires enough { (k : ℕ) → is_marked words.now k ≡ true → dist ≤ dist_at cells.now k }
+    requires before { (k : ℕ) → k < 64 * from → is_marked words.now k ≡ true → dist < dist_at cells.now k }
+    ensures some { IfSome result (λ first. AreFirst cells.now words.now first.run first.dist first.bits) }
+    ensures none { result ≡ None → (k : ℕ) → is_marked words.now k ≡ true → dist < dist_at cells.now k }
+{
+    let mut run = next_run(least, from, dist);
+    while run < words.len() {
+        let bits = bits_at(cells, words, run, dist);
+        if bits > 0 {
+            return Some(First { run, dist, bits });
+        }
+        run = next_run(least, run + 1, dist);
+    }
+    None
+}
+
+/// The first run from this one on that may have a board of at most this distance, or the number of
+/// runs.
+fn next_run(least: &[u32], from: usize, dist: u32) -> usize
+    requires { from ≤ length least.now }
+    ensures within { (from ≤ result) × (result ≤ length least.now) }
+    ensures far { (r : ℕ) → from ≤ r → r < result → dist < slice_index_or least.now r 0 }
+{
+    for run in from..least.len() {
+        if least[run] <= dist {
+            return run;
+        }
+    }
+    least.len()
+}
+
+/// The first of the fresh boards. None is nearer than `enough`, so that one that is as near is the first.
+fn nearest(cells: &[Cell], words: &[u64], least: &[u32], enough: u32) -> Option<usize>
+    requires kept { AreKept cells.now words.now least.now }
+    requires enough { (k : ℕ) → is_marked words.now k ≡ true → enough ≤ dist_at cells.now k }
+    ensures { IsNearest cells.now words.now 0 (64 * length words.now) result }
+{
+    let mut best = None;
+    for run in 0..words.len() {
+        if is_as_near(cells, best, enough) {
+            return best;
+        }
+        best = with_run(cells, words, least, run, best);
+    }
+    best
+}
+
+/// Whether a board is there, and is no farther than this distance.
+fn is_as_near(cells: &[Cell], best: Option<usize>, dist: u32) -> bool
+    requires held { IfSome best (λ b. b < length cells.now) }
+    ensures { IsTrue result ↔ ((b : ℕ) × (best ≡ Some b) × (dist_at cells.now b ≤ dist)) }
+{
+    match best {
+        Some(b) => cells[b].dist <= dist,
+        None => false,
+    }
+}
+
+/// The first of the fresh boards so far, and of those of this run, which is passed over where none of
+/// its boards may be nearer.
+fn with_run(
+    cells: &[Cell],
+    words: &[u64],
+    least: &[u32],
+    run: usize,
+    best: Option<usize>,
+) -> Option<usize>
+    requires kept { AreKept cells.now words.now least.now }
+    requires run { run < length words.now }
+    requires held { IfSome best (λ b. b < length cells.now) }
+    ensures nearest { (low : ℕ) → low ≤ 64 * run → IsNearest cells.now words.now low (64 * run) best → IsNearest cells.now words.now low (64 * run + 64) result }
+    ensures held { IfSome result (λ b. b < length cells.now) }
+{
+    if is_as_near(cells, best, least[run]) {
+        return best;
+    }
+    nearest_in(cells, words, run, best)
+}
+
+/// The first of the fresh boards so far, and of those of this run of 64.
+fn nearest_in(cells: &[Cell], words: &[u64], run: usize, best: Option<usize>) -> Option<usize>
+    requires few { length words.now ≤ 2 ^ 26 }
+    requires inside { (k : ℕ) → is_marked words.now k ≡ true → k < length cells.now }
+    requires run { run < length words.now }
+    requires held { IfSome best (λ b. b < length cells.now) }
+    ensures nearest { (low : ℕ) → low ≤ 64 * run → IsNearest cells.now words.now low (64 * run) best → IsNearest cells.now words.now low (64 * run + 64) result }
+    ensures held { IfSome result (λ b. b < length cells.now) }
+{
+    let word = words[run];
+    let mut best = best;
+    let mut from = 0;
+    while let Some(i) = next_bit(word, from) {
+        best = nearer(cells, best, 64 * run + i as usize);
+        from = i + 1;
+    }
+    best
+}
+
+/// The first of a fresh board before this one, if there is one, and this one.
+fn nearer(cells: &[Cell], best: Option<usize>, place: usize) -> Option<usize>
+    requires place { place < length cells.now }
+    requires held { IfSome best (λ b. b < length cells.now) }
+    ensures nearest { (words : List ℕ) (low : ℕ) → low ≤ place → is_marked words place ≡ true → IsNearest cells.now words low place best → IsNearest cells.now words low (place + 1) result }
+    ensures held { IfSome result (λ b. b < length cells.now) }
+{
+    match best {
+        Some(before) => {
+            if cells[place].dist < cells[before].dist {
+                Some(place)
+            } else {
+                best
+            }
+        }
+        None => Some(place),
+    }
+}

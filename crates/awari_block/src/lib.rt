@@ -1,0 +1,28 @@
+//! The boards of a block of a level that is in work.
+//!
+//! A [`Block`] is the boards of a level from one rank up to, not including, another. Its [`Boards`] have
+//! a [`Cell`] each, which says what is known of the board, and those are fresh that are settled and were
+//! not spread yet. A [`Note`] says of a quiet move that it leads to a settled board. What a cell has to
+//! know of the notes that its board heard is defined in `specs/Tally.antt`.
+//!
+//! The boards of an owner's block, by lines of `crates/awari_owner/src/parts.rt`:
+//!
+//!     let block = Block::of(shelf.levels(), owners, owner);
+//!     self.boards.open_gain(gain);
+//!     self.boards.hear(note.target, note.pit, note.kind);
+//!     let rank = self.boards.take_first();
+#![tactic(auto)]
+
+mod boards;
+mod cells;
+mod closed;
+mod fresh;
+mod notes;
+mod places;
+mod words;
+
+pub use boards::Boards;
+pub use cells::{Cell, Mark};
+pub use closed::ClosedPart;
+pub use notes::{Kind, Note};
+pub use places::{Block, Place, block_length};

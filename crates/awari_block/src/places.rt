@@ -1,0 +1,92 @@
+//! Where a part stands, and where its block begins.
+
+ghost use Rattle.std.specs.Prelude.{◌≡◌, ◌≤◌, ◌<◌, ◌+◌, ◌-◌, ◌/◌, ◌↔◌, IsTrue, sum};
+ghost use Rattle.awari_board.specs.Rules.{IsBoard};
+ghost use Rattle.awari_rank.specs.Rank.{rank_of, size_of};
+ghost use Rattle.awari_block.specs.Leaving.{IsAmong, IsBlockOf, first_rank};
+
+use awari_packed::PackedBoard;
+use awari_rank::size;
+
+/// The level, the open gain and distance, and where the block begins.
+#[derive(Clone, Copy)]
+pub struct Place {
+    /// The stones on the boards of the level.
+    pub level: u8,
+    /// The open gain in stones, one more than the level where none was opened yet.
+    pub gain: u8,
+    /// The open distance in plies.
+    pub wave: u32,
+    /// The rank of the first board of the block.
+    pub start: u32,
+}
+
+/// A block: the boards of a level from one rank up to, not including, another.
+#[derive(Clone, Copy)]
+pub struct Block {
+    /// The rank of the first board.
+    pub start: u32,
+    /// The rank behind that of the last board.
+    pub end: u32,
+    /// Whether these are all boards of the level.
+    pub whole: bool,
+}
+
+impl Block {
+    /// The block of this owner, one of so many, of the boards of a level.
+    pub fn of(level: u8, owners: u8, owner: u8) -> Block
+        requires low { level ≤ 24 }
+        requires some { 1 ≤ owners }
+        requires few { owner < owners }
+        ensures start { result.start ≡ first_rank (size_of level) owners owner }
+        ensures end { result.end ≡ first_rank (size_of level) owners (owner + 1) }
+        ensures sound { IsBlockOf level result }
+    {
+        let boards = size(level);
+        let start = first_rank(boards, owners, owner);
+        let end = first_rank(boards, owners, owner + 1);
+        Block {
+            start,
+            end,
+            whole: start == 0 && end == boards,
+        }
+    }
+
+    /// Whether the board is in the block. Where the block is the whole level no rank is computed.
+    pub fn holds(self, board: &PackedBoard) -> bool
+        requires board { IsBoard board.now }
+        requires low { sum board.now ≤ 24 }
+        requires sound { IsBlockOf (sum board.now) self }
+        ensures { IsTrue result ↔ IsAmong self.start (self.end - self.start) (rank_of board.now) }
+    {
+        if self.whole {
+            return true;
+        }
+        let rank = board.rank();
+        self.start <= rank && rank < self.end
+    }
+}
+
+/// The rank of the first board of an owner's block, where so many boards are shared out in blocks of
+/// one length. It is the number of boards where the owner has none.
+pub fn first_rank(boards: u32, owners: u8, owner: u8) -> u32
+    requires some { 1 ≤ owners }
+    requires few { owner ≤ owners }
+    ensures rank { result ≡ first_rank boards owners owner }
+    ensures within { result ≤ boards }
+{
+    let length = block_length(boards, owners);
+    (u64::from(owner) * u64::from(length)).min(u64::from(boards)) as u32
+}
+
+/// How long the blocks are in which so many boards are shared out.
+pub fn block_length(boards: u32, owners: u8) -> u32
+    requires some { 1 ≤ owners }
+    ensures { result ≡ (boards + (owners - 1)) / owners }
+{
+    // This is asked for each board that is spread, and one owner needs no division.
+    if owners == 1 {
+        return boards;
+    }
+    ((u64::from(boards) + (u64::from(owners) - 1)) / u64::from(owners)) as u32
+}

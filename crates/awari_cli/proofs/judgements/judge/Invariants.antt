@@ -1,9 +1,0 @@
-use Rattle.std.proofs.Common.{◌≡◌, ℕ, List, take}
-use Rattle.awari_board.specs.Rules.{IsBoard}
-use Rattle.awari_board.specs.Text.{text_of}
-use Rattle.awari_game.specs.Shown.{Shows}
-use Rattle.awari_cli.specs.Judgement.{pits_named}
-use Rattle.awari_cli.proofs.judgements.judge.Given as goal
-
-abbrev pub invariant-loop-index : goal.invariant-loop-index
-invariant-loop-index l = (board : List ℕ) × IsBoard board × (l.text ≡ text_of board) × Shows l.game board (pits_named (take l.index l.moves))

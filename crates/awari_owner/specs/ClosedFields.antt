@@ -1,7 +1,0 @@
--- The fields of a closed part.
-use Rattle.std.specs.Prelude.{◌≡◌, ◌+◌, ◌^◌, ◌<◌, vec_len}
-use Rattle.awari_owner.specs.declared.closed.ClosedPart.TheInside.{Inside}
-
-pub record IsClosedPart (a : Inside) : Type 0 where
-  pub last : a.place.gain ≡ 1
-  pub fits : a.place.start + vec_len a.cells < 2 ^ 32
