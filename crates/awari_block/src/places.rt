@@ -53,6 +53,7 @@ impl Block {
     }
 
     /// Whether the board is in the block. Where the block is the whole level no rank is computed.
+    #[inline(always)]
     pub fn holds(self, board: &PackedBoard) -> bool
         requires board { IsBoard board.now }
         requires low { sum board.now ≤ 24 }

@@ -11,7 +11,6 @@ ghost use Rattle.awari_block.specs.Leaving.{AreLeavingBelow, IsBlockOf};
 ghost use Rattle.awari_owner.specs.Scan.{CanScan, IsOutlook, IsPiece, IsRanged, IsScanned, IsScannedBlock};
 
 use awari_block::{Block, Cell, Mark};
-use awari_board::SIDE;
 use awari_packed::{PackedBoard, PackedMove};
 use awari_rank::{ranks_tell_boards_apart, unrank};
 use awari_table::Shelf;
@@ -95,6 +94,9 @@ pub fn scan_boards(shelf: &Shelf, block: Block, first: u32, cells: &mut [Cell], 
 }
 
 /// What is found of a board of the shelf's next level.
+///
+/// The pits are written out, each a plain number: so the tests of each pit stand at places of their
+/// own, which the processor foresees apart, and the shifts of its move are constants.
 fn scanned(shelf: &Shelf, block: Block, board: &PackedBoard) -> ScannedBoard
     requires board { IsBoard board.now }
     requires stones { sum board.now ≡ length shelf.now }
@@ -109,82 +111,88 @@ fn scanned(shelf: &Shelf, block: Block, board: &PackedBoard) -> ScannedBoard
         best: None,
         leaving: 0,
     };
-    for pit in 0..SIDE {
-        seen = with_pit(seen, shelf, block, board, pit);
-    }
+    see_pit(&mut seen, shelf, block, board, 0);
+    see_pit(&mut seen, shelf, block, board, 1);
+    see_pit(&mut seen, shelf, block, board, 2);
+    see_pit(&mut seen, shelf, block, board, 3);
+    see_pit(&mut seen, shelf, block, board, 4);
+    see_pit(&mut seen, shelf, block, board, 5);
     ScannedBoard {
         cell: cell_of(board, seen),
         leaving: seen.leaving,
     }
 }
 
-/// The outlook with one pit more.
-fn with_pit(seen: Outlook, shelf: &Shelf, block: Block, board: &PackedBoard, pit: u8) -> Outlook
+/// Puts one pit more into the outlook, which is filled in where it stands: handed on from pit to pit
+/// by value, it would be written anew at each.
+#[inline(always)]
+fn see_pit(seen: &mut Outlook, shelf: &Shelf, block: Block, board: &PackedBoard, pit: u8)
     requires stones { sum board.now ≡ length shelf.now }
     requires low { length shelf.now ≤ HIGHEST_LEVEL }
     requires ranged { IsRanged (table_of shelf.now).value (length shelf.now) }
     requires block { IsBlockOf (length shelf.now) block }
     requires own { pit < 6 }
-    requires seen { IsOutlook (table_of shelf.now).value board.now pit seen.quiet seen.best }
-    requires leaving { AreLeavingBelow block.start (block.end - block.start) board.now pit seen.leaving }
-    ensures seen { IsOutlook (table_of shelf.now).value board.now (pit + 1) result.quiet result.best }
-    ensures leaving { AreLeavingBelow block.start (block.end - block.start) board.now (pit + 1) result.leaving }
+    requires seen { IsOutlook (table_of shelf.now).value board.now pit seen.old.quiet seen.old.best }
+    requires leaving { AreLeavingBelow block.start (block.end - block.start) board.now pit seen.old.leaving }
+    ensures seen { IsOutlook (table_of shelf.now).value board.now (pit + 1) seen.new.quiet seen.new.best }
+    ensures leaving { AreLeavingBelow block.start (block.end - block.start) board.now (pit + 1) seen.new.leaving }
 {
     if !board.legal(pit) {
-        return seen;
+        return;
     }
     let moved = board.play(pit);
-    Outlook {
-        leaving: with_leaving(seen.leaving, block, pit, &moved),
-        ..with_move(seen, shelf, &moved)
+    if moved.captured == 0 {
+        see_quiet(seen, block, pit, &moved.board);
+        return;
     }
+    see_capture(seen, shelf, &moved);
 }
 
-/// The pits whose quiet moves lead out of the block, with the move of one pit more.
-fn with_leaving(leaving: u8, block: Block, pit: u8, moved: &PackedMove) -> u8
+/// Puts one quiet move more into the outlook, from `pit` to this board.
+#[inline(always)]
+fn see_quiet(seen: &mut Outlook, block: Block, pit: u8, next: &PackedBoard)
     requires own { pit < 6 }
-    requires board { IsBoard moved.now.board }
-    requires low { sum moved.now.board + moved.now.captured ≤ 24 }
-    requires block { IsBlockOf (sum moved.now.board + moved.now.captured) block }
-    ensures { (p : List ℕ) → IsMove p pit moved.now.captured moved.now.board
-        → AreLeavingBelow block.start (block.end - block.start) p pit leaving
-        → AreLeavingBelow block.start (block.end - block.start) p (pit + 1) result }
+    requires few { seen.old.quiet < 6 }
+    requires board { IsBoard next.now }
+    requires low { sum next.now ≤ 24 }
+    requires block { IsBlockOf (sum next.now) block }
+    ensures seen { (value : List ℕ → ℤ) (p : List ℕ) → IsMove p pit 0 next.now
+        → IsOutlook value p pit seen.old.quiet seen.old.best
+        → IsOutlook value p (pit + 1) seen.new.quiet seen.new.best }
+    ensures leaving { (p : List ℕ) → IsMove p pit 0 next.now
+        → AreLeavingBelow block.start (block.end - block.start) p pit seen.old.leaving
+        → AreLeavingBelow block.start (block.end - block.start) p (pit + 1) seen.new.leaving }
 {
-    if moved.captured > 0 || block.holds(&moved.board) {
-        return leaving;
+    seen.quiet += 1;
+    if block.holds(next) {
+        return;
     }
-    leaving | (1 << pit)
+    seen.leaving |= 1 << pit;
 }
 
-/// The outlook with the move of one pit more.
-fn with_move(seen: Outlook, shelf: &Shelf, moved: &PackedMove) -> Outlook
+/// Puts one capture more into the outlook, which leads out of no block.
+#[inline(always)]
+fn see_capture(seen: &mut Outlook, shelf: &Shelf, moved: &PackedMove)
     requires kept { sum moved.now.board + moved.now.captured ≡ length shelf.now }
     requires board { IsBoard moved.now.board }
     requires low { length shelf.now ≤ HIGHEST_LEVEL }
     requires ranged { IsRanged (table_of shelf.now).value (length shelf.now) }
-    requires few { seen.quiet < 6 }
-    ensures { (p : List ℕ) (pit : ℕ) → pit < 6 → sum p ≡ length shelf.now → IsMove p pit moved.now.captured moved.now.board
-        → IsOutlook (table_of shelf.now).value p pit seen.quiet seen.best
-        → IsOutlook (table_of shelf.now).value p (pit + 1) result.quiet result.best }
+    requires captures { 0 < moved.now.captured }
+    ensures seen { (p : List ℕ) (pit : ℕ) → pit < 6 → sum p ≡ length shelf.now → IsMove p pit moved.now.captured moved.now.board
+        → IsOutlook (table_of shelf.now).value p pit seen.old.quiet seen.old.best
+        → IsOutlook (table_of shelf.now).value p (pit + 1) seen.new.quiet seen.new.best }
+    ensures leaving { seen.new.leaving ≡ seen.old.leaving }
 {
-    if moved.captured == 0 {
-        return Outlook {
-            quiet: seen.quiet + 1,
-            ..seen
-        };
-    }
     let gain = gain_of(shelf, moved);
     let best = match seen.best {
         Some(best) => best.max(gain),
         None => gain,
     };
-    Outlook {
-        best: Some(best),
-        ..seen
-    }
+    seen.best = Some(best);
 }
 
 /// What a capture gains: the stones captured, less the value of the board that it leaves.
+#[inline(always)]
 fn gain_of(shelf: &Shelf, moved: &PackedMove) -> i8
     requires kept { sum moved.now.board + moved.now.captured ≡ length shelf.now }
     requires board { IsBoard moved.now.board }
