@@ -1,5 +1,5 @@
 -- Which pit serves as a plan.
-use Rattle.std.proofs.Common.{◌≡◌, ℕ, ◌+◌, ◌<◌, ◌⊎◌, ◌↔◌, Bool, IsTrue, List, sym, ap, ◌∙◌, subst, arith, inl, inr}
+use Rattle.std.proofs.Common.{◌≡◌, ℕ, ◌+◌, ◌<◌, ◌⊎◌, ◌↔◌, Bool, false, IsTrue, List, sym, ap, ◌∙◌, subst, arith, inl, inr}
 use Rattle.std.proofs.lemmas.Bool.{cases_lt}
 use Rattle.std.specs.Prelude.{pos, ◌-ℤ◌, ◌<ℤ◌, Option, Some, None}
 use Rattle.awari_board.specs.Rules.{IsMove}
@@ -35,13 +35,30 @@ serves_by t p x c q own reached b move own_value own_dist its_value its_dist is 
               (subst (λ m. (0 < d) ⊎ (t.dist r < m)) (sym own_dist) (falls (subst (λ v. pos 0 <ℤ v) own_value won)))),
         )
 
--- where the pits below do not serve, and this does not either
-pub none_more : (t : Table) (p : List ℕ) (x : ℕ) → ((y : ℕ) → y < x → Serves t p y → ⊥) → (Serves t p x → ⊥) → (y : ℕ) → y < x + 1 → Serves t p y → ⊥
-none_more t p x below here y before serves = elim (cases_lt y x) [ inl lt ↦ below y lt serves | inr ge ↦ let e : y ≡ x = omega arith in here (subst (λ z. Serves t p z) e serves) ]
+-- no pit below this one serves
+pub record NoneBelow (t : Table) (p : List ℕ) (x : ℕ) : Type 0 where
+  pub none : (y : ℕ) → y < x → Serves t p y → ⊥
+
+pub none_below : (t : Table) (p : List ℕ) → NoneBelow t p 0
+none_below t p = record { none = λ y before serves. omega (arith, before) }
+
+-- nor does one that was tried
+pub none_more : {t : Table} {p : List ℕ} {b : Bool} (x : ℕ) → (IsTrue b ↔ Serves t p x) → b ≡ false → NoneBelow t p x → NoneBelow t p (x + 1)
+none_more {t} {p} {b} x is fails below = record {
+  none = λ y before serves.
+      elim (cases_lt y x) [ inl lt ↦ below.none y lt serves | inr ge ↦ let e : y ≡ x = omega arith in clash b fails (is.1 (subst (λ z. Serves t p z) e serves)) ];
+}
+  where
+    clash : (b : Bool) → b ≡ false → IsTrue b → ⊥
+    clash b e sure = grind arith
 
 -- only an own pit serves
 pub own_serves : (t : Table) (p : List ℕ) (x : ℕ) → Serves t p x → x < 6
 own_serves t p x serves = serves.2.legal.own
+
+-- so none does where all six were tried
+pub none_serves : (t : Table) (p : List ℕ) → NoneBelow t p 6 → (x : ℕ) → Serves t p x → ⊥
+none_serves t p below x serves = below.none x (own_serves t p x serves) serves
 
 -- tables that say the same values and distances have the same plans
 serves_alike : (t u : Table) (p : List ℕ) (x : ℕ) → ((q : List ℕ) → u.value q ≡ t.value q) → ((q : List ℕ) → u.dist q ≡ t.dist q) → Serves t p x → Serves u p x

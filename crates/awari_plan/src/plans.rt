@@ -7,7 +7,6 @@ ghost use Rattle.awari_table.specs.Images.{entry_of, no_entry, table_of};
 ghost use Rattle.awari_plan.specs.Plan.{IsLowest, Serves};
 ghost use Rattle.awari_plan.specs.Planning.{AreValues, Gains, IsPlanned, SameSettled, topped, values_of};
 
-use awari_board::SIDE;
 use awari_packed::{PackedBoard, PackedMove};
 use awari_rank::{size, unrank};
 use awari_table::{Entry, Shelf};
@@ -43,6 +42,11 @@ pub fn set_plans(shelf: &Shelf, values: &[i8], entries: &mut Vec<Entry>)
 }
 
 /// The lowest pit that serves as the board's plan, none where none does.
+///
+/// The pits are written out, each a plain number: so the tests of each pit stand at places of their
+/// own, which the processor foresees apart, and the shifts of its move are constants. That holds only
+/// where what they call is written into each of them.
+#[inline(always)]
 pub fn lowest_plan(
     shelf: &Shelf,
     values: &[i8],
@@ -59,16 +63,30 @@ pub fn lowest_plan(
     ensures { IsLowest (table_of (topped shelf.now entries.now)) board.now result }
 {
     let own = entries[rank as usize];
-    for pit in 0..SIDE {
-        if serves(shelf, values, entries, board, own, pit) {
-            return Some(pit);
-        }
+    if serves(shelf, values, entries, board, own, 0) {
+        return Some(0);
+    }
+    if serves(shelf, values, entries, board, own, 1) {
+        return Some(1);
+    }
+    if serves(shelf, values, entries, board, own, 2) {
+        return Some(2);
+    }
+    if serves(shelf, values, entries, board, own, 3) {
+        return Some(3);
+    }
+    if serves(shelf, values, entries, board, own, 4) {
+        return Some(4);
+    }
+    if serves(shelf, values, entries, board, own, 5) {
+        return Some(5);
     }
     None
 }
 
 /// Whether the move from `pit` gains the board's value and, where that is positive, captures or
 /// leads to a smaller distance.
+#[inline(always)]
 fn serves(
     shelf: &Shelf,
     values: &[i8],
@@ -97,6 +115,7 @@ fn serves(
 
 /// Whether a quiet move to the board of this rank gains the value of the board's own entry and, where
 /// that is positive, leads to a smaller distance.
+#[inline(always)]
 fn quiet_gains(own: Entry, values: &[i8], entries: &[Entry], rank: u32) -> bool
     requires valued { AreValues values.now entries.now }
     requires held { rank < length entries.now }
@@ -109,6 +128,7 @@ fn quiet_gains(own: Entry, values: &[i8], entries: &[Entry], rank: u32) -> bool
 }
 
 /// The value of the entry of this rank, which is read of the values where they have it.
+#[inline(always)]
 fn value_at(values: &[i8], entries: &[Entry], rank: u32) -> i8
     requires valued { AreValues values.now entries.now }
     requires held { rank < length entries.now }
@@ -122,6 +142,7 @@ fn value_at(values: &[i8], entries: &[Entry], rank: u32) -> i8
 
 /// Whether a move with so many captured stones gains the value of the board's own entry and, where
 /// that is positive, captures or leads to a smaller distance.
+#[inline(always)]
 fn gains(own: Entry, captured: u8, reached: Entry) -> bool
     ensures { IsTrue result ↔ Gains own captured reached }
 {
