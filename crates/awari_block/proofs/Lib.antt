@@ -8,3 +8,5 @@ pub mod FreshBlocks
 pub mod Opening
 pub mod Freshness
 pub mod Settling
+pub mod Awaiting
+pub mod Marking

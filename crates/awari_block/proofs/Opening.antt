@@ -1,10 +1,14 @@
 -- What the opening of a gain makes of the cells, one after another.
 use Rattle.std.proofs.Common.{◌≡◌, ◌≢◌, ℕ, ◌+◌, ◌<◌, ◌≤◌, ◌==◌, ◌⊎◌, inl, inr, Bool, true, false, List, length, get_or, set, refl, sym, ap, subst, ◌∙◌, arith, eqb-true, get_or-set_same, get_or-set_other}
+use Rattle.std.proofs.lemmas.List.{get_or_past}
+use Rattle.std.proofs.lemmas.Bool.{cases_lt}
 use Rattle.std.proofs.lemmas.Bool.Decides.{nat_tests}
 use Rattle.awari_block.specs.declared.cells.Cell.{Cell}
 use Rattle.awari_block.specs.Cells.{status_of}
 use Rattle.awari_block.specs.Steps.{after_opening}
 use Rattle.awari_block.specs.Blocks.{no_cell}
+use Rattle.awari_block.specs.Boards.{OpensCells}
+use Rattle.awari_block.specs.Part.{Part, SameLevel}
 
 put_cases : (xs ys : List Cell) (i : ℕ) (next : Cell) → ys ≡ set xs i next → i < length xs → (k : ℕ)
     → ((k ≡ i) × (get_or ys k no_cell ≡ next)) ⊎ ((k ≢ i) × (get_or ys k no_cell ≡ get_or xs k no_cell))
@@ -19,25 +23,84 @@ put_cases xs ys i next put high k = by (k == i) refl
         inl (same, ap (λ (l : List Cell). get_or l k no_cell) put ∙ subst (λ z. get_or (set xs i next) z no_cell ≡ next) (sym same) (rw get_or-set_same refl))
     by false e = let ne : k ≢ i = differ k i e in inr (ne, ap (λ (l : List Cell). get_or l k no_cell) put ∙ rw get_or-set_other refl)
 
-module _ (xs ys zs : List Cell) (i n : ℕ) (next old : Cell) (level gain : ℕ) (put : ys ≡ set xs i next) (high : i < length xs) (read : get_or xs i no_cell ≡ old) where
-  pub heard_step : next.heard ≡ old.heard → ((k : ℕ) → k < n → (get_or xs k no_cell).heard ≡ (get_or zs k no_cell).heard)
-      → (k : ℕ) → k < n → (get_or ys k no_cell).heard ≡ (get_or zs k no_cell).heard
-  heard_step same before k h = elim (put_cases xs ys i next put high k) [
-    | inl at ↦ ap (λ (d : Cell). d.heard) at.1 ∙ same ∙ ap (λ (d : Cell). d.heard) (sym read ∙ ap (λ j. get_or xs j no_cell) (sym at.0)) ∙ before k h
-    | inr other ↦ ap (λ (d : Cell). d.heard) other.1 ∙ before k h
-  ]
+module _ (old new : Part) where
+  -- a run of no cells
+  pub opens_none : (low : ℕ) → OpensCells old old low low
+  opens_none low = record { heard = λ k h. refl; inside = λ k h from to. absurd (omega (arith, from, to)); outside = λ k out. refl }
 
-  pub status_step : status_of next ≡ after_opening (status_of old) level gain
-      → ((k : ℕ) → k < i → status_of (get_or xs k no_cell) ≡ after_opening (status_of (get_or zs k no_cell)) level gain)
-      → ((k : ℕ) → i ≤ k → get_or xs k no_cell ≡ get_or zs k no_cell)
-      → (k : ℕ) → k < i + 1 → status_of (get_or ys k no_cell) ≡ after_opening (status_of (get_or zs k no_cell)) level gain
-  status_step opened below above k h = elim (put_cases xs ys i next put high k) [
-    | inl at ↦ ap status_of at.1 ∙ opened ∙ ap (λ (d : Cell). after_opening (status_of d) level gain) (sym read ∙ above i (omega arith) ∙ ap (λ j. get_or zs j no_cell) (sym at.0))
-    | inr other ↦ (let o = other.0 in ap status_of other.1 ∙ below k (omega arith))
-  ]
+  -- cells that the opening leaves as they are
+  pub opens_still : (low high : ℕ) → ((k : ℕ) → k < length old.cells → low ≤ k → k < high → after_opening (status_of (get_or old.cells k no_cell)) old.level old.gain ≡ status_of (get_or old.cells k no_cell))
+      → OpensCells old old low high
+  opens_still low high still = record { heard = λ k h. refl; inside = λ k h from to. sym (still k h from to); outside = λ k out. refl }
 
-  pub above_step : ((k : ℕ) → i ≤ k → get_or xs k no_cell ≡ get_or zs k no_cell) → (k : ℕ) → i + 1 ≤ k → get_or ys k no_cell ≡ get_or zs k no_cell
-  above_step above k h = elim (put_cases xs ys i next put high k) [
-    | inl at ↦ (let a = at.0 in absurd (omega arith))
-    | inr other ↦ other.1 ∙ above k (omega arith)
-  ]
+  -- one cell, which is put
+  pub opens_one : (i : ℕ) (next : Cell) → new.cells ≡ set old.cells i next → i < length old.cells → next.heard ≡ (get_or old.cells i no_cell).heard
+      → status_of next ≡ after_opening (status_of (get_or old.cells i no_cell)) old.level old.gain → OpensCells old new i (i + 1)
+  opens_one i next put high same opened = record {
+    heard = λ k h. elim (put_cases old.cells new.cells i next put high k) [
+      | inl at ↦ ap (λ (d : Cell). d.heard) at.1 ∙ same ∙ ap (λ j. (get_or old.cells j no_cell).heard) (sym at.0)
+      | inr other ↦ ap (λ (d : Cell). d.heard) other.1
+    ];
+    inside = λ k h from to. elim (put_cases old.cells new.cells i next put high k) [
+      | inl at ↦ ap status_of at.1 ∙ opened ∙ ap (λ j. after_opening (status_of (get_or old.cells j no_cell)) old.level old.gain) (sym at.0)
+      | inr other ↦ (let o = other.0 in absurd (o (omega (arith, from, to))))
+    ];
+    outside = λ k out. elim (put_cases old.cells new.cells i next put high k) [
+      | inl at ↦ (let a = at.0 in absurd (past k a out))
+      | inr other ↦ other.1
+    ];
+  }
+    where
+      past : (k : ℕ) → k ≡ i → (k < i) ⊎ (i + 1 ≤ k) → ⊥
+      past k a (inl less) = omega (arith, a, less)
+      past k a (inr more) = omega (arith, a, more)
+
+-- what is read of one cell, at the level and gain of the part
+module _ (part : Part) (i n t : ℕ) (cell : Cell) (read : get_or part.cells i no_cell ≡ cell) (level : part.level ≡ n) (gain : part.gain ≡ t) where
+  at_part : after_opening (status_of cell) n t ≡ after_opening (status_of (get_or part.cells i no_cell)) part.level part.gain
+  at_part =
+      ap (λ (d : Cell). after_opening (status_of d) n t) (sym read) ∙ ap (λ m. after_opening (status_of (get_or part.cells i no_cell)) m t) (sym level)
+      ∙ ap (λ u. after_opening (status_of (get_or part.cells i no_cell)) part.level u) (sym gain)
+
+  pub still_one : after_opening (status_of cell) n t ≡ status_of cell → OpensCells part part i (i + 1)
+  still_one stays = opens_still part part i (i + 1) (λ k h from to.
+      let same : i ≡ k = omega (arith, from, to) in
+      subst (λ j. after_opening (status_of (get_or part.cells j no_cell)) part.level part.gain ≡ status_of (get_or part.cells j no_cell)) same
+      (sym at_part ∙ stays ∙ ap status_of (sym read)))
+
+  pub put_one : (new : Part) (next : Cell) → new.cells ≡ set part.cells i next → i < length part.cells → next.heard ≡ cell.heard → status_of next ≡ after_opening (status_of cell) n t → OpensCells part new i (i + 1)
+  put_one new next put high heard opened = opens_one part new i next put high (heard ∙ ap (λ (d : Cell). d.heard) (sym read)) (opened ∙ at_part)
+
+-- cells after cells
+pub opens_both : (a b c : Part) (low mid high : ℕ) → low ≤ mid → mid ≤ high → SameLevel a b → length b.cells ≡ length a.cells → OpensCells a b low mid → OpensCells b c mid high → OpensCells a c low high
+opens_both a b c low mid high first last same size one two = record {
+  heard = λ k h. two.heard k (omega (arith, h, size)) ∙ one.heard k h;
+  inside = λ k h from to. elim (cases_lt k mid) [
+    | inl less ↦ ap status_of (two.outside k (inl less)) ∙ one.inside k h from less
+    | inr more ↦
+        two.inside k (omega (arith, h, size)) more to ∙ ap (λ (d : Cell). after_opening (status_of d) b.level b.gain) (one.outside k (inr more))
+        ∙ ap (λ n. after_opening (status_of (get_or a.cells k no_cell)) n b.gain) same.level ∙ ap (λ t. after_opening (status_of (get_or a.cells k no_cell)) a.level t) same.gain
+  ];
+  outside = λ k out. two.outside k (later k out) ∙ one.outside k (earlier k out);
+}
+  where
+    later : (k : ℕ) → (k < low) ⊎ (high ≤ k) → (k < mid) ⊎ (high ≤ k)
+    later k (inl less) = inl (omega (arith, less, first))
+    later k (inr more) = inr more
+
+    earlier : (k : ℕ) → (k < low) ⊎ (high ≤ k) → (k < low) ⊎ (mid ≤ k)
+    earlier k (inl less) = inl less
+    earlier k (inr more) = inr (omega (arith, more, last))
+
+-- as far as there are cells
+pub opens_all : (old new : Part) (low high : ℕ) → length old.cells ≤ high → length new.cells ≡ length old.cells → OpensCells old new low high → OpensCells old new low (length old.cells)
+opens_all old new low high past size opens = record {
+  heard = opens.heard;
+  inside = λ k h from to. opens.inside k h from (omega (arith, h, past));
+  outside = λ k out. by k out (cases_lt k high);
+}
+  where
+    by : (k : ℕ) → (k < low) ⊎ (length old.cells ≤ k) → (k < high) ⊎ (high ≤ k) → get_or new.cells k no_cell ≡ get_or old.cells k no_cell
+    by k (inl less) c = opens.outside k (inl less)
+    by k (inr more) (inr c) = opens.outside k (inr c)
+    by k (inr more) (inl c) = get_or_past new.cells k no_cell (omega (arith, more, size)) ∙ sym (get_or_past old.cells k no_cell more)

@@ -1,10 +1,11 @@
 -- What becomes of the boards of a block, and what is needed for it. The contracts of `Boards` go by this; those of a part do not.
-use Rattle.std.specs.Prelude.{◌≡◌, ℕ, ◌-◌, ◌^◌, ◌<◌, ◌≤◌, ◌∷◌, length, All, slice_set}
+use Rattle.std.specs.Prelude.{◌≡◌, ℕ, ◌-◌, ◌^◌, ◌<◌, ◌≤◌, ◌⊎◌, ◌∷◌, length, All, slice_index_or, slice_set}
 use Rattle.std.specs.List.Sorted.{IsPermutation}
 use Rattle.awari_block.specs.Tally.{with_pit}
-use Rattle.awari_block.specs.Steps.{after_note}
+use Rattle.awari_block.specs.Awaited.{AwaitsNoMore}
+use Rattle.awari_block.specs.Steps.{after_note, after_opening}
 use Rattle.awari_block.specs.Cells.{Fits, Keeps, SettlesTimely, status_of}
-use Rattle.awari_block.specs.Blocks.{due_dist, due_rank, IsBlock, KeepSettled}
+use Rattle.awari_block.specs.Blocks.{due_dist, due_rank, no_cell, IsBlock, KeepSettled}
 use Rattle.awari_block.specs.Part.{Part, AreFresh, InBlock, JoinsFresh, SameLevel, stored_at, unspread}
 use Rattle.awari_block.specs.declared.cells.Cell.{Cell}
 use Rattle.awari_block.specs.declared.notes.Kind.{Kind}
@@ -24,12 +25,20 @@ pub record Settles (old new : Part) : Type 0 where
   pub unspread : unspread new ≡ unspread old
   pub fresh : AreFresh old → AreFresh new
 
+-- Of the cells from place `low` up to, not including, place `high` the open gain is opened. The others stay as they are.
+pub record OpensCells (old new : Part) (low high : ℕ) : Type 0 where
+  pub heard : (k : ℕ) → k < length old.cells → (slice_index_or new.cells k no_cell).heard ≡ (slice_index_or old.cells k no_cell).heard
+  pub inside : (k : ℕ) → k < length old.cells → low ≤ k → k < high
+      → status_of (slice_index_or new.cells k no_cell) ≡ after_opening (status_of (slice_index_or old.cells k no_cell)) old.level old.gain
+  pub outside : (k : ℕ) → (k < low) ⊎ (high ≤ k) → slice_index_or new.cells k no_cell ≡ slice_index_or old.cells k no_cell
+
 -- this cell may take the place of that of the board of this rank
 pub record CanPut (part : Part) (rank : ℕ) (cell : Cell) : Type 0 where
   pub held : InBlock part rank
   pub fits : Fits (place_of part) cell
   pub keeps : Keeps (stored_at part rank) cell
   pub timely : SettlesTimely (place_of part) (stored_at part rank) cell
+  pub awaits : AwaitsNoMore (stored_at part rank) cell
 
 -- a note of this pit, of the open gain and distance, may be heard for the board of this rank
 pub record CanHear (part : Part) (target pit : ℕ) : Type 0 where

@@ -1,31 +1,38 @@
 //! The boards of a block: what is known of each, which are fresh, and where their analysis stands.
 
-ghost use Rattle.std.specs.Prelude.{◌≡◌, ℕ, ℤ, ◌+◌, ◌-◌, ◌^◌, ◌<◌, ◌≤◌, ◌↔◌, IsTrue, IfOk, IfSome, All, Some, [], length, vec_len, slice_set, slice_index_or};
-ghost use Rattle.awari_rank.specs.Rank.{size_of};
+ghost use Rattle.std.specs.Prelude.{◌≡◌, ℕ, ℤ, ◌+◌, ◌-◌, ◌*◌, ◌/◌, ◌^◌, ◌<◌, ◌≤◌, ◌↔◌, IsTrue, false, sum, IfOk, IfSome, All, Some, [], length, vec_len, slice_set, slice_index_or};
+ghost use Rattle.awari_board.specs.Rules.{IsBoard};
+ghost use Rattle.awari_rank.specs.Rank.{rank_of, size_of};
 ghost use Rattle.awari_block.specs.Cells.{Fits, FitsBy, status_of};
 ghost use Rattle.awari_block.specs.Steps.{after_opening};
 ghost use Rattle.awari_block.specs.Blocks.{due_dist, no_cell};
 ghost use Rattle.awari_block.specs.Part.{Part as PartView, AreFresh, InBlock, IsLeastDue, settled_at, stored_at, IsClosed};
-ghost use Rattle.awari_block.specs.Boards.{CanHear, CanPut, HearsNote, Settles, TakesFirst, place_of};
+ghost use Rattle.awari_block.specs.Boards.{CanHear, CanPut, HearsNote, OpensCells, Settles, TakesFirst, place_of};
 
+use crate::awaited::Awaited;
 use crate::cells::Cell;
 use crate::closed::ClosedPart;
 use crate::fresh::Fresh;
+use crate::landmarks::Landmarks;
 use crate::notes::{Kind, Note};
 use crate::places::Place;
+use awari_packed::PackedBoard;
 use std::alloc::{AllocError, Global};
 use std::marker::Model;
 
 /// The boards of a block: where the analysis of the level stands, a cell for each board, and which
 /// boards are fresh, that is, settled and not spread yet.
 ///
-/// The three go together. The fresh boards are ordered by the distances in the cells, and what a cell
-/// may hold goes by the open gain.
+/// The first three go together. The fresh boards are ordered by the distances in the cells, and what a
+/// cell may hold goes by the open gain. The others save time: which gains are awaited where, and boards
+/// that others are found from.
 #[derive(Drop)]
 pub struct Boards {
     place: Place,
     cells: Vec<Cell>,
     fresh: Fresh,
+    awaited: Awaited,
+    landmarks: Landmarks,
 }
 
 impl Model for Boards {
@@ -43,8 +50,8 @@ impl Model for Boards {
 
 impl Boards {
     /// The boards of a block of this level, from this rank on, with no gain open and none of them
-    /// fresh. It takes the memory that the fresh boards will ever need, a little more than a bit for each
-    /// board, and is refused where that was.
+    /// fresh. It takes the memory that it will ever need, a little more than a byte for each board, and is
+    /// refused where that was.
     pub fn unopened(
         alloc: Global,
         level: u8,
@@ -58,6 +65,8 @@ impl Boards {
         ensures { IfOk result (λ boards. boards ≡ record { level = level; gain = level + 1; wave = 0; start = start; cells = cells.items; fresh = [] }) }
     {
         let fresh = Fresh::new(alloc, cells.len())?;
+        let awaited = Awaited::of(alloc, level, cells.as_slice())?;
+        let landmarks = Landmarks::of(alloc, level, start, cells.len())?;
         Ok(Boards {
             place: Place {
                 level,
@@ -67,6 +76,8 @@ impl Boards {
             },
             cells,
             fresh,
+            awaited,
+            landmarks,
         })
     }
 
@@ -106,6 +117,17 @@ impl Boards {
         ensures fits { Fits (place_of self.now) result }
     {
         self.cells[(rank - self.place.start) as usize]
+    }
+
+    /// The board of this rank.
+    #[inline(always)]
+    pub fn board(&self, rank: u32) -> PackedBoard
+        requires held { InBlock self.now rank }
+        ensures board { IsBoard result }
+        ensures stones { sum result ≡ self.now.level }
+        ensures rank { rank_of result ≡ rank }
+    {
+        self.landmarks.board((rank - self.place.start) as usize)
     }
 
     /// Whether none is fresh.
@@ -225,12 +247,39 @@ impl Boards {
         requires gain { self.old.gain ≤ self.old.level }
         requires opened { self.old.wave ≡ 0 }
         ensures settles { Settles self.old self.new }
-        ensures heard { (k : ℕ) → k < length self.old.cells → (slice_index_or self.new.cells k no_cell).heard ≡ (slice_index_or self.old.cells k no_cell).heard }
-        ensures status { (k : ℕ) → k < length self.old.cells → status_of (slice_index_or self.new.cells k no_cell) ≡ after_opening (status_of (slice_index_or self.old.cells k no_cell)) self.old.level self.old.gain }
+        ensures opens { OpensCells self.old self.new 0 (length self.old.cells) }
     {
+        for run in 0..self.cells.len() / 64 + 1 {
+            self.open_run(run);
+        }
+    }
+
+    /// Whether the opening of the gain of the place may settle a board of this run.
+    fn may_open(&self, run: usize) -> bool
+        requires gain { self.now.gain ≤ self.now.level }
+        requires run { run ≤ length self.now.cells / 64 }
+        ensures { result ≡ false → (k : ℕ) → k < length self.now.cells → 64 * run ≤ k → k < 64 * run + 64
+            → after_opening (status_of (slice_index_or self.now.cells k no_cell)) self.now.level self.now.gain ≡ status_of (slice_index_or self.now.cells k no_cell) }
+    {
+        self.awaited.awaits(run, self.place.gain)
+    }
+
+    /// Opens the gain of the place in the cells of this run of 64, in order of rank. Where none of its boards
+    /// awaits it, no cell is read.
+    fn open_run(&mut self, run: usize)
+        requires gain { self.old.gain ≤ self.old.level }
+        requires opened { self.old.wave ≡ 0 }
+        requires run { 64 * run ≤ length self.old.cells }
+        ensures settles { Settles self.old self.new }
+        ensures opens { OpensCells self.old self.new (64 * run) (64 * run + 64) }
+    {
+        if !self.may_open(run) {
+            return;
+        }
         let place = self.place();
         let (start, end) = self.block();
-        for rank in start..end {
+        let first = start + 64 * run as u32;
+        for rank in first..first + (end - first).min(64) {
             // Most cells have nothing to open, and are passed over without being written.
             let cell = self.cell(rank);
             if !cell.awaits_gain(place) {

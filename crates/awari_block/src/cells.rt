@@ -1,8 +1,9 @@
 //! What is kept of each board of a block.
 
-ghost use Rattle.std.specs.Prelude.{◌≡◌, ℕ, false, ◌+◌, ◌-◌, ◌^◌, ◌<◌, ◌≤◌, ◌↔◌, IsTrue, IfSome, pos, neg_ℤ, ◌≤ℤ◌};
+ghost use Rattle.std.specs.Prelude.{◌≡◌, ℕ, false, ◌+◌, ◌-◌, ◌^◌, ◌<◌, ◌≤◌, ◌↔◌, IsTrue, IfSome, Some, pos, neg_ℤ, ◌≤ℤ◌};
 ghost use Rattle.awari_block.specs.Tally.{Open, has_pit, with_pit};
-ghost use Rattle.awari_block.specs.Cells.{status_of, is_settled, Fits, IsBeyond, IsWithin, Keeps, SettlesTimely};
+ghost use Rattle.awari_block.specs.Awaited.{AwaitsNoMore, MayOpen};
+ghost use Rattle.awari_block.specs.Cells.{status_of, is_settled, Fits, FitsBy, IsBeyond, IsWithin, Keeps, SettlesTimely};
 ghost use Rattle.awari_block.specs.Part.{settled_by};
 ghost use Rattle.awari_block.specs.Steps.{after_note, after_opening};
 ghost use Rattle.awari_block.specs.declared.places.Place.{Place as PlaceView};
@@ -52,6 +53,7 @@ impl Cell {
     }
 
     /// Whether the board is settled.
+    #[inline(always)]
     pub(crate) fn is_settled(&self) -> bool
         ensures { result ≡ is_settled self.now.mark }
     {
@@ -82,6 +84,7 @@ impl Cell {
     ///
     /// A lost board gives the gain at once. A won one leaves one move less that might do better; the
     /// last, where no capture does better either, settles the board.
+    #[inline(always)]
     pub(crate) fn with_note(self, place: Place, pit: u8, kind: Kind) -> Cell
         requires pit { pit < 6 }
         requires low { place.level ≤ 24 }
@@ -91,6 +94,7 @@ impl Cell {
         ensures heard { result.heard ≡ with_pit self.heard pit }
         ensures status { status_of result ≡ after_note (status_of self) kind place.gain place.wave }
         ensures keeps { Keeps self result }
+        ensures awaits { AwaitsNoMore self result }
         ensures timely { SettlesTimely place self result }
         ensures fits { Fits place result }
     {
@@ -127,18 +131,36 @@ impl Cell {
     }
 
     /// Whether the opening of the gain of the place can change the cell.
+    #[inline(always)]
     pub(crate) fn awaits_gain(&self, place: Place) -> bool
         requires low { place.level ≤ 24 }
         requires gain { place.gain ≤ place.level }
         requires fits { Fits place self.now }
         ensures { result ≡ false → after_opening (status_of self.now) place.level place.gain ≡ status_of self.now }
     {
+        let gain = place.gain as i8;
+        if self.mark == Mark::Capturing {
+            return self.score == gain || self.score == -gain;
+        }
+        self.mark == Mark::Ended && place.gain == place.level
+    }
+
+    /// The one gain whose opening may settle the board, which is not settled yet, in a level of so many
+    /// stones, if there is one.
+    pub(crate) fn awaited_gain(&self, level: u8) -> Option<u8>
+        requires low { level ≤ 24 }
+        requires fits { FitsBy self.now.mark level (level + 1) self.now.score self.now.dist }
+        ensures few { IfSome result (λ t. t ≤ 24) }
+        ensures only { (t : ℕ) → MayOpen self.now.mark self.now.score level t → result ≡ Some t }
+    {
         match self.mark {
-            Mark::Settled | Mark::Quiet => false,
-            Mark::Ended => place.gain == place.level,
+            Mark::Settled | Mark::Quiet => None,
+            Mark::Ended => Some(level),
             Mark::Capturing => {
-                let gain = place.gain as i8;
-                self.score == gain || self.score == -gain
+                if self.score < 0 {
+                    return Some((-self.score) as u8);
+                }
+                Some(self.score as u8)
             }
         }
     }
@@ -154,6 +176,7 @@ impl Cell {
         ensures heard { result.heard ≡ self.heard }
         ensures status { status_of result ≡ after_opening (status_of self) place.level place.gain }
         ensures keeps { Keeps self result }
+        ensures awaits { AwaitsNoMore self result }
         ensures timely { SettlesTimely place self result }
         ensures fits { Fits place result }
     {

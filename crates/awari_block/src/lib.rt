@@ -13,10 +13,12 @@
 //!     let rank = self.boards.take_first();
 #![tactic(auto)]
 
+mod awaited;
 mod boards;
 mod cells;
 mod closed;
 mod fresh;
+mod landmarks;
 mod notes;
 mod places;
 mod words;

@@ -23,7 +23,6 @@ use crate::scans::{ScannedBlock, scanned_block};
 use crate::spreads::{kind_of, tell_all};
 use awari_block::{Block, Boards, ClosedPart, Note, block_length};
 use awari_board::{SIDE, moves_keep_boards};
-use awari_packed::PackedBoard;
 use awari_rank::{ranks_tell_boards_apart, size};
 use awari_table::{Shelf, shelves_are_certificates};
 use std::alloc::Global;
@@ -56,7 +55,7 @@ impl Part {
     /// with no note heard, and no gain open. There are 1 to 16 owners, and the shelf has at most
     /// `HIGHEST_LEVEL` levels. Refused as 33 `Memory` where a growth was.
     ///
-    /// It takes all the memory that the part will ever need, a little more than nine bytes a board.
+    /// It takes all the memory that the part will ever need, a little more than ten bytes a board.
     pub fn scan(alloc: Global, shelf: &Shelf, owners: u8, owner: u8) -> Result<Part, OwnerFault>
         requires owners { (1 ≤ owners) × (owners ≤ 16) }
         requires owner { owner < owners }
@@ -261,7 +260,7 @@ impl Part {
         let span = block_length(size(place.level), outboxes.queues.len() as u8);
         let rank = self.boards.take_first();
         let kind = kind_of(&self.boards.cell(rank));
-        let board = PackedBoard::unrank(place.level, rank);
+        let board = self.boards.board(rank);
         tell_all(&mut self.boards, &mut outboxes.queues, span, kind, &board);
         Ok(true)
     }

@@ -1,12 +1,14 @@
 use Rattle.std.proofs.Common.{◌≡◌, ◌<◌, ◌-◌, false, List, length, set, subst, sym, ap, ◌∙◌, rules}
 use Rattle.std.proofs.lemmas.Bool.{false≢true}
-use Rattle.std.proofs.lemmas.List.{get_or_default}
+use Rattle.std.proofs.lemmas.List.{get_or_default, length-set}
 use Rattle.awari_block.specs.declared.cells.Cell.{Cell}
 use Rattle.awari_block.specs.Cells.{is_settled}
 use Rattle.awari_block.specs.Blocks.{cell_in, no_cell}
 use Rattle.awari_block.specs.Boards.{CanPut, Settles}
 use Rattle.awari_block.specs.Fresh.{IsFresh, fresh_of}
+use Rattle.awari_block.specs.Landmarks.{AreLandmarks}
 use Rattle.awari_block.specs.Part.{Part, part_of}
+use Rattle.awari_block.proofs.Awaiting.{awaited_put}
 use Rattle.awari_block.proofs.FreshBlocks.{put_few, put_marks, put_unmarked}
 use Rattle.awari_block.proofs.Settling.{joined_block, joined_settles, kept_block, kept_settles}
 use Rattle.awari_block.proofs.boards.Boards.put.Goals as goal
@@ -47,6 +49,8 @@ invariant_of-self c =
       marks = subst (λ (cs : List Cell). IsFresh cs c.insert.new.self) c.as_slice.ensures.value c.insert.ensures.sound;
       block = joined_block c.self.inside.place c.self.inside.cells.items c.self.inside.fresh c.self.invariant.block c.self.invariant.marks c.args.rank c.args.cell can
           (sym c.if-is_settled.ensures) old c.insert.new.self.words.items c.insert.ensures.marks;
+      awaited = awaited_put c.self.inside.place.level (c.args.rank - c.self.inside.place.start) c.self.inside.cells.items c.self.inside.awaited.gains.items c.args.cell can.held.1 can.awaits c.self.invariant.awaited;
+      landmarks = subst (λ n. AreLandmarks c.self.inside.place.level c.self.inside.place.start n c.self.inside.landmarks.boards.items) (sym (length-set c.self.inside.cells.items (c.args.rank - c.self.inside.place.start) c.args.cell)) c.self.invariant.landmarks;
     }
 
 pub invariant_of-self-else-not-was_settled : goal.invariant_of-self-else-not-was_settled
@@ -62,6 +66,8 @@ invariant_of-self-else-not-was_settled c =
       marks = put_marks c.self.inside.place c.self.inside.cells.items c.self.inside.fresh c.self.invariant.block c.self.invariant.marks c.args.rank c.args.cell can.held.0 can.held.1 can.keeps;
       block = kept_block c.self.inside.place c.self.inside.cells.items c.self.inside.fresh c.self.invariant.block c.self.invariant.marks c.args.rank c.args.cell can
           (λ _. ap (λ (d : Cell). is_settled d.mark) read ∙ sym c.if-not-was_settled.ensures);
+      awaited = awaited_put c.self.inside.place.level (c.args.rank - c.self.inside.place.start) c.self.inside.cells.items c.self.inside.awaited.gains.items c.args.cell can.held.1 can.awaits c.self.invariant.awaited;
+      landmarks = subst (λ n. AreLandmarks c.self.inside.place.level c.self.inside.place.start n c.self.inside.landmarks.boards.items) (sym (length-set c.self.inside.cells.items (c.args.rank - c.self.inside.place.start) c.args.cell)) c.self.invariant.landmarks;
     }
 
 pub invariant_of-self-else-is_settled : goal.invariant_of-self-else-is_settled
@@ -76,6 +82,8 @@ invariant_of-self-else-is_settled c =
       marks = put_marks c.self.inside.place c.self.inside.cells.items c.self.inside.fresh c.self.invariant.block c.self.invariant.marks c.args.rank c.args.cell can.held.0 can.held.1 can.keeps;
       block = kept_block c.self.inside.place c.self.inside.cells.items c.self.inside.fresh c.self.invariant.block c.self.invariant.marks c.args.rank c.args.cell can
           (λ new. absurd (false≢true (c.if-is_settled.ensures ∙ new)));
+      awaited = awaited_put c.self.inside.place.level (c.args.rank - c.self.inside.place.start) c.self.inside.cells.items c.self.inside.awaited.gains.items c.args.cell can.held.1 can.awaits c.self.invariant.awaited;
+      landmarks = subst (λ n. AreLandmarks c.self.inside.place.level c.self.inside.place.start n c.self.inside.landmarks.boards.items) (sym (length-set c.self.inside.cells.items (c.args.rank - c.self.inside.place.start) c.args.cell)) c.self.invariant.landmarks;
     }
 
 pub returns-then-not-was_settled-clause-settles : goal.returns-then-not-was_settled-clause-settles

@@ -29,6 +29,8 @@ invariant_of-self c =
       marks = subst (λ (cs : List Cell). IsFresh cs c.remove.new.self) c.as_slice.ensures.value c.remove.ensures.sound;
       block = popped c.self.inside.place c.self.inside.cells.items (fresh_of c.self.inside.place.start c.self.inside.cells.items c.self.inside.fresh) (fresh_of c.self.inside.place.start c.self.inside.cells.items c.remove.new.self)
           (c.in-Some._dist, c.self.inside.place.start + c.in-Some.index) c.self.invariant.block moved;
+      awaited = c.self.invariant.awaited;
+      landmarks = c.self.invariant.landmarks;
     }
 
 pub returns-clause-first : goal.returns-clause-first

@@ -1,12 +1,13 @@
-use Rattle.std.proofs.Common.{◌≡◌, ◌+◌, ◌-◌, ◌≤◌, [], length, refl, ap, sym, subst, subst₂, rules, arith}
+use Rattle.std.proofs.Common.{◌≡◌, ◌+◌, ◌-◌, ◌≤◌, [], length, refl, ap, sym, subst, subst₂, ◌∙◌, rules, arith}
 use Rattle.awari_rank.proofs.Reaching.{board_reached}
 use Rattle.awari_table.specs.Images.{table_of}
 use Rattle.awari_block.specs.Leaving.{AreLeaving}
-use Rattle.awari_block.specs.Part.{Part, AreFresh, IsTallied}
+use Rattle.awari_rank.specs.Rank.{rank_of}
+use Rattle.awari_block.specs.Part.{Part, AreFresh, IsTallied, stored_at}
 use Rattle.awari_owner.specs.Scan.{AreScanned}
 use Rattle.awari_owner.specs.Spread.{HearsOwn}
 use Rattle.awari_block.proofs.Freshness.{fresh_of_block}
-use Rattle.awari_owner.proofs.Scanning.{scanned_block, scanned_unsettled, hears_none}
+use Rattle.awari_owner.proofs.Scanning.{scanned_block, scanned_tally, scanned_unsettled, hears_none}
 use Rattle.awari_owner.proofs.parts.Part.from_scanned.Goals as goal
 
 pub unopened-requires-clause-fit : goal.unopened-requires-clause-fit
@@ -60,5 +61,14 @@ returns-clause-hears c =
 pub returns-clause-tallied : goal.returns-clause-tallied
 returns-clause-tallied c =
     let part : Part = record { level = c.levels.result; gain = c.levels.result + 1; wave = 0; start = c.args.block.start; cells = c.args.found.cells.items; fresh = [] } in
-    let tallied : IsTallied (table_of c.args.shelf.now).value part [] = search rules in
+    let found = c.requires.found in
+    let order = c.requires.block.order in
+    let len : c.args.block.start + length c.args.found.cells.items ≡ c.args.block.end = omega (arith, order, found.piece.len) in
+    let behind : c.args.block.start + (c.args.block.end - c.args.block.start) ≡ c.args.block.end = omega (arith, order) in
+    let scanned_all = subst (λ e. AreScanned (table_of c.args.shelf.now).value (length c.args.shelf.now) c.args.block.start e c.args.found.cells.items) behind found.piece.scanned in
+    let tallied : IsTallied (table_of c.args.shelf.now).value part [] = λ p is stones inside.
+    let low = inside.0 in
+    let high = inside.1 in
+    scanned_tally (table_of c.args.shelf.now).value p (stored_at part (rank_of p)) (c.levels.result + 1) 0 (omega (arith, stones))
+    (scanned_all p is (stones ∙ c.levels.ensures.levels) low (omega (arith, low, high, len))) in
     subst (λ (o : Part). IsTallied (table_of c.args.shelf.now).value o []) (sym c.in-Ok.ensures) tallied

@@ -67,8 +67,8 @@ invariant_of-outboxes-2 c =
     let told = c.tell_all.ensures.told in
     let puts : PutsAll old c.block_length-span.result c.kind_of-kind.result c.reserve_others.new.queues.items c.tell_all.new.queues.items told.0 =
     subst (λ (t : Part). PutsAll t c.block_length-span.result c.kind_of-kind.result c.reserve_others.new.queues.items c.tell_all.new.queues.items told.0) takes.rest told.3 in
-    let are = sources_of c.unrank-board.result told.0 (λ p x is move. c.moves_keep_boards.ensures.stones p c.unrank-board.result x 0 is move) told.1 in
-    let stones = c.unrank-board.ensures.stones ∙ ap (λ (p : Place). p.level) c.place-place.ensures.place in
+    let are = sources_of c.board-board.result told.0 (λ p x is move. c.moves_keep_boards.ensures.stones p c.board-board.result x 0 is move) told.1 in
+    let stones = c.board-board.ensures.stones ∙ ap (λ (t : Part). t.level) takes.rest in
     let many : 0 < size_of old.level = subst (λ (p : Place). 0 < size_of p.level) c.place-place.ensures.place (subst (λ n. 0 < n) c.size.ensures.boards c.size.ensures.some) in
     let spans = span_is old c.place-place.result c.size.result c.len.result (length c.outboxes.inside.queues.items) c.block_length-span.result c.place-place.ensures.place c.size.ensures.boards (search rules) c.block_length-span.ensures in
     let after : length c.tell_all.new.queues.items ≡ length c.outboxes.inside.queues.items = search rules in
@@ -78,7 +78,7 @@ invariant_of-outboxes-2 c =
       few = omega (arith, many', c.outboxes.invariant.few);
       one = omega (arith, many', c.outboxes.invariant.one);
       own =
-          own_stays old c.unrank-board.result told.0 c.kind_of-kind.result c.block_length-span.result c.outboxes.inside.owner c.outboxes.inside.queues.items c.reserve_others.new.queues.items c.tell_all.new.queues.items
+          own_stays old c.board-board.result told.0 c.kind_of-kind.result c.block_length-span.result c.outboxes.inside.owner c.outboxes.inside.queues.items c.reserve_others.new.queues.items c.tell_all.new.queues.items
           are stones made many spans c.in-Ok.ensures.same puts ∙ c.outboxes.invariant.own;
       batches = all_batches old c.block_length-span.result c.kind_of-kind.result told.0 c.outboxes.inside.queues.items c.reserve_others.new.queues.items c.tell_all.new.queues.items after c.in-Ok.ensures.same puts
           c.outboxes.invariant.batches;
@@ -94,20 +94,20 @@ returns-clause-spread c = λ _.
     subst (λ (t : Part). PutsAll t c.block_length-span.result c.kind_of-kind.result c.reserve_others.new.queues.items c.tell_all.new.queues.items told.0) takes.rest told.3 in
     let level = ap (λ (p : Place). p.level) c.place-place.ensures.place in
     let wave = ap (λ (p : Place). p.wave) c.place-place.ensures.place in
-    let both : Spreads old c.tell_all.new.boards c.unrank-board.result told.0 × IsTold old c.unrank-board.result told.0 c.kind_of-kind.result =
-    spread_first old c.take_first-rank.new.self c.tell_all.new.boards c.take_first-rank.result takes c.tell_all.ensures.settles c.cell.result c.unrank-board.result told.0 c.kind_of-kind.result
+    let both : Spreads old c.tell_all.new.boards c.board-board.result told.0 × IsTold old c.board-board.result told.0 c.kind_of-kind.result =
+    spread_first old c.take_first-rank.new.self c.tell_all.new.boards c.take_first-rank.result takes c.tell_all.ensures.settles c.cell.result c.board-board.result told.0 c.kind_of-kind.result
     c.ranks_tell_boards_apart.ensures
     (λ p x r is move. c.moves_keep_boards.ensures.board p r x 0 is move)
     (λ p x r is move. c.moves_keep_boards.ensures.stones p r x 0 is move)
-    (let far = c.if-dist.false in let at = c.if-dist-place.false in search (rules, wave)) c.self.invariant.opened c.unrank-board.ensures.board (c.unrank-board.ensures.stones ∙ level) c.unrank-board.ensures.rank
+    (let far = c.if-dist.false in let at = c.if-dist-place.false in search (rules, wave)) c.self.invariant.opened c.board-board.ensures.board (c.board-board.ensures.stones ∙ ap (λ (t : Part). t.level) takes.rest) c.board-board.ensures.rank
     c.cell.ensures.stored c.kind_of-kind.ensures told.1 told.2 in
     let many : 0 < size_of old.level = subst (λ (p : Place). 0 < size_of p.level) c.place-place.ensures.place (subst (λ n. 0 < n) c.size.ensures.boards c.size.ensures.some) in
     let spans = span_is old c.place-place.result c.size.result c.len.result (length c.outboxes.inside.queues.items) c.block_length-span.result c.place-place.ensures.place c.size.ensures.boards (search rules) c.block_length-span.ensures in
     let after : length c.tell_all.new.queues.items ≡ length c.outboxes.inside.queues.items = search rules in
-    let sends = sends_by old c.unrank-board.result told.0 c.kind_of-kind.result c.block_length-span.result c.outboxes.inside.owner c.outboxes.inside.queues.items c.reserve_others.new.queues.items c.tell_all.new.queues.items
+    let sends = sends_by old c.board-board.result told.0 c.kind_of-kind.result c.block_length-span.result c.outboxes.inside.owner c.outboxes.inside.queues.items c.reserve_others.new.queues.items c.tell_all.new.queues.items
     c.self.invariant.opened both.1 made many spans after c.in-Ok.ensures.same puts in
     subst₂ (λ (o : Part) (b : Outboxes). (q : List ℕ) × (sources : List Source) × (notes : List Note) × Spreads o c.tell_all.new.boards q sources × Sends o q sources notes b (outboxes_of c.outboxes.inside.owner c.tell_all.new.queues.items)) c.self.view_is c.outboxes.view_is
-    (c.unrank-board.result, told.0, _, both.0, sends)
+    (c.board-board.result, told.0, _, both.0, sends)
 
 pub returns-clause-unspread : goal.returns-clause-unspread
 returns-clause-unspread c = λ _.
