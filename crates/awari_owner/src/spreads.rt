@@ -1,14 +1,14 @@
 //! What the predecessors of a board that is spread are told: those in the block at once, the others by notes
 //! that are put to their owners' queues.
 
-ghost use Rattle.std.specs.Prelude.{◌≡◌, ℕ, ℤ, ◌+◌, ◌-◌, ◌^◌, ◌<◌, ◌≤◌, ◌/◌, List, sum, vec_len, false};
+ghost use Rattle.std.specs.Prelude.{◌≡◌, ℕ, ℤ, ◌+◌, ◌-◌, ◌*◌, ◌^◌, ◌<◌, ◌≤◌, ◌/◌, List, sum, vec_len, false};
 ghost use Rattle.awari_rank.specs.Rank.{rank_of, size_of};
 ghost use Rattle.awari_owner.specs.Queues.{queue_in, room_in};
-ghost use Rattle.awari_unmove.specs.Predecessors.{IsPredecessors};
+ghost use Rattle.awari_unmove.specs.Predecessors.{IsPredecessors, IsPredecessorsFrom};
 ghost use Rattle.awari_block.specs.Notes.{is_heard_at};
 ghost use Rattle.awari_block.specs.Part.{InBlock, IsTallied, notes_for};
 ghost use Rattle.awari_block.specs.Boards.{Settles};
-ghost use Rattle.awari_owner.specs.Spread.{Source, kind_of, is_held, IsSource, Tells, PutsAll, with_own, with_sent};
+ghost use Rattle.awari_owner.specs.Spread.{CanTell, Source, kind_of, is_held, IsSource, Tells, PutsAll, with_own, with_sent};
 ghost use Rattle.awari_block.specs.declared.notes.Note.{Note as NoteView};
 
 use crate::queues::Queue;
@@ -16,7 +16,7 @@ use awari_block::{Boards, Cell, Kind};
 use awari_board::moves_keep_boards;
 use awari_packed::PackedBoard;
 use awari_rank::ranks_tell_boards_apart;
-use awari_unmove::PackedUnmoves;
+use awari_unmove::PitUnmoves;
 
 /// Tells the predecessors of a board that it is won or lost, where a block has `span` boards.
 pub fn tell_all(
@@ -38,9 +38,36 @@ pub fn tell_all(
     ensures queues { vec_len queues.new ≡ vec_len queues.old }
     ensures settles { Settles boards.old boards.new }
 {
+    // One loop a pit, with the pit a constant, is faster than one loop over all of them.
+    tell_from(boards, queues, span, kind, board, 0);
+    tell_from(boards, queues, span, kind, board, 1);
+    tell_from(boards, queues, span, kind, board, 2);
+    tell_from(boards, queues, span, kind, board, 3);
+    tell_from(boards, queues, span, kind, board, 4);
+    tell_from(boards, queues, span, kind, board, 5);
+}
+
+/// Tells the predecessors whose quiet move is of `pit`, and leaves room for those of the later pits.
+#[inline(always)]
+fn tell_from(
+    boards: &mut Boards,
+    queues: &mut Vec<Queue>,
+    span: u32,
+    kind: Kind,
+    board: &PackedBoard,
+    pit: u8,
+)
+    requires own { pit < 6 }
+    requires ready { CanTell boards.old queues.old.items span board.now (48 * (6 - pit)) }
+    ensures ready { CanTell boards.new queues.new.items span board.now (48 * (6 - (pit + 1))) }
+    ensures told { (sources : List Source) × IsPredecessorsFrom board.now pit sources × Tells boards.old boards.new kind sources
+        × PutsAll boards.old span kind queues.old.items queues.new.items sources }
+    ensures queues { vec_len queues.new ≡ vec_len queues.old }
+    ensures settles { Settles boards.old boards.new }
+{
     moves_keep_boards();
-    for (source, pit) in PackedUnmoves::of(board) {
-        tell_one(boards, queues, span, kind, &source, pit);
+    for (source, origin) in PitUnmoves::of(board, pit) {
+        tell_one(boards, queues, span, kind, &source, origin);
     }
 }
 

@@ -1,7 +1,9 @@
 -- What a function gives at the numbers of a range, in their order.
-use Rattle.std.proofs.Common.{◌≡◌, ℕ, zero, suc, ◌+◌, ◌<◌, ◌≤◌, ◌⊎◌, ⊎_elim, inl, inr, List, [], ◌∷◌, length, Option, Some, None, Contains, refl, sym, ap, ◌∙◌, subst, arith}
+use Rattle.std.proofs.Common.{◌≡◌, ℕ, zero, suc, ◌+◌, ◌-◌, ◌<◌, ◌≤◌, ◌⊎◌, ⊎_elim, inl, inr, List, [], ◌∷◌, ◌++◌, length, length-append, Option, Some, None, Contains, refl, sym, ap, ◌∙◌, subst, subst₂, arith}
 use Rattle.std.specs.List.{All, AllPairs, cons_option}
-use Rattle.std.proofs.lemmas.Bool.{cases_eq}
+use Rattle.std.proofs.lemmas.Bool.{cases_eq, cases_lt}
+use Rattle.std.proofs.lemmas.List.{get_or_append_left}
+use Rattle.std.proofs.Math.Seq.{get_or-append_right}
 use Rattle.std.proofs.lemmas.List.Elements.{Contains-push, Contains-push_cases, Contains-append_cases, Contains-append_left, Contains-append_right, Contains-get_or}
 use Rattle.std.proofs.lemmas.List.Kept.{AllPairs-cons}
 use Rattle.awari_unmove.specs.Undoing.{listed}
@@ -75,3 +77,14 @@ AllPairs-listed R f (suc n) t before =
     let at = at-from_Contains f n (t + 1) _ (Contains-get_or (listed f (t + 1) n) k d inside) in
     before t at.0 a _ (omega (arith, at.1)) here at.3)
     (AllPairs-listed R f n (t + 1) before)
+
+pub AllPairs-append : {E : Type 0} (R : E → E → Type 0) (xs ys : List E) → AllPairs R xs → AllPairs R ys → ((a b : E) → Contains xs a → Contains ys b → R a b) → AllPairs R (xs ++ ys)
+AllPairs-append R xs ys one two between i j d lt inside =
+    let long = length-append xs ys in
+    ⊎_elim
+    (λ low. subst₂ R (sym (get_or_append_left xs ys d i (omega arith))) (sym (get_or_append_left xs ys d j low)) (one i j d lt low))
+    (λ high. ⊎_elim
+    (λ left. subst₂ R (sym (get_or_append_left xs ys d i left)) (sym (get_or-append_right xs ys j d high)) (between _ _ (Contains-get_or xs i d left) (Contains-get_or ys (j - length xs) d (omega arith))))
+    (λ right. subst₂ R (sym (get_or-append_right xs ys i d right)) (sym (get_or-append_right xs ys j d high)) (two (i - length xs) (j - length xs) d (omega arith) (omega arith)))
+    (cases_lt i (length xs)))
+    (cases_lt j (length xs))

@@ -30,6 +30,10 @@ unmove_at back t = unmove back (t / 48) (t % 48 + 1)
 unfoldable pub unmoves_after : List ℕ → ℕ → ℕ → List (List ℕ × ℕ)
 unmoves_after back pit stones = listed (unmove_at back) (48 * pit + stones) (288 - (48 * pit + stones))
 
+-- those of this pit alone that are still to come, once `stones` stones of it are taken back
+unfoldable pub unmoves_from : List ℕ → ℕ → ℕ → List (List ℕ × ℕ)
+unmoves_from back pit stones = listed (unmove_at back) (48 * pit + stones) (48 - stones)
+
 -- the pits once k stones of a sowing from pit x that gave `back` are taken back into it
 pub record IsUnsowing (back : List ℕ) (x k : ℕ) (pits : List ℕ) : Type 0 where
   pub size : length pits ≡ 12
@@ -49,3 +53,11 @@ pub record TakesBack (back : List ℕ) (x before after : ℕ) (left : List ℕ) 
   pub empty : slice_index back x ≡ 0
   pub more : after ≡ before + 1
   pub unsowing : IsUnsowing back x after left
+
+-- a search in pit `pit` alone that has taken `stones` stones back, the next of which had fallen into pit `last`
+pub record IsUndoingFrom (back : List ℕ) (pit stones last : ℕ) (left : List ℕ) : Type 0 where
+  pub size : length back ≡ 12
+  pub few : sum back ≤ 48
+  pub own : pit < 6
+  pub unsowing : IsUnsowing back pit stones left
+  pub next : last ≡ landing pit (stones + 1)

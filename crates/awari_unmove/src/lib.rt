@@ -11,9 +11,11 @@
 //!     expect_equal(&rt, pits, unmoves.next(), None);
 #![tactic(auto)]
 
+mod from_pit;
 mod packed;
 mod search;
 mod unmoves;
 
+pub use from_pit::PitUnmoves;
 pub use packed::PackedUnmoves;
 pub use unmoves::Unmoves;

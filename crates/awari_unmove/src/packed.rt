@@ -146,7 +146,7 @@ fn take_back(back: &PackedBoard, origin: u8, stones: &mut u8, left: &mut PackedB
 
 /// Whether the move of pit `origin` that sows to `back` and ends in pit `last` is legal and quiet.
 #[inline(always)]
-fn is_quiet(back: &PackedBoard, board: &PackedBoard, origin: u8, last: u8) -> bool
+pub fn is_quiet(back: &PackedBoard, board: &PackedBoard, origin: u8, last: u8) -> bool
     requires on_board { last < 12 }
     ensures { IsTrue result ↔ (IsLegal board.now origin × (captured_stones back.now last ≡ 0)) }
 {

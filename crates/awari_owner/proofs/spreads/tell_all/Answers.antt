@@ -1,61 +1,15 @@
-use Rattle.std.proofs.Common.{◌≡◌, ◌+◌, ◌++◌, ◌∷◌, ◌/◌, [], sum, length, length-append, ap, sym, ◌∙◌, rules, arith}
-use Rattle.awari_rank.specs.Rank.{rank_of, size_of}
-use Rattle.awari_rank.proofs.Ranking.{rank_of-below}
-use Rattle.awari_unmove.specs.Predecessors.{IsQuiet}
-use Rattle.awari_unmove.proofs.Walking.{IsPredecessors-more, IsPredecessors-end, IsQuiet-next}
-use Rattle.awari_block.specs.Part.{Part}
-use Rattle.awari_owner.specs.Spread.{Source}
-use Rattle.awari_block.proofs.Settling.{settles_both}
-use Rattle.awari_owner.proofs.Spreading.{held_still, told_more}
-use Rattle.awari_owner.proofs.Sending.{puts_more, seen_more}
+use Rattle.std.proofs.Common.{rules}
+use Rattle.awari_unmove.proofs.Walking.{IsPredecessorsBelow-end}
+use Rattle.awari_owner.proofs.Telling.{IsTold-none, IsTold-more}
 use Rattle.awari_owner.proofs.spreads.tell_all.Goals as goal
-
-pub tell_one-requires-clause-source : goal.tell_one-requires-clause-source
-tell_one-requires-clause-source c =
-    let quiet : IsQuiet c.in-Some.source c.in-Some.pit c.args.board.now = IsQuiet-next c.args.board.now c.loop-source.yielded c.loop-source.source-iterator c.next.new.self c.in-Some.source c.in-Some.pit c.loop-source.invariant.pairs c.in-Some.ensures.steps in
-    let kept : sum c.args.board.now + 0 ≡ sum c.in-Some.source = c.moves_keep_boards.ensures.stones c.in-Some.source c.args.board.now c.in-Some.pit 0 quiet.board quiet.move in
-    let level = c.loop-source.invariant.settles.same.level in
-    (quiet.board, omega (arith, kept, c.requires.stones, level), (c.args.board.now, quiet.move))
-
-pub tell_one-requires-clause-room : goal.tell_one-requires-clause-room
-tell_one-requires-clause-room c = λ out.
-    let quiet : IsQuiet c.in-Some.source c.in-Some.pit c.args.board.now = IsQuiet-next c.args.board.now c.loop-source.yielded c.loop-source.source-iterator c.next.new.self c.in-Some.source c.in-Some.pit c.loop-source.invariant.pairs c.in-Some.ensures.steps in
-    let kept : sum c.args.board.now + 0 ≡ sum c.in-Some.source = c.moves_keep_boards.ensures.stones c.in-Some.source c.args.board.now c.in-Some.pit 0 quiet.board quiet.move in
-    let level : size_of (sum c.in-Some.source) ≡ size_of c.args.boards.now.level = ap size_of (let same : sum c.in-Some.source ≡ c.args.boards.now.level = omega (arith, kept, c.requires.stones) in same) in
-    let below = rank_of-below c.in-Some.source quiet.board.pits in
-    let settles = c.loop-source.invariant.settles in
-    let room = c.loop-source.invariant.room (rank_of c.in-Some.source) (omega (arith, below, level))
-    (sym (held_still c.args.boards.now c.loop-source.boards (rank_of c.in-Some.source) settles.same.start settles.size) ∙ out) in
-    let more = seen_more c.loop-source.yielded c.loop-source.source-iterator c.next.new.self (c.in-Some.source, c.in-Some.pit) c.in-Some.ensures.steps in
-    (search (rules, room.0), (let much = room.1 in let few = c.loop-source.invariant.few in omega (arith, much, few, more)))
-
-pub loop-source-preserved : goal.loop-source-preserved
-loop-source-preserved c =
-    let old : Part = c.args.boards.now in
-    let now : Part = c.loop-source.boards in
-    let new : Part = c.tell_one.new.boards in
-    let settles = c.loop-source.invariant.settles in
-    let same = settles.same in
-    let many : length c.loop-source.queues.items ≡ length c.args.queues.now.items = search rules in
-    let y : Source = (c.in-Some.source, c.in-Some.pit) in
-    let more = seen_more c.loop-source.yielded c.loop-source.source-iterator c.next.new.self y c.in-Some.ensures.steps in
-    let pushed : length (c.loop-source.yielded ++ y ∷ []) ≡ length c.loop-source.yielded + 1 = length-append c.loop-source.yielded (y ∷ []) in
-    let long : length (c.loop-source.yielded ++ y ∷ [] ++ c.next.new.self) ≡ length (c.loop-source.yielded ++ y ∷ []) + length c.next.new.self = length-append (c.loop-source.yielded ++ y ∷ []) c.next.new.self in
-    record {
-      pairs = IsPredecessors-more _ _ _ _ _ c.loop-source.invariant.pairs c.in-Some.ensures.steps;
-      few = (let few = c.loop-source.invariant.few in omega (arith, more, long, pushed, few));
-      same_queues = search rules;
-      settles = settles_both old now new settles c.tell_one.ensures.settles;
-      told = told_more old now new c.args.kind c.loop-source.yielded y same.level same.gain same.wave same.start settles.size c.loop-source.invariant.told c.tell_one.ensures.told;
-      sent = puts_more old now c.args.span c.args.kind c.args.queues.now.items c.loop-source.queues.items c.tell_one.new.queues.items c.loop-source.yielded y same.level same.gain same.wave same.start settles.size many
-          c.loop-source.invariant.sent (λ to inside. c.tell_one.ensures.sent to (search (rules, inside)));
-      room = λ r below out.
-          let before = c.loop-source.invariant.room r below out in
-          let much = before.1 in
-          let less = c.tell_one.ensures.room (r / c.args.span) in
-          (before.0, omega (arith, much, less, pushed));
-    }
 
 pub returns-clause-told : goal.returns-clause-told
 returns-clause-told c =
-    (c.loop-source.yielded, IsPredecessors-end _ _ _ c.loop-source.invariant.pairs c.in-None.ensures.steps.0, c.loop-source.invariant.told, c.loop-source.invariant.sent)
+    let none = IsTold-none c.args.boards.now c.args.span c.args.kind c.args.queues.now.items c.args.board.now in
+    let below_1 = IsTold-more c.args.boards.now c.args.boards.now c.tell_from.new.boards c.args.span c.args.kind c.args.queues.now.items c.args.queues.now.items c.tell_from.new.queues.items c.args.board.now 0 none c.tell_from.ensures.settles (search rules) c.tell_from.ensures.told in
+    let below_2 = IsTold-more c.args.boards.now c.tell_from.new.boards c.tell_from-2.new.boards c.args.span c.args.kind c.args.queues.now.items c.tell_from.new.queues.items c.tell_from-2.new.queues.items c.args.board.now 1 below_1 c.tell_from-2.ensures.settles (search rules) c.tell_from-2.ensures.told in
+    let below_3 = IsTold-more c.args.boards.now c.tell_from-2.new.boards c.tell_from-3.new.boards c.args.span c.args.kind c.args.queues.now.items c.tell_from-2.new.queues.items c.tell_from-3.new.queues.items c.args.board.now 2 below_2 c.tell_from-3.ensures.settles (search rules) c.tell_from-3.ensures.told in
+    let below_4 = IsTold-more c.args.boards.now c.tell_from-3.new.boards c.tell_from-4.new.boards c.args.span c.args.kind c.args.queues.now.items c.tell_from-3.new.queues.items c.tell_from-4.new.queues.items c.args.board.now 3 below_3 c.tell_from-4.ensures.settles (search rules) c.tell_from-4.ensures.told in
+    let below_5 = IsTold-more c.args.boards.now c.tell_from-4.new.boards c.tell_from-5.new.boards c.args.span c.args.kind c.args.queues.now.items c.tell_from-4.new.queues.items c.tell_from-5.new.queues.items c.args.board.now 4 below_4 c.tell_from-5.ensures.settles (search rules) c.tell_from-5.ensures.told in
+    let below_6 = IsTold-more c.args.boards.now c.tell_from-5.new.boards c.tell_from-6.new.boards c.args.span c.args.kind c.args.queues.now.items c.tell_from-5.new.queues.items c.tell_from-6.new.queues.items c.args.board.now 5 below_5 c.tell_from-6.ensures.settles (search rules) c.tell_from-6.ensures.told in
+    (below_6.told.0, IsPredecessorsBelow-end _ _ below_6.told.1, below_6.told.2, below_6.told.3)

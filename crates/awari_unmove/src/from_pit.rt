@@ -1,0 +1,151 @@
+//! The predecessors of a board in a number from one pit, stone by stone.
+//!
+//! A loop over each of the six pits in turn, with the pit a constant, needs no division and no test
+//! of the pit for a stone: where one stone was taken back from, the next is one pit further on.
+
+ghost use Rattle.std.specs.Prelude.{◌≡◌, ℕ, ◌+◌, ◌<◌, ◌≤◌, ◌∷◌, [], length, slice_index, MatchOption};
+ghost use Rattle.std.specs.Iterator.{YieldsFirst, item_count};
+ghost use Rattle.awari_board.specs.Rules.{landing};
+ghost use Rattle.awari_unmove.specs.Predecessors.{IsPredecessorsFrom};
+ghost use Rattle.awari_unmove.specs.Undoing.{IsUndoingFrom, unmoves_from};
+
+use crate::packed::is_quiet;
+use awari_packed::PackedBoard;
+use std::marker::Model;
+
+/// What [`PackedUnmoves`](crate::PackedUnmoves) gives of one pit: the boards whose quiet move from
+/// it gives a board of at most 24 stones, each once, by the stones sown, and each with the pit.
+/// Contracts see the list of those that are still to come.
+#[derive(Drop)]
+pub struct PitUnmoves {
+    /// The board as the player before saw it.
+    back: PackedBoard,
+    pit: u8,
+    /// How many stones are taken back into `pit`.
+    stones: u8,
+    /// The pit that the next stone to be taken back had fallen into.
+    last: u8,
+    /// `back` with those stones taken back.
+    left: PackedBoard,
+}
+
+impl Model for PitUnmoves {
+    ghost use Rattle.std.specs.Prelude.{List, ℕ};
+    ghost use Rattle.awari_unmove.specs.Undoing.{IsUndoingFrom, unmoves_from};
+
+    ghost Value = { List (List ℕ × ℕ) };
+
+    ghost view = { λ u. unmoves_from u.back u.pit u.stones };
+
+    ghost invariant = { λ u. IsUndoingFrom u.back u.pit u.stones u.last u.left };
+}
+
+impl PitUnmoves {
+    /// The quiet moves of pit `pit` that lead to `board`. Condition: `pit` is below 6. It takes no
+    /// memory. A pit that is not empty now gives nothing, as one is empty that was just played.
+    #[inline(always)]
+    pub fn of(board: &PackedBoard, pit: u8) -> Self
+        requires { pit < 6 }
+        ensures predecessors { IsPredecessorsFrom board.now pit result }
+        ensures few { length result ≤ 48 }
+    {
+        let back = board.turned();
+        PitUnmoves {
+            back,
+            pit,
+            stones: 0,
+            last: pit + 1,
+            left: back,
+        }
+    }
+}
+
+impl Iterator for PitUnmoves {
+    type Item = (PackedBoard, u8);
+
+    ghost next_gives = { YieldsFirst (λ u. u) };
+
+    ghost remaining = { item_count (λ u. u) };
+
+    #[inline(always)]
+    fn next(&mut self) -> Option<(PackedBoard, u8)> {
+        next_from(
+            &self.back,
+            self.pit,
+            &mut self.stones,
+            &mut self.last,
+            &mut self.left,
+        )
+    }
+}
+
+/// Goes on to the next quiet move backward from `pit`, if there is one: until the pit that the next
+/// stone had fallen into is empty, so that no more can be taken back.
+#[inline(always)]
+fn next_from(
+    back: &PackedBoard,
+    pit: u8,
+    stones: &mut u8,
+    last: &mut u8,
+    left: &mut PackedBoard,
+) -> Option<(PackedBoard, u8)>
+    requires { IsUndoingFrom back.now pit stones.old last.old left.old }
+    ensures undoing { IsUndoingFrom back.now pit stones.new last.new left.new }
+    ensures given { MatchOption result
+        ((unmoves_from back.now pit stones.old ≡ []) × (unmoves_from back.now pit stones.new ≡ []))
+        (λ pair. unmoves_from back.now pit stones.old ≡ pair ∷ unmoves_from back.now pit stones.new) }
+{
+    if back.pit(pit) > 0 {
+        return None;
+    }
+    while left.pit(*last) > 0 {
+        match take_back(back, pit, stones, last, left) {
+            Some(found) => return Some(found),
+            None => {}
+        }
+    }
+    None
+}
+
+/// Takes one more stone back into the empty pit. Gives the board that is reached where its move is
+/// quiet.
+#[inline(always)]
+fn take_back(
+    back: &PackedBoard,
+    pit: u8,
+    stones: &mut u8,
+    last: &mut u8,
+    left: &mut PackedBoard,
+) -> Option<(PackedBoard, u8)>
+    requires undoing { IsUndoingFrom back.now pit stones.old last.old left.old }
+    requires empty { slice_index back.now pit ≡ 0 }
+    requires held { 0 < slice_index left.old last.old }
+    ensures undoing { IsUndoingFrom back.now pit stones.new last.new left.new }
+    ensures more { stones.new ≡ stones.old + 1 }
+    ensures given { MatchOption result
+        (unmoves_from back.now pit stones.old ≡ unmoves_from back.now pit stones.new)
+        (λ pair. unmoves_from back.now pit stones.old ≡ pair ∷ unmoves_from back.now pit stones.new) }
+{
+    let from = *last;
+    *left = left.with_stone_moved(from, pit);
+    *stones += 1;
+    *last = after(from, pit);
+    let board = *left;
+    if is_quiet(back, &board, pit, from) {
+        Some((board, pit))
+    } else {
+        None
+    }
+}
+
+/// Where the next stone of a sowing from `origin` falls after one that fell into `pit`: a pit
+/// further on, and past the origin.
+#[inline(always)]
+fn after(pit: u8, origin: u8) -> u8
+    requires own { origin < 6 }
+    requires on_board { pit < 12 }
+    ensures { (k : ℕ) → pit ≡ landing origin (k + 1) → result ≡ landing origin (k + 2) }
+{
+    let next = if pit == 11 { 0 } else { pit + 1 };
+    if next == origin { next + 1 } else { next }
+}
