@@ -36,8 +36,12 @@ IsTold-more old now new span kind before middle after q k before_k settles many 
     record {
       settles = settles_both old now new before_k.settles settles;
       many = many ∙ before_k.many;
-      told = (seen.0 ++ more.0, IsPredecessorsBelow-more q k seen.0 more.0 seen.1 more.1, told_both old now new kind seen.0 more.0 same size seen.2 more.2,
-          puts_both old now span kind before middle after seen.0 more.0 same size before_k.many seen.3 more.3);
+      told = (
+        seen.0 ++ more.0,
+        IsPredecessorsBelow-more q k seen.0 more.0 seen.1 more.1,
+        told_both old now new kind seen.0 more.0 same size seen.2 more.2,
+        puts_both old now span kind before middle after seen.0 more.0 same size before_k.many seen.3 more.3,
+      );
     }
 
 -- once at most 48 notes are put, there is room for those of the pits that are left

@@ -38,13 +38,14 @@ pub IsPredecessorsBelow-more : (q : List ℕ) (k : ℕ) (seen more : List (List 
 IsPredecessorsBelow-more q k seen more below from = record {
   listed = λ p y. (
     λ has. ⊎_elim
-    (λ left. let is = (below.listed p y).0 left in (is.0, (let less = is.1 in omega (arith, less))))
-    (λ right. let is = (from.listed p y).0 right in (is.0, (let same = is.1 in omega (arith, same))))
-    (Contains-append_cases seen more (p, y) has),
+        (λ left. let is = (below.listed p y).0 left in (is.0, (let less = is.1 in omega (arith, less))))
+        (λ right. let is = (from.listed p y).0 right in (is.0, (let same = is.1 in omega (arith, same))))
+        (Contains-append_cases seen more (p, y) has),
     λ is. ⊎_elim
-    (λ less. Contains-append_left seen more (p, y) ((below.listed p y).1 (is.0, less)))
-    (λ past. Contains-append_right seen more (p, y) ((from.listed p y).1 (is.0, (let less = is.1 in omega (arith, less, past)))))
-    (cases_lt y k));
+        (λ less. Contains-append_left seen more (p, y) ((below.listed p y).1 (is.0, less)))
+        (λ past. Contains-append_right seen more (p, y) ((from.listed p y).1 (is.0, (let less = is.1 in omega (arith, less, past)))))
+        (cases_lt y k),
+  );
   ordered = AllPairs-append ComesBefore seen more below.ordered from.ordered
       (λ a b first then. let less = ((below.listed a.0 a.1).0 first).1 in let same = ((from.listed b.0 b.1).0 then).1 in inl (omega (arith, less, same)));
 }

@@ -6,10 +6,10 @@ use Rattle.awari_owner.proofs.spreads.tell_all.Goals as goal
 pub returns-clause-told : goal.returns-clause-told
 returns-clause-told c =
     let none = IsTold-none c.args.boards.now c.args.span c.args.kind c.args.queues.now.items c.args.board.now in
-    let below_1 = IsTold-more c.args.boards.now c.args.boards.now c.tell_from.new.boards c.args.span c.args.kind c.args.queues.now.items c.args.queues.now.items c.tell_from.new.queues.items c.args.board.now 0 none c.tell_from.ensures.settles (search rules) c.tell_from.ensures.told in
-    let below_2 = IsTold-more c.args.boards.now c.tell_from.new.boards c.tell_from-2.new.boards c.args.span c.args.kind c.args.queues.now.items c.tell_from.new.queues.items c.tell_from-2.new.queues.items c.args.board.now 1 below_1 c.tell_from-2.ensures.settles (search rules) c.tell_from-2.ensures.told in
-    let below_3 = IsTold-more c.args.boards.now c.tell_from-2.new.boards c.tell_from-3.new.boards c.args.span c.args.kind c.args.queues.now.items c.tell_from-2.new.queues.items c.tell_from-3.new.queues.items c.args.board.now 2 below_2 c.tell_from-3.ensures.settles (search rules) c.tell_from-3.ensures.told in
-    let below_4 = IsTold-more c.args.boards.now c.tell_from-3.new.boards c.tell_from-4.new.boards c.args.span c.args.kind c.args.queues.now.items c.tell_from-3.new.queues.items c.tell_from-4.new.queues.items c.args.board.now 3 below_3 c.tell_from-4.ensures.settles (search rules) c.tell_from-4.ensures.told in
-    let below_5 = IsTold-more c.args.boards.now c.tell_from-4.new.boards c.tell_from-5.new.boards c.args.span c.args.kind c.args.queues.now.items c.tell_from-4.new.queues.items c.tell_from-5.new.queues.items c.args.board.now 4 below_4 c.tell_from-5.ensures.settles (search rules) c.tell_from-5.ensures.told in
-    let below_6 = IsTold-more c.args.boards.now c.tell_from-5.new.boards c.tell_from-6.new.boards c.args.span c.args.kind c.args.queues.now.items c.tell_from-5.new.queues.items c.tell_from-6.new.queues.items c.args.board.now 5 below_5 c.tell_from-6.ensures.settles (search rules) c.tell_from-6.ensures.told in
+    let below_1 = IsTold-more _ _ _ _ _ _ _ _ _ _ none c.tell_from.ensures.settles (search rules) c.tell_from.ensures.told in
+    let below_2 = IsTold-more _ _ _ _ _ _ _ _ _ _ below_1 c.tell_from-2.ensures.settles (search rules) c.tell_from-2.ensures.told in
+    let below_3 = IsTold-more _ _ _ _ _ _ _ _ _ _ below_2 c.tell_from-3.ensures.settles (search rules) c.tell_from-3.ensures.told in
+    let below_4 = IsTold-more _ _ _ _ _ _ _ _ _ _ below_3 c.tell_from-4.ensures.settles (search rules) c.tell_from-4.ensures.told in
+    let below_5 = IsTold-more _ _ _ _ _ _ _ _ _ _ below_4 c.tell_from-5.ensures.settles (search rules) c.tell_from-5.ensures.told in
+    let below_6 = IsTold-more _ _ _ _ _ _ _ _ _ _ below_5 c.tell_from-6.ensures.settles (search rules) c.tell_from-6.ensures.told in
     (below_6.told.0, IsPredecessorsBelow-end _ _ below_6.told.1, below_6.told.2, below_6.told.3)

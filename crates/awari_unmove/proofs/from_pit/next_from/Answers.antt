@@ -1,4 +1,4 @@
-use Rattle.std.proofs.Common.{◌≡◌, ◌≤◌, sum, slice_index, sym, ◌∙◌, arith}
+use Rattle.std.proofs.Common.{◌≤◌, sum, ◌∙◌, arith}
 use Rattle.awari_unmove.proofs.Undoing.{stones-le, unmoves_from-held, unmoves_from-stuck}
 use Rattle.awari_unmove.proofs.from_pit.next_from.Goals as goal
 

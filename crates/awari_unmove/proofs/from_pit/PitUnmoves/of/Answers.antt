@@ -1,4 +1,4 @@
-use Rattle.std.proofs.Common.{◌+◌, refl, sym, subst, arith}
+use Rattle.std.proofs.Common.{sym, subst}
 use Rattle.awari_unmove.specs.Undoing.{unmoves_from}
 use Rattle.awari_unmove.specs.Predecessors.{IsPredecessorsFrom}
 use Rattle.awari_unmove.proofs.Predecessors.{IsPredecessorsFrom-start, length-unmoves_from}
