@@ -1,7 +1,8 @@
 //! The predecessors of a board in a number from one pit, stone by stone.
 //!
-//! A loop over each of the six pits in turn, with the pit a constant, needs no division and no test
-//! of the pit for a stone: where one stone was taken back from, the next is one pit further on.
+//! Six loops written out, each with its pit a constant, are faster than one over all pits: the pit
+//! that the next stone had fallen into is kept, so that nothing is divided, and whether the origin is
+//! empty is asked once.
 
 ghost use Rattle.std.specs.Prelude.{◌≡◌, ℕ, ◌+◌, ◌<◌, ◌≤◌, ◌∷◌, [], length, slice_index, MatchOption};
 ghost use Rattle.std.specs.Iterator.{YieldsFirst, item_count};
