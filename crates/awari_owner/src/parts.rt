@@ -222,9 +222,10 @@ impl Part {
     /// distance is the greatest that can be stored, and then nothing changes.
     ///
     /// The outboxes are those of the part's owner. Predecessors in the block hear of the board at once.
-    /// For each other one a note is put to the outbox of the owner of its block, in the order in which
-    /// [`PackedUnmoves`](awari_unmove::PackedUnmoves) gives them. Room for the notes is taken first, and refused as 33
-    /// `Memory`; then nothing changes. It takes none where there is no other owner.
+    /// For each other one a note is put to the outbox of the owner of its block, in the order in which the
+    /// predecessors are told: those that [`PitUnmoves`](awari_unmove::PitUnmoves) gives, by pits ascending,
+    /// which is the order of [`Unmoves`](awari_unmove::Unmoves). Room for the notes is taken first, and
+    /// refused as 33 `Memory`; then nothing changes. It takes none where there is no other owner.
     pub fn spread_one(&mut self, outboxes: &mut Outboxes) -> Result<bool, OwnerFault>
         requires part { IsPartOf self.old outboxes.old }
         ensures spread { result ≡ Ok true → (q : List ℕ) × (sources : List Source) × (notes : List NoteView)

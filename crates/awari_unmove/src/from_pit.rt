@@ -4,19 +4,18 @@
 //! that the next stone had fallen into is kept, so that nothing is divided, and whether the origin is
 //! empty is asked once.
 
-ghost use Rattle.std.specs.Prelude.{◌≡◌, ℕ, ◌+◌, ◌<◌, ◌≤◌, ◌∷◌, [], length, slice_index, MatchOption};
+ghost use Rattle.std.specs.Prelude.{◌≡◌, ℕ, ◌+◌, ◌<◌, ◌≤◌, ◌↔◌, ◌∷◌, [], IsTrue, length, slice_index, MatchOption};
 ghost use Rattle.std.specs.Iterator.{YieldsFirst, item_count};
-ghost use Rattle.awari_board.specs.Rules.{landing};
+ghost use Rattle.awari_board.specs.Rules.{IsLegal, captured_stones, landing};
 ghost use Rattle.awari_unmove.specs.Predecessors.{IsPredecessorsFrom};
 ghost use Rattle.awari_unmove.specs.Undoing.{IsUndoingFrom, unmoves_from};
 
-use crate::packed::is_quiet;
 use awari_packed::PackedBoard;
 use std::marker::Model;
 
-/// What [`PackedUnmoves`](crate::PackedUnmoves) gives of one pit: the boards whose quiet move from
-/// it gives a board of at most 24 stones, each once, by the stones sown, and each with the pit.
-/// Contracts see the list of those that are still to come.
+/// What [`Unmoves`](crate::Unmoves) gives of one pit, of boards in numbers: the boards whose quiet
+/// move from it gives a board of at most 24 stones, each once, by the stones sown, and each with the
+/// pit. Contracts see the list of those that are still to come.
 #[derive(Drop)]
 pub struct PitUnmoves {
     /// The board as the player before saw it.
@@ -137,6 +136,14 @@ fn take_back(
     } else {
         None
     }
+}
+
+/// Whether the move of pit `origin` that sows to `back` and ends in pit `last` is legal and quiet.
+fn is_quiet(back: &PackedBoard, board: &PackedBoard, origin: u8, last: u8) -> bool
+    requires on_board { last < 12 }
+    ensures { IsTrue result ↔ (IsLegal board.now origin × (captured_stones back.now last ≡ 0)) }
+{
+    board.legal(origin) && back.captures_nothing(last)
 }
 
 /// Where the next stone of a sowing from `origin` falls after one that fell into `pit`: a pit

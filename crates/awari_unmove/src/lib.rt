@@ -12,10 +12,8 @@
 #![tactic(auto)]
 
 mod from_pit;
-mod packed;
 mod search;
 mod unmoves;
 
 pub use from_pit::PitUnmoves;
-pub use packed::PackedUnmoves;
 pub use unmoves::Unmoves;

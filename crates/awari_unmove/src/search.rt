@@ -77,7 +77,7 @@ fn take_back(back: &[u8; 12], origin: u8, stones: &mut u8, left: &mut [u8; 12]) 
 
 /// Where stone `stone` of a sowing from `origin` falls.
 #[inline(always)]
-pub fn landing(origin: u8, stone: u8) -> u8
+fn landing(origin: u8, stone: u8) -> u8
     requires own { origin < 6 }
     requires first { 1 ≤ stone }
     ensures pit { result ≡ landing origin stone }
