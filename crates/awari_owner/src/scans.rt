@@ -96,7 +96,8 @@ pub fn scan_boards(shelf: &Shelf, block: Block, first: u32, cells: &mut [Cell], 
 /// What is found of a board of the shelf's next level.
 ///
 /// The pits are written out, each a plain number: so the tests of each pit stand at places of their
-/// own, which the processor foresees apart, and the shifts of its move are constants.
+/// own, which the processor foresees apart, and the shifts of its move are constants. That holds only
+/// where what they call is written into each of them.
 fn scanned(shelf: &Shelf, block: Block, board: &PackedBoard) -> ScannedBoard
     requires board { IsBoard board.now }
     requires stones { sum board.now ≡ length shelf.now }
