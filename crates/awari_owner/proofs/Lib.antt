@@ -11,6 +11,7 @@ pub mod Scanning
 pub mod PieceLemmas
 pub mod Firsts
 pub mod Sending
+pub mod Finding
 pub mod Telling
 pub mod Queueing
 pub mod Sharing

@@ -1,14 +1,13 @@
 -- Queues of batches, seen as lists of lists.
 use Rattle.std.proofs.Common.{◌≡◌, ◌≢◌, ℕ, suc, ◌+◌, ◌/◌, ◌<◌, ◌≤◌, ◌==◌, ◌&&◌, inl, inr, Bool, true, false, not, cond, List, [], ◌∷◌, length, get_or, set, fold, ◌++◌, nat_lt, All, sym, ap, subst, ◌∙◌, refl, arith, get_or-set_other, get_or-set_same, length-append}
 use Rattle.std.proofs.lemmas.List.{get_or-map, length-map, map-set, get_or_past, get_or_default, set-get_or}
-use Rattle.std.proofs.lemmas.List.Sums.{fold-append}
 use Rattle.std.proofs.lemmas.List.{length_push}
 use Rattle.std.proofs.lemmas.List.Elements.{All-nil, All-cons, All-tail}
 use Rattle.std.proofs.lemmas.Bool.{cases_lt, cases_eq}
 use Rattle.std.proofs.lemmas.Bool.Decides.{nat_tests}
 use Rattle.awari_rank.specs.Rank.{rank_of}
 use Rattle.awari_owner.specs.Outboxes.{put_behind, with_note, IsBatch, AreBatches}
-use Rattle.awari_block.specs.Part.{Part, SameLevel}
+use Rattle.awari_block.specs.Part.{Part}
 use Rattle.awari_owner.specs.Spread.{Source, is_held, note_to, goes_to, with_sent, with_all_sent, PutsAll}
 use Rattle.awari_block.specs.declared.notes.Kind.{Kind}
 use Rattle.awari_owner.specs.Queues.{Queue, batches_of, queue_in, room_in, no_queue}
@@ -96,22 +95,6 @@ puts_more old now span kind before middle after seen y level gain wave start len
     ∙ with_sent-same old now span to kind (queue_in middle to) y level gain wave start len
     ∙ ap (λ q. with_sent old span to kind q y) (puts to inside)
     ∙ sym (fold_push (with_sent old span to kind) (queue_in before to) seen y)
-
--- so is the same with any number of them
-with_all_sent-same : (part other : Part) (span to : ℕ) (kind : Kind) (sources : List Source) (queue : List (List Note)) → SameLevel part other → length other.cells ≡ length part.cells
-    → with_all_sent other span to kind queue sources ≡ with_all_sent part span to kind queue sources
-with_all_sent-same part other span to kind [] queue same len = refl
-with_all_sent-same part other span to kind (y ∷ ys) queue same len =
-    ap (λ q. with_all_sent other span to kind q ys) (with_sent-same part other span to kind queue y same.level same.gain same.wave same.start len)
-    ∙ with_all_sent-same part other span to kind ys (with_sent part span to kind queue y) same len
-
-pub puts_both : (old now : Part) (span : ℕ) (kind : Kind) (before middle after : List Queue) (seen more : List Source) → SameLevel old now → length now.cells ≡ length old.cells → length middle ≡ length before
-    → PutsAll old span kind before middle seen → PutsAll now span kind middle after more → PutsAll old span kind before after (seen ++ more)
-puts_both old now span kind before middle after seen more same len many first second to inside =
-    second to (omega (arith, inside, many))
-    ∙ with_all_sent-same old now span to kind more (queue_in middle to) same len
-    ∙ ap (λ q. with_all_sent old span to kind q more) (first to inside)
-    ∙ sym (fold-append (with_sent old span to kind) (queue_in before to) seen more)
 
 -- a queue that has the same batches
 pub batches_same : (queues : List Queue) (i : ℕ) (old new : Queue) → i < length queues → old ≡ get_or queues i old → new.batches ≡ old.batches → batches_of (set queues i new) ≡ batches_of queues

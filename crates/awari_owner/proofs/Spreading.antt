@@ -3,7 +3,6 @@ use Rattle.std.proofs.Common.{◌≡◌, ◌↔◌, IsTrue, ℕ, suc, ◌||◌, 
 use Rattle.std.proofs.lemmas.Bool.Decides.{nat_tests}
 use Rattle.std.proofs.lemmas.List.{get_or_default, get_or_append_left}
 use Rattle.std.proofs.Math.Seq.{get_or-append_seam}
-use Rattle.std.proofs.lemmas.List.Sums.{fold-append}
 use Rattle.std.specs.List.Sorted.{IsPermutation}
 use Rattle.awari_block.proofs.BlockLemmas.{times_due-cons, times_due-permuted}
 use Rattle.awari_board.specs.Rules.{IsBoard}
@@ -111,27 +110,6 @@ told_more old now new kind seen y level gain wave start len before one value not
     (with_own-same old now kind (with_all_own old kind notes seen) y level gain wave start len ∙ sym (fold_push (with_own old kind) notes seen y))
     (one value (with_all_own old kind notes seen) (λ inside. unheard seen [] y refl (let a = inside.0 in let b = inside.1 in (omega (arith, a, start), omega (arith, b, start, len))))
     (before value notes (λ front after z is. unheard front (after ++ y ∷ []) z (ap (λ l. l ++ y ∷ []) is ∙ append_assoc front (z ∷ after) (y ∷ []))) tallied))
-
--- so is the same with any number of them
-with_all_own-same : (part other : Part) (kind : Kind) (sources : List Source) (notes : List Note) → SameLevel part other → length other.cells ≡ length part.cells
-    → with_all_own other kind notes sources ≡ with_all_own part kind notes sources
-with_all_own-same part other kind [] notes same len = refl
-with_all_own-same part other kind (y ∷ ys) notes same len =
-    ap (λ ns. with_all_own other kind ns ys) (with_own-same part other kind notes y same.level same.gain same.wave same.start len)
-    ∙ with_all_own-same part other kind ys (with_own part kind notes y) same len
-
-pub told_both : (old now new : Part) (kind : Kind) (seen more : List Source) → SameLevel old now → length now.cells ≡ length old.cells
-    → Tells old now kind seen → Tells now new kind more → Tells old new kind (seen ++ more)
-told_both old now new kind seen more same len first second value notes unheard tallied =
-    let told = with_all_own old kind notes seen in
-    subst (IsTallied value new)
-    (with_all_own-same old now kind more told same len ∙ sym (fold-append (with_own old kind) notes seen more))
-    (second value told
-    (λ front after z is inside. subst (λ ns. is_heard_at (notes_for (rank_of z.0) ns) z.1 ≡ false)
-    (fold-append (with_own old kind) notes seen front ∙ sym (with_all_own-same old now kind front told same len))
-    (unheard (seen ++ front) after z (ap (λ l. seen ++ l) is ∙ sym (append_assoc seen front (z ∷ after)))
-    (let start = same.start in let a = inside.0 in let b = inside.1 in (omega (arith, a, start), omega (arith, b, start, len)))))
-    (first value notes (λ front after z is. unheard front (after ++ more) z (ap (λ l. l ++ more) is ∙ append_assoc front (z ∷ after) more)) tallied))
 
 -- ---- why the pits are not heard
 

@@ -1,62 +1,125 @@
--- The predecessors of a board are told pit by pit.
-use Rattle.std.proofs.Common.{◌≡◌, ℕ, ◌+◌, ◌-◌, ◌*◌, ◌^◌, ◌/◌, ◌<◌, ◌≤◌, false, List, [], ◌++◌, length, refl, sym, ap, subst, ◌∙◌, arith}
-use Rattle.awari_rank.specs.Rank.{size_of}
-use Rattle.awari_unmove.specs.Predecessors.{IsPredecessorsFrom}
-use Rattle.awari_unmove.proofs.Walking.{IsPredecessorsBelow, IsPredecessorsBelow-none, IsPredecessorsBelow-more}
-use Rattle.awari_block.specs.Part.{Part}
+-- The predecessors of a board are told one by one.
+use Rattle.std.proofs.Common.{◌≡◌, ℕ, ◌+◌, ◌/◌, ◌<◌, ◌≤◌, ℤ, false, List, [], ◌∷◌, ◌++◌, length, get_or, sum, refl, sym, ap, subst, ◌∙◌, arith, append_assoc, append-nil, length-append}
+use Rattle.std.proofs.lemmas.List.{length_push}
+use Rattle.awari_board.specs.Rules.{IsBoard}
+use Rattle.awari_rank.specs.Rank.{rank_of, size_of}
+use Rattle.awari_rank.proofs.Ranking.{rank_of-below}
+use Rattle.awari_unmove.specs.Predecessors.{IsPredecessors}
+use Rattle.awari_unmove.proofs.Walking.{IsQuiet-next}
+use Rattle.awari_block.specs.Notes.{IsQuietMove, is_heard_at}
+use Rattle.awari_block.specs.Part.{Part, InBlock, IsTallied, notes_for}
 use Rattle.awari_block.specs.Boards.{Settles}
 use Rattle.awari_block.specs.declared.notes.Kind.{Kind}
-use Rattle.awari_block.proofs.Settling.{settles_none, settles_both}
-use Rattle.awari_owner.specs.Queues.{Queue, room_in}
-use Rattle.awari_owner.specs.Spread.{Source, is_held, Tells, PutsAll, CanTell}
-use Rattle.awari_owner.proofs.Spreading.{held_still, told_none, told_both}
-use Rattle.awari_owner.proofs.Sending.{puts_both}
+use Rattle.awari_block.specs.declared.notes.Note.{Note}
+use Rattle.awari_owner.specs.Found.{target_of, Lists}
+use Rattle.awari_owner.specs.Queues.{Queue, queue_in, room_in}
+use Rattle.awari_owner.specs.Spread.{Source, IsSource, is_held, Tells, PutsAll, with_own, with_sent}
+use Rattle.awari_owner.specs.declared.targets.Target.{Target}
+use Rattle.awari_owner.proofs.Finding.{Lists-at}
+use Rattle.awari_owner.proofs.Spreading.{held_still, told_none, told_more}
+use Rattle.awari_owner.proofs.Sending.{puts_more}
 
--- the predecessors of q from the pits below k are told
-pub record IsTold (old now : Part) (span : ℕ) (kind : Kind) (before after : List Queue) (q : List ℕ) (k : ℕ) : Type 0 where
-  pub settles : Settles old now
-  pub many : length after ≡ length before
-  pub told : (sources : List Source) × IsPredecessorsBelow q k sources × Tells old now kind sources × PutsAll old span kind before after sources
+-- Of the n predecessors of q that are listed, the first k are told.
+pub record IsTelling (old now : Part) (span : ℕ) (kind : Kind) (before after : List Queue) (q : List ℕ) (targets : List Target) (n k : ℕ) : Type 0 where
+  pub seen : List Source
+  pub left : List Source
+  pub many : length seen ≡ k
+  pub predecessors : IsPredecessors q (seen ++ left)
+  pub listed : Lists targets n (seen ++ left)
+  pub told : Tells old now kind seen
+  pub sent : PutsAll old span kind before after seen
+  pub room : (r : ℕ) → r < size_of old.level → is_held old r ≡ false → (r / span < length before) × (288 ≤ room_in after (r / span) + k)
 
-pub IsTold-none : (old : Part) (span : ℕ) (kind : Kind) (before : List Queue) (q : List ℕ) → IsTold old old span kind before before q 0
-IsTold-none old span kind before q = record {
-  settles = settles_none old;
+pub IsTelling-none : (old : Part) (span : ℕ) (kind : Kind) (before : List Queue) (q : List ℕ) (targets : List Target) (n : ℕ)
+    → ((sources : List Source) × IsPredecessors q sources × Lists targets n sources)
+    → ((r : ℕ) → r < size_of old.level → is_held old r ≡ false → (r / span < length before) × (288 ≤ room_in before (r / span)))
+    → IsTelling old old span kind before before q targets n 0
+IsTelling-none old span kind before q targets n found room = record {
+  seen = [];
+  left = found.0;
   many = refl;
-  told = ([], IsPredecessorsBelow-none q, told_none old kind, λ to inside. refl);
+  predecessors = found.1;
+  listed = found.2;
+  told = told_none old kind;
+  sent = λ to inside. refl;
+  room = λ r below out. let at = room r below out in (at.0, (let much = at.1 in omega (arith, much)));
 }
 
-pub IsTold-more : (old now new : Part) (span : ℕ) (kind : Kind) (before middle after : List Queue) (q : List ℕ) (k : ℕ) → IsTold old now span kind before middle q k
-    → Settles now new → length after ≡ length middle
-    → ((sources : List Source) × IsPredecessorsFrom q k sources × Tells now new kind sources × PutsAll now span kind middle after sources)
-    → IsTold old new span kind before after q (k + 1)
-IsTold-more old now new span kind before middle after q k before_k settles many more =
-    let same = before_k.settles.same in
-    let size = before_k.settles.size in
-    let seen = before_k.told in
+-- the next source, where one is left
+pub record IsNext (q : List ℕ) (level : ℕ) (seen left : List Source) (t : Target) : Type 0 where
+  pub y : Source
+  pub more : List Source
+  pub splits : left ≡ y ∷ more
+  pub at : target_of y ≡ t
+  pub source : IsSource level y
+
+split_left : (seen left : List Source) → length seen < length (seen ++ left) → (y : Source) × (more : List Source) × (left ≡ y ∷ more)
+split_left seen [] less = (let none = ap length (append-nil seen) in absurd (omega (arith, less, none)))
+split_left seen (y ∷ more) less = (y, more, refl)
+
+pub IsTelling-next : (old now : Part) (span : ℕ) (kind : Kind) (before after : List Queue) (q : List ℕ) (targets : List Target) (n k : ℕ) (d : Target)
+    → ((p : List ℕ) (x : ℕ) → IsBoard p → IsQuietMove p x q → sum q + 0 ≡ sum p) → sum q ≡ old.level
+    → (telling : IsTelling old now span kind before after q targets n k) → k < n → IsNext q old.level telling.seen telling.left (get_or targets k d)
+IsTelling-next old now span kind before after q targets n k d keeps stones telling less =
+    let many = telling.many in
+    let all = telling.listed.many in
+    let next = split_left telling.seen telling.left (omega (arith, many, all, less)) in
+    let quiet = IsQuiet-next q telling.seen telling.left next.1 next.0 telling.predecessors next.2 in
     record {
-      settles = settles_both old now new before_k.settles settles;
-      many = many ∙ before_k.many;
-      told = (
-        seen.0 ++ more.0,
-        IsPredecessorsBelow-more q k seen.0 more.0 seen.1 more.1,
-        told_both old now new kind seen.0 more.0 same size seen.2 more.2,
-        puts_both old now span kind before middle after seen.0 more.0 same size before_k.many seen.3 more.3,
-      );
+      y = next.0;
+      more = next.1;
+      splits = next.2;
+      at = Lists-at targets n telling.seen telling.left next.1 next.0 d telling.listed next.2 (omega (arith, many, less)) ∙ ap (λ i. get_or targets i d) many;
+      source = (quiet.board, sym (keeps next.0.0 next.0.1 quiet.board quiet.move) ∙ (let same : sum q + 0 ≡ old.level = omega (arith, stones) in same), (q, quiet.move));
     }
 
--- once at most 48 notes are put, there is room for those of the pits that are left
-pub CanTell-more : (old now : Part) (before after : List Queue) (span : ℕ) (q : List ℕ) (pit n : ℕ) → CanTell old before span q (48 * (6 - pit)) → Settles old now → length after ≡ length before → n ≤ 48
-    → ((r : ℕ) → r < size_of old.level → is_held old r ≡ false → (r / span < length before) × (48 * (6 - pit) ≤ room_in after (r / span) + n))
-    → CanTell now after span q (48 * (6 - (pit + 1)))
-CanTell-more old now before after span q pit n can settles many few room =
+-- the note for it has room
+pub next_has_room : (old now : Part) (span : ℕ) (kind : Kind) (before after : List Queue) (q : List ℕ) (targets : List Target) (n k : ℕ) (y : Source)
+    → IsTelling old now span kind before after q targets n k → Settles old now → length after ≡ length before → k < n → n ≤ 288 → IsSource old.level y
+    → is_held now (rank_of y.0) ≡ false → (rank_of y.0 / span < length after) × (0 < room_in after (rank_of y.0 / span))
+next_has_room old now span kind before after q targets n k y telling settles many less few source out =
+    let below = rank_of-below y.0 source.0.pits in
+    let size = ap size_of source.1 in
+    let at = telling.room (rank_of y.0) (omega (arith, below, size)) (sym (held_still old now (rank_of y.0) settles.same.start settles.size) ∙ out) in
+    let high = at.0 in
+    let much = at.1 in
+    (omega (arith, high, many), omega (arith, much, less, few))
+
+-- it is told
+pub IsTelling-more : (old now new : Part) (span : ℕ) (kind : Kind) (before middle after : List Queue) (q : List ℕ) (targets : List Target) (n k : ℕ) (t : Target)
+    → (telling : IsTelling old now span kind before middle q targets n k) → Settles old now → length middle ≡ length before → IsNext q old.level telling.seen telling.left t
+    → ((y : Source) → target_of y ≡ t → IsSource now.level y → (value : List ℕ → ℤ) (notes : List Note)
+    → (InBlock now (rank_of y.0) → is_heard_at (notes_for (rank_of y.0) notes) y.1 ≡ false) → IsTallied value now notes → IsTallied value new (with_own now kind notes y))
+    → ((y : Source) → target_of y ≡ t → (to : ℕ) → to < length middle → queue_in after to ≡ with_sent now span to kind (queue_in middle to) y)
+    → ((to : ℕ) → room_in middle to ≤ room_in after to + 1)
+    → IsTelling old new span kind before after q targets n (k + 1)
+IsTelling-more old now new span kind before middle after q targets n k t telling settles many next told sent room =
     let same = settles.same in
+    let all : telling.seen ++ telling.left ≡ (telling.seen ++ next.y ∷ []) ++ next.more = ap (λ l. telling.seen ++ l) next.splits ∙ sym (append_assoc telling.seen (next.y ∷ []) next.more) in
     record {
-      low = omega (arith, can.low, same.level);
-      gain = (omega (arith, can.gain.0, same.gain), omega (arith, can.gain.1, same.gain, same.level));
-      near = subst (λ w. w < 2 ^ 32 - 1) (sym same.wave) can.near;
-      stones = can.stones ∙ sym same.level;
-      blocks = can.blocks;
+      seen = telling.seen ++ next.y ∷ [];
+      left = next.more;
+      many = length_push telling.seen next.y ∙ (let is = telling.many in omega (arith, is));
+      predecessors = subst (IsPredecessors q) all telling.predecessors;
+      listed = subst (Lists targets n) all telling.listed;
+      told = told_more old now new kind telling.seen next.y same.level same.gain same.wave same.start settles.size telling.told
+          (told next.y next.at (subst (λ m. IsSource m next.y) (sym same.level) next.source));
+      sent = puts_more old now span kind before middle after telling.seen next.y same.level same.gain same.wave same.start settles.size many telling.sent (sent next.y next.at);
       room = λ r below out.
-          let at = room r (omega (arith, below, ap size_of same.level)) (sym (held_still old now r same.start settles.size) ∙ out) in
-          (omega (arith, at.0, many), omega (arith, at.1, few));
+          let at = telling.room r below out in
+          let much = at.1 in
+          let less = room (r / span) in
+          (at.0, omega (arith, much, less));
     }
+
+-- in the end all are
+pub IsTelling-end : (old now : Part) (span : ℕ) (kind : Kind) (before after : List Queue) (q : List ℕ) (targets : List Target) (n k : ℕ)
+    → IsTelling old now span kind before after q targets n k → n ≤ k
+    → (sources : List Source) × IsPredecessors q sources × Tells old now kind sources × PutsAll old span kind before after sources
+IsTelling-end old now span kind before after q targets n k telling end =
+    let none = nothing_left telling.seen telling.left (let many = telling.many in let all = telling.listed.many in omega (arith, many, all, end)) in
+    (telling.seen, subst (IsPredecessors q) (ap (λ l. telling.seen ++ l) none ∙ append-nil telling.seen) telling.predecessors, telling.told, telling.sent)
+  where
+    nothing_left : (seen left : List Source) → length (seen ++ left) ≤ length seen → left ≡ []
+    nothing_left seen [] less = refl
+    nothing_left seen (y ∷ more) less = (let long = length-append seen (y ∷ more) in absurd (omega (arith, long, less)))

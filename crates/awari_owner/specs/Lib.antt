@@ -1,5 +1,6 @@
 pub mod PartFields
 pub mod Spread
+pub mod Found
 pub mod OwnerFault
 pub mod Level
 pub mod Finish

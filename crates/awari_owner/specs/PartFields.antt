@@ -9,3 +9,4 @@ pub record IsPart (a : Inside) : Type 0 where
   pub each : vec_len a.leaving ≡ length a.boards.cells
   pub leaving : AreLeaving a.boards.level a.boards.start (length a.boards.cells) a.boards.start a.leaving.items
   pub fresh : AreFresh a.boards
+  pub targets : vec_len a.targets ≡ 288

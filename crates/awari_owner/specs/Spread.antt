@@ -10,7 +10,7 @@ use Rattle.awari_block.specs.declared.notes.Kind.TheVariants.{Won, Lost}
 use Rattle.awari_block.specs.Part.{Part, InBlock, IsTallied, notes_for, settled_at, stored_at}
 use Rattle.awari_block.specs.Leaving.{first_rank}
 use Rattle.awari_owner.specs.Outboxes.{Outboxes, queue_to, with_note, with_notes}
-use Rattle.awari_owner.specs.Queues.{Queue, queue_in, room_in}
+use Rattle.awari_owner.specs.Queues.{Queue, queue_in}
 use Rattle.awari_block.specs.declared.notes.Note.{Note}
 use Rattle.awari_block.specs.declared.notes.Kind.{Kind}
 
@@ -166,12 +166,3 @@ with_all_sent part span to kind queue sources = fold (with_sent part span to kin
 abbrev pub PutsAll : Part → ℕ → Kind → List Queue → List Queue → List Source → Type 0
 PutsAll part span kind queues queues' sources =
     (to : ℕ) → to < length queues → queue_in queues' to ≡ with_all_sent part span to kind (queue_in queues to) sources
-
--- The predecessors of this board may be told, where each queue that their notes go to has room for so many.
-pub record CanTell (part : Part) (queues : List Queue) (span : ℕ) (board : List ℕ) (places : ℕ) : Type 0 where
-  pub low : part.level ≤ 24
-  pub gain : (1 ≤ part.gain) × (part.gain ≤ part.level)
-  pub near : part.wave < 2 ^ 32 - 1
-  pub stones : sum board ≡ part.level
-  pub blocks : 0 < span
-  pub room : (r : ℕ) → r < size_of part.level → is_held part r ≡ false → (r / span < length queues) × (places ≤ room_in queues (r / span))

@@ -25,6 +25,7 @@ mod parts;
 mod queues;
 mod scans;
 mod spreads;
+mod targets;
 
 pub use faults::OwnerFault;
 pub use laws::{

@@ -21,6 +21,7 @@ use crate::parallel::scanned_block_parallel;
 use crate::queues::reserve_others;
 use crate::scans::{ScannedBlock, scanned_block};
 use crate::spreads::{kind_of, tell_all};
+use crate::targets::{MOST_PREDECESSORS, Target};
 use awari_block::{Block, Boards, ClosedPart, Note, block_length};
 use awari_board::{SIDE, moves_keep_boards};
 use awari_rank::{ranks_tell_boards_apart, size};
@@ -31,11 +32,14 @@ use std::thread::Threads;
 
 /// One owner's part of a level that is being built: what is known of each board of its block, which of
 /// the settled boards are fresh, that is, not spread yet, and the pits of each board whose quiet moves
-/// lead out of the block, a bit for each.
+/// lead out of the block, a bit for each. It has memory for the predecessors of one board, too: they
+/// are all found before the first is told, so that the cells of several boards are waited for at once.
 #[derive(Drop)]
 pub struct Part {
     boards: Boards,
     leaving: Vec<u8>,
+    /// The boards that are told of the one that is spread, while it is.
+    targets: Vec<Target>,
 }
 
 impl Model for Part {
@@ -262,7 +266,14 @@ impl Part {
         let rank = self.boards.take_first();
         let kind = kind_of(&self.boards.cell(rank));
         let board = self.boards.board(rank);
-        tell_all(&mut self.boards, &mut outboxes.queues, span, kind, &board);
+        tell_all(
+            &mut self.boards,
+            &mut outboxes.queues,
+            self.targets.as_mut_slice(),
+            span,
+            kind,
+            &board,
+        );
         Ok(true)
     }
 
@@ -300,9 +311,13 @@ impl Part {
         let Ok(boards) = Boards::unopened(alloc, shelf.levels(), block.start, found.cells) else {
             return Err(OwnerFault::Memory);
         };
+        let Ok(targets) = vec![in alloc; Target { rank: 0, pit: 0 }; MOST_PREDECESSORS] else {
+            return Err(OwnerFault::Memory);
+        };
         Ok(Part {
             boards,
             leaving: found.leaving,
+            targets,
         })
     }
 

@@ -14,12 +14,11 @@ pub IsPredecessorsFrom-end : (q : List ℕ) (x : ℕ) (seen left : List (List �
 IsPredecessorsFrom-end q x seen left all none = subst (IsPredecessorsFrom q x) (ap (λ l. seen ++ l) none ∙ append-nil seen) all
 
 -- what comes next is a quiet move
-pub IsQuiet-next : (q : List ℕ) (x : ℕ) (seen left more : List (List ℕ × ℕ)) (p : List ℕ) (y : ℕ) → IsPredecessorsFrom q x (seen ++ left) → left ≡ (p, y) ∷ more → IsQuiet p y q
-IsQuiet-next q x seen left more p y all is =
-    let pair : List ℕ × ℕ = (p, y) in
+pub IsQuiet-next : (q : List ℕ) (seen left more : List (List ℕ × ℕ)) (pair : List ℕ × ℕ) → IsPredecessors q (seen ++ left) → left ≡ pair ∷ more → IsQuiet pair.0 pair.1 q
+IsQuiet-next q seen left more pair all is =
     let here : Contains (pair ∷ more) pair = Contains-append_left (pair ∷ []) more pair (Contains-push [] pair) in
     let there : Contains left pair = subst (λ l. Contains l pair) (sym is) here in
-    ((all.listed p y).0 (Contains-append_right seen left pair there)).0
+    (all.listed pair.0 pair.1).0 (Contains-append_right seen left pair there)
 
 -- ---- pit by pit
 

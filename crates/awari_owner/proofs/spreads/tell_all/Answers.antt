@@ -1,15 +1,42 @@
-use Rattle.std.proofs.Common.{rules}
-use Rattle.awari_unmove.proofs.Walking.{IsPredecessorsBelow-end}
-use Rattle.awari_owner.proofs.Telling.{IsTold-none, IsTold-more}
+use Rattle.std.proofs.Common.{◌≡◌, ◌/◌, ◌<◌, length, vec_len, ap, subst, ◌∙◌, rules}
+use Rattle.awari_block.proofs.Settling.{settles_none, settles_both}
+use Rattle.awari_owner.specs.Queues.{room_in}
+use Rattle.awari_owner.specs.Spread.{is_held}
+use Rattle.awari_owner.specs.declared.targets.Target.{Target}
+use Rattle.awari_owner.proofs.Telling.{IsTelling-none, IsTelling-next, IsTelling-more, IsTelling-end, next_has_room}
 use Rattle.awari_owner.proofs.spreads.tell_all.Goals as goal
 
+pub loop-k-init : goal.loop-k-init
+loop-k-init c = record {
+  same_queues = search rules;
+  settles = settles_none c.args.boards.now;
+  telling = IsTelling-none c.args.boards.now c.args.span c.args.kind c.args.queues.now.items c.args.board.now c.find_all-count.new.targets c.find_all-count.result c.find_all-count.ensures.found
+      (λ r below out. let at = c.requires.room r below out in (search (rules, at.0), at.1));
+}
+
+pub tell_one-requires-clause-own : goal.tell_one-requires-clause-own
+tell_one-requires-clause-own c =
+    let next = IsTelling-next _ _ _ _ _ _ _ _ _ _ (record { rank = 0; pit = 0 }) (λ p x is move. c.moves_keep_boards.ensures.stones p c.args.board.now x 0 is move) c.requires.stones c.loop-k.invariant.telling c.loop-k-test.true in
+    subst (λ (t : Target). t.pit < 6) next.at next.source.2.1.legal.own
+
+pub tell_one-requires-clause-room : goal.tell_one-requires-clause-room
+tell_one-requires-clause-room c = λ out.
+    let next = IsTelling-next _ _ _ _ _ _ _ _ _ _ (record { rank = 0; pit = 0 }) (λ p x is move. c.moves_keep_boards.ensures.stones p c.args.board.now x 0 is move) c.requires.stones c.loop-k.invariant.telling c.loop-k-test.true in
+    let many : length c.loop-k.queues.items ≡ length c.args.queues.now.items = search rules in
+    let room = next_has_room _ _ _ _ _ _ _ _ _ _ next.y c.loop-k.invariant.telling c.loop-k.invariant.settles many c.loop-k-test.true c.find_all-count.ensures.few next.source
+    (ap (λ (t : Target). is_held c.loop-k.boards t.rank) next.at ∙ out) in
+    subst (λ (t : Target). (t.rank / c.args.span < vec_len c.loop-k.queues) × (0 < room_in c.loop-k.queues.items (t.rank / c.args.span))) next.at (search (rules, room.0), room.1)
+
+pub loop-k-preserved : goal.loop-k-preserved
+loop-k-preserved c =
+    let next = IsTelling-next _ _ _ _ _ _ _ _ _ _ (record { rank = 0; pit = 0 }) (λ p x is move. c.moves_keep_boards.ensures.stones p c.args.board.now x 0 is move) c.requires.stones c.loop-k.invariant.telling c.loop-k-test.true in
+    let many : length c.loop-k.queues.items ≡ length c.args.queues.now.items = search rules in
+    record {
+      same_queues = search rules;
+      settles = settles_both _ _ _ c.loop-k.invariant.settles c.tell_one.ensures.settles;
+      telling = IsTelling-more _ _ _ _ _ _ _ _ _ _ _ _ _ c.loop-k.invariant.telling c.loop-k.invariant.settles many next c.tell_one.ensures.told
+          (λ y at to inside. c.tell_one.ensures.sent y at to (search (rules, inside))) c.tell_one.ensures.room;
+    }
+
 pub returns-clause-told : goal.returns-clause-told
-returns-clause-told c =
-    let none = IsTold-none c.args.boards.now c.args.span c.args.kind c.args.queues.now.items c.args.board.now in
-    let below_1 = IsTold-more _ _ _ _ _ _ _ _ _ _ none c.tell_from.ensures.settles (search rules) c.tell_from.ensures.told in
-    let below_2 = IsTold-more _ _ _ _ _ _ _ _ _ _ below_1 c.tell_from-2.ensures.settles (search rules) c.tell_from-2.ensures.told in
-    let below_3 = IsTold-more _ _ _ _ _ _ _ _ _ _ below_2 c.tell_from-3.ensures.settles (search rules) c.tell_from-3.ensures.told in
-    let below_4 = IsTold-more _ _ _ _ _ _ _ _ _ _ below_3 c.tell_from-4.ensures.settles (search rules) c.tell_from-4.ensures.told in
-    let below_5 = IsTold-more _ _ _ _ _ _ _ _ _ _ below_4 c.tell_from-5.ensures.settles (search rules) c.tell_from-5.ensures.told in
-    let below_6 = IsTold-more _ _ _ _ _ _ _ _ _ _ below_5 c.tell_from-6.ensures.settles (search rules) c.tell_from-6.ensures.told in
-    (below_6.told.0, IsPredecessorsBelow-end _ _ below_6.told.1, below_6.told.2, below_6.told.3)
+returns-clause-told c = IsTelling-end _ _ _ _ _ _ _ _ _ _ c.loop-k.invariant.telling c.loop-k-test.false

@@ -4,7 +4,7 @@ use Rattle.awari_table.specs.Images.{table_of}
 use Rattle.awari_block.specs.Leaving.{AreLeaving}
 use Rattle.awari_rank.specs.Rank.{rank_of}
 use Rattle.awari_block.specs.Part.{Part, AreFresh, IsTallied, stored_at}
-use Rattle.awari_owner.specs.Scan.{AreScanned}
+use Rattle.awari_owner.specs.Scan.{AreScanned, IsScan}
 use Rattle.awari_owner.specs.Spread.{HearsOwn}
 use Rattle.awari_block.proofs.Freshness.{fresh_of_block}
 use Rattle.awari_owner.proofs.Scanning.{scanned_block, scanned_tally, scanned_unsettled, hears_none}
@@ -43,7 +43,28 @@ invariant_of-result c =
           (fresh_of_block (record { level = c.levels.result; gain = c.levels.result + 1; wave = 0; start = c.args.block.start }) c.args.found.cells.items []
           (scanned_block (table_of c.args.shelf.now).value n c.args.block.start c.args.block.end c.args.found.cells.items len (λ r h. board_reached n r few (omega (arith, h, c.requires.block.within)))
           scanned_all (record { level = c.levels.result; gain = c.levels.result + 1; wave = 0; start = c.args.block.start }) [] c.levels.ensures.levels refl));
+      targets = search rules;
     }
+
+pub returns-clause-scanned : goal.returns-clause-scanned
+returns-clause-scanned c =
+    let found = c.requires.found in
+    let order = c.requires.block.order in
+    let len : c.args.block.start + length c.args.found.cells.items ≡ c.args.block.end = omega (arith, order, found.piece.len) in
+    let behind : c.args.block.start + (c.args.block.end - c.args.block.start) ≡ c.args.block.end = omega (arith, order) in
+    let scanned_all = subst (λ e. AreScanned (table_of c.args.shelf.now).value (length c.args.shelf.now) c.args.block.start e c.args.found.cells.items) behind found.piece.scanned in
+    let n = length c.args.shelf.now in
+    let few : n ≤ 24 = omega (arith, c.requires.low) in
+    subst (IsScan n c.args.owners c.args.owner) (sym c.in-Ok.ensures) (record {
+      level = c.levels.ensures.levels;
+      gain = ap (λ m. m + 1) c.levels.ensures.levels;
+      wave = refl;
+      start = c.requires.start;
+      end = len ∙ c.requires.end;
+      unsettled = λ r inside. scanned_unsettled (table_of c.args.shelf.now).value n c.args.block.start c.args.block.end c.args.found.cells.items len
+          (λ r h. board_reached n r few (omega (arith, h, c.requires.block.within))) scanned_all r inside.0 inside.1;
+      fresh = refl;
+    })
 
 pub returns-clause-hears : goal.returns-clause-hears
 returns-clause-hears c =

@@ -16,6 +16,7 @@ invariant_of-self c =
       each = c.self.invariant.each ∙ sym settles.size;
       leaving = leaving_still c.self.inside.boards c.open_gain.new.self c.self.inside.leaving.items settles.same.level settles.same.start settles.size c.self.invariant.leaving;
       fresh = c.open_gain.ensures.fresh;
+      targets = c.self.invariant.targets;
     }
 
 pub returns-clause-opened : goal.returns-clause-opened

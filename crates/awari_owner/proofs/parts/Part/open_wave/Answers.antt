@@ -10,4 +10,5 @@ invariant_of-self c =
       each = c.self.invariant.each ∙ ap (λ (o : Part). length o.cells) (sym c.open_wave.ensures.wave);
       leaving = subst (λ (o : Part). AreLeaving o.level o.start (length o.cells) o.start c.self.inside.leaving.items) (sym c.open_wave.ensures.wave) c.self.invariant.leaving;
       fresh = c.open_wave.ensures.fresh;
+      targets = c.self.invariant.targets;
     }

@@ -57,6 +57,7 @@ invariant_of-self c =
       each = c.self.invariant.each ∙ sym settles.size;
       leaving = leaving_still c.self.inside.boards c.tell_all.new.boards c.self.inside.leaving.items settles.same.level settles.same.start settles.size c.self.invariant.leaving;
       fresh = c.tell_all.ensures.settles.fresh c.take_first-rank.ensures.fresh;
+      targets = search rules;
     }
 
 pub invariant_of-outboxes-2 : goal.invariant_of-outboxes-2

@@ -18,6 +18,7 @@ invariant_of-self c =
       each = c.self.invariant.each ∙ sym settles.size;
       leaving = leaving_still c.self.inside.boards c.hear.new.self c.self.inside.leaving.items settles.same.level settles.same.start settles.size c.self.invariant.leaving;
       fresh = settles.fresh c.self.invariant.fresh;
+      targets = c.self.invariant.targets;
     }
 
 pub returns-clause-added : goal.returns-clause-added
