@@ -325,12 +325,42 @@ fn next_run(least: &[u32], from: usize, dist: u32) -> usize
     ensures within { (from ≤ result) × (result ≤ length least.now) }
     ensures far { (r : ℕ) → from ≤ r → r < result → dist < slice_index_or least.now r 0 }
 {
-    for run in from..least.len() {
+    for run in past_far(least, from, dist)..least.len() {
         if least[run] <= dist {
             return run;
         }
     }
     least.len()
+}
+
+/// A run from this one on, before which all are farther than this distance. They are passed over by
+/// steps of sixteen, most of which are farther where few boards are fresh.
+fn past_far(least: &[u32], from: usize, dist: u32) -> usize
+    requires { from ≤ length least.now }
+    ensures within { (from ≤ result) × (result ≤ length least.now) }
+    ensures far { (r : ℕ) → from ≤ r → r < result → dist < slice_index_or least.now r 0 }
+{
+    let mut run = from;
+    while are_far(least, run, dist) {
+        run += 16;
+    }
+    run
+}
+
+/// Whether there are sixteen runs from this one on, and all are farther than this distance.
+fn are_far(least: &[u32], from: usize, dist: u32) -> bool
+    requires { from ≤ length least.now }
+    ensures there { result ≡ true → from + 16 ≤ length least.now }
+    ensures far { result ≡ true → (r : ℕ) → from ≤ r → r < from + 16 → dist < slice_index_or least.now r 0 }
+{
+    if least.len() - from < 16 {
+        return false;
+    }
+    let mut bound: u32 = u32::MAX;
+    for run in from..from + 16 {
+        bound = bound.min(least[run]);
+    }
+    dist < bound
 }
 
 /// The first of the fresh boards. None is nearer than `enough`, so that one that is as near is the first.
