@@ -35,13 +35,6 @@ impl Awaited {
         Ok(Awaited { gains })
     }
 
-    /// How many runs there are.
-    pub fn runs(&self) -> usize
-        ensures { result ≡ length self.now.gains.items }
-    {
-        self.gains.len()
-    }
-
     /// Whether some board of this run may await this gain.
     pub fn awaits(&self, run: usize, gain: u8) -> bool
         requires run { run < length self.now.gains.items }

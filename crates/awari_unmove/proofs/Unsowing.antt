@@ -27,9 +27,6 @@ fallen-grows x k (suc d) i =
     let before = fallen-grows x k d i in
     subst (λ m. fallen x k i ≤ fallen x m i) e (omega (arith, more, before))
 
-pub IsUnsowing-none : (back : List ℕ) (x : ℕ) → length back ≡ 12 → IsUnsowing back x 0 back
-IsUnsowing-none back x size = record { size = size; each = λ i _. grind (arith, nat_tests); stones = refl }
-
 pub IsUnsowing-more : (back : List ℕ) (x k : ℕ) (left : List ℕ) (last : ℕ) → x < 12 → IsUnsowing back x k left → last ≡ landing x (k + 1) → 0 < get_or left last 0 → IsUnsowing back x (k + 1) (set (set left last (get_or left last 0 - 1)) x (get_or (set left last (get_or left last 0 - 1)) x 0 + 1))
 IsUnsowing-more back x k left last pit before there some =
     let elsewhere : last ≢ x = omega arith in
