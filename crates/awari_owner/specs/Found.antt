@@ -1,4 +1,4 @@
--- The boards that are told of one that is spread, as they are found.
+-- The boards that are told of one that is spread, as they are found. Private functions alone go by this: no public contract does.
 use Rattle.std.specs.Prelude.{◌≡◌, ℕ, ◌≤◌, List, length, map, take}
 use Rattle.awari_rank.specs.Rank.{rank_of}
 use Rattle.awari_owner.specs.Spread.{Source}
