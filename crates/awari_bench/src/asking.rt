@@ -173,7 +173,7 @@ fn ask_beside<R: Threads + Wait + Sync + Send + Clone + Drop + Print + Clock + '
 }
 
 /// Times the look-ups, and prints what each took.
-pub fn asking<R: Threads + Wait + Sync + Send + Clone + Drop + Print + Clock + 'static>(
+pub(crate) fn asking<R: Threads + Wait + Sync + Send + Clone + Drop + Print + Clock + 'static>(
     rt: &R,
     alloc: Global,
     rounds: u32,

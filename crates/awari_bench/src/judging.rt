@@ -15,7 +15,7 @@ const LEVELS: u8 = 13;
 
 /// What is done with each level.
 #[derive(Clone, Copy)]
-pub enum Work {
+pub(crate) enum Work {
     /// The verifier judges what it says.
     Judge,
     /// All its distances are doubled, and brought down to the least again.
@@ -24,7 +24,7 @@ pub enum Work {
 
 /// Builds the levels, and does the work with each so many times. Counts how often it went well, and
 /// the boards of these levels.
-pub fn each_level(alloc: Global, work: Work, rounds: u32) -> io::Result<Counted> {
+pub(crate) fn each_level(alloc: Global, work: Work, rounds: u32) -> io::Result<Counted> {
     let mut counted = Counted::NONE;
     let mut shelf = Shelf::empty();
     for _level in 0..LEVELS {

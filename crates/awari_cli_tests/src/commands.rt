@@ -17,10 +17,10 @@ use std::time::Clock;
 use std::{io, str};
 
 /// Words of the program, what it prints of them, and its status.
-pub type Line = (&'static [&'static str], &'static str, u8);
+pub(crate) type Line = (&'static [&'static str], &'static str, u8);
 
 /// Runs the program on these words, and compares what it prints and its status.
-pub fn expect_run(
+pub(crate) fn expect_run(
     rt: &(impl Abort
         + Files<File = File>
         + Threads
@@ -52,7 +52,7 @@ fn expect_text(rt: &impl Abort, words: &[&str], output: &[u8], printed: &str) {
 }
 
 /// Runs the program on the words of each line, with no input.
-pub fn expect_lines(
+pub(crate) fn expect_lines(
     rt: &(impl Abort
         + Files<File = File>
         + Threads
@@ -127,7 +127,7 @@ fn level_1_line(rank: u32) -> &'static str {
 
 /// The entry of a board of level 2. Each such board has at most one legal move, so these are worked
 /// by hand: with `low` and `high` the pits of its two stones, the mover's being 0 to 5.
-pub fn level_2_entry(board: &Board) -> Entry {
+pub(crate) fn level_2_entry(board: &Board) -> Entry {
     let mut low = 12u8;
     let mut high = 0u8;
     for pit in 0..12u8 {
@@ -153,13 +153,13 @@ pub fn level_2_entry(board: &Board) -> Entry {
 }
 
 /// The next board of two stones in order of rank, or the last one again.
-pub fn next_board(rt: &impl Abort, board: Board) -> Board {
+pub(crate) fn next_board(rt: &impl Abort, board: Board) -> Board {
     assert!(rt; board.stones() == 2);
     successor(&board).unwrap_or(board)
 }
 
 /// Puts the line of an entry behind a text.
-pub fn push_entry(alloc: Global, text: &mut String, entry: Entry) -> Result<(), AllocError> {
+pub(crate) fn push_entry(alloc: Global, text: &mut String, entry: Entry) -> Result<(), AllocError> {
     let Entry { value, plan, dist } = entry;
     let line = match plan {
         Some(pit) => format!(in alloc; "{value} {pit} {dist}\n")?,
@@ -201,7 +201,7 @@ fn push_level_2(rt: &impl Abort, alloc: Global, text: &mut String) -> Result<(),
 }
 
 /// The text of levels 0 to 2.
-pub fn levels_0_to_2(rt: &impl Abort, alloc: Global) -> Result<String, AllocError> {
+pub(crate) fn levels_0_to_2(rt: &impl Abort, alloc: Global) -> Result<String, AllocError> {
     let mut text = levels_0_to_1(alloc, 1, 6, "-1 5 1")?;
     push_level_2(rt, alloc, &mut text)?;
     Ok(text)
@@ -280,7 +280,7 @@ fn words_that_are_not_understood(rt: HostRuntime) {
 
 /// A stream of which each read and each write is a fault.
 #[derive(Clone, Copy)]
-pub struct Broken;
+pub(crate) struct Broken;
 
 impl Read for Broken {
     fn read(&mut self, _buf: &mut [u8]) -> io::Result<usize> {

@@ -18,16 +18,16 @@ const CAPTURE: &str = "0,0,0,0,0,1/1,0,1,0,0,0";
 
 const CUT_FILE: &str = "refused 81 File level 0: 60 Truncated\n";
 
-pub const LEVELS_0_TO_1: &str = "\
+pub(crate) const LEVELS_0_TO_1: &str = "\
 level 0 boards 1 won 0 even 1 lost 0 limit 0
 level 1 boards 12 won 5 even 0 lost 7 limit 1
 ";
 
-pub const NO_LEVELS: &str = "\
+pub(crate) const NO_LEVELS: &str = "\
 levels 0 digest 0000000000000000000000000000000000000000000000000000000000000000
 ";
 
-pub const LEVELS_0_TO_2: &str = "\
+pub(crate) const LEVELS_0_TO_2: &str = "\
 level 0 boards 1 won 0 even 1 lost 0 limit 0
 level 1 boards 12 won 5 even 0 lost 7 limit 1
 level 2 boards 78 won 24 even 13 lost 41 limit 9
@@ -56,7 +56,7 @@ level 12 boards 1352078 won 714572 even 197753 lost 439753 limit 184
 ";
 
 /// Runs `build` up to this level, with no folder.
-pub fn expect_built(
+pub(crate) fn expect_built(
     rt: &(impl Abort
         + Files<File = File>
         + Threads
@@ -119,13 +119,13 @@ fn paces_out_of_range_are_not_understood(rt: HostRuntime) {
 }
 
 /// A new folder of this name.
-pub fn empty_folder(rt: &(impl Files + AllocGlobal), folder: &str) -> io::Result<()> {
+pub(crate) fn empty_folder(rt: &(impl Files + AllocGlobal), folder: &str) -> io::Result<()> {
     let _ = fs::remove_dir_all(rt, folder);
     fs::create_dir(rt, folder)
 }
 
 /// Runs lines in a new folder of this name, and removes it.
-pub fn expect_in_folder(
+pub(crate) fn expect_in_folder(
     rt: &(impl Abort
         + Files<File = File>
         + Threads

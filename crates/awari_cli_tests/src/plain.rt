@@ -19,27 +19,27 @@ const ALONE: Pace = Pace {
 };
 
 /// An empty folder in memory.
-pub fn memory_folder(alloc: Global) -> MemoryFolder {
+pub(crate) fn memory_folder(alloc: Global) -> MemoryFolder {
     MemoryFolder::new(alloc)
 }
 
 /// Has a folder in memory refuse the call of this number.
-pub fn refuse(folder: &mut MemoryFolder, call: u32) {
+pub(crate) fn refuse(folder: &mut MemoryFolder, call: u32) {
     folder.refuse(call);
 }
 
 /// Has the new files of a folder in memory refuse to be written, or to be brought to the disk.
-pub fn refuse_files(folder: &mut MemoryFolder, writes: bool, sync: bool) {
+pub(crate) fn refuse_files(folder: &mut MemoryFolder, writes: bool, sync: bool) {
     folder.refuse_files(writes, sync);
 }
 
 /// Whether something lies in a folder in memory of a file that got no name.
-pub fn has_draft(folder: &MemoryFolder) -> bool {
+pub(crate) fn has_draft(folder: &MemoryFolder) -> bool {
     folder.has_draft()
 }
 
 /// Builds up to level 1 in the folder by one part, and gives the status.
-pub fn build(
+pub(crate) fn build(
     rt: &(impl AllocGlobal + Threads + Wait + Sync),
     folder: &mut MemoryFolder,
     output: &mut Vec<u8>,
@@ -65,7 +65,7 @@ fn build_to(
 }
 
 /// Builds up to this level by one part, tells on this stream how far it is, and gives the status.
-pub fn build_telling(
+pub(crate) fn build_telling(
     rt: &(impl AllocGlobal + Threads + Wait + Sync),
     clock: &impl Clock,
     top: u8,
@@ -78,7 +78,7 @@ pub fn build_telling(
 }
 
 /// Verifies the folder, and gives the status.
-pub fn verified(
+pub(crate) fn verified(
     rt: &(impl AllocGlobal + Threads + Wait + Sync),
     folder: &mut MemoryFolder,
     output: &mut Vec<u8>,
@@ -87,7 +87,7 @@ pub fn verified(
 }
 
 /// Asks the folder for a board, and gives the status.
-pub fn asked(
+pub(crate) fn asked(
     rt: &(impl AllocGlobal + Threads + Wait + Sync),
     folder: &mut MemoryFolder,
     board: &str,
@@ -97,7 +97,7 @@ pub fn asked(
 }
 
 /// Plays the line of a board by the folder, and gives the status.
-pub fn lined(
+pub(crate) fn lined(
     rt: &(impl AllocGlobal + Threads + Wait + Sync),
     folder: &mut MemoryFolder,
     board: &str,

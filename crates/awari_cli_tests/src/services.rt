@@ -133,7 +133,7 @@ impl Read for Endless {
 }
 
 /// Builds the next level of the book, and publishes it.
-pub fn publish_next<R: Wait + Drop>(
+pub(crate) fn publish_next<R: Wait + Drop>(
     alloc: Global,
     publisher: &mut Publisher<R>,
 ) -> Result<(), Fail> {
@@ -261,7 +261,10 @@ fn expect_too_long(rt: &impl Abort, alloc: Global, reader: &mut Reader) {
 }
 
 /// The publisher and the one reader of a new desk.
-pub fn desk_of_one<R: Wait + Drop>(own: R, alloc: Global) -> Result<(Publisher<R>, Reader), Fail> {
+pub(crate) fn desk_of_one<R: Wait + Drop>(
+    own: R,
+    alloc: Global,
+) -> Result<(Publisher<R>, Reader), Fail> {
     let (publisher, mut readers) = desk(own, alloc, 1)?;
     match readers.pop() {
         Some(reader) => Ok((publisher, reader)),
@@ -270,7 +273,7 @@ pub fn desk_of_one<R: Wait + Drop>(own: R, alloc: Global) -> Result<(Publisher<R
 }
 
 /// Builds and publishes levels 0 and 1.
-pub fn publish_two<R: Wait + Drop>(
+pub(crate) fn publish_two<R: Wait + Drop>(
     alloc: Global,
     publisher: &mut Publisher<R>,
 ) -> Result<(), Fail> {

@@ -6,7 +6,7 @@ use std::io;
 
 const WEIGHED: &str = "awari_cli_test_moves";
 
-pub const LEVELS_3_TO_4: &str = "\
+pub(crate) const LEVELS_3_TO_4: &str = "\
 level 3 boards 364 won 121 even 64 lost 179 limit 28
 level 4 boards 1365 won 577 even 143 lost 645 limit 38
 ";

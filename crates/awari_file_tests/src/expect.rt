@@ -6,7 +6,7 @@ use std::fmt::Debug;
 use std::process::Abort;
 
 /// What was found in this case is what was expected.
-pub fn expect_equal<T: PartialEq + Debug + Drop>(
+pub(crate) fn expect_equal<T: PartialEq + Debug + Drop>(
     rt: &impl Abort,
     case: impl Debug + Drop,
     found: T,
@@ -16,6 +16,6 @@ pub fn expect_equal<T: PartialEq + Debug + Drop>(
 }
 
 /// What is said of this case holds.
-pub fn expect(rt: &impl Abort, case: impl Debug + Drop, holds: bool) {
+pub(crate) fn expect(rt: &impl Abort, case: impl Debug + Drop, holds: bool) {
     assert!(rt; holds, "{case:?}");
 }

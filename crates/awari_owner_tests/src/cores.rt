@@ -13,7 +13,7 @@ use std::test::Fail;
 const MOST_TURNS: u32 = 1_000_000;
 
 /// Each owner spreads, each sends to each other one, and each takes of each other one.
-pub fn all_events(alloc: Global, owners: u8) -> Result<Vec<Event>, AllocError> {
+pub(crate) fn all_events(alloc: Global, owners: u8) -> Result<Vec<Event>, AllocError> {
     let mut events = Vec::new(alloc);
     for from in 0..owners {
         events.push(Event::Spread(from))?;
@@ -209,7 +209,7 @@ fn expect_built_by_16(
     expect_level(rt, alloc, shelf, &core)
 }
 
-pub fn expect_closed(rt: &impl Abort, core: &mut Core, events: &[Event]) {
+pub(crate) fn expect_closed(rt: &impl Abort, core: &mut Core, events: &[Event]) {
     expect(rt, "all gains closed", close_by(core, events));
 }
 

@@ -12,7 +12,7 @@ use std::process::Abort;
 use std::test::Fail;
 
 /// Rank 6 hears that its pit 5 leads to a board that wins 1 stone.
-pub const NOTE: Note = Note {
+pub(crate) const NOTE: Note = Note {
     level: 1,
     target: 6,
     pit: 5,

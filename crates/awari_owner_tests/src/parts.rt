@@ -38,7 +38,7 @@ fn shares_out_the_boards(rt: HostRuntime) -> Result<(), Fail> {
 }
 
 /// Opens gain 1, at which boards of level 1 are due at distance 0.
-pub fn open_gain_1(rt: &impl Abort, part: &mut Part, outboxes: &Outboxes)
+pub(crate) fn open_gain_1(rt: &impl Abort, part: &mut Part, outboxes: &Outboxes)
     requires made { IsPartOf part.old outboxes.now }
     ensures made { IsPartOf part.new outboxes.now }
     ensures wave { part.new.wave ≡ 0 }
@@ -50,7 +50,7 @@ pub fn open_gain_1(rt: &impl Abort, part: &mut Part, outboxes: &Outboxes)
 }
 
 /// Spreads the first fresh board, which has the open distance.
-pub fn spread_next(rt: &impl Abort, part: &mut Part, outboxes: &mut Outboxes)
+pub(crate) fn spread_next(rt: &impl Abort, part: &mut Part, outboxes: &mut Outboxes)
     requires made { IsPartOf part.old outboxes.old }
     ensures made { IsPartOf part.new outboxes.new }
     ensures wave { part.new.wave ≡ part.old.wave }
@@ -59,7 +59,7 @@ pub fn spread_next(rt: &impl Abort, part: &mut Part, outboxes: &mut Outboxes)
 }
 
 /// No board is due at the open distance.
-pub fn expect_none_due(rt: &impl Abort, part: &mut Part, outboxes: &mut Outboxes)
+pub(crate) fn expect_none_due(rt: &impl Abort, part: &mut Part, outboxes: &mut Outboxes)
     requires made { IsPartOf part.old outboxes.old }
     ensures made { IsPartOf part.new outboxes.new }
     ensures wave { part.new.wave ≡ part.old.wave }

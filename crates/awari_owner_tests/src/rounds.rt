@@ -21,7 +21,7 @@ use std::test::Fail;
 use std::thread::Threads;
 
 /// Three owners of level 1, with room for one batch on each line and gain 1 open.
-pub fn three_owners<R: Threads + Sync>(rt: &R, alloc: Global) -> Result<Vec<Owner>, Fail>
+pub(crate) fn three_owners<R: Threads + Sync>(rt: &R, alloc: Global) -> Result<Vec<Owner>, Fail>
     ensures { IfOk result (λ owners. IsGrid (all_ends owners.items)) }
 {
     let shelf = one_level(alloc)?;

@@ -11,7 +11,7 @@ use std::sync::Arc;
 use std::test::Fail;
 
 /// The shelf of level 0.
-pub fn one_level(alloc: Global) -> Result<Shelf, Fail>
+pub(crate) fn one_level(alloc: Global) -> Result<Shelf, Fail>
     ensures { IfOk result (λ shelf. length shelf ≡ 1) }
 {
     let mut shelf = Shelf::empty();
@@ -21,7 +21,7 @@ pub fn one_level(alloc: Global) -> Result<Shelf, Fail>
 }
 
 /// The shelf of so many levels.
-pub fn levels_below(alloc: Global, count: u8) -> Result<Shelf, Fail> {
+pub(crate) fn levels_below(alloc: Global, count: u8) -> Result<Shelf, Fail> {
     let mut shelf = Shelf::empty();
     for _level in 0..count {
         let level = build_alone(alloc, &shelf)?;
@@ -31,7 +31,7 @@ pub fn levels_below(alloc: Global, count: u8) -> Result<Shelf, Fail> {
 }
 
 /// The shelf has so many levels and this limit.
-pub fn expect_limit(rt: &impl Abort, shelf: &Shelf, levels: u8, limit: u32) {
+pub(crate) fn expect_limit(rt: &impl Abort, shelf: &Shelf, levels: u8, limit: u32) {
     let found = (shelf.levels(), shelf.limit());
     expect_equal(rt, "levels and limit", found, (levels, limit));
 }

@@ -5,7 +5,7 @@ use std::alloc::{AllocError, Global};
 
 /// Numbers that are as good as random, and the same in each run.
 #[derive(Drop)]
-pub struct Numbers(u64);
+pub(crate) struct Numbers(u64);
 
 /// What each schedule's numbers begin with is so far from what those of the one before began with.
 const STRIDE: u64 = 0x9e37_79b9_7f4a_7c15;
@@ -14,12 +14,12 @@ impl Numbers {
     ghost use Rattle.std.specs.Prelude.{◌<◌};
 
     /// Those of this schedule.
-    pub fn of(schedule: u32) -> Numbers {
+    pub(crate) fn of(schedule: u32) -> Numbers {
         Numbers(u64::from(schedule).wrapping_add(1).wrapping_mul(STRIDE))
     }
 
     /// One from 0 up to, not including, this.
-    pub fn below(&mut self, most: u64) -> u64
+    pub(crate) fn below(&mut self, most: u64) -> u64
         requires { 0 < most }
         ensures { result < most }
     {
@@ -45,7 +45,7 @@ impl Numbers {
     }
 
     /// So many events.
-    pub fn events(
+    pub(crate) fn events(
         &mut self,
         alloc: Global,
         owners: u8,

@@ -11,7 +11,7 @@ use std::io;
 use std::sync::Arc;
 
 /// The greatest number of stones of a level that is built so.
-pub const LEVELS: usize = 4;
+pub(crate) const LEVELS: usize = 4;
 
 /// How many events are drawn before it is looked whether the next distance can be opened.
 const LIST_LENGTH: usize = 256;
@@ -21,7 +21,7 @@ const MOST_LISTS: u32 = 1_000_000;
 
 /// What became of all schedules.
 #[derive(Drop)]
-pub struct Outcome {
+pub(crate) struct Outcome {
     /// How many ended in the level that one part builds, by the stones on its boards.
     pub same: [u32; LEVELS + 1],
     /// How many ended in another one, or not at all.
@@ -38,7 +38,7 @@ struct Task {
 }
 
 /// Draws so many schedules, and compares what each of them ends in.
-pub fn outcome_of(alloc: Global, count: u32) -> io::Result<Outcome> {
+pub(crate) fn outcome_of(alloc: Global, count: u32) -> io::Result<Outcome> {
     let tasks = tasks(alloc)?;
     let mut outcome = Outcome {
         same: [0; LEVELS + 1],

@@ -14,11 +14,16 @@ use std::process::Abort;
 use std::sync::Arc;
 use std::test::Fail;
 
-pub fn entry(value: i8, plan: Option<u8>, dist: u32) -> Entry {
+pub(crate) fn entry(value: i8, plan: Option<u8>, dist: u32) -> Entry {
     Entry { value, plan, dist }
 }
 
-pub fn image(alloc: Global, level: u8, limit: u32, entries: &[Entry]) -> Result<Image, Fail> {
+pub(crate) fn image(
+    alloc: Global,
+    level: u8,
+    limit: u32,
+    entries: &[Entry],
+) -> Result<Image, Fail> {
     Ok(Image {
         level,
         limit,
@@ -46,7 +51,7 @@ fn level_1() -> [Entry; 12] {
 
 /// Where the two stones of a board lie.
 #[derive(Clone, Copy)]
-pub enum Lie {
+pub(crate) enum Lie {
     /// Both on the other side.
     Away,
     /// Both on the mover's side, in these pits.
@@ -55,7 +60,7 @@ pub enum Lie {
     Across(u8, u8),
 }
 
-pub fn lie_of(board: &Board) -> Lie {
+pub(crate) fn lie_of(board: &Board) -> Lie {
     let mut first = None;
     let mut last = 0u8;
     let mut other = None;
@@ -100,7 +105,7 @@ fn entry_of_two(board: &Board) -> Entry {
 }
 
 /// The entries of the 78 boards with two stones.
-pub fn level_2(alloc: Global) -> Result<Vec<Entry>, Fail> {
+pub(crate) fn level_2(alloc: Global) -> Result<Vec<Entry>, Fail> {
     let mut entries = Vec::new(alloc);
     for rank in 0..size(2) {
         entries.push(entry_of_two(&unrank(2, rank)))?;
@@ -109,7 +114,7 @@ pub fn level_2(alloc: Global) -> Result<Vec<Entry>, Fail> {
 }
 
 /// The shelf of levels 0 and 1.
-pub fn two_levels(alloc: Global) -> Result<Shelf, Fail> {
+pub(crate) fn two_levels(alloc: Global) -> Result<Shelf, Fail> {
     let mut shelf = Shelf::empty();
     let level = verify(&shelf, image(alloc, 0, 0, &level_0())?)?;
     shelf.push(Arc::new(alloc, level)?);
@@ -119,7 +124,7 @@ pub fn two_levels(alloc: Global) -> Result<Shelf, Fail> {
 }
 
 /// What the verifier has against these entries, as the next level of the shelf.
-pub fn fault_found(
+pub(crate) fn fault_found(
     alloc: Global,
     shelf: &Shelf,
     limit: u32,
@@ -135,7 +140,7 @@ pub fn fault_found(
     }
 }
 
-pub fn refused(rank: u32, rule: Rule) -> Option<VerifyFault> {
+pub(crate) fn refused(rank: u32, rule: Rule) -> Option<VerifyFault> {
     Some(VerifyFault::Refused { rank, rule })
 }
 
