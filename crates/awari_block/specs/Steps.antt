@@ -1,4 +1,4 @@
--- What a note, and what the opening of a gain, makes of a status. Private functions alone go by this: no public contract does.
+-- What a note, and what the opening of a gain, makes of a status.
 use Rattle.std.specs.Prelude.{ℕ, ◌+◌, ◌-◌, ◌==◌, ◌&&◌, Bool, true, false, if◌then◌else◌, max, ℤ, pos, neg_ℤ, int_le, Option, Some, None}
 use Rattle.std.specs.Ordering.{int_eq}
 use Rattle.awari_block.specs.Tally.{Status, Ended, Open, Settled}

@@ -10,7 +10,7 @@ use crate::words::{has_bit, with_bit};
 use std::alloc::{AllocError, Global};
 
 /// The gains whose opening may settle a board, a bit for each gain, a word for each run of 64 boards.
-/// A gain is awaited by few runs, if it is a great one, and by the others nothing need be read.
+/// Few runs await a great gain, and no cell of the others is read when it is opened.
 #[derive(Drop)]
 pub struct Awaited {
     gains: Vec<u64>,

@@ -109,7 +109,7 @@ impl Boards {
         self.place.start <= rank && ((rank - self.place.start) as usize) < self.cells.len()
     }
 
-    /// What is known of the board of this rank.
+    /// What is known of the board of this rank, which is one of the block.
     #[inline(always)]
     pub fn cell(&self, rank: u32) -> Cell
         requires held { InBlock self.now rank }
@@ -119,7 +119,7 @@ impl Boards {
         self.cells[(rank - self.place.start) as usize]
     }
 
-    /// The board of this rank.
+    /// The board of this rank, which is one of the block.
     #[inline(always)]
     pub fn board(&self, rank: u32) -> PackedBoard
         requires held { InBlock self.now rank }
@@ -156,7 +156,8 @@ impl Boards {
         }
     }
 
-    /// Takes the first fresh board from the fresh ones, and gives its rank. It has the open distance.
+    /// Takes the first fresh board from the fresh ones, and gives its rank. Condition: there is one, and it
+    /// has the open distance.
     pub fn take_first(&mut self) -> u32
         requires due { IsLeastDue self.old (Some self.old.wave) }
         ensures first { TakesFirst self.old self.new result }
@@ -187,7 +188,8 @@ impl Boards {
     }
 
     /// Hears for the board of this rank that its quiet move from `pit` leads to a won or a lost
-    /// board, of the open gain and distance. That may settle it.
+    /// board, of the open gain and distance. That may settle it. Conditions: the board is one of the block,
+    /// the pit is below 6, a gain is open, and the open distance is not the greatest that can be stored.
     #[inline(always)]
     pub fn hear(&mut self, target: u32, pit: u8, kind: Kind)
         requires { CanHear self.old target pit }
@@ -199,8 +201,8 @@ impl Boards {
         self.put(target, next);
     }
 
-    /// Opens the next smaller gain: the boards that a capture settles at that gain are settled, and
-    /// so are fresh. It needs no board to be fresh.
+    /// Opens the next smaller gain, which is 1 at least: the boards that a capture settles at that gain are
+    /// settled, and so are fresh. It needs no board to be fresh.
     pub fn open_gain(&mut self, gain: u8)
         requires idle { self.old.fresh ≡ [] }
         requires next { gain + 1 ≡ self.old.gain }

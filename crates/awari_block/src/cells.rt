@@ -31,6 +31,7 @@ pub struct Cell {
     pub heard: u8,
     /// How many quiet moves have no Won note.
     pub left: u8,
+    /// What the score and the distance say.
     pub mark: Mark,
     /// Stones, for the mover.
     pub score: i8,

@@ -2,12 +2,16 @@
 
 ghost use Rattle.std.specs.Prelude.{◌≡◌, ◌≢◌, ℕ, ◌+◌, ◌*◌, ◌/◌, ◌%◌, ◌^◌, ◌<◌, ◌≤◌, ◌↔◌, false, true, None, List, length, IfOk, IfSome, IsTrue, slice_index_or, Option, Some};
 ghost use Rattle.std.specs.Int.{bit_at};
+ghost use Rattle.awari_block.specs.declared.fresh.TheConstants.{STEP};
 ghost use Rattle.awari_block.specs.declared.cells.Cell.{Cell as CellView};
-ghost use Rattle.awari_block.specs.Fresh.{AreBehind, AreFirst, AreKept, AreOfRun, IsFirstOf, IsFresh, IsNearest, MarksOne, UnmarksOne, dist_at, is_marked, marked_of};
+ghost use Rattle.awari_block.specs.Fresh.{AreBehind, AreFirst, AreKept, AreOfRun, IsFirstOf, IsFresh, IsNearest, MarksOne, UnmarksOne, dist_at, is_marked};
 
 use crate::cells::Cell;
 use crate::words::{next_bit, with_bit, without_bit};
 use std::alloc::{AllocError, Global};
+
+/// How many runs are passed over at once.
+const STEP: usize = 16;
 
 /// Which boards of a block are fresh, by their places in it, and the first of them: those of the
 /// least distance, in order of rank. What their distances are stands in the cells. Sixty-four boards
@@ -36,7 +40,8 @@ struct First {
 }
 
 impl Fresh {
-    /// No fresh boards, with room for so many.
+    /// No fresh boards, with room for so many. It takes twelve bytes for each run of 64, and is refused
+    /// where that was.
     pub fn new(alloc: Global, boards: usize) -> Result<Fresh, AllocError>
         requires { boards < 2 ^ 32 }
         ensures sound { IfOk result (λ fresh. (cells : List CellView) → length cells ≡ boards → IsFresh cells fresh) }
@@ -114,7 +119,8 @@ impl Fresh {
             self.bits = rest;
             return;
         }
-        let first = behind(cells, &mut self.words, &mut self.least, run, dist);
+        let (words, least) = (self.words.as_slice(), self.least.as_mut_slice());
+        let first = first_behind(cells, words, least, run, dist);
         self.put_first(first);
     }
 
@@ -148,29 +154,22 @@ fn unmark(words: &mut Vec<u64>, place: usize)
 
 /// The first boards, where there is none any more of this distance up to this run, of which the least
 /// distance is kept anew.
-fn behind(
-    cells: &[Cell],
-    words: &mut Vec<u64>,
-    least: &mut Vec<u32>,
-    run: usize,
-    dist: u32,
-) -> First
-    requires kept { AreKept cells.now words.old.items least.old.items }
-    requires run { run < length words.old.items }
-    requires behind { AreBehind cells.now words.old.items run dist }
-    requires none { (i : ℕ) → i < 64 → is_marked words.old.items (64 * run + i) ≡ true → dist_at cells.now (64 * run + i) ≡ dist → ⊥ }
-    ensures same { words.new.items ≡ words.old.items }
-    ensures kept { AreKept cells.now words.new.items least.new.items }
-    ensures first { AreFirst cells.now words.new.items result.run result.dist result.bits }
+fn first_behind(cells: &[Cell], words: &[u64], least: &mut [u32], run: usize, dist: u32) -> First
+    requires kept { AreKept cells.now words.now least.old }
+    requires run { run < length words.now }
+    requires behind { AreBehind cells.now words.now run dist }
+    requires none { (i : ℕ) → i < 64 → is_marked words.now (64 * run + i) ≡ true → dist_at cells.now (64 * run + i) ≡ dist → ⊥ }
+    ensures kept { AreKept cells.now words.now least.new }
+    ensures first { AreFirst cells.now words.now result.run result.dist result.bits }
 {
-    least[run] = bound_of(cells, words.as_slice(), run);
-    match first_as_near(cells, words.as_slice(), least.as_slice(), run, dist) {
+    least[run] = bound_of(cells, words, run);
+    match first_as_near(cells, words, least, run, dist) {
         Some(first) => first,
         None => {
-            // All are farther, and most often one is farther by a ply.
+            // All are farther, and most often the nearest is farther by one ply.
             let enough = dist.saturating_add(1);
-            let first = nearest(cells, words.as_slice(), least.as_slice(), enough);
-            first_at(cells, words.as_slice(), first)
+            let first = nearest(cells, words, least, enough);
+            first_at(cells, words, first)
         }
     }
 }
@@ -325,7 +324,7 @@ fn next_run(least: &[u32], from: usize, dist: u32) -> usize
     ensures within { (from ≤ result) × (result ≤ length least.now) }
     ensures far { (r : ℕ) → from ≤ r → r < result → dist < slice_index_or least.now r 0 }
 {
-    for run in past_far(least, from, dist)..least.len() {
+    for run in skip_far_runs(least, from, dist)..least.len() {
         if least[run] <= dist {
             return run;
         }
@@ -334,30 +333,31 @@ fn next_run(least: &[u32], from: usize, dist: u32) -> usize
 }
 
 /// A run from this one on, before which all are farther than this distance. They are passed over by
-/// steps of sixteen, most of which are farther where few boards are fresh.
-fn past_far(least: &[u32], from: usize, dist: u32) -> usize
+/// steps, most of which are farther where few boards are fresh.
+fn skip_far_runs(least: &[u32], from: usize, dist: u32) -> usize
     requires { from ≤ length least.now }
     ensures within { (from ≤ result) × (result ≤ length least.now) }
     ensures far { (r : ℕ) → from ≤ r → r < result → dist < slice_index_or least.now r 0 }
 {
     let mut run = from;
-    while are_far(least, run, dist) {
-        run += 16;
+    while is_step_far(least, run, dist) {
+        run += STEP;
     }
     run
 }
 
-/// Whether there are sixteen runs from this one on, and all are farther than this distance.
-fn are_far(least: &[u32], from: usize, dist: u32) -> bool
+/// Whether there is a step of runs from this one on, and all are farther than this distance. The least
+/// of them takes no branch, and a test of each would.
+fn is_step_far(least: &[u32], from: usize, dist: u32) -> bool
     requires { from ≤ length least.now }
-    ensures there { result ≡ true → from + 16 ≤ length least.now }
-    ensures far { result ≡ true → (r : ℕ) → from ≤ r → r < from + 16 → dist < slice_index_or least.now r 0 }
+    ensures there { result ≡ true → from + STEP ≤ length least.now }
+    ensures far { result ≡ true → (r : ℕ) → from ≤ r → r < from + STEP → dist < slice_index_or least.now r 0 }
 {
-    if least.len() - from < 16 {
+    if least.len() - from < STEP {
         return false;
     }
     let mut bound: u32 = u32::MAX;
-    for run in from..from + 16 {
+    for run in from..from + STEP {
         bound = bound.min(least[run]);
     }
     dist < bound

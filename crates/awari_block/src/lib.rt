@@ -3,7 +3,8 @@
 //! A [`Block`] is the boards of a level from one rank up to, not including, another. Its [`Boards`] have
 //! a [`Cell`] each, which says what is known of the board, and those are fresh that are settled and were
 //! not spread yet. A [`Note`] says of a quiet move that it leads to a settled board. What a cell has to
-//! know of the notes that its board heard is defined in `specs/Tally.antt`.
+//! know of the notes that its board heard is defined in `specs/Tally.antt`. `Boards::unopened` takes all
+//! the memory that the boards will ever need, and no other call takes any.
 //!
 //! The boards of an owner's block, by lines of `crates/awari_owner/src/parts.rt`:
 //!

@@ -3,8 +3,10 @@
 /// What a note says of the board that its move leads to: its mover has won, or has lost.
 #[derive(Clone, Copy, Debug, Default, PartialEq, Eq)]
 pub enum Kind {
+    /// The mover of the board that the move leads to wins the gain.
     #[default]
     Won,
+    /// The mover of that board loses it.
     Lost,
 }
 
@@ -18,6 +20,7 @@ pub struct Note {
     pub target: u32,
     /// The pit that the move plays.
     pub pit: u8,
+    /// Whether the mover of the settled board wins or loses.
     pub kind: Kind,
     /// What the settled board gains or loses, in stones.
     pub gain: u8,

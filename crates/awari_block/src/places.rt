@@ -33,7 +33,8 @@ pub struct Block {
 }
 
 impl Block {
-    /// The block of this owner, one of so many, of the boards of a level.
+    /// The block of this owner, one of so many, of the boards of a level. Conditions: the level has at most
+    /// 24 stones, and there is one owner at least and `owner` is below `owners`.
     pub fn of(level: u8, owners: u8, owner: u8) -> Block
         requires low { level ≤ 24 }
         requires some { 1 ≤ owners }
@@ -70,7 +71,7 @@ impl Block {
 
 /// The rank of the first board of an owner's block, where so many boards are shared out in blocks of
 /// one length. It is the number of boards where the owner has none.
-pub fn first_rank(boards: u32, owners: u8, owner: u8) -> u32
+fn first_rank(boards: u32, owners: u8, owner: u8) -> u32
     requires some { 1 ≤ owners }
     requires few { owner ≤ owners }
     ensures rank { result ≡ first_rank boards owners owner }
@@ -80,7 +81,8 @@ pub fn first_rank(boards: u32, owners: u8, owner: u8) -> u32
     (u64::from(owner) * u64::from(length)).min(u64::from(boards)) as u32
 }
 
-/// How long the blocks are in which so many boards are shared out.
+/// How many boards each block has but the last ones, where so many boards are shared out. Condition: there
+/// is one owner at least.
 pub fn block_length(boards: u32, owners: u8) -> u32
     requires some { 1 ≤ owners }
     ensures { result ≡ (boards + (owners - 1)) / owners }

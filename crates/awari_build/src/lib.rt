@@ -13,6 +13,7 @@ mod owned;
 mod paces;
 
 pub use alone::{build_alone, build_alone_with_progress};
+pub use awari_core::{MOST_OWNERS, MOST_ROOM};
 pub use faults::BuildFault;
 pub use owned::{build_level, build_level_with_progress};
-pub use paces::{MOST_OWNERS, MOST_ROOM, MOST_SWEEPS, Pace};
+pub use paces::{MOST_SWEEPS, Pace};

@@ -13,7 +13,8 @@ ghost use Rattle.awari_build.specs.Owned.{AreAt};
 ghost use Rattle.awari_build.specs.Paces.{HasOwners, IsPaced};
 
 use crate::faults::BuildFault;
-use crate::paces::{MOST_OWNERS, MOST_ROOM, MOST_SWEEPS, Pace};
+use crate::paces::{MOST_SWEEPS, Pace};
+use awari_core::{MOST_OWNERS, MOST_ROOM};
 use awari_phase::{
     Gate, Owner, PhaseFault, Progress, Silent, closed_parts, finished_owners_are_right,
     gain_phase_with_progress, open_gain, scanned_owners,

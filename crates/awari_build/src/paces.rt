@@ -11,11 +11,5 @@ pub struct Pace {
     pub sweeps: u32,
 }
 
-/// How many owners a level has at most.
-pub const MOST_OWNERS: u8 = 16;
-
-/// For how many batches a line has room at most.
-pub const MOST_ROOM: u32 = 256;
-
 /// How many sweeps an owner makes in a round at most.
 pub const MOST_SWEEPS: u32 = 1000;

@@ -1,4 +1,4 @@
-//! What is kept.
+//! What events keep: that the owners are sound.
 
 ghost use Rattle.std.specs.Prelude.{◌≡◌, ℕ, ℤ, ◌<◌, ◌≤◌, ◌^◌, ◌-◌, ◌∷◌, [], false, All, List, length, sum};
 ghost use Rattle.awari_board.specs.Rules.{IsBoard};

@@ -5,7 +5,9 @@
 //! on. A board that is settled tells the boards whose quiet moves lead to it that its mover has won
 //! or lost that gain, which may settle those. What a cell has to know of the notes that its board
 //! heard is defined in `specs/Tally.antt` of `awari_block`; `specs/Level.antt` says what the parts of a
-//! level heard together, and `specs/Finish.antt` what is right once all is heard.
+//! level heard together, and `specs/Finish.antt` what is right once all is heard. Memory is taken by
+//! `Part::scan`, `scan_parallel` and `Outboxes::new`, by `spread_one` where there is another owner, and by
+//! no other call.
 //!
 //! The part of an owner who has all of level 1: a gain, a distance and a board of it, by lines of
 //! `crates/awari_owner_tests/src/parts.rt`:

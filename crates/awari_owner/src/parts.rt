@@ -32,8 +32,7 @@ use std::thread::Threads;
 
 /// One owner's part of a level that is being built: what is known of each board of its block, which of
 /// the settled boards are fresh, that is, not spread yet, and the pits of each board whose quiet moves
-/// lead out of the block, a bit for each. It has memory for the predecessors of one board, too: they
-/// are all found before the first is told, so that the cells of several boards are waited for at once.
+/// lead out of the block, a bit for each. It has memory for the predecessors of one board, too.
 #[derive(Drop)]
 pub struct Part {
     boards: Boards,
@@ -59,7 +58,8 @@ impl Part {
     /// with no note heard, and no gain open. There are 1 to 16 owners, and the shelf has at most
     /// `HIGHEST_LEVEL` levels. Refused as 33 `Memory` where a growth was.
     ///
-    /// It takes all the memory that the part will ever need, a little more than ten bytes a board.
+    /// It takes all the memory that the part will ever need, a little more than ten bytes a board, and 2304
+    /// bytes for the predecessors of the board that is spread.
     pub fn scan(alloc: Global, shelf: &Shelf, owners: u8, owner: u8) -> Result<Part, OwnerFault>
         requires owners { (1 ≤ owners) × (owners ≤ 16) }
         requires owner { owner < owners }
@@ -162,8 +162,8 @@ impl Part {
         self.boards.fresh_boards()
     }
 
-    /// Opens the next smaller gain: the boards that a capture settles at that gain are settled, and
-    /// so are fresh. It needs no board to be fresh. It takes no memory.
+    /// Opens the next smaller gain, which is 1 at least: the boards that a capture settles at that gain are
+    /// settled, and so are fresh. It needs no board to be fresh. It takes no memory.
     pub fn open_gain(&mut self, gain: u8)
         requires idle { self.old.fresh ≡ [] }
         requires next { gain + 1 ≡ self.old.gain }

@@ -21,8 +21,8 @@ use awari_rank::ranks_tell_boards_apart;
 
 /// Tells the predecessors of a board that it is won or lost, where a block has `span` boards.
 ///
-/// All of them are found first, and put into `targets`, and are told then: so the cells of several
-/// boards are waited for at once. Nothing of what stands in `targets` before or after is used.
+/// All of them are found first, and put into `targets`. Nothing of what stands there before or after is
+/// used.
 pub fn tell_all(
     boards: &mut Boards,
     queues: &mut Vec<Queue>,

@@ -1,5 +1,5 @@
-//! The boards that are told of one that is spread, as they are found: all of them first, so that what
-//! is read of one does not wait for what is read of another.
+//! The boards that are told of one that is spread, as they are found: all of them before the first is
+//! told, so that the cells of several are on their way from memory at the same time.
 
 ghost use Rattle.std.specs.Prelude.{◌≡◌, ◌+◌, ◌<◌, ◌≤◌, ◌++◌, List, length, sum};
 ghost use Rattle.awari_unmove.specs.Predecessors.{IsPredecessors, IsPredecessorsFrom};
@@ -9,7 +9,7 @@ ghost use Rattle.awari_owner.specs.Spread.{Source};
 use awari_packed::PackedBoard;
 use awari_unmove::PitUnmoves;
 
-/// How many predecessors a board has at most: each of six pits has at most 48 stones to take back.
+/// How many predecessors a board has at most: `PitUnmoves` promises at most 48 for each of six pits.
 pub const MOST_PREDECESSORS: usize = 288;
 
 /// A board that is told, by its rank, and its pit whose move leads to the board that is spread.

@@ -13,7 +13,7 @@ use awari_table::{Entry, Shelf};
 use std::alloc::{AllocError, Global};
 
 /// The values of the entries, which lie eight times as close together as these. Most moves do not
-/// gain the board's value, and of those no more is read.
+/// gain the board's value, and of those no more is read. It takes a byte an entry.
 pub fn values_of(alloc: Global, entries: &[Entry]) -> Result<Vec<i8>, AllocError>
     ensures { IfOk result (λ values. values.items ≡ values_of entries.now) }
 {

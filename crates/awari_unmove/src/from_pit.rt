@@ -1,8 +1,7 @@
 //! The predecessors of a board in a number from one pit, stone by stone.
 //!
-//! Six loops written out, each with its pit a constant, are faster than one over all pits: the pit
-//! that the next stone had fallen into is kept, so that nothing is divided, and whether the origin is
-//! empty is asked once.
+//! Its caller gives the pit as a constant, and the pit that the next stone had fallen into is kept, so that
+//! nothing is divided.
 
 ghost use Rattle.std.specs.Prelude.{◌≡◌, ℕ, ◌+◌, ◌<◌, ◌≤◌, ◌↔◌, ◌∷◌, [], IsTrue, length, slice_index, MatchOption};
 ghost use Rattle.std.specs.Iterator.{YieldsFirst, item_count};
