@@ -1,14 +1,10 @@
 //! The commands `verify` and `ask`: the levels in a folder verified, and asked for an entry.
 
-ghost use Rattle.std.specs.Prelude.{◌≡◌, ◌≤◌, ◌<◌, ◌↔◌, ℕ, List, true, length, sum, Err, IfOk};
+ghost use Rattle.std.specs.Prelude.{◌≡◌, ◌≤◌, ◌<◌, ◌↔◌, true, Err, IfOk};
 ghost use Rattle.std.specs.Io.KnownBytes.{Appends};
 ghost use Rattle.awari_board.specs.BoardFault.{IsFaulty};
-ghost use Rattle.awari_board.specs.Rules.{IsBoard};
-ghost use Rattle.awari_board.specs.Text.{text_of};
 ghost use Rattle.awari_board.specs.declared.text.BoardFault.{BoardFault};
-ghost use Rattle.awari_table.specs.Images.{entry_of};
 ghost use Rattle.awari_table.specs.Shelves.{IsShelf};
-ghost use Rattle.awari_table.specs.declared.images.Image.{Image};
 ghost use Rattle.awari_folder.specs.Contents.{Same};
 ghost use Rattle.awari_answers.specs.Folders.{IsEntryOf, PrintsFolder, PrintsEntry, digest_text, hex_digit, right_lines};
 ghost use Rattle.awari_answers.specs.declared.folders.LookUpFault.TheVariants as look_up;

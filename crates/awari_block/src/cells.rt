@@ -1,7 +1,7 @@
 //! What is kept of each board of a block.
 
-ghost use Rattle.std.specs.Prelude.{◌≡◌, ℕ, false, ◌+◌, ◌-◌, ◌^◌, ◌<◌, ◌≤◌, ◌↔◌, IsTrue, IfSome, Some, pos, neg_ℤ, ◌≤ℤ◌};
-ghost use Rattle.awari_block.specs.Tally.{Open, has_pit, with_pit};
+ghost use Rattle.std.specs.Prelude.{◌≡◌, ℕ, false, ◌+◌, ◌-◌, ◌^◌, ◌<◌, ◌≤◌, IfSome, Some};
+ghost use Rattle.awari_block.specs.Tally.{has_pit, with_pit};
 ghost use Rattle.awari_block.specs.Awaited.{AwaitsNoMore, MayOpen};
 ghost use Rattle.awari_block.specs.Cells.{status_of, is_settled, Fits, FitsBy, IsBeyond, IsWithin, Keeps, SettlesTimely};
 ghost use Rattle.awari_block.specs.Part.{settled_by};

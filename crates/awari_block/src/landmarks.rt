@@ -1,6 +1,6 @@
 //! Boards of a block from which the others are found.
 
-ghost use Rattle.std.specs.Prelude.{◌≡◌, ℕ, ◌+◌, ◌*◌, ◌/◌, ◌^◌, ◌<◌, ◌≤◌, IfOk, length};
+ghost use Rattle.std.specs.Prelude.{ℕ, ◌+◌, ◌*◌, ◌/◌, ◌^◌, ◌<◌, ◌≤◌, IfOk, length};
 ghost use Rattle.awari_rank.specs.Rank.{size_of};
 ghost use Rattle.awari_block.specs.Landmarks.{AreLandmarks, IsBoardAt};
 

@@ -2,7 +2,6 @@
 //! above them.
 
 ghost use Rattle.std.specs.Prelude.{◌≡◌, ◌≤◌, ◌+◌, [], length, IfOk, OnOk};
-ghost use Rattle.std.specs.Arc.{arc_value};
 ghost use Rattle.awari_desk.specs.Desks.{book_of};
 ghost use Rattle.awari_desk.specs.declared.faults.DeskFault.TheVariants as desk_fault;
 ghost use Rattle.awari_table.specs.Shelves.{Consistent, IsShelf};

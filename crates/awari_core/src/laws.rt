@@ -1,8 +1,6 @@
 //! What events keep: that the owners are sound.
 
-ghost use Rattle.std.specs.Prelude.{◌≡◌, ℕ, ℤ, ◌<◌, ◌≤◌, ◌^◌, ◌-◌, ◌∷◌, [], false, All, List, length, sum};
-ghost use Rattle.awari_board.specs.Rules.{IsBoard};
-ghost use Rattle.awari_rank.specs.Rank.{rank_of};
+ghost use Rattle.std.specs.Prelude.{◌≡◌, ℕ, ℤ, ◌<◌, ◌^◌, ◌-◌, ◌∷◌, [], false, All, List, length};
 ghost use Rattle.awari_block.specs.Part.{Part, IsExpected, IsTallied, stored_at};
 ghost use Rattle.awari_owner.specs.Scan.{IsScan};
 ghost use Rattle.awari_owner.specs.Spread.{HearsOwn};

@@ -1,6 +1,6 @@
 //! Batches that are on their way from one owner to another.
 
-ghost use Rattle.std.specs.Prelude.{◌≡◌, ◌<◌, ◌∷◌, ◌++◌, [], List, IfOk, IfSome, IfNone, IsTrue, ◌↔◌, length};
+ghost use Rattle.std.specs.Prelude.{◌≡◌, ◌<◌, ◌∷◌, ◌++◌, [], IfOk, IfSome, IfNone, IsTrue, ◌↔◌, length};
 ghost use Rattle.awari_core.specs.Core.{Line as LineView};
 
 use awari_owner::Batch;

@@ -1,6 +1,6 @@
 //! What an owner sends by.
 
-ghost use Rattle.std.specs.Prelude.{◌≡◌, ◌≢◌, ◌≤◌, ◌<◌, ◌-◌, ◌^◌, ◌⊎◌, ◌∷◌, ◌++◌, ◌↔◌, [], ℕ, List, Some, OnErr, IfOk, IfErr, IfSome, IfNone, IsTrue, length, vec_len, All, replicate, true, false, slice_set, slice_index_or};
+ghost use Rattle.std.specs.Prelude.{◌≡◌, ◌≢◌, ◌≤◌, ◌<◌, ◌-◌, ◌⊎◌, ◌∷◌, ◌++◌, ◌↔◌, [], ℕ, List, Some, OnErr, IfOk, IfErr, IfSome, IfNone, IsTrue, length, vec_len, All, replicate, true, false, slice_set, slice_index_or};
 ghost use Rattle.awari_block.specs.Blocks.{KeepSettled};
 ghost use Rattle.awari_block.specs.Part.{AreFresh, SameLevel, IsLeastDue, HasFarthest};
 ghost use Rattle.awari_owner.specs.Outboxes.{queue_to};

@@ -1,7 +1,7 @@
 //! What the predecessors of a board that is spread are told: those in the block at once, the others by notes
 //! that are put to their owners' queues.
 
-ghost use Rattle.std.specs.Prelude.{◌≡◌, ℕ, ℤ, ◌+◌, ◌-◌, ◌*◌, ◌^◌, ◌<◌, ◌≤◌, ◌/◌, List, length, sum, vec_len, false};
+ghost use Rattle.std.specs.Prelude.{◌≡◌, ℕ, ℤ, ◌+◌, ◌-◌, ◌^◌, ◌<◌, ◌≤◌, ◌/◌, List, length, sum, vec_len, false};
 ghost use Rattle.awari_rank.specs.Rank.{rank_of, size_of};
 ghost use Rattle.awari_owner.specs.Queues.{queue_in, room_in};
 ghost use Rattle.awari_unmove.specs.Predecessors.{IsPredecessors};

@@ -1,7 +1,7 @@
 //! The boards that are told of one that is spread, as they are found: all of them before the first is
 //! told, so that the cells of several are on their way from memory at the same time.
 
-ghost use Rattle.std.specs.Prelude.{◌≡◌, ◌+◌, ◌<◌, ◌≤◌, ◌++◌, List, length, sum};
+ghost use Rattle.std.specs.Prelude.{◌≡◌, ◌+◌, ◌<◌, ◌≤◌, ◌++◌, List, length};
 ghost use Rattle.awari_unmove.specs.Predecessors.{IsPredecessors, IsPredecessorsFrom};
 ghost use Rattle.awari_owner.specs.Found.{Lists};
 ghost use Rattle.awari_owner.specs.Spread.{Source};

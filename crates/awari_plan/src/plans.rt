@@ -1,7 +1,6 @@
 //! Plans, by the values and distances of a level and of the shelf below it.
 
 ghost use Rattle.std.specs.Prelude.{◌≡◌, ◌<◌, ◌≤◌, ◌+◌, ◌↔◌, IsTrue, IfOk, length, slice_index_or, sum};
-ghost use Rattle.awari_board.specs.Rules.{IsBoard};
 ghost use Rattle.awari_rank.specs.Rank.{rank_of, size_of};
 ghost use Rattle.awari_table.specs.Images.{entry_of, no_entry, table_of};
 ghost use Rattle.awari_plan.specs.Plan.{IsLowest, Serves};

@@ -40,7 +40,8 @@ pub use spelling::{
 };
 pub use text::TableText;
 
-/// The highest level that a shelf may hold, in stones. Every bound on a level goes by this one.
+/// The highest level that a shelf may hold, in stones. What reads or writes tables goes by this one;
+/// boards, ranks and parts of levels are bounded by 24 stones, its value, which a law tells.
 pub const HIGHEST_LEVEL: u8 = 24;
 
 /// The highest level of tables whose distances only had to fall.

@@ -15,7 +15,8 @@ use crate::shelves::Shelf;
 use arrayvec::ArrayVec;
 use std::io::{self, Write};
 
-/// Room for a line. The longest that is made of an entry or a header has 27 bytes, with its line feed.
+/// Room for a line, in bytes. Here the longest is of an entry or a header and has 27 bytes, with its
+/// line feed; lines that other crates spell are longer.
 pub const LINE_ROOM: usize = 80;
 
 /// A line that is being spelled.

@@ -1,4 +1,4 @@
--- What is seen of a board by a table, and which rules it keeps.
+-- What is seen of a board by a table, and which rules it keeps. Private functions alone go by this.
 use Rattle.std.specs.Prelude.{◌≡◌, ◌≢◌, ℕ, ◌<◌, ◌≤◌, ◌⊎◌, List, length, sum, ℤ, pos, neg_ℤ, ◌-ℤ◌, ◌≤ℤ◌, ◌<ℤ◌, Option, Some, None, IfSome, IsSome, IsSomeAnd, IsNone, All, Any, slice_index_or}
 use Rattle.awari_board.specs.Rules.{IsLegal, IsMove, IsEnd, IsEnded}
 use Rattle.awari_table.specs.Certificate.{Table, plies}

@@ -1,6 +1,6 @@
 //! What is seen of a board: its entry, and where each of its moves leads.
 
-ghost use Rattle.std.specs.Prelude.{◌≡◌, ◌<◌, ◌↔◌, ℕ, ◌+◌, [], ◌∷◌, ◌++◌, None, IsSome, length, sum, slice_index_or};
+ghost use Rattle.std.specs.Prelude.{◌≡◌, ◌<◌, ◌↔◌, ℕ, ◌+◌, [], ◌∷◌, ◌++◌, None, IsSome, sum, slice_index_or};
 ghost use Rattle.awari_board.specs.Rules.{IsLegal};
 ghost use Rattle.awari_rank.specs.Rank.{size_of, rank_of};
 ghost use Rattle.awari_table.specs.Images.{entry_of, table_of};

@@ -1,6 +1,6 @@
 //! The commands, as `clap` takes them: the words of each, and what its help says.
 
-ghost use Rattle.std.specs.Prelude.{◌≡◌, ◌++◌, ◌∷◌, [], IfOk, codes, pos};
+ghost use Rattle.std.specs.Prelude.{◌∷◌, [], codes, pos};
 ghost use Rattle.clap.specs.Simple.{App, Shape, new_rule, with_rule, with_subcommand};
 ghost use Rattle.clap.specs.Walk.{Rule};
 ghost use Rattle.clap.specs.declared.builder.value_parser.ValueParser.TheVariants.{Signed, Unsigned};
@@ -31,7 +31,7 @@ ghost use Rattle.awari_words.specs.Commands.{
   verify_command,
   word,
 };
-ghost use Rattle.awari_words.specs.Making.{IsApp, IsArg, IsCommand, MakesApp, MakesCommand, with_subcommands, with_words};
+ghost use Rattle.awari_words.specs.Making.{IsArg, IsCommand, MakesApp, MakesCommand, with_subcommands, with_words};
 
 use crate::helps::{
     ASK_HELP, AWARI_HELP, BUILD_HELP, CHECK_HELP, JUDGE_HELP, LINE_HELP, MIGRATE_HELP, MOVE_HELP,
