@@ -11,7 +11,7 @@ ghost use Rattle.awari_owner.specs.Scan.{CanScan, IsOutlook, IsPiece, IsRanged, 
 
 use awari_block::{Block, Cell, Mark};
 use awari_packed::{PackedBoard, PackedMove};
-use awari_rank::{ranks_tell_boards_apart, unrank};
+use awari_rank::ranks_tell_boards_apart;
 use awari_table::Shelf;
 use std::alloc::{AllocError, Global};
 
@@ -80,7 +80,7 @@ pub fn scan_boards(shelf: &Shelf, block: Block, first: u32, cells: &mut [Cell], 
     if cells.is_empty() {
         return;
     }
-    let mut board = PackedBoard::new(&unrank(shelf.levels(), first));
+    let mut board = PackedBoard::unrank(shelf.levels(), first);
     for k in 0..cells.len() {
         let found = scanned(shelf, block, &board);
         cells[k] = found.cell;

@@ -6,7 +6,7 @@
 //!
 //! A loop over a level, in `crates/awari_verify/src/search.rt`:
 //!
-//!     let mut board = PackedBoard::new(&unrank(image.level, low));
+//!     let mut board = PackedBoard::unrank(image.level, low);
 //!     let mut seen = Seen::nothing();
 //!     for rank in low..high {
 //!         see(shelf, image, &board, rank, &mut seen);

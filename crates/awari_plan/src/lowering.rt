@@ -12,7 +12,7 @@ use crate::finishing::greatest;
 use crate::plans::{entry_after, set_plans};
 use awari_board::SIDE;
 use awari_packed::PackedBoard;
-use awari_rank::{size, unrank};
+use awari_rank::size;
 use awari_table::{Distances, Entries, Entry, Image, Shelf, plies};
 
 /// The image of the same values with the least distances, the lowest plans that these make, and the
@@ -83,7 +83,7 @@ fn lower_board(shelf: &Shelf, entries: &mut Vec<Entry>, near: u32, rank: u32) ->
     if own.dist <= near {
         return false;
     }
-    let board = PackedBoard::new(&unrank(shelf.levels(), rank));
+    let board = PackedBoard::unrank(shelf.levels(), rank);
     let dist = by_moves(shelf, entries.as_slice(), &board, own);
     lower_to(entries, rank, dist)
 }

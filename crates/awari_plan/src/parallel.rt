@@ -11,7 +11,7 @@ use crate::finishing::{greatest, settled_entry};
 use crate::plans::{lowest_plan, values_of};
 use awari_block::ClosedPart;
 use awari_packed::PackedBoard;
-use awari_rank::{size, unrank};
+use awari_rank::size;
 use awari_table::{Entries, Entry, Image, Shelf};
 use rayon::prelude::*;
 use std::alloc::{AllocError, Global};
@@ -196,7 +196,7 @@ fn find_piece(
     if plans.is_empty() {
         return;
     }
-    let mut board = PackedBoard::new(&unrank(shelf.levels(), first as u32));
+    let mut board = PackedBoard::unrank(shelf.levels(), first as u32);
     for k in 0..plans.len() {
         plans[k] = lowest_plan(shelf, values, entries, &board, (first + k) as u32);
         if let Some(next) = board.successor() {

@@ -7,7 +7,7 @@ ghost use Rattle.awari_plan.specs.Plan.{IsLowest, Serves};
 ghost use Rattle.awari_plan.specs.Planning.{AreValues, Gains, IsPlanned, SameSettled, topped, values_of};
 
 use awari_packed::{PackedBoard, PackedMove};
-use awari_rank::{size, unrank};
+use awari_rank::size;
 use awari_table::{Entry, Shelf};
 use std::alloc::{AllocError, Global};
 
@@ -30,7 +30,7 @@ pub fn set_plans(shelf: &Shelf, values: &[i8], entries: &mut Vec<Entry>)
 {
     let level = shelf.levels();
     let boards = size(level);
-    let mut board = PackedBoard::new(&unrank(level, 0));
+    let mut board = PackedBoard::unrank(level, 0);
     for rank in 0..boards {
         let plan = lowest_plan(shelf, values, entries.as_slice(), &board, rank);
         entries[rank as usize].plan = plan;

@@ -9,7 +9,6 @@ ghost use Rattle.awari_verify.specs.FirstFailure.{RightBetween, IsRefusal};
 use crate::rules::{Rule, Seen, first_broken_rule};
 use crate::sights::see;
 use awari_packed::PackedBoard;
-use awari_rank::unrank;
 use awari_table::{Distances, Image, Shelf};
 
 /// A board that breaks a rule, by its rank, and the first rule that it breaks.
@@ -40,7 +39,7 @@ pub fn refusal_between(
     if low == high {
         return None;
     }
-    let mut board = PackedBoard::new(&unrank(image.level, low));
+    let mut board = PackedBoard::unrank(image.level, low);
     let mut seen = Seen::nothing();
     for rank in low..high {
         see(shelf, image, &board, rank, &mut seen);

@@ -1,4 +1,4 @@
-use Rattle.std.proofs.Common.{◌<◌, ◌∙◌, ap, sym, subst, inr, arith, length, List, ℕ}
+use Rattle.std.proofs.Common.{◌<◌, ◌∙◌, ap, sym, subst, inr, arith, length, List}
 use Rattle.std.proofs.lemmas.List.{get_or_default}
 use Rattle.awari_table.specs.declared.images.Entry.{Entry}
 use Rattle.awari_table.specs.declared.images.Image.{Image}
@@ -13,9 +13,8 @@ by_moves-dist-requires-clause-own c =
     let inside : c.args.rank < length c.args.entries.now.items = omega (arith, c.requires.sized, c.requires.below) in
     let image : Image = record { level = length c.args.shelf.now; limit = 0; entries = c.args.entries.now.items } in
     let found = c.index-own.ensures ∙ get_or_default c.args.entries.now.items c.args.rank c.index-own.result.now no_entry inside in
-    found ∙ sym (entry_of-rank c.args.shelf.now image c.unrank.result c.args.rank (c.unrank.ensures.stones ∙ c.levels.ensures.levels) c.unrank.ensures.rank)
-    ∙ ap (λ (es : List Entry). entry_of (topped c.args.shelf.now es) c.unrank.result) (sym c.as_slice.ensures.value)
-    ∙ ap (λ (b : List ℕ). entry_of (topped c.args.shelf.now c.as_slice.result.now) b) (sym c.new-board.ensures)
+    found ∙ sym (entry_of-rank c.args.shelf.now image c.unrank-board.result c.args.rank (c.unrank-board.ensures.stones ∙ c.levels.ensures.levels) c.unrank-board.ensures.rank)
+    ∙ ap (λ (es : List Entry). entry_of (topped c.args.shelf.now es) c.unrank-board.result) (sym c.as_slice.ensures.value)
 
 pub returns : goal.returns
 returns c =
@@ -26,12 +25,12 @@ returns c =
     inr (
       omega (arith, own, far),
       (
-        c.new-board.result,
+        c.unrank-board.result,
         c.by_moves-dist.result,
-        rw c.new-board.ensures c.unrank.ensures.board,
-        rw c.new-board.ensures (c.unrank.ensures.stones ∙ c.levels.ensures.levels),
-        rw c.new-board.ensures c.unrank.ensures.rank,
-        subst (λ (es : List Entry). IsByMoves (table_of (topped c.args.shelf.now es)) c.new-board.result c.by_moves-dist.result) c.as_slice.ensures.value c.by_moves-dist.ensures,
+        c.unrank-board.ensures.board,
+        c.unrank-board.ensures.stones ∙ c.levels.ensures.levels,
+        c.unrank-board.ensures.rank,
+        subst (λ (es : List Entry). IsByMoves (table_of (topped c.args.shelf.now es)) c.unrank-board.result c.by_moves-dist.result) c.as_slice.ensures.value c.by_moves-dist.ensures,
         c.lower_to.ensures,
       ),
     )

@@ -12,9 +12,9 @@ pub loop-rank-init : goal.loop-rank-init
 loop-rank-init c = record {
   same = same_settled c.args.entries.now.items;
   planned = planned_none c.args.shelf.now c.args.entries.now.items c.args.entries.now.items;
-  is_board = rw c.new-board.ensures c.unrank.ensures.board;
-  stones = rw c.new-board.ensures (c.unrank.ensures.stones ∙ c.levels-level.ensures.levels);
-  ranked = λ _. rw c.new-board.ensures c.unrank.ensures.rank;
+  is_board = c.unrank-board.ensures.board;
+  stones = c.unrank-board.ensures.stones ∙ c.levels-level.ensures.levels;
+  ranked = λ _. c.unrank-board.ensures.rank;
 }
 
 pub loop-rank-preserved : goal.loop-rank-preserved
