@@ -9,7 +9,7 @@ ghost use Rattle.awari_folder.specs.Contents.{Same};
 ghost use Rattle.awari_answers.specs.Folders.{IsEntryOf, PrintsFolder, PrintsEntry, digest_text, hex_digit, right_lines};
 ghost use Rattle.awari_answers.specs.declared.folders.LookUpFault.TheVariants as look_up;
 
-use crate::printing::{Refused, print, print_bytes};
+use crate::printing::{print, print_bytes, refuse, status_of};
 use arrayvec::ArrayString;
 use awari_board::{Board, BoardFault, one_board_fault_is_due};
 use awari_folder::{Folder, FolderFault, load_parallel};
@@ -163,17 +163,8 @@ pub fn run_ask<T: Threads + Sync, F: Folder, W: Write>(
     ensures same { Same (F.stands folder.old) (F.stands folder.new) }
 {
     match look_up(rt, folder, alloc, board.as_bytes()) {
-        Ok(entry) => {
-            if print_bytes(writer, line_of_entry(entry).as_slice()) {
-                0
-            } else {
-                1
-            }
-        }
-        Err(fault) => {
-            print(writer, &Refused(fault));
-            1
-        }
+        Ok(entry) => status_of(print_bytes(writer, line_of_entry(entry).as_slice())),
+        Err(fault) => refuse(writer, fault),
     }
 }
 
@@ -191,21 +182,14 @@ pub fn run_verify<T: Threads + Sync, F: Folder, W: Write>(
 {
     let stored = match load_parallel(rt, folder, alloc) {
         Ok(stored) => stored,
-        Err(fault) => {
-            print(writer, &Refused(fault));
-            return 1;
-        }
+        Err(fault) => return refuse(writer, fault),
     };
     if !print_levels(&stored.shelf, writer) {
         return 1;
     }
     let levels = usize::from(stored.shelf.levels());
     let digest = stored.digest;
-    if print(writer, &Summary { levels, digest }) {
-        0
-    } else {
-        1
-    }
+    status_of(print(writer, &Summary { levels, digest }))
 }
 
 /// Prints the line of each level, and says whether the writer took them.

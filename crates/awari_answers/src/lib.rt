@@ -7,7 +7,7 @@
 //! The board after a move, by lines of `crates/awari_cli/src/runs.rt`:
 //!
 //!     let played = play_on(board.as_bytes(), pit);
-//!     if print(writer, &Played(played)) && played.is_ok() {
+//!     status_of(print(writer, &Played(played)) && played.is_ok())
 #![tactic(auto)]
 
 mod folders;
@@ -22,6 +22,6 @@ pub use folders::{Summary, run_ask, run_verify};
 pub use judgements::{JudgeFault, Judged, Judgement, judge};
 pub use lines::run_line;
 pub use playing::{PlayFault, Played, play_on};
-pub use printing::{Refused, print, print_bytes, refuse};
+pub use printing::{Refused, print, print_bytes, refuse, status_of};
 pub use texts::run_text;
 pub use worths::run_moves;

@@ -7,7 +7,7 @@ ghost use Rattle.awari_folder.specs.Contents.{Same};
 ghost use Rattle.awari_answers.specs.Lines.{IsLineOf, PrintsLine};
 ghost use Rattle.awari_answers.specs.declared.lines.NoLine.TheVariants as no_line;
 
-use crate::printing::{Refused, print};
+use crate::printing::{print, refuse, status_of};
 use awari_board::{Board, BoardFault, one_board_fault_is_due};
 use awari_folder::{Folder, FolderFault, load_parallel};
 use awari_plan::{Line, LineFault, best_line};
@@ -144,10 +144,7 @@ pub fn run_line<T: Threads + Sync, F: Folder, W: Write>(
     ensures found { result ≡ 0 → PrintsLine (F.stands folder.old) board.now (W.contents writer.old) (W.contents writer.new) }
 {
     match line_of(rt, folder, alloc, board.as_bytes()) {
-        Ok(found) => { if print(writer, &found) { 0 } else { 1 } }
-        Err(fault) => {
-            print(writer, &Refused(fault));
-            1
-        }
+        Ok(found) => status_of(print(writer, &found)),
+        Err(fault) => refuse(writer, fault),
     }
 }

@@ -1,6 +1,6 @@
 //! Lines written to the output.
 
-ghost use Rattle.std.specs.Prelude.{◌≡◌, ◌++◌, ◌∷◌, [], true, IfSome};
+ghost use Rattle.std.specs.Prelude.{◌≡◌, ◌≤◌, ◌++◌, ◌∷◌, [], ◌↔◌, true, IfSome};
 ghost use Rattle.std.specs.Io.KnownBytes.{Appends};
 
 use std::fmt;
@@ -37,6 +37,14 @@ impl<T: Display> Display for Refused<T> {
     fn fmt<W: fmt::Write>(&self, f: &mut fmt::Formatter<W>) -> fmt::Result {
         write!(f, "refused {}", self.0)
     }
+}
+
+/// The status of a command whose lines were written, or were not: 0 or 1.
+pub fn status_of(written: bool) -> u8
+    ensures status { result ≤ 1 }
+    ensures written { result ≡ 0 ↔ written ≡ true }
+{
+    u8::from(!written)
 }
 
 /// Writes a refusal, and gives the status that goes with it, whether the writer took it or not.

@@ -6,7 +6,7 @@ ghost use Rattle.awari_table.specs.Shelves.{IsShelf};
 ghost use Rattle.awari_folder.specs.Contents.{Same};
 ghost use Rattle.awari_answers.specs.Texts.{AppendsText, PrintsText};
 
-use crate::printing::refuse;
+use crate::printing::{refuse, status_of};
 use awari_folder::{Folder, load_parallel};
 use awari_table::{Counted, NotYet, Shelf, write_level_text, write_shelf_text};
 use core::mem::replace_with;
@@ -35,11 +35,7 @@ pub fn run_text<T: Threads + Sync, F: Folder, W: Write>(
         let levels = stored.shelf.levels();
         return refuse(writer, NotYet { levels });
     }
-    if print_text(&stored.shelf, level, writer) {
-        0
-    } else {
-        1
-    }
+    status_of(print_text(&stored.shelf, level, writer))
 }
 
 /// Whether the shelf has the level of this number, where there is one.

@@ -8,7 +8,7 @@ ghost use Rattle.awari_answers.specs.Worths.{IsWeighedIn, PrintsWorths};
 ghost use Rattle.awari_answers.specs.declared.folders.LookUpFault.TheVariants as look_up;
 
 use crate::folders::LookUpFault;
-use crate::printing::{print_bytes, refuse};
+use crate::printing::{print_bytes, refuse, status_of};
 use awari_board::{Board, one_board_fault_is_due};
 use awari_desk::{Weighed, weigh};
 use awari_folder::{Folder, load_parallel};
@@ -52,13 +52,7 @@ pub fn run_moves<T: Threads + Sync, F: Folder, W: Write>(
     ensures found { result ≡ 0 → PrintsWorths (F.stands folder.old) board.now (W.contents writer.old) (W.contents writer.new) }
 {
     match weigh_in(rt, folder, alloc, board.as_bytes()) {
-        Ok(weighed) => {
-            if print_bytes(writer, weighed.text().as_slice()) {
-                0
-            } else {
-                1
-            }
-        }
+        Ok(weighed) => status_of(print_bytes(writer, weighed.text().as_slice())),
         Err(fault) => refuse(writer, fault),
     }
 }

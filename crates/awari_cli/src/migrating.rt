@@ -6,7 +6,7 @@ ghost use Rattle.awari_folder.specs.Contents.{LeavesNoMore, Same};
 ghost use Rattle.awari_folder.specs.Migration.{KeepsFiles};
 ghost use Rattle.awari_cli.specs.Migrating.{LeavesMigrated, PrintsMigrated, moved_lines};
 
-use awari_answers::{Summary, print, refuse};
+use awari_answers::{Summary, print, refuse, status_of};
 use awari_folder::{Folder, Limits, migrate};
 use std::alloc::Global;
 use std::fmt;
@@ -60,11 +60,7 @@ pub fn run_migrate<F: Folder, G: Folder, W: Write>(
     }
     let levels = migrated.limits.len();
     let digest = migrated.digest;
-    if print(writer, &Summary { levels, digest }) {
-        0
-    } else {
-        1
-    }
+    status_of(print(writer, &Summary { levels, digest }))
 }
 
 /// Prints the line of each level, and says whether the writer took them.

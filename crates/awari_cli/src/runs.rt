@@ -20,6 +20,7 @@ use crate::progress::ProgressLines;
 use crate::serving::run_serve;
 use awari_answers::{
     Judged, Played, judge, play_on, print, run_ask, run_line, run_moves, run_text, run_verify,
+    status_of,
 };
 use awari_build::Pace;
 use awari_check::check_input;
@@ -213,11 +214,7 @@ fn run_move<W: Write>(board: &str, pit: u8, writer: &mut W) -> u8
     ensures played { result ≡ 0 → PrintsMove board.now pit (W.contents writer.old) (W.contents writer.new) }
 {
     let played = play_on(board.as_bytes(), pit);
-    if print(writer, &Played(played)) && played.is_ok() {
-        0
-    } else {
-        1
-    }
+    status_of(print(writer, &Played(played)) && played.is_ok())
 }
 
 /// Prints where a play stands.
@@ -226,9 +223,5 @@ fn run_judge<W: Write>(board: &str, limit: u32, moves: &str, writer: &mut W) -> 
     ensures judged { result ≡ 0 → PrintsJudgement board.now limit moves.now (W.contents writer.old) (W.contents writer.new) }
 {
     let judged = judge(board.as_bytes(), limit, moves.as_bytes());
-    if print(writer, &Judged(judged)) && judged.is_ok() {
-        0
-    } else {
-        1
-    }
+    status_of(print(writer, &Judged(judged)) && judged.is_ok())
 }
