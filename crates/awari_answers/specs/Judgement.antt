@@ -1,5 +1,5 @@
 -- The command `judge`: a play from a board that is given as text, and what is printed of it.
-use Rattle.std.specs.Prelude.{◌≡◌, ℕ, ◌+◌, ◌-◌, ◌&&◌, nat_le, if◌then◌else◌, min, List, ◌++◌, ◌∷◌, [], length, map, codes, ℤ, Option, Some, None, Result, Ok, Err, ◌↔◌}
+use Rattle.std.specs.Prelude.{◌≡◌, ℕ, ◌+◌, ◌-◌, ◌&&◌, nat_le, if◌then◌else◌, min, List, ◌++◌, ◌∷◌, [], length, map, codes, ℤ, Option, Some, None, ◌↔◌}
 use Rattle.std.specs.Fmt.{decimal, signed_decimal}
 use Rattle.std.specs.Io.KnownBytes.{Appends}
 use Rattle.awari_board.specs.BoardFault.{IsFaulty, fault_text as board_fault_text}
@@ -60,10 +60,6 @@ judgement_text j = codes "board " ++ text_of j.board ++ codes "\nrunning " ++ si
 abbrev pub judge_fault_text : JudgeFault → List ℕ
 judge_fault_text (Board fault) = board_fault_text fault
 judge_fault_text (Move fault number) = move_fault_text fault ++ codes " at " ++ decimal number
-
-abbrev pub judge_text : Result Judgement JudgeFault → List ℕ
-judge_text (Ok judgement) = judgement_text judgement
-judge_text (Err fault) = codes "refused " ++ judge_fault_text fault
 
 -- Where it is known what the writer holds, what was written is the judgement of the play of these moves, and the line feed.
 abbrev pub PrintsJudgement : List ℕ → ℕ → List ℕ → Option (List ℕ) → Option (List ℕ) → Type 0

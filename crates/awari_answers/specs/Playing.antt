@@ -1,5 +1,5 @@
 -- The command `move`: a move played on a board that is given as text, and what is printed of it.
-use Rattle.std.specs.Prelude.{◌≡◌, ℕ, List, ◌++◌, ◌∷◌, [], codes, Option, Result, Ok, Err}
+use Rattle.std.specs.Prelude.{◌≡◌, ℕ, List, ◌++◌, ◌∷◌, [], Option}
 use Rattle.std.specs.Fmt.{decimal}
 use Rattle.std.specs.Io.KnownBytes.{Appends}
 use Rattle.awari_board.specs.BoardFault.{IsFaulty, fault_text as board_fault_text}
@@ -24,11 +24,10 @@ abbrev pub play_fault_text : PlayFault → List ℕ
 play_fault_text (Board fault) = board_fault_text fault
 play_fault_text (Move fault) = move_fault_text fault
 
-abbrev pub play_text : Result Moved PlayFault → List ℕ
-play_text (Ok moved) = text_of moved.board ++ 32 ∷ decimal moved.captured
-play_text (Err fault) = codes "refused " ++ play_fault_text fault
+abbrev pub play_text : Moved → List ℕ
+play_text moved = text_of moved.board ++ 32 ∷ decimal moved.captured
 
 -- Where it is known what the writer holds, what was written is the move from this pit of the board that the text spells, and the
 -- line feed.
 abbrev pub PrintsMove : List ℕ → ℕ → Option (List ℕ) → Option (List ℕ) → Type 0
-PrintsMove text pit before after = (moved : Moved) × IsPlayed text pit moved × Appends before after (play_text (Ok moved) ++ 10 ∷ [])
+PrintsMove text pit before after = (moved : Moved) × IsPlayed text pit moved × Appends before after (play_text moved ++ 10 ∷ [])

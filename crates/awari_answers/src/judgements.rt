@@ -104,24 +104,6 @@ fn pit_named(byte: u8) -> u8
     }
 }
 
-/// What `judge` prints, without the last line feed: four lines, or the refusal.
-#[derive(Clone, Copy)]
-pub struct Judged(pub Result<Judgement, JudgeFault>);
-
-impl fmt::Display for Judged {
-    ghost use Rattle.std.specs.Prelude.{Some};
-    ghost use Rattle.awari_answers.specs.Judgement.{judge_text};
-
-    ghost output = { λ judged. Some (judge_text judged.0) };
-
-    fn fmt<W: fmt::Write>(&self, f: &mut fmt::Formatter<W>) -> fmt::Result {
-        match self.0 {
-            Ok(judgement) => write!(f, "{judgement}"),
-            Err(fault) => write!(f, "refused {fault}"),
-        }
-    }
-}
-
 impl fmt::Display for Judgement {
     ghost use Rattle.std.specs.Prelude.{Some};
     ghost use Rattle.awari_answers.specs.Judgement.{judgement_text};

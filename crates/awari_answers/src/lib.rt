@@ -6,8 +6,10 @@
 //!
 //! The board after a move, by lines of `crates/awari_cli/src/runs.rt`:
 //!
-//!     let played = play_on(board.as_bytes(), pit);
-//!     status_of(print(writer, &Played(played)) && played.is_ok())
+//!     match play_on(board.as_bytes(), pit) {
+//!         Ok(moved) => status_of(print(writer, &Played(moved))),
+//!         Err(fault) => refuse(writer, fault),
+//!     }
 #![tactic(auto)]
 
 mod folders;
@@ -19,7 +21,7 @@ mod texts;
 mod worths;
 
 pub use folders::{Summary, run_ask, run_verify};
-pub use judgements::{JudgeFault, Judged, Judgement, judge};
+pub use judgements::{JudgeFault, Judgement, judge};
 pub use lines::run_line;
 pub use playing::{PlayFault, Played, play_on};
 pub use printing::{Refused, print, print_bytes, refuse, status_of};

@@ -57,10 +57,9 @@ pub fn play_on(text: &[u8], pit: u8) -> Result<Moved, PlayFault>
     Ok(board.play(pit)?)
 }
 
-/// What `move` prints, without the line feed: the board after the move and the stones captured, or
-/// the refusal.
+/// What `move` prints, without the line feed: the board after the move and the stones captured.
 #[derive(Clone, Copy)]
-pub struct Played(pub Result<Moved, PlayFault>);
+pub struct Played(pub Moved);
 
 impl fmt::Display for Played {
     ghost use Rattle.std.specs.Prelude.{Some};
@@ -69,9 +68,6 @@ impl fmt::Display for Played {
     ghost output = { λ played. Some (play_text played.0) };
 
     fn fmt<W: fmt::Write>(&self, f: &mut fmt::Formatter<W>) -> fmt::Result {
-        match self.0 {
-            Ok(moved) => write!(f, "{} {}", moved.board, moved.captured),
-            Err(fault) => write!(f, "refused {fault}"),
-        }
+        write!(f, "{} {}", self.0.board, self.0.captured)
     }
 }

@@ -16,7 +16,7 @@ mod runs;
 mod serving;
 
 pub use awari_answers::{
-    JudgeFault, Judged, Judgement, PlayFault, Played, judge, play_on, run_ask, run_line, run_moves,
+    JudgeFault, Judgement, PlayFault, Played, judge, play_on, run_ask, run_line, run_moves,
     run_text, run_verify,
 };
 pub use awari_check::check;

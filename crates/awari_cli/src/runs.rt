@@ -19,7 +19,7 @@ use crate::migrating::run_migrate;
 use crate::progress::ProgressLines;
 use crate::serving::run_serve;
 use awari_answers::{
-    Judged, Played, judge, play_on, print, run_ask, run_line, run_moves, run_text, run_verify,
+    Played, judge, play_on, print, refuse, run_ask, run_line, run_moves, run_text, run_verify,
     status_of,
 };
 use awari_build::Pace;
@@ -213,8 +213,10 @@ fn run_move<W: Write>(board: &str, pit: u8, writer: &mut W) -> u8
     ensures status { result ≤ 1 }
     ensures played { result ≡ 0 → PrintsMove board.now pit (W.contents writer.old) (W.contents writer.new) }
 {
-    let played = play_on(board.as_bytes(), pit);
-    status_of(print(writer, &Played(played)) && played.is_ok())
+    match play_on(board.as_bytes(), pit) {
+        Ok(moved) => status_of(print(writer, &Played(moved))),
+        Err(fault) => refuse(writer, fault),
+    }
 }
 
 /// Prints where a play stands.
@@ -222,6 +224,8 @@ fn run_judge<W: Write>(board: &str, limit: u32, moves: &str, writer: &mut W) -> 
     ensures status { result ≤ 1 }
     ensures judged { result ≡ 0 → PrintsJudgement board.now limit moves.now (W.contents writer.old) (W.contents writer.new) }
 {
-    let judged = judge(board.as_bytes(), limit, moves.as_bytes());
-    status_of(print(writer, &Judged(judged)) && judged.is_ok())
+    match judge(board.as_bytes(), limit, moves.as_bytes()) {
+        Ok(judgement) => status_of(print(writer, &judgement)),
+        Err(fault) => refuse(writer, fault),
+    }
 }
