@@ -3,14 +3,15 @@
 ghost use Rattle.std.specs.Prelude.{ℕ, ◌+◌, ◌*◌, ◌/◌, ◌^◌, ◌<◌, ◌≤◌, IfOk, length};
 ghost use Rattle.awari_rank.specs.Rank.{size_of};
 ghost use Rattle.awari_block.specs.Landmarks.{AreLandmarks, IsBoardAt};
+ghost use Rattle.awari_block.specs.declared.landmarks.TheConstants.{STRIDE};
 
 use awari_packed::PackedBoard;
 use std::alloc::{AllocError, Global};
 
 /// How many ranks lie from one landmark to the next.
-const STRIDE: usize = 8;
+pub const STRIDE: usize = 4;
 
-/// Each eighth board of a block. The others are found from these, by at most seven steps to the next
+/// Each fourth board of a block. The others are found from these, by at most three steps to the next
 /// board, which cost less than the search for a board by its rank.
 #[derive(Drop)]
 pub struct Landmarks {
@@ -18,7 +19,7 @@ pub struct Landmarks {
 }
 
 impl Landmarks {
-    /// Those of so many boards of this level, from this rank on. It takes a byte a board, and is
+    /// Those of so many boards of this level, from this rank on. It takes two bytes a board, and is
     /// refused where that was.
     pub fn of(alloc: Global, level: u8, start: u32, boards: usize) -> Result<Landmarks, AllocError>
         requires low { level ≤ 24 }
@@ -41,7 +42,7 @@ impl Landmarks {
     /// The board at this place of the block.
     #[inline(always)]
     pub fn board(&self, place: usize) -> PackedBoard
-        requires { place / 8 < length self.now.boards.items }
+        requires { place / STRIDE < length self.now.boards.items }
         ensures { (level start boards : ℕ) → AreLandmarks level start boards self.now.boards.items
             → start + boards ≤ size_of level → place < boards → IsBoardAt level (start + place) result }
     {

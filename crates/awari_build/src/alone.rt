@@ -21,7 +21,7 @@ use std::alloc::{AllocError, Global};
 
 /// The shelf's next level, built by one part. It always returns. Refused are a shelf that has all
 /// levels, as 51 `TooHigh`, and want of memory as 53 `Memory`. It takes memory for the part, a little
-/// more than ten bytes a board, and for the entries.
+/// more than eleven bytes a board, and for the entries.
 ///
 /// That the level is right is proved, and nothing verifies it when the program runs.
 pub fn build_alone(alloc: Global, shelf: &Shelf) -> Result<Level, BuildFault>

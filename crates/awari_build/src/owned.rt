@@ -30,7 +30,7 @@ use std::thread::Threads;
 /// says; each enters the gate at the start of each of its sweeps. Refused are a number of owners that
 /// is not 1 to 16, as 50 `Owners`, another room or number of sweeps than `Pace` allows, as 55 `Pace`,
 /// a shelf that has all levels, as 51 `TooHigh`, want of memory as 53 `Memory`, and a thread that could
-/// not be started as 52 `Phase`. It takes memory for the parts, a little more than ten bytes a board,
+/// not be started as 52 `Phase`. It takes memory for the parts, a little more than eleven bytes a board,
 /// for the lines and for the entries.
 ///
 /// That the level is right, whatever order the owners' steps had, is proved, and nothing verifies it

@@ -58,7 +58,7 @@ impl Part {
     /// with no note heard, and no gain open. There are 1 to 16 owners, and the shelf has at most
     /// `HIGHEST_LEVEL` levels. Refused as 33 `Memory` where a growth was.
     ///
-    /// It takes all the memory that the part will ever need, a little more than ten bytes a board, and 2304
+    /// It takes all the memory that the part will ever need, a little more than eleven bytes a board, and 2304
     /// bytes for the predecessors of the board that is spread.
     pub fn scan(alloc: Global, shelf: &Shelf, owners: u8, owner: u8) -> Result<Part, OwnerFault>
         requires owners { (1 ≤ owners) × (owners ≤ 16) }

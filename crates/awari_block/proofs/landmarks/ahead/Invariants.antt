@@ -1,4 +1,4 @@
-use Rattle.std.proofs.Common.{◌≡◌, ℕ, ◌+◌, ◌<◌}
+use Rattle.std.proofs.Common.{ℕ, ◌+◌, ◌<◌}
 use Rattle.awari_rank.specs.Rank.{size_of}
 use Rattle.awari_block.specs.Landmarks.{IsBoardAt}
 use Rattle.awari_block.proofs.landmarks.ahead.Given as goal
