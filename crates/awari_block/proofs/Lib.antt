@@ -9,4 +9,5 @@ pub mod Opening
 pub mod Freshness
 pub mod Settling
 pub mod Awaiting
+pub mod Putting
 pub mod Marking

@@ -50,7 +50,7 @@ impl Model for Boards {
 
 impl Boards {
     /// The boards of a block of this level, from this rank on, with no gain open and none of them
-    /// fresh. It takes the memory that it will ever need, a little more than a byte for each board, and is
+    /// fresh. It takes the memory that it will ever need, a little more than two bytes for each board, and is
     /// refused where that was.
     pub fn unopened(
         alloc: Global,
@@ -196,9 +196,10 @@ impl Boards {
         ensures settles { Settles self.old self.new }
         ensures hears { HearsNote self.old self.new target pit kind }
     {
-        let cell = self.cell(target);
-        let next = cell.with_note(self.place, pit, kind);
-        self.put(target, next);
+        let index = (target - self.place.start) as usize;
+        if self.cells[index].hear(self.place, pit, kind) {
+            self.fresh.insert(self.cells.as_slice(), index);
+        }
     }
 
     /// Opens the next smaller gain, which is 1 at least: the boards that a capture settles at that gain are

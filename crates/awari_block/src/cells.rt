@@ -1,11 +1,12 @@
 //! What is kept of each board of a block.
 
-ghost use Rattle.std.specs.Prelude.{◌≡◌, ℕ, false, ◌+◌, ◌-◌, ◌^◌, ◌<◌, ◌≤◌, IfSome, Some};
+ghost use Rattle.std.specs.Prelude.{◌≡◌, ℕ, false, not, ◌&&◌, ◌+◌, ◌-◌, ◌^◌, ◌<◌, ◌≤◌, IfSome, Some};
 ghost use Rattle.awari_block.specs.Tally.{has_pit, with_pit};
 ghost use Rattle.awari_block.specs.Awaited.{AwaitsNoMore, MayOpen};
 ghost use Rattle.awari_block.specs.Cells.{status_of, is_settled, Fits, FitsBy, IsBeyond, IsWithin, Keeps, SettlesTimely};
 ghost use Rattle.awari_block.specs.Part.{settled_by};
 ghost use Rattle.awari_block.specs.Steps.{after_note, after_opening};
+ghost use Rattle.awari_block.specs.declared.cells.Mark.TheVariants.{Settled};
 ghost use Rattle.awari_block.specs.declared.places.Place.{Place as PlaceView};
 
 use crate::notes::Kind;
@@ -81,54 +82,54 @@ impl Cell {
         self.heard & (1 << pit) != 0
     }
 
-    /// The cell once the note of this pit and kind, of the open gain and distance, was heard.
+    /// Hears the note of this pit and kind, of the open gain and distance, and answers whether that
+    /// settles the board, which was not settled before. Conditions: the pit is below 6, a gain is open, and
+    /// the open distance is not the greatest that can be stored.
     ///
     /// A lost board gives the gain at once. A won one leaves one move less that might do better; the
     /// last, where no capture does better either, settles the board.
     #[inline(always)]
-    pub(crate) fn with_note(self, place: Place, pit: u8, kind: Kind) -> Cell
+    pub(crate) fn hear(&mut self, place: Place, pit: u8, kind: Kind) -> bool
         requires pit { pit < 6 }
         requires low { place.level ≤ 24 }
         requires gain { place.gain ≤ place.level }
         requires near { place.wave < 2 ^ 32 - 1 }
-        requires fits { Fits place self }
-        ensures heard { result.heard ≡ with_pit self.heard pit }
-        ensures status { status_of result ≡ after_note (status_of self) kind place.gain place.wave }
-        ensures keeps { Keeps self result }
-        ensures awaits { AwaitsNoMore self result }
-        ensures timely { SettlesTimely place self result }
-        ensures fits { Fits place result }
+        requires fits { Fits place self.old }
+        ensures heard { self.new.heard ≡ with_pit self.old.heard pit }
+        ensures status { status_of self.new ≡ after_note (status_of self.old) kind place.gain place.wave }
+        ensures keeps { Keeps self.old self.new }
+        ensures awaits { AwaitsNoMore self.old self.new }
+        ensures timely { SettlesTimely place self.old self.new }
+        ensures fits { Fits place self.new }
+        ensures settles { result ≡ (is_settled self.new.mark && not (is_settled self.old.mark)) }
     {
-        let heard = self.heard | (1 << pit);
+        self.heard |= 1 << pit;
         if self.mark == Mark::Settled || self.mark == Mark::Ended {
-            return Cell { heard, ..self };
+            return false;
         }
         if kind == Kind::Lost {
-            return Cell {
-                heard,
-                left: 0,
-                mark: Mark::Settled,
-                score: place.gain as i8,
-                dist: place.wave + 1,
-            };
+            self.settle(place.gain as i8, place.wave + 1);
+            return true;
         }
         let far = place.wave.max(self.dist);
         if self.left == 1 && (self.mark == Mark::Quiet || self.score <= -(place.gain as i8)) {
-            return Cell {
-                heard,
-                left: 0,
-                mark: Mark::Settled,
-                score: -(place.gain as i8),
-                dist: far + 1,
-            };
+            self.settle(-(place.gain as i8), far + 1);
+            return true;
         }
-        Cell {
-            heard,
-            left: self.left.saturating_sub(1),
-            mark: self.mark,
-            score: self.score,
-            dist: far,
-        }
+        self.left = self.left.saturating_sub(1);
+        self.dist = far;
+        false
+    }
+
+    /// Settles the board at this value and distance. What was heard is kept.
+    #[inline(always)]
+    fn settle(&mut self, score: i8, dist: u32)
+        ensures { self.new ≡ record self.old { left = 0; mark = Settled; score = score; dist = dist } }
+    {
+        self.left = 0;
+        self.mark = Mark::Settled;
+        self.score = score;
+        self.dist = dist;
     }
 
     /// Whether the opening of the gain of the place can change the cell.
