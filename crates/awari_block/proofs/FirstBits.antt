@@ -4,7 +4,7 @@ use Rattle.std.proofs.lemmas.Bool.{cases_lt, cases_eq, false≢true}
 use Rattle.std.specs.Int.{bit_at, trailing_zeros}
 use Rattle.std.proofs.lemmas.Nat.Bits.{bit_at-zero, bit_at-trailing_zeros}
 use Rattle.awari_block.specs.declared.cells.Cell.{Cell}
-use Rattle.awari_block.specs.Fresh.{dist_at, is_marked, AreBehind, AreFirst, AreKept, AreOfRun, MarksOne, UnmarksOne, marked_of}
+use Rattle.awari_block.specs.Fresh.{dist_at, is_marked, AreBehind, AreFirst, AreOfRun, IsRestOf, MarksOne, UnmarksOne, marked_of}
 use Rattle.std.proofs.Math.ListN.{get_or-eq_default, replicate}
 use Rattle.std.proofs.lemmas.List.{get_or-replicate, get_or_past, length-replicate}
 use Rattle.std.proofs.lemmas.List.Sorted.{length_permutation}
@@ -163,6 +163,13 @@ marked_run words k marked = elim (cases_lt (k / 64) (length words)) [
     no : (w : ℕ) → w ≡ 0 → (bit_at w (k % 64) == 1) ≡ true → ⊥
     no w zero one = false≢true (sym (ap (λ m. bit_at m (k % 64) == 1) zero ∙ ap (λ m. m == 1) (bit_at-zero (k % 64))) ∙ one)
 
+-- where some are at hand their run has a word
+pub first_run : (cells : List Cell) (words : List ℕ) (run dist bits : ℕ) → AreFirst cells words run dist bits → 0 < bits → run < length words
+first_run cells words run dist bits first some =
+    let lowest = bit_at-trailing_zeros w64 bits some first.short in
+    let inside = marked_run words (64 * run + trailing_zeros w64 bits) ((first.here (trailing_zeros w64 bits) lowest.0).0 lowest.1).0 in
+    omega (arith, inside)
+
 -- how many are marked, with one more
 pub count_more : (cells : List Cell) (old new : List ℕ) (place : ℕ) → place < length cells → is_marked old place ≡ false → MarksOne place old new → length (marked_of cells new) ≡ 1 + length (marked_of cells old)
 count_more cells old new place inside was marks =
@@ -180,14 +187,6 @@ module _ (cells : List Cell) (old new : List ℕ) (place : ℕ) (marks : Unmarks
 
   still_was : (k : ℕ) → is_marked new k ≡ true → is_marked old k ≡ true
   still_was k marked = sym (marks.others k (still_other k marked)) ∙ marked
-
-  pub kept_fewer : (least : List ℕ) → AreKept cells old least → AreKept cells new least
-  kept_fewer least kept = record {
-    few = subst (λ n. n ≤ 2 ^ 26) (sym marks.size) kept.few;
-    runs = kept.runs ∙ sym marks.size;
-    inside = λ k marked. kept.inside k (still_was k marked);
-    near = λ k marked. kept.near k (still_was k marked);
-  }
 
   pub behind_fewer : (run dist : ℕ) → AreBehind cells old run dist → AreBehind cells new run dist
   behind_fewer run dist behind k marked = behind k (still_was k marked)
@@ -276,6 +275,38 @@ noted_more cells words run dist from n bits more near below order one clear is_n
     at : (b : Bool) → near ≡ b → (bit_at more n ≡ 1) ↔ ((is_marked words (64 * run + n) ≡ true) × (dist_at cells (64 * run + n) ≡ dist))
     at true e = (λ _. (bit_marked words run n below one, is_near e), λ _. set e)
     at false e = (λ b. absurd (let zero = ap (λ m. bit_at m n) (same e) ∙ upto.high n (omega arith) in omega (arith, b, zero)), λ both. absurd (is_far e both.1))
+
+-- how near the others are, of those below `upto`
+abbrev pub RestBelow : List Cell → List ℕ → ℕ → ℕ → ℕ → ℕ → Type 0
+RestBelow cells words run dist upto rest = (i : ℕ) → i < upto → is_marked words (64 * run + i) ≡ true → (dist_at cells (64 * run + i) ≡ dist) ⊎ (rest ≤ dist_at cells (64 * run + i))
+
+-- those between that are not marked change nothing
+rest_up : (cells : List Cell) (words : List ℕ) (run dist from to rest : ℕ) → to ≤ 64 → ((j : ℕ) → from ≤ j → j < to → bit_at (get_or words run 0) j ≡ 0)
+    → RestBelow cells words run dist from rest → RestBelow cells words run dist to rest
+rest_up cells words run dist from to rest within clear below i h marked = elim (cases_lt i from) [
+  | inl lt ↦ below i lt marked
+  | inr ge ↦ absurd (bit_unmarked words run i (omega (arith, h, within)) (clear i (omega (arith, ge)) h) marked)
+]
+
+pub rest_all : (cells : List Cell) (words : List ℕ) (run dist from rest : ℕ) → ((j : ℕ) → from ≤ j → j < 64 → bit_at (get_or words run 0) j ≡ 0)
+    → RestBelow cells words run dist from rest → IsRestOf cells words run dist rest
+rest_all cells words run dist from rest clear below = rest_up cells words run dist from 64 rest (omega arith) clear below
+
+pub rest_more : (cells : List Cell) (words : List ℕ) (run dist from n rest less : ℕ) (near : Bool) → n < 64 → ((j : ℕ) → from ≤ j → j < n → bit_at (get_or words run 0) j ≡ 0)
+    → (near ≡ true → dist_at cells (64 * run + n) ≡ dist) → less ≤ rest → (near ≡ false → less ≤ dist_at cells (64 * run + n))
+    → RestBelow cells words run dist from rest → RestBelow cells words run dist (n + 1) less
+rest_more cells words run dist from n rest less near below clear is_near low far before i h marked = elim (cases_eq i n) [
+  | inl here ↦ subst (λ m. (dist_at cells (64 * run + m) ≡ dist) ⊎ (less ≤ dist_at cells (64 * run + m))) (sym here) (at near refl)
+  | inr other ↦ lower (rest_up cells words run dist from n rest (omega (arith, below)) clear before i (omega (arith, h, other)) marked)
+]
+  where
+    at : (b : Bool) → near ≡ b → (dist_at cells (64 * run + n) ≡ dist) ⊎ (less ≤ dist_at cells (64 * run + n))
+    at true e = inl (is_near e)
+    at false e = inr (far e)
+
+    lower : (dist_at cells (64 * run + i) ≡ dist) ⊎ (rest ≤ dist_at cells (64 * run + i)) → (dist_at cells (64 * run + i) ≡ dist) ⊎ (less ≤ dist_at cells (64 * run + i))
+    lower (inl e) = inl e
+    lower (inr b) = inr (omega (arith, low, b))
 
 abbrev pub zeros : ℕ → List ℕ
 zeros n = replicate n 0

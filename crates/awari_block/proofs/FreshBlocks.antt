@@ -30,7 +30,7 @@ still_fresh cells after fresh size same sound = record {
     few = sound.kept.few;
     runs = sound.kept.runs;
     inside = λ k marked. let within = sound.kept.inside k marked in omega (arith, within, size);
-    near = λ k marked. let near = sound.kept.near k marked in let e = same k marked in omega (arith, near, e);
+    near = λ k marked. near k (same k marked) (sound.kept.near k marked);
   };
   count = sound.count ∙ ap (λ n. length (filter (is_marked fresh.words.items) (range_with_len 0 n))) (sym size);
   first = record {
@@ -45,6 +45,11 @@ still_fresh cells after fresh size same sound = record {
   };
 }
   where
+    near : (k : ℕ) → dist_at after k ≡ dist_at cells k → ((k / 64 ≡ fresh.run) × (dist_at cells k ≡ fresh.dist)) ⊎ (get_or fresh.least.items (k / 64) 0 ≤ dist_at cells k)
+        → ((k / 64 ≡ fresh.run) × (dist_at after k ≡ fresh.dist)) ⊎ (get_or fresh.least.items (k / 64) 0 ≤ dist_at after k)
+    near k e (inl hand) = inl (hand.0, e ∙ hand.1)
+    near k e (inr bound) = inr (omega (arith, e, bound))
+
     behind : (k : ℕ) → dist_at after k ≡ dist_at cells k → (fresh.dist < dist_at cells k) ⊎ ((dist_at cells k ≡ fresh.dist) × (fresh.run ≤ k / 64)) → (fresh.dist < dist_at after k) ⊎ ((dist_at after k ≡ fresh.dist) × (fresh.run ≤ k / 64))
     behind k e (inl more) = inl (omega (arith, e, more))
     behind k e (inr (near, later)) = inr (e ∙ near, later)

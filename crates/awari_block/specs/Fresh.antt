@@ -41,6 +41,18 @@ pub record AreKept (cells : List Cell) (words least : List ℕ) : Type 0 where
   pub inside : (k : ℕ) → is_marked words k ≡ true → k < length cells
   pub near : (k : ℕ) → is_marked words k ≡ true → slice_index_or least (k / 64) 0 ≤ dist_at cells k
 
+-- So it is but for the boards of one run that have this distance.
+pub record AreKeptBut (cells : List Cell) (words least : List ℕ) (run dist : ℕ) : Type 0 where
+  pub few : length words ≤ 2 ^ 26
+  pub runs : length least ≡ length words
+  pub inside : (k : ℕ) → is_marked words k ≡ true → k < length cells
+  pub near : (k : ℕ) → is_marked words k ≡ true → ((k / 64 ≡ run) × (dist_at cells k ≡ dist)) ⊎ (slice_index_or least (k / 64) 0 ≤ dist_at cells k)
+
+-- none of the fresh boards of this run that have another distance is nearer than this
+abbrev pub IsRestOf : List Cell → List ℕ → ℕ → ℕ → ℕ → Type 0
+IsRestOf cells words run dist rest =
+    (i : ℕ) → i < 64 → is_marked words (64 * run + i) ≡ true → (dist_at cells (64 * run + i) ≡ dist) ⊎ (rest ≤ dist_at cells (64 * run + i))
+
 -- the bits are those of the fresh boards of this run that have this distance
 abbrev pub AreOfRun : List Cell → List ℕ → ℕ → ℕ → ℕ → Type 0
 AreOfRun cells words run dist bits =
@@ -59,10 +71,11 @@ pub record AreFirst (cells : List Cell) (words : List ℕ) (run dist bits : ℕ)
   pub behind : AreBehind cells words run dist
   pub none : bits ≡ 0 → (k : ℕ) → is_marked words k ≡ true → ⊥
 
--- What is kept of the fresh boards is right: a bit for each board, how many are marked, and the first of them.
+-- What is kept of the fresh boards is right: a bit for each board, how many are marked, how near those are that are not at hand,
+-- and the first of them.
 pub record IsFresh (cells : List Cell) (fresh : Fresh) : Type 0 where
   pub room : length cells ≤ 64 * length fresh.words.items
-  pub kept : AreKept cells fresh.words.items fresh.least.items
+  pub kept : AreKeptBut cells fresh.words.items fresh.least.items fresh.run fresh.dist
   pub count : fresh.count ≡ length (marked_of cells fresh.words.items)
   pub first : AreFirst cells fresh.words.items fresh.run fresh.dist fresh.bits
 

@@ -1,10 +1,10 @@
 //! The fresh boards of a block: those that are settled and not spread.
 
-ghost use Rattle.std.specs.Prelude.{◌≡◌, ◌≢◌, ℕ, ◌+◌, ◌*◌, ◌/◌, ◌%◌, ◌^◌, ◌<◌, ◌≤◌, ◌↔◌, false, true, None, List, length, IfOk, IfSome, IsTrue, slice_index_or, Option, Some};
+ghost use Rattle.std.specs.Prelude.{◌≡◌, ◌≢◌, ℕ, ◌+◌, ◌*◌, ◌/◌, ◌%◌, ◌^◌, ◌<◌, ◌≤◌, ◌↔◌, ◌⊎◌, false, true, None, List, length, IfOk, IfSome, IsTrue, slice_index_or, Option, Some};
 ghost use Rattle.std.specs.Int.{bit_at};
 ghost use Rattle.awari_block.specs.declared.fresh.TheConstants.{STEP};
 ghost use Rattle.awari_block.specs.declared.cells.Cell.{Cell as CellView};
-ghost use Rattle.awari_block.specs.Fresh.{AreBehind, AreFirst, AreKept, AreOfRun, IsFirstOf, IsFresh, IsNearest, MarksOne, UnmarksOne, dist_at, is_marked};
+ghost use Rattle.awari_block.specs.Fresh.{AreBehind, AreFirst, AreKept, AreKeptBut, AreOfRun, IsFirstOf, IsFresh, IsNearest, IsRestOf, MarksOne, UnmarksOne, dist_at, is_marked};
 
 use crate::cells::Cell;
 use crate::words::{next_bit, with_bit, without_bit};
@@ -20,7 +20,8 @@ const STEP: usize = 16;
 pub struct Fresh {
     /// A bit for each board, a word for each run.
     words: Vec<u64>,
-    /// No fresh board of a run is nearer than this, which is the greatest there is where none is fresh.
+    /// No fresh board of a run is nearer than this, but those at hand. It is the greatest there is where no
+    /// other is fresh.
     least: Vec<u32>,
     /// How many boards are fresh.
     count: usize,
@@ -37,6 +38,14 @@ struct First {
     run: usize,
     dist: u32,
     bits: u64,
+}
+
+/// The fresh boards of a run that are of one distance, a bit for each, and what none of its others is
+/// nearer than.
+#[derive(Clone, Copy)]
+struct OfRun {
+    bits: u64,
+    rest: u32,
 }
 
 impl Fresh {
@@ -91,16 +100,23 @@ impl Fresh {
     {
         let run = place / 64;
         let dist = cells[place].dist;
-        let bound = self.least[run].min(dist);
         mark(&mut self.words, place);
-        self.least[run] = bound;
         self.count += 1;
-        let first = First {
-            run: self.run,
-            dist: self.dist,
-            bits: self.bits,
-        };
-        self.put_first(first_with(first, place, dist));
+        if self.bits == 0 {
+            self.put_first(alone(place, dist));
+            return;
+        }
+        if is_before(self.dist, self.run, dist, run) {
+            self.least[run] = self.least[run].min(dist);
+            return;
+        }
+        if is_before(dist, run, self.dist, self.run) {
+            // Those at hand are the first no longer.
+            self.least[self.run] = self.least[self.run].min(self.dist);
+            self.put_first(alone(place, dist));
+            return;
+        }
+        self.bits = with_bit(self.bits, (place % 64) as u32);
     }
 
     /// The board at this place, which is one of the first at hand, is fresh no longer.
@@ -152,54 +168,47 @@ fn unmark(words: &mut Vec<u64>, place: usize)
     words[run] = without_bit(words[run], (place % 64) as u32);
 }
 
-/// The first boards, where there is none any more of this distance up to this run, of which the least
-/// distance is kept anew.
+/// The first boards, where there is none any more of this distance up to this run.
 fn first_behind(cells: &[Cell], words: &[u64], least: &mut [u32], run: usize, dist: u32) -> First
     requires kept { AreKept cells.now words.now least.old }
     requires run { run < length words.now }
     requires behind { AreBehind cells.now words.now run dist }
     requires none { (i : ℕ) → i < 64 → is_marked words.now (64 * run + i) ≡ true → dist_at cells.now (64 * run + i) ≡ dist → ⊥ }
-    ensures kept { AreKept cells.now words.now least.new }
+    ensures kept { AreKeptBut cells.now words.now least.new result.run result.dist }
     ensures first { AreFirst cells.now words.now result.run result.dist result.bits }
 {
-    least[run] = bound_of(cells, words, run);
     match first_as_near(cells, words, least, run, dist) {
         Some(first) => first,
+        None => first_farther(cells, words, least, dist),
+    }
+}
+
+/// The first boards, where all are farther than this distance.
+fn first_farther(cells: &[Cell], words: &[u64], least: &mut [u32], dist: u32) -> First
+    requires kept { AreKept cells.now words.now least.old }
+    requires farther { (k : ℕ) → is_marked words.now k ≡ true → dist < dist_at cells.now k }
+    ensures kept { AreKeptBut cells.now words.now least.new result.run result.dist }
+    ensures first { AreFirst cells.now words.now result.run result.dist result.bits }
+{
+    // Most often the nearest is farther by one ply.
+    match first_as_near(cells, words, least, 0, dist.saturating_add(1)) {
+        Some(first) => first,
         None => {
-            // All are farther, and most often the nearest is farther by one ply.
-            let enough = dist.saturating_add(1);
-            let first = nearest(cells, words, least, enough);
-            first_at(cells, words, first)
+            let first = nearest(cells, words, least);
+            first_at(cells, words, least, first)
         }
     }
 }
 
-/// The first boards, where one at this place and of this distance comes to those of which these are.
-fn first_with(first: First, place: usize, dist: u32) -> First
-    requires { place < 2 ^ 32 }
-    ensures { (cells : List CellView) (old new : List ℕ) → dist_at cells place ≡ dist → is_marked old place ≡ false → MarksOne place old new
-        → AreFirst cells old first.run first.dist first.bits → AreFirst cells new result.run result.dist result.bits }
+/// Whether a board of this distance in this run comes before one of that distance in that run.
+fn is_before(dist: u32, run: usize, other_dist: u32, other_run: usize) -> bool
+    ensures yes { result ≡ true → (dist < other_dist) ⊎ ((dist ≡ other_dist) × (run < other_run)) }
+    ensures no { result ≡ false → (other_dist < dist) ⊎ ((dist ≡ other_dist) × (other_run ≤ run)) }
 {
-    let run = place / 64;
-    if first.bits == 0 {
-        return alone(place, dist);
+    if dist == other_dist {
+        return run < other_run;
     }
-    if dist < first.dist {
-        return alone(place, dist);
-    }
-    if dist > first.dist {
-        return first;
-    }
-    if run < first.run {
-        return alone(place, dist);
-    }
-    if run > first.run {
-        return first;
-    }
-    First {
-        bits: with_bit(first.bits, (place % 64) as u32),
-        ..first
-    }
+    dist < other_dist
 }
 
 /// The one board at this place, of this distance.
@@ -217,19 +226,21 @@ fn alone(place: usize, dist: u32) -> First
 }
 
 /// The first boards, where the first of all is at this place.
-fn first_at(cells: &[Cell], words: &[u64], first: Option<usize>) -> First
-    requires few { length words.now ≤ 2 ^ 26 }
-    requires inside { (k : ℕ) → is_marked words.now k ≡ true → k < length cells.now }
+fn first_at(cells: &[Cell], words: &[u64], least: &mut [u32], first: Option<usize>) -> First
+    requires kept { AreKept cells.now words.now least.old }
     requires first { IsNearest cells.now words.now 0 (64 * length words.now) first }
-    ensures { AreFirst cells.now words.now result.run result.dist result.bits }
+    ensures kept { AreKeptBut cells.now words.now least.new result.run result.dist }
+    ensures first { AreFirst cells.now words.now result.run result.dist result.bits }
 {
     match first {
         Some(place) => {
             let (run, dist) = (place / 64, cells[place].dist);
+            let found = of_run(cells, words, run, dist);
+            least[run] = found.rest;
             First {
                 run,
                 dist,
-                bits: bits_at(cells, words, run, dist),
+                bits: found.bits,
             }
         }
         None => First {
@@ -240,22 +251,26 @@ fn first_at(cells: &[Cell], words: &[u64], first: Option<usize>) -> First
     }
 }
 
-/// The fresh boards of this run that are of this distance, a bit for each.
-fn bits_at(cells: &[Cell], words: &[u64], run: usize, dist: u32) -> u64
+/// The fresh boards of this run that are of this distance, and how near the others are.
+fn of_run(cells: &[Cell], words: &[u64], run: usize, dist: u32) -> OfRun
     requires few { length words.now ≤ 2 ^ 26 }
     requires inside { (k : ℕ) → is_marked words.now k ≡ true → k < length cells.now }
     requires run { run < length words.now }
-    ensures { AreOfRun cells.now words.now run dist result }
+    ensures bits { AreOfRun cells.now words.now run dist result.bits }
+    ensures rest { IsRestOf cells.now words.now run dist result.rest }
 {
     let word = words[run];
     let mut bits = 0;
+    let mut rest = u32::MAX;
     let mut from = 0;
     while let Some(i) = next_bit(word, from) {
-        let near = is_at(cells, 64 * run + i as usize, dist);
+        let place = 64 * run + i as usize;
+        let near = is_at(cells, place, dist);
         bits = with_bit_if(near, bits, i);
+        rest = least_unless(near, rest, cells[place].dist);
         from = i + 1;
     }
-    bits
+    OfRun { bits, rest }
 }
 
 /// Whether the board at this place is of this distance.
@@ -277,40 +292,43 @@ fn with_bit_if(so: bool, bits: u64, i: u32) -> u64
     if so { with_bit(bits, i) } else { bits }
 }
 
-/// The least distance of the fresh boards of this run, the greatest there is where none is.
-fn bound_of(cells: &[Cell], words: &[u64], run: usize) -> u32
-    requires few { length words.now ≤ 2 ^ 26 }
-    requires inside { (k : ℕ) → is_marked words.now k ≡ true → k < length cells.now }
-    requires run { run < length words.now }
-    ensures { (k : ℕ) → k / 64 ≡ run → is_marked words.now k ≡ true → result ≤ dist_at cells.now k }
+/// The least of both distances, or the first as it is where that is so.
+fn least_unless(so: bool, least: u32, dist: u32) -> u32
+    ensures low { result ≤ least }
+    ensures both { so ≡ false → result ≤ dist }
 {
-    match nearest_in(cells, words, run, None) {
-        Some(b) => cells[b].dist,
-        None => u32::MAX,
-    }
+    if so { least } else { least.min(dist) }
 }
 
 /// The first boards, where none is nearer than this distance, and those before this run are farther.
 /// There is none where all are farther.
+#[inline(always)]
 fn first_as_near(
     cells: &[Cell],
     words: &[u64],
-    least: &[u32],
+    least: &mut [u32],
     from: usize,
     dist: u32,
 ) -> Option<First>
-    requires kept { AreKept cells.now words.now least.now }
+    requires kept { AreKept cells.now words.now least.old }
     requires from { from ≤ length words.now }
     requires enough { (k : ℕ) → is_marked words.now k ≡ true → dist ≤ dist_at cells.now k }
     requires before { (k : ℕ) → k < 64 * from → is_marked words.now k ≡ true → dist < dist_at cells.now k }
     ensures some { IfSome result (λ first. AreFirst cells.now words.now first.run first.dist first.bits) }
+    ensures at_hand { IfSome result (λ first. AreKeptBut cells.now words.now least.new first.run first.dist) }
     ensures none { result ≡ None → (k : ℕ) → is_marked words.now k ≡ true → dist < dist_at cells.now k }
+    ensures kept { result ≡ None → AreKept cells.now words.now least.new }
 {
     let mut run = next_run(least, from, dist);
     while run < words.len() {
-        let bits = bits_at(cells, words, run, dist);
-        if bits > 0 {
-            return Some(First { run, dist, bits });
+        let found = of_run(cells, words, run, dist);
+        least[run] = found.rest;
+        if found.bits > 0 {
+            return Some(First {
+                run,
+                dist,
+                bits: found.bits,
+            });
         }
         run = next_run(least, run + 1, dist);
     }
@@ -363,17 +381,13 @@ fn is_step_far(least: &[u32], from: usize, dist: u32) -> bool
     dist < bound
 }
 
-/// The first of the fresh boards. None is nearer than `enough`, so that one that is as near is the first.
-fn nearest(cells: &[Cell], words: &[u64], least: &[u32], enough: u32) -> Option<usize>
+/// The first of the fresh boards.
+fn nearest(cells: &[Cell], words: &[u64], least: &[u32]) -> Option<usize>
     requires kept { AreKept cells.now words.now least.now }
-    requires enough { (k : ℕ) → is_marked words.now k ≡ true → enough ≤ dist_at cells.now k }
     ensures { IsNearest cells.now words.now 0 (64 * length words.now) result }
 {
     let mut best = None;
     for run in 0..words.len() {
-        if is_as_near(cells, best, enough) {
-            return best;
-        }
         best = with_run(cells, words, least, run, best);
     }
     best

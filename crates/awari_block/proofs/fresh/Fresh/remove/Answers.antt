@@ -2,8 +2,9 @@ use Rattle.std.proofs.Common.{◌≡◌, ◌+◌, ◌*◌, ◌∙◌, ℕ, ◌<�
 use Rattle.std.specs.Int.{bit_at}
 use Rattle.std.proofs.lemmas.List.{with_items_is}
 use Rattle.std.proofs.lemmas.Nat.Bits.{bit_at-zero}
-use Rattle.awari_block.specs.Fresh.{AreBehind, AreFirst, AreKept, IsFresh, dist_at, is_marked}
-use Rattle.awari_block.proofs.FirstBits.{behind_fewer, count_less, first_left, first_marked, kept_fewer, marked_run, none_left_at}
+use Rattle.awari_block.specs.Fresh.{AreBehind, AreFirst, AreKept, AreKeptBut, IsFresh, dist_at, is_marked}
+use Rattle.awari_block.proofs.FirstBits.{behind_fewer, count_less, first_left, first_marked, marked_run, none_left_at}
+use Rattle.awari_block.proofs.RunBounds.{kept_all, kept_fewer}
 use Rattle.awari_block.proofs.fresh.Fresh.remove.Goals as goal
 
 pub overflow_sub-self : goal.overflow_sub-self
@@ -20,7 +21,7 @@ returns-then-rest-gt0-clause-sound c =
     let was = c.requires.sound.count in
     record {
       room = (let all = c.requires.sound.room in let size = c.unmark.ensures.size in omega (arith, all, size));
-      kept = kept_fewer c.args.cells.now c.args.self.now.words.items c.unmark.new.words.items c.args.place c.unmark.ensures c.args.self.now.least.items c.requires.sound.kept;
+      kept = kept_fewer c.args.cells.now c.args.self.now.words.items c.unmark.new.words.items c.args.self.now.least.items c.args.place _ _ c.unmark.ensures c.requires.sound.kept;
       count = omega (arith, less, was);
       first = first_left c.args.cells.now c.args.self.now.words.items c.unmark.new.words.items c.args.place c.unmark.ensures _ _ c.args.self.now.bits c.without_bit-rest.result c.requires.sound.first c.requires.run
           (search rules) (search rules) c.without_bit-rest.ensures.clear c.without_bit-rest.ensures.others;
@@ -28,8 +29,12 @@ returns-then-rest-gt0-clause-sound c =
 
 pub first_behind-first-requires-clause-kept : goal.first_behind-first-requires-clause-kept
 first_behind-first-requires-clause-kept c =
+    let zero : c.without_bit-rest.result ≡ 0 = search rules in
     subst₂ (λ (words least : List ℕ). AreKept c.args.cells.now words least) (sym c.as_slice-words.ensures.value) (sym c.as_mut_slice-least.ensures.value)
-    (kept_fewer c.args.cells.now c.args.self.now.words.items c.unmark.new.words.items c.args.place c.unmark.ensures c.args.self.now.least.items c.requires.sound.kept)
+    (kept_all c.args.cells.now c.unmark.new.words.items c.args.self.now.least.items c.args.self.now.run c.args.self.now.dist
+    (none_left_at c.args.cells.now c.args.self.now.words.items c.unmark.new.words.items c.args.place c.unmark.ensures _ _ c.args.self.now.bits c.requires.sound.first c.requires.run
+    (λ i below other. sym (c.without_bit-rest.ensures.others i below other) ∙ ap (λ n. bit_at n i) zero ∙ bit_at-zero i))
+    (kept_fewer c.args.cells.now c.args.self.now.words.items c.unmark.new.words.items c.args.self.now.least.items c.args.place _ _ c.unmark.ensures c.requires.sound.kept))
 
 pub first_behind-first-requires-clause-run : goal.first_behind-first-requires-clause-run
 first_behind-first-requires-clause-run c =
@@ -46,8 +51,8 @@ first_behind-first-requires-clause-behind c =
 
 pub first_behind-first-requires-clause-none : goal.first_behind-first-requires-clause-none
 first_behind-first-requires-clause-none c =
-    let run = c.args.self.now.run in
     let zero : c.without_bit-rest.result ≡ 0 = search rules in
+    let run = c.args.self.now.run in
     subst (λ (words : List ℕ). (i : ℕ) → i < 64 → is_marked words (64 * run + i) ≡ true → dist_at c.args.cells.now (64 * run + i) ≡ c.args.self.now.dist → ⊥) (sym c.as_slice-words.ensures.value)
     (none_left_at c.args.cells.now c.args.self.now.words.items c.unmark.new.words.items c.args.place c.unmark.ensures _ _ c.args.self.now.bits c.requires.sound.first c.requires.run
     (λ i below other. sym (c.without_bit-rest.ensures.others i below other) ∙ ap (λ n. bit_at n i) zero ∙ bit_at-zero i))
@@ -63,7 +68,7 @@ returns-clause-sound c =
     (record {
       room = (let all = c.requires.sound.room in let size = c.unmark.ensures.size in omega (arith, all, size));
       kept =
-          subst₂ (λ (words least : List ℕ). AreKept c.args.cells.now words least) c.as_slice-words.ensures.value (sym (with_items_is c.args.self.now.least first.new.least size)) first.ensures.kept;
+          subst₂ (λ (words least : List ℕ). AreKeptBut c.args.cells.now words least first.result.run first.result.dist) c.as_slice-words.ensures.value (sym (with_items_is c.args.self.now.least first.new.least size)) first.ensures.kept;
       count = omega (arith, less, was);
       first = subst (λ (words : List ℕ). AreFirst c.args.cells.now words first.result.run first.result.dist first.result.bits) c.as_slice-words.ensures.value first.ensures.first;
     })
