@@ -1,10 +1,11 @@
 -- Which gains boards await: what no board awaits opens nothing, and what is awaited of cells that change.
-use Rattle.std.proofs.Common.{◌≡◌, ℕ, ◌≢◌, ◌+◌, ◌*◌, ◌/◌, ◌<◌, ◌≤◌, ◌==◌, ◌&&◌, ◌⊎◌, inl, inr, Bool, true, false, if◌then◌else◌, ℤ, pos, neg_ℤ, Some, None, List, length, get_or, set, refl, sym, ap, subst, ◌∙◌, arith, eqb-true, get_or-set_same, get_or-set_other}
+use Rattle.std.proofs.Common.{◌≡◌, ℕ, ◌≢◌, ◌+◌, ◌*◌, ◌/◌, ◌<◌, ◌≤◌, ◌==◌, ◌⊎◌, inl, inr, Bool, true, false, ℤ, pos, neg_ℤ, List, length, get_or, set, refl, sym, ap, subst, ◌∙◌, arith, eqb-true, get_or-set_same, get_or-set_other}
 use Rattle.std.proofs.lemmas.Bool.{cases_eq}
 use Rattle.std.proofs.lemmas.Bool.Decides.{Decides-int_eq}
 use Rattle.std.proofs.lemmas.List.{length-set}
 use Rattle.std.specs.Ordering.{int_eq}
 use Rattle.std.specs.Int.{bit_at}
+use Rattle.awari_block.specs.declared.awaited.TheConstants.{WIDTH}
 use Rattle.awari_block.specs.declared.cells.Cell.{Cell}
 use Rattle.awari_block.specs.declared.cells.Mark.{Mark}
 use Rattle.awari_block.specs.declared.cells.Mark.TheVariants as mark
@@ -38,17 +39,17 @@ still_by mark.Capturing score left dist n t idle = by (int_eq score (pos t)) ref
 pub still : (c : Cell) (n t : ℕ) → (MayOpen c.mark c.score n t → ⊥) → after_opening (status_of c) n t ≡ status_of c
 still c n t idle = still_by c.mark c.score c.left c.dist n t idle
 
--- of a run whose word has no bit for the gain, no cell changes
-pub run_still : (n t run : ℕ) (cells : List Cell) (gains : List ℕ) → AreAwaited n cells gains → bit_at (get_or gains run 0) t ≡ 0
-    → (k : ℕ) → k < length cells → 64 * run ≤ k → k < 64 * run + 64 → after_opening (status_of (get_or cells k no_cell)) n t ≡ status_of (get_or cells k no_cell)
-run_still n t run cells gains are none k inside from to =
-    let at : k / 64 ≡ run = omega (arith, from, to) in
+-- of a row whose word has no bit for the gain, no cell changes
+pub row_still : (n t row : ℕ) (cells : List Cell) (gains : List ℕ) → AreAwaited n cells gains → bit_at (get_or gains row 0) t ≡ 0
+    → (k : ℕ) → k < length cells → WIDTH * row ≤ k → k < WIDTH * row + WIDTH → after_opening (status_of (get_or cells k no_cell)) n t ≡ status_of (get_or cells k no_cell)
+row_still n t row cells gains are none k inside from to =
+    let at : k / WIDTH ≡ row = omega (arith, from, to) in
     still (get_or cells k no_cell) n t (λ may. let one = are.bits k t inside may in let zero = ap (λ r. bit_at (get_or gains r 0) t) at ∙ none in absurd (omega (arith, one, zero)))
 
 -- a cell that awaits no more than before may be put
 pub awaited_put : (n i : ℕ) (cells : List Cell) (gains : List ℕ) (c : Cell) → i < length cells → AwaitsNoMore (get_or cells i no_cell) c → AreAwaited n cells gains → AreAwaited n (set cells i c) gains
 awaited_put n i cells gains c inside no_more are = record {
-  runs = are.runs ∙ ap (λ l. l / 64 + 1) (sym (length-set cells i c));
+  runs = are.runs ∙ ap (λ l. l / WIDTH + 1) (sym (length-set cells i c));
   bits = λ k t below may. elim (cases_eq k i) [
     | inl same ↦ are.bits k t (subst (λ l. k < l) (length-set cells i c) below)
         (subst (λ j. MayOpen (get_or cells j no_cell).mark (get_or cells j no_cell).score n t) (sym same)
@@ -57,19 +58,19 @@ awaited_put n i cells gains c inside no_more are = record {
   ];
 }
 
--- of each gain that the boards before this place await, the word of their run has the bit
+-- of each gain that the boards before this place await, the word of their row has the bit
 abbrev pub AreNoted : ℕ → List Cell → List ℕ → ℕ → Type 0
 AreNoted n cells gains place =
-    (k t : ℕ) → k < place → MayOpen (get_or cells k no_cell).mark (get_or cells k no_cell).score n t → bit_at (get_or gains (k / 64) 0) t ≡ 1
+    (k t : ℕ) → k < place → MayOpen (get_or cells k no_cell).mark (get_or cells k no_cell).score n t → bit_at (get_or gains (k / WIDTH) 0) t ≡ 1
 
 -- one board more, which awaits no other gain than this one
-pub noted_one : (n place g word : ℕ) (cells : List Cell) (gains : List ℕ) → place / 64 < length gains
+pub noted_one : (n place g word : ℕ) (cells : List Cell) (gains : List ℕ) → place / WIDTH < length gains
     → ((t : ℕ) → MayOpen (get_or cells place no_cell).mark (get_or cells place no_cell).score n t → t ≡ g)
-    → bit_at word g ≡ 1 → ((i : ℕ) → i ≢ g → bit_at word i ≡ bit_at (get_or gains (place / 64) 0) i)
-    → AreNoted n cells gains place → AreNoted n cells (set gains (place / 64) word) (place + 1)
-noted_one n place g word cells gains room only here others before k t below may = elim (cases_eq (k / 64) (place / 64)) [
-  | inl run ↦ ap (λ r. bit_at (get_or (set gains (place / 64) word) r 0) t) run ∙ ap (λ w. bit_at w t) (get_or-set_same gains (place / 64) word 0 room) ∙ in_run run (cases_eq t g)
-  | inr other ↦ ap (λ w. bit_at w t) (get_or-set_other gains (place / 64) (k / 64) word 0 other) ∙ before k t (earlier (λ same. other (ap (λ j. j / 64) same))) may
+    → bit_at word g ≡ 1 → ((i : ℕ) → i ≢ g → bit_at word i ≡ bit_at (get_or gains (place / WIDTH) 0) i)
+    → AreNoted n cells gains place → AreNoted n cells (set gains (place / WIDTH) word) (place + 1)
+noted_one n place g word cells gains room only here others before k t below may = elim (cases_eq (k / WIDTH) (place / WIDTH)) [
+  | inl row ↦ ap (λ r. bit_at (get_or (set gains (place / WIDTH) word) r 0) t) row ∙ ap (λ w. bit_at w t) (get_or-set_same gains (place / WIDTH) word 0 room) ∙ in_row row (cases_eq t g)
+  | inr other ↦ ap (λ w. bit_at w t) (get_or-set_other gains (place / WIDTH) (k / WIDTH) word 0 other) ∙ before k t (earlier (λ same. other (ap (λ j. j / WIDTH) same))) may
 ]
   where
     earlier : (k ≡ place → ⊥) → k < place
@@ -78,10 +79,10 @@ noted_one n place g word cells gains room only here others before k t below may 
       | inr other ↦ omega (arith, below, other)
     ]
 
-    in_run : k / 64 ≡ place / 64 → (t ≡ g) ⊎ (t ≢ g) → bit_at word t ≡ 1
-    in_run run (inl same) = ap (bit_at word) same ∙ here
-    in_run run (inr other) =
-        others t other ∙ ap (λ r. bit_at (get_or gains r 0) t) (sym run)
+    in_row : k / WIDTH ≡ place / WIDTH → (t ≡ g) ⊎ (t ≢ g) → bit_at word t ≡ 1
+    in_row at (inl same) = ap (bit_at word) same ∙ here
+    in_row at (inr other) =
+        others t other ∙ ap (λ r. bit_at (get_or gains r 0) t) (sym at)
         ∙ before k t (earlier (λ same. other (only t (subst (λ j. MayOpen (get_or cells j no_cell).mark (get_or cells j no_cell).score n t) same may)))) may
 
 -- one board more, which awaits none

@@ -1,6 +1,7 @@
 -- Which gains the boards of a block await. Private functions alone go by this: no public contract does.
 use Rattle.std.specs.Prelude.{◌≡◌, ℕ, ◌+◌, ◌/◌, ◌<◌, ℤ, List, length, slice_index_or}
 use Rattle.std.specs.Int.{bit_at}
+use Rattle.awari_block.specs.declared.awaited.TheConstants.{WIDTH}
 use Rattle.awari_block.specs.Cells.{IsEither}
 use Rattle.awari_block.specs.Blocks.{no_cell}
 use Rattle.awari_block.specs.declared.cells.Cell.{Cell}
@@ -18,8 +19,8 @@ MayOpen mark.Settled score n t = ⊥
 abbrev pub AwaitsNoMore : Cell → Cell → Type 0
 AwaitsNoMore old new = (n t : ℕ) → MayOpen new.mark new.score n t → MayOpen old.mark old.score n t
 
--- of each gain that a board awaits, the word of its run has the bit
+-- of each gain that a board awaits, the word of its row has the bit
 pub record AreAwaited (n : ℕ) (cells : List Cell) (gains : List ℕ) : Type 0 where
-  pub runs : length gains ≡ length cells / 64 + 1
+  pub runs : length gains ≡ length cells / WIDTH + 1
   pub bits : (k t : ℕ) → k < length cells → MayOpen (slice_index_or cells k no_cell).mark (slice_index_or cells k no_cell).score n t
-      → bit_at (slice_index_or gains (k / 64) 0) t ≡ 1
+      → bit_at (slice_index_or gains (k / WIDTH) 0) t ≡ 1

@@ -9,38 +9,41 @@ use crate::cells::Cell;
 use crate::words::{has_bit, with_bit};
 use std::alloc::{AllocError, Global};
 
-/// The gains whose opening may settle a board, a bit for each gain, a word for each run of 64 boards.
-/// Few runs await a great gain, and no cell of the others is read when it is opened.
+/// How many boards have a word together.
+pub const WIDTH: usize = 32;
+
+/// The gains whose opening may settle a board, a bit for each gain, a word for each row of 32 boards.
+/// Few rows await a great gain, and no cell of the others is read when it is opened.
 #[derive(Drop)]
 pub struct Awaited {
     gains: Vec<u64>,
 }
 
 impl Awaited {
-    /// The gains that these boards of a level await, of which none is open. It takes a bit a board, and
-    /// is refused where that was.
+    /// The gains that these boards of a level await, of which none is open. It takes two bits a board,
+    /// and is refused where that was.
     pub fn of(alloc: Global, level: u8, cells: &[Cell]) -> Result<Awaited, AllocError>
         requires low { level ≤ 24 }
         requires fit { All (λ c. FitsBy c.mark level (level + 1) c.score c.dist) cells.now }
         requires short { length cells.now < 2 ^ 32 }
         ensures { IfOk result (λ awaited. AreAwaited level cells.now awaited.gains.items) }
     {
-        let mut gains = vec![in alloc; 0; cells.len() / 64 + 1]?;
+        let mut gains = vec![in alloc; 0; cells.len() / WIDTH + 1]?;
         for place in 0..cells.len() {
             if let Some(gain) = cells[place].awaited_gain(level) {
-                let run = place / 64;
-                gains[run] = with_bit(gains[run], u32::from(gain));
+                let row = place / WIDTH;
+                gains[row] = with_bit(gains[row], u32::from(gain));
             }
         }
         Ok(Awaited { gains })
     }
 
-    /// Whether some board of this run may await this gain.
-    pub fn awaits(&self, run: usize, gain: u8) -> bool
-        requires run { run < length self.now.gains.items }
+    /// Whether some board of this row may await this gain.
+    pub fn awaits(&self, row: usize, gain: u8) -> bool
+        requires row { row < length self.now.gains.items }
         requires gain { gain < 64 }
-        ensures { result ≡ false → bit_at (slice_index_or self.now.gains.items run 0) gain ≡ 0 }
+        ensures { result ≡ false → bit_at (slice_index_or self.now.gains.items row 0) gain ≡ 0 }
     {
-        has_bit(self.gains[run], u32::from(gain))
+        has_bit(self.gains[row], u32::from(gain))
     }
 }

@@ -7,9 +7,10 @@ ghost use Rattle.awari_block.specs.Cells.{Fits, FitsBy, status_of};
 ghost use Rattle.awari_block.specs.Steps.{after_opening};
 ghost use Rattle.awari_block.specs.Blocks.{due_dist, no_cell};
 ghost use Rattle.awari_block.specs.Part.{Part as PartView, AreFresh, InBlock, IsLeastDue, settled_at, stored_at, IsClosed};
+ghost use Rattle.awari_block.specs.declared.awaited.TheConstants.{WIDTH};
 ghost use Rattle.awari_block.specs.Boards.{CanHear, CanPut, HearsNote, OpensCells, Settles, TakesFirst, place_of};
 
-use crate::awaited::Awaited;
+use crate::awaited::{Awaited, WIDTH};
 use crate::cells::Cell;
 use crate::closed::ClosedPart;
 use crate::fresh::Fresh;
@@ -252,37 +253,37 @@ impl Boards {
         ensures settles { Settles self.old self.new }
         ensures opens { OpensCells self.old self.new 0 (length self.old.cells) }
     {
-        for run in 0..self.cells.len() / 64 + 1 {
-            self.open_run(run);
+        for row in 0..self.cells.len() / WIDTH + 1 {
+            self.open_row(row);
         }
     }
 
-    /// Whether the opening of the gain of the place may settle a board of this run.
-    fn may_open(&self, run: usize) -> bool
+    /// Whether the opening of the gain of the place may settle a board of this row.
+    fn may_open(&self, row: usize) -> bool
         requires gain { self.now.gain ≤ self.now.level }
-        requires run { run ≤ length self.now.cells / 64 }
-        ensures { result ≡ false → (k : ℕ) → k < length self.now.cells → 64 * run ≤ k → k < 64 * run + 64
+        requires row { row ≤ length self.now.cells / WIDTH }
+        ensures { result ≡ false → (k : ℕ) → k < length self.now.cells → WIDTH * row ≤ k → k < WIDTH * row + WIDTH
             → after_opening (status_of (slice_index_or self.now.cells k no_cell)) self.now.level self.now.gain ≡ status_of (slice_index_or self.now.cells k no_cell) }
     {
-        self.awaited.awaits(run, self.place.gain)
+        self.awaited.awaits(row, self.place.gain)
     }
 
-    /// Opens the gain of the place in the cells of this run of 64, in order of rank. Where none of its boards
+    /// Opens the gain of the place in the cells of this row, in order of rank. Where none of its boards
     /// awaits it, no cell is read.
-    fn open_run(&mut self, run: usize)
+    fn open_row(&mut self, row: usize)
         requires gain { self.old.gain ≤ self.old.level }
         requires opened { self.old.wave ≡ 0 }
-        requires run { 64 * run ≤ length self.old.cells }
+        requires row { WIDTH * row ≤ length self.old.cells }
         ensures settles { Settles self.old self.new }
-        ensures opens { OpensCells self.old self.new (64 * run) (64 * run + 64) }
+        ensures opens { OpensCells self.old self.new (WIDTH * row) (WIDTH * row + WIDTH) }
     {
-        if !self.may_open(run) {
+        if !self.may_open(row) {
             return;
         }
         let place = self.place();
         let (start, end) = self.block();
-        let first = start + 64 * run as u32;
-        for rank in first..first + (end - first).min(64) {
+        let first = start + (WIDTH * row) as u32;
+        for rank in first..first + (end - first).min(WIDTH as u32) {
             // Most cells have nothing to open, and are passed over without being written.
             let cell = self.cell(rank);
             if !cell.awaits_gain(place) {

@@ -1,9 +1,10 @@
 use Rattle.std.proofs.Common.{◌*◌, ◌-◌}
+use Rattle.awari_block.specs.declared.awaited.TheConstants.{WIDTH}
 use Rattle.awari_block.specs.Boards.{OpensCells, Settles}
-use Rattle.awari_block.proofs.boards.Boards.open_run.Given as goal
+use Rattle.awari_block.proofs.boards.Boards.open_row.Given as goal
 
 abbrev pub invariant-loop-rank : goal.invariant-loop-rank
 invariant-loop-rank l = record {
   settles : Settles l.initial.self l.self;
-  opens : OpensCells l.initial.self l.self (64 * l.run) (l.rank - l.start);
+  opens : OpensCells l.initial.self l.self (WIDTH * l.row) (l.rank - l.start);
 }
