@@ -49,7 +49,7 @@ row_still n t row cells gains are none k inside from to =
 -- a cell that awaits no more than before may be put
 pub awaited_put : (n i : ℕ) (cells : List Cell) (gains : List ℕ) (c : Cell) → i < length cells → AwaitsNoMore (get_or cells i no_cell) c → AreAwaited n cells gains → AreAwaited n (set cells i c) gains
 awaited_put n i cells gains c inside no_more are = record {
-  runs = are.runs ∙ ap (λ l. l / WIDTH + 1) (sym (length-set cells i c));
+  rows = are.rows ∙ ap (λ l. l / WIDTH + 1) (sym (length-set cells i c));
   bits = λ k t below may. elim (cases_eq k i) [
     | inl same ↦ are.bits k t (subst (λ l. k < l) (length-set cells i c) below)
         (subst (λ j. MayOpen (get_or cells j no_cell).mark (get_or cells j no_cell).score n t) (sym same)

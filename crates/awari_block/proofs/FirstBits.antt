@@ -83,10 +83,7 @@ module _ (cells : List Cell) (old new : List ℕ) (place d : ℕ) (at : dist_at 
   alone_is run dist bits here near short set clear far = subst₂ (λ r e. AreFirst cells new r e bits) (sym here) (sym near) (alone_first bits short set clear far)
 
   module _ (run dist bits : ℕ) (first : AreFirst cells old run dist bits) where
-    -- where none was marked, or the new one is nearer, or as near in a run before
-    pub far_none : bits ≡ 0 → (k : ℕ) → is_marked old k ≡ true → (d < dist_at cells k) ⊎ ((dist_at cells k ≡ d) × (place / 64 < k / 64))
-    far_none zero k marked = absurd (first.none zero k marked)
-
+    -- where the new one is nearer, or as near in a run before
     pub far_nearer : d < dist → (k : ℕ) → is_marked old k ≡ true → (d < dist_at cells k) ⊎ ((dist_at cells k ≡ d) × (place / 64 < k / 64))
     far_nearer less k marked = inl (by (first.behind k marked))
       where

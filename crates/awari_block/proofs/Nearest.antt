@@ -23,25 +23,6 @@ module _ (cells : List Cell) (words : List ℕ) (low : ℕ) where
     ],
   )
 
-  -- boards that are no nearer than the first so far change nothing
-  pub nearest_enough : (high more near b : ℕ) → high ≤ more → dist_at cells b ≤ near → ((k : ℕ) → high ≤ k → k < more → is_marked words k ≡ true → near ≤ dist_at cells k)
-      → IsNearest cells words low high (Some b) → IsNearest cells words low more (Some b)
-  nearest_enough high more near b order less far (at_least, at_most, is, first) = (
-    at_least,
-    omega (arith, at_most, order),
-    is,
-    λ k above below marked. elim (cases_lt k high) [
-      | inl lt ↦ first k above lt marked
-      | inr ge ↦ as_near k (omega (arith, ge)) (far k (omega (arith, ge)) below marked)
-    ],
-  )
-    where
-      as_near : (k : ℕ) → high ≤ k → near ≤ dist_at cells k → IsBefore cells b k
-      as_near k ge farther = elim (cases_lt (dist_at cells b) (dist_at cells k)) [
-        | inl lt ↦ inl lt
-        | inr not_lt ↦ inr (omega (arith, not_lt, less, farther), omega (arith, at_most, ge))
-      ]
-
 -- the mark of a place is a bit of its run's word
 pub mark_is : (words : List ℕ) (run i : ℕ) → i < 64 → is_marked words (64 * run + i) ≡ (bit_at (get_or words run 0) i == 1)
 mark_is words run i within =
@@ -57,10 +38,3 @@ bit_unmarked words run i within clear marked = not_both _ (mark_is words run i w
   where
     not_both : (b : Bool) → b ≡ false → b ≡ true → ⊥
     not_both b e f = grind arith
-
--- the marked boards of a run are no nearer than what is kept of it
-pub near_in : (cells : List Cell) (words least : List ℕ) (run : ℕ) → ((k : ℕ) → is_marked words k ≡ true → get_or least (k / 64) 0 ≤ dist_at cells k)
-    → (k : ℕ) → 64 * run ≤ k → k < 64 * run + 64 → is_marked words k ≡ true → get_or least run 0 ≤ dist_at cells k
-near_in cells words least run near k low high marked =
-    let at : k / 64 ≡ run = omega (arith, low, high) in
-    subst (λ n. get_or least n 0 ≤ dist_at cells k) at (near k marked)

@@ -21,6 +21,6 @@ AwaitsNoMore old new = (n t : ℕ) → MayOpen new.mark new.score n t → MayOpe
 
 -- of each gain that a board awaits, the word of its row has the bit
 pub record AreAwaited (n : ℕ) (cells : List Cell) (gains : List ℕ) : Type 0 where
-  pub runs : length gains ≡ length cells / WIDTH + 1
+  pub rows : length gains ≡ length cells / WIDTH + 1
   pub bits : (k t : ℕ) → k < length cells → MayOpen (slice_index_or cells k no_cell).mark (slice_index_or cells k no_cell).score n t
       → bit_at (slice_index_or gains (k / WIDTH) 0) t ≡ 1

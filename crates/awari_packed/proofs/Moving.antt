@@ -1,11 +1,10 @@
 -- A stone of a number moved from one pit to another.
-use Rattle.std.proofs.Common.{◌≡◌, ◌≢◌, ℕ, ◌+◌, ◌*◌, ◌-◌, ◌%◌, ◌^◌, ◌<◌, ◌≤◌, List, length, sum, get_or, set, sym, ◌∙◌, ap, arith}
+use Rattle.std.proofs.Common.{◌≡◌, ◌≢◌, ℕ, ◌+◌, ◌*◌, ◌-◌, ◌%◌, ◌^◌, ◌<◌, ◌≤◌, List, length, sum, get_or, set, ◌∙◌, ap, arith}
 use Rattle.std.proofs.Math.Nat.{pow-le-pow_right}
 use Rattle.std.proofs.lemmas.Grind.{common_steps}
 use Rattle.std.proofs.lemmas.List.{get_or-set_other, length-set}
-use Rattle.std.proofs.lemmas.Nat.{mul-le}
 use Rattle.awari_packed.specs.Packed.{packed, pits_of, IsPacking, IsPackOf, packed-pits_of}
-use Rattle.awari_packed.proofs.Digits.{packed-set, packed_below, small-few, long-pits_of}
+use Rattle.awari_packed.proofs.Digits.{packed-set, long-pits_of}
 
 abbrev pub stone_moved : List ℕ → ℕ → ℕ → List ℕ
 stone_moved b x y = set (set b x (get_or b x 0 - 1)) y (get_or b y 0 + 1)

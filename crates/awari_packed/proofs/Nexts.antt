@@ -1,5 +1,5 @@
 -- The next board, as a number.
-use Rattle.std.proofs.Common.{◌≡◌, ℕ, zero, suc, ◌+◌, ◌*◌, ◌-◌, ◌/◌, ◌%◌, ◌^◌, ◌<◌, ◌≤◌, inl, inr, List, [], ◌∷◌, length, sum, get_or, set, drop, refl, sym, ◌∙◌, ap, arith, get_or-set_same, length-drop}
+use Rattle.std.proofs.Common.{◌≡◌, ℕ, zero, suc, ◌+◌, ◌*◌, ◌-◌, ◌/◌, ◌%◌, ◌^◌, ◌<◌, ◌≤◌, inl, inr, List, [], ◌∷◌, length, sum, get_or, set, drop, refl, sym, ◌∙◌, ap, subst, arith, get_or-set_same, length-drop}
 use Rattle.std.proofs.lemmas.List.{get_or-set_other, get_or-drop}
 use Rattle.std.proofs.Math.Nat.{pow-le-pow_right}
 use Rattle.std.specs.Int.{trailing_zeros, w64}
@@ -12,6 +12,7 @@ use Rattle.awari_rank.specs.Held.{IsLastHeld}
 use Rattle.awari_rank.proofs.Succeeding.{succeeded}
 use Rattle.awari_packed.specs.Packed.{packed, unpacked, pits_of, IsPacking, IsPackOf, packed-unpacked}
 use Rattle.awari_packed.proofs.Digits.{sum-cons, packed-set, long-pits_of, get_or-pits_of}
+use Rattle.awari_packed.proofs.Emptying.{without_is}
 use Rattle.awari_packed.proofs.Whole.{IsBoard-pits_of}
 
 drop-unpacked : (j k m n : ℕ) → m ≡ j + k → drop j (unpacked m n) ≡ unpacked k n
@@ -54,18 +55,18 @@ mod_zeros n (suc m) i none here =
           ap (λ k. n / 2 ^ k % 2) (sym same) ∙ one_bit (n / 2 ^ m % 2) (2 ^ m) (pow_pos m) (omega arith)
     ]
 
--- what the trailing zeros say
-pub record Lowest (n t : ℕ) : Type 0 where
-  pub few : t / 5 ≤ 10
-  pub last : IsLastHeld (pits_of n) (11 - t / 5)
+-- so many bits lie after those of the last pit that holds stones
+pub record IsLastPlace (n place : ℕ) : Type 0 where
+  pub few : place ≤ 50
+  pub last : IsLastHeld (pits_of n) (11 - place / 5)
 
-pub lowest : (n t : ℕ) → IsPacking n → 0 < n % 2 ^ 55 → n / 2 ^ t % 2 ≡ 1 → ((i : ℕ) → i < t → n / 2 ^ i % 2 ≡ 0) → Lowest n t
+lowest : (n t : ℕ) → IsPacking n → 0 < n % 2 ^ 55 → n / 2 ^ t % 2 ≡ 1 → ((i : ℕ) → i < t → n / 2 ^ i % 2 ≡ 0) → IsLastPlace n (t / 5 * 5)
 lowest n t is some set_there zeros =
     let below : t < 55 = elim (cases_lt t 55) [
       | inl lt ↦ lt
       | inr ge ↦ absurd (omega (arith, zeros_mod n 55 (λ i h. zeros i (omega arith))))
     ] in
-    let d : ℕ = t / 5 in
+    let d : ℕ = t / 5 * 5 / 5 in
     let e : 55 - 5 * (11 - d) ≡ 5 * d = omega arith in
     let after : 11 - d + 1 + d ≡ 12 = omega arith in
     let low : n % 2 ^ (5 * d) ≡ 0 = zeros_mod n (5 * d) (λ i h. zeros i (omega arith)) in
@@ -82,7 +83,7 @@ lowest n t is some set_there zeros =
       last = record { in_range = omega arith; holds = λ _. omega arith; none_after = none_right n (11 - d + 1) d after low };
     }
 
-pub lowest_of : (n : ℕ) → IsPacking n → 0 < n % 2 ^ 55 → n < 2 ^ 64 → Lowest n (trailing_zeros w64 n)
+pub lowest_of : (n : ℕ) → IsPacking n → 0 < n % 2 ^ 55 → n < 2 ^ 64 → IsLastPlace n (trailing_zeros w64 n / 5 * 5)
 lowest_of n is some fits =
     let all = bit_at-trailing_zeros w64 n (omega arith) fits in
     lowest n (trailing_zeros w64 n) is some all.1 all.2
@@ -142,3 +143,23 @@ next_is n held s left w is last some held_is emptied rest =
             rest,
           );
     }
+
+-- the last pit that holds stones is at the bits that lie before so many
+held_at : (n place : ℕ) → place % 5 ≡ 0 → place ≤ 50 → n / 2 ^ place % 32 ≡ get_or (pits_of n) (11 - place / 5) 0
+held_at n place fives few =
+    let at : place ≡ 55 - 5 * (11 - place / 5) = omega arith in
+    ap (λ m. n / 2 ^ m % 32) at ∙ sym (get_or-pits_of n (11 - place / 5) (omega arith))
+
+pub some_held : (n place : ℕ) → place % 5 ≡ 0 → place ≤ 50 → IsLastHeld (pits_of n) (11 - place / 5) → 1 ≤ n / 2 ^ place % 32
+some_held n place fives few last = omega (arith, held_at n place fives few, last.holds (omega arith))
+
+pub next_at : (n place : ℕ) → IsPacking n → place % 5 ≡ 0 → place ≤ 50 → IsLastHeld (pits_of n) (11 - place / 5)
+    → IsPackOf (n - n / 2 ^ place % 32 * 2 ^ place % 18446744073709551616 + 1 * 2 ^ (place + 5) % 18446744073709551616 + (n / 2 ^ place % 32 - 1)) (succeeding (pits_of n) (11 - place / 5))
+next_at n place is fives few last =
+    let held : ℕ = 11 - place / 5 in
+    let at : 55 - 5 * held ≡ place = omega arith in
+    let above : 60 - 5 * held ≡ place + 5 = omega arith in
+    let s : ℕ = n / 2 ^ place % 32 in
+    let emptied = subst (λ m. IsPackOf (n - s * 2 ^ m % 18446744073709551616) (set (pits_of n) held 0)) at (without_is n held s s is (omega arith) (held_at n place fives few) refl) in
+    subst (λ m. IsPackOf (n - s * 2 ^ place % 18446744073709551616 + 1 * 2 ^ m % 18446744073709551616 + (s - 1)) (succeeding (pits_of n) held)) above
+    (next_is n held s (n - s * 2 ^ place % 18446744073709551616) (s - 1) is last (omega arith) (held_at n place fives few) emptied refl)

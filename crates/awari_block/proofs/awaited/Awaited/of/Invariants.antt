@@ -5,6 +5,6 @@ use Rattle.awari_block.proofs.awaited.Awaited.of.Given as goal
 
 abbrev pub invariant-loop-place : goal.invariant-loop-place
 invariant-loop-place l = record {
-  runs : length l.gains.items ≡ length l.cells / WIDTH + 1;
+  rows : length l.gains.items ≡ length l.cells / WIDTH + 1;
   noted : AreNoted l.level l.cells l.gains.items l.place;
 }
