@@ -1,16 +1,13 @@
 -- The text of a shelf, and of one of its levels.
-use Rattle.std.proofs.Common.{◌≡◌, ℕ, ◌<◌, List, length, get_or, slice_get, Option, Some, None, refl, sym, ap, ◌∙◌, subst, arith}
+use Rattle.std.proofs.Common.{◌≡◌, ℕ, ◌<◌, List, length, get_or, slice_get, Option, Some, sym, ap, ◌∙◌, subst, arith}
 use Rattle.std.specs.Io.KnownBytes.{Appends}
 use Rattle.std.proofs.lemmas.List.{length-take-le}
 use Rattle.std.proofs.lemmas.Option.{get_or_from_slice_get, slice_get_within}
 use Rattle.awari_table.specs.declared.images.Image.{Image}
 use Rattle.awari_table.specs.Images.{no_image}
 use Rattle.awari_table.specs.Shelves.{IsShelf}
-use Rattle.awari_table.specs.Spelling.{block, table_text, IsImage, AreImages}
+use Rattle.awari_table.specs.Spelling.{block, IsImage}
 use Rattle.awari_answers.specs.Texts.{AppendsText}
-
-pub all_text : (images : List Image) (before after : Option (List ℕ)) → IsShelf images → AreImages 0 images → Appends before after (table_text images) → AppendsText images None before after
-all_text images before after is fits wrote = (table_text images, record { fits = fits; shelf = is; parts = refl }, wrote)
 
 pub one_text : (images : List Image) (number : ℕ) (image : Image) (before after : Option (List ℕ)) → IsShelf images → slice_get images number ≡ Some image → IsImage image.level image
     → Appends before after (block image) → AppendsText images (Some number) before after

@@ -1,5 +1,5 @@
 -- Which gains boards await: what no board awaits opens nothing, and what is awaited of cells that change.
-use Rattle.std.proofs.Common.{◌≡◌, ℕ, ◌≢◌, ◌+◌, ◌*◌, ◌/◌, ◌<◌, ◌≤◌, ◌==◌, ◌⊎◌, inl, inr, Bool, true, false, ℤ, pos, neg_ℤ, List, length, get_or, set, refl, sym, ap, subst, ◌∙◌, arith, eqb-true, get_or-set_same, get_or-set_other}
+use Rattle.std.proofs.Common.{◌≡◌, ℕ, ◌+◌, ◌*◌, ◌/◌, ◌<◌, ◌≤◌, ◌==◌, inl, inr, Bool, true, false, ℤ, pos, neg_ℤ, List, length, get_or, set, refl, sym, ap, subst, ◌∙◌, arith, eqb-true, get_or-set_same, get_or-set_other}
 use Rattle.std.proofs.lemmas.Bool.{cases_eq}
 use Rattle.std.proofs.lemmas.Bool.Decides.{Decides-int_eq}
 use Rattle.std.proofs.lemmas.List.{length-set}
@@ -62,28 +62,6 @@ awaited_put n i cells gains c inside no_more are = record {
 abbrev pub AreNoted : ℕ → List Cell → List ℕ → ℕ → Type 0
 AreNoted n cells gains place =
     (k t : ℕ) → k < place → MayOpen (get_or cells k no_cell).mark (get_or cells k no_cell).score n t → bit_at (get_or gains (k / WIDTH) 0) t ≡ 1
-
--- one board more, which awaits no other gain than this one
-pub noted_one : (n place g word : ℕ) (cells : List Cell) (gains : List ℕ) → place / WIDTH < length gains
-    → ((t : ℕ) → MayOpen (get_or cells place no_cell).mark (get_or cells place no_cell).score n t → t ≡ g)
-    → bit_at word g ≡ 1 → ((i : ℕ) → i ≢ g → bit_at word i ≡ bit_at (get_or gains (place / WIDTH) 0) i)
-    → AreNoted n cells gains place → AreNoted n cells (set gains (place / WIDTH) word) (place + 1)
-noted_one n place g word cells gains room only here others before k t below may = elim (cases_eq (k / WIDTH) (place / WIDTH)) [
-  | inl row ↦ ap (λ r. bit_at (get_or (set gains (place / WIDTH) word) r 0) t) row ∙ ap (λ w. bit_at w t) (get_or-set_same gains (place / WIDTH) word 0 room) ∙ in_row row (cases_eq t g)
-  | inr other ↦ ap (λ w. bit_at w t) (get_or-set_other gains (place / WIDTH) (k / WIDTH) word 0 other) ∙ before k t (earlier (λ same. other (ap (λ j. j / WIDTH) same))) may
-]
-  where
-    earlier : (k ≡ place → ⊥) → k < place
-    earlier differ = elim (cases_eq k place) [
-      | inl same ↦ absurd (differ same)
-      | inr other ↦ omega (arith, below, other)
-    ]
-
-    in_row : k / WIDTH ≡ place / WIDTH → (t ≡ g) ⊎ (t ≢ g) → bit_at word t ≡ 1
-    in_row at (inl same) = ap (bit_at word) same ∙ here
-    in_row at (inr other) =
-        others t other ∙ ap (λ r. bit_at (get_or gains r 0) t) (sym at)
-        ∙ before k t (earlier (λ same. other (only t (subst (λ j. MayOpen (get_or cells j no_cell).mark (get_or cells j no_cell).score n t) same may)))) may
 
 -- one board more, which awaits none
 pub noted_none : (n place : ℕ) (cells : List Cell) (gains : List ℕ)

@@ -135,9 +135,6 @@ module _ (place : Place) (cells : List Cell) (fresh : Fresh) (sound : IsBlock pl
           let count = marks.count in
           omega (arith, below, size, count)
 
-      pub put_room : (rank - place.start) / 64 < length fresh.words.items
-      put_room = let room = marks.room in omega (arith, room, high)
-
       -- it joins them
       pub put_permuted : (new : List ℕ) → MarksOne (rank - place.start) fresh.words.items new
           → IsPermutation ((c.dist, place.start + (rank - place.start)) ∷ fresh_of place.start cells fresh) (due_of place.start (set cells (rank - place.start) c) new)

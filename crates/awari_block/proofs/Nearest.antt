@@ -1,9 +1,9 @@
 -- The first of the fresh boards in a range.
-use Rattle.std.proofs.Common.{◌≡◌, ℕ, ◌+◌, ◌*◌, ◌/◌, ◌%◌, ◌<◌, ◌≤◌, ◌==◌, inl, inr, Bool, true, false, List, get_or, Option, Some, None, ap, subst, ◌∙◌, arith}
+use Rattle.std.proofs.Common.{◌≡◌, ℕ, ◌+◌, ◌*◌, ◌/◌, ◌%◌, ◌<◌, ◌≤◌, ◌==◌, inl, inr, Bool, true, false, List, get_or, Option, Some, None, ap, ◌∙◌, arith}
 use Rattle.std.proofs.lemmas.Bool.{cases_lt}
 use Rattle.std.specs.Int.{bit_at}
 use Rattle.awari_block.specs.declared.cells.Cell.{Cell}
-use Rattle.awari_block.specs.Fresh.{dist_at, is_marked, IsBefore, IsNearest}
+use Rattle.awari_block.specs.Fresh.{is_marked, IsNearest}
 
 module _ (cells : List Cell) (words : List ℕ) (low : ℕ) where
   -- boards that are not marked change nothing

@@ -1,6 +1,5 @@
 -- What the opening of a gain makes of the cells, one after another.
 use Rattle.std.proofs.Common.{◌≡◌, ◌≢◌, ℕ, ◌+◌, ◌<◌, ◌≤◌, ◌==◌, ◌⊎◌, inl, inr, Bool, true, false, List, length, get_or, set, refl, sym, ap, subst, ◌∙◌, arith, eqb-true, get_or-set_same, get_or-set_other}
-use Rattle.std.proofs.lemmas.List.{get_or_past}
 use Rattle.std.proofs.lemmas.Bool.{cases_lt}
 use Rattle.std.proofs.lemmas.Bool.Decides.{nat_tests}
 use Rattle.awari_block.specs.declared.cells.Cell.{Cell}
@@ -24,10 +23,6 @@ put_cases xs ys i next put high k = by (k == i) refl
     by false e = let ne : k ≢ i = differ k i e in inr (ne, ap (λ (l : List Cell). get_or l k no_cell) put ∙ rw get_or-set_other refl)
 
 module _ (old new : Part) where
-  -- a run of no cells
-  pub opens_none : (low : ℕ) → OpensCells old old low low
-  opens_none low = record { heard = λ k h. refl; inside = λ k h from to. absurd (omega (arith, from, to)); outside = λ k out. refl }
-
   -- cells that the opening leaves as they are
   pub opens_still : (low high : ℕ) → ((k : ℕ) → k < length old.cells → low ≤ k → k < high → after_opening (status_of (get_or old.cells k no_cell)) old.level old.gain ≡ status_of (get_or old.cells k no_cell))
       → OpensCells old old low high
@@ -91,16 +86,3 @@ opens_both a b c low mid high first last same size one two = record {
     earlier : (k : ℕ) → (k < low) ⊎ (high ≤ k) → (k < low) ⊎ (mid ≤ k)
     earlier k (inl less) = inl less
     earlier k (inr more) = inr (omega (arith, more, last))
-
--- as far as there are cells
-pub opens_all : (old new : Part) (low high : ℕ) → length old.cells ≤ high → length new.cells ≡ length old.cells → OpensCells old new low high → OpensCells old new low (length old.cells)
-opens_all old new low high past size opens = record {
-  heard = opens.heard;
-  inside = λ k h from to. opens.inside k h from (omega (arith, h, past));
-  outside = λ k out. by k out (cases_lt k high);
-}
-  where
-    by : (k : ℕ) → (k < low) ⊎ (length old.cells ≤ k) → (k < high) ⊎ (high ≤ k) → get_or new.cells k no_cell ≡ get_or old.cells k no_cell
-    by k (inl less) c = opens.outside k (inl less)
-    by k (inr more) (inr c) = opens.outside k (inr c)
-    by k (inr more) (inl c) = get_or_past new.cells k no_cell (omega (arith, more, size)) ∙ sym (get_or_past old.cells k no_cell more)

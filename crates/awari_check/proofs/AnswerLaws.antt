@@ -1,7 +1,7 @@
 -- What is printed of an answer.
-use Rattle.std.proofs.Common.{◌≡◌, ◌∙◌, ℕ, List, ◌∷◌, [], ◌++◌, Option, Some, None, arith}
+use Rattle.std.proofs.Common.{◌≡◌, ℕ, List, ◌∷◌, [], ◌++◌, Option, Some, None, arith}
 use Rattle.std.specs.Prelude.{IfSome}
-use Rattle.std.specs.Io.KnownBytes.{Appends, Keeps}
+use Rattle.std.specs.Io.KnownBytes.{Appends}
 use Rattle.awari_check.specs.declared.answers.Answer.{Answer}
 use Rattle.awari_check.specs.declared.answers.Answer.TheVariants.{Yes, Fault, Read}
 use Rattle.awari_check.specs.Answer.{answer_text, status_of, IsAnswer, PrintsYes}
@@ -11,10 +11,3 @@ printed_yes (Yes levels limit) None before after said written done = tt
 printed_yes (Yes levels limit) (Some bytes) before after said written done = (said.0, said.1, rw (said.2, said.3) at written)
 printed_yes (Fault fault) input before after said written done = absurd (omega arith)
 printed_yes Read input before after said written done = absurd (omega arith)
-
--- what is written stays when the writer is flushed
-pub Appends-flushed : (before written after : Option (List ℕ)) (bytes : List ℕ) → Appends before written bytes → Keeps written after → Appends before after bytes
-Appends-flushed None written after bytes appends keeps = tt
-Appends-flushed (Some b) None after bytes appends keeps = absurd appends
-Appends-flushed (Some b) (Some w) None bytes appends keeps = absurd keeps
-Appends-flushed (Some b) (Some w) (Some a) bytes appends keeps = keeps ∙ appends

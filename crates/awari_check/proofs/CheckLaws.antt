@@ -1,7 +1,7 @@
 -- How far a check has come, and that the first fault is one.
 use Rattle.std.proofs.Common.{◌≡◌, ◌≢◌, ◌⊎◌, ℕ, ◌+◌, ◌<◌, suc, ◌≤◌, List, [], ◌∷◌, ◌++◌, length, None, Some, Option, Result, Err, refl, sym, ap, subst, ◌∙◌, append_assoc, arith, inl, inr}
 use Rattle.std.specs.Prelude.{IfOk, IfErr}
-use Rattle.std.proofs.lemmas.List.{length-append, append-nil, nil_from_length}
+use Rattle.std.proofs.lemmas.List.{length-append, append-nil}
 use Rattle.std.proofs.lemmas.List.Concat.{flat_map-append, flat_map-cons}
 use Rattle.std.proofs.Math.Seq.{take-append_seam, get_or-append_seam}
 use Rattle.std.specs.List.{flat_map}
@@ -36,12 +36,6 @@ pub record IsChecked (text : List ℕ) (shelf : List Image) (place : Place) : Ty
   pub line : place.line ≡ 1 + line_count shelf
   pub fresh : place.refused ≡ None
 
-empty_shelf : IsShelf []
-empty_shelf = record { few = omega arith; consistent = λ i h. absurd (omega arith) }
-
-pub checked_none : (text : List ℕ) → IsChecked text [] (record { rest = text; next = 0; line = 1; refused = None })
-checked_none text = record { parts = refl; fits = tt; holds = empty_shelf; next = refl; line = refl; fresh = refl }
-
 line_count-push : (images : List Image) (image : Image) → line_count (images ++ image ∷ []) ≡ line_count images + 1 + length image.entries
 line_count-push [] image = omega arith
 line_count-push (i ∷ images) image = omega (arith, line_count-push images image)
@@ -59,11 +53,6 @@ checked_more text shelf next place image after r t right next-is =
       line = omega (arith, t.line, r.line, line_count-push shelf image);
       fresh = t.refused;
     })
-
-pub shorter : (place : Place) (image : Image) (after : Place) → TakesImage place image after → length after.rest < length place.rest
-shorter place image after t =
-    let some : length (block image) ≢ 0 = λ e. block_some image [] (append-nil (block image) ∙ nil_from_length (block image) e) in
-    omega (arith, ap length t.parts, length-append (block image) after.rest)
 
 -- ---- what is answered
 

@@ -1,7 +1,6 @@
 -- Levels that are built on those of a folder.
 use Rattle.std.proofs.Common.{rules, arith, ◌≡◌, ◌<◌, ◌≤◌, ◌+◌, inl, inr, ⊎_elim, List, ℕ, [], ◌∷◌, ◌++◌, length, Option, Some, None, subst, length-append, ap, ◌∙◌}
 use Rattle.std.specs.Prelude.{IfSome, IsSome}
-use Rattle.std.proofs.lemmas.Bool.{cases_lt}
 use Rattle.awari_file.specs.FileText.{file_text}
 use Rattle.std.specs.Io.KnownBytes.{Appends}
 use Rattle.awari_folder.specs.Contents.{AreNames, HoldsIn, IsStoredIn, LeavesNoMore, LeavesToo, Same, nothing_known}
@@ -16,9 +15,6 @@ built_nowhere below built names are = no_name (names 0) (are 0)
   where
     no_name : {A : Type 0} (name : Option (List ℕ)) → nothing_known 0 ≡ Some name → A
     no_name name e = absurd cc
-
-pub same_outside : (low top : ℕ) (old new : ℕ → Option (Option (List ℕ))) → ((n : ℕ) → n < low → new n ≡ old n) → ((n : ℕ) → low ≤ n → top < n → new n ≡ old n) → SameOutside low top old new
-same_outside low top old new below above n = ⊎_elim (below n) (λ high. ⊎_elim (below n) (λ up. above n up high) (cases_lt n low))
 
 files_of_save : (level : ℕ) (stand : Option (Option (List ℕ))) (image : Image) (below : List ℕ) (old new : ℕ → Option (List ℕ) → Type 0)
     → IfSome stand (λ _. LeavesToo level (λ c. c ≡ Some (file_text 2 image below)) old new) → IsSome stand → LeavesFiles level old new

@@ -1,6 +1,5 @@
 -- Each step of the service.
-use Rattle.std.proofs.Common.{◌≡◌, ◌≢◌, ◌<◌, ℕ, List, [], ◌∷◌, ◌++◌, length, sym, ap, ◌∙◌, refl, subst, append_assoc, append-nil, Option, Some, None, ◌+◌, take, drop, get_or, length-append, take-append-drop, arith, Bool, true, false, ◌↔◌}
-use Rattle.std.specs.Prelude.{IfSome}
+use Rattle.std.proofs.Common.{◌≡◌, ◌≢◌, ◌<◌, ℕ, List, [], ◌∷◌, ◌++◌, length, sym, ap, ◌∙◌, refl, subst, append_assoc, append-nil, Option, Some, None, ◌+◌, take, drop, get_or, take-append-drop, Bool, true, false, ◌↔◌}
 use Rattle.std.proofs.lemmas.List.{take_more}
 use Rattle.std.proofs.lemmas.Bool.{iff_false, false≢true}
 use Rattle.std.proofs.lemmas.List.Elements.{All-nil, All-append, All-cons}
@@ -162,21 +161,6 @@ pub input_with : (a b : Option (List ℕ)) (bs rest : List ℕ) → Consumes a b
 input_with None b bs rest c i = tt
 input_with (Some xs) None bs rest c i = absurd c
 input_with (Some xs) (Some ys) bs rest c i = c ∙ ap (λ l. bs ++ l) i
-
--- too many bytes come
-pub too_many : (a b : Option (List ℕ)) (taken : List ℕ) (left total : ℕ) → Consumes a b taken → length taken + left ≡ total → IfSome b (λ bytes. left < length bytes) → IfSome a (λ bytes. total < length bytes)
-too_many None b taken left total c e m = tt
-too_many (Some xs) None taken left total c e m = absurd c
-too_many (Some xs) (Some ys) taken left total c e m =
-    let whole : length xs ≡ length taken + length ys = ap length c ∙ length-append taken ys in
-    omega (arith, whole, e, m)
-
-pub too_many_come : (a b : Option (List ℕ)) (came : List ℕ) (left : ℕ) → Consumes a b came → left < length came → IfSome a (λ bytes. left < length bytes)
-too_many_come None b came left c m = tt
-too_many_come (Some xs) None came left c m = absurd c
-too_many_come (Some xs) (Some ys) came left c m =
-    let whole : length xs ≡ length came + length ys = ap length c ∙ length-append came ys in
-    omega (arith, whole, m)
 
 -- a line feed came
 pub line_feed : (first : List Image) (before : Option (List ℕ)) (taken : List ℕ) (now : Option (List ℕ)) (known : List Image) (coming : Coming) (s : Serving first before taken now known coming)

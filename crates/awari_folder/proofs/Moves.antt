@@ -15,7 +15,7 @@ use Rattle.awari_folder.specs.declared.faults.FolderFault.{FolderFault}
 use Rattle.awari_folder.specs.declared.faults.FolderFault.TheVariants.{Below, File, Open, Verify, Memory, Occupied, Old}
 use Rattle.awari_folder.specs.declared.loading.Stored.{Stored}
 use Rattle.awari_folder.specs.declared.migrating.Limits.{Limits}
-use Rattle.awari_folder.specs.Contents.{Same, SameBut, LeavesNoMore, LeavesToo, Opens, OpenIfRefused, OpenIfEither, AreNames, HoldsIn}
+use Rattle.awari_folder.specs.Contents.{Same, SameBut, LeavesToo, OpenIfRefused, OpenIfEither, AreNames, HoldsIn}
 use Rattle.awari_folder.specs.Migration.{rules_of, IsMovedFile, MoveLevels, CanMove, IsMoveFault, IsStoreFault, IsMigrated, IsFirstMoveFault, LeavesWhole}
 
 -- ---- a file that is opened
@@ -25,12 +25,6 @@ pub fault_of_name : (shelf : List Image) (below : List ℕ) (name other : Option
     → IsSomeAnd name (λ bytes. IsMoveFault shelf below (Some bytes) other fault) → IsMoveFault shelf below name other fault
 fault_of_name shelf below None other fault h = absurd h
 fault_of_name shelf below (Some bytes) other fault h = h
-
--- no file was opened
-pub none_opened : {F : Type 0} (remaining : F → Option (List ℕ)) (stand : Option (Option (List ℕ))) → Opens remaining stand None → IfSome stand (λ other. other ≡ None)
-none_opened remaining None opened = tt
-none_opened remaining (Some None) opened = refl
-none_opened remaining (Some (Some bytes)) opened = absurd opened
 
 -- ---- a level that is stored
 
@@ -205,24 +199,6 @@ either_second (Occupied level) old new other mid other_new told same first = (fi
 either_second (Old level) old new other mid other_new told same first = (first, told ∙ same)
 
 -- ---- what a crash may leave
-
-leaves_at : (stand : Option (Option (List ℕ))) (before between after : ℕ → Option (List ℕ) → Type 0) (level : ℕ) (text : List ℕ) → IfSome stand (λ other. other ≡ None)
-    → LeavesNoMore before between → IfSome stand (λ _. LeavesToo level (λ left. left ≡ Some text) between after)
-    → IfSome stand (λ other. LeavesToo level (λ left. (other ≡ None) × (left ≡ Some text)) before after)
-leaves_at None before between after level text free none_more leaves = tt
-leaves_at (Some other) before between after level text free none_more leaves = λ n left end. ⊎_elim (λ l. inl (none_more n left l)) (λ r. inr (r.0, (free, r.1))) (leaves n left end)
-
-pub store_leaves : (first mid last : ℕ → Option (Option (List ℕ))) (before between after : ℕ → Option (List ℕ) → Type 0) (level : ℕ) (text : List ℕ) → Same first mid → IfSome (first level) (λ other. other ≡ None)
-    → LeavesNoMore before between → IfSome (mid level) (λ _. LeavesToo level (λ left. left ≡ Some text) between after)
-    → IfSome (first level) (λ other. LeavesToo level (λ left. (other ≡ None) × (left ≡ Some text)) before after)
-store_leaves first mid last before between after level text same free none_more leaves =
-    leaves_at (first level) before between after level text free none_more (subst (λ (o : Option (Option (List ℕ))). IfSome o (λ _. LeavesToo level (λ left. left ≡ Some text) between after)) (same level) leaves)
-
--- nothing was done
-pub nothing_leaves : (stand : Option (Option (List ℕ))) (before after : ℕ → Option (List ℕ) → Type 0) (level : ℕ) (text : List ℕ) → LeavesNoMore before after
-    → IfSome stand (λ other. LeavesToo level (λ left. (other ≡ None) × (left ≡ Some text)) before after)
-nothing_leaves None before after level text none_more = tt
-nothing_leaves (Some other) before after level text none_more = λ n left end. inl (none_more n left end)
 
 leaves_of : (stand : Option (Option (List ℕ))) (other : Option (List ℕ)) (before after : ℕ → Option (List ℕ) → Type 0) (level : ℕ) (text : List ℕ) → stand ≡ Some other
     → IfSome stand (λ o. LeavesToo level (λ left. (o ≡ None) × (left ≡ Some text)) before after) → LeavesToo level (λ left. (other ≡ None) × (left ≡ Some text)) before after

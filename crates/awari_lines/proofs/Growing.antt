@@ -19,9 +19,6 @@ pub record ConnectedTo (room : ℕ) (es fs : List Ends) (ms : List Line) (n : �
   pub done : (k : ℕ) (d : Ends) (m : Line) → k < n → Connected room (get_or es k d) (get_or fs k d) (get_or ms k m)
   pub rest : (k : ℕ) (d : Ends) → n ≤ k → get_or fs k d ≡ get_or es k d
 
-pub connected_none : (room : ℕ) (es : List Ends) → ConnectedTo room es es [] 0
-connected_none room es = record { long = refl; lines = refl; done = λ k d m h. absurd (omega arith); rest = λ k d h. refl }
-
 pub connected_more : (room : ℕ) (es fs : List Ends) (ms : List Line) (n : ℕ) (x a b : Ends) (m : Line) → ConnectedTo room es fs ms n → n < length es → a ≡ get_or fs n x → Connected room a b m → ConnectedTo room es (set fs n b) (ms ++ m ∷ []) (n + 1)
 connected_more room es fs ms n x a b m s h is w =
     let in_fs : n < length fs = (let p : length fs ≡ length es = s.long in omega arith) in

@@ -1,10 +1,10 @@
 -- How far a settling has come.
-use Rattle.std.proofs.Common.{◌≡◌, ◌≢◌, ℕ, ◌+◌, ◌<◌, ◌≤◌, List, [], ◌∷◌, ◌++◌, length, Option, refl, sym, subst, ◌∙◌, inl, inr, arith, get_or, IsTrue, ◌↔◌, Bool, true, ◌⊎◌}
+use Rattle.std.proofs.Common.{◌≡◌, ◌≢◌, ℕ, ◌+◌, ◌<◌, ◌≤◌, List, [], ◌∷◌, ◌++◌, length, Option, refl, sym, subst, ◌∙◌, inl, inr, arith, get_or, IsTrue, ◌↔◌, Bool, ◌⊎◌}
 use Rattle.std.proofs.lemmas.Bool.{cases_eq, cases_lt}
 use Rattle.awari_lines.specs.declared.lines.Ends.{Ends}
 use Rattle.awari_lines.specs.declared.lines.Line.{Line}
 use Rattle.awari_lines.specs.Lines.{LookedAt, NothingWaits, IsGrid, SameHistory, sent_to, received_from, waiting_from, sent_on, received_on, waiting_on, line_of}
-use Rattle.awari_lines.proofs.Grids.{history_then, same_history}
+use Rattle.awari_lines.proofs.Grids.{history_then}
 
 abbrev pub ExactOn : Option Line → Option Line → Type 0
 ExactOn l m = (received_on l ++ waiting_on l ≡ sent_on m) × (received_on m ++ waiting_on m ≡ sent_on l)
@@ -26,15 +26,6 @@ pub record SettledTo (es fs : List Ends) (empty : Bool) (j i : ℕ) : Type 0 whe
   pub same : (k : ℕ) (d : Ends) → k < length es → SameHistory (get_or es k d) (get_or fs k d)
   pub exact : (x y : ℕ) (d : Ends) → x < y → y < length es → IsDone j i x y → Between ExactOn fs x y d
   pub flag : IsTrue empty ↔ ((x y : ℕ) (d : Ends) → x < y → y < length es → IsDone j i x y → Between QuietOn fs x y d)
-
-pub settled_none : (es : List Ends) → IsGrid es → SettledTo es es true 0 0
-settled_none es g = record {
-  grid = g;
-  long = refl;
-  same = λ k d h. same_history (get_or es k d);
-  exact = λ x y d l h w. elim w [ inl p ↦ absurd (omega arith) | inr p ↦ absurd (let q : x < 0 = p.1 in omega arith) ];
-  flag = ((λ t x y d l h w. elim w [ inl p ↦ absurd (omega arith) | inr p ↦ absurd (let q : x < 0 = p.1 in omega arith) ]), (λ a. refl));
-}
 
 some_ends : (es : List Ends) → 0 < length es → Ends
 some_ends [] h = absurd (omega arith)

@@ -65,9 +65,6 @@ AreLeavingTo n start boards first count leaving =
     (k pit : ℕ) → k < count → pit < 6 → (has_pit (get_or leaving k 0) pit ≡ true) ↔ LeavesAt n start boards (first + k) pit
 
 module _ (n start boards first : ℕ) where
-  pub leaving_to-none : (leaving : List ℕ) → AreLeavingTo n start boards first 0 leaving
-  leaving_to-none leaving k pit h own = absurd (omega (arith, h))
-
   -- one board more
   pub leaving_to-more : (count : ℕ) (leaving : List ℕ) (bits : ℕ) (p : List ℕ) → ((b d : List ℕ) → IsBoard b → IsBoard d → sum b ≡ sum d → rank_of b ≡ rank_of d → b ≡ d)
       → count < length leaving → IsBoard p → sum p ≡ n → rank_of p ≡ first + count → AreLeavingBelow start boards p 6 bits

@@ -250,9 +250,6 @@ pub record IsScanning (value : List ℕ → ℤ) (n start rank : ℕ) (cells : L
   pub each : (p : List ℕ) → IsBoard p → sum p ≡ n → start ≤ rank_of p → rank_of p < rank → IsScanned value p (cell_in start cells (rank_of p))
 
 module _ (value : List ℕ → ℤ) (n start : ℕ) where
-  pub IsScanning-none : (board : List ℕ) → IsBoard board → sum board ≡ n → rank_of board ≡ start → IsScanning value n start start [] board
-  IsScanning-none board is stones ranked = record { len = omega arith; next = is; stones = stones; ranked = ranked; each = λ p _ _ low high. absurd (omega (arith, low, high)) }
-
   -- one board more
   pub scanned-more : (rank : ℕ) (cells : List Cell) (c : Cell) (board : List ℕ) → ((b d : List ℕ) → IsBoard b → IsBoard d → sum b ≡ sum d → rank_of b ≡ rank_of d → b ≡ d)
       → IsScanning value n start rank cells board → IsScanned value board c

@@ -22,10 +22,6 @@ use Rattle.awari_owner.proofs.Taking.{IsTakeable, added_heard}
 pub held_is : (a b n : ℕ) → a ≤ b → b - a < n → (nat_le a b && nat_lt (b - a) n) ≡ true
 held_is a b n h k = grind (arith, nat_tests)
 
-unheld_is : (a b n : ℕ) → (b < a) ⊎ (n ≤ b - a) → (nat_le a b && nat_lt (b - a) n) ≡ false
-unheld_is a b n (inl h) = grind (arith, nat_tests)
-unheld_is a b n (inr h) = grind (arith, nat_tests)
-
 -- two boards of the level with one rank are one
 abbrev pub IsInjective : Type 0
 IsInjective = (b c : List ℕ) → IsBoard b → IsBoard c → sum b ≡ sum c → rank_of b ≡ rank_of c → b ≡ c

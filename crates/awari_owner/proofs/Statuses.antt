@@ -4,15 +4,15 @@ use Rattle.std.proofs.lemmas.Bool.Decides.{nat_tests, Decides-int_eq}
 use Rattle.std.proofs.lemmas.Bool.{and_parts, false≢true}
 use Rattle.std.proofs.lemmas.Int.{ints, by_lt_z}
 use Rattle.std.specs.Ordering.{int_eq}
-use Rattle.awari_board.specs.Rules.{IsEnded, captured}
+use Rattle.awari_board.specs.Rules.{captured}
 use Rattle.awari_block.specs.Notes.{IsQuietMove, Has, is_won, gain_by, is_heard_at, is_won_at, far_of}
 use Rattle.awari_board.specs.Tests.{is_legal}
-use Rattle.awari_block.specs.Tally.{Status, Ended, Open, Settled, is_left, left_of, pits, Captures, IsBest, Knows, IsOpen, IsSettledAs, IsDistance, IsCount, IsStatus}
+use Rattle.awari_block.specs.Tally.{Status, Ended, Open, Settled, is_left, left_of, Captures, IsBest, Knows, IsOpen, IsSettledAs, IsDistance, IsCount, IsStatus}
 use Rattle.awari_block.specs.Steps.{after_note, after_opening, is_at_most, is_best}
 use Rattle.awari_block.specs.declared.notes.Note.{Note}
 use Rattle.awari_block.specs.declared.notes.Kind.{Kind}
 use Rattle.awari_block.specs.declared.notes.Kind.TheVariants.{Won, Lost}
-use Rattle.awari_owner.proofs.Basics.{unwon_at, count_by-one_less, count_by-same, count_by-none}
+use Rattle.awari_owner.proofs.Basics.{unwon_at, count_by-one_less, count_by-none}
 use Rattle.awari_owner.proofs.Legality.{quiet_counted}
 
 -- ---- a new note and the count of quiet moves
@@ -36,14 +36,6 @@ left_of-won p notes m q quiet unheard won =
 
     same : (a b : Bool) (x y : ℕ) (k : Kind) → y ≢ x → (a && not (((x == y) && is_won k) || b)) ≡ (a && not b)
     same a b x y k other = grind (arith, nat_tests)
-
--- a Lost note leaves the count
-left_of-lost : (p : List ℕ) (notes : List Note) (m : Note) → m.kind ≡ Lost → left_of p (m ∷ notes) ≡ left_of p notes
-left_of-lost p notes m lost =
-    count_by-same (is_left p notes) (is_left p (m ∷ notes)) (λ y. same (is_legal p y && (captured p y == 0)) (is_won_at notes y) m.pit y m.kind lost) pits
-  where
-    same : (a b : Bool) (x y : ℕ) (k : Kind) → k ≡ Lost → (a && not (((x == y) && is_won k) || b)) ≡ (a && not b)
-    same a b x y k e = subst (λ j. (a && not (((x == y) && is_won j) || b)) ≡ (a && not b)) (sym e) (grind (arith, nat_tests))
 
 -- a quiet move that was not heard is still left
 left_of-unheard : (p : List ℕ) (notes : List Note) (x : ℕ) (q : List ℕ) → IsQuietMove p x q → is_heard_at notes x ≡ false → left_of p notes ≡ 0 → ⊥
@@ -128,9 +120,6 @@ pub record IsNew (p : List ℕ) (notes : List Note) (t w : ℕ) (m : Note) : Typ
   pub unheard : is_heard_at notes m.pit ≡ false
   pub gained : m.gain ≡ t
   pub waved : m.dist ≡ w
-
-going_on : (p : List ℕ) (x : ℕ) (q : List ℕ) → IsQuietMove p x q → IsEnded p → ⊥
-going_on p x q quiet ended = ended x quiet.legal
 
 -- an open board that hears of a lost one
 open_lost : (value : List ℕ → ℤ) (p : List ℕ) (notes : List Note) (t : ℕ) (m : Note) → 1 ≤ t → m.kind ≡ Lost → m.gain ≡ t

@@ -57,14 +57,3 @@ opening_tally value cell p notes t w one tally = record {
   heard = tally.heard;
   status = opening_status value p notes t one tally.opened cell.status tally.status;
 }
-
--- a distance is opened
-pub wave_tally : (value : List ℕ → ℤ) (cell : Cell) (p : List ℕ) (notes : List Note) (t w d : ℕ) → w ≤ d → IsTally value cell p notes t w → IsTally value cell p notes t d
-wave_tally value cell p notes t w d h tally = record {
-  once = tally.once;
-  quiet = tally.quiet;
-  opened = tally.opened;
-  waved = λ k has e. let g = tally.waved k has e in omega arith;
-  heard = tally.heard;
-  status = tally.status;
-}

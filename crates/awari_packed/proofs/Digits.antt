@@ -116,14 +116,6 @@ IsPacking-from_IsPackOf {n} {b} is = record {
   few = omega (arith, ap sum (pits-from_IsPackOf is), is.few);
 }
 
-pub IsPackOf-from_IsPacking : {n : ℕ} → IsPacking n → IsPackOf n (pits_of n)
-unfolding pits_of
-IsPackOf-from_IsPacking {n} is = record {
-  long = length-unpacked 12 n;
-  few = is.few;
-  number = sym (packed-pits_of n is.top);
-}
-
 pub long-pits_of : (n : ℕ) → length (pits_of n) ≡ 12
 unfolding pits_of
 long-pits_of n = length-unpacked 12 n

@@ -14,9 +14,6 @@ use Rattle.awari_packed.proofs.Digits.{placed, long-pits_of, packed-plus}
 sum-emptied : (b : List ℕ) (i : ℕ) → i < length b → sum (set b i 0) + get_or b i 0 ≡ sum b
 sum-emptied b i here = grind (arith, common_steps)
 
-pub pit_few : (n i : ℕ) → i < 12 → IsPacking n → get_or (pits_of n) i 0 ≤ 24
-pit_few n i here is = omega (arith, sum-emptied (pits_of n) i (omega (arith, long-pits_of n)), is.few)
-
 pub without_fits : (n i s w : ℕ) → IsPacking n → i < 12 → s ≡ get_or (pits_of n) i 0 → w ≡ s → w * 2 ^ (55 - 5 * i) % 18446744073709551616 ≤ n
 without_fits n i s w is here stones same =
     omega (arith, placed n i here is, is.top, ap (λ m. m * 2 ^ (55 - 5 * i)) (same ∙ stones))

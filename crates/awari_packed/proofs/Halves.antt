@@ -44,9 +44,6 @@ halves n is =
       high_fits = fits_high;
     }
 
-pub turned_fits : (n : ℕ) → IsPacking n → n % 1073741824 * 1073741824 % 18446744073709551616 + n / 1073741824 < 18446744073709551616
-turned_fits n is = let h = halves n is in omega (arith, h.high, h.low, h.low_fits, h.high_fits)
-
 pub turned_is : (n : ℕ) → IsPacking n → IsPackOf (n % 1073741824 * 1073741824 % 18446744073709551616 + n / 1073741824) (turned (pits_of n))
 turned_is n is =
     let h = halves n is in

@@ -11,7 +11,7 @@ use Rattle.awari_lines.specs.declared.lines.Ends.{Ends}
 use Rattle.awari_lines.specs.declared.lines.Line.{Line}
 use Rattle.awari_phase.specs.declared.owners.Owner.{Owner}
 use Rattle.awari_phase.specs.Sound.{Batches, queue_to, HoldsNotes, IsOpenBatch, IsOtherOf}
-use Rattle.awari_phase.specs.Owners.{AreFinished, AreIdle, IsScanned, IsSound, all_ends, ends_of, given_to, items_of}
+use Rattle.awari_phase.specs.Owners.{AreFinished, IsScanned, IsSound, all_ends, ends_of, given_to, items_of}
 use Rattle.awari_phase.proofs.Grown.{ends_at}
 
 -- these are the owners of these ends, as they are scanned
@@ -20,9 +20,6 @@ pub record ScannedTo (value : List ℕ → ℤ) (n owners : ℕ) (es : List Ends
   pub each : All (λ (o : Owner). IsScanned value n owners o.ends o) os
 
 module _ (value : List ℕ → ℤ) (n owners : ℕ) where
-  pub scanned_none : ScannedTo value n owners [] []
-  scanned_none = record { ends = refl; each = All-nil (λ (o : Owner). IsScanned value n owners o.ends o) }
-
   pub scanned_more : (es : List Ends) (os : List Owner) (e : Ends) (o : Owner) → ScannedTo value n owners es os → IsScanned value n owners e o → ScannedTo value n owners (es ++ e ∷ []) (os ++ o ∷ [])
   scanned_more es os e o s more = record {
     ends = map-append ends_of os (o ∷ []) ∙ (ap (λ l. l ++ o.ends ∷ []) s.ends ∙ ap (λ (u : Ends). es ++ u ∷ []) more.ends);
@@ -78,6 +75,3 @@ finished_scanned value n owners es os first count g unused s =
       gain = λ i d h. (s.each i d h).scan.gain ∙ sym (s.each 0 d one).scan.gain;
       wave = λ i d h. (s.each i d h).scan.wave ∙ sym (s.each 0 d one).scan.wave;
     }
-
-pub idle_scanned : (value : List ℕ → ℤ) (n owners : ℕ) (es : List Ends) (os : List Owner) → ScannedTo value n owners es os → AreIdle os
-idle_scanned value n owners es os s i d h = (s.each i d h).scan.fresh

@@ -12,9 +12,6 @@ pub record DoneTo (R : Owner → Owner → Type 0) (os ps : List Owner) (i : ℕ
   pub after : (k : ℕ) (d : Owner) → i ≤ k → get_or ps k d ≡ get_or os k d
 
 module _ (R : Owner → Owner → Type 0) where
-  pub done_none : (os : List Owner) → DoneTo R os os 0
-  done_none os = record { many = refl; before = λ k d h. absurd (omega (arith, h)); after = λ k d h. refl }
-
   -- the owner at place i is x, and becomes a
   pub done_more : (os ps : List Owner) (i : ℕ) (x y a : Owner) → i < length ps → x ≡ get_or ps i y → DoneTo R os ps i → R x a → DoneTo R os (set ps i a) (i + 1)
   done_more os ps i x y a inside at s r = record {

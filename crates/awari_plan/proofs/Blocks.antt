@@ -1,9 +1,7 @@
 -- The entries of blocks put one after another.
-use Rattle.std.proofs.Common.{◌≡◌, ℕ, ◌+◌, ◌-◌, ◌<◌, ◌≤◌, List, [], ◌∷◌, ◌++◌, length, get_or, Option, Some, None, ℤ, refl, sym, ap, ◌∙◌, subst, arith, inl, inr, length-append, sum, take, drop, zero, suc, add-one}
-use Rattle.std.proofs.Math.ListN.{get_or-append}
-use Rattle.std.proofs.Math.Seq.{get_or-append_seam, drop-cons}
+use Rattle.std.proofs.Common.{◌≡◌, ℕ, ◌+◌, ◌-◌, ◌<◌, ◌≤◌, List, [], ◌∷◌, ◌++◌, length, get_or, Option, Some, None, ℤ, sym, ap, ◌∙◌, subst, arith, sum, take, drop, zero, suc, add-one}
+use Rattle.std.proofs.Math.Seq.{drop-cons}
 use Rattle.std.proofs.lemmas.List.{take_more, take_all, drop_all}
-use Rattle.std.proofs.lemmas.Bool.{cases_lt}
 use Rattle.awari_block.specs.Part.{Part, InBlock, settled_at, settled_by}
 use Rattle.awari_table.specs.declared.images.Entry.{Entry}
 use Rattle.awari_table.specs.Images.{no_entry}
@@ -14,23 +12,6 @@ use Rattle.awari_block.specs.Tally.{Cell}
 use Rattle.awari_owner.proofs.Levels.{blocks_in_order, holds, known_there}
 use Rattle.awari_plan.specs.Finished.{HasSettled, HasAllSettled}
 use Rattle.awari_plan.specs.Planning.{PushesBlock, PutsBlock, SameSettled}
-
-pub pushes_none : (part : Part) (old : List Entry) → PushesBlock part old old 0
-pushes_none part old = record { size = omega arith; before = λ k inside. refl; settled = λ k below. absurd (omega (arith, below)) }
-
-pub pushes_more : (part : Part) (old now : List Entry) (count : ℕ) (e : Entry) → PushesBlock part old now count → HasSettled (settled_at part (part.start + count)) e → PushesBlock part old (now ++ e ∷ []) (count + 1)
-pushes_more part old now count e before has = record {
-  size = let more = length-append now (e ∷ []) in omega (arith, before.size, more);
-  before = λ k inside. get_or-append now (e ∷ []) no_entry k (omega (arith, inside, before.size)) ∙ before.before k inside;
-  settled = λ k below. elim (cases_lt k count) [
-    | inl lt ↦ subst (HasSettled (settled_at part (part.start + k))) (sym (get_or-append now (e ∷ []) no_entry (length old + k) (omega (arith, lt, before.size)))) (before.settled k lt)
-    | inr ge ↦
-        let last : k ≡ count = omega arith in
-        let place : length old + k ≡ length now = omega (arith, last, before.size) in
-        let put : get_or (now ++ e ∷ []) (length old + k) no_entry ≡ e = ap (λ n. get_or (now ++ e ∷ []) n no_entry) place ∙ get_or-append_seam now e [] no_entry in
-        subst (HasSettled (settled_at part (part.start + k))) (sym put) (subst (λ n. HasSettled (settled_at part (part.start + n)) e) (sym last) has)
-  ];
-}
 
 -- each of these blocks ends at a rank that is not above this
 abbrev pub AllBelow : List Part → ℕ → Type 0

@@ -45,17 +45,6 @@ pub record IsUnderWay (t : Table) (levels limit : ℕ) (board : List ℕ) (seen 
   pub second : Follows t.plan false (start board) moves
   pub no_sooner : NoSooner limit board moves
 
-pub under_way-none : (t : Table) (levels limit : ℕ) (board : List ℕ) (seen : Standing) → Shows seen board [] → sum board < levels → IsUnderWay t levels limit board seen []
-under_way-none t levels limit board seen shows low =
-    let here : seen.board ≡ board = shows.shown.board ∙ ap (λ (s : Standing). s.board) shows.play in
-    record {
-      shows = shows;
-      known = subst (λ b. sum b < levels) (sym here) low;
-      first = tt;
-      second = tt;
-      no_sooner = λ n s o below play out. absurd (omega (arith, below));
-    }
-
 -- nothing that is seen so has an outcome
 abbrev pub HasNone : ℕ → Standing → Type 0
 HasNone limit seen = (s : Standing) (o : ℤ) → IsShown seen s → IsOutcome limit s o → ⊥

@@ -188,9 +188,6 @@ module _ (t : Table) (p : List ℕ) where
     ];
   }
 
-  pub below_none : IsBelowTo 0 t p
-  below_none = record { won = λ up x c q move gain. omega arith; lost = λ down. inl (omega arith) }
-
   -- a distance that is beyond the near ones doesn't fall below them
   pub stays_beyond : (near k : ℕ) → IsBelowTo near t p → near < t.dist p → IsByMoves t p k → k < t.dist p → near ≤ k
   stays_beyond near k b far by less = elim (sign_cases (t.value p)) [

@@ -48,18 +48,12 @@ IsNoFarther new old = (new.value ≡ old.value) × (new.dist ≤ old.dist)
 nearer_entries : (shelf : List Image) (a b : Image) → NoFarther a.entries b.entries → (p : List ℕ) → IsNoFarther (entry_of (shelf ++ b ∷ []) p) (entry_of (shelf ++ a ∷ []) p)
 nearer_entries shelf a b nearer = related IsNoFarther (λ e. (refl, omega arith)) shelf a b (λ k. (nearer.value k, nearer.dist k))
 
-pub no_farther-none : (entries : List Entry) → NoFarther entries entries
-no_farther-none entries = record { size = refl; value = λ k. refl; dist = λ k. omega arith }
-
 pub no_farther-then : (a b c : List Entry) → NoFarther a b → NoFarther b c → NoFarther a c
 no_farther-then a b c first then_ = record {
   size = then_.size ∙ first.size;
   value = λ k. then_.value k ∙ first.value k;
   dist = λ k. let near = first.dist k in let nearer = then_.dist k in omega (arith, near, nearer);
 }
-
-pub no_farther-planned : (a b : List Entry) → SameSettled a b → NoFarther a b
-no_farther-planned a b same = record { size = same.size; value = same.value; dist = λ k. omega (arith, same.dist k) }
 
 -- ---- one distance is lowered
 
@@ -78,15 +72,6 @@ pub record IsLowering (shelf : List Image) (old now : List Entry) (near rank : �
   pub below : AreBelowTo near shelf now
   pub done : (p : List ℕ) → IsBoard p → sum p ≡ length shelf → rank_of p < rank → IsBelowTo (near + 1) (table_of (topped shelf now)) p
   pub fell : FellBelow shelf old now rank some
-
-pub lowering-none : (shelf : List Image) (old : List Entry) (near : ℕ) → AreAbove shelf old → AreBelowTo near shelf old → IsLowering shelf old old near 0 false
-lowering-none shelf old near above below = record {
-  nearer = no_farther-none old;
-  above = above;
-  below = below;
-  done = λ p is stones low. absurd (omega (arith, low));
-  fell = (refl, λ p is stones low. absurd (omega (arith, low)));
-}
 
 no_more_plies : (shelf : List Image) (old now : List Entry) (rank : ℕ) (fell : Bool) → FellBelow shelf old now rank fell → all_plies now ≤ all_plies old
 no_more_plies shelf old now rank true h = omega (arith, h)

@@ -28,9 +28,6 @@ plies_some c dist = grind (arith, nat_tests)
 pub plies_taken : (c dist : ℕ) → 0 < c → plies c dist ≡ 1
 plies_taken c dist some = grind (arith, nat_tests)
 
-pub plies_quiet : (c dist : ℕ) → c ≡ 0 → plies c dist ≡ dist + 1
-plies_quiet c dist none = grind (arith, nat_tests)
-
 -- a move captures, or takes one ply more than the distance that it leads to
 pub plies_cases : (c dist : ℕ) → ((0 < c) × (plies c dist ≡ 1)) ⊎ ((c ≡ 0) × (plies c dist ≡ dist + 1))
 plies_cases zero dist = inr (refl, refl)

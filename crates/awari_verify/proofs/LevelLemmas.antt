@@ -23,10 +23,6 @@ Consistent-right asked levels image shaped right limited = record {
   limited = limited;
 }
 
--- no rank
-pub RightBetween-none : (asked : Distances) (t : Table) (level low : ℕ) → RightBetween asked t level low low
-RightBetween-none asked t level low = λ p b s ge lt. absurd (omega arith)
-
 -- one rank more
 pub RightBetween-more : (asked : Distances) (t : Table) (level low rank : ℕ) (board : List ℕ) → IsBoard board → sum board ≡ level → rank_of board ≡ rank → RightBetween asked t level low rank → IsRightBy asked t board → RightBetween asked t level low (rank + 1)
 RightBetween-more asked t level low rank board is stones ranked between right = λ p b s ge lt.

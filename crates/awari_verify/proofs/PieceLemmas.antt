@@ -1,12 +1,11 @@
 -- The pieces of a level put together.
-use Rattle.std.proofs.Common.{◌≡◌, ℕ, zero, suc, ◌+◌, ◌*◌, ◌<◌, ◌≤◌, List, [], ◌∷◌, length, get_or, inl, inr, refl, subst, ap, arith}
+use Rattle.std.proofs.Common.{◌≡◌, ℕ, zero, suc, ◌+◌, ◌<◌, ◌≤◌, List, [], ◌∷◌, length, get_or, inl, inr, refl, subst, ap, arith}
 use Rattle.std.specs.List.{AllZip, range_with_len}
 use Rattle.std.proofs.lemmas.Bool.{cases_lt}
 use Rattle.awari_rank.specs.Rank.{rank_of}
 use Rattle.awari_table.specs.declared.rules.Distances.TheVariants.{Least}
 use Rattle.awari_table.specs.Certificate.{Table}
 use Rattle.awari_verify.specs.FirstFailure.{RightBetween, IsRefusal}
-use Rattle.awari_verify.specs.Pieces.{piece_start}
 use Rattle.awari_verify.specs.declared.rules.Rule.{Rule}
 
 -- right up to a rank, and from it on
@@ -26,10 +25,6 @@ IsRefusal-then t level low mid high end rank rule order within right r = record 
   ranked = r.ranked;
   breaks = r.breaks;
 }
-
--- the last piece ends with the last board
-pub last_start : (boards pieces : ℕ) → boards ≤ pieces * 4096 → piece_start boards pieces ≡ boards
-last_start boards pieces h = omega (arith, h)
 
 -- what holds of the numbers from `a` on and of the items of a list, in turn
 module _ {B : Type 0} (R : ℕ → B → Type 0) where

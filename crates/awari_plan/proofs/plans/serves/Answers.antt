@@ -1,6 +1,5 @@
 use Rattle.std.proofs.Common.{◌≡◌, ◌<◌, ap, sym, subst, arith, sum, length, get_or, [], ◌∷◌, ◌∙◌}
 use Rattle.awari_board.specs.Rules.{IsMove}
-use Rattle.awari_table.specs.declared.images.Entry.{Entry}
 use Rattle.awari_table.specs.declared.images.Image.{Image}
 use Rattle.awari_table.specs.Images.{entry_of, no_entry, table_of}
 use Rattle.awari_table.proofs.EntryLemmas.{entry_of-append, entry_of-rank}

@@ -1,4 +1,3 @@
-use Rattle.std.proofs.Common.{ap}
 use Rattle.awari_plan.proofs.worths.worth_of.Goals as goal
 
 pub returns : goal.returns
