@@ -3,19 +3,13 @@ use Rattle.std.specs.Prelude.{◌≡◌, ℕ, ◌+◌, ◌/◌, ◌%◌, ◌<◌
 use Rattle.std.specs.Fmt.{decimal}
 use Rattle.std.specs.List.{flat_map}
 use Rattle.std.specs.Io.KnownBytes.{Appends}
-use Rattle.awari_board.specs.BoardFault.{fault_text as board_fault_text}
-use Rattle.awari_board.specs.Rules.{IsBoard}
-use Rattle.awari_board.specs.Text.{text_of}
-use Rattle.awari_folder.specs.FolderFault.{fault_text as folder_fault_text}
 use Rattle.awari_table.specs.Images.{entry_of}
-use Rattle.awari_table.specs.NotYet.{fault_text as not_yet_text}
 use Rattle.awari_table.specs.Spelling.{entry_line}
 use Rattle.awari_table.specs.Shelves.{IsShelf}
 use Rattle.awari_table.specs.declared.images.Entry.{Entry}
 use Rattle.awari_table.specs.declared.images.Image.{Image}
 use Rattle.awari_folder.specs.Contents.{IsStoredIn}
-use Rattle.awari_answers.specs.declared.folders.LookUpFault.{LookUpFault}
-use Rattle.awari_answers.specs.declared.folders.LookUpFault.TheVariants.{Board, Folder, NotYet}
+use Rattle.awari_answers.specs.Asked.{IsAsked}
 use Rattle.awari_answers.specs.declared.folders.RightLevel.{RightLevel}
 use Rattle.awari_answers.specs.declared.folders.Summary.{Summary}
 
@@ -45,17 +39,10 @@ abbrev pub PrintsFolder : (ℕ → Option (Option (List ℕ))) → Option (List 
 PrintsFolder stands before after = (images : List Image) × (summary : Summary) × IsShelf images × (summary.levels ≡ length images)
     × IsStoredIn stands images summary.digest × Appends before after (right_lines images ++ (summary_text summary ++ 10 ∷ []))
 
--- what right levels say of the board that the text spells: those that the folder stores, where it is known what its names have
+-- what the levels in the folder say of the board that the text spells
 abbrev pub IsEntryOf : (ℕ → Option (Option (List ℕ))) → List ℕ → Entry → Type 0
-IsEntryOf stands text e = (images : List Image) × (digest board : List ℕ) × IsShelf images × IsStoredIn stands images digest × IsBoard board × (sum board < length images)
-    × (text ≡ text_of board) × (e ≡ entry_of images board)
+IsEntryOf stands text e = (images : List Image) × (board : List ℕ) × IsAsked stands text images board × (sum board < length images) × (e ≡ entry_of images board)
 
 -- Where it is known what the writer holds, what was written is the line of such an entry.
 abbrev pub PrintsEntry : (ℕ → Option (Option (List ℕ))) → List ℕ → Option (List ℕ) → Option (List ℕ) → Type 0
 PrintsEntry stands text before after = (e : Entry) × IsEntryOf stands text e × Appends before after (entry_line e)
-
--- the fault inside it
-abbrev pub look_up_fault_text : LookUpFault → List ℕ
-look_up_fault_text (Board fault) = board_fault_text fault
-look_up_fault_text (Folder fault) = folder_fault_text fault
-look_up_fault_text (NotYet fault) = not_yet_text fault

@@ -1,3 +1,4 @@
+pub mod Asked
 pub mod Playing
 pub mod Judgement
 pub mod Folders

@@ -3,31 +3,18 @@ use Rattle.std.specs.Prelude.{◌≡◌, ℕ, ◌<◌, List, ◌++◌, ◌∷◌
 use Rattle.std.specs.Fmt.{decimal, signed_decimal}
 use Rattle.std.specs.List.{flat_map}
 use Rattle.std.specs.Io.KnownBytes.{Appends}
-use Rattle.awari_board.specs.BoardFault.{fault_text as board_fault_text}
-use Rattle.awari_board.specs.Rules.{IsBoard}
-use Rattle.awari_board.specs.Text.{text_of}
-use Rattle.awari_folder.specs.FolderFault.{fault_text as folder_fault_text}
 use Rattle.awari_plan.specs.BestLine.{IsBestLine}
-use Rattle.awari_plan.specs.LineFault.{fault_text as line_fault_text}
 use Rattle.awari_table.specs.Images.{entry_of, greatest_limit, table_of}
-use Rattle.awari_table.specs.Shelves.{IsShelf}
 use Rattle.awari_table.specs.declared.images.Image.{Image}
-use Rattle.awari_folder.specs.Contents.{IsStoredIn}
-use Rattle.awari_answers.specs.declared.lines.NoLine.{NoLine}
-use Rattle.awari_answers.specs.declared.lines.NoLine.TheVariants.{Board, Folder, Line}
+use Rattle.awari_answers.specs.Asked.{IsAsked}
 
--- Right levels say this value of the board that the text spells, and these moves are the play from it in which both sides follow
--- their plans, by their greatest limit, up to the first outcome: which is the value.
--- They are those that the folder stores, where it is known what its names have.
+-- The levels in the folder say this value of the board that the text spells, and these moves are the play from it in which both sides
+-- follow their plans, by their greatest limit, up to the first outcome: which is the value.
 pub record IsLineOf (stands : ℕ → Option (Option (List ℕ))) (text : List ℕ) (value : ℤ) (moves : List ℕ) (outcome : ℤ) : Type 0 where
   pub images : List Image
-  pub digest : List ℕ
   pub board : List ℕ
-  pub stored : IsStoredIn stands images digest
-  pub right : IsShelf images
-  pub whole : IsBoard board
+  pub asked : IsAsked stands text images board
   pub known : sum board < length images
-  pub spelled : text ≡ text_of board
   pub valued : value ≡ (entry_of images board).value
   pub line : IsBestLine (table_of images) (greatest_limit images) board moves outcome
   pub comes : outcome ≡ value
@@ -43,9 +30,3 @@ line_text value moves outcome = codes "value " ++ signed_decimal value ++ codes 
 abbrev pub PrintsLine : (ℕ → Option (Option (List ℕ))) → List ℕ → Option (List ℕ) → Option (List ℕ) → Type 0
 PrintsLine stands text before after = (value : ℤ) × (moves : List ℕ) × (outcome : ℤ) × IsLineOf stands text value moves outcome
     × Appends before after (line_text value moves outcome ++ 10 ∷ [])
-
--- the fault inside it
-abbrev pub no_line_text : NoLine → List ℕ
-no_line_text (Board fault) = board_fault_text fault
-no_line_text (Folder fault) = folder_fault_text fault
-no_line_text (Line fault) = line_fault_text fault

@@ -7,13 +7,13 @@ ghost use Rattle.awari_board.specs.declared.text.BoardFault.{BoardFault};
 ghost use Rattle.awari_table.specs.Shelves.{IsShelf};
 ghost use Rattle.awari_folder.specs.Contents.{Same};
 ghost use Rattle.awari_answers.specs.Folders.{IsEntryOf, PrintsFolder, PrintsEntry, digest_text, hex_digit, right_lines};
-ghost use Rattle.awari_answers.specs.declared.folders.LookUpFault.TheVariants as look_up;
+ghost use Rattle.awari_answers.specs.declared.asked.NoAnswer.TheVariants as no_answer;
 
+use crate::asked::{NoAnswer, ask_folder};
 use crate::printing::{print, print_bytes, refuse, status_of};
 use arrayvec::ArrayString;
-use awari_board::{Board, BoardFault, one_board_fault_is_due};
-use awari_folder::{Folder, FolderFault, load_parallel};
-use awari_table::{Entry, NotYet, Shelf, line_of_entry};
+use awari_folder::{Folder, load_parallel};
+use awari_table::{Entry, Shelf, line_of_entry};
 use std::alloc::Global;
 use std::fmt;
 use std::io::Write;
@@ -79,75 +79,19 @@ fn hex_digit(value: u8) -> char
     })
 }
 
-/// Why a folder gives no entry of a board. Printed, it is the fault inside it.
-#[derive(Clone, Copy)]
-pub(crate) enum LookUpFault {
-    /// The text is no board.
-    Board { fault: BoardFault },
-    /// The folder is not loaded.
-    Folder { fault: FolderFault },
-    /// 59: the folder has only so many levels, and the board has at least as many stones.
-    NotYet { fault: NotYet },
-}
-
-impl From<BoardFault> for LookUpFault {
-    ghost from_gives = { λ fault e. e ≡ look_up.Board fault };
-
-    fn from(fault: BoardFault) -> Self {
-        LookUpFault::Board { fault }
-    }
-}
-
-impl From<FolderFault> for LookUpFault {
-    ghost from_gives = { λ fault e. e ≡ look_up.Folder fault };
-
-    fn from(fault: FolderFault) -> Self {
-        LookUpFault::Folder { fault }
-    }
-}
-
-impl From<NotYet> for LookUpFault {
-    ghost from_gives = { λ fault e. e ≡ look_up.NotYet fault };
-
-    fn from(fault: NotYet) -> Self {
-        LookUpFault::NotYet { fault }
-    }
-}
-
-impl fmt::Display for LookUpFault {
-    ghost use Rattle.std.specs.Prelude.{Some};
-    ghost use Rattle.awari_answers.specs.Folders.{look_up_fault_text};
-
-    ghost output = { λ fault. Some (look_up_fault_text fault) };
-
-    fn fmt<W: fmt::Write>(&self, f: &mut fmt::Formatter<W>) -> fmt::Result {
-        match *self {
-            LookUpFault::Board { fault } => write!(f, "{fault}"),
-            LookUpFault::Folder { fault } => write!(f, "{fault}"),
-            LookUpFault::NotYet { fault } => write!(f, "{fault}"),
-        }
-    }
-}
-
-/// The entry of the board that `text` spells, as the levels in the folder have it. The text is read
-/// before the folder is: where it is no board it is refused for that, whatever the folder holds.
+/// The entry of the board that `text` spells, as the levels in the folder have it.
 fn look_up<T: Threads + Sync, F: Folder>(
     rt: &T,
     folder: &mut F,
     alloc: Global,
     text: &[u8],
-) -> Result<Entry, LookUpFault>
+) -> Result<Entry, NoAnswer>
     ensures entry { IfOk result (IsEntryOf (F.stands folder.old) text.now) }
     ensures same { Same (F.stands folder.old) (F.stands folder.new) }
-    ensures board { (fault : BoardFault) → (result ≡ Err (look_up.Board fault)) ↔ IsFaulty text.now fault }
+    ensures board { (fault : BoardFault) → (result ≡ Err (no_answer.Board fault)) ↔ IsFaulty text.now fault }
 {
-    // That a text has one fault at most is what this call tells the proof.
-    one_board_fault_is_due();
-    let board = Board::parse(text)?;
-    let shelf = load_parallel(rt, folder, alloc)?.shelf;
-    // That the levels are a shelf is what this call tells the proof.
-    let _levels = shelf.levels();
-    Ok(shelf.entry(&board)?)
+    let asked = ask_folder(rt, folder, alloc, text)?;
+    Ok(asked.shelf.entry(&asked.board)?)
 }
 
 /// Prints the entry of a board, or the refusal.

@@ -12,6 +12,7 @@
 //!     }
 #![tactic(auto)]
 
+mod asked;
 mod folders;
 mod judgements;
 mod lines;

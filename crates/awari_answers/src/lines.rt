@@ -5,12 +5,12 @@ ghost use Rattle.awari_board.specs.BoardFault.{IsFaulty};
 ghost use Rattle.awari_board.specs.declared.text.BoardFault.{BoardFault};
 ghost use Rattle.awari_folder.specs.Contents.{Same};
 ghost use Rattle.awari_answers.specs.Lines.{IsLineOf, PrintsLine};
-ghost use Rattle.awari_answers.specs.declared.lines.NoLine.TheVariants as no_line;
+ghost use Rattle.awari_answers.specs.declared.asked.NoAnswer.TheVariants as no_answer;
 
+use crate::asked::{Asked, NoAnswer, ask_folder};
 use crate::printing::{print, refuse, status_of};
-use awari_board::{Board, BoardFault, one_board_fault_is_due};
-use awari_folder::{Folder, FolderFault, load_parallel};
-use awari_plan::{Line, LineFault, best_line};
+use awari_folder::Folder;
+use awari_plan::{Line, best_line};
 use awari_table::Entry;
 use std::alloc::Global;
 use std::fmt;
@@ -57,73 +57,19 @@ impl fmt::Display for Moves<'_> {
     }
 }
 
-/// Why there is no line of a board. Printed, it is the fault inside it.
-#[derive(Clone, Copy)]
-enum NoLine {
-    /// The text is no board.
-    Board { fault: BoardFault },
-    /// The folder is not loaded.
-    Folder { fault: FolderFault },
-    /// The levels have no line, or there is no room for it.
-    Line { fault: LineFault },
-}
-
-impl From<BoardFault> for NoLine {
-    ghost from_gives = { λ fault e. e ≡ no_line.Board fault };
-
-    fn from(fault: BoardFault) -> Self {
-        NoLine::Board { fault }
-    }
-}
-
-impl From<FolderFault> for NoLine {
-    ghost from_gives = { λ fault e. e ≡ no_line.Folder fault };
-
-    fn from(fault: FolderFault) -> Self {
-        NoLine::Folder { fault }
-    }
-}
-
-impl From<LineFault> for NoLine {
-    ghost from_gives = { λ fault e. e ≡ no_line.Line fault };
-
-    fn from(fault: LineFault) -> Self {
-        NoLine::Line { fault }
-    }
-}
-
-impl fmt::Display for NoLine {
-    ghost use Rattle.std.specs.Prelude.{Some};
-    ghost use Rattle.awari_answers.specs.Lines.{no_line_text};
-
-    ghost output = { λ fault. Some (no_line_text fault) };
-
-    fn fmt<W: fmt::Write>(&self, f: &mut fmt::Formatter<W>) -> fmt::Result {
-        match *self {
-            NoLine::Board { fault } => write!(f, "{fault}"),
-            NoLine::Folder { fault } => write!(f, "{fault}"),
-            NoLine::Line { fault } => write!(f, "{fault}"),
-        }
-    }
-}
-
 /// The line of play from the board that `text` spells, by the plans of the levels in the folder and
-/// their limit. The text is read before the folder is: where it is no board it is refused for that,
-/// whatever the folder holds.
+/// their limit.
 fn line_of<T: Threads + Sync, F: Folder>(
     rt: &T,
     folder: &mut F,
     alloc: Global,
     text: &[u8],
-) -> Result<ValuedLine, NoLine>
+) -> Result<ValuedLine, NoAnswer>
     ensures same { Same (F.stands folder.old) (F.stands folder.new) }
     ensures line { IfOk result (λ found. IsLineOf (F.stands folder.old) text.now found.entry.value found.line.moves.items found.line.outcome) }
-    ensures board { (fault : BoardFault) → (result ≡ Err (no_line.Board fault)) ↔ IsFaulty text.now fault }
+    ensures board { (fault : BoardFault) → (result ≡ Err (no_answer.Board fault)) ↔ IsFaulty text.now fault }
 {
-    // That a text has one fault at most is what this call tells the proof.
-    one_board_fault_is_due();
-    let board = Board::parse(text)?;
-    let shelf = load_parallel(rt, folder, alloc)?.shelf;
+    let Asked { board, shelf } = ask_folder(rt, folder, alloc, text)?;
     let line = best_line(alloc, &shelf, board, shelf.limit())?;
     match shelf.entry(&board) {
         Ok(entry) => Ok(ValuedLine { entry, line }),

@@ -5,37 +5,29 @@ ghost use Rattle.awari_board.specs.BoardFault.{IsFaulty};
 ghost use Rattle.awari_board.specs.declared.text.BoardFault.{BoardFault};
 ghost use Rattle.awari_folder.specs.Contents.{Same};
 ghost use Rattle.awari_answers.specs.Worths.{IsWeighedIn, PrintsWorths};
-ghost use Rattle.awari_answers.specs.declared.folders.LookUpFault.TheVariants as look_up;
+ghost use Rattle.awari_answers.specs.declared.asked.NoAnswer.TheVariants as no_answer;
 
-use crate::folders::LookUpFault;
+use crate::asked::{NoAnswer, ask_folder};
 use crate::printing::{print_bytes, refuse, status_of};
-use awari_board::{Board, one_board_fault_is_due};
 use awari_desk::{Weighed, weigh};
-use awari_folder::{Folder, load_parallel};
+use awari_folder::Folder;
 use std::alloc::Global;
 use std::io::Write;
 use std::thread::Threads;
 
 /// What the board is worth that `text` spells, and each of its legal moves, by the levels in the folder.
-/// The text is read before the folder is: where it is no board it is refused for that, whatever the
-/// folder holds.
 fn weigh_in<T: Threads + Sync, F: Folder>(
     rt: &T,
     folder: &mut F,
     alloc: Global,
     text: &[u8],
-) -> Result<Weighed, LookUpFault>
+) -> Result<Weighed, NoAnswer>
     ensures weighed { IfOk result (IsWeighedIn (F.stands folder.old) text.now) }
     ensures same { Same (F.stands folder.old) (F.stands folder.new) }
-    ensures board { (fault : BoardFault) → (result ≡ Err (look_up.Board fault)) ↔ IsFaulty text.now fault }
+    ensures board { (fault : BoardFault) → (result ≡ Err (no_answer.Board fault)) ↔ IsFaulty text.now fault }
 {
-    // That a text has one fault at most is what this call tells the proof.
-    one_board_fault_is_due();
-    let board = Board::parse(text)?;
-    let shelf = load_parallel(rt, folder, alloc)?.shelf;
-    // That the levels are a shelf is what this call tells the proof.
-    let _levels = shelf.levels();
-    Ok(weigh(&shelf, &board)?)
+    let asked = ask_folder(rt, folder, alloc, text)?;
+    Ok(weigh(&asked.shelf, &asked.board)?)
 }
 
 /// Prints what each legal move of a board is worth, a line each, or that the play has ended there, or

@@ -48,9 +48,7 @@ fn send<W: Write>(output: &mut Counted<W>, bytes: &[u8]) -> Result<(), ServeFaul
     ensures clean { OnOk result (faults_of output.new ≡ faults_of output.old) }
     ensures fault { OnErr result ((result ≡ Err serve_fault.Write) × Grew (faults_of output.old) (faults_of output.new)) }
 {
-    if let Err(fault) = put(output, bytes) {
-        return Err(fault);
-    }
+    put(output, bytes)?;
     match output.flush() {
         Ok(()) => Ok(()),
         Err(_) => Err(ServeFault::Write),
@@ -69,10 +67,8 @@ fn respond<W: Write>(
     ensures fault { OnErr result ((result ≡ Err serve_fault.Write) × Grew (faults_of output.old) (faults_of output.new)) }
 {
     let answer = coming.answer(reader);
-    match send(output, answer.text().as_slice()) {
-        Ok(()) => Ok(matches!(answer, Answer::Bye)),
-        Err(fault) => Err(fault),
-    }
+    send(output, answer.text().as_slice())?;
+    Ok(matches!(answer, Answer::Bye))
 }
 
 /// Takes one byte, and says whether it ends the service.
@@ -92,13 +88,9 @@ fn take_byte<W: Write>(
         coming.push(byte);
         return Ok(false);
     }
-    match respond(reader, coming, output) {
-        Ok(quit) => {
-            *coming = Coming::new();
-            Ok(quit)
-        }
-        Err(fault) => Err(fault),
-    }
+    let quit = respond(reader, coming, output)?;
+    *coming = Coming::new();
+    Ok(quit)
 }
 
 /// Takes bytes until one ends the service, and says whether one did.
@@ -115,10 +107,8 @@ fn feed<W: Write>(
     ensures fault { OnErr result ((result ≡ Err serve_fault.Write) × Grew (faults_of output.old) (faults_of output.new)) }
 {
     for byte in bytes {
-        match take_byte(reader, coming, *byte, output) {
-            Ok(false) => {}
-            Ok(true) => return Ok(true),
-            Err(fault) => return Err(fault),
+        if take_byte(reader, coming, *byte, output)? {
+            return Ok(true);
         }
     }
     Ok(false)
@@ -139,10 +129,8 @@ fn finish<W: Write>(
     if coming.is_empty() {
         return Ok(());
     }
-    match respond(reader, coming, output) {
-        Ok(_) => Ok(()),
-        Err(fault) => Err(fault),
-    }
+    respond(reader, coming, output)?;
+    Ok(())
 }
 
 /// Asks the reader once for bytes, of which `left` more may come, and answers each line that ends
@@ -168,24 +156,20 @@ fn take_some<R: Read, W: Write>(
         Err(_) => return Err(ServeFault::Read),
     };
     if count == 0 {
-        return match finish(reader, coming, output) {
-            Ok(()) => Ok(None),
-            Err(fault) => Err(fault),
-        };
+        finish(reader, coming, output)?;
+        return Ok(None);
     }
     let came = &buffer[..count];
     if count <= left as usize {
-        return match feed(reader, coming, came, output) {
-            Ok(true) => Ok(None),
-            Ok(false) => Ok(Some(left - count as u32)),
-            Err(fault) => Err(fault),
-        };
+        if feed(reader, coming, came, output)? {
+            return Ok(None);
+        }
+        return Ok(Some(left - count as u32));
     }
-    match feed(reader, coming, &came[..left as usize], output) {
-        Ok(true) => Ok(None),
-        Ok(false) => Err(ServeFault::TooLong),
-        Err(fault) => Err(fault),
+    if feed(reader, coming, &came[..left as usize], output)? {
+        return Ok(None);
     }
+    Err(ServeFault::TooLong)
 }
 
 /// Answers the lines of the input, in order, until one says `quit` or the input ends. Each line whose
@@ -214,11 +198,8 @@ pub fn serve<R: Read, W: Write>(
 {
     let mut coming = Coming::new();
     let mut left = LONGEST_INPUT;
-    'input: loop {
-        match take_some(reader, &mut coming, left, input, output) {
-            Ok(Some(fewer)) => left = fewer,
-            Ok(None) => return Ok(()),
-            Err(fault) => return Err(fault),
-        }
+    while let Some(fewer) = take_some(reader, &mut coming, left, input, output)? {
+        left = fewer;
     }
+    Ok(())
 }

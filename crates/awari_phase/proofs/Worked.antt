@@ -200,9 +200,8 @@ together_finished value n os opened f = record {
   waits = none_waits os f.received;
 }
 
--- what a slice that stays sound together writes back
-pub written_together : (value : List ℕ → ℤ) (n : ℕ) (os now new : List Owner) (count : ℕ) → count ≡ length os → now ≡ os → length new ≡ length now → (AreTogether value n now → AreTogether value n new)
-    → AreTogether value n os → AreTogether value n (take count (new ++ drop (length new) os))
-written_together value n os now new count many is long keeps t =
+-- what a slice of as many owners writes back
+pub written_back : (os now new : List Owner) (count : ℕ) → count ≡ length os → now ≡ os → length new ≡ length now → take count (new ++ drop (length new) os) ≡ new
+written_back os now new count many is long =
     let same = ap length is in
-    subst (AreTogether value n) (sym (written new os count (omega (arith, long, same, many)) (sym many))) (keeps (subst (AreTogether value n) (sym is) t))
+    written new os count (omega (arith, long, same, many)) (sym many)

@@ -17,10 +17,7 @@ pub fn take_batch(part: &mut Part, batch: &Batch) -> Result<(), OwnerFault>
     ensures unspread { unspread part.new ≡ unspread part.old }
 {
     for note in batch.as_slice() {
-        match part.take(*note) {
-            Ok(()) => {}
-            Err(fault) => return Err(fault),
-        }
+        part.take(*note)?;
     }
     Ok(())
 }

@@ -89,7 +89,7 @@ pub fn gain_phase_with_progress<R: Threads + Wait + Sync, G: Gate + Sync, P: Pro
     let mut in_turn = false;
     for _ in rt.forever() {
         tell(progress, all.as_slice());
-        let Some(next) = look_ahead(&mut all, in_turn) else {
+        let Some(next) = look_ahead(all.as_mut_slice(), in_turn) else {
             return Ok(all);
         };
         in_turn = next;
@@ -100,21 +100,21 @@ pub fn gain_phase_with_progress<R: Threads + Wait + Sync, G: Gate + Sync, P: Pro
 
 /// Whether the next round is to be made in turn, after one that was or was not. Where nothing is left of
 /// the open distance, the least one that is due is opened; there is none where no board is fresh.
-fn look_ahead(owners: &mut Vec<Owner>, in_turn: bool) -> Option<bool>
-    requires { IsGrid (all_ends owners.old.items) }
-    ensures grown { AllGrown owners.old.items owners.new.items }
-    ensures together { (value : List ℕ → ℤ) (n : ℕ) → AreTogether value n owners.old.items → AreTogether value n owners.new.items }
-    ensures idle { IsNone result → AreIdle owners.new.items }
-    ensures sent { IsNone result → AreSent owners.new.items }
-    ensures received { IsNone result → AreReceived owners.new.items }
+fn look_ahead(owners: &mut [Owner], in_turn: bool) -> Option<bool>
+    requires { IsGrid (all_ends owners.old) }
+    ensures grown { AllGrown owners.old owners.new }
+    ensures together { (value : List ℕ → ℤ) (n : ℕ) → AreTogether value n owners.old → AreTogether value n owners.new }
+    ensures idle { IsNone result → AreIdle owners.new }
+    ensures sent { IsNone result → AreSent owners.new }
+    ensures received { IsNone result → AreReceived owners.new }
 {
     match look(owners) {
         Standing::Busy => Some(!in_turn),
         Standing::Waiting => Some(true),
         Standing::Done => {
-            let dist = least_due(owners.as_slice())?;
-            begin(owners, dist);
-            Some(fresh_boards(owners.as_slice()) < MANY_BOARDS)
+            let dist = least_due(owners)?;
+            open_waves(owners, dist);
+            Some(fresh_boards(owners) < MANY_BOARDS)
         }
     }
 }
@@ -167,18 +167,7 @@ fn settled_boards(owners: &[Owner]) -> usize {
 }
 
 /// Looks at all owners and at every line.
-fn look(owners: &mut Vec<Owner>) -> Standing
-    requires { IsGrid (all_ends owners.old.items) }
-    ensures grown { AllGrown owners.old.items owners.new.items }
-    ensures together { (value : List ℕ → ℤ) (n : ℕ) → AreTogether value n owners.old.items → AreTogether value n owners.new.items }
-    ensures sent { result ≡ Standing.Done → AreSent owners.new.items }
-    ensures received { result ≡ Standing.Done → AreReceived owners.new.items }
-{
-    look_at(owners.as_mut_slice())
-}
-
-/// Looks at all owners and at every line.
-fn look_at(owners: &mut [Owner]) -> Standing
+fn look(owners: &mut [Owner]) -> Standing
     requires { IsGrid (all_ends owners.old) }
     ensures grown { AllGrown owners.old owners.new }
     ensures together { (value : List ℕ → ℤ) (n : ℕ) → AreTogether value n owners.old → AreTogether value n owners.new }
@@ -233,16 +222,4 @@ fn nearer(least: Option<u32>, owner: &Owner) -> Option<u32>
         (Some(a), None) => Some(a),
         (None, due) => due,
     }
-}
-
-/// Opens this distance in all parts.
-fn begin(owners: &mut Vec<Owner>, dist: u32)
-    requires grid { IsGrid (all_ends owners.old.items) }
-    requires sent { AreSent owners.old.items }
-    requires received { AreReceived owners.old.items }
-    requires nearest { (i : ℕ) (d : AnOwner) → i < length owners.old.items → All (λ f. dist ≤ due_dist f) (slice_index_or owners.old.items i d).part.fresh }
-    ensures grown { AllGrown owners.old.items owners.new.items }
-    ensures together { (value : List ℕ → ℤ) (n : ℕ) → AreTogether value n owners.old.items → AreTogether value n owners.new.items }
-{
-    open_waves(owners.as_mut_slice(), dist);
 }

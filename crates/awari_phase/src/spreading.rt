@@ -27,10 +27,5 @@ pub fn spread_one(part: &mut Part, outboxes: &mut Outboxes) -> Result<bool, Owne
 {
     moves_keep_boards();
     ranks_tell_boards_apart();
-    match part.spread_one(outboxes) {
-        Ok(true) => {}
-        Ok(false) => return Ok(false),
-        Err(fault) => return Err(fault),
-    }
-    Ok(true)
+    part.spread_one(outboxes)
 }

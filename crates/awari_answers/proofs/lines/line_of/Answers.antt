@@ -1,18 +1,14 @@
-use Rattle.std.proofs.Common.{rules, ◌∙◌, ap, sym, refl, arith, ◌+◌, sum}
+use Rattle.std.proofs.Common.{◌∙◌, ap, sym, refl, arith, ◌+◌, sum}
 use Rattle.awari_table.proofs.CertificateLemmas.{greatest_limit-take}
 use Rattle.awari_answers.proofs.lines.line_of.Goals as goal
 
 pub returns-clause-line : goal.returns-clause-line
 returns-clause-line g c = record {
-  images = c.in_ok-shelf.field-0.shelf;
-  digest = c.in_ok-shelf.field-0.digest;
-  board = c.in_ok-board.board;
-  stored = c.in_ok-shelf.ensures.exact;
-  right = search rules;
-  whole = search rules;
+  images = c.in_ok-board.field-0.shelf;
+  board = c.in_ok-board.field-0.board;
+  asked = c.in_ok-board.ensures.asked;
   known = c.in-Ok.ensures.known.0 refl;
-  spelled = search rules;
   valued = ap (λ e. e.value) c.in-Ok.ensures.entry;
   line = rw (sym c.limit.ensures) c.in_ok-line.ensures.line;
-  comes = c.in_ok-line.ensures.value (omega (arith, c.limit.ensures, greatest_limit-take c.in_ok-shelf.field-0.shelf (sum c.in_ok-board.board + 1))) ∙ sym (ap (λ e. e.value) c.in-Ok.ensures.entry);
+  comes = c.in_ok-line.ensures.value (omega (arith, c.limit.ensures, greatest_limit-take c.in_ok-board.field-0.shelf (sum c.in_ok-board.field-0.board + 1))) ∙ sym (ap (λ e. e.value) c.in-Ok.ensures.entry);
 }

@@ -1,4 +1,5 @@
 use Rattle.std.proofs.Common.{◌≡◌, ◌<◌, rules, arith, List, ℕ, length, take}
+use Rattle.std.proofs.lemmas.Result.{err_from_is_err_and}
 use Rattle.awari_table.specs.Counts.{inner_of}
 use Rattle.awari_desk.specs.Service.{HasServed, HasBegun}
 use Rattle.awari_desk.proofs.Serves.{some_input, begun, begun_here, nothing_in, quits_whole, breaks_whole, quits_in, breaks_in}
@@ -9,39 +10,42 @@ returns-in-Err-clause-moves g c first before taken s =
     let i = some_input (g.R.Read.remaining (inner_of c.args.input.now)) in
     (i.0, i.1, begun first before taken _ _ _ s i.0)
 
-pub returns-in-Ok-finish-clause-moves : goal.returns-in-Ok-finish-clause-moves
-returns-in-Ok-finish-clause-moves g c first before taken s =
+pub returns-in_err-finish-clause-moves : goal.returns-in_err-finish-clause-moves
+returns-in_err-finish-clause-moves g c first before taken s =
     let zero : c.in-Ok.count ≡ 0 = grind (arith, c.if-count-eq0.true) in
     let room : 0 < length c.read.new.buf = search rules in
     let (came, end) = c.in-Ok.ensures.bytes in
-    nothing_in (λ (l : List ℕ). HasServed first before l (g.W.Write.contents (inner_of c.finish.new.output)) c.finish.new.reader) _ _ taken c.read.new.buf c.in-Ok.count zero came (end zero room) (c.in-Ok-finish.ensures.ends first before taken s)
+    let p = err_from_is_err_and c.from_residual.result c.from_residual.ensures.1 in
+    rw p.1 (nothing_in (λ (l : List ℕ). HasBegun first before l (g.W.Write.contents (inner_of c.finish.new.output)) c.finish.new.reader) _ _ taken c.read.new.buf c.in-Ok.count zero came (end zero room) (c.in_err-finish.ensures.ends first before taken s))
 
-pub returns-in-Err-finish-clause-moves : goal.returns-in-Err-finish-clause-moves
-returns-in-Err-finish-clause-moves g c first before taken s =
+pub returns-then-count-eq0-clause-moves : goal.returns-then-count-eq0-clause-moves
+returns-then-count-eq0-clause-moves g c first before taken s =
     let zero : c.in-Ok.count ≡ 0 = grind (arith, c.if-count-eq0.true) in
     let room : 0 < length c.read.new.buf = search rules in
     let (came, end) = c.in-Ok.ensures.bytes in
-    nothing_in (λ (l : List ℕ). HasBegun first before l (g.W.Write.contents (inner_of c.finish.new.output)) c.finish.new.reader) _ _ taken c.read.new.buf c.in-Ok.count zero came (end zero room) (c.in-Err-finish.ensures.ends first before taken s)
+    nothing_in (λ (l : List ℕ). HasServed first before l (g.W.Write.contents (inner_of c.finish.new.output)) c.finish.new.reader) _ _ taken c.read.new.buf c.in-Ok.count zero came (end zero room) (c.in_ok-finish.ensures.ends first before taken s)
 
-pub returns-in-Ok-true-clause-moves : goal.returns-in-Ok-true-clause-moves
-returns-in-Ok-true-clause-moves g c first before taken s =
-    let f = c.in-Ok-true.ensures.feeds first before taken s in
-    quits_whole first before _ _ _ _ taken (take c.in-Ok.count c.read.new.buf) c.in-Ok.ensures.bytes.0 (f.0 c.in-Ok-true.field-0-test)
+pub returns-in_err-feed-clause-moves : goal.returns-in_err-feed-clause-moves
+returns-in_err-feed-clause-moves g c first before taken s =
+    let p = err_from_is_err_and c.from_residual-in_err-feed.result c.from_residual-in_err-feed.ensures.1 in
+    rw p.1 (breaks_whole first before _ _ _ _ taken (take c.in-Ok.count c.read.new.buf) c.in-Ok.ensures.bytes.0 (c.in_err-feed.ensures.feeds first before taken s))
 
-pub returns-in-Err-feed-clause-moves : goal.returns-in-Err-feed-clause-moves
-returns-in-Err-feed-clause-moves g c first before taken s =
-    breaks_whole first before _ _ _ _ taken (take c.in-Ok.count c.read.new.buf) c.in-Ok.ensures.bytes.0 (c.in-Err-feed.ensures.feeds first before taken s)
+pub returns-then-branch-clause-moves : goal.returns-then-branch-clause-moves
+returns-then-branch-clause-moves g c first before taken s =
+    let f = c.in_ok-feed.ensures.feeds first before taken s in
+    quits_whole first before _ _ _ _ taken (take c.in-Ok.count c.read.new.buf) c.in-Ok.ensures.bytes.0 (f.0 c.if-branch.true)
 
-pub returns-in-Ok-true-feed-clause-moves : goal.returns-in-Ok-true-feed-clause-moves
-returns-in-Ok-true-feed-clause-moves g c first before taken s =
-    let f = c.in-Ok-true-feed.ensures.feeds first before taken s in
-    quits_in first before _ _ _ _ taken (take c.in-Ok.count c.read.new.buf) c.args.left c.in-Ok.ensures.bytes.0 (f.0 c.in-Ok-true-feed.field-0-test)
+pub returns-in_err-feed-2-clause-moves : goal.returns-in_err-feed-2-clause-moves
+returns-in_err-feed-2-clause-moves g c first before taken s =
+    let p = err_from_is_err_and c.from_residual-in_err-feed-2.result c.from_residual-in_err-feed-2.ensures.1 in
+    rw p.1 (breaks_in first before _ _ _ _ taken (take c.in-Ok.count c.read.new.buf) c.args.left c.in-Ok.ensures.bytes.0 (c.in_err-feed-2.ensures.feeds first before taken s))
 
-pub returns-in-Ok-false-feed-clause-moves : goal.returns-in-Ok-false-feed-clause-moves
-returns-in-Ok-false-feed-clause-moves g c first before taken s =
-    let f = c.in-Ok-false-feed.ensures.feeds first before taken s in
-    breaks_in first before _ _ _ _ taken (take c.in-Ok.count c.read.new.buf) c.args.left c.in-Ok.ensures.bytes.0 (begun_here first before _ _ _ _ (f.1 c.in-Ok-false-feed.field-0-test))
+pub returns-then-branch-2-clause-moves : goal.returns-then-branch-2-clause-moves
+returns-then-branch-2-clause-moves g c first before taken s =
+    let f = c.in_ok-feed-2.ensures.feeds first before taken s in
+    quits_in first before _ _ _ _ taken (take c.in-Ok.count c.read.new.buf) c.args.left c.in-Ok.ensures.bytes.0 (f.0 c.if-branch-2.true)
 
-pub returns-in-Err-feed-2-clause-moves : goal.returns-in-Err-feed-2-clause-moves
-returns-in-Err-feed-2-clause-moves g c first before taken s =
-    breaks_in first before _ _ _ _ taken (take c.in-Ok.count c.read.new.buf) c.args.left c.in-Ok.ensures.bytes.0 (c.in-Err-feed-2.ensures.feeds first before taken s)
+pub returns-clause-moves : goal.returns-clause-moves
+returns-clause-moves g c first before taken s =
+    let f = c.in_ok-feed-2.ensures.feeds first before taken s in
+    breaks_in first before _ _ _ _ taken (take c.in-Ok.count c.read.new.buf) c.args.left c.in-Ok.ensures.bytes.0 (begun_here first before _ _ _ _ (f.1 c.if-branch-2.false))

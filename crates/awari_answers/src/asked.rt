@@ -1,0 +1,106 @@
+//! What the commands have in common that ask the levels in a folder about one board: the board, the
+//! levels, and why there is no answer.
+
+ghost use Rattle.std.specs.Prelude.{◌≡◌, ◌↔◌, Err, IfOk};
+ghost use Rattle.awari_board.specs.BoardFault.{IsFaulty};
+ghost use Rattle.awari_board.specs.declared.text.BoardFault.{BoardFault};
+ghost use Rattle.awari_folder.specs.Contents.{Same};
+ghost use Rattle.awari_answers.specs.Asked.{IsAsked};
+ghost use Rattle.awari_answers.specs.declared.asked.NoAnswer.TheVariants as no_answer;
+
+use awari_board::{Board, BoardFault, one_board_fault_is_due};
+use awari_folder::{Folder, FolderFault, load_parallel};
+use awari_plan::LineFault;
+use awari_table::{NotYet, Shelf};
+use std::alloc::Global;
+use std::fmt;
+use std::thread::Threads;
+
+/// A board, and the levels in a folder.
+#[derive(Drop)]
+pub struct Asked {
+    pub board: Board,
+    pub shelf: Shelf,
+}
+
+/// Why a folder gives no answer about a board. Printed, it is the fault inside it.
+#[derive(Clone, Copy)]
+pub enum NoAnswer {
+    /// The text is no board.
+    Board { fault: BoardFault },
+    /// The folder is not loaded.
+    Folder { fault: FolderFault },
+    /// 59: the folder has only so many levels, and the board has at least as many stones.
+    NotYet { fault: NotYet },
+    /// The levels have no line of play from the board, or there is no room for it.
+    Line { fault: LineFault },
+}
+
+impl From<BoardFault> for NoAnswer {
+    ghost from_gives = { λ fault e. e ≡ no_answer.Board fault };
+
+    fn from(fault: BoardFault) -> Self {
+        NoAnswer::Board { fault }
+    }
+}
+
+impl From<FolderFault> for NoAnswer {
+    ghost from_gives = { λ fault e. e ≡ no_answer.Folder fault };
+
+    fn from(fault: FolderFault) -> Self {
+        NoAnswer::Folder { fault }
+    }
+}
+
+impl From<NotYet> for NoAnswer {
+    ghost from_gives = { λ fault e. e ≡ no_answer.NotYet fault };
+
+    fn from(fault: NotYet) -> Self {
+        NoAnswer::NotYet { fault }
+    }
+}
+
+impl From<LineFault> for NoAnswer {
+    ghost from_gives = { λ fault e. e ≡ no_answer.Line fault };
+
+    fn from(fault: LineFault) -> Self {
+        NoAnswer::Line { fault }
+    }
+}
+
+impl fmt::Display for NoAnswer {
+    ghost use Rattle.std.specs.Prelude.{Some};
+    ghost use Rattle.awari_answers.specs.Asked.{no_answer_text};
+
+    ghost output = { λ fault. Some (no_answer_text fault) };
+
+    fn fmt<W: fmt::Write>(&self, f: &mut fmt::Formatter<W>) -> fmt::Result {
+        match *self {
+            NoAnswer::Board { fault } => write!(f, "{fault}"),
+            NoAnswer::Folder { fault } => write!(f, "{fault}"),
+            NoAnswer::NotYet { fault } => write!(f, "{fault}"),
+            NoAnswer::Line { fault } => write!(f, "{fault}"),
+        }
+    }
+}
+
+/// The board that `text` spells, and the levels in the folder. The text is read before the folder is:
+/// where it is no board it is refused for that, whatever the folder holds.
+pub fn ask_folder<T: Threads + Sync, F: Folder>(
+    rt: &T,
+    folder: &mut F,
+    alloc: Global,
+    text: &[u8],
+) -> Result<Asked, NoAnswer>
+    ensures asked { IfOk result (λ found. IsAsked (F.stands folder.old) text.now found.shelf found.board) }
+    ensures same { Same (F.stands folder.old) (F.stands folder.new) }
+    ensures board { (fault : BoardFault) → (result ≡ Err (no_answer.Board fault)) ↔ IsFaulty text.now fault }
+{
+    // That a text has one fault at most is what this call tells the proof.
+    one_board_fault_is_due();
+    let board = Board::parse(text)?;
+    let shelf = load_parallel(rt, folder, alloc)?.shelf;
+    // That the levels are a shelf is what this call tells the proof.
+    let _levels = shelf.levels();
+    Ok(Asked { board, shelf })
+}
