@@ -108,16 +108,12 @@ fn run_request<
             run_build_by(rt, alloc, top, folder, pace, &mut lines, writer)
         }
         Request::Verify { folder } => {
-            run_verify(rt, &mut host_folder(rt, alloc, folder), alloc, writer)
+            let mut folder = host_folder(rt, alloc, folder);
+            run_verify(rt, &mut folder, alloc, writer)
         }
         Request::Text { folder, level } => {
-            run_text(
-                rt,
-                &mut host_folder(rt, alloc, folder),
-                alloc,
-                level,
-                writer,
-            )
+            let mut folder = host_folder(rt, alloc, folder);
+            run_text(rt, &mut folder, alloc, level, writer)
         }
         Request::Migrate { from, to } => {
             let mut from = host_folder(rt, alloc, from);
@@ -125,31 +121,16 @@ fn run_request<
             run_migrate(alloc, &mut from, &mut to, writer)
         }
         Request::Ask { folder, board } => {
-            run_ask(
-                rt,
-                &mut host_folder(rt, alloc, folder),
-                alloc,
-                board,
-                writer,
-            )
+            let mut folder = host_folder(rt, alloc, folder);
+            run_ask(rt, &mut folder, alloc, board, writer)
         }
         Request::Moves { folder, board } => {
-            run_moves(
-                rt,
-                &mut host_folder(rt, alloc, folder),
-                alloc,
-                board,
-                writer,
-            )
+            let mut folder = host_folder(rt, alloc, folder);
+            run_moves(rt, &mut folder, alloc, board, writer)
         }
         Request::Line { folder, board } => {
-            run_line(
-                rt,
-                &mut host_folder(rt, alloc, folder),
-                alloc,
-                board,
-                writer,
-            )
+            let mut folder = host_folder(rt, alloc, folder);
+            run_line(rt, &mut folder, alloc, board, writer)
         }
         Request::Serve {
             folder,
