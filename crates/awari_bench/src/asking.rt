@@ -15,12 +15,6 @@ use std::thread::Threads;
 use std::time::{Clock, Instant};
 use std::{io, thread};
 
-const TWO_OWNERS: Pace = Pace {
-    owners: 2,
-    room: 64,
-    sweeps: 1000,
-};
-
 /// How many ranks lie between a board and the next that is asked for. The number has no factor in
 /// common with how many boards there are.
 const STEP: u64 = 104_729;
@@ -163,7 +157,7 @@ fn ask_beside<R: Threads + Wait + Sync + Send + Clone + Drop + Print + Clock + '
 ) -> io::Result<()> {
     let own = rt.clone()?;
     let builder = thread::spawn(rt, move || {
-        build_level(&own, alloc, &shelf, TWO_OWNERS, &Open).is_ok()
+        build_level(&own, alloc, &shelf, Pace::usual(2), &Open).is_ok()
     })?;
     ask_all(rt, alloc, readers, boards, rounds)?;
     let start = Instant::now(rt)?;

@@ -1,5 +1,7 @@
 //! How the owners of a level work.
 
+ghost use Rattle.std.specs.Prelude.{◌≡◌};
+
 /// How many owners a level has, and how they work.
 #[derive(Clone, Copy, Debug, PartialEq, Eq)]
 pub struct Pace {
@@ -13,3 +15,16 @@ pub struct Pace {
 
 /// How many sweeps an owner makes in a round at most.
 pub const MOST_SWEEPS: u32 = 1000;
+
+impl Pace {
+    /// The usual pace of so many owners: room for 64 batches, and 1000 sweeps a round. It takes no memory.
+    pub fn usual(owners: u8) -> Pace
+        ensures { result ≡ record { owners = owners; room = 64; sweeps = 1000 } }
+    {
+        Pace {
+            owners,
+            room: 64,
+            sweeps: MOST_SWEEPS,
+        }
+    }
+}

@@ -21,12 +21,6 @@ use std::sync::{Arc, Wait};
 use std::thread::Threads;
 use std::{fmt, thread};
 
-/// How many batches a line between two owners holds.
-const ROOM: u32 = 64;
-
-/// How many sweeps a round has at most.
-const SWEEPS: u32 = 1000;
-
 /// Why a service is not begun, or not ended as asked. Printed, it is the fault inside it.
 #[derive(Clone, Copy)]
 enum ServingFault {
@@ -273,12 +267,7 @@ fn next_level<T: Threads + Wait + Sync>(
     let level = if owners == 0 {
         build_alone(alloc, book)?
     } else {
-        let pace = Pace {
-            owners,
-            room: ROOM,
-            sweeps: SWEEPS,
-        };
-        build_level(rt, alloc, book, pace, &Open)?
+        build_level(rt, alloc, book, Pace::usual(owners), &Open)?
     };
     Ok(level)
 }
