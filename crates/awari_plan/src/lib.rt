@@ -1,10 +1,9 @@
 //! A level whose gains are all closed made an image: the settled values and distances, and for each
 //! board the plan that they make. And play by the plans of a shelf, from a board to its outcome.
 //!
-//! The play in which both sides follow the plans, in `crates/awari_answers/src/lines.rt`:
+//! The play from a board in which both sides follow the plans of a shelf, in
+//! `crates/awari_answers/src/lines.rt`:
 //!
-//!     let board = Board::parse(text)?;
-//!     let shelf = load_parallel(rt, folder, alloc)?.shelf;
 //!     let line = best_line(alloc, &shelf, board, shelf.limit())?;
 #![tactic(auto)]
 
