@@ -85,7 +85,8 @@ impl fmt::Display for NoAnswer {
 }
 
 /// The board that `text` spells, and the levels in the folder. The text is read before the folder is:
-/// where it is no board it is refused for that, whatever the folder holds.
+/// where it is no board it is refused for that, whatever the folder holds. It takes the memory that
+/// `load_parallel` takes.
 pub fn ask_folder<T: Threads + Sync, F: Folder>(
     rt: &T,
     folder: &mut F,
