@@ -6,8 +6,9 @@ use Rattle.awari_board.specs.Rules.{IsMove, IsLegal, IsEnd, IsEnded, captured, n
 use Rattle.awari_table.specs.Certificate.{Table, plies, GainsIn, GainsNoSooner, MovesIn, MovesNoLater, IsRightBy}
 use Rattle.awari_table.specs.declared.rules.Distances.TheVariants.{Falling}
 use Rattle.awari_table.proofs.CertificateLemmas.{plies_some, plies_cases}
-use Rattle.awari_plan.specs.declared.lowering.Reached.{Reached}
-use Rattle.awari_plan.specs.Lowering.{Steps, IsAbove, IsNearest, IsFarthest, IsByMoves, IsBelow, IsBelowTo, farther_by, IsNearerBy}
+use Rattle.awari_table.specs.Reached.{Reaches}
+use Rattle.awari_table.specs.declared.rules.Reached.{Reached}
+use Rattle.awari_plan.specs.Lowering.{IsAbove, IsNearest, IsFarthest, IsByMoves, IsBelow, IsBelowTo, farther_by, IsNearerBy}
 
 either_max : (a b : ℕ) → (max a b ≡ a) ⊎ (max a b ≡ b)
 either_max a b = elim (cases_lt a b) [ inl lt ↦ inr (omega (arith, lt)) | inr ge ↦ inl (omega (arith, ge)) ]
@@ -34,7 +35,7 @@ sign_cases v = grind (arith, ints)
 
 module _ (t : Table) (p : List ℕ) where
   -- a pit has one move
-  one_move : (x c : ℕ) (q : List ℕ) (s : Reached) → Steps t p x (Some s) → IsMove p x c q → (plies c (t.dist q) ≡ plies s.captured s.entry.dist) × ((pos c -ℤ t.value q) ≡ (pos s.captured -ℤ s.entry.value))
+  one_move : (x c : ℕ) (q : List ℕ) (s : Reached) → Reaches t p x (Some s) → IsMove p x c q → (plies c (t.dist q) ≡ plies s.captured s.entry.dist) × ((pos c -ℤ t.value q) ≡ (pos s.captured -ℤ s.entry.value))
   one_move x c q s (r, move, v, d) other =
       let same : c ≡ s.captured = other.captures ∙ sym move.captures in
       let there : q ≡ r = other.leaves ∙ sym move.leaves in (
@@ -51,7 +52,7 @@ module _ (t : Table) (p : List ℕ) where
   pub farthest-none : IsFarthestOf 0 0
   farthest-none = record { before = λ x c q below. absurd (omega (arith, below)); is = inl refl }
 
-  pub farthest-more : (pit far : ℕ) (o : Option Reached) (k : ℕ) → IsFarthestOf pit far → Steps t p pit o → k ≡ farther_by far o → IsFarthestOf (pit + 1) k
+  pub farthest-more : (pit far : ℕ) (o : Option Reached) (k : ℕ) → IsFarthestOf pit far → Reaches t p pit o → k ≡ farther_by far o → IsFarthestOf (pit + 1) k
   farthest-more pit far None k h step is = record {
     before = λ x c q below move. elim (cases_lt x pit) [
       | inl lt ↦ omega (arith, h.before x c q lt move, is)
@@ -85,7 +86,7 @@ module _ (t : Table) (p : List ℕ) where
   pub nearest-none : (dist : ℕ) → dist ≡ t.dist p → IsNearestOf 0 dist
   nearest-none dist own = record { before = λ x c q below. absurd (omega (arith, below)); is = inl own }
 
-  pub nearest-more : (pit : ℕ) (value : ℤ) (near : ℕ) (o : Option Reached) (k : ℕ) → value ≡ t.value p → IsNearestOf pit near → Steps t p pit o → IsNearerBy value near o k → IsNearestOf (pit + 1) k
+  pub nearest-more : (pit : ℕ) (value : ℤ) (near : ℕ) (o : Option Reached) (k : ℕ) → value ≡ t.value p → IsNearestOf pit near → Reaches t p pit o → IsNearerBy value near o k → IsNearestOf (pit + 1) k
   nearest-more pit value near None k own h step is = record {
     before = λ x c q below move gain. elim (cases_lt x pit) [
       | inl lt ↦ omega (arith, h.before x c q lt move gain, is)

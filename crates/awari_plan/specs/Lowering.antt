@@ -1,19 +1,15 @@
 -- Distances lowered board by board. Private functions alone go by this: no public contract does.
-use Rattle.std.specs.Prelude.{◌≡◌, ◌≢◌, ℕ, ◌+◌, ◌<◌, ◌≤◌, ◌⊎◌, min, max, Bool, true, false, List, sum, length, ℤ, pos, ◌-ℤ◌, ◌<ℤ◌, Option, Some, None, slice_index_or, slice_set}
+use Rattle.std.specs.Prelude.{◌≡◌, ◌≢◌, ℕ, ◌+◌, ◌<◌, ◌≤◌, ◌⊎◌, min, max, Bool, true, false, List, sum, length, ℤ, pos, ◌<ℤ◌, Option, Some, None, slice_index_or, slice_set}
 use Rattle.std.specs.List.{sum_by}
-use Rattle.awari_board.specs.Rules.{IsBoard, IsMove, IsLegal, IsEnded}
+use Rattle.awari_board.specs.Rules.{IsBoard, IsEnded}
 use Rattle.awari_rank.specs.Rank.{rank_of}
-use Rattle.awari_table.specs.Certificate.{Table, plies, GainsIn, GainsNoSooner, MovesIn, MovesNoLater}
+use Rattle.awari_table.specs.Certificate.{Table, GainsIn, GainsNoSooner, MovesIn, MovesNoLater}
 use Rattle.awari_table.specs.declared.images.Entry.{Entry}
 use Rattle.awari_table.specs.declared.images.Image.{Image}
 use Rattle.awari_table.specs.Images.{table_of, no_entry}
-use Rattle.awari_plan.specs.declared.lowering.Reached.{Reached}
+use Rattle.awari_table.specs.Reached.{gain_of, plies_of}
+use Rattle.awari_table.specs.declared.rules.Reached.{Reached}
 use Rattle.awari_plan.specs.Planning.{topped}
-
--- what the move from pit x captures and leads to, or none where it is not legal
-abbrev pub Steps : Table → List ℕ → ℕ → Option Reached → Type 0
-Steps t p x None = IsLegal p x → ⊥
-Steps t p x (Some s) = (q : List ℕ) × IsMove p x s.captured q × (s.entry.value ≡ t.value q) × (s.entry.dist ≡ t.dist q)
 
 -- no distance is below what the moves say
 pub record IsAbove (t : Table) (p : List ℕ) : Type 0 where
@@ -56,14 +52,12 @@ AreBelow shelf entries = (p : List ℕ) → IsBoard p → sum p ≡ length shelf
 -- the most plies so far, and those of one more move
 abbrev pub farther_by : ℕ → Option Reached → ℕ
 farther_by far None = far
-farther_by far (Some s) = max far (plies s.captured s.entry.dist)
+farther_by far (Some m) = max far (plies_of m)
 
 -- the fewest plies so far of a move that gains the value, and those of one more move, if it gains it
 abbrev pub IsNearerBy : ℤ → ℕ → Option Reached → ℕ → Type 0
 IsNearerBy value near None k = k ≡ near
-IsNearerBy value near (Some s) k =
-    (((pos s.captured -ℤ s.entry.value) ≡ value) × (k ≡ min near (plies s.captured s.entry.dist)))
-    ⊎ (((pos s.captured -ℤ s.entry.value) ≢ value) × (k ≡ near))
+IsNearerBy value near (Some m) k = ((gain_of m ≡ value) × (k ≡ min near (plies_of m))) ⊎ ((gain_of m ≢ value) × (k ≡ near))
 
 -- the entry with a smaller distance, or none where its own is not above this
 abbrev pub IsLowered : Entry → ℕ → Option Entry → Type 0

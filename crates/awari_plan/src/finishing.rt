@@ -2,7 +2,6 @@
 
 ghost use Rattle.std.specs.Prelude.{◌≡◌, ◌≤◌, ◌<◌, All, IfOk, OnOk, length};
 ghost use Rattle.awari_rank.specs.Rank.{size_of};
-ghost use Rattle.awari_table.specs.Images.{greatest_dist};
 ghost use Rattle.awari_owner.specs.Level.{AreWhole};
 ghost use Rattle.awari_block.specs.Part.{IsClosed};
 ghost use Rattle.awari_plan.specs.Finished.{HasAllSettled, HasSettled, IsFinished};
@@ -13,7 +12,7 @@ use crate::plans::{set_plans, values_of};
 use awari_block::ClosedPart;
 use awari_owner::Part;
 use awari_rank::size;
-use awari_table::{Entries, Entry, Image, Shelf};
+use awari_table::{Entries, Entry, Image, Shelf, greatest_dist};
 use std::alloc::{AllocError, Global};
 
 /// The image of the shelf's next level, once the parts have closed all gains: each settled board
@@ -61,7 +60,7 @@ fn planned_image(alloc: Global, shelf: &Shelf, mut entries: Vec<Entry>) -> Resul
     set_plans(shelf, values.as_slice(), &mut entries);
     Ok(Image {
         level: shelf.levels(),
-        limit: greatest(entries.as_slice()),
+        limit: greatest_dist(entries.as_slice()),
         entries: Entries::from(entries),
     })
 }
@@ -128,11 +127,4 @@ pub fn settled_entry(settled: Option<(i8, u32)>) -> Entry
         plan: None,
         dist,
     }
-}
-
-/// The greatest distance of the entries, 0 where there is none.
-pub fn greatest(entries: &[Entry]) -> u32
-    ensures { result ≡ greatest_dist entries.now }
-{
-    entries.iter().fold(0, |most, entry| most.max(entry.dist))
 }

@@ -5,15 +5,15 @@ ghost use Rattle.awari_rank.specs.Rank.{size_of};
 ghost use Rattle.awari_table.specs.Images.{entry_of, table_of};
 ghost use Rattle.awari_table.specs.Shelves.{Consistent, ConsistentBy};
 ghost use Rattle.awari_plan.specs.Least.{NoFarther, IsPlannedLowest};
-ghost use Rattle.awari_plan.specs.Lowering.{Steps, IsNearest, IsFarthest, IsByMoves, AreAbove, AreBelow, AreBelowTo, IsNearerBy, farther_by, IsLowered, Lowers, LowersBoard, Fell};
+ghost use Rattle.awari_table.specs.Reached.{Reaches};
+ghost use Rattle.awari_plan.specs.Lowering.{IsNearest, IsFarthest, IsByMoves, AreAbove, AreBelow, AreBelowTo, IsNearerBy, farther_by, IsLowered, Lowers, LowersBoard, Fell};
 ghost use Rattle.awari_plan.specs.Planning.{topped};
 
-use crate::finishing::greatest;
 use crate::plans::{entry_after, set_plans};
 use awari_board::SIDE;
 use awari_packed::PackedBoard;
 use awari_rank::size;
-use awari_table::{Distances, Entries, Entry, Image, Shelf, plies};
+use awari_table::{Distances, Entries, Entry, Image, Reached, Shelf, greatest_dist};
 
 /// The image of the same values with the least distances, the lowest plans that these make, and the
 /// greatest distance as limit. Condition: the image is consistent by the old rules, which ask that
@@ -30,7 +30,7 @@ pub fn least(shelf: &Shelf, image: Image) -> Image
     set_plans(shelf, &[], &mut entries);
     Image {
         level,
-        limit: greatest(entries.as_slice()),
+        limit: greatest_dist(entries.as_slice()),
         entries: Entries::from(entries),
     }
 }
@@ -143,7 +143,7 @@ fn nearest(shelf: &Shelf, entries: &[Entry], board: &PackedBoard, own: Entry) ->
 {
     let mut nearest = u64::from(own.dist);
     for pit in 0..SIDE {
-        nearest = nearer(own, nearest, step(shelf, entries, board, pit));
+        nearest = nearer(own, nearest, reached(shelf, entries, board, pit));
     }
     nearest
 }
@@ -157,7 +157,7 @@ fn farthest(shelf: &Shelf, entries: &[Entry], board: &PackedBoard) -> u64
 {
     let mut farthest = 0u64;
     for pit in 0..SIDE {
-        farthest = farther(farthest, step(shelf, entries, board, pit));
+        farthest = farther(farthest, reached(shelf, entries, board, pit));
     }
     farthest
 }
@@ -169,9 +169,8 @@ fn nearer(own: Entry, nearest: u64, reached: Option<Reached>) -> u64
     let Some(reached) = reached else {
         return nearest;
     };
-    let gain = i16::from(reached.captured) - i16::from(reached.entry.value);
-    if gain == i16::from(own.value) {
-        return nearest.min(plies(reached.captured, reached.entry.dist));
+    if reached.gain() == i16::from(own.value) {
+        return nearest.min(reached.plies());
     }
     nearest
 }
@@ -181,24 +180,17 @@ fn farther(farthest: u64, reached: Option<Reached>) -> u64
     ensures { result ≡ farther_by farthest reached }
 {
     match reached {
-        Some(reached) => farthest.max(plies(reached.captured, reached.entry.dist)),
+        Some(reached) => farthest.max(reached.plies()),
         None => farthest,
     }
 }
 
-/// A legal move: the stones it captures, and the entry of the board that it leaves.
-#[derive(Clone, Copy)]
-pub struct Reached {
-    pub captured: u8,
-    pub entry: Entry,
-}
-
 /// The move of this pit, if it is legal.
-fn step(shelf: &Shelf, entries: &[Entry], board: &PackedBoard, pit: u8) -> Option<Reached>
+fn reached(shelf: &Shelf, entries: &[Entry], board: &PackedBoard, pit: u8) -> Option<Reached>
     requires sized { length entries.now ≡ size_of (length shelf.now) }
     requires stones { sum board.now ≡ length shelf.now }
     requires low { length shelf.now ≤ 24 }
-    ensures { Steps (table_of (topped shelf.now entries.now)) board.now pit result }
+    ensures { Reaches (table_of (topped shelf.now entries.now)) board.now pit result }
 {
     if !board.legal(pit) {
         return None;

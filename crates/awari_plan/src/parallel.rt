@@ -7,12 +7,12 @@ ghost use Rattle.awari_plan.specs.Finished.{HasAllSettled, IsFinished};
 ghost use Rattle.awari_plan.specs.Planning.{AreLowest, AreSettled, AreValues, IsPlanned, PutsBlock, PutsPlans, SameSettled};
 ghost use Rattle.awari_table.specs.declared.TheConstants.{HIGHEST_LEVEL};
 
-use crate::finishing::{greatest, settled_entry};
+use crate::finishing::settled_entry;
 use crate::plans::{lowest_plan, values_of};
 use awari_block::ClosedPart;
 use awari_packed::PackedBoard;
 use awari_rank::size;
-use awari_table::{Entries, Entry, Image, Shelf};
+use awari_table::{Entries, Entry, Image, Shelf, greatest_dist};
 use rayon::prelude::*;
 use std::alloc::{AllocError, Global};
 use std::thread::Threads;
@@ -41,7 +41,7 @@ pub fn finish_parallel<R: Threads + Sync>(
     set_plans_parallel(rt, alloc, shelf, &mut entries)?;
     Ok(Image {
         level: shelf.levels(),
-        limit: greatest(entries.as_slice()),
+        limit: greatest_dist(entries.as_slice()),
         entries: Entries::from(entries),
     })
 }

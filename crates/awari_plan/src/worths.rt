@@ -3,13 +3,13 @@
 ghost use Rattle.std.specs.Prelude.{◌≡◌, ◌≢◌, ◌<◌, ◌↔◌, ◌-ℤ◌, ℕ, All, Contains, IsOk, IfOk, IfErr, length, map, pos, sum};
 ghost use Rattle.std.specs.List.Sorted.{IsStrictlyIncreasing};
 ghost use Rattle.awari_board.specs.Rules.{IsLegal};
-ghost use Rattle.awari_table.specs.Certificate.{plies};
+ghost use Rattle.awari_table.specs.Reached.{gain_of, plies_of};
 ghost use Rattle.awari_table.specs.Images.{table_of};
 ghost use Rattle.awari_plan.specs.MoveWorth.{IsMoveWorth, IsWorthOf, pit_of};
 
 use arrayvec::ArrayVec;
 use awari_board::Board;
-use awari_table::{Entry, NotYet, Shelf, plies};
+use awari_table::{NotYet, Reached, Shelf};
 
 /// What a legal move is worth, by a shelf that has the board's level.
 #[derive(Clone, Copy, Debug, Default, PartialEq, Eq)]
@@ -70,25 +70,26 @@ fn worth_of(shelf: &Shelf, board: &Board, pit: u8) -> MoveWorth
     let Ok(entry) = shelf.entry(&moved.board) else {
         unreachable!()
     };
-    worth_by(pit, moved.captured, entry)
+    let captured = moved.captured;
+    worth_by(pit, Reached { captured, entry })
 }
 
-/// What a move of this pit is worth that captures so many stones and leaves a board of this entry.
-fn worth_by(pit: u8, captured: u8, entry: Entry) -> MoveWorth
+/// What a move of this pit is worth that captures and leads to this.
+fn worth_by(pit: u8, reached: Reached) -> MoveWorth
     ensures pit { result.pit ≡ pit }
-    ensures captured { result.captured ≡ captured }
-    ensures gain { result.value ≡ pos captured -ℤ entry.value }
+    ensures captured { result.captured ≡ reached.captured }
+    ensures gain { result.value ≡ gain_of reached }
     ensures even { result.value ≡ pos 0 → result.plies ≡ 0 }
-    ensures uneven { result.value ≢ pos 0 → result.plies ≡ plies captured entry.dist }
+    ensures uneven { result.value ≢ pos 0 → result.plies ≡ plies_of reached }
 {
-    let value = i16::from(captured) - i16::from(entry.value);
+    let value = reached.gain();
     let plies = match value {
         0 => 0,
-        _ => plies(captured, entry.dist),
+        _ => reached.plies(),
     };
     MoveWorth {
         pit,
-        captured,
+        captured: reached.captured,
         value,
         plies,
     }

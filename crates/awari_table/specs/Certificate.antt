@@ -80,10 +80,6 @@ pub record IsRightBy (asked : Distances) (t : Table) (p : List ℕ) : Type 0 whe
   pub plan_gains : PlanGains t p
   pub distances : DistancesAre asked t p
 
--- the rules in force
-abbrev pub IsRight : Table → List ℕ → Type 0
-IsRight t p = IsRightBy Least t p
-
 -- All boards with fewer than `levels` stones are right, and no distance among them is above the limit. That distances fall is
 -- all that is asked of them.
 pub record IsCertificate (t : Table) (levels limit : ℕ) : Type 0 where

@@ -1,4 +1,5 @@
 pub mod Certificate
+pub mod Reached
 pub mod Images
 pub mod Shelves
 pub mod Slots

@@ -1,6 +1,7 @@
 //! What is said of each board of a level, unchecked.
 
 ghost use Rattle.std.specs.Prelude.{◌≡◌, ◌==◌, ◌<◌, Some, length, slice_get};
+ghost use Rattle.awari_table.specs.Images.{greatest_dist};
 
 use std::marker::Model;
 
@@ -89,6 +90,13 @@ pub struct Image {
     pub limit: u32,
     /// What is said of each board, in order of rank.
     pub entries: Entries,
+}
+
+/// The greatest distance of the entries, in plies, 0 where there is none. It takes no memory.
+pub fn greatest_dist(entries: &[Entry]) -> u32
+    ensures { result ≡ greatest_dist entries.now }
+{
+    entries.iter().fold(0, |most, entry| most.max(entry.dist))
 }
 
 /// How many boards of a level are won, even and lost for the mover.

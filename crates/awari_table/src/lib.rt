@@ -26,13 +26,13 @@ mod text;
 
 pub use counted::Counted;
 pub use faults::TableFault;
-pub use images::{Counts, Entries, Entry, Image};
+pub use images::{Counts, Entries, Entry, Image, greatest_dist};
 pub use laws::{
     fronts_are_shelves, highest_level_is_24, one_text_fault_is_due, shelves_are_certificates,
     texts_tell_images_apart,
 };
 pub use levels::Level;
-pub use rules::{Distances, plies};
+pub use rules::{Distances, Reached};
 pub use shelves::{NotYet, Shelf};
 pub use spelling::{
     LINE_ROOM, TextLine, line_of_entry, push_number, push_signed, push_text, write_level_text,

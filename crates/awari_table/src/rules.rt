@@ -1,7 +1,9 @@
-//! By which rules a table is judged.
+//! By which rules a table is judged, and what they ask of a move.
 
 ghost use Rattle.std.specs.Prelude.{◌≡◌};
-ghost use Rattle.awari_table.specs.Certificate.{plies};
+ghost use Rattle.awari_table.specs.Reached.{gain_of, plies_of};
+
+use crate::images::Entry;
 
 /// What rule V6 asks of distances.
 #[derive(Clone, Copy, Debug, PartialEq, Eq)]
@@ -13,14 +15,31 @@ pub enum Distances {
     Least,
 }
 
-/// How many plies a move takes that captures so many stones or leaves a board of this distance: one
-/// where it captures, and else one more than that distance, which may be the greatest u32.
-pub fn plies(captured: u8, dist: u32) -> u64
-    ensures { result ≡ plies captured dist }
-{
-    if captured == 0 {
-        u64::from(dist) + 1
-    } else {
-        1
+/// A legal move: the stones it captures, and the entry of the board that it leaves.
+#[derive(Clone, Copy)]
+pub struct Reached {
+    pub captured: u8,
+    pub entry: Entry,
+}
+
+impl Reached {
+    /// What the mover gains by the move, in stones: those captured, less the value of the board that is
+    /// left.
+    pub fn gain(&self) -> i16
+        ensures { result ≡ gain_of self.now }
+    {
+        i16::from(self.captured) - i16::from(self.entry.value)
+    }
+
+    /// How many plies the move takes: one where it captures, and else one more than the distance of the
+    /// board that is left, which may be the greatest u32.
+    pub fn plies(&self) -> u64
+        ensures { result ≡ plies_of self.now }
+    {
+        if self.captured == 0 {
+            u64::from(self.entry.dist) + 1
+        } else {
+            1
+        }
     }
 }

@@ -7,13 +7,14 @@ use Rattle.awari_board.specs.Rules.{IsEnded}
 use Rattle.awari_table.specs.Certificate.{Table, InRange, EndIsRight, HasPlan, NoMoveGainsMore, PlanGains, plies, GainsIn, GainsNoSooner, MovesIn, MovesNoLater, DistancesFall, DistancesAreLeast, DistancesAre}
 use Rattle.awari_table.specs.declared.rules.Distances.{Distances}
 use Rattle.awari_table.specs.declared.rules.Distances.TheVariants.{Falling, Least}
-use Rattle.awari_verify.specs.declared.rules.Reached.{Reached}
+use Rattle.awari_table.specs.Reached.{Reaches, gain_of, plies_of}
+use Rattle.awari_table.specs.declared.rules.Reached.{Reached}
 use Rattle.awari_verify.specs.declared.rules.Seen.{Seen}
-use Rattle.awari_verify.specs.Sights.{SeesEnd, SeesMove, Sees, move_at, gain_of, IsNearer, KeepsRange, KeepsEnd, KeepsPlan, KeepsGain, KeepsPlanGain, KeepsFalling, plies_of, GainsJustIn, KeepsWon, KeepsLost, KeepsLeast, KeepsDistance}
+use Rattle.awari_verify.specs.Sights.{SeesEnd, Sees, move_at, IsNearer, KeepsRange, KeepsEnd, KeepsPlan, KeepsGain, KeepsPlanGain, KeepsFalling, GainsJustIn, KeepsWon, KeepsLost, KeepsLeast, KeepsDistance}
 
 -- each pit is seen
 abbrev pub SeesMoves : Table → List ℕ → List (Option Reached) → Type 0
-SeesMoves t p moves = (x : ℕ) → x < 6 → SeesMove t p x (get_or moves x None)
+SeesMoves t p moves = (x : ℕ) → x < 6 → Reaches t p x (get_or moves x None)
 
 -- what is asked of a reached board is what is asked of the move
 abbrev pub Says : Table → List ℕ → (Reached → Type 0) → (ℕ → ℕ → List ℕ → Type 0) → Type 0
@@ -43,11 +44,11 @@ open_from_none : (p : List ℕ) (o : Option ℤ) → SeesEnd p o → IsNone o �
 open_from_none p None sees none = sees
 open_from_none p (Some g) sees none = absurd (false≢true (sym none))
 
-legal_from_some : (t : Table) (p : List ℕ) (x : ℕ) (o : Option Reached) → SeesMove t p x o → IsSome o → IsLegal p x
+legal_from_some : (t : Table) (p : List ℕ) (x : ℕ) (o : Option Reached) → Reaches t p x o → IsSome o → IsLegal p x
 legal_from_some t p x None sees some = absurd (false≢true some)
 legal_from_some t p x (Some m) sees some = sees.1.legal
 
-some_from_legal : (t : Table) (p : List ℕ) (x : ℕ) (o : Option Reached) → SeesMove t p x o → IsLegal p x → IsSome o
+some_from_legal : (t : Table) (p : List ℕ) (x : ℕ) (o : Option Reached) → Reaches t p x o → IsLegal p x → IsSome o
 some_from_legal t p x None sees legal = absurd (sees legal)
 some_from_legal t p x (Some m) sees legal = refl
 
@@ -68,7 +69,7 @@ plan-iff t p s h = rw (← h.plan) (
   λ k none. let own = k (open_from_none p s.end h.at_end none) in some_from_plan t p s.moves s.entry.plan own.0 h.moves own.1 own.2,
 )
 
-move_any : (t : Table) (p : List ℕ) (P : Reached → Type 0) (Q : ℕ → ℕ → List ℕ → Type 0) → Says t p P Q → (x : ℕ) (o : Option Reached) → SeesMove t p x o → IfSome o P ↔ ((c : ℕ) (q : List ℕ) → IsMove p x c q → Q x c q)
+move_any : (t : Table) (p : List ℕ) (P : Reached → Type 0) (Q : ℕ → ℕ → List ℕ → Type 0) → Says t p P Q → (x : ℕ) (o : Option Reached) → Reaches t p x o → IfSome o P ↔ ((c : ℕ) (q : List ℕ) → IsMove p x c q → Q x c q)
 move_any t p P Q says x None sees = (λ _ c q move. absurd (sees move.legal), λ _. tt)
 move_any t p P Q says x (Some m) sees = (
   λ k c q move.
@@ -144,14 +145,14 @@ moves_some t p P Q says moves six sees = (
       (x, get_or moves x None, omega arith, get_or_default moves x (get_or moves x None) None (omega arith), from x (get_or moves x None) (sees x lt) c q move holds),
 )
   where
-    sees_at : (x : ℕ) (o : Option Reached) → x < 6 → get_or moves x o ≡ o → SeesMove t p x o
-    sees_at x o lt is = subst (SeesMove t p x) (sym (get_or_default moves x o None (omega arith)) ∙ is) (sees x lt)
+    sees_at : (x : ℕ) (o : Option Reached) → x < 6 → get_or moves x o ≡ o → Reaches t p x o
+    sees_at x o lt is = subst (Reaches t p x) (sym (get_or_default moves x o None (omega arith)) ∙ is) (sees x lt)
 
-    to : (x : ℕ) → x < 6 → (o : Option Reached) → SeesMove t p x o → IsSomeAnd o P → (x c : ℕ) × (q : List ℕ) × IsMove p x c q × Q x c q
+    to : (x : ℕ) → x < 6 → (o : Option Reached) → Reaches t p x o → IsSomeAnd o P → (x c : ℕ) × (q : List ℕ) × IsMove p x c q × Q x c q
     to x lt None sees holds = absurd holds
     to x lt (Some m) sees holds = (x, m.captured, sees.0, sees.1, (says x m sees.0 sees.2 sees.3).0 holds)
 
-    from : (x : ℕ) (o : Option Reached) → SeesMove t p x o → (c : ℕ) (q : List ℕ) → IsMove p x c q → Q x c q → IsSomeAnd o P
+    from : (x : ℕ) (o : Option Reached) → Reaches t p x o → (c : ℕ) (q : List ℕ) → IsMove p x c q → Q x c q → IsSomeAnd o P
     from x None sees c q move holds = absurd (sees move.legal)
     from x (Some m) sees c q move holds =
         (says x m sees.0 sees.2 sees.3).1

@@ -1,21 +1,17 @@
 -- What is seen of a board by a table, and which rules it keeps. Private functions alone go by this.
-use Rattle.std.specs.Prelude.{◌≡◌, ◌≢◌, ℕ, ◌<◌, ◌≤◌, ◌⊎◌, List, length, sum, ℤ, pos, neg_ℤ, ◌-ℤ◌, ◌≤ℤ◌, ◌<ℤ◌, Option, Some, None, IfSome, IsSome, IsSomeAnd, IsNone, All, Any, slice_index_or}
-use Rattle.awari_board.specs.Rules.{IsLegal, IsMove, IsEnd, IsEnded}
-use Rattle.awari_table.specs.Certificate.{Table, plies}
+use Rattle.std.specs.Prelude.{◌≡◌, ◌≢◌, ℕ, ◌<◌, ◌≤◌, ◌⊎◌, List, length, sum, ℤ, pos, neg_ℤ, ◌≤ℤ◌, ◌<ℤ◌, Option, Some, None, IfSome, IsSome, IsSomeAnd, IsNone, All, Any, slice_index_or}
+use Rattle.awari_board.specs.Rules.{IsEnd, IsEnded}
+use Rattle.awari_table.specs.Certificate.{Table}
+use Rattle.awari_table.specs.Reached.{Reaches, gain_of, plies_of}
+use Rattle.awari_table.specs.declared.rules.Reached.{Reached}
 use Rattle.awari_table.specs.declared.rules.Distances.{Distances}
 use Rattle.awari_table.specs.declared.rules.Distances.TheVariants.{Falling, Least}
-use Rattle.awari_verify.specs.declared.rules.Reached.{Reached}
 use Rattle.awari_verify.specs.declared.rules.Seen.{Seen}
 
 -- the gain of the board's end, or none where it is not ended
 abbrev pub SeesEnd : List ℕ → Option ℤ → Type 0
 SeesEnd p None = IsEnded p → ⊥
 SeesEnd p (Some g) = IsEnd p g
-
--- what pit x captures and leads to, or none where it is not legal
-abbrev pub SeesMove : Table → List ℕ → ℕ → Option Reached → Type 0
-SeesMove t p x None = IsLegal p x → ⊥
-SeesMove t p x (Some m) = (q : List ℕ) × IsMove p x m.captured q × (m.entry.value ≡ t.value q) × (m.entry.dist ≡ t.dist q)
 
 -- all that the rules ask of a board
 pub record Sees (t : Table) (p : List ℕ) (seen : Seen) : Type 0 where
@@ -25,7 +21,7 @@ pub record Sees (t : Table) (p : List ℕ) (seen : Seen) : Type 0 where
   pub dist : seen.entry.dist ≡ t.dist p
   pub at_end : SeesEnd p seen.end
   pub six : length seen.moves ≡ 6
-  pub moves : (x : ℕ) → x < 6 → SeesMove t p x (slice_index_or seen.moves x None)
+  pub moves : (x : ℕ) → x < 6 → Reaches t p x (slice_index_or seen.moves x None)
 
 abbrev pub KeepsRange : Seen → Type 0
 KeepsRange s = (neg_ℤ (pos s.stones) ≤ℤ s.entry.value) × (s.entry.value ≤ℤ pos s.stones) × IfSome s.entry.plan (λ x. x < 6)
@@ -40,10 +36,6 @@ move_at moves (Some x) = slice_index_or moves x None
 
 abbrev pub planned_of : Seen → Option Reached
 planned_of s = move_at s.moves s.entry.plan
-
--- what a move gains
-abbrev pub gain_of : Reached → ℤ
-gain_of m = pos m.captured -ℤ m.entry.value
 
 -- a move that captures or leads to a smaller distance
 abbrev pub IsNearer : Reached → ℕ → Type 0
@@ -72,10 +64,6 @@ KeepsLosing s = s.entry.value <ℤ pos 0 → All (λ o. IfSome o (λ m. IsNearer
 
 abbrev pub KeepsFalling : Seen → Type 0
 KeepsFalling s = KeepsEven s × KeepsUneven s × KeepsWinning s × KeepsLosing s
-
--- the plies that a move takes
-abbrev pub plies_of : Reached → ℕ
-plies_of m = plies m.captured m.entry.dist
 
 -- a move that gains the value in so many plies
 abbrev pub GainsJustIn : ℤ → ℕ → Reached → Type 0

@@ -13,8 +13,8 @@ ghost use Rattle.awari_verify.specs.declared.search.Refusal.{Refusal as ARefusal
 
 use crate::rules::Rule;
 use crate::search::{Refusal, refusal_between};
-use crate::verdicts::{VerifyFault, boards_of, greatest_dist};
-use awari_table::{Distances, Image, Level, Shelf};
+use crate::verdicts::{VerifyFault, boards_of};
+use awari_table::{Distances, Image, Level, Shelf, greatest_dist};
 use rayon::prelude::*;
 use std::alloc::{AllocError, Global};
 use std::thread::Threads;

@@ -2,11 +2,12 @@
 
 ghost use Rattle.std.specs.Prelude.{◌≡◌, ◌≤◌, ◌↔◌, ℕ, List, IsTrue, IfSome, IsSomeAnd, All, Any, MatchOption};
 ghost use Rattle.awari_table.specs.Certificate.{Table, IsRightBy};
-ghost use Rattle.awari_verify.specs.Sights.{Sees, planned_of, gain_of, IsNearer, KeepsRange, KeepsEnd, KeepsPlan, KeepsGain, KeepsPlanGain, KeepsEven, KeepsUneven, KeepsWinning, KeepsLosing, KeepsFalling, plies_of, GainsJustIn, KeepsWon, KeepsLost, KeepsLeast, KeepsDistance};
+ghost use Rattle.awari_table.specs.Reached.{gain_of, plies_of};
+ghost use Rattle.awari_verify.specs.Sights.{Sees, planned_of, IsNearer, KeepsRange, KeepsEnd, KeepsPlan, KeepsGain, KeepsPlanGain, KeepsEven, KeepsUneven, KeepsWinning, KeepsLosing, KeepsFalling, GainsJustIn, KeepsWon, KeepsLost, KeepsLeast, KeepsDistance};
 ghost use Rattle.awari_verify.specs.FirstFailure.{BreaksFirst};
 
 use awari_board::SIDE;
-use awari_table::{Distances, Entry, plies};
+use awari_table::{Distances, Entry, Reached};
 use std::fmt;
 
 /// The rules of a table, in the order in which they are judged. V1 to V6 are judged of each board,
@@ -52,13 +53,6 @@ impl fmt::Display for Rule {
             Rule::V7 => "V7",
         })
     }
-}
-
-/// A legal move: the stones it captures, and the entry of the board that it leaves.
-#[derive(Clone, Copy)]
-pub struct Reached {
-    pub captured: u8,
-    pub entry: Entry,
 }
 
 /// All that the rules ask of a board.
@@ -150,7 +144,7 @@ fn keeps_gain(seen: &Seen) -> bool
 {
     for reached in &seen.moves {
         if let Some(reached) = reached {
-            if i16::from(seen.entry.value) < gain_of(reached) {
+            if i16::from(seen.entry.value) < reached.gain() {
                 return false;
             }
         }
@@ -162,7 +156,7 @@ fn keeps_plan_gain(seen: &Seen) -> bool
     ensures { IsTrue result ↔ KeepsPlanGain seen.now }
 {
     match planned(seen) {
-        Some(reached) => gain_of(&reached) == i16::from(seen.entry.value),
+        Some(reached) => reached.gain() == i16::from(seen.entry.value),
         None => true,
     }
 }
@@ -243,8 +237,8 @@ fn some_gains_in(seen: &Seen) -> bool
 {
     for reached in &seen.moves {
         if let Some(reached) = reached {
-            if gain_of(reached) == i16::from(seen.entry.value)
-                && plies_of(reached) == u64::from(seen.entry.dist)
+            if reached.gain() == i16::from(seen.entry.value)
+                && reached.plies() == u64::from(seen.entry.dist)
             {
                 return true;
             }
@@ -259,8 +253,8 @@ fn none_gains_sooner(seen: &Seen) -> bool
 {
     for reached in &seen.moves {
         if let Some(reached) = reached {
-            if gain_of(reached) == i16::from(seen.entry.value)
-                && plies_of(reached) < u64::from(seen.entry.dist)
+            if reached.gain() == i16::from(seen.entry.value)
+                && reached.plies() < u64::from(seen.entry.dist)
             {
                 return false;
             }
@@ -284,7 +278,7 @@ fn some_takes(seen: &Seen) -> bool
 {
     for reached in &seen.moves {
         if let Some(reached) = reached {
-            if plies_of(reached) == u64::from(seen.entry.dist) {
+            if reached.plies() == u64::from(seen.entry.dist) {
                 return true;
             }
         }
@@ -298,19 +292,12 @@ fn none_takes_longer(seen: &Seen) -> bool
 {
     for reached in &seen.moves {
         if let Some(reached) = reached {
-            if plies_of(reached) > u64::from(seen.entry.dist) {
+            if reached.plies() > u64::from(seen.entry.dist) {
                 return false;
             }
         }
     }
     true
-}
-
-/// How many plies the move takes.
-fn plies_of(reached: &Reached) -> u64
-    ensures { result ≡ plies_of reached.now }
-{
-    plies(reached.captured, reached.entry.dist)
 }
 
 /// The plan's move, if the plan is legal.
@@ -321,13 +308,6 @@ fn planned(seen: &Seen) -> Option<Reached>
         Some(pit) if pit < SIDE => seen.moves[pit as usize],
         _ => None,
     }
-}
-
-/// What the mover gains by the move.
-fn gain_of(reached: &Reached) -> i16
-    ensures { result ≡ gain_of reached.now }
-{
-    i16::from(reached.captured) - i16::from(reached.entry.value)
 }
 
 /// Whether the move captures, or leads to a board of a smaller distance.

@@ -5,12 +5,13 @@ ghost use Rattle.awari_board.specs.Rules.{IsLegal};
 ghost use Rattle.awari_rank.specs.Rank.{size_of, rank_of};
 ghost use Rattle.awari_table.specs.Images.{entry_of, table_of};
 ghost use Rattle.awari_verify.specs.VerifyFault.{IsShaped};
-ghost use Rattle.awari_verify.specs.Sights.{Sees, SeesMove, SeesEnd};
+ghost use Rattle.awari_table.specs.Reached.{Reaches};
+ghost use Rattle.awari_verify.specs.Sights.{Sees, SeesEnd};
 
-use crate::rules::{Reached, Seen};
+use crate::rules::Seen;
 use awari_board::SIDE;
 use awari_packed::{PackedBoard, PackedMove};
-use awari_table::{Distances, Entry, Image, Shelf};
+use awari_table::{Distances, Entry, Image, Reached, Shelf};
 
 /// Puts into `seen` what the image says of the board, which is that of this rank, and what image
 /// and shelf say of the boards that its moves lead to. Each is looked up once.
@@ -35,7 +36,7 @@ pub fn see(shelf: &Shelf, image: &Image, board: &PackedBoard, rank: u32, seen: &
 fn reached(shelf: &Shelf, image: &Image, board: &PackedBoard, pit: u8) -> Option<Reached>
     requires shaped { IsShaped Distances.Least shelf.now image.now }
     requires stones { sum board.now ≡ image.now.level }
-    ensures { SeesMove (table_of (shelf.now ++ image.now ∷ [])) board.now pit result }
+    ensures { Reaches (table_of (shelf.now ++ image.now ∷ [])) board.now pit result }
 {
     if !board.legal(pit) {
         return None;

@@ -10,7 +10,9 @@ ghost use Rattle.awari_verify.specs.VerifyFault.{IsShaped, IsDue, IsDueBy};
 use crate::rules::Rule;
 use crate::search::{Refusal, refusal_between};
 use awari_rank::size;
-use awari_table::{Distances, Entry, HIGHEST_FALLING_LEVEL, HIGHEST_LEVEL, Image, Level, Shelf};
+use awari_table::{
+    Distances, HIGHEST_FALLING_LEVEL, HIGHEST_LEVEL, Image, Level, Shelf, greatest_dist,
+};
 use std::fmt;
 use thiserror::Error;
 
@@ -156,15 +158,4 @@ fn highest_by(asked: Distances) -> u8
         Distances::Falling => HIGHEST_FALLING_LEVEL,
         Distances::Least => HIGHEST_LEVEL,
     }
-}
-
-/// The greatest distance, 0 for none.
-pub fn greatest_dist(entries: &[Entry]) -> u32
-    ensures { result ≡ greatest_dist entries.now }
-{
-    let mut most = 0u32;
-    for entry in entries {
-        most = most.max(entry.dist);
-    }
-    most
 }

@@ -8,7 +8,7 @@ pub loop-pit-init : goal.loop-pit-init
 loop-pit-init c = farthest-none _ _
 
 pub loop-pit-preserved : goal.loop-pit-preserved
-loop-pit-preserved c = farthest-more (table_of (topped c.args.shelf.now c.args.entries.now)) _ _ _ c.step.result _ c.loop-pit.invariant c.step.ensures c.farther-farthest.ensures
+loop-pit-preserved c = farthest-more (table_of (topped c.args.shelf.now c.args.entries.now)) _ _ _ c.reached.result _ c.loop-pit.invariant c.reached.ensures c.farther-farthest.ensures
 
 pub returns : goal.returns
 returns c = farthest-all (table_of (topped c.args.shelf.now c.args.entries.now)) _ _ _ c.loop-pit.invariant (omega arith)

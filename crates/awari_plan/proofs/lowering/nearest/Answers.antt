@@ -9,7 +9,7 @@ loop-pit-init c = nearest-none (table_of (topped c.args.shelf.now c.args.entries
 
 pub loop-pit-preserved : goal.loop-pit-preserved
 loop-pit-preserved c =
-    nearest-more (table_of (topped c.args.shelf.now c.args.entries.now)) _ _ c.args.own.value _ c.step.result _ (ap (λ e. e.value) c.requires.own) c.loop-pit.invariant c.step.ensures c.nearer-nearest.ensures
+    nearest-more (table_of (topped c.args.shelf.now c.args.entries.now)) _ _ c.args.own.value _ c.reached.result _ (ap (λ e. e.value) c.requires.own) c.loop-pit.invariant c.reached.ensures c.nearer-nearest.ensures
 
 pub returns : goal.returns
 returns c = nearest-all (table_of (topped c.args.shelf.now c.args.entries.now)) _ _ _ c.loop-pit.invariant (omega arith)

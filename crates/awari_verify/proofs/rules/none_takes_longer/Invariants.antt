@@ -1,5 +1,5 @@
 use Rattle.std.proofs.Common.{ℕ, ◌<◌, ◌≤◌, None, IfSome, get_or}
-use Rattle.awari_verify.specs.Sights.{plies_of}
+use Rattle.awari_table.specs.Reached.{plies_of}
 use Rattle.awari_verify.proofs.rules.none_takes_longer.Given as goal
 
 abbrev pub invariant-loop-reached : goal.invariant-loop-reached

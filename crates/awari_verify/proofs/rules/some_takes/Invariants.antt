@@ -1,5 +1,5 @@
 use Rattle.std.proofs.Common.{◌≡◌, ℕ, ◌<◌, None, IsSomeAnd, get_or}
-use Rattle.awari_verify.specs.Sights.{plies_of}
+use Rattle.awari_table.specs.Reached.{plies_of}
 use Rattle.awari_verify.proofs.rules.some_takes.Given as goal
 
 abbrev pub invariant-loop-reached : goal.invariant-loop-reached

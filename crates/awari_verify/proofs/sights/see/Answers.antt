@@ -1,7 +1,7 @@
 use Rattle.std.proofs.Common.{◌≡◌, sum, sym, ap, ◌∙◌, ◌<◌, ◌≢◌, ◌++◌, ◌∷◌, [], None, length, get_or, arith, below_more, length-set, get_or-set_other, get_or-set_same, slice_set}
 use Rattle.awari_table.specs.Images.{table_of}
 use Rattle.awari_table.specs.declared.images.Entry.{Entry}
-use Rattle.awari_verify.specs.Sights.{SeesMove}
+use Rattle.awari_table.specs.Reached.{Reaches}
 use Rattle.awari_table.proofs.EntryLemmas.{entry_of-top}
 use Rattle.awari_verify.proofs.sights.see.Goals as goal
 
@@ -9,7 +9,7 @@ pub loop-pit-preserved : goal.loop-pit-preserved
 loop-pit-preserved c =
     let six = c.loop-pit.invariant.0 in (
       simp length-set six,
-      below_more (λ x. SeesMove (table_of (c.args.shelf.now ++ c.args.image.now ∷ [])) c.args.board.now x (get_or (slice_set c.loop-pit.seen.moves c.loop-pit.pit c.reached.result) x None)) c.loop-pit.pit
+      below_more (λ x. Reaches (table_of (c.args.shelf.now ++ c.args.image.now ∷ [])) c.args.board.now x (get_or (slice_set c.loop-pit.seen.moves c.loop-pit.pit c.reached.result) x None)) c.loop-pit.pit
           (λ k h. let ne : k ≢ c.loop-pit.pit = omega arith in rw get_or-set_other (c.loop-pit.invariant.1 k h))
           (let lt : c.loop-pit.pit < length c.loop-pit.seen.moves = omega arith in rw get_or-set_same c.reached.ensures),
     )

@@ -1,5 +1,5 @@
 use Rattle.std.proofs.Common.{ap}
-use Rattle.awari_plan.proofs.lowering.step.Goals as goal
+use Rattle.awari_plan.proofs.lowering.reached.Goals as goal
 
 pub returns : goal.returns
 returns c =
