@@ -147,8 +147,8 @@ impl Cell {
         self.mark == Mark::Ended && place.gain == place.level
     }
 
-    /// The one gain whose opening may settle the board, which is not settled yet, in a level of so many
-    /// stones, if there is one.
+    /// The gain whose opening may settle the board, in a level of so many stones: that of its end, or what
+    /// its best capture gains or loses. None where it is settled, or has neither.
     pub(crate) fn awaited_gain(&self, level: u8) -> Option<u8>
         requires low { level ≤ 24 }
         requires fits { FitsBy self.now.mark level (level + 1) self.now.score self.now.dist }

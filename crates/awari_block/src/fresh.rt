@@ -20,8 +20,8 @@ const STEP: usize = 16;
 pub struct Fresh {
     /// A bit for each board, a word for each run.
     words: Vec<u64>,
-    /// No fresh board of a run is nearer than this, but those at hand. It is the greatest there is where no
-    /// other is fresh.
+    /// For each run, a distance that none of its fresh boards is below, those at hand left out: the greatest
+    /// u32 where no other is fresh.
     least: Vec<u32>,
     /// How many boards are fresh.
     count: usize,

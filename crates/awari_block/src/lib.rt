@@ -1,8 +1,8 @@
 //! The boards of a block of a level that is in work.
 //!
 //! A [`Block`] is the boards of a level from one rank up to, not including, another. Its [`Boards`] have
-//! a [`Cell`] each, which says what is known of the board, and those are fresh that are settled and were
-//! not spread yet. A [`Note`] says of a quiet move that it leads to a settled board. What a cell has to
+//! a [`Cell`] each, which says what is known of the board. A board is fresh while it is settled and not
+//! spread yet. A [`Note`] says of a quiet move that it leads to a settled board. What a cell has to
 //! know of the notes that its board heard is defined in `specs/Tally.antt`. `Boards::unopened` takes all
 //! the memory that the boards will ever need, and no other call takes any.
 //!
@@ -20,6 +20,7 @@ mod cells;
 mod closed;
 mod fresh;
 mod landmarks;
+mod laws;
 mod notes;
 mod places;
 mod words;
@@ -27,5 +28,6 @@ mod words;
 pub use boards::Boards;
 pub use cells::{Cell, Mark};
 pub use closed::ClosedPart;
+pub use laws::worked_examples;
 pub use notes::{Kind, Note};
 pub use places::{Block, Place, block_length};

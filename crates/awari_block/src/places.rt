@@ -81,8 +81,8 @@ fn first_rank(boards: u32, owners: u8, owner: u8) -> u32
     (u64::from(owner) * u64::from(length)).min(u64::from(boards)) as u32
 }
 
-/// How many boards each block has but the last ones, where so many boards are shared out. Condition: there
-/// is one owner at least.
+/// How many boards each block has but the last ones, where so many boards are shared out among so many
+/// owners. Condition: there is one owner at least.
 pub fn block_length(boards: u32, owners: u8) -> u32
     requires some { 1 ≤ owners }
     ensures { result ≡ (boards + (owners - 1)) / owners }

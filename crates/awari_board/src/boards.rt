@@ -149,8 +149,8 @@ impl Board {
 
     /// Plays `pit`: sows its stones, captures, and turns the board to the other player. Refused,
     /// tried in this order, are a pit above 5 as 4 `NoPit`, any pit where the play has ended as
-    /// 7 `Ended`, an empty pit as 5 `EmptyPit`, and a pit that leaves a bare opponent bare as
-    /// 6 `MustFeed`.
+    /// 7 `Ended`, an empty pit as 5 `EmptyPit`, and, where the opponent has no stones, a pit that gives
+    /// none while another does as 6 `MustFeed`.
     #[inline(always)]
     pub fn play(&self, pit: u8) -> Result<Moved, MoveFault>
         ensures ok { IsOk result ↔ IsLegal self.now pit }

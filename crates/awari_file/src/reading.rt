@@ -3,7 +3,7 @@
 ghost use Rattle.std.specs.Prelude.{◌≡◌, ◌≢◌, ◌≤◌, ◌+◌, List, ℕ, IfOk, OnOk, IsOk, IfSome, Some, Ok, Err, vec_len};
 ghost use Rattle.std.specs.Vec.{vec_capacity};
 ghost use Rattle.awari_table.specs.declared.TheConstants.{HIGHEST_LEVEL};
-ghost use Rattle.awari_table.specs.Counts.{inner_of, faults_of, Grew};
+ghost use Rattle.awari_table.specs.Counted.{inner_of, faults_of, Grew};
 ghost use Rattle.awari_table.specs.declared.images.Image.{Image};
 ghost use Rattle.sha2.specs.Hashers.{Holds256};
 ghost use Rattle.awari_file.specs.declared.faults.FileFault.{FileFault};

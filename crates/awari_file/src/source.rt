@@ -2,7 +2,7 @@
 
 ghost use Rattle.std.specs.Prelude.{◌≡◌, ◌≢◌, ◌≤◌, ◌<◌, length, take};
 ghost use Rattle.std.specs.Io.KnownBytes.{Consumes};
-ghost use Rattle.awari_table.specs.Counts.{inner_of, faults_of, Grew};
+ghost use Rattle.awari_table.specs.Counted.{inner_of, faults_of, Grew};
 ghost use Rattle.awari_file.specs.FileText.{IsBytes};
 ghost use Rattle.awari_file.specs.Source.{IsWhy};
 

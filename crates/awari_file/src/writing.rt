@@ -5,7 +5,7 @@ ghost use Rattle.std.specs.List.{flat_map};
 ghost use Rattle.std.specs.Io.KnownBytes.{Appends};
 ghost use Rattle.sha2.specs.Sha256.{sha256};
 ghost use Rattle.awari_table.specs.declared.TheConstants.{HIGHEST_LEVEL};
-ghost use Rattle.awari_table.specs.Counts.{inner_of, faults_of, Grew};
+ghost use Rattle.awari_table.specs.Counted.{inner_of, faults_of, Grew};
 ghost use Rattle.awari_table.specs.Spelling.{FitsNumbers};
 ghost use Rattle.awari_file.specs.declared.sizes.TheConstants.{BUFFERED};
 ghost use Rattle.awari_file.specs.FileText.{HasFile, header_text, entry_text, body_text, file_text};

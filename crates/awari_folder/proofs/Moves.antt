@@ -6,7 +6,7 @@ use native.Mathlib.Numerals.{unary_clauses}
 use Rattle.awari_table.specs.declared.TheConstants.{HIGHEST_LEVEL}
 use Rattle.awari_table.specs.declared.images.Image.{Image}
 use Rattle.awari_table.specs.Shelves.{Consistent}
-use Rattle.awari_table.specs.Counts.{Grew}
+use Rattle.awari_table.specs.Counted.{Grew}
 use Rattle.awari_verify.specs.VerifyFault.{IsDueBy}
 use Rattle.awari_verify.specs.declared.verdicts.VerifyFault.{VerifyFault}
 use Rattle.awari_file.specs.declared.contents.Loaded.{Loaded}

@@ -1,6 +1,6 @@
 -- What stands under the names of a folder's levels, and what its calls do to that.
 use Rattle.std.specs.Prelude.{◌≡◌, ◌≢◌, ◌<◌, ◌⊎◌, ⊤, ℕ, zero, suc, List, [], length, replicate, Option, Some, None, IfSome, IsSomeAnd, IsNone, Result, Err}
-use Rattle.awari_table.specs.Counts.{Grew}
+use Rattle.awari_table.specs.Counted.{Grew}
 use Rattle.awari_table.specs.declared.TheConstants.{HIGHEST_LEVEL}
 use Rattle.awari_table.specs.declared.images.Image.{Image}
 use Rattle.awari_folder.specs.declared.calls.Refusal.{Refusal}

@@ -2,7 +2,7 @@
 
 ghost use Rattle.std.specs.Prelude.{◌≡◌, ◌≤◌, ℕ, List, [], Option, Some, IfSome, IfOk, OnOk, OnErr};
 ghost use Rattle.awari_table.specs.declared.TheConstants.{HIGHEST_LEVEL};
-ghost use Rattle.awari_table.specs.Counts.{Grew};
+ghost use Rattle.awari_table.specs.Counted.{Grew};
 ghost use Rattle.awari_folder.specs.Contents.{Same, SameBut, Stays, StaysBut, Opens, Becomes, LeavesNoMore, LeavesToo, LeavesStill, IsLeftOf, IsWhole, Counts};
 
 use std::io::{Read, Write};

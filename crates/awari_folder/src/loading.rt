@@ -1,7 +1,7 @@
 //! A shelf from the files in a folder.
 
 ghost use Rattle.std.specs.Prelude.{◌≡◌, ℕ, ◌+◌, List, Option, IfOk, IfErr, OnOk, IfSome, Err, length, MatchResult};
-ghost use Rattle.awari_table.specs.Counts.{inner_of, faults_of, Grew};
+ghost use Rattle.awari_table.specs.Counted.{inner_of, faults_of, Grew};
 ghost use Rattle.awari_theory.specs.Truth.{TellsTruth};
 ghost use Rattle.awari_folder.specs.FolderFault.{Names, NamesLevel};
 ghost use Rattle.awari_folder.specs.NextFile.{IsNextFile, IsFileFault};

@@ -13,5 +13,7 @@
 #![tactic(auto)]
 
 mod games;
+mod laws;
 
 pub use games::Game;
+pub use laws::worked_examples;

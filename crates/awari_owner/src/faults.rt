@@ -2,7 +2,9 @@
 
 ghost use Rattle.std.specs.Prelude.{◌≡◌};
 ghost use Rattle.awari_owner.specs.OwnerFault.{number_of};
+ghost use Rattle.awari_owner.specs.declared.faults.OwnerFault.TheVariants.{Memory};
 
+use std::alloc::AllocError;
 use std::fmt;
 use thiserror::Error;
 
@@ -17,7 +19,7 @@ pub enum OwnerFault {
     Doubled,
     /// 32: a distance is the greatest that can be stored, so none can be one more.
     Far,
-    /// 33: a growth was refused.
+    /// 33: there was no room.
     Memory,
 }
 
@@ -49,5 +51,13 @@ impl fmt::Display for OwnerFault {
             OwnerFault::Far => write!(f, "{number} Far"),
             OwnerFault::Memory => write!(f, "{number} Memory"),
         }
+    }
+}
+
+impl From<AllocError> for OwnerFault {
+    ghost from_gives = { λ _ fault. fault ≡ Memory };
+
+    fn from(_error: AllocError) -> Self {
+        OwnerFault::Memory
     }
 }

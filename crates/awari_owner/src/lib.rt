@@ -1,7 +1,7 @@
 //! The analysis of a level, backward from the ends of play and the captures.
 //!
 //! A level is shared out in blocks of boards, and each owner has a [`Part`]: a cell for each board
-//! of its block. Gains are opened from the greatest inward to 1, and within a gain distances from 0
+//! of its block. Gains are opened from the greatest down to 1, and within a gain distances from 0
 //! on. A board that is settled tells the boards whose quiet moves lead to it that its mover has won
 //! or lost that gain, which may settle those. What a cell has to know of the notes that its board
 //! heard is defined in `specs/Tally.antt` of `awari_block`; `specs/Level.antt` says what the parts of a
@@ -37,3 +37,5 @@ pub use laws::{
 pub use outboxes::Outboxes;
 pub use parts::Part;
 pub use queues::{Batch, MOST_NOTES};
+// What a batch holds is named with it.
+pub use awari_block::{Kind, Note};

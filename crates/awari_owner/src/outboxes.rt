@@ -56,8 +56,8 @@ impl Outboxes {
         true
     }
 
-    /// A copy of the first batch that is to be sent to this owner. None where nothing is, and where
-    /// `to` is no other owner.
+    /// A copy of the first batch that is to be sent to this owner. None where nothing is to be sent there, or
+    /// `to` is no other owner's number.
     pub fn front(&self, to: u8) -> Option<Batch>
         ensures some { IfSome result (λ batch. (rest : List (List NoteView)) × (queue_to self.now to ≡ batch.items ∷ rest)) }
         ensures none { IfNone result (queue_to self.now to ≡ []) }

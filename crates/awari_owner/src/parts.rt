@@ -56,7 +56,7 @@ impl Model for Part {
 impl Part {
     /// The part of this owner, one of `owners`, of the shelf's next level: each board of its block
     /// with no note heard, and no gain open. There are 1 to 16 owners, and the shelf has at most
-    /// `HIGHEST_LEVEL` levels. Refused as 33 `Memory` where a growth was.
+    /// `HIGHEST_LEVEL` levels. Refused as 33 `Memory` where there was no room.
     ///
     /// It takes all the memory that the part will ever need, a little more than eleven bytes a board, and 2304
     /// bytes for the predecessors of the board that is spread.
@@ -73,10 +73,8 @@ impl Part {
     {
         shelves_are_certificates();
         let block = Block::of(shelf.levels(), owners, owner);
-        match scanned_block(alloc, shelf, block) {
-            Ok(found) => Part::from_scanned(alloc, shelf, owners, owner, block, found),
-            Err(_) => Err(OwnerFault::Memory),
-        }
+        let found = scanned_block(alloc, shelf, block)?;
+        Part::from_scanned(alloc, shelf, owners, owner, block, found)
     }
 
     /// What [`Part::scan`] answers, found by as many threads as there are processors.
@@ -99,10 +97,8 @@ impl Part {
     {
         shelves_are_certificates();
         let block = Block::of(shelf.levels(), owners, owner);
-        match scanned_block_parallel(rt, alloc, shelf, block) {
-            Ok(found) => Part::from_scanned(alloc, shelf, owners, owner, block, found),
-            Err(_) => Err(OwnerFault::Memory),
-        }
+        let found = scanned_block_parallel(rt, alloc, shelf, block)?;
+        Part::from_scanned(alloc, shelf, owners, owner, block, found)
     }
 
     /// Value in stones and distance in plies of the board of this rank, if it is settled. The rank
@@ -242,7 +238,7 @@ impl Part {
         ensures stays { KeepSettled self.old.start self.old.cells self.new.cells }
         ensures fresh { AreFresh self.new }
         ensures fault { IfErr result (λ fault. ((fault ≡ OwnerFault.Far) × (self.old.wave ≡ 2 ^ 32 - 1) × IsLeastDue self.old (Some self.old.wave) × HasFarthest self.old)
-            ⊎ ((fault ≡ OwnerFault.Memory) × (1 < length outboxes.old.queues))) }
+            ⊎ ((fault ≡ OwnerFault.Memory) × (self.old.wave < 2 ^ 32 - 1) × (1 < length outboxes.old.queues))) }
         ensures err { OnErr result ((self.new ≡ self.old) × (outboxes.new ≡ outboxes.old)) }
         ensures kept { result ≡ Ok false → outboxes.new ≡ outboxes.old }
         ensures owner { (outboxes.new.owner ≡ outboxes.old.owner) × (length outboxes.new.queues ≡ length outboxes.old.queues) }
@@ -257,9 +253,7 @@ impl Part {
         if dist == u32::MAX {
             return Err(OwnerFault::Far);
         }
-        let Ok(()) = reserve_others(&mut outboxes.queues, outboxes.owner) else {
-            return Err(OwnerFault::Memory);
-        };
+        reserve_others(&mut outboxes.queues, outboxes.owner)?;
         moves_keep_boards();
         ranks_tell_boards_apart();
         let span = block_length(size(place.level), outboxes.queues.len() as u8);
@@ -308,12 +302,8 @@ impl Part {
         ensures fresh { IfOk result AreFresh }
         ensures memory { IfErr result (λ fault. fault ≡ OwnerFault.Memory) }
     {
-        let Ok(boards) = Boards::unopened(alloc, shelf.levels(), block.start, found.cells) else {
-            return Err(OwnerFault::Memory);
-        };
-        let Ok(targets) = vec![in alloc; Target { rank: 0, pit: 0 }; MOST_PREDECESSORS] else {
-            return Err(OwnerFault::Memory);
-        };
+        let boards = Boards::unopened(alloc, shelf.levels(), block.start, found.cells)?;
+        let targets = vec![in alloc; Target { rank: 0, pit: 0 }; MOST_PREDECESSORS]?;
         Ok(Part {
             boards,
             leaving: found.leaving,

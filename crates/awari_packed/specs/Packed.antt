@@ -1,4 +1,4 @@
--- Boards in numbers: five bits a pit, pit 11 lowest, so that the order of the numbers is that of the boards.
+-- Packed boards, each in one number: five bits a pit, pit 11 lowest, so that the order of the numbers is that of the boards.
 use Rattle.std.specs.Prelude.{◌≡◌, ℕ, ◌+◌, ◌*◌, ◌/◌, ◌%◌, ◌^◌, ◌<◌, ◌≤◌, List, [], ◌∷◌, length, sum}
 use Rattle.std.proofs.Common.{zero, suc, refl, ap, arith}
 use Rattle.std.proofs.lemmas.Nat.{mod-pow-add}

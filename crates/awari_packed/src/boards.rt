@@ -45,7 +45,7 @@ pub struct PackedMove {
 }
 
 impl PackedBoard {
-    /// The same position in a number. Condition: at most 24 stones.
+    /// The same position, packed. Condition: at most 24 stones.
     pub fn new(board: &Board) -> Self
         requires { sum board.now ≤ 24 }
         ensures { result ≡ board.now }

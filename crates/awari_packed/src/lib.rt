@@ -1,4 +1,4 @@
-//! Boards of at most 24 stones, each in one number.
+//! Packed boards: boards of at most 24 stones, each in one number.
 //!
 //! Five bits hold a pit, pit 11 in the lowest, so that the numbers are in the order of the boards.
 //! A move is one addition from a table and half a turn, and a rank is six look-ups. It is for loops
@@ -22,6 +22,7 @@
 
 mod boards;
 mod captures;
+mod laws;
 mod pairs;
 mod ranks;
 mod scattering;
@@ -29,3 +30,4 @@ mod successors;
 mod words;
 
 pub use boards::{PackedBoard, PackedMove};
+pub use laws::worked_examples;

@@ -4,6 +4,7 @@ pub mod Blocks
 pub mod Whole
 pub mod Following
 pub mod Consistency
+pub mod Closing
 pub mod Lowered
 pub mod Lowerings
 pub mod Alike

@@ -2,7 +2,9 @@
 
 ghost use Rattle.std.specs.Prelude.{◌≡◌, ◌≤◌, ◌<◌, All, IfOk, OnOk, length};
 ghost use Rattle.awari_rank.specs.Rank.{size_of};
-ghost use Rattle.awari_owner.specs.Level.{AreWhole};
+ghost use Rattle.awari_table.specs.Images.{table_of};
+ghost use Rattle.awari_table.specs.Shelves.{Consistent};
+ghost use Rattle.awari_owner.specs.Level.{AreHeard, AreWhole};
 ghost use Rattle.awari_block.specs.Part.{IsClosed};
 ghost use Rattle.awari_plan.specs.Finished.{HasAllSettled, HasSettled, IsFinished};
 ghost use Rattle.awari_plan.specs.Planning.{IsPlannedImage, PushesBlock};
@@ -18,14 +20,16 @@ use std::alloc::{AllocError, Global};
 /// The image of the shelf's next level, once the parts have closed all gains: each settled board
 /// with its value and distance, any other with 0 and 0, and as plan the lowest pit that gains the
 /// value and, where that is positive, captures or leads to a smaller distance. The limit is the
-/// greatest distance. Conditions: the shelf has at most `HIGHEST_LEVEL` levels, and the parts are
+/// greatest distance. It is consistent over the shelf where the parts heard all notes of settled boards, and
+/// no others. Conditions: the shelf has at most `HIGHEST_LEVEL` levels, and the parts are
 /// all blocks of its next level in order, with no fresh board and gain 1 open. It takes memory for
 /// the entries, and a byte a board while it runs, and is refused only where that is.
 pub fn finish(alloc: Global, shelf: &Shelf, parts: &[Part]) -> Result<Image, AllocError>
     requires low { length shelf.now ≤ HIGHEST_LEVEL }
     requires whole { AreWhole (length shelf.now) parts.now }
     requires closed { All IsClosed parts.now }
-    ensures { IfOk result (IsFinished shelf.now parts.now) }
+    ensures finished { IfOk result (IsFinished shelf.now parts.now) }
+    ensures consistent { AreHeard (table_of shelf.now).value parts.now → IfOk result (Consistent shelf.now) }
 {
     let entries = settled_entries(alloc, shelf.levels(), parts)?;
     planned_image(alloc, shelf, entries)
@@ -41,7 +45,8 @@ pub fn finish_closed(
 ) -> Result<Image, AllocError>
     requires low { length shelf.now ≤ HIGHEST_LEVEL }
     requires whole { AreWhole (length shelf.now) parts.items }
-    ensures { IfOk result (IsFinished shelf.now parts.items) }
+    ensures finished { IfOk result (IsFinished shelf.now parts.items) }
+    ensures consistent { All IsClosed parts.items → AreHeard (table_of shelf.now).value parts.items → IfOk result (Consistent shelf.now) }
 {
     let entries = closed_entries(alloc, shelf.levels(), parts.as_slice())?;
 

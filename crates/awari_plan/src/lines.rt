@@ -30,7 +30,7 @@ pub struct Line {
 pub enum LineFault {
     /// 56: the board's level is not on the shelf, which has this many levels.
     NotYet { levels: u8 },
-    /// 57: a growth was refused.
+    /// 57: there was no room.
     Memory,
 }
 
@@ -92,9 +92,8 @@ fn play_out(alloc: Global, shelf: &Shelf, board: Board, limit: u32) -> Result<Li
     let mut game = Game::start(board);
     let mut moves = Vec::new(alloc);
     loop {
-        match game.outcome(limit) {
-            Some(outcome) => return Ok(Line { moves, outcome }),
-            None => {}
+        if let Some(outcome) = game.outcome(limit) {
+            return Ok(Line { moves, outcome });
         }
         let pit = play_plan(shelf, &mut game);
         moves.push(pit)?;

@@ -35,8 +35,8 @@ pub fn least(shelf: &Shelf, image: Image) -> Image
     }
 }
 
-/// Lowers distances until each is what its board's moves give. After as many passes as plies, no
-/// distance up to so many can fall any more, so each pass leaves out the boards that are as near.
+/// Lowers distances until each is what its board's moves give. After k passes no distance of at most k
+/// plies can fall any more, so the next pass leaves those boards out.
 fn lower(shelf: &Shelf, entries: &mut Vec<Entry>)
     requires low { length shelf.now ≤ 24 }
     requires sized { length entries.old.items ≡ size_of (length shelf.now) }

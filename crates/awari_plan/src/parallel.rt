@@ -1,8 +1,11 @@
 //! The image of a level, made by as many threads as there are processors.
 
-ghost use Rattle.std.specs.Prelude.{◌≡◌, ◌≤◌, ◌+◌, IfOk, OnOk, length};
+ghost use Rattle.std.specs.Prelude.{◌≡◌, ◌≤◌, ◌+◌, All, IfOk, OnOk, length};
 ghost use Rattle.awari_rank.specs.Rank.{size_of};
-ghost use Rattle.awari_owner.specs.Level.{AreWhole};
+ghost use Rattle.awari_table.specs.Images.{table_of};
+ghost use Rattle.awari_table.specs.Shelves.{Consistent};
+ghost use Rattle.awari_owner.specs.Level.{AreHeard, AreWhole};
+ghost use Rattle.awari_block.specs.Part.{IsClosed};
 ghost use Rattle.awari_plan.specs.Finished.{HasAllSettled, IsFinished};
 ghost use Rattle.awari_plan.specs.Planning.{AreLowest, AreSettled, AreValues, IsPlanned, PutsBlock, PutsPlans, SameSettled};
 ghost use Rattle.awari_table.specs.declared.TheConstants.{HIGHEST_LEVEL};
@@ -32,7 +35,8 @@ pub fn finish_parallel<R: Threads + Sync>(
 ) -> Result<Image, AllocError>
     requires low { length shelf.now ≤ HIGHEST_LEVEL }
     requires whole { AreWhole (length shelf.now) parts.items }
-    ensures { IfOk result (IsFinished shelf.now parts.items) }
+    ensures finished { IfOk result (IsFinished shelf.now parts.items) }
+    ensures consistent { All IsClosed parts.items → AreHeard (table_of shelf.now).value parts.items → IfOk result (Consistent shelf.now) }
 {
     let mut entries = settled_entries_parallel(rt, alloc, shelf.levels(), parts.as_slice())?;
 

@@ -13,10 +13,9 @@ const COLUMNS: usize = MOST_STONES as usize + 2;
 /// Row `pit` has, at `stones`, the number of ways to lay fewer than `stones` stones in the pits
 /// after `pit`.
 ///
-/// A rank counts the smaller boards. Of those that first differ at a pit, there is a number to add
-/// for each stone less in it. So the larger boards are counted instead, and the rank is what they
-/// leave of the level: those that first differ at a pit have more stones in it, and any fewer in
-/// the pits after it, which is one look-up a pit.
+/// A rank is the number of smaller boards. To count those that first differ at a pit takes a number for
+/// each stone fewer in it. The larger ones that first differ there have fewer stones after it, however
+/// they lie, which is one number a pit. So these are counted, and the rank is what they leave of the level.
 static FEWER: [[u32; COLUMNS]; 11] = [
     [
         0, 1, 12, 78, 364, 1365, 4368, 12376, 31824, 75582, 167960, 352716, 705432, 1352078,

@@ -9,4 +9,4 @@ pub mod NotYet
 pub mod Place
 pub mod Reading
 pub mod Blocks
-pub mod Counts
+pub mod Counted

@@ -27,7 +27,7 @@ pub enum TableFault {
 impl TableFault {
     ghost use Rattle.awari_table.specs.TableFault.{number_of};
 
-    /// The number of this refusal, 10 to 15.
+    /// The number of this refusal, 10 to 13, or 15.
     pub fn number(self) -> u8
         ensures { result ≡ number_of self }
     {

@@ -1,13 +1,13 @@
 //! What follows of a shelf, and of the text of a table.
 
-ghost use Rattle.std.specs.Prelude.{◌≡◌, ◌≢◌, ◌++◌, ℕ, List, length, take};
+ghost use Rattle.std.specs.Prelude.{◌≡◌, ◌≢◌, ◌++◌, ◌∷◌, [], ℕ, List, None, Some, codes, length, neg_ℤ, pos, take};
 ghost use Rattle.awari_table.specs.declared.images.Image.{Image};
 ghost use Rattle.awari_table.specs.declared.TheConstants.{HIGHEST_LEVEL};
-ghost use Rattle.awari_table.specs.Certificate.{IsCertificate};
+ghost use Rattle.awari_table.specs.Certificate.{IsCertificate, plies};
 ghost use Rattle.awari_table.specs.Images.{table_of, greatest_limit};
 ghost use Rattle.awari_table.specs.Shelves.{IsShelf};
 ghost use Rattle.awari_table.specs.declared.faults.TableFault.{TableFault};
-ghost use Rattle.awari_table.specs.Spelling.{block, table_text, IsImage, AreImages};
+ghost use Rattle.awari_table.specs.Spelling.{block, entry_line, header_line, table_text, IsImage, AreImages};
 ghost use Rattle.awari_table.specs.TableFault.{IsDueAt};
 
 /// The highest level of which tables are made, read and written is that of 24 stones.
@@ -39,4 +39,14 @@ pub fn one_text_fault_is_due()
         → IsDueAt level line bytes f → IsDueAt level line bytes g → f ≡ g }
     ensures none { (level line : ℕ) (image : Image) (rest bytes : List ℕ) (fault : TableFault) → fault ≢ TableFault.Memory
         → IsImage level image → bytes ≡ block image ++ rest → IsDueAt level line bytes fault → ⊥ }
+{}
+
+/// The definitions at rows that were worked out by hand: the lines of a text, each with its line feed (10), and
+/// the plies of a capture and of a quiet move.
+pub fn worked_examples()
+    ensures header { header_line 2 9 ≡ codes "level 2 limit 9" ++ 10 ∷ [] }
+    ensures lost { entry_line (record { value = neg_ℤ (pos 1); plan = Some 5; dist = 1 }) ≡ codes "-1 5 1" ++ 10 ∷ [] }
+    ensures ended { entry_line (record { value = pos 0; plan = None; dist = 0 }) ≡ codes "0 - 0" ++ 10 ∷ [] }
+    ensures capture { plies 2 7 ≡ 1 }
+    ensures quiet_move { plies 0 7 ≡ 8 }
 {}

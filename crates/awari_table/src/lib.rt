@@ -29,7 +29,7 @@ pub use faults::TableFault;
 pub use images::{Counts, Entries, Entry, Image, greatest_dist};
 pub use laws::{
     fronts_are_shelves, highest_level_is_24, one_text_fault_is_due, shelves_are_certificates,
-    texts_tell_images_apart,
+    texts_tell_images_apart, worked_examples,
 };
 pub use levels::Level;
 pub use rules::{Distances, Reached};

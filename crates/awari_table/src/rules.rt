@@ -11,7 +11,8 @@ pub enum Distances {
     /// That they fall along the plans: what was asked at first, of levels up to
     /// `HIGHEST_FALLING_LEVEL`.
     Falling,
-    /// That they are the least by which the plans can do.
+    /// That they are the least: of a won board the fewest plies of a move that gains the value, of a lost one
+    /// the most plies of a move.
     Least,
 }
 

@@ -146,7 +146,7 @@ impl Shelf {
         }
     }
 
-    /// The entry of a board in a number. Condition: it has so many stones, fewer than there are
+    /// The entry of a packed board. Condition: it has so many stones, fewer than there are
     /// levels. It takes no memory.
     #[inline(always)]
     pub fn entry_below(&self, board: &PackedBoard, stones: u8) -> Entry

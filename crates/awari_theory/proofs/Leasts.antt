@@ -1,14 +1,14 @@
 -- Distances that are the least are those by which play alone measures how soon it is.
-use Rattle.std.proofs.Common.{◌≡◌, ◌≢◌, ℕ, zero, suc, ◌+◌, ◌<◌, ◌≤◌, ◌⊎◌, inl, inr, List, sum, ℤ, pos, neg_ℤ, ◌-ℤ◌, ◌≤ℤ◌, ◌<ℤ◌, refl, sym, ap, ◌∙◌, subst, arith}
+use Rattle.std.proofs.Common.{◌≡◌, ◌≢◌, ℕ, zero, suc, ◌<◌, ◌≤◌, inl, inr, List, sum, ℤ, pos, ◌-ℤ◌, ◌≤ℤ◌, ◌<ℤ◌, sym, ap, ◌∙◌, subst, arith}
 use Rattle.std.proofs.lemmas.Int.{ints}
 use Rattle.awari_board.specs.Rules.{IsBoard, IsMove, IsEnded}
-use Rattle.awari_table.specs.Certificate.{Table, plies, DistancesAreLeast, IsCertificate}
+use Rattle.awari_table.specs.Certificate.{Table, DistancesAreLeast, IsCertificate}
 use Rattle.awari_table.proofs.CertificateLemmas.{plies_cases}
 use Rattle.awari_theory.specs.Worth.{IsWorth}
 use Rattle.awari_theory.specs.Least.{Within, IsLeastDistance}
 use Rattle.awari_theory.proofs.Keeps.{IsCovered}
 use Rattle.awari_theory.proofs.Forces.{IsValue, is_end, ended_or_planned, covered_move}
-use Rattle.awari_theory.proofs.Worths.{value_cases, values, worth_unique}
+use Rattle.awari_theory.proofs.Worths.{value_cases, values}
 
 -- a quiet move by which the value stays, or falls short of a negative one, leads to a board that is not even
 turned_uneven : (v w : ℤ) → (pos 0 -ℤ w) ≡ v → v ≢ pos 0 → w ≢ pos 0

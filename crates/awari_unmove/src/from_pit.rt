@@ -1,4 +1,4 @@
-//! The predecessors of a board in a number from one pit, stone by stone.
+//! The predecessors of a packed board from one pit, stone by stone.
 //!
 //! Its caller gives the pit as a constant, and the pit that the next stone had fallen into is kept, so that
 //! nothing is divided.
@@ -12,7 +12,7 @@ ghost use Rattle.awari_unmove.specs.Undoing.{IsUndoingFrom, unmoves_from};
 use awari_packed::PackedBoard;
 use std::marker::Model;
 
-/// What [`Unmoves`](crate::Unmoves) gives of one pit, of boards in numbers: the boards whose quiet
+/// What [`Unmoves`](crate::Unmoves) gives of one pit, of packed boards: the boards whose quiet
 /// move from it gives a board of at most 24 stones, each once, by the stones sown, and each with the
 /// pit. Contracts see the list of those that are still to come.
 #[derive(Drop)]
@@ -98,9 +98,8 @@ fn next_from(
         return None;
     }
     while left.pit(*last) > 0 {
-        match take_back(back, pit, stones, last, left) {
-            Some(found) => return Some(found),
-            None => {}
+        if let Some(found) = take_back(back, pit, stones, last, left) {
+            return Some(found);
         }
     }
     None

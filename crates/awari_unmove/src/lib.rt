@@ -1,7 +1,7 @@
 //! Quiet moves backward: the boards and pits whose quiet move gives a board.
 //!
 //! [`Unmoves::of`] lists them; what it lists is defined in `specs/Predecessors.antt`. [`PitUnmoves::of`]
-//! lists those from one pit, of boards in numbers, which is what the builder goes by. Nothing in this
+//! lists those from one pit, of packed boards, which is what the builder goes by. Nothing in this
 //! crate takes memory.
 //!
 //! The one quiet move that leads to a board, in `crates/awari_tests/src/predecessors.rt`:

@@ -20,9 +20,8 @@ pub fn next_unmove(
         (λ pair. unmoves_after back.now pit.old stones.old ≡ pair ∷ unmoves_after back.now pit.new stones.new) }
 {
     while *pit < SIDE {
-        match step(back, pit, stones, left) {
-            Some(found) => return Some(found),
-            None => {}
+        if let Some(found) = step(back, pit, stones, left) {
+            return Some(found);
         }
     }
     None

@@ -1,5 +1,5 @@
 use Rattle.std.proofs.Common.{subst, sym}
-use Rattle.awari_table.specs.Counts.{inner_of}
+use Rattle.awari_table.specs.Counted.{inner_of}
 use Rattle.awari_answers.specs.Texts.{AppendsText}
 use Rattle.awari_answers.proofs.TextLaws.{one_text}
 use Rattle.awari_answers.proofs.texts.write_text.Goals as goal

@@ -1,6 +1,6 @@
 use Rattle.std.proofs.Common.{◌≡◌, ◌<◌, rules, arith, List, ℕ, length, take}
 use Rattle.std.proofs.lemmas.Result.{err_from_is_err_and}
-use Rattle.awari_table.specs.Counts.{inner_of}
+use Rattle.awari_table.specs.Counted.{inner_of}
 use Rattle.awari_desk.specs.Service.{HasServed, HasBegun}
 use Rattle.awari_desk.proofs.Serves.{some_input, begun, begun_here, nothing_in, quits_whole, breaks_whole, quits_in, breaks_in}
 use Rattle.awari_desk.proofs.services.take_some.Goals as goal

@@ -1,6 +1,6 @@
 use Rattle.std.proofs.Common.{◌≡◌, ◌≤◌, ◌+◌, ◌++◌, ℕ, List, vec_len}
 use Rattle.std.specs.Vec.{vec_capacity}
-use Rattle.awari_table.specs.Counts.{inner_of, faults_of}
+use Rattle.awari_table.specs.Counted.{inner_of, faults_of}
 use Rattle.awari_table.specs.declared.images.Entry.{Entry}
 use Rattle.awari_file.specs.declared.faults.FileFault.TheVariants.{Truncated}
 use Rattle.awari_file.specs.Reading.{entries_at}

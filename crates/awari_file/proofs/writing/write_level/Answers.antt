@@ -4,7 +4,7 @@ use Rattle.std.specs.Io.KnownBytes.{Appends}
 use Rattle.std.proofs.KnownBytes.{Appends-trans}
 use Rattle.sha2.specs.Sha256.{sha256}
 use Rattle.awari_table.specs.declared.images.Entry.{Entry}
-use Rattle.awari_table.specs.Counts.{inner_of}
+use Rattle.awari_table.specs.Counted.{inner_of}
 use Rattle.awari_file.specs.FileText.{header_text, entry_text, body_text}
 use Rattle.awari_table.specs.Spelling.{FitsNumbers}
 use borrow.Author.Rules.{elem_Fits}

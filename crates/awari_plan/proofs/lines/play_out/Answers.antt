@@ -17,12 +17,12 @@ returns-in-Some-clause-value c =
 pub loop-outcome-smaller : goal.loop-outcome-smaller
 loop-outcome-smaller c =
     let small : c.args.limit < 2 ^ 32 = omega (arith, c.ranges.limit.fits) in
-    let open_still = c.in-None.ensures.none.0 refl in
+    let open_still = c.in_default.ensures.none.0 refl in
     let shows = c.loop-outcome.invariant.shows in
     left_of-more _ _ _ _ _ _ c.play_plan-pit.ensures.board c.play_plan-pit.ensures.legal open_still.1 small shows (c.play_plan-pit.ensures.played _ _ shows)
 
 pub loop-outcome-preserved : goal.loop-outcome-preserved
 loop-outcome-preserved c =
-    let none : HasNone c.args.limit c.loop-outcome.game = λ s o shown out. let has = (c.in-None.ensures.some s o shown).1 out in cc in
+    let none : HasNone c.args.limit c.loop-outcome.game = λ s o shown out. let has = (c.in_default.ensures.some s o shown).1 out in cc in
     rw (c.in_ok-push.ensures.items) (under_way-more _ _ _ _ _ _ _ _ c.loop-outcome.invariant c.play_plan-pit.ensures.board c.play_plan-pit.ensures.legal c.play_plan-pit.ensures.plan none
     (c.play_plan-pit.ensures.played _ _ c.loop-outcome.invariant.shows))

@@ -35,11 +35,11 @@ invariant_of-result c =
     let few : n ≤ 24 = omega (arith, c.requires.low) in
     let boards : c.args.block.end - c.args.block.start ≡ length c.args.found.cells.items = sym found.piece.len in
     record {
-      opened = (let gain = ap (λ (p : Part). p.gain) c.in-Ok.ensures in omega (arith, gain));
+      opened = (let gain = ap (λ (p : Part). p.gain) c.in_ok-boards.ensures in omega (arith, gain));
       each = search rules;
-      leaving = subst (λ (o : Part). AreLeaving o.level o.start (length o.cells) o.start c.args.found.leaving.items) (sym c.in-Ok.ensures)
+      leaving = subst (λ (o : Part). AreLeaving o.level o.start (length o.cells) o.start c.args.found.leaving.items) (sym c.in_ok-boards.ensures)
           (subst₂ (λ m b. AreLeaving m c.args.block.start b c.args.block.start c.args.found.leaving.items) (sym c.levels.ensures.levels) boards found.piece.leaves);
-      fresh = subst AreFresh (sym c.in-Ok.ensures)
+      fresh = subst AreFresh (sym c.in_ok-boards.ensures)
           (fresh_of_block (record { level = c.levels.result; gain = c.levels.result + 1; wave = 0; start = c.args.block.start }) c.args.found.cells.items []
           (scanned_block (table_of c.args.shelf.now).value n c.args.block.start c.args.block.end c.args.found.cells.items len (λ r h. board_reached n r few (omega (arith, h, c.requires.block.within)))
           scanned_all (record { level = c.levels.result; gain = c.levels.result + 1; wave = 0; start = c.args.block.start }) [] c.levels.ensures.levels refl));
@@ -55,7 +55,7 @@ returns-clause-scanned c =
     let scanned_all = subst (λ e. AreScanned (table_of c.args.shelf.now).value (length c.args.shelf.now) c.args.block.start e c.args.found.cells.items) behind found.piece.scanned in
     let n = length c.args.shelf.now in
     let few : n ≤ 24 = omega (arith, c.requires.low) in
-    subst (IsScan n c.args.owners c.args.owner) (sym c.in-Ok.ensures) (record {
+    subst (IsScan n c.args.owners c.args.owner) (sym c.in_ok-boards.ensures) (record {
       level = c.levels.ensures.levels;
       gain = ap (λ m. m + 1) c.levels.ensures.levels;
       wave = refl;
@@ -75,7 +75,7 @@ returns-clause-hears c =
     let scanned_all = subst (λ e. AreScanned (table_of c.args.shelf.now).value (length c.args.shelf.now) c.args.block.start e c.args.found.cells.items) behind found.piece.scanned in
     let n = length c.args.shelf.now in
     let few : n ≤ 24 = omega (arith, c.requires.low) in
-    subst (λ (o : Part). HearsOwn o []) (sym c.in-Ok.ensures)
+    subst (λ (o : Part). HearsOwn o []) (sym c.in_ok-boards.ensures)
     (hears_none _ (λ r inside. scanned_unsettled (table_of c.args.shelf.now).value n c.args.block.start c.args.block.end c.args.found.cells.items len
     (λ r h. board_reached n r few (omega (arith, h, c.requires.block.within))) scanned_all r inside.0 inside.1))
 
@@ -92,4 +92,4 @@ returns-clause-tallied c =
     let high = inside.1 in
     scanned_tally (table_of c.args.shelf.now).value p (stored_at part (rank_of p)) (c.levels.result + 1) 0 (omega (arith, stones))
     (scanned_all p is (stones ∙ c.levels.ensures.levels) low (omega (arith, low, high, len))) in
-    subst (λ (o : Part). IsTallied (table_of c.args.shelf.now).value o []) (sym c.in-Ok.ensures) tallied
+    subst (λ (o : Part). IsTallied (table_of c.args.shelf.now).value o []) (sym c.in_ok-boards.ensures) tallied

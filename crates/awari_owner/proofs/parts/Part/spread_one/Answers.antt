@@ -21,8 +21,8 @@ span_is : (old : Part) (place : Place) (boards many owners span : ℕ) → place
 span_is old place boards many owners span at size count is =
     is ∙ ap (λ s. (s + (many - 1)) / many) (size ∙ ap (λ (p : Place). size_of p.level) at) ∙ ap (λ n. (size_of old.level + (n - 1)) / n) count
 
-pub returns-in_default-reserve_others-clause-least : goal.returns-in_default-reserve_others-clause-least
-returns-in_default-reserve_others-clause-least c = λ _.
+pub returns-in_err-reserve_others-clause-least : goal.returns-in_err-reserve_others-clause-least
+returns-in_err-reserve_others-clause-least c = λ _.
     let due : IsLeastDue c.self.inside.boards (Some c.in-Some.dist) = c.in-Some.ensures.least in
     let near : c.in-Some.dist ≡ c.self.inside.boards.wave = c.if-dist-place.false ∙ ap (λ (p : Place). p.wave) c.place-place.ensures.place in
     subst (λ (o : Part). IsLeastDue o (Some o.wave)) c.self.view_is (subst (λ d. IsLeastDue c.self.inside.boards (Some d)) near due)
@@ -42,7 +42,7 @@ tell_all-requires-clause-room c =
     let many : 0 < size_of old.level = subst (λ (p : Place). 0 < size_of p.level) c.place-place.ensures.place (subst (λ n. 0 < n) c.size.ensures.boards c.size.ensures.some) in
     let spans = span_is old c.place-place.result c.size.result c.len.result (length c.outboxes.inside.queues.items) c.block_length-span.result c.place-place.ensures.place c.size.ensures.boards (search rules) c.block_length-span.ensures in
     let after : length c.reserve_others.new.queues.items ≡ length c.outboxes.inside.queues.items = search rules in
-    let room : (to : ℕ) → to < length c.outboxes.inside.queues.items → (to ≡ c.outboxes.inside.owner → ⊥) → 288 ≤ room_in c.reserve_others.new.queues.items to = λ to h. c.in-Ok.ensures.room to (search (rules, h)) in
+    let room : (to : ℕ) → to < length c.outboxes.inside.queues.items → (to ≡ c.outboxes.inside.owner → ⊥) → 288 ≤ room_in c.reserve_others.new.queues.items to = λ to h. c.in_ok-reserve_others.ensures.room to (search (rules, h)) in
     λ r below out.
     let found = room_for old c.outboxes.inside.owner c.outboxes.inside.queues.items c.reserve_others.new.queues.items c.block_length-span.result made many spans after room r
     (subst (λ (t : Part). r < size_of t.level) takes.rest below) (subst (λ (t : Part). is_held t r ≡ false) takes.rest out) in
@@ -80,8 +80,8 @@ invariant_of-outboxes-2 c =
       one = omega (arith, many', c.outboxes.invariant.one);
       own =
           own_stays old c.board-board.result told.0 c.kind_of-kind.result c.block_length-span.result c.outboxes.inside.owner c.outboxes.inside.queues.items c.reserve_others.new.queues.items c.tell_all.new.queues.items
-          are stones made many spans c.in-Ok.ensures.same puts ∙ c.outboxes.invariant.own;
-      batches = all_batches old c.block_length-span.result c.kind_of-kind.result told.0 c.outboxes.inside.queues.items c.reserve_others.new.queues.items c.tell_all.new.queues.items after c.in-Ok.ensures.same puts
+          are stones made many spans c.in_ok-reserve_others.ensures.same puts ∙ c.outboxes.invariant.own;
+      batches = all_batches old c.block_length-span.result c.kind_of-kind.result told.0 c.outboxes.inside.queues.items c.reserve_others.new.queues.items c.tell_all.new.queues.items after c.in_ok-reserve_others.ensures.same puts
           c.outboxes.invariant.batches;
     }
 
@@ -106,7 +106,7 @@ returns-clause-spread c = λ _.
     let spans = span_is old c.place-place.result c.size.result c.len.result (length c.outboxes.inside.queues.items) c.block_length-span.result c.place-place.ensures.place c.size.ensures.boards (search rules) c.block_length-span.ensures in
     let after : length c.tell_all.new.queues.items ≡ length c.outboxes.inside.queues.items = search rules in
     let sends = sends_by old c.board-board.result told.0 c.kind_of-kind.result c.block_length-span.result c.outboxes.inside.owner c.outboxes.inside.queues.items c.reserve_others.new.queues.items c.tell_all.new.queues.items
-    c.self.invariant.opened both.1 made many spans after c.in-Ok.ensures.same puts in
+    c.self.invariant.opened both.1 made many spans after c.in_ok-reserve_others.ensures.same puts in
     subst₂ (λ (o : Part) (b : Outboxes). (q : List ℕ) × (sources : List Source) × (notes : List Note) × Spreads o c.tell_all.new.boards q sources × Sends o q sources notes b (outboxes_of c.outboxes.inside.owner c.tell_all.new.queues.items)) c.self.view_is c.outboxes.view_is
     (c.board-board.result, told.0, _, both.0, sends)
 

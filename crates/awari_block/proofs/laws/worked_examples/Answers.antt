@@ -1,0 +1,18 @@
+use Rattle.std.proofs.Common.{refl}
+use Rattle.awari_block.proofs.laws.worked_examples.Goals as goal
+
+pub returns : goal.returns
+returns c = record {
+  lost = refl;
+  first_won = refl;
+  last_won = refl;
+  capture_is_better = refl;
+  settled = refl;
+  captures_win = refl;
+  captures_lose = refl;
+  not_heard_yet = refl;
+  ended = refl;
+  second_block = refl;
+  last_block = refl;
+  empty_block = refl;
+}
