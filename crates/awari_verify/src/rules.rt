@@ -142,14 +142,10 @@ fn keeps_plan(seen: &Seen) -> bool
 fn keeps_gain(seen: &Seen) -> bool
     ensures { IsTrue result ↔ KeepsGain seen.now }
 {
-    for reached in &seen.moves {
-        if let Some(reached) = reached {
-            if i16::from(seen.entry.value) < reached.gain() {
-                return false;
-            }
-        }
-    }
-    true
+    seen.moves.iter().all(|reached| match reached {
+        Some(reached) => reached.gain() <= i16::from(seen.entry.value),
+        None => true,
+    })
 }
 
 fn keeps_plan_gain(seen: &Seen) -> bool
@@ -206,14 +202,10 @@ fn keeps_losing(seen: &Seen) -> bool
     if seen.entry.value >= 0 {
         return true;
     }
-    for reached in &seen.moves {
-        if let Some(reached) = reached {
-            if !is_nearer(reached, seen.entry.dist) {
-                return false;
-            }
-        }
-    }
-    true
+    seen.moves.iter().all(|reached| match reached {
+        Some(reached) => is_nearer(reached, seen.entry.dist),
+        None => true,
+    })
 }
 
 fn keeps_least(seen: &Seen) -> bool
@@ -235,32 +227,26 @@ fn keeps_won(seen: &Seen) -> bool
 fn some_gains_in(seen: &Seen) -> bool
     ensures { IsTrue result ↔ Any (λ o. IsSomeAnd o (GainsJustIn seen.now.entry.value seen.now.entry.dist)) seen.now.moves }
 {
-    for reached in &seen.moves {
-        if let Some(reached) = reached {
-            if reached.gain() == i16::from(seen.entry.value)
+    seen.moves.iter().any(|reached| match reached {
+        Some(reached) => {
+            reached.gain() == i16::from(seen.entry.value)
                 && reached.plies() == u64::from(seen.entry.dist)
-            {
-                return true;
-            }
         }
-    }
-    false
+        None => false,
+    })
 }
 
 /// Whether each move that gains the value takes at least as many plies as the distance.
 fn none_gains_sooner(seen: &Seen) -> bool
     ensures { IsTrue result ↔ All (λ o. IfSome o (λ m. gain_of m ≡ seen.now.entry.value → seen.now.entry.dist ≤ plies_of m)) seen.now.moves }
 {
-    for reached in &seen.moves {
-        if let Some(reached) = reached {
-            if reached.gain() == i16::from(seen.entry.value)
-                && reached.plies() < u64::from(seen.entry.dist)
-            {
-                return false;
-            }
+    seen.moves.iter().all(|reached| match reached {
+        Some(reached) => {
+            reached.gain() != i16::from(seen.entry.value)
+                || u64::from(seen.entry.dist) <= reached.plies()
         }
-    }
-    true
+        None => true,
+    })
 }
 
 fn keeps_lost(seen: &Seen) -> bool
@@ -276,28 +262,20 @@ fn keeps_lost(seen: &Seen) -> bool
 fn some_takes(seen: &Seen) -> bool
     ensures { IsTrue result ↔ Any (λ o. IsSomeAnd o (λ m. plies_of m ≡ seen.now.entry.dist)) seen.now.moves }
 {
-    for reached in &seen.moves {
-        if let Some(reached) = reached {
-            if reached.plies() == u64::from(seen.entry.dist) {
-                return true;
-            }
-        }
-    }
-    false
+    seen.moves.iter().any(|reached| match reached {
+        Some(reached) => reached.plies() == u64::from(seen.entry.dist),
+        None => false,
+    })
 }
 
 /// Whether each move takes at most as many plies as the distance.
 fn none_takes_longer(seen: &Seen) -> bool
     ensures { IsTrue result ↔ All (λ o. IfSome o (λ m. plies_of m ≤ seen.now.entry.dist)) seen.now.moves }
 {
-    for reached in &seen.moves {
-        if let Some(reached) = reached {
-            if reached.plies() > u64::from(seen.entry.dist) {
-                return false;
-            }
-        }
-    }
-    true
+    seen.moves.iter().all(|reached| match reached {
+        Some(reached) => reached.plies() <= u64::from(seen.entry.dist),
+        None => true,
+    })
 }
 
 /// The plan's move, if the plan is legal.

@@ -1,5 +1,0 @@
-use Rattle.std.proofs.Common.{rules}
-use Rattle.awari_verify.proofs.rules.none_gains_sooner.Goals as goal
-
-pub loop-reached-preserved : goal.loop-reached-preserved
-loop-reached-preserved c = search rules
