@@ -1,4 +1,5 @@
-//! Says whether an image may stand as the next level of a shelf, and else which rule fails first.
+//! Says whether an image may stand as the next level of a shelf, and if not, which board breaks a
+//! rule first, and which rule. `verify_parallel` alone takes memory.
 //!
 //! Two levels that are verified, and put on a shelf, in `crates/awari_tests/src/tables.rt`:
 //!

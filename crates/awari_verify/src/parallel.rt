@@ -23,7 +23,7 @@ use std::thread::Threads;
 const PIECE: u64 = 4096;
 
 /// What [`verify`](crate::verify) answers, found by as many threads as there are processors; or 23
-/// `Memory`, where room for what each piece of the level came to was refused.
+/// `Memory`, where there was no room for what each piece of the level came to.
 pub fn verify_parallel<R: Threads + Sync>(
     rt: &R,
     alloc: Global,
@@ -35,13 +35,13 @@ pub fn verify_parallel<R: Threads + Sync>(
     ensures fault { IfErr result (λ fault. (fault ≡ VerifyFault.Memory) ⊎ IsDue shelf.now image fault) }
 
     // What the shelf with the level on it says of each of its boards is the truth: following its
-    // plans secures the value, soon, and the value is what the board is worth.
+    // plans secures the value, soon, the value is what the board is worth, and the distance is the
+    // least.
     ensures meaning { IfOk result (λ level. TellsTruth (shelf.now ++ level ∷ [])) }
 {
-    match fault_in_pieces(rt, alloc, shelf, &image) {
-        Ok(Some(fault)) => Err(fault),
-        Ok(None) => Ok(Level::new(image)),
-        Err(_) => Err(VerifyFault::Memory),
+    match fault_in_pieces(rt, alloc, shelf, &image)? {
+        Some(fault) => Err(fault),
+        None => Ok(Level::new(image)),
     }
 }
 
@@ -88,9 +88,8 @@ fn first_refusal<R: Threads + Sync>(
 {
     let pieces = found_in_pieces(rt, alloc, shelf, image, boards)?;
     for found in &pieces {
-        match found {
-            Some(refusal) => return Ok(Some(*refusal)),
-            None => {}
+        if let Some(refusal) = found {
+            return Ok(Some(*refusal));
         }
     }
     Ok(None)

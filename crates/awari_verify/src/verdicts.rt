@@ -6,6 +6,7 @@ ghost use Rattle.awari_table.specs.Images.{greatest_dist};
 ghost use Rattle.awari_table.specs.Shelves.{Consistent, ConsistentBy, IsShelf, highest_by};
 ghost use Rattle.awari_theory.specs.Truth.{TellsTruth};
 ghost use Rattle.awari_verify.specs.VerifyFault.{IsShaped, IsDue, IsDueBy};
+ghost use Rattle.awari_verify.specs.declared.verdicts.VerifyFault.TheVariants.{Memory};
 
 use crate::rules::Rule;
 use crate::search::{Refusal, refusal_between};
@@ -13,6 +14,7 @@ use awari_rank::size;
 use awari_table::{
     Distances, HIGHEST_FALLING_LEVEL, HIGHEST_LEVEL, Image, Level, Shelf, greatest_dist,
 };
+use std::alloc::AllocError;
 use std::fmt;
 use thiserror::Error;
 
@@ -27,7 +29,7 @@ pub enum VerifyFault {
     /// 22: the board of this rank is the first that breaks a rule, and this is the first rule that
     /// it breaks. Where each board keeps V1 to V6 and the limit is wrong, rank 0 and V7.
     Refused { rank: u32, rule: Rule },
-    /// 23: a growth was refused. Only [`verify_parallel`](crate::verify_parallel) takes memory.
+    /// 23: there was no room. Only [`verify_parallel`](crate::verify_parallel) takes memory.
     Memory,
 }
 
@@ -66,6 +68,14 @@ impl fmt::Display for VerifyFault {
     }
 }
 
+impl From<AllocError> for VerifyFault {
+    ghost from_gives = { λ _ fault. fault ≡ Memory };
+
+    fn from(_error: AllocError) -> Self {
+        VerifyFault::Memory
+    }
+}
+
 /// The image as a level, if it is consistent over the shelf: of its next level, with an entry for
 /// each board, with each board right by the table of the shelf with the image on top, and with the
 /// greatest distance as its limit. Otherwise it is refused as 20, 21 or 22, and dropped.
@@ -77,7 +87,8 @@ pub fn verify(shelf: &Shelf, image: Image) -> Result<Level, VerifyFault>
     ensures fault { IfErr result (IsDue shelf.now image) }
 
     // What the shelf with the level on it says of each of its boards is the truth: following its
-    // plans secures the value, soon, and the value is what the board is worth.
+    // plans secures the value, soon, the value is what the board is worth, and the distance is the
+    // least.
     ensures meaning { IfOk result (λ level. TellsTruth (shelf.now ++ level ∷ [])) }
 {
     match fault_of(shelf, &image) {
@@ -90,7 +101,7 @@ pub fn verify(shelf: &Shelf, image: Image) -> Result<Level, VerifyFault>
 /// image that stays with the caller. It takes no memory.
 pub fn fault_of(shelf: &Shelf, image: &Image) -> Option<VerifyFault>
     // An image with no fault tells the truth, on the shelf: following the plans secures the value,
-    // soon, and the value is what the board is worth.
+    // soon, the value is what the board is worth, and the distance is the least.
     ensures meaning { IsNone result → TellsTruth (shelf.now ++ image.now ∷ []) }
     ensures none { IsNone result ↔ Consistent shelf.now image.now }
     ensures fault { IfSome result (IsDue shelf.now image.now) }

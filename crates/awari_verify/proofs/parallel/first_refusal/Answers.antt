@@ -22,6 +22,6 @@ loop-found-preserved g c =
     let long = c.deref-found-items.ensures.len in
     let within = c.loop-found-test.true in
     let inside : k < vec_len c.in_ok-pieces.pieces = omega (arith, long, within) in
-    let is : slice_index_or c.in_ok-pieces.pieces.items k None ≡ None = rw c.deref-found-items.ensures.value at c.in-None.is in
+    let is : slice_index_or c.in_ok-pieces.pieces.items k None ≡ None = rw c.deref-found-items.ensures.value at c.in_default.is in
     let at = subst (IsFound T c.args.image.now.level c.args.boards k) is (c.in_ok-pieces.ensures.each k None inside) in
     RightBetween-then T c.args.image.now.level 0 (piece_start c.args.boards k) (piece_start c.args.boards (k + 1)) c.loop-found.invariant at
