@@ -1,6 +1,6 @@
 -- The file of a level, byte by byte. Whole numbers are big-endian: `to_be_bytes w16` makes 2 bytes of one, `to_be_bytes w32` 4,
 -- and `to_be_bytes w64` 8.
-use Rattle.std.specs.Prelude.{◌≡◌, ◌⊎◌, ℕ, ◌<◌, ◌≤◌, ◌^◌, ◌==◌, if◌then◌else◌, List, ◌∷◌, ◌++◌, length, Option, Some, None, IfSome, FitsSigned, slice_index}
+use Rattle.std.specs.Prelude.{◌≡◌, ◌⊎◌, ℕ, ◌<◌, ◌≤◌, ◌^◌, ◌==◌, if◌then◌else◌, List, ◌∷◌, ◌++◌, length, Option, Some, None, slice_index}
 use Rattle.std.specs.List.{flat_map, AllByRecursion}
 use Rattle.std.specs.Int.{w8, w16, w32, w64, to_be_bytes, cast_unsigned}
 use Rattle.sha2.specs.Sha256.{sha256}
@@ -8,6 +8,7 @@ use Rattle.awari_rank.specs.Rank.{size_of}
 use Rattle.awari_table.specs.declared.TheConstants.{HIGHEST_LEVEL, HIGHEST_FALLING_LEVEL}
 use Rattle.awari_table.specs.declared.images.Entry.{Entry}
 use Rattle.awari_table.specs.declared.images.Image.{Image}
+use Rattle.awari_table.specs.Spelling.{IsEntry}
 use Rattle.awari_file.specs.declared.contents.Loaded.{Loaded}
 
 -- `AWDB`, as a number of 4 bytes
@@ -41,12 +42,6 @@ file_text version image below = body_text version image below ++ sha256 (body_te
 abbrev pub IsBytes : List ℕ → Type 0
 IsBytes bytes = (i : ℕ) → slice_index bytes i < 256
 
--- an entry whose numbers fit their bytes
-pub record FitsEntry (e : Entry) : Type 0 where
-  pub value : FitsSigned w8 e.value
-  pub plan : IfSome e.plan (λ pit. pit < 6)
-  pub dist : e.dist < 2 ^ 32
-
 -- the highest level that a version has: of version 1 are the tables whose distances only had to fall
 abbrev pub highest_in : ℕ → ℕ
 highest_in version = if version == 1 then HIGHEST_FALLING_LEVEL else HIGHEST_LEVEL
@@ -60,7 +55,7 @@ pub record HasFile (version : ℕ) (image : Image) (below : List ℕ) : Type 0 w
   pub whole : length below ≡ 32
   pub bytes : IsBytes below
   pub sized : length image.entries ≡ size_of image.level
-  pub entries : AllByRecursion FitsEntry image.entries
+  pub entries : AllByRecursion IsEntry image.entries
 
 -- the bytes are the file of what was found in them, and end in its digest
 pub record IsFileOf (bytes : List ℕ) (found : Loaded) : Type 0 where

@@ -5,7 +5,7 @@ use awari_table::Image;
 /// What stands before the entries.
 #[derive(Clone, Copy)]
 pub(crate) struct Header {
-    /// The highest level that may follow goes by it.
+    /// By it goes the highest level that the file may be of.
     pub version: u16,
     pub level: u8,
     pub limit: u32,
