@@ -1,9 +1,11 @@
-//! What a right table means: who follows its plans secures its values, soon, and its values are what
-//! the positions are worth.
+//! What a right table means: who follows its plans secures its values, soon, its values are what the
+//! positions are worth, and its distances are the least.
 //!
 //! The crate is laws alone. Each is a function that does nothing, and whose contract is proved; a
-//! caller has the law by calling it. The definitions are in `specs/`: `Secures.antt` says what
-//! following plans secures, and `Worth.antt` what a position is worth, with no table.
+//! caller has the law by calling it. The definitions are in `specs/`. Two speak of no table:
+//! `Worth.antt` says what a position is worth, and `Least.antt` how soon the side that it favours can
+//! bring a capture or the end. Of a table `Secures.antt` says what following its plans secures, and
+//! `Promises.antt` what its values are. `Truth.antt` says all of it of the levels of a shelf.
 #![tactic(auto)]
 
 mod laws;
