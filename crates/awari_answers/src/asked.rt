@@ -100,7 +100,7 @@ pub fn ask_folder<T: Threads + Sync, F: Folder>(
     // That a text has one fault at most is what this call tells the proof.
     one_board_fault_is_due();
     let board = Board::parse(text)?;
-    let shelf = load_parallel(rt, folder, alloc)?.shelf;
+    let shelf = load_parallel(rt, alloc, folder)?.shelf;
     // That the levels are a shelf is what this call tells the proof.
     let _levels = shelf.levels();
     Ok(Asked { board, shelf })

@@ -124,7 +124,7 @@ pub fn run_verify<T: Threads + Sync, F: Folder, W: Write>(
     ensures verified { result ≡ 0 → PrintsFolder (F.stands folder.old) (W.contents writer.old) (W.contents writer.new) }
     ensures same { Same (F.stands folder.old) (F.stands folder.new) }
 {
-    let stored = match load_parallel(rt, folder, alloc) {
+    let stored = match load_parallel(rt, alloc, folder) {
         Ok(stored) => stored,
         Err(fault) => return refuse(writer, fault),
     };

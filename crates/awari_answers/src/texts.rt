@@ -27,7 +27,7 @@ pub fn run_text<T: Threads + Sync, F: Folder, W: Write>(
     ensures text { result ≡ 0 → PrintsText (F.stands folder.old) level (W.contents writer.old) (W.contents writer.new) }
     ensures same { Same (F.stands folder.old) (F.stands folder.new) }
 {
-    let stored = match load_parallel(rt, folder, alloc) {
+    let stored = match load_parallel(rt, alloc, folder) {
         Ok(stored) => stored,
         Err(fault) => return refuse(writer, fault),
     };

@@ -153,7 +153,7 @@ pub fn run_build_in<T: Threads + Wait + Sync, P: Progress, F: Folder, W: Write>(
     ensures keeps { (names : ℕ → Option (List ℕ)) → AreNames (F.stands folder.old) names
         → KeepsLevels top names (F.stands folder.old) (F.stands folder.new) (F.may_leave folder.old) (F.may_leave folder.new) }
 {
-    let stored = match load_parallel(builder.rt, folder, builder.alloc) {
+    let stored = match load_parallel(builder.rt, builder.alloc, folder) {
         Ok(stored) => stored,
         Err(fault) => return refuse(writer, fault),
     };

@@ -149,7 +149,7 @@ fn serve_beside<
 ) -> Result<(), ServingFault>
     ensures { OnOk result (PrintsService (F.stands folder.old) (R.remaining reader.old) (W.contents writer.old) (W.contents writer.new)) }
 {
-    let stored = load_parallel(rt, folder, alloc)?;
+    let stored = load_parallel(rt, alloc, folder)?;
     let (publisher, known) = published(rt.clone()?, alloc, &stored.shelf)?;
     let own = rt.clone()?;
     let Ok(builder) = thread::spawn(rt, move || grow(own, alloc, publisher, top, owners)) else {

@@ -37,7 +37,7 @@ fn start(
 ) -> Result<()> {
     let board = Board::parse(board.as_bytes())?;
     let mut folder = HostFolder::new(rt, rt.alloc(), Path::new(folder));
-    let shelf = load(&mut folder, rt.alloc())?.shelf;
+    let shelf = load(rt.alloc(), &mut folder)?.shelf;
     let value = shelf.entry(&board)?.value;
     println!(rt; "{board} is worth {value}")?;
     play(rt, &shelf, Game::start(board))

@@ -62,7 +62,7 @@ pub(crate) fn save_into(
 
 /// Loads the levels of a folder.
 pub(crate) fn load_from(folder: &mut impl Folder, alloc: Global) -> Result<Stored, FolderFault> {
-    load(folder, alloc)
+    load(alloc, folder)
 }
 
 /// Brings the levels of one folder over to another.

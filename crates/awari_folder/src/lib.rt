@@ -5,7 +5,7 @@
 //! `crates/awari_example/src/main.rt`:
 //!
 //!     let mut folder = HostFolder::new(rt, rt.alloc(), Path::new(folder));
-//!     let shelf = load(&mut folder, rt.alloc())?.shelf;
+//!     let shelf = load(rt.alloc(), &mut folder)?.shelf;
 //!     let value = shelf.entry(&board)?.value;
 //!     println!(rt; "{board} is worth {value}")?;
 #![tactic(auto)]

@@ -35,9 +35,9 @@ pub struct Stored {
 /// where it is not read, 86 where it is of version 1, 80 where it does not name the digest of the
 /// file before it, 83 where the level is not right over those below. It takes memory for names,
 /// entries and an `Arc` for each level; want of it is 84.
-pub fn load<F: Folder>(folder: &mut F, alloc: Global) -> Result<Stored, FolderFault>
+pub fn load<F: Folder>(alloc: Global, folder: &mut F) -> Result<Stored, FolderFault>
     // What the shelf says of each of its boards is the truth: following its plans secures the
-    // value, soon, and the value is what the board is worth.
+    // value, soon, the value is what the board is worth, and the distance is the least.
     ensures meaning { IfOk result (λ stored. TellsTruth stored.shelf) }
     ensures named { IfErr result NamesLevel }
     // Where it is known what has the names: the levels up to the first that has no file, or the first fault.
@@ -54,19 +54,20 @@ pub fn load<F: Folder>(folder: &mut F, alloc: Global) -> Result<Stored, FolderFa
 {
     load_by(
         &|shelf: &Shelf, image: Image| verify(shelf, image),
-        folder,
         alloc,
+        folder,
     )
 }
 
-/// What [`load`] answers, each level being verified by as many threads as there are processors.
+/// What [`load`] answers, each level being verified by as many threads as there are processors. It
+/// takes memory for what each piece of a level came to, too.
 pub fn load_parallel<T: Threads + Sync, F: Folder>(
     rt: &T,
-    folder: &mut F,
     alloc: Global,
+    folder: &mut F,
 ) -> Result<Stored, FolderFault>
     // What the shelf says of each of its boards is the truth: following its plans secures the
-    // value, soon, and the value is what the board is worth.
+    // value, soon, the value is what the board is worth, and the distance is the least.
     ensures meaning { IfOk result (λ stored. TellsTruth stored.shelf) }
     ensures named { IfErr result NamesLevel }
     // Where it is known what has the names: the levels up to the first that has no file, or the first fault.
@@ -83,21 +84,21 @@ pub fn load_parallel<T: Threads + Sync, F: Folder>(
 {
     load_by(
         &|shelf: &Shelf, image: Image| verify_parallel(rt, alloc, shelf, image),
-        folder,
         alloc,
+        folder,
     )
 }
 
 /// Loads the levels of a folder, each verified by this judge.
 fn load_by<V: Fn(&Shelf, Image) -> Result<Level, VerifyFault>, F: Folder>(
     judge: &V,
-    folder: &mut F,
     alloc: Global,
+    folder: &mut F,
 ) -> Result<Stored, FolderFault>
     requires callable { V.IsAlwaysCallable judge.now }
     requires judges { Judges (V.post judge.now) }
     // What the shelf says of each of its boards is the truth: following its plans secures the
-    // value, soon, and the value is what the board is worth.
+    // value, soon, the value is what the board is worth, and the distance is the least.
     ensures meaning { IfOk result (λ stored. TellsTruth stored.shelf) }
     ensures named { IfErr result NamesLevel }
     // Where it is known what has the names: the levels up to the first that has no file, or the first fault.
