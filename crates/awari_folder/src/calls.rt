@@ -7,7 +7,7 @@ ghost use Rattle.awari_folder.specs.Contents.{Same, SameBut, Stays, StaysBut, Op
 
 use std::io::{Read, Write};
 
-/// Why a call of a folder did nothing.
+/// Why a call of a folder came to nothing.
 #[derive(Clone, Copy, Debug, PartialEq, Eq)]
 pub enum Refusal {
     /// The folder refused it.

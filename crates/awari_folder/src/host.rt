@@ -23,7 +23,8 @@ pub struct HostFolder<'a, R> {
 }
 
 impl<'a, R> HostFolder<'a, R> {
-    /// The folder at this path, whether it is there or not. It takes memory for names.
+    /// The folder at this path, whether it is there or not. It takes no memory; its
+    /// calls take some for names.
     pub fn new(files: &'a R, alloc: Global, path: Path<'a>) -> Self {
         HostFolder {
             files,
@@ -37,7 +38,7 @@ impl<'a, R> HostFolder<'a, R> {
 }
 
 /// The folder, open and locked. It is refused where the folder is not there, and where another has
-/// the lock. Where the file system knows no locks, it is open alone.
+/// the lock. Where the file system knows no locks, it is opened, and goes without one.
 fn locked<R: Files<File = File>>(
     files: &R,
     alloc: Global,
@@ -66,7 +67,7 @@ fn open_file<R: Files>(files: &R, path: Path<'_>) -> io::Result<R::File> {
 /// Makes a file that was not there, in place of what a save that was killed may have left. What has
 /// the name is removed and not written to, so that no link is followed.
 fn create_file<R: Files>(files: &R, path: Path<'_>) -> io::Result<R::File> {
-    // Whatever could not be removed is met again at once.
+    // What could not be removed refuses `create_new`, and is told there.
     let _ = fs::remove_file(files, path);
     let mut how = OpenOptions::new();
     how.write(true);

@@ -18,9 +18,10 @@ use awari_table::{Counted, Level};
 /// the digest of its file.
 ///
 /// A file of that level is replaced as a whole: the new one is written beside it, brought to the
-/// disk, and takes its name. It is refused as 82 where the folder is not there or the file could
-/// not be made, and as 81 with 70 where it could not be written; then an old file stays as it was.
-/// It takes memory for names; want of it is 84.
+/// disk, and takes its name. It is refused as 82 where the folder refuses to make the file or to
+/// give it its name, as one that is not there, or that another builder has locked; and as 81 with 70
+/// where the file could not be written, or brought to the disk. Then an old file stays as it was. It
+/// takes memory for names; want of it is 84.
 pub fn save<F: Folder>(
     folder: &mut F,
     level: &Level,
@@ -82,7 +83,7 @@ struct Written<D> {
     digest: [u8; 32],
 }
 
-/// Writes the file of a level into one that is empty, and sees it on the disk.
+/// Writes the file of a level into one that is empty, and brings it to the disk.
 fn write_whole<D: Draft + Drop>(
     level: &Level,
     below: [u8; 32],
