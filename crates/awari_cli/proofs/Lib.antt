@@ -1,4 +1,4 @@
 pub mod BuildLaws
 pub mod FolderBuilds
-pub mod MovedLaws
+pub mod MigratedLaws
 pub mod OneFolder

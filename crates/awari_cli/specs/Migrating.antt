@@ -3,41 +3,41 @@ use Rattle.std.specs.Prelude.{◌≡◌, ◌⊎◌, ℕ, suc, List, ◌++◌, �
 use Rattle.std.specs.Fmt.{decimal}
 use Rattle.std.specs.Io.KnownBytes.{Appends}
 use Rattle.awari_folder.specs.Contents.{AreNames}
-use Rattle.awari_folder.specs.Migration.{IsFirstMoveFault, IsMigrated}
+use Rattle.awari_folder.specs.Migration.{IsFirstMigrationFault, IsMigrated}
 use Rattle.awari_folder.specs.declared.faults.FolderFault.{FolderFault}
 use Rattle.awari_folder.specs.declared.migrating.Limits.{Limits}
 use Rattle.awari_answers.specs.Folders.{summary_text}
 use Rattle.awari_answers.specs.declared.folders.Summary.{Summary}
-use Rattle.awari_cli.specs.declared.migrating.MovedLevel.{MovedLevel}
+use Rattle.awari_cli.specs.declared.migrating.MigratedLevel.{MigratedLevel}
 
-abbrev pub moved_text : MovedLevel → List ℕ
-moved_text moved = codes "level " ++ decimal moved.level ++ codes " limit " ++ decimal moved.limits.before ++ codes " to " ++ decimal moved.limits.after
+abbrev pub migrated_text : MigratedLevel → List ℕ
+migrated_text migrated = codes "level " ++ decimal migrated.level ++ codes " limit " ++ decimal migrated.limits.before ++ codes " to " ++ decimal migrated.limits.after
 
 -- the line of a level, ended by a line feed
-abbrev pub moved_line : ℕ → Limits → List ℕ
-moved_line level limits = moved_text (record { level = level; limits = limits }) ++ 10 ∷ []
+abbrev pub migrated_line : ℕ → Limits → List ℕ
+migrated_line level limits = migrated_text (record { level = level; limits = limits }) ++ 10 ∷ []
 
 -- the lines of levels, of which the first has this number
 unfoldable pub lines_from : ℕ → List Limits → List ℕ
 lines_from level [] = []
-lines_from level (limits ∷ rest) = moved_line level limits ++ lines_from (suc level) rest
+lines_from level (limits ∷ rest) = migrated_line level limits ++ lines_from (suc level) rest
 
 -- the lines of the levels from level 0 on
-abbrev pub moved_lines : List Limits → List ℕ
-moved_lines moved = lines_from 0 moved
+abbrev pub migrated_lines : List Limits → List ℕ
+migrated_lines migrated = lines_from 0 migrated
 
 -- Where it is known what the names have in both folders: the levels of the one were brought over into the other.
 abbrev pub IsMigratedIn : (ℕ → Option (Option (List ℕ))) → (ℕ → Option (Option (List ℕ))) → (ℕ → Option (Option (List ℕ))) → List Limits → List ℕ → Type 0
-IsMigratedIn from old new moved digest = (names others : ℕ → Option (List ℕ)) → AreNames from names → AreNames old others → IsMigrated names others new moved digest
+IsMigratedIn from old new migrated digest = (names others : ℕ → Option (List ℕ)) → AreNames from names → AreNames old others → IsMigrated names others new migrated digest
 
 -- Where it is known what the writer holds, what was written are the lines of the levels that were brought over, and the line of
 -- them all.
 abbrev pub PrintsMigrated : (ℕ → Option (Option (List ℕ))) → (ℕ → Option (Option (List ℕ))) → (ℕ → Option (Option (List ℕ)))
     → Option (List ℕ) → Option (List ℕ) → Type 0
-PrintsMigrated from old new before after = (moved : List Limits) × (summary : Summary) × (summary.levels ≡ length moved)
-    × IsMigratedIn from old new moved summary.digest × Appends before after (moved_lines moved ++ (summary_text summary ++ 10 ∷ []))
+PrintsMigrated from old new before after = (migrated : List Limits) × (summary : Summary) × (summary.levels ≡ length migrated)
+    × IsMigratedIn from old new migrated summary.digest × Appends before after (migrated_lines migrated ++ (summary_text summary ++ 10 ∷ []))
 
 -- Where it is known what the names have in both folders: all levels were brought over, or those below the first that is refused.
 abbrev pub LeavesMigrated : (ℕ → Option (Option (List ℕ))) → (ℕ → Option (Option (List ℕ))) → (ℕ → Option (Option (List ℕ))) → Type 0
 LeavesMigrated from old new = (names others : ℕ → Option (List ℕ)) → AreNames from names → AreNames old others
-    → ((moved : List Limits) × (digest : List ℕ) × IsMigrated names others new moved digest) ⊎ ((fault : FolderFault) × IsFirstMoveFault names others new fault)
+    → ((migrated : List Limits) × (digest : List ℕ) × IsMigrated names others new migrated digest) ⊎ ((fault : FolderFault) × IsFirstMigrationFault names others new fault)

@@ -4,7 +4,7 @@ ghost use Rattle.std.specs.Prelude.{◌≡◌, ◌≤◌, true};
 ghost use Rattle.std.specs.Io.KnownBytes.{Appends};
 ghost use Rattle.awari_folder.specs.Contents.{LeavesNoMore, Same};
 ghost use Rattle.awari_folder.specs.Migration.{KeepsFiles};
-ghost use Rattle.awari_cli.specs.Migrating.{LeavesMigrated, PrintsMigrated, moved_lines};
+ghost use Rattle.awari_cli.specs.Migrating.{LeavesMigrated, PrintsMigrated, migrated_lines};
 
 use awari_answers::{Summary, print, refuse, status_of};
 use awari_folder::{Folder, Limits, migrate};
@@ -14,16 +14,16 @@ use std::io::Write;
 
 /// A level that was brought over. Printed, it is its line without the line feed.
 #[derive(Clone, Copy)]
-struct MovedLevel {
+struct MigratedLevel {
     level: usize,
     limits: Limits,
 }
 
-impl fmt::Display for MovedLevel {
+impl fmt::Display for MigratedLevel {
     ghost use Rattle.std.specs.Prelude.{Some};
-    ghost use Rattle.awari_cli.specs.Migrating.{moved_text};
+    ghost use Rattle.awari_cli.specs.Migrating.{migrated_text};
 
-    ghost output = { λ moved. Some (moved_text moved) };
+    ghost output = { λ migrated. Some (migrated_text migrated) };
 
     fn fmt<W: fmt::Write>(&self, f: &mut fmt::Formatter<W>) -> fmt::Result {
         let Limits { before, after } = self.limits;
@@ -55,7 +55,7 @@ pub fn run_migrate<F: Folder, G: Folder, W: Write>(
         Ok(migrated) => migrated,
         Err(fault) => return refuse(writer, fault),
     };
-    if !print_moved(&migrated.limits, writer) {
+    if !print_migrated(&migrated.limits, writer) {
         return 1;
     }
     let levels = migrated.limits.len();
@@ -64,12 +64,12 @@ pub fn run_migrate<F: Folder, G: Folder, W: Write>(
 }
 
 /// Prints the line of each level, and says whether the writer took them.
-fn print_moved<W: Write>(moved: &[Limits], writer: &mut W) -> bool
-    ensures { result ≡ true → Appends (W.contents writer.old) (W.contents writer.new) (moved_lines moved.now) }
+fn print_migrated<W: Write>(migrated: &[Limits], writer: &mut W) -> bool
+    ensures { result ≡ true → Appends (W.contents writer.old) (W.contents writer.new) (migrated_lines migrated.now) }
 {
-    for (level, limits) in moved.iter().enumerate() {
+    for (level, limits) in migrated.iter().enumerate() {
         let limits = *limits;
-        if !print(writer, &MovedLevel { level, limits }) {
+        if !print(writer, &MigratedLevel { level, limits }) {
             return false;
         }
     }

@@ -3,4 +3,4 @@ pub mod Written
 pub mod Opened
 pub mod Log
 pub mod Saved
-pub mod Moves
+pub mod Migrations

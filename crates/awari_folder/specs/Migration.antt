@@ -14,7 +14,7 @@ use Rattle.awari_file.specs.Reading.{file_in, Fails}
 use Rattle.awari_folder.specs.declared.faults.FolderFault.{FolderFault}
 use Rattle.awari_folder.specs.declared.faults.FolderFault.TheVariants.{Below, File, Open, Verify, Memory, Occupied, Old}
 use Rattle.awari_folder.specs.declared.migrating.Limits.{Limits}
-use Rattle.awari_folder.specs.declared.migrating.Moved.{Moved}
+use Rattle.awari_folder.specs.declared.migrating.MigratedLevel.{MigratedLevel}
 use Rattle.awari_folder.specs.NextFile.{IsOverAnother, IsWrong}
 use Rattle.awari_folder.specs.Contents.{HoldsIn}
 
@@ -24,7 +24,7 @@ rules_of version = if version == 1 then Falling else Least
 
 -- What the image of a file becomes over the shelf, if it is right by the rules of its version. In version 1 the values stay, and
 -- distances and plans become the least and the lowest; in version 2 all stays.
-pub record IsMoved (version : ℕ) (shelf : List Image) (old new : Image) : Type 0 where
+pub record IsMigratedImage (version : ℕ) (shelf : List Image) (old new : Image) : Type 0 where
   pub was : ConsistentBy (rules_of version) shelf old
   pub right : Consistent shelf new
   pub nearer : version ≡ 1 → NoFarther old.entries new.entries
@@ -32,73 +32,73 @@ pub record IsMoved (version : ℕ) (shelf : List Image) (old new : Image) : Type
   pub same : version ≡ 2 → new ≡ old
 
 -- The bytes are a file over the one that ends in `below`. They end in `digest`, and over the shelf their image becomes `image`.
-pub record IsMovedFile (shelf : List Image) (below bytes : List ℕ) (image : Image) (digest : List ℕ) (limits : Limits) : Type 0 where
+pub record IsMigratedFile (shelf : List Image) (below bytes : List ℕ) (image : Image) (digest : List ℕ) (limits : Limits) : Type 0 where
   pub loaded : Loaded
   pub file : IsFileOf bytes loaded
   pub over : loaded.below ≡ below
   pub ends : digest ≡ loaded.digest
-  pub moved : IsMoved loaded.version shelf loaded.image image
+  pub migrated : IsMigratedImage loaded.version shelf loaded.image image
   pub before : limits.before ≡ loaded.image.limit
   pub after : limits.after ≡ image.limit
 
 -- The files of the first n levels, each over the one below it, become this shelf, with these limits before and after. The last
 -- file ends in this digest.
-abbrev pub MoveLevels : (ℕ → Option (List ℕ)) → ℕ → List Image → List ℕ → List Limits → Type 0
-MoveLevels names zero shelf digest limits = (shelf ≡ []) × (digest ≡ replicate 32 0) × (limits ≡ [])
-MoveLevels names (suc n) shelf digest limits = (lower : List Image) × (below : List ℕ) × (fewer : List Limits) × (image : Image) × (more : Limits)
-    × MoveLevels names n lower below fewer × IsSomeAnd (names n) (λ bytes. IsMovedFile lower below bytes image digest more)
+abbrev pub MigrateLevels : (ℕ → Option (List ℕ)) → ℕ → List Image → List ℕ → List Limits → Type 0
+MigrateLevels names zero shelf digest limits = (shelf ≡ []) × (digest ≡ replicate 32 0) × (limits ≡ [])
+MigrateLevels names (suc n) shelf digest limits = (lower : List Image) × (below : List ℕ) × (fewer : List Limits) × (image : Image) × (more : Limits)
+    × MigrateLevels names n lower below fewer × IsSomeAnd (names n) (λ bytes. IsMigratedFile lower below bytes image digest more)
     × (shelf ≡ lower ++ image ∷ []) × (limits ≡ fewer ++ more ∷ [])
 
--- the shelf's next level, moved from the file that has its name, or none where none has
-abbrev pub IsNextMoved : List Image → List ℕ → Option (List ℕ) → Option Moved → Type 0
-IsNextMoved shelf below name None = name ≡ None
-IsNextMoved shelf below name (Some moved) = IsSomeAnd name (λ bytes. IsMovedFile shelf below bytes moved.level moved.digest moved.limits)
+-- the shelf's next level, brought over from the file that has its name, or none where none has
+abbrev pub IsNextMigrated : List Image → List ℕ → Option (List ℕ) → Option MigratedLevel → Type 0
+IsNextMigrated shelf below name None = name ≡ None
+IsNextMigrated shelf below name (Some migrated) = IsSomeAnd name (λ bytes. IsMigratedFile shelf below bytes migrated.level migrated.digest migrated.limits)
 
--- All levels up to the first whose file is not there, or the highest, were moved. Where there was no file of theirs, their files
--- are now, and the last one ends in this digest; the other names have what they had.
+-- All levels up to the first whose file is not there, or the highest, were brought over. Where there was no file of theirs,
+-- their files are now, and the last one ends in this digest; the other names have what they had.
 pub record IsMigrated (names others : ℕ → Option (List ℕ)) (stands : ℕ → Option (Option (List ℕ))) (limits : List Limits) (digest : List ℕ) : Type 0 where
   pub shelf : List Image
   pub last : List ℕ
-  pub moved : MoveLevels names (length shelf) shelf last limits
+  pub migrated : MigrateLevels names (length shelf) shelf last limits
   pub end : (names (length shelf) ≡ None) ⊎ (HIGHEST_LEVEL < length shelf)
   pub free : (n : ℕ) → n < length shelf → others n ≡ None
   pub stored : HoldsIn stands shelf digest
   pub rest : (n : ℕ) → length shelf ≤ n → stands n ≡ Some (others n)
 
--- the file with these bytes can be moved
-pub record CanMove (shelf : List Image) (below bytes : List ℕ) : Type 0 where
+-- the file with these bytes can be brought over
+pub record CanMigrate (shelf : List Image) (below bytes : List ℕ) : Type 0 where
   pub image : Image
   pub digest : List ℕ
   pub limits : Limits
-  pub moved : IsMovedFile shelf below bytes image digest limits
+  pub migrated : IsMigratedFile shelf below bytes image digest limits
 
 -- The fault of the file that is next, or of the one that it is to become, where another may have its name.
-abbrev pub IsMoveFault : List Image → List ℕ → Option (List ℕ) → Option (List ℕ) → FolderFault → Type 0
-IsMoveFault shelf below name other (Below level) = (level ≡ length shelf) × IsSomeAnd name (λ bytes. (version : ℕ) × IsOverAnother version below bytes)
-IsMoveFault shelf below name other (File level fault) =
-    (level ≡ length shelf) × (IsSomeAnd name (λ bytes. Fails fault (file_in bytes)) ⊎ (IsSomeAnd name (CanMove shelf below) × (other ≡ None) × (fault ≡ Write)))
-IsMoveFault shelf below name other (Open level) = level ≡ length shelf
-IsMoveFault shelf below name other (Verify level fault) =
+abbrev pub IsMigrationFault : List Image → List ℕ → Option (List ℕ) → Option (List ℕ) → FolderFault → Type 0
+IsMigrationFault shelf below name other (Below level) = (level ≡ length shelf) × IsSomeAnd name (λ bytes. (version : ℕ) × IsOverAnother version below bytes)
+IsMigrationFault shelf below name other (File level fault) =
+    (level ≡ length shelf) × (IsSomeAnd name (λ bytes. Fails fault (file_in bytes)) ⊎ (IsSomeAnd name (CanMigrate shelf below) × (other ≡ None) × (fault ≡ Write)))
+IsMigrationFault shelf below name other (Open level) = level ≡ length shelf
+IsMigrationFault shelf below name other (Verify level fault) =
     (level ≡ length shelf) × IsSomeAnd name (λ bytes. (version : ℕ) × IsWrong version below bytes (λ image. IsDueBy (rules_of version) shelf image fault))
-IsMoveFault shelf below name other Memory = ⊤
-IsMoveFault shelf below name other (Occupied level) = (level ≡ length shelf) × IsSomeAnd name (CanMove shelf below) × IsSome other
-IsMoveFault shelf below name other (Old level) = ⊥
+IsMigrationFault shelf below name other Memory = ⊤
+IsMigrationFault shelf below name other (Occupied level) = (level ≡ length shelf) × IsSomeAnd name (CanMigrate shelf below) × IsSome other
+IsMigrationFault shelf below name other (Old level) = ⊥
 
--- The files below some level were moved, and that level has the fault. What was moved stands, and the other names have what they
--- had.
-pub record IsFirstMoveFault (names others : ℕ → Option (List ℕ)) (stands : ℕ → Option (Option (List ℕ))) (fault : FolderFault) : Type 0 where
+-- The files below some level were brought over, and that level has the fault. What was brought over stands, and the other
+-- names have what they had.
+pub record IsFirstMigrationFault (names others : ℕ → Option (List ℕ)) (stands : ℕ → Option (Option (List ℕ))) (fault : FolderFault) : Type 0 where
   pub level : ℕ
   pub shelf : List Image
   pub below : List ℕ
   pub limits : List Limits
   pub digest : List ℕ
-  pub moved : MoveLevels names level shelf below limits
+  pub migrated : MigrateLevels names level shelf below limits
   pub free : (n : ℕ) → n < level → others n ≡ None
   pub stored : HoldsIn stands shelf digest
   pub rest : (n : ℕ) → level ≤ n → stands n ≡ Some (others n)
-  pub here : IsMoveFault shelf below (names level) (others level) fault
+  pub here : IsMigrationFault shelf below (names level) (others level) fault
 
--- a whole file of version 2
+-- the whole file, of version 2, of some image over some digest
 abbrev pub IsWholeFile : Option (List ℕ) → Type 0
 IsWholeFile left = (image : Image) × (below : List ℕ) × (left ≡ Some (file_text 2 image below))
 

@@ -9,7 +9,7 @@ ghost use Rattle.awari_file.specs.FileText.{file_text};
 ghost use Rattle.awari_verify.specs.VerifyFault.{IsDueBy};
 ghost use Rattle.awari_folder.specs.FolderFault.{Names, NamesLevel};
 ghost use Rattle.awari_folder.specs.Contents.{Same, SameBut, Stays, LeavesNoMore, LeavesToo, LeavesStill, IsOfFile, OpenIfRefused, OpenIfEither, AreNames, HoldsIn};
-ghost use Rattle.awari_folder.specs.Migration.{rules_of, IsMoved, IsMovedFile, IsNextMoved, IsMoveFault, IsMigrated, IsFirstMoveFault, IsStoreFault, LeavesWhole, KeepsFiles};
+ghost use Rattle.awari_folder.specs.Migration.{rules_of, IsMigratedImage, IsMigratedFile, IsNextMigrated, IsMigrationFault, IsMigrated, IsFirstMigrationFault, IsStoreFault, LeavesWhole, KeepsFiles};
 
 use crate::calls::{Folder, Refusal};
 use crate::faults::FolderFault;
@@ -25,7 +25,7 @@ use std::sync::Arc;
 /// The levels from 0 to the highest.
 const LEVELS: usize = HIGHEST_LEVEL as usize + 1;
 
-/// The limit of a level before it was moved, and after.
+/// The limit of a level before it was brought over, and after.
 #[derive(Clone, Copy, Debug, PartialEq, Eq)]
 pub struct Limits {
     /// The limit that its file named.
@@ -34,7 +34,7 @@ pub struct Limits {
     pub after: u32,
 }
 
-/// What was moved.
+/// What was brought over.
 #[derive(Drop)]
 pub struct Migrated {
     /// The limits of the levels, from level 0 on.
@@ -61,9 +61,10 @@ pub fn migrate<F: Folder, G: Folder>(
     from: &mut F,
     to: &mut G,
 ) -> Result<Migrated, FolderFault>
-    // Where it is known what has the names in both: all levels are moved, or there is the first fault.
+    // Where it is known what has the names in both: all levels are brought over, or there is
+    // the first fault.
     ensures exact { (names others : ℕ → Option (List ℕ)) → AreNames (F.stands from.old) names → AreNames (G.stands to.old) others
-        → MatchResult result (λ done. IsMigrated names others (G.stands to.new) done.limits.items done.digest) (IsFirstMoveFault names others (G.stands to.new)) }
+        → MatchResult result (λ done. IsMigrated names others (G.stands to.new) done.limits.items done.digest) (IsFirstMigrationFault names others (G.stands to.new)) }
     ensures named { IfErr result NamesLevel }
     // Whether it is refused or not, each file stays that was there.
     ensures kept { KeepsFiles (G.stands to.old) (G.stands to.new) }
@@ -84,7 +85,7 @@ pub fn migrate<F: Folder, G: Folder>(
     let mut below = [0u8; 32];
     let mut digest = [0u8; 32];
     for _ in 0..=HIGHEST_LEVEL {
-        let Some(next) = next_moved(alloc, from, &shelf, below)? else {
+        let Some(next) = next_migrated(alloc, from, &shelf, below)? else {
             break;
         };
         let level = Arc::new(alloc, next.level)?;
@@ -98,24 +99,24 @@ pub fn migrate<F: Folder, G: Folder>(
 
 /// A level as it is to be written.
 #[derive(Drop)]
-struct Moved {
+struct MigratedLevel {
     level: Level,
     limits: Limits,
     /// The digest of the file that it comes from.
     digest: [u8; 32],
 }
 
-/// The shelf's next level, read from a folder and moved, or none where it has no file there.
-fn next_moved<F: Folder>(
+/// The shelf's next level, read from a folder and brought over, or none where it has no file there.
+fn next_migrated<F: Folder>(
     alloc: Global,
     from: &mut F,
     shelf: &Shelf,
     below: [u8; 32],
-) -> Result<Option<Moved>, FolderFault>
+) -> Result<Option<MigratedLevel>, FolderFault>
     requires { length shelf.now ≤ HIGHEST_LEVEL }
     ensures exact { (name other : Option (List ℕ)) → F.stands from.old (length shelf.now) ≡ Some name
-        → MatchResult result (IsNextMoved shelf.now below name) (IsMoveFault shelf.now below name other) }
-    ensures right { IfOk result (λ next. IfSome next (λ moved. Consistent shelf.now moved.level)) }
+        → MatchResult result (IsNextMigrated shelf.now below name) (IsMigrationFault shelf.now below name other) }
+    ensures right { IfOk result (λ next. IfSome next (λ migrated. Consistent shelf.now migrated.level)) }
     ensures named { IfErr result (Names (length shelf.now)) }
     ensures refused { OpenIfRefused result (F.refusals from.old) (F.refusals from.new) }
     ensures stands { Same (F.stands from.old) (F.stands from.new) }
@@ -127,8 +128,8 @@ fn next_moved<F: Folder>(
     let level = shelf.levels();
     match from.open(level) {
         Ok(Some(file)) => {
-            let moved = read_moved(alloc, shelf, below, &mut Counted::new(file))?;
-            Ok(Some(moved))
+            let migrated = read_migrated(alloc, shelf, below, &mut Counted::new(file))?;
+            Ok(Some(migrated))
         }
         Ok(None) => Ok(None),
         Err(Refusal::Refused) => Err(FolderFault::Open { level }),
@@ -136,16 +137,16 @@ fn next_moved<F: Folder>(
     }
 }
 
-/// Reads the file of the shelf's next level, and moves the level.
-fn read_moved<R: Read>(
+/// Reads the file of the shelf's next level, and makes of it the level that is to be written.
+fn read_migrated<R: Read>(
     alloc: Global,
     shelf: &Shelf,
     below: [u8; 32],
     reader: &mut Counted<R>,
-) -> Result<Moved, FolderFault>
-    ensures ok { IfSome (R.remaining (inner_of reader.old)) (λ bytes. IfOk result (λ moved. IsMovedFile shelf.now below bytes moved.level moved.digest moved.limits)) }
-    ensures fault { (other : Option (List ℕ)) → IfSome (R.remaining (inner_of reader.old)) (λ bytes. IfErr result (IsMoveFault shelf.now below (Some bytes) other)) }
-    ensures right { IfOk result (λ moved. Consistent shelf.now moved.level) }
+) -> Result<MigratedLevel, FolderFault>
+    ensures ok { IfSome (R.remaining (inner_of reader.old)) (λ bytes. IfOk result (λ migrated. IsMigratedFile shelf.now below bytes migrated.level migrated.digest migrated.limits)) }
+    ensures fault { (other : Option (List ℕ)) → IfSome (R.remaining (inner_of reader.old)) (λ bytes. IfErr result (IsMigrationFault shelf.now below (Some bytes) other)) }
+    ensures right { IfOk result (λ migrated. Consistent shelf.now migrated.level) }
     ensures named { IfErr result (Names (length shelf.now)) }
     ensures of_file { IfErr result IsOfFile }
 {
@@ -165,11 +166,11 @@ fn read_moved<R: Read>(
         ..
     } = loaded;
     let before = image.limit;
-    match moved_over(shelf, version, image) {
-        Ok(moved) => {
-            let after = moved.limit();
-            Ok(Moved {
-                level: moved,
+    match migrated_over(shelf, version, image) {
+        Ok(migrated) => {
+            let after = migrated.limit();
+            Ok(MigratedLevel {
+                level: migrated,
                 limits: Limits { before, after },
                 digest,
             })
@@ -179,8 +180,8 @@ fn read_moved<R: Read>(
 }
 
 /// The level that an image becomes over the shelf, if it is right by the rules of its version.
-fn moved_over(shelf: &Shelf, version: u16, image: Image) -> Result<Level, VerifyFault>
-    ensures ok { IfOk result (IsMoved version shelf.now image) }
+fn migrated_over(shelf: &Shelf, version: u16, image: Image) -> Result<Level, VerifyFault>
+    ensures ok { IfOk result (IsMigratedImage version shelf.now image) }
     ensures fault { IfErr result (IsDueBy (rules_of version) shelf.now image) }
 {
     if version != OLD_VERSION {

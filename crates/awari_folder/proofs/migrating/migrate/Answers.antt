@@ -3,8 +3,8 @@ use Rattle.std.proofs.lemmas.Result.{err_from_is_err_and}
 use Rattle.awari_folder.specs.declared.faults.FolderFault.TheVariants.{Memory}
 use Rattle.awari_table.specs.Shelves.{Consistent}
 use Rattle.awari_table.specs.declared.images.Image.{Image}
-use Rattle.awari_folder.specs.Migration.{IsNextMoved}
-use Rattle.awari_folder.proofs.Moves.{come-none, come-next, come_end, longer, leaves-more, rest-more, either_first, either_second, memory_first, fault_first, store_first}
+use Rattle.awari_folder.specs.Migration.{IsNextMigrated}
+use Rattle.awari_folder.proofs.Migrations.{come-none, come-next, come_end, longer, leaves-more, rest-more, either_first, either_second, memory_first, fault_first, store_first}
 use Rattle.awari_folder.proofs.migrating.migrate.Goals.{else-loop-test, then-loop-test+in_ok-next+in_default}
 use Rattle.awari_folder.proofs.migrating.migrate.Goals as goal
 
@@ -54,15 +54,15 @@ returns-in_err-digest-clause-exact g c = λ names others from to.
     let next = c.in-Some.next in
     let put = c.deref.result.now in
     let same : put ≡ next.level = search rules in
-    let moved = subst (IsNextMoved c.loop.shelf c.loop.below (names n)) c.in-Some.is (c.in_ok-next.ensures.exact (names n) (others n) (i.stands n ∙ from n)) in
+    let migrated = subst (IsNextMigrated c.loop.shelf c.loop.below (names n)) c.in-Some.is (c.in_ok-next.ensures.exact (names n) (others n) (i.stands n ∙ from n)) in
     let right = subst (λ o. IfSome o (λ m. Consistent c.loop.shelf m.level)) c.in-Some.is c.in_ok-next.ensures.right in
-    rw (p.1, p.2) (store_first names others _ _ c.loop.counter c.loop.shelf c.loop.below next.digest c.loop.limits.items c.loop.digest next.level put next.limits _ i.levels same (i.come names others from to) moved right
+    rw (p.1, p.2) (store_first names others _ _ c.loop.counter c.loop.shelf c.loop.below next.digest c.loop.limits.items c.loop.digest next.level put next.limits _ i.levels same (i.come names others from to) migrated right
     c.in_err-digest.ensures.fault c.in_err-digest.ensures.err)
 
 pub loop-preserved : goal.loop-preserved
 loop-preserved g c =
     let i = c.loop.invariant in
-    let e = c.next_moved.ensures in
+    let e = c.next_migrated.ensures in
     let next = c.in-Some.next in
     let arc = c.in_ok-level.ensures.ok in
     let put = c.deref.result.now in
@@ -76,9 +76,9 @@ loop-preserved g c =
       room = omega (arith, c.push_reserved.ensures.capacity, i.room);
       come = λ names others from to.
           let n = length c.loop.shelf in
-          let moved = subst (IsNextMoved c.loop.shelf c.loop.below (names n)) c.in-Some.is (c.in_ok-next.ensures.exact (names n) (others n) (i.stands n ∙ from n)) in
+          let migrated = subst (IsNextMigrated c.loop.shelf c.loop.below (names n)) c.in-Some.is (c.in_ok-next.ensures.exact (names n) (others n) (i.stands n ∙ from n)) in
           come-next names others _ _ c.loop.counter c.loop.shelf c.push.new.self c.loop.below next.digest c.loop.limits.items c.push_reserved.new.self.items c.loop.digest c.in_ok-digest.digest next.level put next.limits
-          i.levels same right (i.come names others from to) moved c.in_ok-digest.ensures.free c.store.ensures.others c.in_ok-digest.ensures.next after c.push_reserved.ensures.items;
+          i.levels same right (i.come names others from to) migrated c.in_ok-digest.ensures.free c.store.ensures.others c.in_ok-digest.ensures.next after c.push_reserved.ensures.items;
       to_rest = λ others to. rest-more others _ _ c.loop.counter put.level level c.store.ensures.others (i.to_rest others to);
       whole = λ others to. leaves-more others (g.G.Folder.stands c.loop.to) _ _ _ put c.loop.digest (i.to_rest others to put.level (omega (arith, level))) (i.whole others to) c.store.ensures.crash;
       kept = λ n bytes is. c.store.ensures.kept n bytes (i.kept n bytes is);
@@ -99,8 +99,8 @@ returns-clause-exact g c = λ names others from to.
     elim c.loop-test.branch [
       | else-loop-test w ↦ come_end names others _ c.loop.counter c.loop.shelf c.loop.below c.loop.limits.items c.loop.digest i.levels (i.come names others from to) (inr (omega (arith, i.levels, w.loop-test.false)))
       | then-loop-test+in_ok-next+in_default w ↦
-          let moved = w.in_ok-next.ensures.exact (names n) (others n) (i.stands n ∙ from n) in
-          let none : names n ≡ None = subst (IsNextMoved c.loop.shelf c.loop.below (names n)) w.in_default.is moved in
+          let migrated = w.in_ok-next.ensures.exact (names n) (others n) (i.stands n ∙ from n) in
+          let none : names n ≡ None = subst (IsNextMigrated c.loop.shelf c.loop.below (names n)) w.in_default.is migrated in
           come_end names others _ c.loop.counter c.loop.shelf c.loop.below c.loop.limits.items c.loop.digest i.levels (i.come names others from to) (inl none)
     ]
 

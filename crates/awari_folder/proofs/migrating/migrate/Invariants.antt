@@ -2,7 +2,7 @@ use Rattle.std.proofs.Common.{◌≡◌, ◌≤◌, ℕ, List, Option, Some, len
 use Rattle.std.specs.Vec.{vec_capacity}
 use Rattle.awari_folder.specs.Contents.{Same, Stays, LeavesNoMore, LeavesStill, AreNames}
 use Rattle.awari_folder.specs.Migration.{LeavesWhole, KeepsFiles}
-use Rattle.awari_folder.proofs.Moves.{HasCome}
+use Rattle.awari_folder.proofs.Migrations.{HasCome}
 use Rattle.awari_folder.proofs.migrating.migrate.Given as goal
 
 abbrev pub invariant-loop : goal.invariant-loop

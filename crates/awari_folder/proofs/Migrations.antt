@@ -1,4 +1,4 @@
--- Levels that are moved from one folder to another.
+-- Levels that are brought over from one folder to another.
 use Rattle.std.proofs.Common.{arith, ◌≡◌, ◌≢◌, ◌<◌, ◌≤◌, ◌+◌, ◌⊎◌, inl, inr, ⊎_elim, List, ℕ, suc, [], ◌∷◌, ◌++◌, length, Option, Some, None, Err, IfSome, ap, sym, refl, subst, ◌∙◌, length-append}
 use Rattle.std.specs.Prelude.{IsSomeAnd, replicate}
 use Rattle.std.proofs.lemmas.Bool.Decides.{eqb_tells}
@@ -16,13 +16,13 @@ use Rattle.awari_folder.specs.declared.faults.FolderFault.TheVariants.{Below, Fi
 use Rattle.awari_folder.specs.declared.loading.Stored.{Stored}
 use Rattle.awari_folder.specs.declared.migrating.Limits.{Limits}
 use Rattle.awari_folder.specs.Contents.{Same, SameBut, LeavesToo, OpenIfRefused, OpenIfEither, AreNames, HoldsIn}
-use Rattle.awari_folder.specs.Migration.{rules_of, IsMovedFile, MoveLevels, CanMove, IsMoveFault, IsStoreFault, IsMigrated, IsFirstMoveFault, LeavesWhole}
+use Rattle.awari_folder.specs.Migration.{rules_of, IsMigratedFile, MigrateLevels, CanMigrate, IsMigrationFault, IsStoreFault, IsMigrated, IsFirstMigrationFault, LeavesWhole}
 
 -- ---- a file that is opened
 
 -- what holds of the bytes under a name is a fault of the name
 pub fault_of_name : (shelf : List Image) (below : List ℕ) (name other : Option (List ℕ)) (fault : FolderFault)
-    → IsSomeAnd name (λ bytes. IsMoveFault shelf below (Some bytes) other fault) → IsMoveFault shelf below name other fault
+    → IsSomeAnd name (λ bytes. IsMigrationFault shelf below (Some bytes) other fault) → IsMigrationFault shelf below name other fault
 fault_of_name shelf below None other fault h = absurd h
 fault_of_name shelf below (Some bytes) other fault h = h
 
@@ -33,9 +33,9 @@ holds_same old new shelf digest same (names, are, held) = (names, λ n. same n �
 
 -- ---- all levels
 
--- How far a move has come: so many levels, and from there on all names are as they were.
+-- How far a migration has come: so many levels, and from there on all names are as they were.
 pub record HasCome (names others : ℕ → Option (List ℕ)) (stands : ℕ → Option (Option (List ℕ))) (n : ℕ) (shelf : List Image) (below : List ℕ) (limits : List Limits) (digest : List ℕ) : Type 0 where
-  pub moved : MoveLevels names n shelf below limits
+  pub migrated : MigrateLevels names n shelf below limits
   pub free : (i : ℕ) → i < n → others i ≡ None
   pub stored : HoldsIn stands shelf digest
   pub rest : (i : ℕ) → n ≤ i → stands i ≡ Some (others i)
@@ -43,7 +43,7 @@ pub record HasCome (names others : ℕ → Option (List ℕ)) (stands : ℕ → 
 pub come-none : (names others : ℕ → Option (List ℕ)) (stands : ℕ → Option (Option (List ℕ))) (shelf : List Image) (limits : List Limits) → AreNames stands others → shelf ≡ [] → limits ≡ []
     → HasCome names others stands 0 shelf (replicate 32 0) limits (replicate 32 0)
 come-none names others stands shelf limits are none no_limits = record {
-  moved = (none, refl, no_limits);
+  migrated = (none, refl, no_limits);
   free = λ i lt. absurd (omega (arith, lt));
   stored = subst (λ (s : List Image). HoldsIn stands s (replicate 32 0)) (sym none) (others, are, (refl, refl));
   rest = λ i _. are i;
@@ -57,11 +57,11 @@ free_more : (others : ℕ → Option (List ℕ)) (n i : ℕ) → ((k : ℕ) → 
 free_more others n i free own lt = ⊎_elim (λ e. ap others e.1 ∙ own) (λ e. free i (omega (arith, lt, e.1))) (eqb_tells i n)
 
 pub come-more : (names others : ℕ → Option (List ℕ)) (old new : ℕ → Option (Option (List ℕ))) (n : ℕ) (shelf : List Image) (below last : List ℕ) (limits : List Limits) (digest end : List ℕ) (image : Image) (more : Limits)
-    → HasCome names others old n shelf below limits digest → IsSomeAnd (names n) (λ bytes. IsMovedFile shelf below bytes image last more)
+    → HasCome names others old n shelf below limits digest → IsSomeAnd (names n) (λ bytes. IsMigratedFile shelf below bytes image last more)
     → IfSome (old n) (λ other. other ≡ None) → SameBut n old new → HoldsIn new (shelf ++ image ∷ []) end
     → HasCome names others new (n + 1) (shelf ++ image ∷ []) last (limits ++ more ∷ []) end
 come-more names others old new n shelf below last limits digest end image more come next free same stored = record {
-  moved = let moved : MoveLevels names (suc n) (shelf ++ image ∷ []) last (limits ++ more ∷ []) = (shelf, below, limits, image, more, come.moved, next, refl, refl) in simp unary_clauses moved;
+  migrated = let migrated : MigrateLevels names (suc n) (shelf ++ image ∷ []) last (limits ++ more ∷ []) = (shelf, below, limits, image, more, come.migrated, next, refl, refl) in simp unary_clauses migrated;
   free = λ i lt. free_more others n i come.free (free_here (old n) (others n) (come.rest n (omega arith)) free) lt;
   stored = stored;
   rest = λ i le. same i (λ e. omega (arith, le, e)) ∙ come.rest i (omega (arith, le));
@@ -76,50 +76,50 @@ longer shelf after image n long is = ap length is ∙ one_longer shelf image ∙
 -- The same of a level that was stored, and put on top.
 pub come-next : (names others : ℕ → Option (List ℕ)) (old new : ℕ → Option (Option (List ℕ))) (n : ℕ) (shelf after : List Image) (below last : List ℕ) (limits all : List Limits) (digest end : List ℕ) (image put : Image) (more : Limits)
     → length shelf ≡ n → put ≡ image → Consistent shelf image → HasCome names others old n shelf below limits digest
-    → IsSomeAnd (names (length shelf)) (λ bytes. IsMovedFile shelf below bytes image last more) → IfSome (old put.level) (λ other. other ≡ None) → SameBut put.level old new
+    → IsSomeAnd (names (length shelf)) (λ bytes. IsMigratedFile shelf below bytes image last more) → IfSome (old put.level) (λ other. other ≡ None) → SameBut put.level old new
     → ((s : List Image) → HoldsIn old s digest → Consistent s put → HoldsIn new (s ++ put ∷ []) end) → after ≡ shelf ++ image ∷ [] → all ≡ limits ++ more ∷ []
     → HasCome names others new (n + 1) after last all end
 come-next names others old new n shelf after below last limits all digest end image put more long same right come next free others_same stored after_is all_is =
     let level : put.level ≡ n = ap (λ (i : Image). i.level) same ∙ right.next ∙ long in
     let holds : HoldsIn new (shelf ++ image ∷ []) end = subst (λ (i : Image). HoldsIn new (shelf ++ i ∷ []) end) same (stored shelf come.stored (subst (Consistent shelf) (sym same) right)) in
-    let more_come = come-more names others old new n shelf below last limits digest end image more come (subst (λ (k : ℕ). IsSomeAnd (names k) (λ bytes. IsMovedFile shelf below bytes image last more)) long next)
+    let more_come = come-more names others old new n shelf below last limits digest end image more come (subst (λ (k : ℕ). IsSomeAnd (names k) (λ bytes. IsMigratedFile shelf below bytes image last more)) long next)
     (subst (λ (k : ℕ). IfSome (old k) (λ other. other ≡ None)) level free) (subst (λ (k : ℕ). SameBut k old new) level others_same) holds in
     subst (λ (ls : List Limits). HasCome names others new (n + 1) after last ls end) (sym all_is)
     (subst (λ (s : List Image). HasCome names others new (n + 1) s last (limits ++ more ∷ []) end) (sym after_is) more_come)
 
--- a level that can be moved and is not stored
-pub move_fault : (shelf : List Image) (below : List ℕ) (name other : Option (List ℕ)) (number : ℕ) (fault : FolderFault) → number ≡ length shelf → IsSomeAnd name (CanMove shelf below)
-    → IsStoreFault number other fault → IsMoveFault shelf below name other fault
-move_fault shelf below name other number (Below level) is can h = absurd h
-move_fault shelf below name other number (File level fault) is can h = (h.0 ∙ is, inr (can, h.1, h.2))
-move_fault shelf below name other number (Open level) is can h = h ∙ is
-move_fault shelf below name other number (Verify level fault) is can h = absurd h
-move_fault shelf below name other number Memory is can h = tt
-move_fault shelf below name other number (Occupied level) is can h = (h.0 ∙ is, can, h.1)
-move_fault shelf below name other number (Old level) is can h = absurd h
+-- a level that can be brought over and is not stored
+pub migration_fault : (shelf : List Image) (below : List ℕ) (name other : Option (List ℕ)) (number : ℕ) (fault : FolderFault) → number ≡ length shelf → IsSomeAnd name (CanMigrate shelf below)
+    → IsStoreFault number other fault → IsMigrationFault shelf below name other fault
+migration_fault shelf below name other number (Below level) is can h = absurd h
+migration_fault shelf below name other number (File level fault) is can h = (h.0 ∙ is, inr (can, h.1, h.2))
+migration_fault shelf below name other number (Open level) is can h = h ∙ is
+migration_fault shelf below name other number (Verify level fault) is can h = absurd h
+migration_fault shelf below name other number Memory is can h = tt
+migration_fault shelf below name other number (Occupied level) is can h = (h.0 ∙ is, can, h.1)
+migration_fault shelf below name other number (Old level) is can h = absurd h
 
 -- ---- refusals
 
 pub over_another : (known : Option (List ℕ)) (shelf : List Image) (below : List ℕ) (other : Option (List ℕ)) (level : ℕ) (loaded : Loaded) → level ≡ length shelf
-    → IfSome known (λ bytes. IsFileOf bytes loaded) → loaded.below ≢ below → IfSome known (λ bytes. IsMoveFault shelf below (Some bytes) other (Below level))
+    → IfSome known (λ bytes. IsFileOf bytes loaded) → loaded.below ≢ below → IfSome known (λ bytes. IsMigrationFault shelf below (Some bytes) other (Below level))
 over_another None shelf below other level loaded is found another = tt
 over_another (Some bytes) shelf below other level loaded is found another = (is, (loaded.version, record { loaded = loaded; file = found; of_version = refl; another = another }))
 
 pub wrong_level : (known : Option (List ℕ)) (shelf : List Image) (below : List ℕ) (other : Option (List ℕ)) (level : ℕ) (loaded : Loaded) (fault : VerifyFault) → level ≡ length shelf
     → IfSome known (λ bytes. IsFileOf bytes loaded) → loaded.below ≡ below → IsDueBy (rules_of loaded.version) shelf loaded.image fault
-    → IfSome known (λ bytes. IsMoveFault shelf below (Some bytes) other (Verify level fault))
+    → IfSome known (λ bytes. IsMigrationFault shelf below (Some bytes) other (Verify level fault))
 wrong_level None shelf below other level loaded fault is found over due = tt
 wrong_level (Some bytes) shelf below other level loaded fault is found over due = (is, (loaded.version, record { loaded = loaded; file = found; of_version = refl; over = over; wrong = due }))
 
 -- no room, before any level
-pub memory_first : (names others : ℕ → Option (List ℕ)) (stands : ℕ → Option (Option (List ℕ))) → AreNames stands others → IsFirstMoveFault names others stands Memory
+pub memory_first : (names others : ℕ → Option (List ℕ)) (stands : ℕ → Option (Option (List ℕ))) → AreNames stands others → IsFirstMigrationFault names others stands Memory
 memory_first names others stands are = record {
   level = 0;
   shelf = [];
   below = replicate 32 0;
   limits = [];
   digest = replicate 32 0;
-  moved = (refl, refl, refl);
+  migrated = (refl, refl, refl);
   free = λ i lt. absurd (omega (arith, lt));
   stored = (others, are, (refl, refl));
   rest = λ i _. are i;
@@ -128,48 +128,48 @@ memory_first names others stands are = record {
 
 -- a fault of the next level
 pub fault_first : (names others : ℕ → Option (List ℕ)) (stands : ℕ → Option (Option (List ℕ))) (n : ℕ) (shelf : List Image) (below : List ℕ) (limits : List Limits) (digest : List ℕ) (fault : FolderFault)
-    → length shelf ≡ n → HasCome names others stands n shelf below limits digest → IsMoveFault shelf below (names (length shelf)) (others (length shelf)) fault → IsFirstMoveFault names others stands fault
+    → length shelf ≡ n → HasCome names others stands n shelf below limits digest → IsMigrationFault shelf below (names (length shelf)) (others (length shelf)) fault → IsFirstMigrationFault names others stands fault
 fault_first names others stands n shelf below limits digest fault long come here = record {
   level = n;
   shelf = shelf;
   below = below;
   limits = limits;
   digest = digest;
-  moved = come.moved;
+  migrated = come.migrated;
   free = come.free;
   stored = come.stored;
   rest = come.rest;
-  here = subst (λ (k : ℕ). IsMoveFault shelf below (names k) (others k) fault) long here;
+  here = subst (λ (k : ℕ). IsMigrationFault shelf below (names k) (others k) fault) long here;
 }
 
-can_move : (name : Option (List ℕ)) (shelf : List Image) (below : List ℕ) (image : Image) (digest : List ℕ) (limits : Limits) → IsSomeAnd name (λ bytes. IsMovedFile shelf below bytes image digest limits)
-    → IsSomeAnd name (CanMove shelf below)
-can_move None shelf below image digest limits moved = absurd moved
-can_move (Some bytes) shelf below image digest limits moved = record { image = image; digest = digest; limits = limits; moved = moved }
+can_migrate : (name : Option (List ℕ)) (shelf : List Image) (below : List ℕ) (image : Image) (digest : List ℕ) (limits : Limits) → IsSomeAnd name (λ bytes. IsMigratedFile shelf below bytes image digest limits)
+    → IsSomeAnd name (CanMigrate shelf below)
+can_migrate None shelf below image digest limits migrated = absurd migrated
+can_migrate (Some bytes) shelf below image digest limits migrated = record { image = image; digest = digest; limits = limits; migrated = migrated }
 
 stored_at : (stand : Option (Option (List ℕ))) (other : Option (List ℕ)) (number : ℕ) (fault : FolderFault) → stand ≡ Some other → IfSome stand (λ o. IsStoreFault number o fault) → IsStoreFault number other fault
 stored_at None other number fault is h = absurd cc
 stored_at (Some o) other number fault is h = let same : o ≡ other = cc in subst (λ (p : Option (List ℕ)). IsStoreFault number p fault) same h
 
--- a fault of the next level, once it was moved
+-- a fault of the next level, once it was brought over
 pub store_first : (names others : ℕ → Option (List ℕ)) (old new : ℕ → Option (Option (List ℕ))) (n : ℕ) (shelf : List Image) (below last : List ℕ) (limits : List Limits) (digest : List ℕ) (image put : Image) (more : Limits) (fault : FolderFault)
-    → length shelf ≡ n → put ≡ image → HasCome names others old n shelf below limits digest → IsSomeAnd (names (length shelf)) (λ bytes. IsMovedFile shelf below bytes image last more) → Consistent shelf image
-    → IfSome (old put.level) (λ other. IsStoreFault put.level other fault) → Same old new → IsFirstMoveFault names others new fault
+    → length shelf ≡ n → put ≡ image → HasCome names others old n shelf below limits digest → IsSomeAnd (names (length shelf)) (λ bytes. IsMigratedFile shelf below bytes image last more) → Consistent shelf image
+    → IfSome (old put.level) (λ other. IsStoreFault put.level other fault) → Same old new → IsFirstMigrationFault names others new fault
 store_first names others old new n shelf below last limits digest image put more fault long is come next right h same =
     let level : put.level ≡ length shelf = ap (λ (i : Image). i.level) is ∙ right.next in
     let at : others put.level ≡ others (length shelf) = ap others level in
     let due : IsStoreFault put.level (others put.level) fault = stored_at (old put.level) (others put.level) put.level fault (come.rest put.level (omega (arith, level, long))) h in
-    let kept : HasCome names others new n shelf below limits digest = record { moved = come.moved; free = come.free; stored = holds_same old new shelf digest same come.stored; rest = λ i le. same i ∙ come.rest i le } in
+    let kept : HasCome names others new n shelf below limits digest = record { migrated = come.migrated; free = come.free; stored = holds_same old new shelf digest same come.stored; rest = λ i le. same i ∙ come.rest i le } in
     fault_first names others new n shelf below limits digest fault long kept
-    (move_fault shelf below (names (length shelf)) (others (length shelf)) put.level fault level (can_move (names (length shelf)) shelf below image last more next) (subst (λ (o : Option (List ℕ)). IsStoreFault put.level o fault) at due))
+    (migration_fault shelf below (names (length shelf)) (others (length shelf)) put.level fault level (can_migrate (names (length shelf)) shelf below image last more next) (subst (λ (o : Option (List ℕ)). IsStoreFault put.level o fault) at due))
 
--- the end of a move
+-- the end of a migration
 pub come_end : (names others : ℕ → Option (List ℕ)) (stands : ℕ → Option (Option (List ℕ))) (n : ℕ) (shelf : List Image) (below : List ℕ) (limits : List Limits) (digest : List ℕ)
     → length shelf ≡ n → HasCome names others stands n shelf below limits digest → (names (length shelf) ≡ None) ⊎ (HIGHEST_LEVEL < length shelf) → IsMigrated names others stands limits digest
 come_end names others stands n shelf below limits digest long come end = record {
   shelf = shelf;
   last = below;
-  moved = subst (λ (k : ℕ). MoveLevels names k shelf below limits) (sym long) come.moved;
+  migrated = subst (λ (k : ℕ). MigrateLevels names k shelf below limits) (sym long) come.migrated;
   end = end;
   free = subst (λ (k : ℕ). (i : ℕ) → i < k → others i ≡ None) (sym long) come.free;
   stored = come.stored;

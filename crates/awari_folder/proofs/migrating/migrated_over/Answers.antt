@@ -1,6 +1,6 @@
 use Rattle.awari_table.specs.declared.rules.Distances.TheVariants.{Least}
 use Rattle.awari_table.proofs.ShelfLemmas.{IsLevel-consistent}
-use Rattle.awari_folder.proofs.migrating.moved_over.Goals as goal
+use Rattle.awari_folder.proofs.migrating.migrated_over.Goals as goal
 
 pub new-requires : goal.new-requires
 new-requires c = IsLevel-consistent Least c.args.shelf.now c.least.result c.least.ensures.consistent
