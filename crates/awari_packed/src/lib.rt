@@ -10,9 +10,8 @@
 //!     let mut seen = Seen::nothing();
 //!     for rank in low..high {
 //!         see(shelf, image, &board, rank, &mut seen);
-//!         match first_broken_rule(asked, &seen) {
-//!             Some(rule) => return Some(Refusal { rank, rule }),
-//!             None => {}
+//!         if let Some(rule) = first_broken_rule(asked, &seen) {
+//!             return Some(Refusal { rank, rule });
 //!         }
 //!         match board.successor() {
 //!             Some(next) => board = next,
