@@ -79,7 +79,7 @@ impl Ends {
     }
 
     /// One more line at the end, to a new owner, with so much room. Gives that owner's line. Refused
-    /// where a growth was.
+    /// where there was no room.
     pub(crate) fn connect(&mut self, alloc: Global, room: usize) -> Result<Line, AllocError>
         ensures { IfOk result (λ theirs. Connected room self.old self.new theirs) }
     {

@@ -7,8 +7,8 @@ use crate::lines::Ends;
 use std::alloc::{AllocError, Global};
 
 /// The ends of all lines among so many owners, 1 to 16, in the order of their numbers: one line for
-/// each ordered pair of different owners, with room for `room` batches, 1 to 256. Refused where a
-/// growth was: it takes all the memory that the lines will ever need.
+/// each ordered pair of different owners, with room for `room` batches, 1 to 256. Refused where
+/// there was no room: it takes all the memory that the lines will ever need.
 pub fn grid(alloc: Global, owners: u8, room: u16) -> Result<Vec<Ends>, AllocError>
     requires owners { (1 ≤ owners) × (owners ≤ 16) }
     requires room { (1 ≤ room) × (room ≤ 256) }
