@@ -1,18 +1,16 @@
 -- The core stays sound.
-use Rattle.std.proofs.Common.{◌≡◌, ℕ, ◌+◌, ◌<◌, ◌==◌, ◌&&◌, inl, inr, true, false, cond, if◌then◌else◌, max, List, [], ◌∷◌, ◌++◌, length, get_or, set, filter, sum, ℤ, refl, sym, ap, subst, subst₂, ◌∙◌, arith, append_assoc, append-nil, get_or-set_same, get_or-set_other, length-set}
+use Rattle.std.proofs.Common.{◌≡◌, ℕ, ◌<◌, ◌==◌, ◌&&◌, inl, inr, true, false, cond, if◌then◌else◌, max, List, [], ◌∷◌, ◌++◌, length, get_or, set, filter, sum, ℤ, refl, sym, ap, subst, subst₂, ◌∙◌, arith, append_assoc, append-nil, get_or-set_same, get_or-set_other, length-set}
 use Rattle.std.proofs.lemmas.Bool.{cases_eq}
 use Rattle.std.proofs.lemmas.Bool.Decides.{nat_tests}
 use Rattle.std.proofs.lemmas.List.Elements.{All-append, All-cons, All-tail}
 use Rattle.awari_board.specs.Rules.{IsBoard}
-use Rattle.awari_rank.specs.Rank.{size_of}
 use Rattle.awari_table.specs.declared.images.Image.{Image}
 use Rattle.awari_table.specs.Images.{table_of}
 use Rattle.awari_table.specs.Shelves.{IsShelf}
 use Rattle.awari_block.specs.Notes.{IsQuietMove, Has}
 use Rattle.awari_block.specs.Part.{AreFresh, Part}
 use Rattle.awari_owner.specs.Outboxes.{AreBatches, IsBatch, queue_to, with_note, with_notes}
-use Rattle.awari_owner.specs.Spread.{Source, Sends, IsPartOf}
-use Rattle.awari_block.specs.Leaving.{first_rank}
+use Rattle.awari_owner.specs.Spread.{Source, Sends}
 use Rattle.awari_block.specs.declared.notes.Note.{Note}
 use Rattle.awari_owner.proofs.Spreading.{IsInjective}
 use Rattle.awari_owner.proofs.Sending.{note_batches}

@@ -13,8 +13,8 @@ use crate::events::Event;
 use crate::faults::CoreFault;
 use crate::hearing::hear_batch;
 use crate::laws::{scanned_owners_are_sound, sound_cores_are_told};
-use crate::openings::{nearer, open_gains, open_waves, scanned_parts};
-use crate::senders::{Sender, silent_senders};
+use crate::openings::{are_idle, nearer, open_gains, open_waves, scanned_parts};
+use crate::senders::{Sender, are_silent, silent_senders};
 use awari_board::moves_keep_boards;
 use awari_owner::{OwnerFault, Part};
 use awari_plan::{finish, finished_levels_are_consistent};
@@ -32,7 +32,9 @@ pub const MOST_ROOM: u32 = 256;
 /// How many events of a list were taken, and how many refused.
 #[derive(Clone, Copy, Debug, PartialEq, Eq)]
 pub struct Ran {
+    /// How many were taken.
     pub taken: usize,
+    /// How many were refused.
     pub refused: usize,
 }
 
@@ -78,16 +80,15 @@ impl Core {
         if shelf.levels() > HIGHEST_LEVEL {
             return Err(CoreFault::TooHigh);
         }
-        let Ok(mut core) = scanned_core(alloc, shelf, owners, room) else {
-            return Err(CoreFault::Memory);
-        };
+        let mut core = scanned_core(alloc, shelf, owners, room)?;
         core.open_next_gain();
         Ok(core)
     }
 
     /// Takes an event, if it is enabled here. Refused are an event that is not, as 34 `NotEnabled`,
-    /// and a Spread where a growth was, as 38 `Memory`; then nothing changes. Send and Take take no
-    /// memory. No distance reaches the greatest that can be stored.
+    /// and a Spread where there was no room, as 38 `Memory`; then nothing changes. A Spread takes memory
+    /// for notes to other owners, and a Send or a Take none. No distance reaches the greatest that can
+    /// be stored.
     pub fn step(&mut self, event: Event) -> Result<(), CoreFault>
         ensures sound { Sound self.new }
         ensures done { OnOk result (Does self.old self.new event) }
@@ -102,7 +103,8 @@ impl Core {
         }
     }
 
-    /// Takes each event in turn. One that is refused changes nothing, and is counted.
+    /// Takes each event in turn. One that is refused changes nothing, and is counted. It takes memory as
+    /// `step` does.
     pub fn run(&mut self, events: &[Event]) -> Ran
         ensures sound { Sound self.new }
         ensures leads { Runs self.old events.now self.new result.taken result.refused }
@@ -128,12 +130,7 @@ impl Core {
         ensures quiet { IsTrue result ↔ IsQuiet self.now }
         ensures sound { Sound self.now }
     {
-        for part in &self.parts {
-            if !part.idle() {
-                return false;
-            }
-        }
-        self.is_all_taken()
+        are_idle(&self.parts) && self.is_all_taken()
     }
 
     /// The open gain in stones, 0 where all gains are closed.
@@ -194,7 +191,7 @@ impl Core {
     }
 
     /// The image of the level, which is consistent over the shelf, once all gains are closed. Refused
-    /// as 39 `NotQuiet` before that, and as 38 `Memory` where a growth was: it takes memory for the
+    /// as 39 `NotQuiet` before that, and as 38 `Memory` where there was no room: it takes memory for the
     /// entries.
     pub fn finish(&self, alloc: Global) -> Result<Image, CoreFault>
         ensures consistent { IfOk result (Consistent self.now.shelf) }
@@ -207,10 +204,8 @@ impl Core {
         }
         sound_cores_are_told();
         finished_levels_are_consistent();
-        match finish(alloc, &self.shelf, &self.parts) {
-            Ok(image) => Ok(image),
-            Err(_) => Err(CoreFault::Memory),
-        }
+        let image = finish(alloc, &self.shelf, &self.parts)?;
+        Ok(image)
     }
 
     /// Spreads the first fresh board of this owner.
@@ -309,12 +304,7 @@ impl Core {
     fn is_all_taken(&self) -> bool
         ensures { IsTrue result ↔ IsAllTaken self.now }
     {
-        for sender in &self.senders {
-            if !sender.is_silent() {
-                return false;
-            }
-        }
-        true
+        are_silent(&self.senders)
     }
 }
 

@@ -2,7 +2,9 @@
 
 ghost use Rattle.std.specs.Prelude.{◌≡◌};
 ghost use Rattle.awari_core.specs.CoreFault.{number_of};
+ghost use Rattle.awari_core.specs.declared.faults.CoreFault.TheVariants.{Memory};
 
+use std::alloc::AllocError;
 use std::fmt;
 use thiserror::Error;
 
@@ -18,7 +20,7 @@ pub enum CoreFault {
     Room,
     /// 37: the shelf has all levels.
     TooHigh,
-    /// 38: a growth was refused.
+    /// 38: there was no room.
     Memory,
     /// 39: a board is fresh, something is under way, or a gain is open.
     NotQuiet,
@@ -56,5 +58,13 @@ impl fmt::Display for CoreFault {
             CoreFault::Memory => write!(f, "{number} Memory"),
             CoreFault::NotQuiet => write!(f, "{number} NotQuiet"),
         }
+    }
+}
+
+impl From<AllocError> for CoreFault {
+    ghost from_gives = { λ _ fault. fault ≡ Memory };
+
+    fn from(_error: AllocError) -> Self {
+        CoreFault::Memory
     }
 }

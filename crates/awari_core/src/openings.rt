@@ -1,9 +1,9 @@
 //! What is done with all parts of a level, one after the other.
 
-ghost use Rattle.std.specs.Prelude.{◌≡◌, ◌+◌, ◌<◌, ◌≤◌, ℕ, ℤ, List, [], All, IfOk, length, vec_len, slice_index_or};
+ghost use Rattle.std.specs.Prelude.{◌≡◌, ◌↔◌, ◌+◌, ◌<◌, ◌≤◌, ℕ, ℤ, List, [], All, IfOk, IsTrue, length, vec_len, slice_index_or};
 ghost use Rattle.awari_block.specs.Blocks.{due_dist};
 ghost use Rattle.awari_owner.specs.Level.{no_part};
-ghost use Rattle.awari_block.specs.Part.{AreFresh, IsTallied};
+ghost use Rattle.awari_block.specs.Part.{AreFresh, IsTallied, Part as PartView};
 ghost use Rattle.awari_owner.specs.Scan.{IsScan};
 ghost use Rattle.awari_owner.specs.Spread.{HearsOwn};
 ghost use Rattle.awari_block.specs.declared.notes.Note.{Note};
@@ -33,6 +33,13 @@ pub fn scanned_parts(alloc: Global, shelf: &Shelf, owners: u8) -> Result<Vec<Par
         parts.push(part)?;
     }
     Ok(parts)
+}
+
+/// Whether no board of these parts is fresh.
+pub fn are_idle(parts: &[Part]) -> bool
+    ensures { IsTrue result ↔ All (λ (part : PartView). part.fresh ≡ []) parts.now }
+{
+    parts.iter().all(Part::idle)
 }
 
 /// Opens this gain in all parts, none of which has a fresh board.

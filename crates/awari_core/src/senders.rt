@@ -101,16 +101,15 @@ impl Sender {
     pub fn is_silent(&self) -> bool
         ensures { IsTrue result ↔ IsSilent self.now }
     {
-        if !self.outboxes.is_empty() {
-            return false;
-        }
-        for line in &self.lines {
-            if !line.is_empty() {
-                return false;
-            }
-        }
-        true
+        self.outboxes.is_empty() && self.lines.iter().all(Line::is_empty)
     }
+}
+
+/// Whether nothing waits in the outboxes and on the lines of all these owners.
+pub fn are_silent(senders: &[Sender]) -> bool
+    ensures { IsTrue result ↔ All IsSilent senders.now }
+{
+    senders.iter().all(Sender::is_silent)
 }
 
 /// What so many owners send by, with nothing to send.

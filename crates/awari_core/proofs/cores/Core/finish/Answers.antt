@@ -6,14 +6,14 @@ use Rattle.awari_core.specs.Core.{Core, IsQuiet}
 use Rattle.awari_core.proofs.Ending.{closed_parts}
 use Rattle.awari_core.proofs.cores.Core.finish.Goals as goal
 
-pub returns-in-Ok-clause-consistent : goal.returns-in-Ok-clause-consistent
-returns-in-Ok-clause-consistent c =
+pub returns-clause-consistent : goal.returns-clause-consistent
+returns-clause-consistent c =
     let old : Core = record { shelf = c.self.inside.shelf; room = c.self.inside.room; gain = c.self.inside.gain; parts = c.self.inside.parts.items; senders = c.self.inside.senders.items } in
     let quiet : IsQuiet old = subst IsQuiet (sym c.self.view_is) (c.quiet.ensures.quiet.0 (search rules)) in
-    let finished = subst (λ (l : List Part). IsFinished old.shelf l c.in-Ok.image) c.deref.ensures.value c.in-Ok.ensures in
-    subst (λ (o : Core). Consistent o.shelf c.in-Ok.image) c.self.view_is
-    (c.finished_levels_are_consistent.ensures old.shelf old.parts c.in-Ok.image c.self.invariant.shelf c.self.invariant.low (c.sound_cores_are_told.ensures.whole old c.self.invariant)
+    let finished = subst (λ (l : List Part). IsFinished old.shelf l c.in_ok-image.image) c.deref.ensures.value c.in_ok-image.ensures in
+    subst (λ (o : Core). Consistent o.shelf c.in_ok-image.image) c.self.view_is
+    (c.finished_levels_are_consistent.ensures old.shelf old.parts c.in_ok-image.image c.self.invariant.shelf c.self.invariant.low (c.sound_cores_are_told.ensures.whole old c.self.invariant)
     (closed_parts old c.self.invariant c.if-self-ne0.false quiet) (c.sound_cores_are_told.ensures.heard old c.self.invariant quiet.1) finished)
 
-pub returns-in-Ok-clause-closed : goal.returns-in-Ok-clause-closed
-returns-in-Ok-clause-closed c = (ap (λ (o : Core). o.gain) (sym c.self.view_is) ∙ c.if-self-ne0.false, c.quiet.ensures.quiet.0 (search rules))
+pub returns-clause-closed : goal.returns-clause-closed
+returns-clause-closed c = (ap (λ (o : Core). o.gain) (sym c.self.view_is) ∙ c.if-self-ne0.false, c.quiet.ensures.quiet.0 (search rules))
