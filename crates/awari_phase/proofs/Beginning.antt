@@ -10,7 +10,8 @@ use Rattle.awari_lines.specs.Seats.{seat_of}
 use Rattle.awari_lines.specs.declared.lines.Ends.{Ends}
 use Rattle.awari_lines.specs.declared.lines.Line.{Line}
 use Rattle.awari_phase.specs.declared.owners.Owner.{Owner}
-use Rattle.awari_phase.specs.Sound.{Batches, queue_to, HoldsNotes, IsOpenBatch, IsOtherOf}
+use Rattle.awari_owner.specs.Outboxes.{queue_to}
+use Rattle.awari_phase.specs.Sound.{Batches, HoldsNotes, IsOpenBatch, IsOtherOf}
 use Rattle.awari_phase.specs.Owners.{AreFinished, IsScanned, IsSound, all_ends, ends_of, given_to, items_of}
 use Rattle.awari_phase.proofs.Grown.{ends_at}
 

@@ -2,14 +2,14 @@
 use Rattle.std.proofs.Common.{◌≡◌, ℕ, ◌<◌, max, List, [], ◌++◌, length, map, All, ℤ, refl, sym, ap, subst, ◌∙◌, arith, get_or}
 use Rattle.std.proofs.lemmas.List.{append-nil, length-map}
 use Rattle.std.proofs.Math.ListN.{get_or-map}
-use Rattle.awari_owner.specs.Outboxes.{Outboxes}
+use Rattle.awari_owner.specs.Outboxes.{Outboxes, queue_to}
 use Rattle.awari_block.specs.Part.{Part, IsTallied}
 use Rattle.awari_owner.specs.Spread.{HearsOwn}
 use Rattle.awari_block.specs.declared.notes.Note.{Note}
 use Rattle.awari_lines.specs.Lines.{Notes, IsGrid, SameLines, SameHistory, owners_of, sent_to, received_from}
 use Rattle.awari_lines.specs.declared.lines.Ends.{Ends}
 use Rattle.awari_phase.specs.declared.owners.Owner.{Owner}
-use Rattle.awari_phase.specs.Sound.{Batches, queue_to, IsOtherOf, IsOpenBatch, OwnerSound}
+use Rattle.awari_phase.specs.Sound.{Batches, IsOtherOf, IsOpenBatch, OwnerSound}
 use Rattle.awari_phase.specs.Owners.{items_of, taken_from, given_to, IsSound, Kept, Grown, AllGrown, AreFinished, AreInStep, AreReceived, AreSent, OpensWave, all_ends, ends_of, rest_of}
 use Rattle.awari_phase.proofs.Keeping.{same_lines, lines_then, IsOther-on, prefix_then, OwnerSound-same, moved}
 use Rattle.awari_phase.proofs.Grown.{ends_at, grid_after}

@@ -5,7 +5,7 @@ use Rattle.std.proofs.lemmas.List.{map-append}
 use mathlib.Core.List.{IsPrefix}
 use Rattle.awari_block.specs.Notes.{Has}
 use Rattle.awari_owner.specs.OwnerFault.{IsFaultOf}
-use Rattle.awari_owner.specs.Outboxes.{Outboxes}
+use Rattle.awari_owner.specs.Outboxes.{Outboxes, queue_to}
 use Rattle.awari_block.specs.Part.{Part, HasFarthest}
 use Rattle.awari_owner.specs.declared.faults.OwnerFault.{OwnerFault}
 use Rattle.awari_owner.specs.declared.faults.OwnerFault.TheVariants.{Far, Memory}
@@ -15,7 +15,7 @@ use Rattle.awari_lines.specs.declared.lines.Ends.{Ends}
 use Rattle.awari_core.specs.Sound.{notes_of}
 use Rattle.awari_core.proofs.Lists.{Has-append_right}
 use Rattle.awari_phase.specs.declared.owners.Owner.{Owner}
-use Rattle.awari_phase.specs.Sound.{Batches, queue_to, IsOpenBatch, OwnerSound, SameBlock, with_taken}
+use Rattle.awari_phase.specs.Sound.{Batches, IsOpenBatch, OwnerSound, SamePlace, with_taken}
 use Rattle.awari_phase.specs.Owners.{items_of, taken_from, given_to, IsSound, Kept}
 use Rattle.awari_phase.specs.Stops.{HasWorked, StopsAt, StopsTaking, StopsSpreading}
 use Rattle.awari_phase.proofs.Batching.{notes_of-last}
@@ -34,7 +34,7 @@ pub record Halts (value : List ℕ → ℤ) (a : Owner) (e : Ends) (part : Part)
   pub whole : (j : ℕ) → IsOther e j → notes_of (taken_from e j) ≡ notes_of (taken j) ++ left j
   pub came : (j : ℕ) → IsOther e j → (more : List Notes) × (received_from e j ≡ received_from a.ends j ++ more) × ((m : Note) → Has (left j) m → Has (notes_of (map items_of more)) m)
   pub sent : (j : ℕ) → IsOther e j → (gone : List Notes) × (sent_to e j ≡ sent_to a.ends j ++ gone) × All (IsOpenBatch a.part) (map items_of gone)
-  pub block : SameBlock a.part part
+  pub block : SamePlace a.part part
   pub lines : SameLines a.ends e
   pub due : (fault : OwnerFault) → told ≡ Some fault → Due e part left fault
 

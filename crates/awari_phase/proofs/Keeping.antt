@@ -7,7 +7,7 @@ use Rattle.std.proofs.lemmas.Bool.Decides.{nat_tests}
 use Rattle.std.specs.List.{slice_get}
 use mathlib.Core.List.{IsPrefix}
 use Rattle.awari_block.specs.Notes.{Has}
-use Rattle.awari_owner.specs.Outboxes.{Outboxes}
+use Rattle.awari_owner.specs.Outboxes.{Outboxes, queue_to}
 use Rattle.awari_block.specs.Part.{Part, unspread}
 use Rattle.awari_lines.specs.declared.lines.Ends.{Ends}
 use Rattle.awari_lines.specs.declared.lines.Line.{Line}
@@ -15,7 +15,7 @@ use Rattle.awari_block.specs.declared.notes.Note.{Note}
 use Rattle.awari_lines.specs.Lines.{Notes, IsOther, SameLines, SameBut, SameRings, sent_to, received_from, sent_on, received_on, line_of, owners_of}
 use Rattle.awari_phase.specs.declared.owners.Owner.{Owner}
 use Rattle.awari_core.specs.Sound.{notes_of}
-use Rattle.awari_phase.specs.Sound.{Batches, queue_to, IsOtherOf, HoldsNotes, IsOpenBatch, OwnerSound, with_taken, SameBlock}
+use Rattle.awari_phase.specs.Sound.{Batches, IsOtherOf, HoldsNotes, IsOpenBatch, OwnerSound, with_taken, SamePlace}
 use Rattle.awari_phase.specs.Owners.{items_of, taken_from, given_to, IsSound, Keeps, Kept}
 
 -- ---- lines
@@ -49,17 +49,17 @@ prefix_then xs ys zs p q = (p.0 ++ q.0, sym (append_assoc xs p.0 q.0) ∙ (ap (�
 
 -- ---- blocks
 
-pub same_block : (a : Part) → SameBlock a a
+pub same_block : (a : Part) → SamePlace a a
 same_block a = record { level = record { level = refl; gain = refl; wave = refl; start = refl }; long = refl }
 
-pub block_then : (a b c : Part) → SameBlock a b → SameBlock b c → SameBlock a c
+pub block_then : (a b c : Part) → SamePlace a b → SamePlace b c → SamePlace a c
 block_then a b c s t = record {
   level = record { level = t.level.level ∙ s.level.level; gain = t.level.gain ∙ s.level.gain; wave = t.level.wave ∙ s.level.wave; start = t.level.start ∙ s.level.start };
   long = t.long ∙ s.long;
 }
 
 -- a batch of the open gain and distance is so of each part of them
-open_back : (a b : Part) → SameBlock a b → (x : List Note) → IsOpenBatch b x → IsOpenBatch a x
+open_back : (a b : Part) → SamePlace a b → (x : List Note) → IsOpenBatch b x → IsOpenBatch a x
 open_back a b s x h = record {
   some = h.some;
   few = h.few;
@@ -140,7 +140,7 @@ module _ (e e' : Ends) (j : ℕ) (lines : SameLines e e') (others : SameBut e e'
           subst P (sym (eqb-true k j f)) (ap (map items_of) h ∙ map-append items_of (received_from e j) (b ∷ []))
       by false f = ap (λ (l : Option Line). map items_of (received_on l)) (others k (differ k j f) o.0)
 
-  pub take_keeps : (part part' : Part) (o : Outboxes) (b : Notes) → sent_to e' j ≡ sent_to e j → received_from e' j ≡ received_from e j ++ b ∷ [] → IsOther e j → SameBlock part part'
+  pub take_keeps : (part part' : Part) (o : Outboxes) (b : Notes) → sent_to e' j ≡ sent_to e j → received_from e' j ≡ received_from e j ++ b ∷ [] → IsOther e j → SamePlace part part'
       → unspread part' ≡ unspread part
       → ((value : List ℕ → ℤ) (owner owners from : ℕ) (taken given boxed : ℕ → Batches) → IsOtherOf owner owners from
       → OwnerSound value owner owners part taken given boxed → OwnerSound value owner owners part' (with_taken taken from b.items) given boxed)
@@ -218,7 +218,7 @@ module _ (e e' : Ends) (j : ℕ) (lines : SameLines e e') (others : SameBut e e'
 
 -- ---- a spread
 
-pub spread_keeps : (e : Ends) (part part' : Part) (o o' : Outboxes) → length o.queues ≡ owners_of e → o.owner ≡ e.owner → SameBlock part part' → o'.owner ≡ o.owner → length o'.queues ≡ length o.queues
+pub spread_keeps : (e : Ends) (part part' : Part) (o o' : Outboxes) → length o.queues ≡ owners_of e → o.owner ≡ e.owner → SamePlace part part' → o'.owner ≡ o.owner → length o'.queues ≡ length o.queues
     → unspread part' ≤ unspread part
     → ((value : List ℕ → ℤ) (taken sent : ℕ → Batches)
     → OwnerSound value o.owner (length o.queues) part taken (λ j. sent j ++ queue_to o j) (queue_to o)

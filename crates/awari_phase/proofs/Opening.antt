@@ -1,7 +1,7 @@
 -- The next gain opened in all parts, with nothing on its way.
 use Rattle.std.proofs.Common.{◌≡◌, ℕ, ◌<◌, List, [], length, All, ℤ, sym, subst, ◌∙◌, arith, get_or}
 use Rattle.awari_rank.specs.Rank.{rank_of}
-use Rattle.awari_owner.specs.Outboxes.{Outboxes}
+use Rattle.awari_owner.specs.Outboxes.{Outboxes, queue_to}
 use Rattle.awari_block.specs.Part.{Part, IsTallied}
 use Rattle.awari_owner.specs.Spread.{HearsOwn}
 use Rattle.awari_block.specs.declared.notes.Note.{Note}
@@ -10,7 +10,7 @@ use Rattle.awari_core.proofs.Taking.{inside_new, inside_old, leaves_old}
 use Rattle.awari_lines.specs.Lines.{IsGrid, owners_of, received_from, sent_to}
 use Rattle.awari_lines.specs.declared.lines.Ends.{Ends}
 use Rattle.awari_phase.specs.declared.owners.Owner.{Owner}
-use Rattle.awari_phase.specs.Sound.{Batches, queue_to, HoldsNotes, IsInBlockOf, IsOpenBatch, IsOtherOf, OwnerSound}
+use Rattle.awari_phase.specs.Sound.{Batches, HoldsNotes, IsInBlockOf, IsOpenBatch, IsOtherOf, OwnerSound}
 use Rattle.awari_phase.specs.Owners.{AreFinished, IsSound, OpensNext, all_ends, given_to, taken_from}
 use Rattle.awari_phase.proofs.Each.{same_ends}
 

@@ -7,7 +7,7 @@ use Rattle.awari_lines.specs.Lines.{Notes, IsOther, sent_to, received_from, rece
 use Rattle.awari_block.specs.Part.{Part, IsLeastDue, unspread}
 use Rattle.awari_owner.specs.declared.faults.OwnerFault.{OwnerFault}
 use Rattle.awari_phase.specs.declared.owners.Owner.{Owner}
-use Rattle.awari_phase.specs.Sound.{queue_to}
+use Rattle.awari_owner.specs.Outboxes.{queue_to}
 use Rattle.awari_phase.specs.Owners.{HasSent, HasSpread, HasTaken, Kept, Swept}
 use Rattle.awari_phase.specs.Steps.{SendsAt, TakesAt, TakesNothing}
 use Rattle.awari_phase.proofs.Keeping.{IsOther-on, kept_trans}

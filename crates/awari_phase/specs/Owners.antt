@@ -4,12 +4,12 @@ use mathlib.Core.List.{IsPrefix}
 use Rattle.awari_lines.specs.Lines.{Notes, IsOther, IsGrid, SameLines, owners_of, sent_to, received_from, waiting_from, free_to}
 use Rattle.awari_lines.specs.declared.lines.Ends.{Ends}
 use Rattle.awari_block.specs.declared.notes.Note.{Note}
-use Rattle.awari_owner.specs.Outboxes.{Outboxes}
+use Rattle.awari_owner.specs.Outboxes.{Outboxes, queue_to}
 use Rattle.awari_block.specs.Part.{Part, IsLeastDue, IsTallied, unspread}
 use Rattle.awari_owner.specs.Scan.{IsScan}
 use Rattle.awari_owner.specs.Spread.{HearsOwn}
 use Rattle.awari_core.specs.Sound.{IsSeenAs}
-use Rattle.awari_phase.specs.Sound.{Batches, queue_to, OwnerSound, SameBlock, IsOpenBatch}
+use Rattle.awari_phase.specs.Sound.{Batches, OwnerSound, SamePlace, IsOpenBatch}
 use Rattle.awari_phase.specs.declared.owners.Owner.{Owner}
 
 abbrev pub items_of : Notes → List Note
@@ -30,7 +30,7 @@ IsSound value e part o = OwnerSound value e.owner (owners_of e) part (taken_from
 -- grown, and what it sent is of the open gain and distance where what it had to send was. It has no board more to spread.
 pub record Keeps (e : Ends) (part : Part) (o : Outboxes) (e' : Ends) (part' : Part) (o' : Outboxes) : Type 0 where
   pub lines : SameLines e e'
-  pub block : SameBlock part part'
+  pub block : SamePlace part part'
   pub owner : o'.owner ≡ o.owner
   pub owners : length o'.queues ≡ length o.queues
   pub received : (j : ℕ) → IsOther e j → IsPrefix (received_from e j) (received_from e' j)

@@ -1,11 +1,10 @@
 -- What holds of one owner, over the batches that it took from the others and those that it gave them.
-use Rattle.std.specs.Prelude.{◌≡◌, ◌≢◌, ℕ, ◌+◌, ◌-◌, ◌^◌, ◌<◌, ◌≤◌, ◌==◌, if◌then◌else◌, List, [], ◌∷◌, ◌++◌, length, sum, All, ℤ, slice_index_or}
+use Rattle.std.specs.Prelude.{◌≡◌, ◌≢◌, ℕ, ◌+◌, ◌-◌, ◌^◌, ◌<◌, ◌≤◌, ◌==◌, if◌then◌else◌, List, [], ◌∷◌, ◌++◌, length, sum, All, ℤ}
 use Rattle.awari_board.specs.Rules.{IsBoard}
 use Rattle.awari_rank.specs.Rank.{rank_of, size_of}
 use Rattle.awari_block.specs.Notes.{IsQuietMove, Has, IsNoteOf}
 use Rattle.awari_core.specs.Sound.{notes_of}
 use Rattle.awari_owner.specs.Level.{AreOfOtherMoves}
-use Rattle.awari_owner.specs.Outboxes.{Outboxes}
 use Rattle.awari_block.specs.Part.{Part, InBlock, IsTallied, Leaves, SameLevel}
 use Rattle.awari_block.specs.Leaving.{first_rank}
 use Rattle.awari_owner.specs.Spread.{HearsOwn, IsSpread}
@@ -13,10 +12,6 @@ use Rattle.awari_block.specs.declared.notes.Note.{Note}
 
 abbrev pub Batches : Type 0
 Batches = List (List Note)
-
--- what is to be sent to this owner
-abbrev pub queue_to : Outboxes → ℕ → Batches
-queue_to outboxes to = slice_index_or outboxes.queues to []
 
 -- the number of another owner
 abbrev pub IsOtherOf : ℕ → ℕ → ℕ → Type 0
@@ -58,6 +53,6 @@ abbrev pub with_taken : (ℕ → Batches) → ℕ → List Note → ℕ → Batc
 with_taken taken j b k = if k == j then taken k ++ b ∷ [] else taken k
 
 -- the same level, gain and distance, and the same block
-pub record SameBlock (old new : Part) : Type 0 where
+pub record SamePlace (old new : Part) : Type 0 where
   pub level : SameLevel old new
   pub long : length new.cells ≡ length old.cells

@@ -1,7 +1,7 @@
 -- What a worker does at one line. Private functions alone go by this.
 use Rattle.std.specs.Prelude.{◌≡◌, ◌≢◌, ℕ}
 use Rattle.awari_lines.specs.Lines.{IsOther, SameBut, free_to, received_from, sent_to, waiting_from}
-use Rattle.awari_phase.specs.Sound.{queue_to}
+use Rattle.awari_owner.specs.Outboxes.{queue_to}
 use Rattle.awari_phase.specs.Owners.{HasSent, HasTaken}
 use Rattle.awari_phase.specs.declared.owners.Owner.{Owner}
 

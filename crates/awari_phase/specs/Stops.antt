@@ -8,7 +8,7 @@ use Rattle.awari_block.specs.Part.{Part, HasFarthest}
 use Rattle.awari_owner.specs.declared.faults.OwnerFault.{OwnerFault}
 use Rattle.awari_owner.specs.declared.faults.OwnerFault.TheVariants.{Far, Memory}
 use Rattle.awari_block.specs.declared.notes.Note.{Note}
-use Rattle.awari_phase.specs.Sound.{Batches, IsOtherOf, OwnerSound, SameBlock, with_taken}
+use Rattle.awari_phase.specs.Sound.{Batches, IsOtherOf, OwnerSound, SamePlace, with_taken}
 use Rattle.awari_phase.specs.Owners.{Kept, Swept}
 use Rattle.awari_phase.specs.declared.owners.Owner.{Owner}
 
@@ -33,7 +33,7 @@ pub record StopsTaking (e : Ends) (part : Part) (o : Outboxes) (e' : Ends) (part
   pub popped : received_from e' from ≡ received_from e from ++ batch ∷ []
   pub others : (j : ℕ) → IsOther e j → j ≢ from → received_from e' j ≡ received_from e j
   pub outboxes : o' ≡ o
-  pub block : SameBlock part part'
+  pub block : SamePlace part part'
   pub refuses : RefusesNote part part' batch.items fault
 
 -- Nothing was done: memory is wanting, or the next board to be spread has the greatest distance that can be stored.

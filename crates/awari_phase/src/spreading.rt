@@ -4,7 +4,8 @@ ghost use Rattle.std.specs.Prelude.{◌≡◌, ◌⊎◌, ◌+◌, ◌++◌, ℕ
 ghost use Rattle.awari_block.specs.Part.{HasFarthest, IsLeastDue, unspread};
 ghost use Rattle.awari_owner.specs.Spread.{IsPartOf};
 ghost use Rattle.awari_owner.specs.declared.faults.OwnerFault.{OwnerFault};
-ghost use Rattle.awari_phase.specs.Sound.{Batches, queue_to, OwnerSound, SameBlock};
+ghost use Rattle.awari_owner.specs.Outboxes.{queue_to};
+ghost use Rattle.awari_phase.specs.Sound.{Batches, OwnerSound, SamePlace};
 
 use awari_board::moves_keep_boards;
 use awari_owner::{Outboxes, OwnerFault, Part};
@@ -14,7 +15,7 @@ use awari_rank::ranks_tell_boards_apart;
 /// 32 `Far` where its distance is the greatest that can be stored, and as 33 `Memory`.
 pub fn spread_one(part: &mut Part, outboxes: &mut Outboxes) -> Result<bool, OwnerFault>
     requires { IsPartOf part.old outboxes.old }
-    ensures block { SameBlock part.old part.new }
+    ensures block { SamePlace part.old part.new }
     ensures owner { (outboxes.new.owner ≡ outboxes.old.owner) × (length outboxes.new.queues ≡ length outboxes.old.queues) }
     ensures sound { OnOk result ((value : List ℕ → ℤ) (taken sent : ℕ → Batches)
         → OwnerSound value outboxes.old.owner (length outboxes.old.queues) part.old taken (λ j. sent j ++ queue_to outboxes.old j) (queue_to outboxes.old)

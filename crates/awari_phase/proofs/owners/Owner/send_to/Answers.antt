@@ -1,8 +1,8 @@
 use Rattle.std.proofs.Common.{◌≡◌, ◌<◌, ◌∷◌, [], List, length, get_or, sym, ap, ◌∙◌, arith, length-set}
 use Rattle.std.proofs.lemmas.List.{get_or-set_same, get_or-set_other}
 use Rattle.awari_block.specs.declared.notes.Note.{Note}
-use Rattle.awari_owner.specs.Outboxes.{Outboxes}
-use Rattle.awari_phase.specs.Sound.{Batches, queue_to}
+use Rattle.awari_owner.specs.Outboxes.{Outboxes, queue_to}
+use Rattle.awari_phase.specs.Sound.{Batches}
 use Rattle.awari_phase.proofs.Keeping.{still_keeps, send_keeps}
 use Rattle.awari_phase.proofs.owners.Owner.send_to.Goals as goal
 
