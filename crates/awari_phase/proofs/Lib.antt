@@ -11,5 +11,6 @@ pub mod Batching
 pub mod Giving
 pub mod Together
 pub mod Refusing
+pub mod Looking
 pub mod Worked
 pub mod Sweeping

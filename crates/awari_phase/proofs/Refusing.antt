@@ -43,7 +43,7 @@ choice P none n each = ((λ i. pick P none n i each (cases_lt i n)), λ i low. p
 
 -- ---- notes of the open gain and distance
 
-abbrev IsOpen : Part → Note → Type 0
+abbrev pub IsOpen : Part → Note → Type 0
 IsOpen part m = (m.gain ≡ part.gain) × (m.dist ≡ part.wave) × (m.dist < 2 ^ 32 - 1)
 
 has_all : (P : Note → Type 0) (xs : List Note) (m : Note) → All P xs → Has xs m → P m
@@ -51,7 +51,7 @@ has_all P [] m all has = absurd has
 has_all P (x ∷ xs) m all (inl is) = subst P (sym is) (all 0 x (omega arith))
 has_all P (x ∷ xs) m all (inr has) = has_all P xs m (λ i d low. all (suc i) d (omega (arith, low))) has
 
-has_open : (part : Part) (bs : Batches) (m : Note) → All (IsOpenBatch part) bs → Has (notes_of bs) m → IsOpen part m
+pub has_open : (part : Part) (bs : Batches) (m : Note) → All (IsOpenBatch part) bs → Has (notes_of bs) m → IsOpen part m
 has_open part [] m all has = absurd has
 has_open part (b ∷ bs) m all has = elim (Has-append_cases b (notes_of bs) m has) [
   | inl here ↦ has_all (IsOpen part) b m (all 0 b (omega arith)).opened here
@@ -59,7 +59,7 @@ has_open part (b ∷ bs) m all has = elim (Has-append_cases b (notes_of bs) m ha
 ]
 
 -- what was not received before is open: what came since, and what waits still
-open_since : (part : Part) (received sent more waits gone : List Notes) → OpenBehind part received sent → (received ++ more) ++ waits ≡ sent ++ gone → All (IsOpenBatch part) (map items_of gone)
+pub open_since : (part : Part) (received sent more waits gone : List Notes) → OpenBehind part received sent → (received ++ more) ++ waits ≡ sent ++ gone → All (IsOpenBatch part) (map items_of gone)
     → (m : Note) → Has (notes_of (map items_of (more ++ waits))) m → IsOpen part m
 open_since part received sent more waits gone o same opens m has =
     let x = o.came.0 in

@@ -13,7 +13,7 @@ use Rattle.awari_lines.specs.declared.lines.Ends.{Ends}
 use Rattle.awari_core.specs.Sound.{notes_of}
 use Rattle.awari_owner.specs.Outboxes.{queue_to}
 use Rattle.awari_phase.specs.Sound.{Batches, IsInBlockOf, HoldsNotes, OwnerSound}
-use Rattle.awari_phase.specs.Owners.{items_of, taken_from, given_to, AreFinished, AreIdle, all_ends, ends_of, parts_of}
+use Rattle.awari_phase.specs.Owners.{items_of, taken_from, given_to, AreFinished, AreIdle, all_ends, ends_of, parts_of, taken_notes}
 use Rattle.awari_phase.specs.declared.owners.Owner.{Owner}
 
 -- the same parts are sound
@@ -151,11 +151,8 @@ module _ (value : List ℕ → ℤ) (n : ℕ) (os : List Owner) (d : Owner) (com
 
 -- owners without anything on its way are met so
 module _ (value : List ℕ → ℤ) (n : ℕ) (os : List Owner) (finished : AreFinished value n os) (d : Owner) where
-  abbrev pub taken : ℕ → ℕ → List Note
-  taken i j = notes_of (taken_from (get_or os j d).ends i)
-
   -- what an owner gave to another the other took
-  arrived : (i j : ℕ) → i < length os → j < length os → (i ≡ j → ⊥) → notes_of (given_to (get_or os i d).ends (get_or os i d).outboxes j) ≡ taken i j ++ []
+  arrived : (i j : ℕ) → i < length os → j < length os → (i ≡ j → ⊥) → notes_of (given_to (get_or os i d).ends (get_or os i d).outboxes j) ≡ taken_notes os d i j ++ []
   arrived i j low low' apart =
       let queues : length (get_or os i d).outboxes.queues ≡ length os = (get_or os i d).queues ∙ many_at os d finished.grid i low in
       let none : queue_to (get_or os i d).outboxes j ≡ [] = finished.sent i d low j [] (omega (arith, queues, low')) in
@@ -163,9 +160,9 @@ module _ (value : List ℕ → ℤ) (n : ℕ) (os : List Owner) (finished : AreF
       let came : received_from (get_or os j d).ends i ≡ sent_to (get_or os i d).ends j =
       subst₂ (λ (a b : Ends). received_from a i ≡ sent_to b j) (ends_there os j d) (ends_there os i d) (finished.received j i d.ends (in_ends j low') (in_ends i low) (λ e. apart (sym e))) in
       ap (λ (q : Batches). notes_of (map items_of (sent_to (get_or os i d).ends j) ++ q)) none ∙ ap notes_of (append-nil (map items_of (sent_to (get_or os i d).ends j)))
-      ∙ ap (λ l. notes_of (map items_of l)) (sym came) ∙ sym (append-nil (taken i j))
+      ∙ ap (λ l. notes_of (map items_of l)) (sym came) ∙ sym (append-nil (taken_notes os d i j))
 
-  pub sound_finished : AreSound value n (length os) (part_at (parts_of os)) (λ _ _. []) taken
+  pub sound_finished : AreSound value n (length os) (part_at (parts_of os)) (λ _ _. []) (taken_notes os d)
   sound_finished = sound_together value n os d (λ _ _. []) (λ j. taken_from (get_or os j d).ends) (record {
     some = finished.some;
     grid = finished.grid;

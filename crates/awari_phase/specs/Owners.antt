@@ -8,7 +8,7 @@ use Rattle.awari_owner.specs.Outboxes.{Outboxes, queue_to}
 use Rattle.awari_block.specs.Part.{Part, IsLeastDue, IsTallied, unspread}
 use Rattle.awari_owner.specs.Scan.{IsScan}
 use Rattle.awari_owner.specs.Spread.{HearsOwn}
-use Rattle.awari_core.specs.Sound.{IsSeenAs}
+use Rattle.awari_core.specs.Sound.{IsSeenAs, notes_of}
 use Rattle.awari_phase.specs.Sound.{Batches, OwnerSound, SamePlace, IsOpenBatch}
 use Rattle.awari_phase.specs.declared.owners.Owner.{Owner}
 
@@ -119,6 +119,19 @@ AreSent os = (i : ℕ) (d : Owner) → i < length os → All (λ q. q ≡ []) (s
 -- on each line what was sent was received
 abbrev pub AreReceived : List Owner → Type 0
 AreReceived os = (i j : ℕ) (d : Ends) → i < length (all_ends os) → j < length (all_ends os) → i ≢ j → received_from (slice_index_or (all_ends os) i d) j ≡ sent_to (slice_index_or (all_ends os) j d) i
+
+-- on each line what was received, and then what is seen to wait, is what was sent
+abbrev pub AreLooked : List Owner → Type 0
+AreLooked os = (i j : ℕ) (d : Ends) → i < length (all_ends os) → j < length (all_ends os) → i ≢ j
+    → received_from (slice_index_or (all_ends os) i d) j ++ waiting_from (slice_index_or (all_ends os) i d) j ≡ sent_to (slice_index_or (all_ends os) j d) i
+
+-- the notes that owner j took from owner i
+abbrev pub taken_notes : List Owner → Owner → ℕ → ℕ → List Note
+taken_notes os d i j = notes_of (taken_from (slice_index_or os j d).ends i)
+
+-- the notes on their way from owner i to owner j: those that are seen to wait on the line, and then those that are to be sent
+abbrev pub coming_notes : List Owner → Owner → ℕ → ℕ → List Note
+coming_notes os d i j = notes_of (map items_of (waiting_from (slice_index_or os j d).ends i)) ++ notes_of (queue_to (slice_index_or os i d).outboxes j)
 
 -- the parts of the owners, in order
 abbrev pub parts_of : List Owner → List Part

@@ -1,15 +1,22 @@
-//! What follows of owners that have nothing more to do.
+//! What follows of owners that are each sound: at any time, and once they have nothing more to do.
 
 ghost use Rattle.std.specs.Prelude.{◌≡◌, ◌<◌, ℕ, ℤ, All, List, length, slice_index_or, sum};
 ghost use Rattle.awari_board.specs.Rules.{IsBoard};
 ghost use Rattle.awari_rank.specs.Rank.{rank_of};
 ghost use Rattle.awari_owner.specs.Finish.{IsRightAt};
-ghost use Rattle.awari_owner.specs.Level.{AreHeard, AreWhole, known_at};
+ghost use Rattle.awari_owner.specs.Level.{AreHeard, AreSound, AreWhole, known_at, part_at};
 ghost use Rattle.awari_block.specs.Part.{IsClosed};
-ghost use Rattle.awari_phase.specs.Owners.{AreFinished, AreIdle, parts_of};
+ghost use Rattle.awari_phase.specs.Owners.{AreFinished, AreIdle, AreLooked, AreTogether, coming_notes, parts_of, taken_notes};
 ghost use Rattle.awari_phase.specs.declared.owners.Owner.{Owner};
 
 use awari_owner::{closed_parts_are_right, sound_parts_are_told};
+
+/// Owners that are sound together, whose lines were looked at, are what `awari_core` calls sound, with
+/// the notes that each took from each other one, and those that are on their way to it.
+pub fn owners_together_are_sound()
+    ensures { (value : List ℕ → ℤ) (n : ℕ) (os : List Owner) (d : Owner) → AreTogether value n os → AreLooked os
+        → AreSound value n (length os) (part_at (parts_of os)) (coming_notes os d) (taken_notes os d) }
+{}
 
 /// Owners that are each sound, with nothing to be sent and nothing on the lines, heard all notes of
 /// each other; and once gain 1 is open and no board is fresh, each board of the level keeps the rules

@@ -1,4 +1,5 @@
-//! Owners that work side by side, each in a thread of its own, until a gain is closed.
+//! Owners that work side by side until a gain is closed. Their rounds are made in threads, one for each
+//! owner, or in turn on the caller's thread.
 //!
 //! Three owners of level 1, a round of them, and all rounds up to the end of the gain, by lines of
 //! `crates/awari_owner_tests/src/rounds.rt`:
@@ -26,7 +27,7 @@ mod starting;
 
 pub use faults::PhaseFault;
 pub use gates::{Gate, Open};
-pub use laws::finished_owners_are_right;
+pub use laws::{finished_owners_are_right, owners_together_are_sound};
 pub use making::{closed_parts, scanned_owners};
 pub use openings::open_gain;
 pub use owners::Owner;

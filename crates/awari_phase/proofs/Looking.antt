@@ -1,0 +1,72 @@
+-- Owners that are sound together, and whose lines were looked at, are what the core calls sound.
+use Rattle.std.proofs.Common.{◌≡◌, ℕ, ◌<◌, List, [], ◌++◌, length, map, ℤ, sym, ap, subst, subst₂, ◌∙◌, inl, inr, arith, get_or, append_assoc, append-nil}
+use Rattle.std.proofs.lemmas.List.{length-map, map-append}
+use Rattle.std.proofs.lemmas.List.Elements.{All-nil}
+use Rattle.awari_block.specs.Notes.{Has}
+use Rattle.awari_block.specs.declared.notes.Note.{Note}
+use Rattle.awari_owner.specs.Level.{AreSound, IsTimely, part_at}
+use Rattle.awari_owner.specs.Outboxes.{queue_to}
+use Rattle.awari_lines.specs.Lines.{received_from, sent_to, waiting_from}
+use Rattle.awari_lines.specs.declared.lines.Ends.{Ends}
+use Rattle.awari_core.specs.Sound.{notes_of}
+use Rattle.awari_core.proofs.Lists.{Has-append_cases, notes_of-append}
+use Rattle.awari_phase.specs.declared.owners.Owner.{Owner}
+use Rattle.awari_phase.specs.Sound.{IsOpenBatch}
+use Rattle.awari_phase.specs.Owners.{AreLooked, AreTogether, all_ends, coming_notes, ends_of, given_to, items_of, parts_of, taken_from, taken_notes}
+use Rattle.awari_phase.proofs.Refusing.{IsOpen, has_open, open_since}
+use Rattle.awari_phase.proofs.Together.{ends_there, many_at, number_at, sound_together}
+
+module _ (value : List ℕ → ℤ) (n : ℕ) (os : List Owner) (d : Owner) (together : AreTogether value n os) (looked : AreLooked os) where
+  abbrev owner : ℕ → Owner
+  owner i = get_or os i d
+
+  -- what an owner sent to another that one took, or it waits on the line
+  on_line : (i j : ℕ) → i < length os → j < length os → (i ≡ j → ⊥) → received_from (owner j).ends i ++ waiting_from (owner j).ends i ≡ sent_to (owner i).ends j
+  on_line i j low low' apart =
+      let in_ends : (k : ℕ) → k < length os → k < length (all_ends os) = λ k h. subst (λ x. k < x) (sym (length-map os ends_of)) h in
+      subst₂ (λ (a b : Ends). received_from a i ++ waiting_from a i ≡ sent_to b j) (ends_there os j d) (ends_there os i d) (looked j i d.ends (in_ends j low') (in_ends i low) (λ e. apart (sym e)))
+
+  arrived : (i j : ℕ) → i < length os → j < length os → (i ≡ j → ⊥) → notes_of (given_to (owner i).ends (owner i).outboxes j) ≡ taken_notes os d i j ++ coming_notes os d i j
+  arrived i j low low' apart =
+      let waits = waiting_from (owner j).ends i in
+      let boxed = notes_of (queue_to (owner i).outboxes j) in
+      notes_of-append (map items_of (sent_to (owner i).ends j)) (queue_to (owner i).outboxes j)
+      ∙ ap (λ l. notes_of (map items_of l) ++ boxed) (sym (on_line i j low low' apart))
+      ∙ ap (λ l. l ++ boxed) (ap notes_of (map-append items_of (received_from (owner j).ends i) waits) ∙ notes_of-append (taken_from (owner j).ends i) (map items_of waits))
+      ∙ append_assoc (taken_notes os d i j) (notes_of (map items_of waits)) boxed
+
+  -- a note that is open in a part is so in the first
+  timely_at : (i : ℕ) (m : Note) → i < length os → IsOpen (owner i).part m → IsTimely (owner 0).part m
+  timely_at i m low o =
+      let zeroth : 0 < length os = (let s = together.some in omega (arith, s)) in record {
+        gain = o.0 ∙ together.gain i d low;
+        opened = (let l = together.level 0 d zeroth in let h = together.opened 0 d zeroth in omega (arith, l, h));
+        dist = o.1 ∙ together.wave i d low;
+        near = o.2;
+      }
+
+  timely : (i j : ℕ) → i < length os → j < length os → (i ≡ j → ⊥) → (m : Note) → Has (coming_notes os d i j) m → IsTimely (owner 0).part m
+  timely i j low low' apart m has =
+      let received = received_from (owner j).ends i in
+      let waits = waiting_from (owner j).ends i in
+      let sent = sent_to (owner i).ends j in
+      let number = number_at os d together.grid i low in
+      let many = many_at os d together.grid i low in
+      elim (Has-append_cases (notes_of (map items_of waits)) (notes_of (queue_to (owner i).outboxes j)) m has) [
+        | inl waiting ↦ timely_at i m low (open_since (owner i).part received sent [] waits [] (together.waits j i d low' low (λ e. apart (sym e)))
+            (ap (λ l. l ++ waits) (append-nil received) ∙ on_line i j low low' apart ∙ sym (append-nil sent)) (All-nil (IsOpenBatch (owner i).part)) m waiting)
+        | inr boxed ↦ timely_at i m low (has_open (owner i).part (queue_to (owner i).outboxes j) m
+            ((together.sound i d low).opened j ((λ e. apart (sym (e ∙ number))), subst (λ k. j < k) (sym many) low')) boxed)
+      ]
+
+  pub sound_looked : AreSound value n (length os) (part_at (parts_of os)) (coming_notes os d) (taken_notes os d)
+  sound_looked = sound_together value n os d (coming_notes os d) (λ j. taken_from (owner j).ends) (record {
+    some = together.some;
+    grid = together.grid;
+    level = λ i low. together.level i d low;
+    gain = λ i low. together.gain i d low;
+    wave = λ i low. together.wave i d low;
+    sound = λ i low. together.sound i d low;
+    arrived = arrived;
+    timely = timely;
+  })
