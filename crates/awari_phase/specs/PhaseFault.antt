@@ -7,6 +7,8 @@ use Rattle.awari_owner.specs.declared.faults.OwnerFault.TheVariants as owner_fau
 use Rattle.awari_phase.specs.declared.owners.Owner.{Owner}
 use Rattle.awari_phase.specs.declared.faults.PhaseFault.{PhaseFault}
 use Rattle.awari_phase.specs.declared.faults.PhaseFault.TheVariants.{NotStarted, Memory, BadNote}
+use Rattle.awari_phase.specs.Owners.{AllGrown}
+use Rattle.awari_phase.specs.Stops.{HaveWorked}
 
 -- the number of each fault
 abbrev pub number_of : PhaseFault → ℕ
@@ -47,8 +49,13 @@ IsWant NotStarted = Unit {0}
 IsWant Memory = Unit {0}
 IsWant (BadNote owner fault) = ⊥
 
--- A thread was wanting, or memory, or as many owners came back, and this is the fault of the first that had one.
+-- Why a round of these owners is refused: a thread was wanting, or memory, or the owners came back from their work, each up to its
+-- fault if it had one, and this is the fault of the first that had one.
 abbrev pub IsRefusal : List Owner → PhaseFault → Type 0
 IsRefusal owners NotStarted = Unit {0}
 IsRefusal owners Memory = Unit {0}
-IsRefusal owners (BadNote owner fault) = (back : List Owner) × (length back ≡ length owners) × IsFirstFault back (BadNote owner fault)
+IsRefusal owners (BadNote owner fault) = (back : List Owner) × HaveWorked owners back × IsFirstFault back (BadNote owner fault)
+
+-- Why rounds that began with these owners are refused: they had come to some owners, and the round of those was refused so.
+abbrev pub IsPhaseRefusal : List Owner → PhaseFault → Type 0
+IsPhaseRefusal owners fault = (before : List Owner) × AllGrown owners before × IsRefusal before fault

@@ -1,4 +1,5 @@
--- How a worker comes to a fault. Private functions alone go by this.
+-- How a worker comes to a fault, and what became of owners that worked. What the public contracts say of a refused round goes by
+-- this.
 use Rattle.std.specs.Prelude.{◌≡◌, ◌≢◌, ◌⊎◌, ℕ, ℤ, List, [], ◌∷◌, ◌++◌, ◌<◌, None, Some, length, slice_index_or}
 use Rattle.awari_lines.specs.Lines.{Notes, IsOther, SameLines, sent_to, received_from}
 use Rattle.awari_lines.specs.declared.lines.Ends.{Ends}

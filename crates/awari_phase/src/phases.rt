@@ -4,7 +4,7 @@ ghost use Rattle.std.specs.Prelude.{◌≡◌, ◌<◌, ◌≤◌, ℕ, ℤ, All
 ghost use Rattle.awari_lines.specs.Lines.{IsGrid};
 ghost use Rattle.awari_block.specs.Blocks.{due_dist};
 ghost use Rattle.awari_phase.specs.Owners.{AllGrown, AreFinished, AreIdle, AreReceived, AreSent, AreTogether, Kept, all_ends};
-ghost use Rattle.awari_phase.specs.PhaseFault.{IsRefusal, IsWant};
+ghost use Rattle.awari_phase.specs.PhaseFault.{IsPhaseRefusal, IsRefusal, IsWant};
 ghost use Rattle.awari_phase.specs.declared.owners.Owner.{Owner as AnOwner};
 ghost use Rattle.awari_phase.specs.declared.phases.Standing.{Standing};
 ghost use Rattle.awari_table.specs.declared.TheConstants.{HIGHEST_LEVEL};
@@ -36,17 +36,12 @@ enum Standing {
 }
 
 /// Rounds, one open distance after another, the least that is due first, until no board is fresh and
-/// nothing is to be sent or waits on a line. There are 1 to 1000 sweeps a round, and the owners stand
-/// on one grid. Refused as a round is, and never as 42 where the owners were sound together; then the
-/// owners are gone.
+/// nothing is to be sent or waits on a line. An owner makes at most `sweeps` sweeps a round, 1 to 1000,
+/// and the owners stand on one grid. It takes memory as a round does. Refused as a round is, and never
+/// as 42 where the owners were sound together; then the owners are gone.
 ///
-/// One owner works on the caller's thread. Of several, the first round is made in threads, since a gain
-/// can begin with many ended boards, and so is the first one of a distance with many fresh boards, nearly
-/// all of which are of the distance that was just opened. To start four threads takes 0.1 to 0.2 ms, in
-/// which one thread spreads some hundred boards, and most distances have fewer. Those are gone through in
-/// turn on the caller's thread, and so is what a round in threads leaves: mostly a few batches that came
-/// when their owner had ended already. Where a round in turn leaves something too, threads are started
-/// for it.
+/// One owner works on the caller's thread; of several, rounds are made in threads or in turn, which
+/// docs/DECISIONS.md explains.
 pub fn gain_phase<R: Threads + Wait + Sync, G: Gate + Sync>(
     rt: &R,
     owners: Vec<Owner>,
@@ -60,7 +55,7 @@ pub fn gain_phase<R: Threads + Wait + Sync, G: Gate + Sync>(
     ensures sent { IfOk result (λ all. AreSent all.items) }
     ensures received { IfOk result (λ all. AreReceived all.items) }
     ensures finished { IfOk result (λ all. (value : List ℕ → ℤ) (n : ℕ) → AreFinished value n owners.items → AreFinished value n all.items) }
-    ensures refused { IfErr result (IsRefusal owners.items) }
+    ensures refused { IfErr result (IsPhaseRefusal owners.items) }
     ensures wanting { IfErr result (λ fault. (value : List ℕ → ℤ) (n : ℕ) → n ≤ HIGHEST_LEVEL → AreTogether value n owners.items → IsWant fault) }
 {
     gain_phase_with_progress(rt, owners, gate, sweeps, &mut Silent)
@@ -82,7 +77,7 @@ pub fn gain_phase_with_progress<R: Threads + Wait + Sync, G: Gate + Sync, P: Pro
     ensures sent { IfOk result (λ all. AreSent all.items) }
     ensures received { IfOk result (λ all. AreReceived all.items) }
     ensures finished { IfOk result (λ all. (value : List ℕ → ℤ) (n : ℕ) → AreFinished value n owners.items → AreFinished value n all.items) }
-    ensures refused { IfErr result (IsRefusal owners.items) }
+    ensures refused { IfErr result (IsPhaseRefusal owners.items) }
     ensures wanting { IfErr result (λ fault. (value : List ℕ → ℤ) (n : ℕ) → n ≤ HIGHEST_LEVEL → AreTogether value n owners.items → IsWant fault) }
 {
     let mut all = next_round(rt, owners, gate, sweeps, false)?;
@@ -188,15 +183,14 @@ fn look(owners: &mut [Owner]) -> Standing
 fn are_spread(owners: &[Owner]) -> bool
     ensures { IsTrue result → AreSent owners.now }
 {
-    for owner in owners {
-        if !owner.outboxes.is_empty() {
-            return false;
-        }
-        if owner.part.due() == Some(owner.part.wave()) {
-            return false;
-        }
-    }
-    true
+    owners.iter().all(is_spread)
+}
+
+/// Whether the owner has nothing to send, and no fresh board of the open distance.
+fn is_spread(owner: &Owner) -> bool
+    ensures { IsTrue result → All (λ q. q ≡ []) owner.now.outboxes.queues }
+{
+    owner.outboxes.is_empty() && owner.part.due() != Some(owner.part.wave())
 }
 
 /// The least distance of a fresh board of any owner.

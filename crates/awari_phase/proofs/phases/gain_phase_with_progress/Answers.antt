@@ -49,3 +49,10 @@ returns-in_err-all-2-clause-wanting g c =
     let p = err_from_is_err_and c.from_residual-in_err-all-2.result c.from_residual-in_err-all-2.ensures.1 in
     let back = written_back c.loop.all.items c.as_mut_slice.result.now c.look_ahead.new.owners c.loop.all.len c.loop.all.ok.0 c.as_mut_slice.ensures.value c.look_ahead.auto.owners in
     rw (p.1, p.2) (λ value n small t. c.in_err-all-2.ensures.wanting value n small (rw back (c.look_ahead.ensures.together value n (rw c.as_mut_slice.ensures.value (c.loop.invariant.together value n t)))))
+
+pub returns-in_err-all-2-clause-refused : goal.returns-in_err-all-2-clause-refused
+returns-in_err-all-2-clause-refused g c =
+    let p = err_from_is_err_and c.from_residual-in_err-all-2.result c.from_residual-in_err-all-2.ensures.1 in
+    let back = written_back c.loop.all.items c.as_mut_slice.result.now c.look_ahead.new.owners c.loop.all.len c.loop.all.ok.0 c.as_mut_slice.ensures.value c.look_ahead.auto.owners in
+    let looked : AllGrown c.loop.all.items c.look_ahead.new.owners = rw c.as_mut_slice.ensures.value at c.look_ahead.ensures.grown in
+    rw (p.1, p.2) (c.look_ahead.new.owners, all_grown_trans c.args.owners.items c.loop.all.items c.look_ahead.new.owners c.loop.invariant.grown looked, rw back at c.in_err-all-2.ensures.refused)
