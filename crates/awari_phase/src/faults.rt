@@ -13,7 +13,7 @@ use thiserror::Error;
 pub enum PhaseFault {
     /// 40: a thread could not be started.
     NotStarted,
-    /// 41: a growth was refused.
+    /// 41: there was no room.
     Memory,
     /// 42: an owner was sent a note that it refuses, or could not spread a board.
     BadNote { owner: u8, fault: OwnerFault },

@@ -19,7 +19,8 @@ use std::thread::Threads;
 /// The owners of the shelf's next level, 1 to 16 of them, on one grid with room for 1 to 256 batches
 /// on each line. No gain is open, no board is fresh, and nothing is on its way. The shelf has at most
 /// `HIGHEST_LEVEL` levels. The parts are scanned one after the other, each by as many threads as
-/// there are processors. Refused where a growth was: it takes the memory for the parts and the lines.
+/// there are processors. Refused where there was no room: it takes the memory for the parts and the
+/// lines.
 pub fn scanned_owners<R: Threads + Sync>(
     rt: &R,
     alloc: Global,
@@ -65,8 +66,8 @@ fn scanned_owner<R: Threads + Sync>(
     Ok(Owner::new(part, ends, outboxes))
 }
 
-/// The parts of the owners, in their order, each closed. It needs all of them to have gain 1 open, and no
-/// fresh board. Refused where a growth was: it takes room for them all.
+/// The parts of the owners, in their order, each closed. All of them have gain 1 open, and no fresh board.
+/// Refused where there was no room: it takes memory for the list of them.
 pub fn closed_parts(alloc: Global, owners: Vec<Owner>) -> Result<Vec<ClosedPart>, AllocError>
     requires { All IsClosed (parts_of owners.items) }
     ensures { IfOk result (λ parts. parts.items ≡ parts_of owners.items) }

@@ -16,10 +16,15 @@ pub const MOST_SPREADS: u32 = 64;
 /// One owner: its part of the level, its ends of the lines, and what it has still to send.
 #[derive(Drop)]
 pub struct Owner {
+    /// Its block of the level's boards, and what is known of them.
     pub part: Part,
+    /// Its ends of the lines to the other owners.
     pub ends: Ends,
+    /// The notes that it has still to send.
     pub outboxes: Outboxes,
+    /// Why its worker stopped in the last round, if a step was refused.
     pub(crate) fault: Option<OwnerFault>,
+    /// How many boards of its part are settled and were spread.
     boards_spread: usize,
     ghost queues: { length outboxes.queues ≡ owners_of ends },
     ghost numbered: { outboxes.owner ≡ ends.owner },

@@ -19,16 +19,17 @@ use std::sync::Wait;
 use std::thread::Threads;
 
 /// Each owner works in a thread of its own until it has nothing to do, or for so many sweeps, and
-/// comes back to its place. There are 1 to 1000 sweeps, and the owners stand on one grid.
+/// comes back to its place. There are 1 to 1000 sweeps, and the owners stand on one grid. It takes memory
+/// for the threads, and each owner takes it for the notes that it has to send.
 ///
 /// Each makes one sweep at least. So from each other owner it took a batch, or it saw none wait; it
 /// spread 64 boards, or all fresh ones of the open distance; and to each other owner it sent a batch,
 /// or had none to send, or saw the line full.
 ///
 /// All threads that were started are joined before anything is answered. Refused as 40 `NotStarted`
-/// where one could not be started, as 41 `Memory` where a growth was refused, else as 41 or 42
-/// `BadNote` by the fault of the least owner that had one. Then the owners are gone. It is never 42
-/// where the owners were sound together.
+/// where one could not be started, as 41 `Memory` where there was no room, else as 41 or 42 `BadNote` by
+/// the fault of the first owner that had one. Then the owners are gone. It is never 42 where the owners
+/// were sound together.
 pub fn round<R: Threads + Wait + Sync, G: Gate + Sync>(
     rt: &R,
     owners: Vec<Owner>,
@@ -52,7 +53,8 @@ pub fn round<R: Threads + Wait + Sync, G: Gate + Sync>(
     }
 }
 
-/// The same round on this thread, one owner after the other. No thread is wanting.
+/// The same round on this thread, one owner after the other. It takes memory for notes alone, and none
+/// for threads.
 pub(crate) fn round_in_turn<G: Gate>(
     mut owners: Vec<Owner>,
     gate: &G,
@@ -102,15 +104,14 @@ fn refused(mut all: Vec<Owner>, fault: PhaseFault) -> PhaseFault
     fault
 }
 
-/// The fault of the least owner that had one.
+/// The fault of the first owner that had one.
 fn first_fault(owners: &[Owner]) -> Option<PhaseFault>
     ensures none { IsNone result → AreWell owners.now }
     ensures some { IfSome result (IsFirstFault owners.now) }
 {
     for owner in owners {
-        match owner.fault {
-            Some(fault) => return Some(fault_of(owner.ends.owner(), fault)),
-            None => {}
+        if let Some(fault) = owner.fault {
+            return Some(fault_of(owner.ends.owner(), fault));
         }
     }
     None
