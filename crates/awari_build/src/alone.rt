@@ -74,13 +74,9 @@ fn level_of(alloc: Global, shelf: &Shelf, part: Part) -> Result<Level, BuildFaul
     ensures memory { IfErr result (λ fault. fault ≡ BuildFault.Memory) }
 {
     finished_levels_are_consistent();
-    let Ok(parts) = closed_alone(alloc, part) else {
-        return Err(BuildFault::Memory);
-    };
-    match finish_closed(alloc, shelf, parts) {
-        Ok(image) => Ok(Level::new(image)),
-        Err(_) => Err(BuildFault::Memory),
-    }
+    let parts = closed_alone(alloc, part)?;
+    let image = finish_closed(alloc, shelf, parts)?;
+    Ok(Level::new(image))
 }
 
 /// The one part of a level, closed.
@@ -108,9 +104,7 @@ fn settled_part<P: Progress>(
     let Ok(mut part) = Part::scan(alloc, shelf, 1, 0) else {
         return Err(BuildFault::Memory);
     };
-    let Ok(mut outboxes) = Outboxes::new(alloc, 1, 0) else {
-        return Err(BuildFault::Memory);
-    };
+    let mut outboxes = Outboxes::new(alloc, 1, 0)?;
     let mut spread: usize = 0;
     while part.gain() > 1 {
         part.open_gain(part.gain() - 1);

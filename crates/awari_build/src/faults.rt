@@ -2,8 +2,10 @@
 
 ghost use Rattle.std.specs.Prelude.{◌≡◌};
 ghost use Rattle.awari_build.specs.BuildFault.{number_of};
+ghost use Rattle.awari_build.specs.declared.faults.BuildFault.TheVariants.{Memory};
 
 use awari_phase::PhaseFault;
+use std::alloc::AllocError;
 use std::fmt;
 use thiserror::Error;
 
@@ -18,7 +20,7 @@ pub enum BuildFault {
     Pace,
     /// 51: the shelf has all levels up to the highest.
     TooHigh,
-    /// 53: a growth was refused.
+    /// 53: there was no room.
     Memory,
     /// 52: the owners could not work.
     Phase { fault: PhaseFault },
@@ -54,5 +56,13 @@ impl fmt::Display for BuildFault {
             BuildFault::Memory => write!(f, "{number} Memory"),
             BuildFault::Phase { fault } => write!(f, "{number} Phase: {fault}"),
         }
+    }
+}
+
+impl From<AllocError> for BuildFault {
+    ghost from_gives = { λ _ fault. fault ≡ Memory };
+
+    fn from(_error: AllocError) -> Self {
+        BuildFault::Memory
     }
 }

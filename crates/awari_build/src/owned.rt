@@ -112,13 +112,9 @@ fn level_of<R: Threads + Sync>(
 {
     finished_owners_are_right();
     finished_levels_are_consistent();
-    let Ok(parts) = closed_parts(alloc, owners) else {
-        return Err(BuildFault::Memory);
-    };
-    match finish_parallel(rt, alloc, shelf, parts) {
-        Ok(image) => Ok(Level::new(image)),
-        Err(_) => Err(BuildFault::Memory),
-    }
+    let parts = closed_parts(alloc, owners)?;
+    let image = finish_parallel(rt, alloc, shelf, parts)?;
+    Ok(Level::new(image))
 }
 
 /// The owners of the shelf's next level, with all gains closed.
@@ -136,9 +132,7 @@ fn settled_owners<R: Threads + Wait + Sync, G: Gate + Sync, P: Progress>(
     ensures closed { IfOk result (λ owners. AreAt (table_of shelf.now).value (length shelf.now) 1 owners.items) }
     ensures phase { IfErr result IsOfPhase }
 {
-    let Ok(mut owners) = scanned_owners(rt, alloc, shelf, pace.owners, pace.room as u16) else {
-        return Err(BuildFault::Memory);
-    };
+    let mut owners = scanned_owners(rt, alloc, shelf, pace.owners, pace.room as u16)?;
     for _gain in 0..shelf.levels() {
         owners = closed_gain(rt, owners, gate, pace.sweeps, progress)?;
     }

@@ -17,26 +17,26 @@ closed_parts-requires g c =
 
 pub finish_parallel-requires-clause-whole : goal.finish_parallel-requires-clause-whole
 finish_parallel-requires-clause-whole g c κs within =
-    subst (AreWhole (length c.args.shelf.now)) (sym c.in-Ok.ensures)
+    subst (AreWhole (length c.args.shelf.now)) (sym c.in_ok-parts.ensures)
     (c.finished_owners_are_right.ensures.heard (table_of c.args.shelf.now).value (length c.args.shelf.now) c.args.owners.items c.requires.closed.finished).0
 
-pub returns-in-Ok-finish_parallel-clause-consistent : goal.returns-in-Ok-finish_parallel-clause-consistent
-returns-in-Ok-finish_parallel-clause-consistent g c =
+pub returns-clause-consistent : goal.returns-clause-consistent
+returns-clause-consistent g c =
     let at = c.requires.closed in
     let heard = c.finished_owners_are_right.ensures.heard (table_of c.args.shelf.now).value (length c.args.shelf.now) c.args.owners.items at.finished in
     let closed = c.finished_owners_are_right.ensures.closed c.args.owners.items at.idle at.gain in
-    let finished = subst (λ (parts : List Part). IsFinished c.args.shelf.now parts c.in-Ok-finish_parallel.image) c.in-Ok.ensures c.in-Ok-finish_parallel.ensures in
+    let finished = subst (λ (parts : List Part). IsFinished c.args.shelf.now parts c.in_ok-image.image) c.in_ok-parts.ensures c.in_ok-image.ensures in
     subst (Consistent c.args.shelf.now) (sym c.new.ensures)
-    (c.finished_levels_are_consistent.ensures c.args.shelf.now (parts_of c.args.owners.items) c.in-Ok-finish_parallel.image c.requires.shelf c.requires.low heard.0 closed heard.1 finished)
+    (c.finished_levels_are_consistent.ensures c.args.shelf.now (parts_of c.args.owners.items) c.in_ok-image.image c.requires.shelf c.requires.low heard.0 closed heard.1 finished)
 
 pub new-requires : goal.new-requires
 new-requires g c =
     let at = c.requires.closed in
     let heard = c.finished_owners_are_right.ensures.heard (table_of c.args.shelf.now).value (length c.args.shelf.now) c.args.owners.items at.finished in
     let closed = c.finished_owners_are_right.ensures.closed c.args.owners.items at.idle at.gain in
-    let finished = subst (λ (parts : List Part). IsFinished c.args.shelf.now parts c.in-Ok-finish_parallel.image) c.in-Ok.ensures c.in-Ok-finish_parallel.ensures in
-    IsLevel-consistent Least c.args.shelf.now c.in-Ok-finish_parallel.image
-    (c.finished_levels_are_consistent.ensures c.args.shelf.now (parts_of c.args.owners.items) c.in-Ok-finish_parallel.image c.requires.shelf c.requires.low heard.0 closed heard.1 finished)
+    let finished = subst (λ (parts : List Part). IsFinished c.args.shelf.now parts c.in_ok-image.image) c.in_ok-parts.ensures c.in_ok-image.ensures in
+    IsLevel-consistent Least c.args.shelf.now c.in_ok-image.image
+    (c.finished_levels_are_consistent.ensures c.args.shelf.now (parts_of c.args.owners.items) c.in_ok-image.image c.requires.shelf c.requires.low heard.0 closed heard.1 finished)
 
-pub returns-in-Ok-finish_parallel-clause-meaning : goal.returns-in-Ok-finish_parallel-clause-meaning
-returns-in-Ok-finish_parallel-clause-meaning g c = TellsTruth-shelf _ (IsShelf-push c.args.shelf.now c.new.result c.requires.shelf (returns-in-Ok-finish_parallel-clause-consistent g c))
+pub returns-clause-meaning : goal.returns-clause-meaning
+returns-clause-meaning g c = TellsTruth-shelf _ (IsShelf-push c.args.shelf.now c.new.result c.requires.shelf (returns-clause-consistent g c))

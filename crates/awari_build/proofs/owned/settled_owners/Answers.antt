@@ -5,9 +5,9 @@ use Rattle.awari_build.proofs.owned.settled_owners.Goals as goal
 
 pub loop-gain-init : goal.loop-gain-init
 loop-gain-init g c =
-    let scanned = c.in-Ok.ensures in
+    let scanned = c.in_ok-owners.ensures in
     let count = scanned.count in
-    let long = c.in-Ok.owners.ok.0 in (
+    let long = c.in_ok-owners.owners.ok.0 in (
       length c.args.shelf.now + 1,
       omega arith,
       omega arith,
@@ -29,6 +29,6 @@ loop-gain-preserved g c =
       held.0 - 1,
       omega (arith, sum, low, end),
       omega (arith, sum, some),
-      c.in_ok-owners.ensures.closed (table_of c.args.shelf.now).value (length c.args.shelf.now) (held.0 - 1)
+      c.in_ok-owners-2.ensures.closed (table_of c.args.shelf.now).value (length c.args.shelf.now) (held.0 - 1)
           (subst (λ o. AreAt (table_of c.args.shelf.now).value (length c.args.shelf.now) o c.loop-gain.owners.items) opened held.3),
     )
