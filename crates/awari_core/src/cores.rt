@@ -62,8 +62,9 @@ impl Model for Core {
 impl Core {
     /// The owners of the shelf's next level, so many of them, with the greatest gain open, which is
     /// the number of stones (none at level 0), and nothing under way. Each line has room for `room`
-    /// batches. Refused in this order: 35 `Owners` (there are 1 to 16), 36 `Room` (1 to 256), 37
-    /// `TooHigh` (the shelf has all levels), 38 `Memory`.
+    /// batches. Refused in this order: as 35 `Owners` where there are not 1 to 16 owners, as 36 `Room`
+    /// where the room is not 1 to 256, as 37 `TooHigh` where the shelf has all levels, and as 38
+    /// `Memory` where there was no room.
     ///
     /// It takes the memory for the parts and the lines, and a share of the shelf.
     pub fn new(alloc: Global, shelf: &Shelf, owners: u8, room: u32) -> Result<Core, CoreFault>

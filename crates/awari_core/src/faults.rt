@@ -14,9 +14,9 @@ use thiserror::Error;
 pub enum CoreFault {
     /// 34: the event is not enabled.
     NotEnabled,
-    /// 35: there are not 1 to 16 owners.
+    /// 35: there is no owner, or there are more than 16.
     Owners,
-    /// 36: a line has not room for 1 to 256 batches.
+    /// 36: a line has room for no batch or for more than 256.
     Room,
     /// 37: the shelf has all levels.
     TooHigh,
