@@ -14,7 +14,7 @@ use crate::faults::BuildFault;
 use awari_block::ClosedPart;
 use awari_owner::{Outboxes, Part, distances_fit};
 use awari_phase::{Progress, Silent};
-use awari_plan::{finish_closed, finished_levels_are_consistent};
+use awari_plan::finish_closed;
 use awari_rank::size;
 use awari_table::{HIGHEST_LEVEL, Level, Shelf};
 use std::alloc::{AllocError, Global};
@@ -73,7 +73,6 @@ fn level_of(alloc: Global, shelf: &Shelf, part: Part) -> Result<Level, BuildFaul
     ensures planned { IfOk result (IsPlannedLowest shelf.now) }
     ensures memory { IfErr result (λ fault. fault ≡ BuildFault.Memory) }
 {
-    finished_levels_are_consistent();
     let parts = closed_alone(alloc, part)?;
     let image = finish_closed(alloc, shelf, parts)?;
     Ok(Level::new(image))

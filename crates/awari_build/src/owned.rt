@@ -19,7 +19,7 @@ use awari_phase::{
     Gate, Owner, PhaseFault, Progress, Silent, closed_parts, finished_owners_are_right,
     gain_phase_with_progress, open_gain, scanned_owners,
 };
-use awari_plan::{finish_parallel, finished_levels_are_consistent};
+use awari_plan::finish_parallel;
 use awari_rank::size;
 use awari_table::{HIGHEST_LEVEL, Level, Shelf};
 use std::alloc::Global;
@@ -111,7 +111,6 @@ fn level_of<R: Threads + Sync>(
     ensures memory { IfErr result (λ fault. fault ≡ BuildFault.Memory) }
 {
     finished_owners_are_right();
-    finished_levels_are_consistent();
     let parts = closed_parts(alloc, owners)?;
     let image = finish_parallel(rt, alloc, shelf, parts)?;
     Ok(Level::new(image))

@@ -17,7 +17,7 @@ use crate::openings::{are_idle, nearer, open_gains, open_waves, scanned_parts};
 use crate::senders::{Sender, are_silent, silent_senders};
 use awari_board::moves_keep_boards;
 use awari_owner::{OwnerFault, Part};
-use awari_plan::{finish, finished_levels_are_consistent};
+use awari_plan::finish;
 use awari_rank::ranks_tell_boards_apart;
 use awari_table::{HIGHEST_LEVEL, Image, Shelf};
 use std::alloc::{AllocError, Global};
@@ -204,7 +204,6 @@ impl Core {
             return Err(CoreFault::NotQuiet);
         }
         sound_cores_are_told();
-        finished_levels_are_consistent();
         let image = finish(alloc, &self.shelf, &self.parts)?;
         Ok(image)
     }

@@ -1,19 +1,17 @@
 use Rattle.std.proofs.Common.{rules, List, ap, sym, subst, ◌∙◌}
+use Rattle.awari_table.specs.Images.{table_of}
 use Rattle.awari_table.specs.Shelves.{Consistent}
 use Rattle.awari_block.specs.Part.{Part}
-use Rattle.awari_plan.specs.Finished.{IsFinished}
+use Rattle.awari_owner.specs.Level.{AreHeard}
 use Rattle.awari_core.specs.Core.{Core, IsQuiet}
-use Rattle.awari_core.proofs.Ending.{closed_parts}
 use Rattle.awari_core.proofs.cores.Core.finish.Goals as goal
 
 pub returns-clause-consistent : goal.returns-clause-consistent
 returns-clause-consistent c =
     let old : Core = record { shelf = c.self.inside.shelf; room = c.self.inside.room; gain = c.self.inside.gain; parts = c.self.inside.parts.items; senders = c.self.inside.senders.items } in
     let quiet : IsQuiet old = subst IsQuiet (sym c.self.view_is) (c.quiet.ensures.quiet.0 (search rules)) in
-    let finished = subst (λ (l : List Part). IsFinished old.shelf l c.in_ok-image.image) c.deref.ensures.value c.in_ok-image.ensures in
-    subst (λ (o : Core). Consistent o.shelf c.in_ok-image.image) c.self.view_is
-    (c.finished_levels_are_consistent.ensures old.shelf old.parts c.in_ok-image.image c.self.invariant.shelf c.self.invariant.low (c.sound_cores_are_told.ensures.whole old c.self.invariant)
-    (closed_parts old c.self.invariant c.if-self-ne0.false quiet) (c.sound_cores_are_told.ensures.heard old c.self.invariant quiet.1) finished)
+    let heard = subst (λ (parts : List Part). AreHeard (table_of old.shelf).value parts) (sym c.deref.ensures.value) (c.sound_cores_are_told.ensures.heard old c.self.invariant quiet.1) in
+    subst (λ (o : Core). Consistent o.shelf c.in_ok-image.image) c.self.view_is (c.in_ok-image.ensures.consistent heard)
 
 pub returns-clause-closed : goal.returns-clause-closed
 returns-clause-closed c = (ap (λ (o : Core). o.gain) (sym c.self.view_is) ∙ c.if-self-ne0.false, c.quiet.ensures.quiet.0 (search rules))
