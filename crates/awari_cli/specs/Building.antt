@@ -1,5 +1,5 @@
 -- The command `build`: what is printed of the levels that were built.
-use Rattle.std.specs.Prelude.{◌≡◌, ◌<◌, ◌≤◌, ◌⊎◌, ℕ, List, ◌++◌, ◌∷◌, [], length, codes, Option, Some}
+use Rattle.std.specs.Prelude.{◌≡◌, ◌<◌, ◌≤◌, ◌⊎◌, ℕ, List, ◌++◌, ◌∷◌, [], length, codes, Option}
 use Rattle.std.specs.Fmt.{decimal}
 use Rattle.std.specs.List.{flat_map}
 use Rattle.std.specs.Io.KnownBytes.{Appends}
@@ -10,8 +10,8 @@ use Rattle.awari_plan.specs.Least.{HasLowestPlans}
 use Rattle.awari_table.specs.Shelves.{IsShelf}
 use Rattle.awari_table.specs.declared.images.Counts.{Counts}
 use Rattle.awari_table.specs.declared.images.Image.{Image}
-use Rattle.awari_file.specs.FileText.{file_text}
 use Rattle.awari_folder.specs.Contents.{AreNames, HoldsIn, IsStored, LeavesNoMore, Same}
+use Rattle.awari_folder.specs.Migration.{IsWholeFile}
 use Rattle.awari_cli.specs.declared.building.BuiltLevel.{BuiltLevel}
 use Rattle.awari_cli.specs.declared.building.BuildingFault.{BuildingFault}
 use Rattle.awari_cli.specs.declared.building.BuildingFault.TheVariants.{Build, Folder}
@@ -65,13 +65,9 @@ PrintsLevels top old new before after = (below built : List Image) × IsShelf (b
 abbrev pub SameOutside : ℕ → ℕ → (ℕ → Option (Option (List ℕ))) → (ℕ → Option (Option (List ℕ))) → Type 0
 SameOutside low top old new = (n : ℕ) → (n < low) ⊎ (top < n) → new n ≡ old n
 
--- the whole file of some image, over some digest
-abbrev pub IsFile : Option (List ℕ) → Type 0
-IsFile left = (image : Image) × (below : List ℕ) × (left ≡ Some (file_text 2 image below))
-
 -- A crash may leave nothing else than before, but under the names from level `low` on a whole file.
 abbrev pub LeavesFiles : ℕ → (ℕ → Option (List ℕ) → Type 0) → (ℕ → Option (List ℕ) → Type 0) → Type 0
-LeavesFiles low old new = (n : ℕ) (left : Option (List ℕ)) → new n left → old n left ⊎ ((low ≤ n) × IsFile left)
+LeavesFiles low old new = (n : ℕ) (left : Option (List ℕ)) → new n left → old n left ⊎ ((low ≤ n) × IsWholeFile left)
 
 -- Nothing is changed, or levels were stored and each of their files stays, as does what has the names above `top`; and a crash
 -- leaves what it might have left before, or a whole file under a name above those levels.
