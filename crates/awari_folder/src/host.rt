@@ -23,8 +23,8 @@ pub struct HostFolder<'a, R> {
 }
 
 impl<'a, R> HostFolder<'a, R> {
-    /// The folder at this path, whether it is there or not. It takes no memory; its
-    /// calls take some for names.
+    /// The folder at this path, whether it is there or not. It takes no memory; its calls take some
+    /// for names.
     pub fn new(files: &'a R, alloc: Global, path: Path<'a>) -> Self {
         HostFolder {
             files,
@@ -67,7 +67,7 @@ fn open_file<R: Files>(files: &R, path: Path<'_>) -> io::Result<R::File> {
 /// Makes a file that was not there, in place of what a save that was killed may have left. What has
 /// the name is removed and not written to, so that no link is followed.
 fn create_file<R: Files>(files: &R, path: Path<'_>) -> io::Result<R::File> {
-    // What could not be removed refuses `create_new`, and is told there.
+    // Where it could not be removed, no new file can be made, which is told below.
     let _ = fs::remove_file(files, path);
     let mut how = OpenOptions::new();
     how.write(true);

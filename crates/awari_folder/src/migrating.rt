@@ -61,8 +61,8 @@ pub fn migrate<F: Folder, G: Folder>(
     from: &mut F,
     to: &mut G,
 ) -> Result<Migrated, FolderFault>
-    // Where it is known what has the names in both: all levels are brought over, or there is
-    // the first fault.
+    // Where it is known what has the names in both: all levels are brought over, or there is the
+    // first fault.
     ensures exact { (names others : ℕ → Option (List ℕ)) → AreNames (F.stands from.old) names → AreNames (G.stands to.old) others
         → MatchResult result (λ done. IsMigrated names others (G.stands to.new) done.limits.items done.digest) (IsFirstMigrationFault names others (G.stands to.new)) }
     ensures named { IfErr result NamesLevel }
