@@ -1,5 +1,5 @@
 -- Each step of the service.
-use Rattle.std.proofs.Common.{◌≡◌, ◌≢◌, ◌<◌, ℕ, List, [], ◌∷◌, ◌++◌, length, sym, ap, ◌∙◌, refl, subst, append_assoc, append-nil, Option, Some, None, ◌+◌, take, drop, get_or, take-append-drop, Bool, true, false, ◌↔◌}
+use Rattle.std.proofs.Common.{◌≡◌, ◌≢◌, ◌<◌, ◌≤◌, arith, inl, inr, length-append, length-take, ℕ, List, [], ◌∷◌, ◌++◌, length, sym, ap, ◌∙◌, refl, subst, append_assoc, append-nil, Option, Some, None, ◌+◌, take, drop, get_or, take-append-drop, Bool, true, false, ◌↔◌}
 use Rattle.std.proofs.lemmas.List.{take_more}
 use Rattle.std.proofs.lemmas.Bool.{iff_false, false≢true}
 use Rattle.std.proofs.lemmas.List.Elements.{All-nil, All-append, All-cons}
@@ -9,8 +9,8 @@ use Rattle.awari_table.specs.declared.images.Image.{Image}
 use Rattle.awari_desk.specs.declared.answers.Answer.{Answer}
 use Rattle.awari_desk.specs.declared.answers.Answer.TheVariants.{Found, Moves, NotYet, Gone, Refused, Seen, Bye, What}
 use Rattle.awari_desk.specs.declared.lines.Coming.{Coming}
-use Rattle.awari_desk.specs.Service.{Answered, none, more, Served, ended, unended, quits, IsOneLine, IsAnswerTo, answer_text, IsInput, HasServed, HasBegun}
-use Rattle.awari_desk.specs.Coming.{Holds, Serving}
+use Rattle.awari_desk.specs.Service.{Answered, none, more, Served, ended, unended, quits, IsOneLine, IsAnswerTo, answer_text, IsInput, HasServed, HasServedWithin, HasBegun, HasBegunWithin}
+use Rattle.awari_desk.specs.Coming.{Holds, Serving, Closes}
 
 -- whether an answer ends the service
 abbrev is_bye : Answer → Bool
@@ -201,44 +201,93 @@ feeds_breaks first before after last taken bytes i h b =
     (ap (λ l. l ++ drop (i + 1) bytes) (one_of taken bytes i h) ∙ append_assoc taken (take (i + 1) bytes) (drop (i + 1) bytes) ∙ ap (λ l. taken ++ l) (take-append-drop (i + 1) bytes))
     (begun_more first before _ after last (drop (i + 1) bytes) b)
 
+-- bytes that came, of which n count
+few_came : (came : List ℕ) (n : ℕ) → length (take n came) ≤ n
+few_came came n = let short = length-take n came in omega (arith, short)
+
+-- what came is a front of what the reader had, and so is its own front
+came_first : (had has : Option (List ℕ)) (came rest : List ℕ) (n : ℕ) → Consumes had has came → IsInput has rest → IsInput had (take n came ++ (drop n came ++ rest))
+came_first had has came rest n c i =
+    subst (λ (l : List ℕ). IsInput had l) (ap (λ l. l ++ rest) (sym (take-append-drop n came)) ∙ append_assoc (take n came) (drop n came) rest) (input_with had has came rest c i)
+
 -- the service ends within the bytes that came
 pub quits_in : (first : List Image) (before after had has : Option (List ℕ)) (last : List Image) (taken came : List ℕ) (n : ℕ) → Consumes had has came
     → ((rest : List ℕ) → HasServed first before ((taken ++ take n came) ++ rest) after last)
-    → (input : List ℕ) × IsInput had input × HasServed first before (taken ++ input) after last
+    → (front behind : List ℕ) × IsInput had (front ++ behind) × (length front ≤ n) × Closes first before taken front behind after last
 quits_in first before after had has last taken came n c f =
-    let i = some_input has in
-    (came ++ i.0, input_with had has came i.0 c i.1, subst (λ (l : List ℕ). HasServed first before l after last) (parts_of taken came i.0 n) (f (drop n came ++ i.0)))
+    let i = some_input has in (
+      take n came,
+      drop n came ++ i.0,
+      came_first had has came i.0 n c i.1,
+      few_came came n,
+      inr (λ rest. subst (λ (l : List ℕ). HasServed first before l after last) (append_assoc taken (take n came) rest) (f rest)),
+    )
 
 pub breaks_in : (first : List Image) (before after had has : Option (List ℕ)) (last : List Image) (taken came : List ℕ) (n : ℕ) → Consumes had has came
     → HasBegun first before (taken ++ take n came) after last
-    → (input : List ℕ) × IsInput had input × HasBegun first before (taken ++ input) after last
+    → (front behind : List ℕ) × IsInput had (front ++ behind) × (length front ≤ n) × HasBegun first before (taken ++ front) after last
 breaks_in first before after had has last taken came n c b =
-    let i = some_input has in
-    (came ++ i.0, input_with had has came i.0 c i.1, subst (λ (l : List ℕ). HasBegun first before l after last) (parts_of taken came i.0 n) (begun_more first before _ after last (drop n came ++ i.0) b))
+    let i = some_input has in (take n came, drop n came ++ i.0, came_first had has came i.0 n c i.1, few_came came n, b)
+
+-- nothing of what the reader has counts
+pub breaks_at_once : (first : List Image) (before after had : Option (List ℕ)) (last : List Image) (taken : List ℕ) (left : ℕ) → HasBegun first before (taken ++ []) after last
+    → (front behind : List ℕ) × IsInput had (front ++ behind) × (length front ≤ left) × HasBegun first before (taken ++ front) after last
+breaks_at_once first before after had last taken left b = let i = some_input had in ([], i.0, i.1, omega arith, b)
 
 -- nothing more comes
 pub nothing_comes : (had has : Option (List ℕ)) → Consumes had has [] → IsAtEnd has → IsInput had []
 nothing_comes had has c e = input_with had has [] [] c (input_at_end has e)
 
 pub nothing_in : (Q : List ℕ → Type 0) (had has : Option (List ℕ)) (taken buf : List ℕ) (count : ℕ) → count ≡ 0 → Consumes had has (take count buf) → IsAtEnd has → Q taken
-    → (input : List ℕ) × IsInput had input × Q (taken ++ input)
+    → IsInput had [] × Q (taken ++ [])
 nothing_in Q had has taken buf count zero c e q =
-    ([], nothing_comes had has (subst (λ (n : ℕ). Consumes had has (take n buf)) zero c) e, subst Q (sym (append-nil taken)) q)
+    (nothing_comes had has (subst (λ (n : ℕ). Consumes had has (take n buf)) zero c) e, subst Q (sym (append-nil taken)) q)
 
 -- all that came was taken
-pub quits_whole : (first : List Image) (before after had has : Option (List ℕ)) (last : List Image) (taken came : List ℕ) → Consumes had has came
+pub quits_whole : (first : List Image) (before after had has : Option (List ℕ)) (last : List Image) (taken came : List ℕ) (left : ℕ) → Consumes had has came → length came ≤ left
     → ((rest : List ℕ) → HasServed first before ((taken ++ came) ++ rest) after last)
-    → (input : List ℕ) × IsInput had input × HasServed first before (taken ++ input) after last
-quits_whole first before after had has last taken came c f =
+    → (front behind : List ℕ) × IsInput had (front ++ behind) × (length front ≤ left) × Closes first before taken front behind after last
+quits_whole first before after had has last taken came left c few f =
     let i = some_input has in
-    (came ++ i.0, input_with had has came i.0 c i.1, subst (λ (l : List ℕ). HasServed first before l after last) (append_assoc taken came i.0) (f i.0))
+    (came, i.0, input_with had has came i.0 c i.1, few, inr (λ rest. subst (λ (l : List ℕ). HasServed first before l after last) (append_assoc taken came rest) (f rest)))
 
-pub breaks_whole : (first : List Image) (before after had has : Option (List ℕ)) (last : List Image) (taken came : List ℕ) → Consumes had has came
+pub breaks_whole : (first : List Image) (before after had has : Option (List ℕ)) (last : List Image) (taken came : List ℕ) (left : ℕ) → Consumes had has came → length came ≤ left
     → HasBegun first before (taken ++ came) after last
-    → (input : List ℕ) × IsInput had input × HasBegun first before (taken ++ input) after last
-breaks_whole first before after had has last taken came c b =
-    let i = some_input has in
-    (came ++ i.0, input_with had has came i.0 c i.1, subst (λ (l : List ℕ). HasBegun first before l after last) (append_assoc taken came i.0) (begun_more first before _ after last i.0 b))
+    → (front behind : List ℕ) × IsInput had (front ++ behind) × (length front ≤ left) × HasBegun first before (taken ++ front) after last
+breaks_whole first before after had has last taken came left c few b =
+    let i = some_input has in (came, i.0, input_with had has came i.0 c i.1, few, b)
+
+-- so many came at most
+pub few_taken : (buf : List ℕ) (count left : ℕ) → count ≤ left → length (take count buf) ≤ left
+few_taken buf count left low = let short = few_came buf count in omega (arith, short, low)
 
 pub begun_here : (first : List Image) (before : Option (List ℕ)) (taken : List ℕ) (now : Option (List ℕ)) (known : List Image) (coming : Coming) → Serving first before taken now known coming → HasBegun first before taken now known
 begun_here first before taken now known coming s = subst (λ (l : List ℕ). HasBegun first before l now known) (append-nil taken) (begun first before taken now known coming s [])
+
+-- ---- the whole input
+
+module _ (first : List Image) (before old had after : Option (List ℕ)) (last : List Image) (taken : List ℕ) (left most : ℕ) (consumed : Consumes old had taken) (sum : length taken + left ≡ most) where
+  within : (front behind : List ℕ) → IsInput had (front ++ behind) → length front ≤ left → IsInput old ((taken ++ front) ++ behind) × (length (taken ++ front) ≤ most)
+  within front behind is few = (
+    subst (λ (l : List ℕ). IsInput old l) (sym (append_assoc taken front behind)) (input_with old had taken (front ++ behind) consumed is),
+    let long = length-append taken front in omega (arith, long, sum, few),
+  )
+
+  pub served_within : (front behind : List ℕ) × IsInput had (front ++ behind) × (length front ≤ left) × Closes first before taken front behind after last → HasServedWithin most first before old after last
+  served_within (front, behind, is, few, inl whole) = let w = within front behind is few in (taken ++ front, behind, w.0, w.1, inl whole)
+  served_within (front, behind, is, few, inr any) =
+      let w = within front behind is few in
+      (taken ++ front, behind, w.0, w.1, inr (λ rest. subst (λ (l : List ℕ). HasServed first before l after last) (sym (append_assoc taken front rest)) (any rest)))
+
+  pub begun_within : (front behind : List ℕ) × IsInput had (front ++ behind) × (length front ≤ left) × HasBegun first before (taken ++ front) after last → HasBegunWithin most first before old after last
+  begun_within (front, behind, is, few, b) = let w = within front behind is few in (taken ++ front, behind, w.0, w.1, b)
+
+pub served_all : (most : ℕ) (first : List Image) (before input after : Option (List ℕ)) (last : List Image) → HasServedWithin most first before input after last
+    → (bytes : List ℕ) × IsInput input bytes × HasServed first before bytes after last
+served_all most first before input after last (front, behind, is, few, inl whole) =
+    (front, subst (λ (l : List ℕ). IsInput input l) (ap (λ l. front ++ l) whole.0 ∙ append-nil front) is, whole.1)
+served_all most first before input after last (front, behind, is, few, inr any) = (front ++ behind, is, any behind)
+
+pub begun_all : (most : ℕ) (first : List Image) (before input after : Option (List ℕ)) (last : List Image) → HasBegunWithin most first before input after last
+    → (bytes : List ℕ) × IsInput input bytes × HasBegun first before bytes after last
+begun_all most first before input after last (front, behind, is, few, b) = (front ++ behind, is, begun_more first before front after last behind b)

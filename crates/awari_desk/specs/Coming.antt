@@ -1,5 +1,5 @@
 -- How far the service has come. Private functions alone go by these: no public contract does.
-use Rattle.std.specs.Prelude.{◌≡◌, ◌⊎◌, ◌<◌, ◌+◌, ℕ, List, ◌++◌, length, Bool, true, false, Option, Some, None, Result, Ok, Err, MatchResult, ◌↔◌}
+use Rattle.std.specs.Prelude.{◌≡◌, ◌⊎◌, ◌<◌, ◌≤◌, ◌+◌, ℕ, List, [], ◌++◌, length, Bool, true, false, Option, Some, None, Result, Ok, Err, MatchResult, ◌↔◌}
 use Rattle.std.specs.Io.KnownBytes.{Appends, Consumes}
 use Rattle.awari_table.specs.declared.images.Image.{Image}
 use Rattle.awari_desk.specs.declared.answers.Answer.{Answer}
@@ -39,9 +39,17 @@ Feeds first before taken result after known coming = MatchResult result
 abbrev pub Ends : {E X : Type 0} → List Image → Option (List ℕ) → List ℕ → Result X E → Option (List ℕ) → List Image → Type 0
 Ends first before taken result after known = MatchResult result (λ _. HasServed first before taken after known) (λ _. HasBegun first before taken after known)
 
--- The service ended within what the reader had left; it goes on, with bytes taken; or it was refused.
+-- The service ended behind these bytes that came; nothing stands behind them, or it is the same whatever does.
+abbrev pub Closes : List Image → Option (List ℕ) → List ℕ → List ℕ → List ℕ → Option (List ℕ) → List Image → Type 0
+Closes first before taken front behind after known = ((behind ≡ []) × HasServed first before (taken ++ front) after known)
+    ⊎ ((rest : List ℕ) → HasServed first before (taken ++ (front ++ rest)) after known)
+
+-- The service ended within what the reader had left; it goes on, with bytes taken; or it was refused. No more bytes count than
+-- may come.
 abbrev pub Moves : {E : Type 0} → List Image → Option (List ℕ) → List ℕ → ℕ → Option (List ℕ) → Option (List ℕ) → Result (Option ℕ) E → Option (List ℕ) → List Image → Coming → Type 0
-Moves first before taken left had has (Ok None) after known coming = (input : List ℕ) × IsInput had input × HasServed first before (taken ++ input) after known
+Moves first before taken left had has (Ok None) after known coming =
+    (front behind : List ℕ) × IsInput had (front ++ behind) × (length front ≤ left) × Closes first before taken front behind after known
 Moves first before taken left had has (Ok (Some fewer)) after known coming =
     (bytes : List ℕ) × Consumes had has bytes × (length bytes + fewer ≡ left) × (fewer < left) × Serving first before (taken ++ bytes) after known coming
-Moves first before taken left had has (Err fault) after known coming = (input : List ℕ) × IsInput had input × HasBegun first before (taken ++ input) after known
+Moves first before taken left had has (Err fault) after known coming =
+    (front behind : List ℕ) × IsInput had (front ++ behind) × (length front ≤ left) × HasBegun first before (taken ++ front) after known

@@ -96,6 +96,12 @@ IsInput (Some known) input = known ≡ input
 abbrev pub HasServed : List Image → Option (List ℕ) → List ℕ → Option (List ℕ) → List Image → Type 0
 HasServed first before input after last = (output : List ℕ) × Served first input output last × Appends before after output
 
+-- It took the output for a front of the input, of this many bytes at most. Nothing stands behind that front, or the output is
+-- the same whatever stands there, as it is where a line of the front ends the service.
+abbrev pub HasServedWithin : ℕ → List Image → Option (List ℕ) → Option (List ℕ) → Option (List ℕ) → List Image → Type 0
+HasServedWithin most first before input after last = (front behind : List ℕ) × IsInput input (front ++ behind) × (length front ≤ most)
+    × (((behind ≡ []) × HasServed first before front after last) ⊎ ((rest : List ℕ) → HasServed first before (front ++ rest) after last))
+
 -- the writer took the front of an output for a front of the input
 pub record HasBegun (first : List Image) (before : Option (List ℕ)) (input : List ℕ) (after : Option (List ℕ)) (last : List Image) : Type 0 where
   pub front : List ℕ
@@ -105,3 +111,7 @@ pub record HasBegun (first : List Image) (before : Option (List ℕ)) (input : L
   pub parts : input ≡ front ++ behind
   pub served : Served first front (taken ++ due) last
   pub wrote : Appends before after taken
+
+-- and that front of the input is of the first bytes, this many at most
+abbrev pub HasBegunWithin : ℕ → List Image → Option (List ℕ) → Option (List ℕ) → Option (List ℕ) → List Image → Type 0
+HasBegunWithin most first before input after last = (front behind : List ℕ) × IsInput input (front ++ behind) × (length front ≤ most) × HasBegun first before front after last

@@ -5,7 +5,7 @@ ghost use Rattle.std.specs.Io.KnownBytes.{Appends};
 ghost use Rattle.awari_table.specs.Counted.{inner_of, faults_of, Grew};
 ghost use Rattle.awari_table.specs.declared.images.Image.{Image};
 ghost use Rattle.awari_desk.specs.Coming.{Holds, Serving, Responds, Feeds, Ends, Moves};
-ghost use Rattle.awari_desk.specs.Service.{IsInput, HasServed, HasBegun};
+ghost use Rattle.awari_desk.specs.Service.{IsInput, HasServed, HasServedWithin, HasBegun, HasBegunWithin};
 ghost use Rattle.awari_desk.specs.declared.faults.ServeFault.TheVariants as serve_fault;
 
 use crate::answers::Answer;
@@ -189,6 +189,11 @@ pub fn serve<R: Read, W: Write>(
     // Where it is refused, what was written is the front of an output for a front of the input.
     ensures begun { OnErr result ((bytes : List ℕ) × IsInput (R.remaining (inner_of input.old)) bytes
         × HasBegun reader.old (W.contents (inner_of output.old)) bytes (W.contents (inner_of output.new)) reader.new) }
+
+    // Either goes by no more than the first `LONGEST_INPUT` bytes. Ok comes only where the input has no
+    // more, or a line within them says `quit`, and before a refusal nothing behind them is answered.
+    ensures served_within { OnOk result (HasServedWithin LONGEST_INPUT reader.old (W.contents (inner_of output.old)) (R.remaining (inner_of input.old)) (W.contents (inner_of output.new)) reader.new) }
+    ensures begun_within { OnErr result (HasBegunWithin LONGEST_INPUT reader.old (W.contents (inner_of output.old)) (R.remaining (inner_of input.old)) (W.contents (inner_of output.new)) reader.new) }
 
     // 90 comes only where the reader gave a fault, 91 only where too many bytes came, and 92 only
     // where the writer gave a fault or took no byte.
