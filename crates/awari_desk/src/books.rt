@@ -11,7 +11,10 @@ use std::collections::LinkedList;
 
 /// What readers take: a shelf.
 #[derive(Drop)]
-pub struct Book(pub Shelf);
+pub struct Book(
+    /// The levels that it has.
+    pub Shelf,
+);
 
 impl Absorb<Shelf> for Book {
     // A clause reads an array as a list, of any length.

@@ -36,15 +36,11 @@ pub fn desk<R: Wait + Drop>(
     let places = 2 * usize::from(readers);
     let first = Book(Shelf::empty());
     let second = Book(Shelf::empty());
-    let Ok(writer) = BookWriter::new(alloc, first, second, places) else {
-        return Err(DeskFault::Memory);
-    };
+    let writer = BookWriter::new(alloc, first, second, places)?;
     let publisher = Publisher {
         pages: Pages { writer },
         rt,
     };
-    match new_readers(alloc, &publisher.pages, readers) {
-        Ok(readers) => Ok((publisher, readers)),
-        Err(_) => Err(DeskFault::Memory),
-    }
+    let readers = new_readers(alloc, &publisher.pages, readers)?;
+    Ok((publisher, readers))
 }

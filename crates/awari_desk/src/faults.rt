@@ -4,7 +4,9 @@ ghost use Rattle.std.specs.Prelude.{◌≡◌};
 ghost use Rattle.awari_desk.specs.AskFault.{number_of as ask_number_of};
 ghost use Rattle.awari_desk.specs.DeskFault.{number_of as desk_number_of};
 ghost use Rattle.awari_desk.specs.ServeFault.{number_of as serve_number_of};
+ghost use Rattle.awari_desk.specs.declared.faults.DeskFault.TheVariants.{Memory};
 
+use std::alloc::AllocError;
 use std::fmt;
 use thiserror::Error;
 
@@ -47,6 +49,14 @@ impl fmt::Display for DeskFault {
             DeskFault::Readers => write!(f, "{number} Readers"),
             DeskFault::Memory => write!(f, "{number} Memory"),
         }
+    }
+}
+
+impl From<AllocError> for DeskFault {
+    ghost from_gives = { λ _ fault. fault ≡ Memory };
+
+    fn from(_error: AllocError) -> Self {
+        DeskFault::Memory
     }
 }
 

@@ -9,6 +9,7 @@ use std::sync::{Arc, Wait};
 /// The publisher of a book. It keeps the handle `R`, since its drop ends the desk and can wait for
 /// readers. What never waits are the calls of its `pages`.
 pub struct Publisher<R: Wait + Drop> {
+    /// The book, and the telling of it.
     pub pages: Pages,
     pub(crate) rt: R,
 }

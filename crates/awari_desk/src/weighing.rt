@@ -18,7 +18,9 @@ pub type MovesText = ArrayVec<u8, MOVES_ROOM>;
 /// A board's entry, and what each of its legal moves is worth, ascending by pit.
 #[derive(Debug, PartialEq, Eq, Drop)]
 pub struct Weighed {
+    /// What the book says of the board itself.
     pub entry: Entry,
+    /// What each legal move is worth, none where the play has ended.
     pub worths: ArrayVec<MoveWorth, 6>,
 }
 
