@@ -58,17 +58,29 @@ fn expect_level(rt: &impl Abort, alloc: Global, shelf: &Shelf, core: &Core) -> R
     Ok(())
 }
 
+/// Six boards of the first owner and six of the second, which are all of level 1.
+const TWELVE_SPREADS: [Event; 12] = [
+    Event::Spread(0),
+    Event::Spread(0),
+    Event::Spread(0),
+    Event::Spread(0),
+    Event::Spread(0),
+    Event::Spread(0),
+    Event::Spread(1),
+    Event::Spread(1),
+    Event::Spread(1),
+    Event::Spread(1),
+    Event::Spread(1),
+    Event::Spread(1),
+];
+
 /// Two owners of level 1 spread what is due at distance 0, 11 boards, and one try is refused.
 fn spread_by_two(rt: &impl Abort, core: &mut Core) {
-    let spreads = [Event::Spread(0), Event::Spread(1)];
-    let mut taken = 0usize;
-    let mut refused = 0usize;
-    for _turn in 0..6u8 {
-        let ran = core.run(&spreads);
-        taken = taken.saturating_add(ran.taken);
-        refused = refused.saturating_add(ran.refused);
-    }
-    expect_equal(rt, "taken and refused", (taken, refused), (11, 1));
+    let ran = Ran {
+        taken: 11,
+        refused: 1,
+    };
+    expect_equal(rt, "twelve spreads", core.run(&TWELVE_SPREADS), ran);
 }
 
 /// The last board of level 1, which owner 1 has, is spread at distance 1, and all gains are closed.
