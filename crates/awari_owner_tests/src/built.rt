@@ -38,7 +38,7 @@ fn doubled(alloc: Global, level: &Level) -> Result<Image, AllocError> {
 }
 
 /// The verifier takes the level with all its entries.
-fn expect_verified(
+pub(crate) fn expect_verified(
     rt: &impl Abort,
     alloc: Global,
     shelf: &Shelf,

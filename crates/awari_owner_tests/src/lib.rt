@@ -3,11 +3,17 @@
 #![tactic(auto)]
 
 #[cfg(test)]
+mod apart;
+#[cfg(test)]
 mod built;
 #[cfg(test)]
 mod cores;
 #[cfg(test)]
 mod expect;
+#[cfg(test)]
+mod grids;
+#[cfg(test)]
+mod lines;
 #[cfg(test)]
 mod notes;
 #[cfg(test)]

@@ -3,13 +3,16 @@
 ghost use Rattle.std.specs.Prelude.{IfOk};
 ghost use Rattle.awari_lines.specs.Lines.{IsGrid};
 ghost use Rattle.awari_table.specs.Shelves.{Consistent};
-ghost use Rattle.awari_phase.specs.Owners.{all_ends};
+ghost use Rattle.awari_owner.specs.Level.{AreWhole};
+ghost use Rattle.awari_phase.specs.Owners.{AllGrown, all_ends, parts_of};
 
+use crate::built::expect_verified;
 use crate::expect::{expect, expect_equal};
 use crate::shelves::{expect_limit, levels_below, one_level};
 use awari_build::{BuildFault, Pace, build_alone, build_level};
 use awari_phase::{
-    Gate, Open, Owner, PhaseFault, gain_phase, open_gain, round, scanned_owners, settle_owners,
+    Gate, Open, Owner, PhaseFault, finished_owners_are_right, gain_phase, open_gain, round,
+    scanned_owners, settle_owners,
 };
 use awari_table::{Level, Shelf};
 use std::alloc::Global;
@@ -22,22 +25,40 @@ use std::thread::Threads;
 
 /// Three owners of level 1, with room for one batch on each line and gain 1 open.
 pub(crate) fn three_owners<R: Threads + Sync>(rt: &R, alloc: Global) -> Result<Vec<Owner>, Fail>
-    ensures { IfOk result (λ owners. IsGrid (all_ends owners.items)) }
+    ensures grid { IfOk result (λ owners. IsGrid (all_ends owners.items)) }
+    ensures whole { IfOk result (λ owners. AreWhole 1 (parts_of owners.items)) }
 {
+    finished_owners_are_right();
     let shelf = one_level(alloc)?;
     let mut owners = scanned_owners(rt, alloc, &shelf, 3, 1)?;
     open_gain(rt, owners.as_mut_slice());
     Ok(owners)
 }
 
-/// Two rounds of one sweep: in the first each owner spreads its boards and sends their notes, and in
-/// the second it takes those that came.
-fn after_two_rounds<R: Threads + Wait + Sync>(rt: &R, alloc: Global) -> Result<Vec<Owner>, Fail>
-    ensures { IfOk result (λ owners. IsGrid (all_ends owners.items)) }
+/// One more round, of one sweep.
+pub(crate) fn next_round<R: Threads + Wait + Sync>(
+    rt: &R,
+    owners: Vec<Owner>,
+) -> Result<Vec<Owner>, Fail>
+    requires { IsGrid (all_ends owners.items) }
+    ensures { IfOk result (λ all. AllGrown owners.items all.items) }
+{
+    let owners = round(rt, owners, &Open, 1)?;
+    Ok(owners)
+}
+
+/// Two rounds: in the first each owner spreads its boards and sends their notes, and in the second it
+/// takes those that came.
+pub(crate) fn after_two_rounds<R: Threads + Wait + Sync>(
+    rt: &R,
+    alloc: Global,
+) -> Result<Vec<Owner>, Fail>
+    ensures grid { IfOk result (λ owners. IsGrid (all_ends owners.items)) }
+    ensures whole { IfOk result (λ owners. AreWhole 1 (parts_of owners.items)) }
 {
     let owners = three_owners(rt, alloc)?;
-    let owners = round(rt, owners, &Open, 1)?;
-    let owners = round(rt, owners, &Open, 1)?;
+    let owners = next_round(rt, owners)?;
+    let owners = next_round(rt, owners)?;
     Ok(owners)
 }
 
@@ -66,7 +87,8 @@ fn rounds_spread_and_send(rt: HostRuntime) -> Result<(), Fail> {
     Ok(())
 }
 
-/// Owners at this pace build the level that one part builds, over the same shelf.
+/// Owners at this pace build the level that one part builds, over the same shelf, and the verifier takes
+/// it.
 fn expect_built_alike<R: Threads + Wait + Sync + Abort>(
     rt: &R,
     alloc: Global,
@@ -81,7 +103,7 @@ fn expect_built_alike<R: Threads + Wait + Sync + Abort>(
     };
     let level = build_level(rt, alloc, shelf, pace, &Open)?;
     expect_alike(rt, owners, &level, alone);
-    Ok(())
+    expect_verified(rt, alloc, shelf, &level)
 }
 
 fn expect_alike(rt: &impl Abort, owners: u8, level: &Level, alone: &Level) {

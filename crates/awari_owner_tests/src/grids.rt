@@ -1,0 +1,46 @@
+//! The lines among owners, as they are made.
+
+use crate::expect::{expect, expect_equal};
+use awari_lines::{Ends, grid, settle};
+use std::alloc::Global;
+use std::process::Abort;
+use std::test::Fail;
+
+/// The ends are those of so many owners, in the order of their numbers.
+fn expect_ends(rt: &impl Abort, all: &[Ends], owners: usize) {
+    expect_equal(rt, "owners", all.len(), owners);
+    for (number, ends) in all.iter().enumerate() {
+        let found = (usize::from(ends.owner()), ends.owners());
+        expect_equal(rt, "number and owners", found, (number, owners));
+    }
+}
+
+/// Nothing comes to the first of three owners from the others.
+fn expect_nothing_comes(rt: &impl Abort, ends: &mut Ends) {
+    assert!(rt; ends.owner() == 0 && ends.owners() == 3);
+    expect(rt, "from 1", ends.pop(1).is_none());
+    expect(rt, "from 2", ends.pop(2).is_none());
+}
+
+/// The ends of one owner alone, who has no lines.
+fn expect_one(rt: &impl Abort, alloc: Global) -> Result<(), Fail> {
+    let mut all = grid(alloc, 1, 256)?;
+    expect_ends(rt, &all, 1);
+    expect(rt, "settled", settle(all.as_mut_slice()));
+    Ok(())
+}
+
+/// The ends of three owners, with nothing on the lines.
+fn expect_three(rt: &impl Abort, alloc: Global) -> Result<(), Fail> {
+    let mut all = grid(alloc, 3, 1)?;
+    expect_ends(rt, &all, 3);
+    expect(rt, "settled", settle(all.as_mut_slice()));
+    expect_nothing_comes(rt, &mut all[0]);
+    Ok(())
+}
+
+#[test]
+fn owners_get_their_ends(rt: HostRuntime) -> Result<(), Fail> {
+    expect_one(&rt, rt.alloc())?;
+    expect_three(&rt, rt.alloc())
+}
