@@ -40,7 +40,9 @@ impl fmt::Display for RightLevel {
 /// The last line of a folder: how many levels it has, and the digest of the last one's file.
 #[derive(Clone, Copy)]
 pub struct Summary {
+    /// How many levels the folder has.
     pub levels: usize,
+    /// The digest of the last level's file, 32 zeros where the folder has no level.
     pub digest: [u8; 32],
 }
 

@@ -59,7 +59,10 @@ pub fn play_on(text: &[u8], pit: u8) -> Result<Moved, PlayFault>
 
 /// What `move` prints, without the line feed: the board after the move and the stones captured.
 #[derive(Clone, Copy)]
-pub struct Played(pub Moved);
+pub struct Played(
+    /// The board after the move, as the next mover sees it, and what the move captured.
+    pub Moved,
+);
 
 impl fmt::Display for Played {
     ghost use Rattle.std.specs.Prelude.{Some};

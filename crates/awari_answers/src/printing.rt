@@ -7,7 +7,7 @@ use std::fmt;
 use std::fmt::Display;
 use std::io::Write;
 
-/// Writes the lines and a line feed, and says whether the writer took them.
+/// Writes the lines and a line feed, and has them passed on. It says whether the writer took them.
 pub fn print<W: Write, T: Display>(writer: &mut W, lines: &T) -> bool
     ensures { result ≡ true → IfSome (T.output lines.now) (λ text. Appends (W.contents writer.old) (W.contents writer.new) (text ++ 10 ∷ [])) }
 {
@@ -17,7 +17,7 @@ pub fn print<W: Write, T: Display>(writer: &mut W, lines: &T) -> bool
     }
 }
 
-/// Writes the bytes of lines, and says whether the writer took them.
+/// Writes the bytes of lines, and has them passed on. It says whether the writer took them.
 pub fn print_bytes<W: Write>(writer: &mut W, lines: &[u8]) -> bool
     ensures { result ≡ true → Appends (W.contents writer.old) (W.contents writer.new) lines.now }
 {

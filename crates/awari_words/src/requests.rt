@@ -87,8 +87,8 @@ pub enum Request<'a> {
 }
 
 /// What the words ask for, of which the first is the program's own name. The error has the text of
-/// `clap`, for `--help` as well. There is none of both only if `clap` lets through what the program
-/// doesn't offer. It takes memory.
+/// `clap`, for `--help` as well. `None` comes only where `clap` lets words through that the program does
+/// not offer: no command of its own, or one without the values that it needs. It takes memory.
 pub fn request_of<'a, S: AsStr>(alloc: Global, words: &'a [S]) -> Result<Option<Request<'a>>, Error>
     // The request is that of the command that the words name, with the values that they give.
     ensures asked { IfOk result (IsAsked (subcommand_of awari_commands (map S.text words.entry.now))) }
