@@ -18,7 +18,7 @@ pub enum DeskFault {
     NotNext,
     /// 72: there is no place for so many readers, or for one more.
     Readers,
-    /// 73: a growth or the sharing of a level was refused, in this call or, within a publication, in
+    /// 73: there was no room, or none to share a level, in this call or, within a publication, in
     /// an earlier one.
     Memory,
 }
