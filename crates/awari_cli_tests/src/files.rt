@@ -89,7 +89,8 @@ fn expect_refusals(
         let file = changed(rt.alloc(), right, *place, bytes)?;
         expect_refusal(rt, &file, printed)?;
     }
-    expect_refusal(rt, b"AWDB", "refused 81 File level 1: 60 Truncated\n")?;
+    let cut = right.get(..155).ok_or("a file of 156 bytes")?;
+    expect_refusal(rt, cut, "refused 81 File level 1: 60 Truncated\n")?;
     Ok(())
 }
 

@@ -24,7 +24,6 @@ use std::{fs, str};
 const INPUT: &str = "\
 seen
 ask 0,0,0,0,0,1/0,0,0,0,0,0
-moves 0,0,0,0,0,1/0,0,0,0,0,0
 ask 1,0,0,0,0,0/1,0,0,0,0,0
 ask 1
 hello
@@ -34,13 +33,29 @@ quit
 const OUTPUT: &str = "\
 seen 2
 -1 5 1
-pit 5 captures 0 value -1 distance 1 plan
-
 not yet 2
 refused 1 Shape
 what
 bye
 ";
+
+const MOVES_INPUT: &str = "\
+moves 0,0,0,0,0,1/0,0,0,0,0,0
+seen
+";
+
+const MOVES_OUTPUT: &str = "\
+pit 5 captures 0 value -1 distance 1 plan
+
+seen 2
+";
+
+/// Lines, and what is written of them by a reader that knows levels 0 and 1.
+type Lines = (&'static str, &'static str);
+
+const WORKED: Lines = (INPUT, OUTPUT);
+
+const MOVES: Lines = (MOVES_INPUT, MOVES_OUTPUT);
 
 const ASK_CYCLE: &str = "ask 1,0,0,0,0,0/1,0,0,0,0,0\n";
 
@@ -121,6 +136,25 @@ impl Write for Stiff {
     }
 }
 
+/// Gives so many bytes of one line, and then these.
+#[derive(Drop)]
+struct Long<'a> {
+    before: usize,
+    bytes: &'a [u8],
+}
+
+impl Read for Long<'_> {
+    fn read(&mut self, buf: &mut [u8]) -> io::Result<usize> {
+        if self.before == 0 {
+            return self.bytes.read(buf);
+        }
+        let count = self.before.min(buf.len());
+        buf[..count].fill(b'x');
+        self.before -= count;
+        Ok(count)
+    }
+}
+
 /// Gives bytes without end.
 #[derive(Clone, Copy)]
 struct Endless;
@@ -177,8 +211,9 @@ fn expect_bytes(rt: &impl Abort, failing: Failing, written: &[u8], expected: &[u
 }
 
 /// Requests, and what is written of them by a reader that knows levels 0 and 1.
-const REQUESTS: [(&str, &str); 6] = [
-    (INPUT, OUTPUT),
+const REQUESTS: [Lines; 7] = [
+    WORKED,
+    MOVES,
     ("", ""),
     ("\nseen", "what\nseen 2\n"),
     ("quit\nseen\n", "bye\n"),
@@ -222,15 +257,37 @@ fn expect_worked(
     expect_served(rt, alloc, reader, input, failing, output, expected);
 }
 
-/// Serves the worked lines with each write failing in turn.
-fn expect_write_faults(rt: &impl Abort, alloc: Global, reader: &mut Reader, bad: Bad) {
-    let output = OUTPUT.as_bytes();
-    for (written, call) in (1..93u32).enumerate() {
-        let front = output.get(..written).unwrap_or(output);
-        let failing = (0, call, bad);
-        expect_worked(rt, alloc, reader, failing, front, Err(ServeFault::Write));
+/// Serves the lines where this write fails: the bytes before it are written, and there is no such write
+/// of lines whose answers have fewer.
+fn expect_write_fault(
+    rt: &impl Abort,
+    alloc: Global,
+    reader: &mut Reader,
+    (input, output): Lines,
+    (written, call, bad): (usize, u32, Bad),
+) {
+    let failing = (0, call, bad);
+    let input = input.as_bytes();
+    match output.as_bytes().get(..written) {
+        Some(front) if front.len() < output.len() => {
+            let fault = Err(ServeFault::Write);
+            expect_served(rt, alloc, reader, input, failing, front, fault);
+        }
+        _ => expect_served(rt, alloc, reader, input, failing, output.as_bytes(), Ok(())),
     }
-    expect_worked(rt, alloc, reader, (0, 93, bad), output, Ok(()));
+}
+
+/// Serves the lines with each write failing in turn. The answers to either have fewer than sixty bytes.
+fn expect_write_faults(
+    rt: &impl Abort,
+    alloc: Global,
+    reader: &mut Reader,
+    lines: Lines,
+    bad: Bad,
+) {
+    for (written, call) in (1..60u32).enumerate() {
+        expect_write_fault(rt, alloc, reader, lines, (written, call, bad));
+    }
 }
 
 /// Serves the worked lines with a read and a write that are interrupted, and so are made again.
@@ -247,9 +304,15 @@ fn expect_faults(rt: &impl Abort, alloc: Global, reader: &mut Reader) {
     let failing = (6, 0, Bad::Fault);
     let fault = Err(ServeFault::Read);
     expect_worked(rt, alloc, reader, failing, b"seen 2\n", fault);
-    expect_write_faults(rt, alloc, reader, Bad::Fault);
-    expect_write_faults(rt, alloc, reader, Bad::Nothing);
+    expect_write_faults(rt, alloc, reader, WORKED, Bad::Fault);
+    expect_write_faults(rt, alloc, reader, WORKED, Bad::Nothing);
     expect_interruptions(rt, alloc, reader);
+}
+
+/// Serves a line that asks for moves with each write failing in turn.
+fn expect_moves_faults(rt: &impl Abort, alloc: Global, reader: &mut Reader) {
+    expect_write_faults(rt, alloc, reader, MOVES, Bad::Fault);
+    expect_write_faults(rt, alloc, reader, MOVES, Bad::Nothing);
 }
 
 /// Serves more bytes than a service takes.
@@ -258,6 +321,47 @@ fn expect_too_long(rt: &impl Abort, alloc: Global, reader: &mut Reader) {
     let served = serve(reader, &mut Counted::new(Endless), &mut output);
     expect_equal(rt, "bytes without end", served, Err(ServeFault::TooLong));
     expect(rt, "nothing written", output.into_inner().is_empty());
+}
+
+/// How many bytes come before the read that goes over the greatest number. A service asks for 4096 at
+/// once, and 256 more would be that number.
+const WHOLE_READS: usize = 24_414 * 4096;
+
+/// What comes with that read: the end of a long line, this line, and more. The line feed of another
+/// line is the first byte behind the greatest number.
+fn last_read(line: &[u8; 5]) -> [u8; 4096] {
+    let mut bytes = [b'x'; 4096];
+    bytes[0] = b'\n';
+    bytes[1..6].copy_from_slice(line);
+    bytes[251..257].copy_from_slice(b"\nquit\n");
+    bytes
+}
+
+/// Serves more bytes than a service takes, of which this line stands in the last read.
+fn expect_long(
+    rt: &impl Abort,
+    alloc: Global,
+    reader: &mut Reader,
+    line: &[u8; 5],
+    output: &[u8],
+    expected: Result<(), ServeFault>,
+) {
+    let bytes = last_read(line);
+    let mut input = Counted::new(Long {
+        before: WHOLE_READS,
+        bytes: &bytes,
+    });
+    let mut written = Counted::new(Vec::new(alloc));
+    let served = serve(reader, &mut input, &mut written);
+    expect_equal(rt, line, served, expected);
+    expect_equal(rt, line, written.into_inner().as_slice(), output);
+}
+
+/// Lines that end within the greatest number of bytes are answered, and `quit` ends the service.
+fn expect_last_lines(rt: &impl Abort, alloc: Global, reader: &mut Reader) {
+    let too_long = Err(ServeFault::TooLong);
+    expect_long(rt, alloc, reader, b"seen\n", b"what\nseen 2\n", too_long);
+    expect_long(rt, alloc, reader, b"quit\n", b"what\nbye\n", Ok(()));
 }
 
 /// The publisher and the one reader of a new desk.
@@ -306,6 +410,24 @@ fn streams_that_fail_are_told(rt: HostRuntime) -> Result<(), Fail> {
     let (mut publisher, mut reader) = desk_of_one(rt.clone()?, rt.alloc())?;
     tell_two(rt.alloc(), &mut publisher, &mut reader)?;
     expect_faults(&rt, rt.alloc(), &mut reader);
+    publisher.close();
+    Ok(())
+}
+
+#[test]
+fn a_write_of_moves_that_fails_is_told(rt: HostRuntime) -> Result<(), Fail> {
+    let (mut publisher, mut reader) = desk_of_one(rt.clone()?, rt.alloc())?;
+    tell_two(rt.alloc(), &mut publisher, &mut reader)?;
+    expect_moves_faults(&rt, rt.alloc(), &mut reader);
+    publisher.close();
+    Ok(())
+}
+
+#[test]
+fn lines_before_too_many_bytes_are_answered(rt: HostRuntime) -> Result<(), Fail> {
+    let (mut publisher, mut reader) = desk_of_one(rt.clone()?, rt.alloc())?;
+    tell_two(rt.alloc(), &mut publisher, &mut reader)?;
+    expect_last_lines(&rt, rt.alloc(), &mut reader);
     publisher.close();
     Ok(())
 }
