@@ -327,8 +327,8 @@ fn expect_too_long(rt: &impl Abort, alloc: Global, reader: &mut Reader) {
 /// once, and 256 more would be that number.
 const WHOLE_READS: usize = 24_414 * 4096;
 
-/// What comes with that read: the end of a long line, this line, and more. The line feed of another
-/// line is the first byte behind the greatest number.
+/// What comes with that read: the end of a long line, this line, another long one, and a `quit` whose line
+/// feed is the first byte behind the greatest number.
 fn last_read(line: &[u8; 5]) -> [u8; 4096] {
     let mut bytes = [b'x'; 4096];
     bytes[0] = b'\n';
@@ -360,7 +360,14 @@ fn expect_long(
 /// Lines that end within the greatest number of bytes are answered, and `quit` ends the service.
 fn expect_last_lines(rt: &impl Abort, alloc: Global, reader: &mut Reader) {
     let too_long = Err(ServeFault::TooLong);
-    expect_long(rt, alloc, reader, b"seen\n", b"what\nseen 2\n", too_long);
+    expect_long(
+        rt,
+        alloc,
+        reader,
+        b"seen\n",
+        b"what\nseen 2\nwhat\n",
+        too_long,
+    );
     expect_long(rt, alloc, reader, b"quit\n", b"what\nbye\n", Ok(()));
 }
 

@@ -16,11 +16,11 @@ use awari_phase::{
 };
 use awari_table::{Level, Shelf};
 use std::alloc::Global;
-use std::hint;
 use std::process::Abort;
 use std::sync::atomic::{AtomicU64, Ordering};
 use std::sync::{Arc, Wait};
 use std::test::Fail;
+use std::thread;
 use std::thread::Threads;
 
 /// Three owners of level 1, with room for one batch on each line and gain 1 open.
@@ -220,7 +220,7 @@ impl Gate for Meeting {
             if other.load(Ordering::SeqCst) > before {
                 return;
             }
-            hint::spin_loop();
+            thread::yield_now();
         }
         self.missed.store(1, Ordering::SeqCst);
     }
