@@ -1,5 +1,6 @@
 //! Tests of parts of a level by public calls alone, on levels 0 and 1, where everything can be worked
-//! out by hand, and of the levels that one part builds and that owners build by lists of events.
+//! out by hand, and of the levels that one part builds and that owners build by lists of events, also
+//! by events that are drawn by chance.
 #![tactic(auto)]
 
 #[cfg(test)]
@@ -8,6 +9,8 @@ mod apart;
 mod built;
 #[cfg(test)]
 mod cores;
+#[cfg(test)]
+mod drawing;
 #[cfg(test)]
 mod expect;
 #[cfg(test)]
@@ -26,6 +29,8 @@ mod pieces;
 mod refusals;
 #[cfg(test)]
 mod rounds;
+#[cfg(test)]
+mod schedules;
 #[cfg(test)]
 mod shelves;
 #[cfg(test)]

@@ -1,17 +1,23 @@
-//! Levels built by owners who take events by chance.
+//! Levels built by owners who take events by chance, each compared with what one part builds.
+//!
+//! Each schedule is of the next level above 1 to 4 that are there, of 1 to 16 owners, and of lines with
+//! room for 1 to 3 batches. Which events come, and in which order, is drawn as well, and the same in each
+//! run.
 
 ghost use Rattle.std.specs.Prelude.{◌<◌, ◌≤◌};
 
 use crate::drawing::Numbers;
+use crate::expect::expect_equal;
 use awari_build::build_alone;
 use awari_core::Core;
 use awari_table::{Image, Level, Shelf};
 use std::alloc::Global;
 use std::io;
 use std::sync::Arc;
+use std::test::Fail;
 
 /// The greatest number of stones of a level that is built so.
-pub(crate) const LEVELS: usize = 4;
+const LEVELS: usize = 4;
 
 /// How many events are drawn before it is looked whether the next distance can be opened.
 const LIST_LENGTH: usize = 256;
@@ -21,13 +27,13 @@ const MOST_LISTS: u32 = 1_000_000;
 
 /// What became of all schedules.
 #[derive(Drop)]
-pub(crate) struct Outcome {
+struct Outcome {
     /// How many ended in the level that one part builds, by the stones on its boards.
-    pub same: [u32; LEVELS + 1],
+    same: [u32; LEVELS + 1],
     /// How many ended in another one, or not at all.
-    pub other: u32,
+    other: u32,
     /// How many events were taken.
-    pub taken: u64,
+    taken: u64,
 }
 
 /// The levels below one that is to be built, and that one as one part builds it.
@@ -38,7 +44,7 @@ struct Task {
 }
 
 /// Draws so many schedules, and compares what each of them ends in.
-pub(crate) fn outcome_of(alloc: Global, count: u32) -> io::Result<Outcome> {
+fn outcome_of(alloc: Global, count: u32) -> io::Result<Outcome> {
     let tasks = tasks(alloc)?;
     let mut outcome = Outcome {
         same: [0; LEVELS + 1],
@@ -145,4 +151,13 @@ fn opens_last(core: &mut Core) -> bool {
 /// Whether the image says what the level does.
 fn says_the_same(image: &Image, level: &Level) -> bool {
     image.limit == level.limit() && image.entries.as_slice() == level.entries()
+}
+
+#[test]
+fn levels_by_chance_are_those_of_one_part(rt: HostRuntime) -> Result<(), Fail> {
+    let outcome = outcome_of(rt.alloc(), 100)?;
+    expect_equal(&rt, "same", outcome.same, [0, 25, 25, 25, 25]);
+    expect_equal(&rt, "other", outcome.other, 0);
+    expect_equal(&rt, "events", outcome.taken, 73_577);
+    Ok(())
 }
