@@ -5,7 +5,7 @@ use Rattle.awari_board.specs.Rules.{IsBoard}
 use Rattle.awari_board.specs.Text.{text_of}
 use Rattle.awari_folder.specs.Contents.{IsStoredIn}
 use Rattle.awari_folder.specs.FolderFault.{fault_text as folder_fault_text}
-use Rattle.awari_plan.specs.LineFault.{fault_text as line_fault_text}
+use Rattle.awari_play.specs.LineFault.{fault_text as line_fault_text}
 use Rattle.awari_table.specs.NotYet.{fault_text as not_yet_text}
 use Rattle.awari_table.specs.Shelves.{IsShelf}
 use Rattle.awari_table.specs.declared.images.Image.{Image}

@@ -3,7 +3,7 @@ use Rattle.std.specs.Prelude.{◌≡◌, ℕ, ◌<◌, List, ◌++◌, ◌∷◌
 use Rattle.std.specs.Fmt.{decimal, signed_decimal}
 use Rattle.std.specs.List.{flat_map}
 use Rattle.std.specs.Io.KnownBytes.{Appends}
-use Rattle.awari_plan.specs.BestLine.{IsBestLine}
+use Rattle.awari_play.specs.BestLine.{IsBestLine}
 use Rattle.awari_table.specs.Images.{entry_of, greatest_limit, table_of}
 use Rattle.awari_table.specs.declared.images.Image.{Image}
 use Rattle.awari_answers.specs.Asked.{IsAsked}

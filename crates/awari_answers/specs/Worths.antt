@@ -1,8 +1,8 @@
 -- The command `moves`: what is printed of the legal moves of a board.
 use Rattle.std.specs.Prelude.{ℕ, List, Option}
 use Rattle.std.specs.Io.KnownBytes.{Appends}
-use Rattle.awari_desk.specs.Worths.{IsWeighed, weighed_text}
-use Rattle.awari_desk.specs.declared.weighing.Weighed.{Weighed}
+use Rattle.awari_play.specs.Worths.{IsWeighed, weighed_text}
+use Rattle.awari_play.specs.declared.weighing.Weighed.{Weighed}
 use Rattle.awari_table.specs.declared.images.Image.{Image}
 use Rattle.awari_answers.specs.Asked.{IsAsked}
 

@@ -10,7 +10,7 @@ ghost use Rattle.awari_answers.specs.declared.asked.NoAnswer.TheVariants as no_a
 
 use awari_board::{Board, BoardFault, one_board_fault_is_due};
 use awari_folder::{Folder, FolderFault, load_parallel};
-use awari_plan::LineFault;
+use awari_play::LineFault;
 use awari_table::{NotYet, Shelf};
 use std::alloc::Global;
 use std::fmt;

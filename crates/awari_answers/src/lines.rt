@@ -10,7 +10,7 @@ ghost use Rattle.awari_answers.specs.declared.asked.NoAnswer.TheVariants as no_a
 use crate::asked::{Asked, NoAnswer, ask_folder};
 use crate::printing::{print, refuse, status_of};
 use awari_folder::Folder;
-use awari_plan::{Line, best_line};
+use awari_play::{Line, best_line};
 use awari_table::Entry;
 use std::alloc::Global;
 use std::fmt;

@@ -9,8 +9,8 @@ ghost use Rattle.awari_answers.specs.declared.asked.NoAnswer.TheVariants as no_a
 
 use crate::asked::{NoAnswer, ask_folder};
 use crate::printing::{print_bytes, refuse, status_of};
-use awari_desk::{Weighed, weigh};
 use awari_folder::Folder;
+use awari_play::{Weighed, weigh};
 use std::alloc::Global;
 use std::io::Write;
 use std::thread::Threads;

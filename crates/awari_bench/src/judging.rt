@@ -3,7 +3,7 @@
 
 use crate::counting::Counted;
 use awari_build::build_alone;
-use awari_plan::least;
+use awari_play::least;
 use awari_table::{Entries, Image, Level, Shelf};
 use awari_verify::{verify, verify_old};
 use std::alloc::{AllocError, Global};

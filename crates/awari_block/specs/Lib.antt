@@ -11,3 +11,4 @@ pub mod Leaving
 pub mod ClosedFields
 pub mod Landmarks
 pub mod Awaited
+pub mod Paces

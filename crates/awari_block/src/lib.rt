@@ -22,6 +22,7 @@ mod fresh;
 mod landmarks;
 mod laws;
 mod notes;
+mod paces;
 mod places;
 mod words;
 
@@ -30,4 +31,5 @@ pub use cells::{Cell, Mark};
 pub use closed::ClosedPart;
 pub use laws::worked_examples;
 pub use notes::{Kind, Note};
+pub use paces::{MOST_OWNERS, MOST_ROOM, MOST_SWEEPS, Pace};
 pub use places::{Block, Place, block_length};

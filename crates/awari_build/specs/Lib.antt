@@ -1,4 +1,4 @@
+pub use Rattle.awari_block.specs.Paces
 pub mod BuildFault
 pub mod Sound
 pub mod Owned
-pub mod Paces

@@ -4,7 +4,7 @@ ghost use Rattle.std.specs.Prelude.{◌≡◌, ◌≤◌, ◌<◌, ◌+◌, ◌�
 ghost use Rattle.awari_block.specs.Part.{IsLeastDue, unspread, IsClosed};
 ghost use Rattle.awari_owner.specs.Scan.{IsWhole};
 ghost use Rattle.awari_build.specs.Sound.{IsSound};
-ghost use Rattle.awari_plan.specs.Least.{IsPlannedLowest};
+ghost use Rattle.awari_play.specs.Least.{IsPlannedLowest};
 ghost use Rattle.awari_table.specs.Images.{table_of};
 ghost use Rattle.awari_table.specs.Shelves.{Consistent, IsShelf};
 ghost use Rattle.awari_table.specs.declared.TheConstants.{HIGHEST_LEVEL};

@@ -10,10 +10,8 @@
 mod alone;
 mod faults;
 mod owned;
-mod paces;
 
 pub use alone::{build_alone, build_alone_with_progress};
-pub use awari_core::{MOST_OWNERS, MOST_ROOM};
+pub use awari_block::{MOST_OWNERS, MOST_ROOM, MOST_SWEEPS, Pace};
 pub use faults::BuildFault;
 pub use owned::{build_level, build_level_with_progress};
-pub use paces::{MOST_SWEEPS, Pace};

@@ -1,7 +1,7 @@
 //! A level built by several owners, each in a thread of its own.
 
 ghost use Rattle.std.specs.Prelude.{◌≡◌, ◌≤◌, ◌<◌, ◌+◌, ◌↔◌, ◌++◌, ◌∷◌, [], ℕ, ℤ, List, IfOk, IfErr, Err, length};
-ghost use Rattle.awari_plan.specs.Least.{IsPlannedLowest};
+ghost use Rattle.awari_play.specs.Least.{IsPlannedLowest};
 ghost use Rattle.awari_table.specs.Images.{table_of};
 ghost use Rattle.awari_table.specs.Shelves.{Consistent, IsShelf};
 ghost use Rattle.awari_table.specs.declared.TheConstants.{HIGHEST_LEVEL};
@@ -10,11 +10,10 @@ ghost use Rattle.awari_phase.specs.PhaseFault.{IsWant};
 ghost use Rattle.awari_phase.specs.declared.faults.PhaseFault.{PhaseFault};
 ghost use Rattle.awari_build.specs.BuildFault.{IsOfPhase};
 ghost use Rattle.awari_build.specs.Owned.{AreAt};
-ghost use Rattle.awari_build.specs.Paces.{HasOwners, IsPaced};
+ghost use Rattle.awari_block.specs.Paces.{HasOwners, IsPaced};
 
 use crate::faults::BuildFault;
-use crate::paces::{MOST_SWEEPS, Pace};
-use awari_core::{MOST_OWNERS, MOST_ROOM};
+use awari_block::{MOST_OWNERS, MOST_ROOM, MOST_SWEEPS, Pace};
 use awari_phase::{
     Gate, Owner, PhaseFault, Progress, Silent, closed_parts, finished_owners_are_right,
     gain_phase_with_progress, open_gain, scanned_owners,

@@ -6,8 +6,8 @@ use Rattle.std.proofs.lemmas.Bool.Decides.{eqb_tells}
 use Rattle.awari_file.specs.FileText.{file_text}
 use Rattle.awari_folder.specs.Contents.{HoldLevels, Holds}
 use Rattle.awari_folder.specs.NextFile.{IsNextFile}
-use Rattle.awari_plan.proofs.Alike.{images_same, shelves_same}
-use Rattle.awari_plan.specs.Least.{HasLowestPlans, IsPlannedLowest}
+use Rattle.awari_play.proofs.Alike.{images_same, shelves_same}
+use Rattle.awari_play.specs.Least.{HasLowestPlans, IsPlannedLowest}
 use Rattle.awari_table.specs.Shelves.{Consistent, IsShelf}
 use Rattle.awari_table.specs.declared.images.Image.{Image}
 

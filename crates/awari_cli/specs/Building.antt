@@ -6,7 +6,7 @@ use Rattle.std.specs.Io.KnownBytes.{Appends}
 use Rattle.awari_build.specs.BuildFault.{fault_text as build_fault_text}
 use Rattle.awari_folder.specs.FolderFault.{fault_text as folder_fault_text}
 use Rattle.awari_table.specs.Images.{won_boards, even_boards, lost_boards}
-use Rattle.awari_plan.specs.Least.{HasLowestPlans}
+use Rattle.awari_play.specs.Least.{HasLowestPlans}
 use Rattle.awari_table.specs.Shelves.{IsShelf}
 use Rattle.awari_table.specs.declared.images.Counts.{Counts}
 use Rattle.awari_table.specs.declared.images.Image.{Image}

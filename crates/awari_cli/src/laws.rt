@@ -3,7 +3,7 @@
 ghost use Rattle.std.specs.Prelude.{◌≡◌, ◌<◌, ℕ, List, Option, length};
 ghost use Rattle.awari_file.specs.FileText.{file_text};
 ghost use Rattle.awari_folder.specs.Contents.{Holds};
-ghost use Rattle.awari_plan.specs.Least.{HasLowestPlans, IsPlannedLowest};
+ghost use Rattle.awari_play.specs.Least.{HasLowestPlans, IsPlannedLowest};
 ghost use Rattle.awari_table.specs.Shelves.{Consistent, IsShelf};
 ghost use Rattle.awari_table.specs.declared.images.Image.{Image};
 

@@ -4,7 +4,7 @@ use crate::expect::expect_equal;
 use crate::services::{desk_of_one, publish_next, publish_two};
 use awari_board::Board;
 use awari_desk::{AskFault, DeskFault, Publisher, Reader, Weighed, desk};
-use awari_plan::MoveWorth;
+use awari_play::MoveWorth;
 use awari_table::Entry;
 use std::alloc::Global;
 use std::process::Abort;

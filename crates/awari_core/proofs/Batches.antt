@@ -15,7 +15,7 @@ use Rattle.awari_block.specs.declared.notes.Kind.TheVariants.{Won}
 use Rattle.awari_owner.proofs.Spreading.{IsInjective}
 use Rattle.awari_owner.specs.Level.{AreSound}
 use Rattle.awari_core.specs.Sound.{with_part, with_list, AreNext, AreTaken}
-use Rattle.awari_core.proofs.Taking.{note_expected, note_unheard, note_near, sound_taken}
+use Rattle.awari_owner.proofs.Expecting.{note_expected, note_unheard, note_near, sound_taken}
 
 eqb_self : (x : ℕ) → (x == x) ≡ true
 eqb_self x = grind (arith, nat_tests)

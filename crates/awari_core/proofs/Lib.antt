@@ -1,5 +1,3 @@
-pub mod Lists
-pub mod Taking
 pub mod Spreading
 pub mod Steps
 pub mod Batches

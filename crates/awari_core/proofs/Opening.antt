@@ -5,11 +5,10 @@ use Rattle.awari_rank.specs.Rank.{rank_of}
 use Rattle.awari_block.specs.Notes.{Has}
 use Rattle.awari_block.specs.Part.{Part, IsTallied}
 use Rattle.awari_owner.specs.Scan.{IsScan}
-use Rattle.awari_owner.specs.Spread.{HearsOwn}
+use Rattle.awari_owner.specs.Spread.{HearsOwn, IsSeenAs}
 use Rattle.awari_block.specs.declared.notes.Note.{Note}
 use Rattle.awari_owner.specs.Level.{AreSound}
-use Rattle.awari_core.specs.Sound.{IsSeenAs}
-use Rattle.awari_core.proofs.Taking.{given_still, share_still, inside_old, leaves_old}
+use Rattle.awari_owner.proofs.Expecting.{given_still, share_still, inside_old, leaves_old}
 
 -- parts that were scanned, with nothing on its way
 pub sound_none : (value : List ℕ → ℤ) (n owners : ℕ) (part : ℕ → Part) → 0 < owners

@@ -1,20 +1,20 @@
 -- What is done with all parts, one after the other.
-use Rattle.std.proofs.Common.{◌≡◌, ℕ, ◌+◌, ◌<◌, ◌≤◌, ◌⊎◌, ◌==◌, inl, inr, Bool, true, false, min, max, Option, Some, None, IfSome, List, [], ◌∷◌, ◌++◌, All, Any, length, get_or, set, take, drop, ℤ, refl, sym, ap, subst, subst₂, ◌∙◌, arith, append-nil, get_or-set_same, get_or-set_other, eqb-true}
+use Rattle.std.proofs.Common.{◌≡◌, ℕ, ◌+◌, ◌<◌, ◌≤◌, ◌⊎◌, ◌==◌, inl, inr, Bool, true, false, min, max, Option, Some, None, IfSome, List, [], ◌∷◌, ◌++◌, All, Any, length, get_or, set, ℤ, refl, sym, ap, subst, subst₂, ◌∙◌, arith, get_or-set_same, get_or-set_other, eqb-true}
 use Rattle.std.specs.Option.{option_eq}
 use Rattle.std.specs.Prelude.{nat_eq}
 use Rattle.std.proofs.lemmas.Bool.{cases_eq, cases_lt, eq-eqb}
-use Rattle.std.proofs.lemmas.List.{get_or_default, get_or_push, get_or_append_left, take_all, drop_all}
+use Rattle.std.proofs.lemmas.List.{get_or_default, get_or_push, get_or_append_left}
 use Rattle.std.proofs.lemmas.List.Elements.{All-nil}
 use Rattle.awari_table.specs.Images.{table_of}
 use Rattle.awari_block.specs.Blocks.{Due, KeepSettled, due_dist}
 use Rattle.awari_owner.specs.Level.{AreSound, no_part}
 use Rattle.awari_block.specs.Part.{AreFresh, Part, IsLeastDue, IsTallied, JoinsFresh}
-use Rattle.awari_owner.specs.Spread.{HearsOwn}
+use Rattle.awari_owner.specs.Spread.{HearsOwn, IsSeenAs}
 use Rattle.awari_block.specs.declared.notes.Note.{Note}
-use Rattle.awari_core.specs.Sound.{IsSeenAs, notes_of}
+use Rattle.awari_owner.specs.Outboxes.{notes_of}
 use Rattle.awari_core.specs.Core.{Core, IsAllTaken, IsLeastOf, IsLinked, IsNearer, IsQuiet, IsWaveDone, OpensGain, Sound, coming, part_at, sender_at}
 use Rattle.awari_core.proofs.Opening.{sound_opened}
-use Rattle.awari_core.proofs.Taking.{seen_kept}
+use Rattle.awari_owner.proofs.Expecting.{seen_kept}
 use Rattle.awari_core.proofs.Telling.{nothing_comes}
 
 -- ---- one element after the other
@@ -37,12 +37,7 @@ more_push P items none x i count before here k less = elim (cases_eq k i) [
   | inr apart ↦ let low : k < length items = omega (arith, less, apart, count) in subst (P k) (sym (get_or_append_left items (x ∷ []) none k low)) (before k (omega (arith, less, apart)))
 ]
 
--- what a slice writes back
-pub written : {X : Type 0} (items old : List X) (n : ℕ) → length items ≡ n → length old ≡ n → take n (items ++ drop (length items) old) ≡ items
-written items old n new was =
-    ap (λ l. take n (items ++ l)) (drop_all (length items) old (omega (arith, new, was))) ∙ ap (take n) (append-nil items) ∙ take_all n items (omega (arith, new))
-
--- and all of them
+-- what holds of each holds of all
 pub all_below : {X : Type 0} (P : X → Type 0) (items : List X) (none : X) → ((k : ℕ) → k < length items → P (get_or items k none)) → All P items
 all_below P items none each k d low = subst P (get_or_default items k none d low) (each k low)
 

@@ -1,129 +1,21 @@
 -- What the spread of a board keeps.
-use Rattle.std.proofs.Common.{◌≡◌, ℕ, zero, suc, ◌+◌, ◌-◌, ◌<◌, ◌≤◌, ◌&&◌, ◌⊎◌, inl, inr, Bool, true, false, cond, nat_le, nat_lt, List, [], ◌∷◌, ◌++◌, length, get_or, filter, slice_index, sum, ℤ, pos, neg_ℤ, ◌<ℤ◌, Some, All, refl, sym, ap, subst, subst₂, ◌∙◌, arith, append_assoc}
-use Rattle.std.specs.List.{AllPairs}
-use Rattle.std.proofs.lemmas.Int.{ints}
-use Rattle.std.proofs.lemmas.Bool.{cases_eq, false≢true}
+use Rattle.std.proofs.Common.{◌≡◌, ℕ, ◌+◌, ◌-◌, ◌<◌, ◌≤◌, ◌&&◌, ◌⊎◌, inl, inr, Bool, true, nat_le, nat_lt, List, ◌++◌, length, get_or, filter, sum, ℤ, Some, refl, sym, ap, subst, subst₂, ◌∙◌, arith, append_assoc}
+use Rattle.std.proofs.lemmas.Bool.{cases_eq}
 use Rattle.std.proofs.lemmas.Bool.Decides.{nat_tests}
 use Rattle.awari_board.specs.Rules.{IsBoard, next_board}
 use Rattle.awari_rank.specs.Rank.{rank_of, size_of}
-use Rattle.awari_unmove.specs.Predecessors.{ComesBefore}
-use Rattle.awari_block.specs.Notes.{IsQuietMove, Has, IsNoteOf, gain_by}
-use Rattle.awari_block.specs.Cells.{IsEither}
+use Rattle.awari_block.specs.Notes.{IsQuietMove, Has, IsNoteOf}
 use Rattle.awari_block.specs.Blocks.{KeepSettled}
 use Rattle.awari_block.specs.Part.{Part, InBlock, Leaves, SameLevel, settled_at, stored_at}
 use Rattle.awari_block.specs.Leaving.{first_rank}
-use Rattle.awari_owner.specs.Spread.{Source, IsSpread, Spreads, AreNotesOf, is_held, is_in_block, kind_of, note_to, with_own, with_all_own}
-use Rattle.awari_block.specs.declared.notes.Kind.{Kind}
-use Rattle.awari_block.specs.declared.notes.Kind.TheVariants.{Won, Lost}
+use Rattle.awari_owner.specs.Spread.{Source, IsSpread, Spreads, AreNotesOf, is_in_block, kind_of, note_to, with_all_own}
 use Rattle.awari_block.specs.declared.notes.Note.{Note}
 use Rattle.awari_owner.proofs.Spreading.{IsInjective, AreSources, sources_of}
 use Rattle.awari_owner.proofs.Hearing.{spread_back, spread_forth, settled_still}
-use Rattle.awari_owner.specs.Level.{AreOfOtherMoves, IsShare, HearsTaken, AreSpreadNotes, IsTimely, AreSound}
-use Rattle.awari_core.proofs.Lists.{Has-append_left, Has-append_right, Has-append_cases, once_more}
-use Rattle.awari_core.proofs.Taking.{timely_still}
-
--- ---- notes of a board
-
-pub source_of : (q : List ℕ) (v : ℤ) (w : ℕ) (sources : List Source) (notes : List Note) → AreNotesOf q v w sources notes → (m : Note) → Has notes m
-    → (j : ℕ) × (j < length sources) × ((d : Source) → IsNoteOf q v w (get_or sources j d).0 (get_or sources j d).1 m)
-source_of q v w [] [] are m has = absurd has
-source_of q v w [] (k ∷ notes) are m has = absurd are
-source_of q v w (y ∷ sources) [] are m has = absurd has
-source_of q v w (y ∷ sources) (k ∷ notes) are m (inl e) = (0, omega arith, λ d. subst (IsNoteOf q v w y.0 y.1) (sym e) are.0)
-source_of q v w (y ∷ sources) (k ∷ notes) are m (inr has) = let (j, low, note) = source_of q v w sources notes are.1 m has in (suc j, omega (arith, low), note)
-
-pub note_of : (q : List ℕ) (v : ℤ) (w : ℕ) (sources : List Source) (notes : List Note) → AreNotesOf q v w sources notes → (j : ℕ) (d : Source) → j < length sources
-    → (m : Note) × Has notes m × IsNoteOf q v w (get_or sources j d).0 (get_or sources j d).1 m
-note_of q v w [] notes are j d h = absurd (omega (arith, h))
-note_of q v w (y ∷ sources) [] are j d h = absurd are
-note_of q v w (y ∷ sources) (k ∷ notes) are zero d h = (k, inl refl, are.0)
-note_of q v w (y ∷ sources) (k ∷ notes) are (suc j) d h = let (m, has, note) = note_of q v w sources notes are.1 j d (omega (arith, h)) in (m, inr has, note)
-
-not_before_itself : (a b : Source) → a.0 ≡ b.0 → a.1 ≡ b.1 → ComesBefore a b → ⊥
-not_before_itself a b boards pits (inl less) = omega (arith, less, pits)
-not_before_itself a b boards pits (inr more) =
-    let same : slice_index a.0 a.1 ≡ slice_index b.0 b.1 = ap (λ (p : List ℕ). slice_index p a.1) boards ∙ ap (slice_index b.0) pits in
-    let less = more.1 in omega (arith, less, same)
-
--- the notes of a board are of moves of their own
-pub notes_once : IsInjective → (q : List ℕ) (v : ℤ) (w : ℕ) (sources : List Source) (notes : List Note) → AreNotesOf q v w sources notes
-    → All (λ (y : Source). IsBoard y.0 × (sum y.0 ≡ sum q) × IsQuietMove y.0 y.1 q) sources → AllPairs ComesBefore sources → AreOfOtherMoves notes
-notes_once injective q v w [] [] are each pairs = tt
-notes_once injective q v w [] (m ∷ notes) are each pairs = absurd are
-notes_once injective q v w (y ∷ sources) [] are each pairs = tt
-notes_once injective q v w (y ∷ sources) (m ∷ notes) are each pairs = (
-  λ k has target pit.
-      let (j, low, note) = source_of q v w sources notes are.1 k has in
-      let there = each (suc j) y (omega (arith, low)) in
-      let here = each 0 y (omega arith) in
-      let boards : y.0 ≡ (get_or sources j y).0 = injective y.0 (get_or sources j y).0 here.0 there.0 (here.1 ∙ sym there.1) (sym are.0.target ∙ sym target ∙ (note y).target) in
-      let pits : y.1 ≡ (get_or sources j y).1 = sym are.0.pit ∙ sym pit ∙ (note y).pit in
-      not_before_itself y (get_or sources j y) boards pits (pairs 0 (suc j) y (omega arith) (omega (arith, low))),
-  notes_once injective q v w sources notes are.1 (λ k d h. each (suc k) d (omega (arith, h))) (λ a b d h k. pairs (suc a) (suc b) d (omega (arith, h)) (omega (arith, k))),
-)
-
--- ---- a choice of notes
-
-pub Has-filter : (test : Note → Bool) (notes : List Note) (m : Note) → Has (filter test notes) m → Has notes m × (test m ≡ true)
-Has-filter test [] m h = absurd h
-Has-filter test (k ∷ notes) m h = at (test k) refl h (Has-filter test notes m)
-  where
-    at : (b : Bool) → test k ≡ b → Has (cond b (k ∷ filter test notes) (filter test notes)) m → (Has (filter test notes) m → Has notes m × (test m ≡ true)) → Has (k ∷ notes) m × (test m ≡ true)
-    at true e (inl same) rest = (inl same, ap test same ∙ e)
-    at true e (inr has) rest = let found = rest has in (inr found.0, found.1)
-    at false e has rest = let found = rest has in (inr found.0, found.1)
-
-pub Has-chosen : (test : Note → Bool) (notes : List Note) (m : Note) → Has notes m → test m ≡ true → Has (filter test notes) m
-Has-chosen test [] m h e = absurd h
-Has-chosen test (k ∷ notes) m h e = at (test k) refl h (λ has. Has-chosen test notes m has e)
-  where
-    at : (b : Bool) → test k ≡ b → Has (k ∷ notes) m → (Has notes m → Has (filter test notes) m) → Has (cond b (k ∷ filter test notes) (filter test notes)) m
-    at true f (inl same) rest = inl same
-    at true f (inr has) rest = inr (rest has)
-    at false f (inl same) rest = absurd (false≢true (sym f ∙ ap test (sym same) ∙ e))
-    at false f (inr has) rest = rest has
-
-pub filter_once : (test : Note → Bool) (notes : List Note) → AreOfOtherMoves notes → AreOfOtherMoves (filter test notes)
-filter_once test [] once = tt
-filter_once test (k ∷ notes) once = at (test k) (filter_once test notes once.1)
-  where
-    at : (b : Bool) → AreOfOtherMoves (filter test notes) → AreOfOtherMoves (cond b (k ∷ filter test notes) (filter test notes))
-    at true rest = (λ m has. once.0 m (Has-filter test notes m has).0, rest)
-    at false rest = rest
-
--- ---- the notes of the own block
-
-pub own_before : (part : Part) (kind : Kind) (sources : List Source) (notes : List Note) (m : Note) → Has notes m → Has (with_all_own part kind notes sources) m
-own_before part kind [] notes m has = has
-own_before part kind (y ∷ sources) notes m has = own_before part kind sources (with_own part kind notes y) m (at (is_held part (rank_of y.0)))
-  where
-    at : (b : Bool) → Has (cond b (note_to part kind y ∷ notes) notes) m
-    at true = inr has
-    at false = has
-
-pub own_cases : (part : Part) (kind : Kind) (sources : List Source) (notes : List Note) (m : Note) → Has (with_all_own part kind notes sources) m
-    → Has notes m ⊎ ((j : ℕ) × (j < length sources) × ((d : Source) → m ≡ note_to part kind (get_or sources j d)))
-own_cases part kind [] notes m has = inl has
-own_cases part kind (y ∷ sources) notes m has = elim (own_cases part kind sources (with_own part kind notes y) m has) [
-  | inl before ↦ at (is_held part (rank_of y.0)) before
-  | inr later ↦ (let (j, low, is) = later in inr (suc j, omega (arith, low), is))
-]
-  where
-    at : (b : Bool) → Has (cond b (note_to part kind y ∷ notes) notes) m → Has notes m ⊎ ((j : ℕ) × (j < length (y ∷ sources)) × ((d : Source) → m ≡ note_to part kind (get_or (y ∷ sources) j d)))
-    at false h = inl h
-    at true (inl e) = inr (0, omega arith, λ d. e)
-    at true (inr h) = inl h
-
--- the gain of the notes is the open one
-pub gain_is : (t g : ℕ) (v : ℤ) (kind : Kind) → IsEither t v → ((kind ≡ Won) × (pos 0 <ℤ v)) ⊎ ((kind ≡ Lost) × (v <ℤ pos 0)) → gain_by kind g ≡ neg_ℤ v → g ≡ t
-gain_is t g v kind either (inl won) is =
-    let e : neg_ℤ (pos g) ≡ neg_ℤ v = ap (λ k. gain_by k g) (sym won.0) ∙ is in
-    let sign = won.1 in
-    elim either [ inl up ↦ omega (arith, ints, e, sign, up) | inr down ↦ omega (arith, ints, e, sign, down) ]
-gain_is t g v kind either (inr lost) is =
-    let e : pos g ≡ neg_ℤ v = ap (λ k. gain_by k g) (sym lost.0) ∙ is in
-    let sign = lost.1 in
-    elim either [ inl up ↦ omega (arith, ints, e, sign, up) | inr down ↦ omega (arith, ints, e, sign, down) ]
+use Rattle.awari_owner.specs.Level.{IsShare, HearsTaken, AreSpreadNotes, IsTimely, AreSound}
+use Rattle.awari_owner.proofs.Lists.{Has-append_left, Has-append_right, Has-append_cases, once_more}
+use Rattle.awari_owner.proofs.Expecting.{timely_still}
+use Rattle.awari_owner.proofs.SpreadNotes.{source_of, note_of, notes_once, Has-filter, Has-chosen, filter_once, own_before, own_cases, gain_is}
 
 -- the block, by the test
 block_in : (n owners i r : ℕ) (part : Part) → IsShare n owners i part → is_in_block (size_of n) owners i r ≡ true → InBlock part r

@@ -9,15 +9,15 @@ use Rattle.awari_table.specs.Images.{table_of}
 use Rattle.awari_table.specs.Shelves.{IsShelf}
 use Rattle.awari_block.specs.Notes.{IsQuietMove, Has}
 use Rattle.awari_block.specs.Part.{AreFresh, Part}
-use Rattle.awari_owner.specs.Outboxes.{AreBatches, IsBatch, queue_to, with_note, with_notes}
+use Rattle.awari_owner.specs.Outboxes.{AreBatches, IsBatch, queue_to, with_note, with_notes, notes_of}
 use Rattle.awari_owner.specs.Spread.{Source, Sends}
 use Rattle.awari_block.specs.declared.notes.Note.{Note}
 use Rattle.awari_owner.proofs.Spreading.{IsInjective}
 use Rattle.awari_owner.proofs.Sending.{note_batches}
 use Rattle.awari_owner.specs.Level.{HearsTaken, AreSpreadNotes, IsShare, IsTimely, AreSound, no_part}
-use Rattle.awari_core.specs.Sound.{notes_of, with_part, with_list, AreNext}
+use Rattle.awari_core.specs.Sound.{with_part, with_list, AreNext}
 use Rattle.awari_core.specs.Core.{Line, Sender, Core, no_line, no_sender, sender_at, part_at, line_at, coming_to, coming, IsLinked, Sound, DoesSpread, HearsBatch}
-use Rattle.awari_core.proofs.Lists.{notes_of-append, notes_of-with_notes}
+use Rattle.awari_owner.proofs.Lists.{notes_of-append, notes_of-with_notes}
 use Rattle.awari_core.proofs.Spreading.{sound_spread, for_block}
 use Rattle.awari_core.proofs.Batches.{part_here, part_other, list_here, list_other}
 

@@ -2,10 +2,9 @@
 use Rattle.std.proofs.Common.{◌≡◌, inl, inr, ℕ, ◌<◌, List, [], ◌++◌, length, get_or, All, refl, sym, ap, subst, ◌∙◌}
 use Rattle.std.proofs.lemmas.List.{get_or_past}
 use Rattle.std.proofs.lemmas.Bool.{cases_lt}
-use Rattle.awari_owner.specs.Outboxes.{queue_to}
+use Rattle.awari_owner.specs.Outboxes.{queue_to, notes_of}
 use Rattle.awari_block.specs.declared.notes.Note.{Note}
 use Rattle.awari_core.specs.Core.{Core, Line, Sender, IsAllTaken, IsSilent, coming, coming_to, no_line, no_sender, sender_at}
-use Rattle.awari_core.specs.Sound.{notes_of}
 
 all_or : {X : Type 0} (P : X → Type 0) (xs : List X) (i : ℕ) (d : X) → P d → All P xs → P (get_or xs i d)
 all_or P xs i d none all = elim (cases_lt i (length xs)) [

@@ -8,14 +8,14 @@ use Rattle.awari_block.specs.Blocks.{due_dist, KeepSettled}
 use Rattle.awari_block.specs.Part.{Part, SameLevel, JoinsFresh, IsTallied, IsLeastDue, AreFresh}
 use Rattle.awari_owner.specs.Level.{AreSound, no_part}
 use Rattle.awari_owner.specs.Scan.{IsScan}
-use Rattle.awari_owner.specs.Outboxes.{Outboxes, AreBatches, queue_to}
+use Rattle.awari_owner.specs.Outboxes.{Outboxes, AreBatches, queue_to, notes_of}
 use Rattle.awari_owner.specs.Spread.{HearsOwn, Source, Spreads, Sends}
 use Rattle.awari_block.specs.declared.notes.Note.{Note}
 use Rattle.awari_core.specs.declared.events.Event.{Event}
 use Rattle.awari_core.specs.declared.events.Event.TheVariants.{Spread, Send, Take}
 use Rattle.awari_core.specs.declared.faults.CoreFault.{CoreFault}
 use Rattle.awari_core.specs.declared.faults.CoreFault.TheVariants.{NotEnabled, Owners, Room, TooHigh, Memory}
-use Rattle.awari_core.specs.Sound.{notes_of, AreNext, AreTaken}
+use Rattle.awari_core.specs.Sound.{AreNext, AreTaken}
 
 -- the batches on a line, the first to be taken at the front, and for how many it has room
 pub record Line : Type 0 where

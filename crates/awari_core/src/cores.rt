@@ -15,6 +15,7 @@ use crate::hearing::hear_batch;
 use crate::laws::{scanned_owners_are_sound, sound_cores_are_told};
 use crate::openings::{are_idle, nearer, open_gains, open_waves, scanned_parts};
 use crate::senders::{Sender, are_silent, silent_senders};
+use awari_block::{MOST_OWNERS, MOST_ROOM};
 use awari_board::moves_keep_boards;
 use awari_owner::{OwnerFault, Part};
 use awari_plan::finish;
@@ -22,12 +23,6 @@ use awari_rank::ranks_tell_boards_apart;
 use awari_table::{HIGHEST_LEVEL, Image, Shelf};
 use std::alloc::{AllocError, Global};
 use std::marker::Model;
-
-/// How many owners a level has, at most.
-pub const MOST_OWNERS: u8 = 16;
-
-/// For how many batches a line has room, at most.
-pub const MOST_ROOM: u32 = 256;
 
 /// How many events of a list were taken, and how many refused.
 #[derive(Clone, Copy, Debug, PartialEq, Eq)]

@@ -1,27 +1,15 @@
 //! What events keep: that the owners are sound.
 
-ghost use Rattle.std.specs.Prelude.{◌≡◌, ℕ, ℤ, ◌<◌, ◌^◌, ◌-◌, ◌∷◌, [], false, All, List, length};
-ghost use Rattle.awari_block.specs.Part.{Part, IsExpected, IsTallied, stored_at};
+ghost use Rattle.std.specs.Prelude.{◌≡◌, ℕ, ℤ, ◌<◌, [], All, List, length};
+ghost use Rattle.awari_block.specs.Part.{Part, IsTallied};
 ghost use Rattle.awari_owner.specs.Scan.{IsScan};
-ghost use Rattle.awari_owner.specs.Spread.{HearsOwn};
-ghost use Rattle.awari_block.specs.Tally.{has_pit};
+ghost use Rattle.awari_owner.specs.Spread.{HearsOwn, IsSeenAs};
 ghost use Rattle.awari_block.specs.declared.notes.Note.{Note};
 ghost use Rattle.awari_owner.specs.Level.{AreHeard, AreSound, AreWhole, DistancesFit};
 ghost use Rattle.awari_table.specs.Images.{table_of};
 ghost use Rattle.awari_core.specs.Core.{Core, Sound, IsAllTaken};
-ghost use Rattle.awari_core.specs.Sound.{IsSeenAs};
 
 use awari_owner::{distances_fit, sound_parts_are_told};
-use awari_rank::ranks_tell_boards_apart;
-
-/// The next note on a line is never refused.
-pub fn coming_notes_are_expected()
-    ensures { (value : List ℕ → ℤ) (n owners : ℕ) (part : ℕ → Part) (coming taken : ℕ → ℕ → List Note) → AreSound value n owners part coming taken
-        → (i j : ℕ) → i < owners → j < owners → (i ≡ j → ⊥) → (m : Note) (rest : List Note) → coming i j ≡ m ∷ rest
-        → IsExpected (part j) m × (has_pit (stored_at (part j) m.target).heard m.pit ≡ false) × (m.dist < 2 ^ 32 - 1) }
-{
-    ranks_tell_boards_apart();
-}
 
 /// Parts that were scanned are sound with nothing on its way.
 pub fn scanned_owners_are_sound()

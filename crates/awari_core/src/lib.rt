@@ -21,10 +21,9 @@ mod lines;
 mod openings;
 mod senders;
 
-pub use cores::{Core, MOST_OWNERS, MOST_ROOM, Ran};
+pub use awari_block::{MOST_OWNERS, MOST_ROOM};
+pub use awari_owner::coming_notes_are_expected;
+pub use cores::{Core, Ran};
 pub use events::Event;
 pub use faults::CoreFault;
-pub use laws::{
-    coming_notes_are_expected, opening_keeps_owners_sound, scanned_owners_are_sound,
-    sound_cores_are_told,
-};
+pub use laws::{opening_keeps_owners_sound, scanned_owners_are_sound, sound_cores_are_told};

@@ -1,4 +1,3 @@
 pub mod Grows
 pub mod Serves
 pub mod Longer
-pub mod WorthLines

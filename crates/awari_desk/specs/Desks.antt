@@ -8,8 +8,8 @@ use Rattle.awari_desk.specs.Books.{BeginsWith}
 use Rattle.awari_desk.specs.declared.faults.AskFault.{AskFault}
 use Rattle.awari_desk.specs.declared.faults.AskFault.TheVariants.{NotYet, Gone}
 use Rattle.awari_desk.specs.declared.pages.Pages.{Pages}
-use Rattle.awari_desk.specs.declared.weighing.Weighed.{Weighed}
-use Rattle.awari_desk.specs.Worths.{IsWeighed}
+use Rattle.awari_play.specs.declared.weighing.Weighed.{Weighed}
+use Rattle.awari_play.specs.Worths.{IsWeighed}
 
 -- A book is seen: a shelf that begins with the levels known before.
 pub record IsSeen (known book : List Image) : Type 0 where

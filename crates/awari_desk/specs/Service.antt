@@ -9,7 +9,7 @@ use Rattle.awari_table.specs.declared.images.Image.{Image}
 use Rattle.awari_table.specs.Images.{entry_of}
 use Rattle.awari_table.specs.Spelling.{entry_line}
 use Rattle.awari_desk.specs.Desks.{IsSeen}
-use Rattle.awari_desk.specs.Worths.{IsWeighed, weighed_text}
+use Rattle.awari_play.specs.Worths.{IsWeighed, weighed_text}
 use Rattle.awari_desk.specs.declared.answers.Answer.{Answer}
 use Rattle.awari_desk.specs.declared.answers.Answer.TheVariants.{Found, Moves, NotYet, Gone, Refused, Seen, Bye, What}
 use Rattle.awari_desk.specs.declared.lines.TheConstants.{LONGEST_LINE}

@@ -4,10 +4,10 @@ ghost use Rattle.std.specs.Prelude.{◌≡◌, ◌≤◌, ◌++◌, ◌∷◌, [
 ghost use Rattle.std.specs.Fmt.{decimal};
 ghost use Rattle.awari_board.specs.BoardFault.{fault_text};
 ghost use Rattle.awari_desk.specs.Service.{answer_text};
-ghost use Rattle.awari_desk.specs.Worths.{weighed_text};
+ghost use Rattle.awari_play.specs.Worths.{weighed_text};
 
-use crate::weighing::{MovesText, Weighed, text_of};
 use awari_board::BoardFault;
+use awari_play::{MovesText, Weighed, text_of};
 use awari_table::{Entry, TextLine, line_of_entry, push_number, push_text};
 
 /// The answer to one line.

@@ -23,9 +23,9 @@ mod publishers;
 mod publishing;
 mod readers;
 mod services;
-mod weighing;
 
 pub use answers::Answer;
+pub use awari_play::{MOVES_ROOM, MovesText, Weighed, weigh};
 pub use books::{Book, Growing};
 pub use desks::{MOST_READERS, desk};
 pub use faults::{AskFault, DeskFault, ServeFault};
@@ -35,4 +35,3 @@ pub use pages::Pages;
 pub use publishers::Publisher;
 pub use readers::{Reader, Told};
 pub use services::{LONGEST_INPUT, serve};
-pub use weighing::{MOVES_ROOM, MovesText, Weighed, weigh};

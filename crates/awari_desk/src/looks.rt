@@ -5,11 +5,11 @@ ghost use Rattle.left_right.specs.Sides.{view};
 ghost use Rattle.awari_table.specs.Images.{entry_of};
 ghost use Rattle.awari_table.specs.Shelves.{IsShelf};
 ghost use Rattle.awari_desk.specs.Books.{BeginsWith};
-ghost use Rattle.awari_desk.specs.Worths.{IsWeighed};
+ghost use Rattle.awari_play.specs.Worths.{IsWeighed};
 
 use crate::books::{Look, Seat};
-use crate::weighing::{Weighed, weigh};
 use awari_board::Board;
+use awari_play::{Weighed, weigh};
 use awari_table::{Entry, NotYet};
 
 /// What was seen: how many levels the book has, and what it says of the board.

@@ -5,7 +5,7 @@ use Rattle.awari_table.specs.declared.images.Image.{Image}
 use Rattle.awari_table.specs.declared.rules.Distances.{Distances}
 use Rattle.awari_table.specs.declared.rules.Distances.TheVariants.{Falling, Least}
 use Rattle.awari_table.specs.Shelves.{Consistent, ConsistentBy}
-use Rattle.awari_plan.specs.Least.{NoFarther, IsPlannedLowest}
+use Rattle.awari_play.specs.Least.{NoFarther, IsPlannedLowest}
 use Rattle.awari_verify.specs.VerifyFault.{IsDueBy}
 use Rattle.awari_file.specs.declared.contents.Loaded.{Loaded}
 use Rattle.awari_file.specs.declared.faults.FileFault.TheVariants.{Write}

@@ -15,7 +15,7 @@ use crate::calls::{Folder, Refusal};
 use crate::faults::FolderFault;
 use crate::saving::save;
 use awari_file::{FileFault, Loaded, OLD_VERSION, read_image};
-use awari_plan::least;
+use awari_play::least;
 use awari_table::{Counted, HIGHEST_LEVEL, Image, Level, Shelf};
 use awari_verify::{VerifyFault, verify, verify_old};
 use std::alloc::Global;

@@ -18,3 +18,6 @@ pub mod Sharing
 pub mod Finishing
 pub mod Levels
 pub mod Distances
+pub mod Lists
+pub mod Expecting
+pub mod SpreadNotes

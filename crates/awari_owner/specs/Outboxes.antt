@@ -38,3 +38,8 @@ pub record AreOutboxes (o : Outboxes) : Type 0 where
   pub one : o.owner < length o.queues
   pub own : queue_to o o.owner ≡ []
   pub batches : All AreBatches o.queues
+
+-- the notes of these batches, in order
+abbrev pub notes_of : List (List Note) → List Note
+notes_of [] = []
+notes_of (b ∷ batches) = b ++ notes_of batches

@@ -93,6 +93,14 @@ pub record SameBlock (old new : Part) : Type 0 where
   pub start : new.start ≡ old.start
   pub size : length new.cells ≡ length old.cells
 
+-- the same boards of the block are spread, in the same block
+pub record IsSeenAs (old new : Part) : Type 0 where
+  pub level : new.level ≡ old.level
+  pub start : new.start ≡ old.start
+  pub len : length new.cells ≡ length old.cells
+  pub stays : (r : ℕ) (v : ℤ) (d : ℕ) → InBlock old r → IsSpread old r v d → IsSpread new r v d
+  pub before : (r : ℕ) (v : ℤ) (d : ℕ) → InBlock old r → IsSpread new r v d → IsSpread old r v d
+
 -- q is the one board of the block that becomes spread, with value v and distance d
 pub record SpreadsOne (old new : Part) (q : List ℕ) (v : ℤ) (d : ℕ) : Type 0 where
   pub block : SameBlock old new

@@ -1,16 +1,18 @@
 //! What follows of a level whose parts heard its notes.
 
-ghost use Rattle.std.specs.Prelude.{◌≡◌, ℕ, ℤ, ◌<◌, ◌≤◌, List, [], ◌∷◌, All, sum, length};
+ghost use Rattle.std.specs.Prelude.{◌≡◌, ℕ, ℤ, ◌<◌, ◌≤◌, ◌^◌, ◌-◌, List, [], ◌∷◌, All, false, sum, length};
 ghost use Rattle.std.specs.List.{AllZip};
 ghost use Rattle.awari_board.specs.Rules.{IsBoard};
 ghost use Rattle.awari_rank.specs.Rank.{rank_of};
-ghost use Rattle.awari_block.specs.Tally.{Cell};
+ghost use Rattle.awari_block.specs.Tally.{Cell, has_pit};
 ghost use Rattle.awari_owner.specs.Finish.{IsQuietAt, IsRightAt};
 ghost use Rattle.awari_owner.specs.Level.{AreHeard, AreSound, AreTold, AreWhole, DistancesFit, NotesFit, known_at, part_at};
-ghost use Rattle.awari_block.specs.Part.{Part, IsTallied, IsClosed};
+ghost use Rattle.awari_block.specs.Part.{Part, IsClosed, IsExpected, IsTallied, stored_at};
 ghost use Rattle.awari_owner.specs.Scan.{IsScan, IsWhole};
 ghost use Rattle.awari_owner.specs.Spread.{HearsOwn, SameBlock};
 ghost use Rattle.awari_block.specs.declared.notes.Note.{Note};
+
+use awari_rank::ranks_tell_boards_apart;
 
 /// Where a cell is a tally at gain 1 of the notes of the settled boards that the quiet moves of its
 /// board lead to, and of no others, the board keeps the rules of a table: settled boards with their
@@ -63,3 +65,12 @@ pub fn one_part_hears_all()
     ensures heard { (value : List ℕ → ℤ) (part : Part) (notes : List Note) → IsTallied value part notes → HearsOwn part notes → AreHeard value (part ∷ []) }
     ensures told { (value : List ℕ → ℤ) (parts : List Part) → AreHeard value parts → AreTold value parts }
 {}
+
+/// The next note on its way to an owner is never refused.
+pub fn coming_notes_are_expected()
+    ensures { (value : List ℕ → ℤ) (n owners : ℕ) (part : ℕ → Part) (coming taken : ℕ → ℕ → List Note) → AreSound value n owners part coming taken
+        → (i j : ℕ) → i < owners → j < owners → (i ≡ j → ⊥) → (m : Note) (rest : List Note) → coming i j ≡ m ∷ rest
+        → IsExpected (part j) m × (has_pit (stored_at (part j) m.target).heard m.pit ≡ false) × (m.dist < 2 ^ 32 - 1) }
+{
+    ranks_tell_boards_apart();
+}

@@ -12,7 +12,7 @@ use Rattle.awari_owner.specs.Spread.{HearsOwn}
 use Rattle.awari_block.specs.declared.notes.Kind.TheVariants.{Won}
 use Rattle.awari_block.specs.declared.notes.Note.{Note}
 use Rattle.awari_owner.proofs.Hearing.{spread_stays, spread_before}
-use Rattle.awari_core.specs.Sound.{notes_of}
+use Rattle.awari_owner.specs.Outboxes.{notes_of}
 use Rattle.awari_phase.specs.Sound.{Batches, IsInBlockOf, HoldsNotes, IsOpenBatch, IsOtherOf, OwnerSound, with_taken}
 
 -- ---- notes of batches

@@ -4,13 +4,12 @@ use Rattle.std.proofs.lemmas.List.{length-map, map-append}
 use Rattle.std.proofs.lemmas.List.Elements.{All-nil, All-push}
 use Rattle.awari_rank.specs.Rank.{rank_of}
 use Rattle.awari_block.specs.Notes.{Has}
-use Rattle.awari_core.specs.Sound.{notes_of}
+use Rattle.awari_owner.specs.Outboxes.{notes_of, queue_to}
 use Rattle.awari_lines.specs.Lines.{AllUnused, IsGrid, IsUnused, UnusedOn, Notes, owners_of, received_from, received_on, sent_on, sent_to}
 use Rattle.awari_lines.specs.Seats.{seat_of}
 use Rattle.awari_lines.specs.declared.lines.Ends.{Ends}
 use Rattle.awari_lines.specs.declared.lines.Line.{Line}
 use Rattle.awari_phase.specs.declared.owners.Owner.{Owner}
-use Rattle.awari_owner.specs.Outboxes.{queue_to}
 use Rattle.awari_phase.specs.Sound.{Batches, HoldsNotes, IsOpenBatch, IsOtherOf}
 use Rattle.awari_phase.specs.Owners.{AreFinished, IsScanned, IsSound, all_ends, ends_of, given_to, items_of}
 use Rattle.awari_phase.proofs.Grown.{ends_at}

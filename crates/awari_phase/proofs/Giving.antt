@@ -5,15 +5,14 @@ use Rattle.std.proofs.lemmas.List.Elements.{All-cons, All-nil, All-push, All-wea
 use Rattle.awari_board.specs.Rules.{IsBoard, next_board}
 use Rattle.awari_rank.specs.Rank.{rank_of, size_of}
 use Rattle.awari_block.specs.Notes.{IsQuietMove, Has, IsNoteOf}
-use Rattle.awari_owner.specs.Outboxes.{Outboxes, put_behind, with_note, with_notes, queue_to}
+use Rattle.awari_owner.specs.Outboxes.{Outboxes, put_behind, with_note, with_notes, queue_to, notes_of}
 use Rattle.awari_block.specs.Part.{Part, InBlock, Leaves, SameLevel, stored_at}
 use Rattle.awari_block.specs.Leaving.{first_rank}
 use Rattle.awari_owner.specs.Spread.{Source, IsSpread, Sends, Spreads, is_in_block, kind_of, note_to, with_all_own}
 use Rattle.awari_block.specs.declared.notes.Note.{Note}
 use Rattle.awari_owner.proofs.Spreading.{IsInjective, AreSources, sources_of}
-use Rattle.awari_core.specs.Sound.{notes_of}
-use Rattle.awari_core.proofs.Lists.{Has-append_left, Has-append_right, Has-append_cases, notes_of-append, notes_of-with_notes, once_more}
-use Rattle.awari_core.proofs.Spreading.{source_of, note_of, notes_once, Has-filter, Has-chosen, filter_once, own_before, own_cases, gain_is}
+use Rattle.awari_owner.proofs.Lists.{Has-append_left, Has-append_right, Has-append_cases, notes_of-append, notes_of-with_notes, once_more}
+use Rattle.awari_owner.proofs.SpreadNotes.{source_of, note_of, notes_once, Has-filter, Has-chosen, filter_once, own_before, own_cases, gain_is}
 use Rattle.awari_phase.specs.Sound.{Batches, IsInBlockOf, HoldsNotes, IsOpenBatch, IsOtherOf, OwnerSound}
 use Rattle.awari_phase.proofs.Batching.{open_still}
 

@@ -5,15 +5,14 @@ use Rattle.std.proofs.lemmas.List.{map-append}
 use mathlib.Core.List.{IsPrefix}
 use Rattle.awari_block.specs.Notes.{Has}
 use Rattle.awari_owner.specs.OwnerFault.{IsFaultOf}
-use Rattle.awari_owner.specs.Outboxes.{Outboxes, queue_to}
+use Rattle.awari_owner.specs.Outboxes.{Outboxes, queue_to, notes_of}
 use Rattle.awari_block.specs.Part.{Part, HasFarthest}
 use Rattle.awari_owner.specs.declared.faults.OwnerFault.{OwnerFault}
 use Rattle.awari_owner.specs.declared.faults.OwnerFault.TheVariants.{Far, Memory}
 use Rattle.awari_block.specs.declared.notes.Note.{Note}
 use Rattle.awari_lines.specs.Lines.{Notes, IsOther, SameLines, owners_of, sent_to, received_from}
 use Rattle.awari_lines.specs.declared.lines.Ends.{Ends}
-use Rattle.awari_core.specs.Sound.{notes_of}
-use Rattle.awari_core.proofs.Lists.{Has-append_right}
+use Rattle.awari_owner.proofs.Lists.{Has-append_right}
 use Rattle.awari_phase.specs.declared.owners.Owner.{Owner}
 use Rattle.awari_phase.specs.Sound.{Batches, IsOpenBatch, OwnerSound, SamePlace, with_taken}
 use Rattle.awari_phase.specs.Owners.{items_of, taken_from, given_to, IsSound, Kept}

@@ -7,14 +7,13 @@ use Rattle.std.proofs.lemmas.Bool.Decides.{nat_tests}
 use Rattle.std.specs.List.{slice_get}
 use mathlib.Core.List.{IsPrefix}
 use Rattle.awari_block.specs.Notes.{Has}
-use Rattle.awari_owner.specs.Outboxes.{Outboxes, queue_to}
+use Rattle.awari_owner.specs.Outboxes.{Outboxes, queue_to, notes_of}
 use Rattle.awari_block.specs.Part.{Part, unspread}
 use Rattle.awari_lines.specs.declared.lines.Ends.{Ends}
 use Rattle.awari_lines.specs.declared.lines.Line.{Line}
 use Rattle.awari_block.specs.declared.notes.Note.{Note}
 use Rattle.awari_lines.specs.Lines.{Notes, IsOther, SameLines, SameBut, SameRings, sent_to, received_from, sent_on, received_on, line_of, owners_of}
 use Rattle.awari_phase.specs.declared.owners.Owner.{Owner}
-use Rattle.awari_core.specs.Sound.{notes_of}
 use Rattle.awari_phase.specs.Sound.{Batches, IsOtherOf, HoldsNotes, IsOpenBatch, OwnerSound, with_taken, SamePlace}
 use Rattle.awari_phase.specs.Owners.{items_of, taken_from, given_to, IsSound, Keeps, Kept}
 

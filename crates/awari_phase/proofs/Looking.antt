@@ -5,11 +5,10 @@ use Rattle.std.proofs.lemmas.List.Elements.{All-nil}
 use Rattle.awari_block.specs.Notes.{Has}
 use Rattle.awari_block.specs.declared.notes.Note.{Note}
 use Rattle.awari_owner.specs.Level.{AreSound, IsTimely, part_at}
-use Rattle.awari_owner.specs.Outboxes.{queue_to}
+use Rattle.awari_owner.specs.Outboxes.{queue_to, notes_of}
 use Rattle.awari_lines.specs.Lines.{received_from, sent_to, waiting_from}
 use Rattle.awari_lines.specs.declared.lines.Ends.{Ends}
-use Rattle.awari_core.specs.Sound.{notes_of}
-use Rattle.awari_core.proofs.Lists.{Has-append_cases, notes_of-append}
+use Rattle.awari_owner.proofs.Lists.{Has-append_cases, notes_of-append}
 use Rattle.awari_phase.specs.declared.owners.Owner.{Owner}
 use Rattle.awari_phase.specs.Sound.{IsOpenBatch}
 use Rattle.awari_phase.specs.Owners.{AreLooked, AreTogether, all_ends, coming_notes, ends_of, given_to, items_of, parts_of, taken_from, taken_notes}

@@ -3,10 +3,9 @@ use Rattle.std.proofs.Common.{◌≡◌, ℕ, ◌<◌, List, [], length, All, �
 use Rattle.awari_rank.specs.Rank.{rank_of}
 use Rattle.awari_owner.specs.Outboxes.{Outboxes, queue_to}
 use Rattle.awari_block.specs.Part.{Part, IsTallied}
-use Rattle.awari_owner.specs.Spread.{HearsOwn}
+use Rattle.awari_owner.specs.Spread.{HearsOwn, IsSeenAs}
 use Rattle.awari_block.specs.declared.notes.Note.{Note}
-use Rattle.awari_core.specs.Sound.{IsSeenAs}
-use Rattle.awari_core.proofs.Taking.{inside_new, inside_old, leaves_old}
+use Rattle.awari_owner.proofs.Expecting.{inside_new, inside_old, leaves_old}
 use Rattle.awari_lines.specs.Lines.{IsGrid, owners_of, received_from, sent_to}
 use Rattle.awari_lines.specs.declared.lines.Ends.{Ends}
 use Rattle.awari_phase.specs.declared.owners.Owner.{Owner}

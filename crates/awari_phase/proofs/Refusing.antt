@@ -14,11 +14,10 @@ use Rattle.awari_table.specs.declared.TheConstants.{HIGHEST_LEVEL}
 use Rattle.awari_lines.specs.Lines.{Notes, IsGrid, IsOther, SameHistory, SameLines, sent_to, received_from, waiting_from}
 use Rattle.awari_lines.specs.declared.lines.Ends.{Ends}
 use Rattle.awari_lines.proofs.Grids.{grid_kept}
-use Rattle.awari_core.specs.Sound.{notes_of}
-use Rattle.awari_core.proofs.Lists.{Has-append_cases, Has-append_left, Has-append_right, notes_of-append}
+use Rattle.awari_owner.specs.Outboxes.{notes_of, queue_to}
+use Rattle.awari_owner.proofs.Lists.{Has-append_cases, Has-append_left, Has-append_right, notes_of-append}
 use Rattle.awari_phase.specs.declared.owners.Owner.{Owner}
 use Rattle.awari_phase.specs.declared.faults.PhaseFault.{PhaseFault}
-use Rattle.awari_owner.specs.Outboxes.{queue_to}
 use Rattle.awari_phase.specs.Sound.{Batches, IsOpenBatch}
 use Rattle.awari_phase.specs.Owners.{AreTogether, OpenBehind, all_ends, ends_of, given_to, items_of, parts_of, taken_from}
 use Rattle.awari_phase.specs.PhaseFault.{IsFirstFault, IsWant, fault_of}

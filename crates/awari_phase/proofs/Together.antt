@@ -10,8 +10,7 @@ use Rattle.awari_owner.specs.Level.{AreSound, AreSpreadNotes, HearsTaken, IsShar
 use Rattle.awari_block.specs.declared.notes.Note.{Note}
 use Rattle.awari_lines.specs.Lines.{IsGrid, owners_of, sent_to, received_from}
 use Rattle.awari_lines.specs.declared.lines.Ends.{Ends}
-use Rattle.awari_core.specs.Sound.{notes_of}
-use Rattle.awari_owner.specs.Outboxes.{queue_to}
+use Rattle.awari_owner.specs.Outboxes.{notes_of, queue_to}
 use Rattle.awari_phase.specs.Sound.{Batches, IsInBlockOf, HoldsNotes, OwnerSound}
 use Rattle.awari_phase.specs.Owners.{items_of, taken_from, given_to, AreFinished, AreIdle, all_ends, ends_of, parts_of, taken_notes}
 use Rattle.awari_phase.specs.declared.owners.Owner.{Owner}

@@ -17,7 +17,7 @@ use Rattle.awari_phase.specs.Stops.{HasWorked, HaveWorked}
 use Rattle.awari_phase.proofs.Batching.{open_still}
 use Rattle.awari_phase.proofs.Grown.{grid_after, grid_lines}
 use Rattle.awari_phase.proofs.Keeping.{lines_then}
-use Rattle.awari_core.proofs.Rounds.{written}
+use Rattle.awari_owner.proofs.Lists.{written}
 use Rattle.awari_phase.proofs.Together.{ends_there, many_at, number_at}
 use Rattle.awari_phase.proofs.Gaining.{all_grown_waves, same_rest}
 use Rattle.awari_phase.proofs.Each.{same_ends}

@@ -4,11 +4,10 @@ use mathlib.Core.List.{IsPrefix}
 use Rattle.awari_lines.specs.Lines.{Notes, IsOther, IsGrid, SameLines, owners_of, sent_to, received_from, waiting_from, free_to}
 use Rattle.awari_lines.specs.declared.lines.Ends.{Ends}
 use Rattle.awari_block.specs.declared.notes.Note.{Note}
-use Rattle.awari_owner.specs.Outboxes.{Outboxes, queue_to}
+use Rattle.awari_owner.specs.Outboxes.{Outboxes, queue_to, notes_of}
 use Rattle.awari_block.specs.Part.{Part, IsLeastDue, IsTallied, unspread}
 use Rattle.awari_owner.specs.Scan.{IsScan}
-use Rattle.awari_owner.specs.Spread.{HearsOwn}
-use Rattle.awari_core.specs.Sound.{IsSeenAs, notes_of}
+use Rattle.awari_owner.specs.Spread.{HearsOwn, IsSeenAs}
 use Rattle.awari_phase.specs.Sound.{Batches, OwnerSound, SamePlace, IsOpenBatch}
 use Rattle.awari_phase.specs.declared.owners.Owner.{Owner}
 

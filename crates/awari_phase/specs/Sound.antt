@@ -3,7 +3,7 @@ use Rattle.std.specs.Prelude.{◌≡◌, ◌≢◌, ℕ, ◌+◌, ◌-◌, ◌^�
 use Rattle.awari_board.specs.Rules.{IsBoard}
 use Rattle.awari_rank.specs.Rank.{rank_of, size_of}
 use Rattle.awari_block.specs.Notes.{IsQuietMove, Has, IsNoteOf}
-use Rattle.awari_core.specs.Sound.{notes_of}
+use Rattle.awari_owner.specs.Outboxes.{notes_of}
 use Rattle.awari_owner.specs.Level.{AreOfOtherMoves}
 use Rattle.awari_block.specs.Part.{Part, InBlock, IsTallied, Leaves, SameLevel}
 use Rattle.awari_block.specs.Leaving.{first_rank}

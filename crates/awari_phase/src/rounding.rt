@@ -13,8 +13,7 @@ use crate::gates::Gate;
 use crate::owners::Owner;
 use crate::settling::settle_owners;
 use crate::starting::start_each;
-use awari_core::coming_notes_are_expected;
-use awari_owner::{OwnerFault, distances_fit, sound_parts_are_told};
+use awari_owner::{OwnerFault, coming_notes_are_expected, distances_fit, sound_parts_are_told};
 use std::sync::Wait;
 use std::thread::Threads;
 

@@ -11,7 +11,8 @@ use Rattle.awari_owner.specs.Level.{AreBlocks, AreWhole, known_at, part_at}
 use Rattle.awari_block.specs.Tally.{Cell}
 use Rattle.awari_owner.proofs.Levels.{blocks_in_order, holds, known_there}
 use Rattle.awari_plan.specs.Finished.{HasSettled, HasAllSettled}
-use Rattle.awari_plan.specs.Planning.{PushesBlock, PutsBlock, SameSettled}
+use Rattle.awari_plan.specs.Filling.{PushesBlock, PutsBlock}
+use Rattle.awari_play.specs.Planning.{SameSettled}
 
 -- each of these blocks ends at a rank that is not above this
 abbrev pub AllBelow : List Part → ℕ → Type 0

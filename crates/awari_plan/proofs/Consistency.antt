@@ -1,9 +1,9 @@
 -- A finished level is consistent over the shelf.
 use Rattle.std.proofs.Common.{◌≡◌, ℕ, zero, suc, ◌+◌, ◌<◌, ◌≤◌, ◌==◌, ◌⊎◌, inl, inr, Bool, true, false, if◌then◌else◌, List, [], ◌∷◌, ◌++◌, length, get_or, sum, ℤ, pos, negsuc, neg_ℤ, ◌≤ℤ◌, ◌<ℤ◌, refl, sym, ap, ◌∙◌, subst, arith}
-use Rattle.std.specs.Prelude.{◌-ℤ◌, Option, Some, None, IfSome}
+use Rattle.std.specs.Prelude.{◌-ℤ◌}
 use Rattle.std.proofs.lemmas.Bool.{false≢true}
 use Rattle.std.proofs.lemmas.Int.{ints}
-use Rattle.awari_board.specs.Rules.{IsBoard, IsMove, IsLegal, IsEnd, IsEnded, own_stones}
+use Rattle.awari_board.specs.Rules.{IsBoard, IsMove, IsEnd, IsEnded, own_stones}
 use Rattle.awari_board.specs.Tests.{is_ended}
 use Rattle.awari_board.proofs.Legal.{ended_is}
 use Rattle.awari_board.proofs.Keeping.{IsBoard-next, sum-from_IsMove}
@@ -23,30 +23,14 @@ use Rattle.awari_owner.specs.Finish.{value_by, dist_by, gains, IsRightAt}
 use Rattle.awari_block.specs.Part.{Part, settled_by}
 use Rattle.awari_owner.specs.Scan.{IsRanged}
 use Rattle.awari_plan.specs.Finished.{HasSettled, IsFinished}
-use Rattle.awari_plan.specs.Plan.{Serves, IsLowest}
-use Rattle.awari_plan.proofs.Serving.{own_serves}
+use Rattle.awari_play.specs.Plan.{Serves}
+use Rattle.awari_play.proofs.Serving.{lowest_ended, lowest_own, lowest_serves, lowest_there}
 
 -- an entry has what its board's cell says
 has_value : (s : Status) (e : Entry) → HasSettled (settled_by s) e → (e.value ≡ value_by s) × (e.dist ≡ dist_by s)
 has_value (Ended gain) e h = h
 has_value (Open left best far) e h = h
 has_value (Settled value dist) e h = h
-
--- what the lowest plan says, if there is one, and if there is none
-pub lowest_own : (t : Table) (p : List ℕ) (o : Option ℕ) → IsLowest t p o → IfSome o (λ x. x < 6)
-lowest_own t p None h = tt
-lowest_own t p (Some x) h = own_serves t p x h.0
-
-pub lowest_ended : (t : Table) (p : List ℕ) (o : Option ℕ) → IsLowest t p o → IsEnded p → o ≡ None
-lowest_ended t p None h stuck = refl
-lowest_ended t p (Some x) h stuck = absurd (stuck x h.0.2.legal)
-
-pub lowest_there : (t : Table) (p : List ℕ) (x : ℕ) (o : Option ℕ) → IsLowest t p o → Serves t p x → (y : ℕ) × (o ≡ Some y) × IsLegal p y
-lowest_there t p x None h serves = absurd (h x serves)
-lowest_there t p x (Some y) h serves = (y, refl, h.0.2.legal)
-
-pub lowest_serves : (t : Table) (p : List ℕ) (x : ℕ) (o : Option ℕ) → IsLowest t p o → o ≡ Some x → Serves t p x
-lowest_serves t p x o h is = (subst (λ o. IsLowest t p o) is h).0
 
 module _ (shelf : List Image) (cell : List ℕ → Cell) (parts : List Part) (image : Image)
     (ranged : IsRanged (table_of shelf).value (length shelf))

@@ -1,11 +1,5 @@
-pub mod Serving
-pub mod Tables
 pub mod Blocks
+pub mod Pieces
 pub mod Whole
-pub mod Following
 pub mod Consistency
 pub mod Closing
-pub mod Lowered
-pub mod Lowerings
-pub mod Alike
-pub mod Worthing

@@ -6,7 +6,7 @@ use Rattle.awari_table.specs.declared.images.Entry.{Entry}
 use Rattle.awari_table.specs.declared.images.Image.{Image}
 use Rattle.awari_table.specs.Images.{table_of, greatest_dist, no_entry}
 use Rattle.awari_block.specs.Part.{Part, InBlock, settled_at}
-use Rattle.awari_plan.specs.Plan.{IsLowest}
+use Rattle.awari_play.specs.Plan.{IsLowest}
 
 -- the entry has value and distance of a settled board, and 0 and 0 for any other
 abbrev pub HasSettled : Option (ℤ × ℕ) → Entry → Type 0

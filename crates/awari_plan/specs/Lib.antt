@@ -1,8 +1,7 @@
-pub mod Plan
+pub use Rattle.awari_play.specs.Plan
+pub use Rattle.awari_play.specs.Least
+pub use Rattle.awari_play.specs.BestLine
+pub use Rattle.awari_play.specs.LineFault
+pub use Rattle.awari_play.specs.MoveWorth
 pub mod Finished
-pub mod Planning
-pub mod BestLine
-pub mod LineFault
-pub mod Least
-pub mod Lowering
-pub mod MoveWorth
+pub mod Filling

@@ -7,12 +7,13 @@ ghost use Rattle.awari_table.specs.Shelves.{Consistent};
 ghost use Rattle.awari_owner.specs.Level.{AreHeard, AreWhole};
 ghost use Rattle.awari_block.specs.Part.{IsClosed};
 ghost use Rattle.awari_plan.specs.Finished.{HasAllSettled, HasSettled, IsFinished};
-ghost use Rattle.awari_plan.specs.Planning.{IsPlannedImage, PushesBlock};
+ghost use Rattle.awari_plan.specs.Filling.{PushesBlock};
+ghost use Rattle.awari_play.specs.Planning.{IsPlannedImage};
 ghost use Rattle.awari_table.specs.declared.TheConstants.{HIGHEST_LEVEL};
 
-use crate::plans::{set_plans, values_of};
 use awari_block::ClosedPart;
 use awari_owner::Part;
+use awari_play::{set_plans, values_of};
 use awari_rank::size;
 use awari_table::{Entries, Entry, Image, Shelf, greatest_dist};
 use std::alloc::{AllocError, Global};

@@ -1,10 +1,9 @@
 //! What follows of a level that was finished.
 
-ghost use Rattle.std.specs.Prelude.{◌≡◌, ◌≤◌, ◌++◌, ◌∷◌, [], List, All, length};
+ghost use Rattle.std.specs.Prelude.{◌≤◌, List, All, length};
 ghost use Rattle.awari_owner.specs.Level.{AreHeard, AreWhole};
 ghost use Rattle.awari_block.specs.Part.{Part, IsClosed};
 ghost use Rattle.awari_plan.specs.Finished.{IsFinished};
-ghost use Rattle.awari_plan.specs.Least.{HasLowestPlans, IsPlannedLowest};
 ghost use Rattle.awari_table.specs.Images.{table_of};
 ghost use Rattle.awari_table.specs.Shelves.{Consistent, IsShelf};
 ghost use Rattle.awari_table.specs.declared.TheConstants.{HIGHEST_LEVEL};
@@ -16,18 +15,4 @@ pub fn finished_levels_are_consistent()
     ensures { (shelf : List Image) (parts : List Part) (image : Image) → IsShelf shelf → length shelf ≤ HIGHEST_LEVEL
         → AreWhole (length shelf) parts → All IsClosed parts → AreHeard (table_of shelf).value parts
         → IsFinished shelf parts image → Consistent shelf image }
-{}
-
-/// Over a shelf there is one consistent image whose plans are the lowest, and one shelf of so many
-/// levels whose plans are: whoever builds them, and in whatever order, all entries are the same.
-pub fn lowest_levels_are_one()
-    ensures image { (shelf : List Image) (image other : Image) → IsShelf shelf → Consistent shelf image → Consistent shelf other
-        → IsPlannedLowest shelf image → IsPlannedLowest shelf other → image ≡ other }
-    ensures shelf { (levels others : List Image) → IsShelf levels → IsShelf others → length levels ≡ length others
-        → HasLowestPlans levels → HasLowestPlans others → levels ≡ others }
-{}
-
-/// A shelf whose plans are the lowest has them still with one more level on top whose plans are.
-pub fn lowest_plans_stay()
-    ensures { (shelf : List Image) (image : Image) → HasLowestPlans shelf → IsPlannedLowest shelf image → HasLowestPlans (shelf ++ image ∷ []) }
 {}

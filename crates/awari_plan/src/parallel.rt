@@ -7,13 +7,14 @@ ghost use Rattle.awari_table.specs.Shelves.{Consistent};
 ghost use Rattle.awari_owner.specs.Level.{AreHeard, AreWhole};
 ghost use Rattle.awari_block.specs.Part.{IsClosed};
 ghost use Rattle.awari_plan.specs.Finished.{HasAllSettled, IsFinished};
-ghost use Rattle.awari_plan.specs.Planning.{AreLowest, AreSettled, AreValues, IsPlanned, PutsBlock, PutsPlans, SameSettled};
+ghost use Rattle.awari_plan.specs.Filling.{AreLowest, AreSettled, PutsBlock, PutsPlans};
+ghost use Rattle.awari_play.specs.Planning.{AreValues, IsPlanned, SameSettled};
 ghost use Rattle.awari_table.specs.declared.TheConstants.{HIGHEST_LEVEL};
 
 use crate::finishing::settled_entry;
-use crate::plans::{lowest_plan, values_of};
 use awari_block::ClosedPart;
 use awari_packed::PackedBoard;
+use awari_play::{lowest_plan, values_of};
 use awari_rank::size;
 use awari_table::{Entries, Entry, Image, Shelf, greatest_dist};
 use rayon::prelude::*;

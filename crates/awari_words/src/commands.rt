@@ -37,7 +37,7 @@ use crate::helps::{
     ASK_HELP, AWARI_HELP, BUILD_HELP, CHECK_HELP, JUDGE_HELP, LINE_HELP, MIGRATE_HELP, MOVE_HELP,
     MOVES_HELP, SERVE_HELP, TEXT_HELP, VERIFY_HELP, VERSION,
 };
-use awari_build::{MOST_OWNERS, MOST_ROOM, MOST_SWEEPS};
+use awari_block::{MOST_OWNERS, MOST_ROOM, MOST_SWEEPS};
 use awari_table::HIGHEST_LEVEL;
 use clap::builder::ValueParser;
 use clap::{Arg, ArgAction, Command, value_parser};

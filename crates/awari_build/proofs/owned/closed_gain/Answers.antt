@@ -1,5 +1,5 @@
 use Rattle.std.proofs.Common.{length, ap, sym, subst, ◌∙◌}
-use Rattle.awari_core.proofs.Rounds.{written}
+use Rattle.awari_owner.proofs.Lists.{written}
 use Rattle.awari_lines.specs.Lines.{IsGrid}
 use Rattle.awari_phase.specs.Owners.{AreFinished, AreTogether, all_ends}
 use Rattle.awari_build.proofs.Gains.{next_open, opened_together, phase_ends}

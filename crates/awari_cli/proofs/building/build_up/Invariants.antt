@@ -1,5 +1,5 @@
 use Rattle.std.proofs.Common.{◌-◌, ◌+◌, length}
-use Rattle.awari_plan.specs.Least.{HasLowestPlans}
+use Rattle.awari_play.specs.Least.{HasLowestPlans}
 use Rattle.awari_cli.proofs.BuildLaws.{IsBuilt}
 use Rattle.awari_cli.proofs.building.build_up.Given as goal
 

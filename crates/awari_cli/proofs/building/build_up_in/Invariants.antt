@@ -1,6 +1,6 @@
 use Rattle.std.proofs.Common.{◌≡◌, ◌≤◌, ◌<◌, ◌-◌, ◌+◌, ℕ, List, Option, length}
 use Rattle.awari_folder.specs.Contents.{AreNames, HoldsIn}
-use Rattle.awari_plan.specs.Least.{HasLowestPlans}
+use Rattle.awari_play.specs.Least.{HasLowestPlans}
 use Rattle.awari_cli.specs.Building.{LeavesFiles}
 use Rattle.awari_cli.proofs.BuildLaws.{IsBuilt}
 use Rattle.awari_cli.proofs.building.build_up_in.Given as goal

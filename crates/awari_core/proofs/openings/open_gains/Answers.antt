@@ -3,7 +3,8 @@ use Rattle.std.proofs.lemmas.List.{get_or_default}
 use Rattle.awari_owner.specs.Level.{no_part}
 use Rattle.awari_block.specs.Part.{AreFresh, Part}
 use Rattle.awari_core.specs.Core.{OpensGain}
-use Rattle.awari_core.proofs.Rounds.{later_set, more_set, opens, written}
+use Rattle.awari_owner.proofs.Lists.{written}
+use Rattle.awari_core.proofs.Rounds.{later_set, more_set, opens}
 use Rattle.awari_core.proofs.openings.open_gains.Goals as goal
 
 pub loop-part-preserved : goal.loop-part-preserved

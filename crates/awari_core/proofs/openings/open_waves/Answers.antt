@@ -4,7 +4,8 @@ use Rattle.awari_owner.specs.Level.{no_part}
 use Rattle.awari_block.specs.Part.{AreFresh, IsTallied, Part}
 use Rattle.awari_owner.specs.Spread.{HearsOwn}
 use Rattle.awari_block.specs.declared.notes.Note.{Note}
-use Rattle.awari_core.proofs.Rounds.{later_set, more_set, written}
+use Rattle.awari_owner.proofs.Lists.{written}
+use Rattle.awari_core.proofs.Rounds.{later_set, more_set}
 use Rattle.awari_core.proofs.openings.open_waves.Goals as goal
 
 pub loop-part-preserved : goal.loop-part-preserved

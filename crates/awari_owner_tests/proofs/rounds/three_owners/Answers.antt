@@ -1,5 +1,5 @@
 use Rattle.std.proofs.Common.{length, ap, sym, subst, ◌∙◌}
-use Rattle.awari_core.proofs.Rounds.{written}
+use Rattle.awari_owner.proofs.Lists.{written}
 use Rattle.awari_lines.specs.Lines.{IsGrid}
 use Rattle.awari_owner.specs.Level.{AreWhole}
 use Rattle.awari_phase.specs.Owners.{AreFinished, all_ends, parts_of}

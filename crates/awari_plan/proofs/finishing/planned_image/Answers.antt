@@ -1,6 +1,6 @@
 use Rattle.std.proofs.Common.{◌∙◌, ap}
 use Rattle.awari_table.specs.Images.{greatest_dist}
-use Rattle.awari_plan.proofs.Whole.{planned}
+use Rattle.awari_play.proofs.Planned.{planned}
 use Rattle.awari_plan.proofs.finishing.planned_image.Goals as goal
 
 pub returns : goal.returns

@@ -1,5 +1,5 @@
 use Rattle.std.proofs.Common.{◌-◌}
-use Rattle.awari_plan.specs.Planning.{PushesBlock}
+use Rattle.awari_plan.specs.Filling.{PushesBlock}
 use Rattle.awari_plan.proofs.finishing.push_closed_block.Given as goal
 
 abbrev pub invariant-loop-rank : goal.invariant-loop-rank

@@ -1,5 +1,5 @@
 use Rattle.std.proofs.Common.{◌≡◌, ◌+◌, length}
-use Rattle.awari_plan.specs.Planning.{AreSettled}
+use Rattle.awari_plan.specs.Filling.{AreSettled}
 use Rattle.awari_plan.proofs.parallel.fill_piece.Given as goal
 
 abbrev pub invariant-loop-k : goal.invariant-loop-k

@@ -1,5 +1,5 @@
 use Rattle.std.proofs.Common.{◌<◌, length, arith, rules, ◌∙◌, length-set}
-use Rattle.awari_plan.proofs.Tables.{lowest_set}
+use Rattle.awari_plan.proofs.Pieces.{lowest_set}
 use Rattle.awari_plan.proofs.parallel.find_piece.Goals as goal
 
 pub loop-k-preserved : goal.loop-k-preserved

@@ -1,7 +1,7 @@
 use Rattle.std.proofs.Common.{◌≡◌, ◌<◌, ◌+◌, sum, length}
 use Rattle.awari_board.specs.Rules.{IsBoard}
 use Rattle.awari_rank.specs.Rank.{rank_of}
-use Rattle.awari_plan.specs.Planning.{AreLowest}
+use Rattle.awari_plan.specs.Filling.{AreLowest}
 use Rattle.awari_plan.proofs.parallel.find_piece.Given as goal
 
 abbrev pub invariant-loop-k : goal.invariant-loop-k

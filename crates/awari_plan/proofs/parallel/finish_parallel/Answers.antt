@@ -4,7 +4,8 @@ use Rattle.awari_table.specs.Images.{greatest_dist}
 use Rattle.awari_block.specs.Part.{Part}
 use Rattle.awari_plan.specs.Finished.{HasAllSettled}
 use Rattle.awari_plan.proofs.Closing.{finished_consistent}
-use Rattle.awari_plan.proofs.Whole.{finished, planned}
+use Rattle.awari_play.proofs.Planned.{planned}
+use Rattle.awari_plan.proofs.Whole.{finished}
 use Rattle.awari_plan.proofs.parallel.finish_parallel.Goals as goal
 
 pub returns-clause-finished : goal.returns-clause-finished

@@ -1,4 +1,4 @@
-use Rattle.awari_plan.specs.Planning.{PutsPlans}
+use Rattle.awari_plan.specs.Filling.{PutsPlans}
 use Rattle.awari_plan.proofs.parallel.put_plans.Given as goal
 
 abbrev pub invariant-loop-k : goal.invariant-loop-k

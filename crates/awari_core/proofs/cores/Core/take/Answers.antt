@@ -1,8 +1,8 @@
 use Rattle.std.proofs.Common.{rules, ◌≡◌, ◌∷◌, ◌++◌, List, length, get_or, set, ap, sym, subst, ◌∙◌}
 use Rattle.awari_table.specs.Images.{table_of}
-use Rattle.awari_owner.specs.Outboxes.{queue_to}
+use Rattle.awari_owner.specs.Outboxes.{queue_to, notes_of}
 use Rattle.awari_block.specs.Part.{AreFresh, Part}
-use Rattle.awari_core.specs.Sound.{notes_of, AreNext}
+use Rattle.awari_core.specs.Sound.{AreNext}
 use Rattle.awari_core.specs.Core.{Core, HearsBatch, Sender, Sound, DoesTake, IsBetween, coming, line_at, no_line, part_at, sender_at}
 use Rattle.awari_core.proofs.Effects.{as_many, part_was, same_sender, sender_was, take_does}
 use Rattle.awari_core.proofs.Steps.{next_of, take_step, taken_from}

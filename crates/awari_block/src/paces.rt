@@ -1,0 +1,36 @@
+//! How the owners of a level work.
+
+ghost use Rattle.std.specs.Prelude.{◌≡◌};
+
+/// How many owners a level has, and how they work.
+#[derive(Clone, Copy, Debug, PartialEq, Eq)]
+pub struct Pace {
+    /// How many owners share the boards of the level, 1 to 16.
+    pub owners: u8,
+    /// For how many batches each line between two owners has room, 1 to 256.
+    pub room: u32,
+    /// How many sweeps each owner makes in a round at most, 1 to 1000.
+    pub sweeps: u32,
+}
+
+/// How many owners a level has, at most.
+pub const MOST_OWNERS: u8 = 16;
+
+/// For how many batches a line has room, at most.
+pub const MOST_ROOM: u32 = 256;
+
+/// How many sweeps an owner makes in a round at most.
+pub const MOST_SWEEPS: u32 = 1000;
+
+impl Pace {
+    /// The usual pace of so many owners: room for 64 batches, and 1000 sweeps a round. It takes no memory.
+    pub fn usual(owners: u8) -> Pace
+        ensures { result ≡ record { owners = owners; room = 64; sweeps = 1000 } }
+    {
+        Pace {
+            owners,
+            room: 64,
+            sweeps: MOST_SWEEPS,
+        }
+    }
+}

@@ -1,8 +1,0 @@
-use Rattle.awari_plan.proofs.Alike.{images_same, shelves_same}
-use Rattle.awari_plan.proofs.laws.lowest_levels_are_one.Goals as goal
-
-pub returns-clause-image : goal.returns-clause-image
-returns-clause-image c = images_same
-
-pub returns-clause-shelf : goal.returns-clause-shelf
-returns-clause-shelf c = shelves_same

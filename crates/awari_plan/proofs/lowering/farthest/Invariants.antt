@@ -1,7 +1,0 @@
-use Rattle.awari_table.specs.Images.{table_of}
-use Rattle.awari_plan.specs.Planning.{topped}
-use Rattle.awari_plan.proofs.Lowered.{IsFarthestOf}
-use Rattle.awari_plan.proofs.lowering.farthest.Given as goal
-
-abbrev pub invariant-loop-pit : goal.invariant-loop-pit
-invariant-loop-pit l = IsFarthestOf (table_of (topped l.shelf l.entries)) l.board l.pit l.farthest

@@ -1,0 +1,9 @@
+pub mod Serving
+pub mod Tables
+pub mod Planned
+pub mod Following
+pub mod Lowered
+pub mod Lowerings
+pub mod Alike
+pub mod Worthing
+pub mod WorthLines

@@ -1,0 +1,28 @@
+-- Worths that go with a list of pits, one with each.
+use Rattle.std.proofs.Common.{◌≡◌, ℕ, ◌+◌, ◌<◌, [], ◌∷◌, ◌++◌, List, All, ◌∙◌, ap, arith, get_or, length, map, refl, subst, suc, sym, take, zero}
+use Rattle.std.proofs.lemmas.List.{take_more}
+use Rattle.std.proofs.lemmas.Slice.Zip.{all_zipped_more}
+use Rattle.std.specs.List.{AllZip}
+use Rattle.awari_table.specs.Certificate.{Table}
+use Rattle.awari_play.specs.MoveWorth.{IsMoveWorth, IsWorthOf, pit_of}
+use Rattle.awari_play.specs.declared.worths.MoveWorth.{MoveWorth}
+
+pub pits-of : (t : Table) (p pits : List ℕ) (ws : List MoveWorth) → AllZip (IsWorthOf t p) pits ws → map pit_of ws ≡ pits
+pits-of t p [] [] _ = refl
+pits-of t p (x ∷ pits) (w ∷ ws) h = ap (λ y. y ∷ map pit_of ws) h.0.pit ∙ ap (λ l. x ∷ l) (pits-of t p pits ws h.1)
+pits-of t p [] (w ∷ ws) h = absurd h
+pits-of t p (x ∷ pits) [] h = absurd h
+
+pub worths-of : (t : Table) (p pits : List ℕ) (ws : List MoveWorth) → AllZip (IsWorthOf t p) pits ws → All (IsMoveWorth t p) ws
+worths-of t p [] [] _ k d lt = absurd (omega arith)
+worths-of t p (x ∷ pits) (w ∷ ws) h zero d lt = h.0.worth
+worths-of t p (x ∷ pits) (w ∷ ws) h (suc k) d lt = worths-of t p pits ws h.1 k d (omega arith)
+worths-of t p [] (w ∷ ws) h k d lt = absurd h
+worths-of t p (x ∷ pits) [] h k d lt = absurd h
+
+pub worths-more : (t : Table) (p pits : List ℕ) (ws : List MoveWorth) (i x : ℕ) (w : MoveWorth)
+    → i < length pits → x ≡ get_or pits i x → AllZip (IsWorthOf t p) (take i pits) ws → IsWorthOf t p x w
+    → AllZip (IsWorthOf t p) (take (i + 1) pits) (ws ++ w ∷ [])
+worths-more t p pits ws i x w lt is before now =
+    subst (λ l. AllZip (IsWorthOf t p) l (ws ++ w ∷ [])) (ap (λ z. take i pits ++ z ∷ []) is ∙ sym (take_more pits i x lt))
+    (all_zipped_more (IsWorthOf t p) (take i pits) ws x w before now)

@@ -1,0 +1,22 @@
+//! Play by the plans of a shelf: which pit is a board's plan, the play that follows the plans to its
+//! outcome, what each move is worth, and the least distances. None of it needs what builds a level.
+//!
+//! The play from a board in which both sides follow the plans of a shelf, in
+//! `crates/awari_answers/src/lines.rt`:
+//!
+//!     let line = best_line(alloc, &shelf, board, shelf.limit())?;
+#![tactic(auto)]
+
+mod laws;
+mod lines;
+mod lowering;
+mod plans;
+mod weighing;
+mod worths;
+
+pub use laws::{lowest_levels_are_one, lowest_plans_stay};
+pub use lines::{Line, LineFault, best_line};
+pub use lowering::least;
+pub use plans::{lowest_plan, set_plans, values_of};
+pub use weighing::{MOVES_ROOM, MovesText, Weighed, text_of, weigh};
+pub use worths::{MoveWorth, move_worths};

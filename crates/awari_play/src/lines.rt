@@ -1,0 +1,136 @@
+//! Play by the plans of both sides, up to the first outcome.
+
+ghost use Rattle.std.specs.Prelude.{◌≡◌, ℕ, ◌<◌, ◌≤◌, ◌+◌, ◌↔◌, [], ◌∷◌, ◌++◌, List, IfOk, IfErr, Err, Some, length, sum, take};
+ghost use Rattle.awari_board.specs.Rules.{IsBoard, IsLegal};
+ghost use Rattle.awari_game.specs.Shown.{Shows};
+ghost use Rattle.awari_table.specs.Images.{entry_of, greatest_limit, table_of};
+ghost use Rattle.awari_table.specs.Shelves.{IsShelf};
+ghost use Rattle.awari_play.specs.BestLine.{IsBestLine};
+ghost use Rattle.awari_play.specs.LineFault.{IsDue};
+
+use awari_board::Board;
+use awari_game::Game;
+use awari_table::{Entry, Shelf};
+use std::alloc::{AllocError, Global};
+use std::fmt;
+use thiserror::Error;
+
+/// A play from some board to its first outcome.
+#[derive(Debug, PartialEq, Eq, Drop)]
+pub struct Line {
+    /// The pits that are played, by the two players in turn. Each is from 0 to 5, as its player
+    /// counts them.
+    pub moves: Vec<u8>,
+    /// The outcome, as the first mover sees it.
+    pub outcome: i16,
+}
+
+/// Why there is no line. Printed, it is its number, its name, and its field with its name.
+#[derive(Clone, Copy, Debug, PartialEq, Eq, Error)]
+pub enum LineFault {
+    /// 56: the board's level is not on the shelf, which has this many levels.
+    NotYet { levels: u8 },
+    /// 57: there was no room.
+    Memory,
+}
+
+impl LineFault {
+    ghost use Rattle.awari_play.specs.LineFault.{number_of};
+
+    /// The number of this refusal, 56 or 57.
+    pub fn number(self) -> u8
+        ensures { result ≡ number_of self }
+    {
+        match self {
+            LineFault::NotYet { .. } => 56,
+            LineFault::Memory => 57,
+        }
+    }
+}
+
+impl fmt::Display for LineFault {
+    ghost use Rattle.std.specs.Prelude.{Some};
+    ghost use Rattle.awari_play.specs.LineFault.{fault_text};
+
+    ghost output = { λ fault. Some (fault_text fault) };
+
+    fn fmt<W: fmt::Write>(&self, f: &mut fmt::Formatter<W>) -> fmt::Result {
+        let number = self.number();
+        match *self {
+            LineFault::NotYet { levels } => write!(f, "{number} NotYet levels {levels}"),
+            LineFault::Memory => write!(f, "{number} Memory"),
+        }
+    }
+}
+
+/// The play from the board in which both sides follow the shelf's plans, up to the first outcome by
+/// this limit. It always returns. Where the limit is at least that of each level up to the board's,
+/// as the shelf's own limit is, the outcome is the board's value. Refused are a board with at least
+/// as many stones as there are levels, as 56 `NotYet`, and then want of memory as 57 `Memory`. It
+/// takes memory for the moves, a byte each.
+pub fn best_line(alloc: Global, shelf: &Shelf, board: Board, limit: u32) -> Result<Line, LineFault>
+    ensures line { IfOk result (λ line. IsBestLine (table_of shelf.now) limit board line.moves.items line.outcome) }
+    ensures value { IfOk result (λ line. greatest_limit (take (sum board + 1) shelf.now) ≤ limit → line.outcome ≡ (entry_of shelf.now board).value) }
+    ensures not_yet { (result ≡ Err (LineFault.NotYet (length shelf.now))) ↔ (length shelf.now ≤ sum board) }
+    ensures fault { IfErr result (IsDue (length shelf.now) (sum board)) }
+{
+    let levels = shelf.levels();
+    if board.stones() >= levels {
+        return Err(LineFault::NotYet { levels });
+    }
+    play_out(alloc, shelf, board, limit).map_err(|_| LineFault::Memory)
+}
+
+/// Plays the plans of both sides from a board whose level is on the shelf, up to the first outcome.
+fn play_out(alloc: Global, shelf: &Shelf, board: Board, limit: u32) -> Result<Line, AllocError>
+    requires shelf { IsShelf shelf.now }
+    requires board { IsBoard board }
+    requires known { sum board < length shelf.now }
+    ensures line { IfOk result (λ line. IsBestLine (table_of shelf.now) limit board line.moves.items line.outcome) }
+    ensures value { IfOk result (λ line. greatest_limit (take (sum board + 1) shelf.now) ≤ limit → line.outcome ≡ (entry_of shelf.now board).value) }
+{
+    let mut game = Game::start(board);
+    let mut moves = Vec::new(alloc);
+    loop {
+        if let Some(outcome) = game.outcome(limit) {
+            return Ok(Line { moves, outcome });
+        }
+        let pit = play_plan(shelf, &mut game);
+        moves.push(pit)?;
+    }
+}
+
+/// Plays the plan of the game's board, on which some pit is legal, and answers that plan.
+fn play_plan(shelf: &Shelf, game: &mut Game) -> u8
+    requires shelf { IsShelf shelf.now }
+    requires known { sum game.old.board < length shelf.now }
+    requires open { (pit : ℕ) × IsLegal game.old.board pit }
+    ensures board { IsBoard game.old.board }
+    ensures plan { (table_of shelf.now).plan game.old.board ≡ Some result }
+    ensures legal { IsLegal game.old.board result }
+    ensures played { (board pits : List ℕ) → Shows game.old board pits → Shows game.new board (pits ++ result ∷ []) }
+{
+    let pit = plan(shelf, &game.board());
+    match game.step(pit) {
+        Ok(()) => pit,
+        Err(_) => unreachable!(),
+    }
+}
+
+/// The plan of a board on which some pit is legal.
+fn plan(shelf: &Shelf, board: &Board) -> u8
+    requires shelf { IsShelf shelf.now }
+    requires board { IsBoard board.now }
+    requires known { sum board.now < length shelf.now }
+    requires open { (pit : ℕ) × IsLegal board.now pit }
+    ensures plan { (table_of shelf.now).plan board.now ≡ Some result }
+    ensures legal { IsLegal board.now result }
+{
+    let Ok(entry) = shelf.entry(board) else {
+        unreachable!()
+    };
+    match entry.plan {
+        Some(pit) => pit,
+        None => unreachable!(),
+    }
+}
