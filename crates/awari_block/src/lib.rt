@@ -4,7 +4,8 @@
 //! a [`Cell`] each, which says what is known of the board. A board is fresh while it is settled and not
 //! spread yet. A [`Note`] says of a quiet move that it leads to a settled board. What a cell has to
 //! know of the notes that its board heard is defined in `specs/Tally.antt`. `Boards::unopened` takes all
-//! the memory that the boards will ever need, and no other call takes any.
+//! the memory that the boards will ever need, and no other call takes any. How many owners share the
+//! blocks of a level, and how they work, is a [`Pace`], which stands here, under all threads.
 //!
 //! The boards of an owner's block, by lines of `crates/awari_owner/src/parts.rt`:
 //!

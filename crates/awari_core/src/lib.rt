@@ -1,4 +1,5 @@
-//! A level that is built by 1 to 16 owners, as a list of events.
+//! A model that only tests and schedules use: a level that is built by 1 to 16 owners, as a list of
+//! events.
 //!
 //! A core, the events that it runs, the next distance or gain, and the level at the end, by lines of
 //! `crates/awari_owner_tests/src/cores.rt`:

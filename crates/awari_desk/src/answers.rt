@@ -7,7 +7,7 @@ ghost use Rattle.awari_desk.specs.Service.{answer_text};
 ghost use Rattle.awari_play.specs.Worths.{weighed_text};
 
 use awari_board::BoardFault;
-use awari_play::{MovesText, Weighed, text_of};
+use awari_play::{MovesText, Weighed, text_of_line};
 use awari_table::{Entry, TextLine, line_of_entry, push_number, push_text};
 
 /// The answer to one line.
@@ -69,14 +69,14 @@ impl Answer {
         ensures { result.items ≡ answer_text self.now }
     {
         match self {
-            Answer::Found { entry } => text_of(&line_of_entry(*entry)),
+            Answer::Found { entry } => text_of_line(&line_of_entry(*entry)),
             Answer::Moves { weighed } => text_of_moves(weighed),
-            Answer::NotYet { levels } => text_of(&numbered_line_of(b"not yet ", *levels)),
-            Answer::Gone => text_of(&line_of_text(b"gone\n")),
-            Answer::Refused { fault } => text_of(&refused_line_of(*fault)),
-            Answer::Seen { levels } => text_of(&numbered_line_of(b"seen ", *levels)),
-            Answer::Bye => text_of(&line_of_text(b"bye\n")),
-            Answer::What => text_of(&line_of_text(b"what\n")),
+            Answer::NotYet { levels } => text_of_line(&numbered_line_of(b"not yet ", *levels)),
+            Answer::Gone => text_of_line(&line_of_text(b"gone\n")),
+            Answer::Refused { fault } => text_of_line(&refused_line_of(*fault)),
+            Answer::Seen { levels } => text_of_line(&numbered_line_of(b"seen ", *levels)),
+            Answer::Bye => text_of_line(&line_of_text(b"bye\n")),
+            Answer::What => text_of_line(&line_of_text(b"what\n")),
         }
     }
 }

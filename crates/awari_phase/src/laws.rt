@@ -11,9 +11,9 @@ ghost use Rattle.awari_phase.specs.declared.owners.Owner.{Owner};
 
 use awari_owner::{closed_parts_are_right, sound_parts_are_told};
 
-/// Owners that are sound together, and whose lines were looked at as `settle_owners` does it, are what
-/// `awari_core` calls sound, with the notes that each took from each other one, and those that are on
-/// their way to it.
+/// Owners that are sound together, and whose lines were looked at as `settle_owners` does it, are sound
+/// as `specs/Level.antt` of `awari_owner` says it, with the notes that each took from each other one, and
+/// those that are on their way to it.
 pub fn owners_together_are_sound()
     ensures { (value : List ℕ → ℤ) (n : ℕ) (os : List Owner) (d : Owner) → AreTogether value n os → AreLooked os
         → AreSound value n (length os) (part_at (parts_of os)) (coming_notes os d) (taken_notes os d) }

@@ -7,7 +7,7 @@ use Rattle.awari_table.specs.declared.images.Image.{Image}
 use Rattle.awari_table.specs.Images.{table_of, no_entry}
 use Rattle.awari_block.specs.Part.{Part, InBlock, settled_at}
 use Rattle.awari_play.specs.Plan.{IsLowest}
-use Rattle.awari_play.specs.Planning.{SameSettled, topped}
+use Rattle.awari_play.specs.Planning.{SameSettled, with_top}
 use Rattle.awari_plan.specs.Finished.{HasSettled}
 
 -- the entries of the first `count` boards of the block are put after those that were there
@@ -31,7 +31,7 @@ pub record PutsBlock (part : Part) (old new : List Entry) : Type 0 where
 abbrev pub AreLowest : List Image → List Entry → ℕ → ℕ → List (Option ℕ) → Type 0
 AreLowest shelf entries first high plans =
     (p : List ℕ) → IsBoard p → sum p ≡ length shelf → first ≤ rank_of p → rank_of p < high
-    → IsLowest (table_of (topped shelf entries)) p (slice_index_or plans (rank_of p - first) None)
+    → IsLowest (table_of (with_top shelf entries)) p (slice_index_or plans (rank_of p - first) None)
 
 -- plans aside the entries are the same, and the first `count` of them have these plans
 pub record PutsPlans (old : List Entry) (plans : List (Option ℕ)) (new : List Entry) (count : ℕ) : Type 0 where

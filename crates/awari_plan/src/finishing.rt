@@ -1,6 +1,6 @@
 //! The image of a level, of what its parts have settled.
 
-ghost use Rattle.std.specs.Prelude.{◌≡◌, ◌≤◌, ◌<◌, All, IfOk, OnOk, length};
+ghost use Rattle.std.specs.Prelude.{◌≡◌, ◌≤◌, All, IfOk, OnOk, length};
 ghost use Rattle.awari_rank.specs.Rank.{size_of};
 ghost use Rattle.awari_table.specs.Images.{table_of};
 ghost use Rattle.awari_table.specs.Shelves.{Consistent};
@@ -13,7 +13,7 @@ ghost use Rattle.awari_table.specs.declared.TheConstants.{HIGHEST_LEVEL};
 
 use awari_block::ClosedPart;
 use awari_owner::Part;
-use awari_play::{set_plans, values_of};
+use awari_play::{entry_values, set_lowest_plans};
 use awari_rank::size;
 use awari_table::{Entries, Entry, Image, Shelf, greatest_dist};
 use std::alloc::{AllocError, Global};
@@ -62,8 +62,8 @@ fn planned_image(alloc: Global, shelf: &Shelf, mut entries: Vec<Entry>) -> Resul
     requires sized { length entries.items ≡ size_of (length shelf.now) }
     ensures { IfOk result (IsPlannedImage shelf.now entries.items) }
 {
-    let values = values_of(alloc, entries.as_slice())?;
-    set_plans(shelf, values.as_slice(), &mut entries);
+    let values = entry_values(alloc, entries.as_slice())?;
+    set_lowest_plans(shelf, values.as_slice(), &mut entries);
     Ok(Image {
         level: shelf.levels(),
         limit: greatest_dist(entries.as_slice()),

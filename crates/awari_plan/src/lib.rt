@@ -1,5 +1,6 @@
 //! A level whose gains are all closed made an image: the settled values and distances, and for each
-//! board the plan that they make. What is called here of `awari_play` has its path here too.
+//! board the lowest plan that they make. The calls of `awari_play` that follow plans or lower distances,
+//! and what they answer, have their path here too.
 //!
 //! The image of closed parts, in `crates/awari_build/src/alone.rt`:
 //!

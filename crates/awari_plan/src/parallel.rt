@@ -8,13 +8,13 @@ ghost use Rattle.awari_owner.specs.Level.{AreHeard, AreWhole};
 ghost use Rattle.awari_block.specs.Part.{IsClosed};
 ghost use Rattle.awari_plan.specs.Finished.{HasAllSettled, IsFinished};
 ghost use Rattle.awari_plan.specs.Filling.{AreLowest, AreSettled, PutsBlock, PutsPlans};
-ghost use Rattle.awari_play.specs.Planning.{AreValues, IsPlanned, SameSettled};
+ghost use Rattle.awari_play.specs.Planning.{AreFirstValues, ArePlannedBelow, SameSettled};
 ghost use Rattle.awari_table.specs.declared.TheConstants.{HIGHEST_LEVEL};
 
 use crate::finishing::settled_entry;
 use awari_block::ClosedPart;
 use awari_packed::PackedBoard;
-use awari_play::{lowest_plan, values_of};
+use awari_play::{entry_values, lowest_plan};
 use awari_rank::size;
 use awari_table::{Entries, Entry, Image, Shelf, greatest_dist};
 use rayon::prelude::*;
@@ -43,7 +43,7 @@ pub fn finish_parallel<R: Threads + Sync>(
 
     // No cell is read any more, and plans take memory.
     drop(parts);
-    set_plans_parallel(rt, alloc, shelf, &mut entries)?;
+    set_lowest_plans_parallel(rt, alloc, shelf, &mut entries)?;
     Ok(Image {
         level: shelf.levels(),
         limit: greatest_dist(entries.as_slice()),
@@ -126,7 +126,7 @@ fn fill_piece(part: &ClosedPart, first: usize, entries: &mut [Entry])
 
 /// Sets the plan of each board of the level above the shelf. No plan depends on another, so all are
 /// found first, by the entries as they are, and put into them then.
-fn set_plans_parallel<R: Threads + Sync>(
+fn set_lowest_plans_parallel<R: Threads + Sync>(
     rt: &R,
     alloc: Global,
     shelf: &Shelf,
@@ -135,10 +135,10 @@ fn set_plans_parallel<R: Threads + Sync>(
     requires low { length shelf.now ≤ 24 }
     requires sized { length entries.old.items ≡ size_of (length shelf.now) }
     ensures same { OnOk result (SameSettled entries.old.items entries.new.items) }
-    ensures planned { OnOk result (IsPlanned shelf.now entries.old.items entries.new.items (size_of (length shelf.now))) }
+    ensures planned { OnOk result (ArePlannedBelow shelf.now entries.old.items entries.new.items (size_of (length shelf.now))) }
 {
     let boards = size(shelf.levels());
-    let values = values_of(alloc, entries.as_slice())?;
+    let values = entry_values(alloc, entries.as_slice())?;
     let mut plans = vec![in alloc; None; boards as usize]?;
     find_plans(
         rt,
@@ -164,7 +164,7 @@ fn find_plans<R: Threads + Sync>(
     requires low { length shelf.now ≤ 24 }
     requires boards { boards ≡ size_of (length shelf.now) }
     requires sized { length entries.now ≡ boards }
-    requires valued { AreValues values.now entries.now }
+    requires valued { AreFirstValues values.now entries.now }
     requires len { length plans.old ≡ boards }
     ensures len { length plans.new ≡ boards }
     ensures found { AreLowest shelf.now entries.now 0 boards plans.new }
@@ -174,7 +174,7 @@ fn find_plans<R: Threads + Sync>(
         plans,
         PIECE,
         |first: usize, piece: &mut [Option<u8>]|
-            requires { (length shelf.now ≤ 24) × (boards ≡ size_of (length shelf.now)) × (length entries.now ≡ boards) × AreValues values.now entries.now × (first + length piece.old ≤ boards) }
+            requires { (length shelf.now ≤ 24) × (boards ≡ size_of (length shelf.now)) × (length entries.now ≡ boards) × AreFirstValues values.now entries.now × (first + length piece.old ≤ boards) }
             ensures { (length piece.new ≡ length piece.old) × AreLowest shelf.entry.now entries.entry.now first (first + length piece.old) piece.new }
         { find_piece(shelf, boards, values, entries, first, piece) },
     );
@@ -193,7 +193,7 @@ fn find_piece(
     requires low { length shelf.now ≤ 24 }
     requires boards { boards ≡ size_of (length shelf.now) }
     requires sized { length entries.now ≡ boards }
-    requires valued { AreValues values.now entries.now }
+    requires valued { AreFirstValues values.now entries.now }
     requires within { first + length plans.old ≤ boards }
     ensures len { length plans.new ≡ length plans.old }
     ensures found { AreLowest shelf.now entries.now first (first + length plans.old) plans.new }

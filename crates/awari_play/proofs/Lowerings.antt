@@ -17,7 +17,8 @@ use Rattle.awari_table.proofs.EntryLemmas.{entry_of-append, entry_of-rank, entry
 use Rattle.awari_play.specs.Least.{NoFarther}
 use Rattle.awari_play.specs.Lowering.{IsAbove, IsByMoves, IsBelow, IsBelowTo, AreAbove, AreBelow, AreBelowTo, all_plies, Lowers, LowersBoard, Fell}
 use Rattle.awari_play.specs.Plan.{Serves, IsLowest}
-use Rattle.awari_play.specs.Planning.{IsNextImage, SameSettled, topped}
+use Rattle.awari_play.specs.Planning.{SameSettled, with_top}
+use Rattle.awari_play.proofs.Planned.{IsNextImage}
 use Rattle.awari_play.proofs.Serving.{lowest_own, lowest_ended, lowest_there, lowest_serves}
 use Rattle.awari_play.proofs.Lowered.{IsSharp, sharp, sharp_alike, above_keeps, above_lowers, above_falling, below_any, below_near, below_by_moves, below_keeps, below_falls, stays_beyond}
 
@@ -63,13 +64,13 @@ image_of shelf entries = record { level = length shelf; limit = 0; entries = ent
 abbrev pub FellBelow : List Image → List Entry → List Entry → ℕ → Bool → Type 0
 FellBelow shelf old now rank true = all_plies now < all_plies old
 FellBelow shelf old now rank false =
-    (now ≡ old) × ((p : List ℕ) → IsBoard p → sum p ≡ length shelf → rank_of p < rank → IsBelow (table_of (topped shelf old)) p)
+    (now ≡ old) × ((p : List ℕ) → IsBoard p → sum p ≡ length shelf → rank_of p < rank → IsBelow (table_of (with_top shelf old)) p)
 
 pub record IsLowering (shelf : List Image) (old now : List Entry) (near rank : ℕ) (some : Bool) : Type 0 where
   pub nearer : NoFarther old now
   pub above : AreAbove shelf now
   pub below : AreBelowTo near shelf now
-  pub done : (p : List ℕ) → IsBoard p → sum p ≡ length shelf → rank_of p < rank → IsBelowTo (near + 1) (table_of (topped shelf now)) p
+  pub done : (p : List ℕ) → IsBoard p → sum p ≡ length shelf → rank_of p < rank → IsBelowTo (near + 1) (table_of (with_top shelf now)) p
   pub fell : FellBelow shelf old now rank some
 
 no_more_plies : (shelf : List Image) (old now : List Entry) (rank : ℕ) (fell : Bool) → FellBelow shelf old now rank fell → all_plies now ≤ all_plies old
@@ -77,14 +78,14 @@ no_more_plies shelf old now rank true h = omega (arith, h)
 no_more_plies shelf old now rank false h = omega (arith, ap all_plies h.0)
 
 -- one board more
-module _ (shelf : List Image) (old now : List Entry) (near rank : ℕ) (found : (p : List ℕ) → IsBoard p → sum p ≡ length shelf → rank_of p ≡ rank → IsBelow (table_of (topped shelf now)) p) where
+module _ (shelf : List Image) (old now : List Entry) (near rank : ℕ) (found : (p : List ℕ) → IsBoard p → sum p ≡ length shelf → rank_of p ≡ rank → IsBelow (table_of (with_top shelf now)) p) where
   fell_more : (fell : Bool) → FellBelow shelf old now rank fell → FellBelow shelf old now (rank + 1) fell
   fell_more true h = h
   fell_more false (same, before) = (
     same,
     λ p is stones below. elim (cases_lt (rank_of p) rank) [
       | inl lt ↦ before p is stones lt
-      | inr ge ↦ subst (λ (es : List Entry). IsBelow (table_of (topped shelf es)) p) same (found p is stones (omega (arith, ge, below)))
+      | inr ge ↦ subst (λ (es : List Entry). IsBelow (table_of (with_top shelf es)) p) same (found p is stones (omega (arith, ge, below)))
     ],
   )
 
@@ -95,7 +96,7 @@ module _ (shelf : List Image) (old now : List Entry) (near rank : ℕ) (found : 
     below = h.below;
     done = λ p is stones below. elim (cases_lt (rank_of p) rank) [
       | inl lt ↦ h.done p is stones lt
-      | inr ge ↦ below_any (table_of (topped shelf now)) p (near + 1) (found p is stones (omega (arith, ge, below)))
+      | inr ge ↦ below_any (table_of (with_top shelf now)) p (near + 1) (found p is stones (omega (arith, ge, below)))
     ];
     fell = fell_more fell h.fell;
   }
@@ -107,11 +108,11 @@ lowering-passed shelf old now near rank fell h here =
     lowering-more shelf old now near rank
     (λ p is stones ranked.
     let reads = ap (λ (e : Entry). e.dist) (entry_of-rank shelf (image_of shelf now) p rank stones ranked) in
-    below_near (table_of (topped shelf now)) p near (omega (arith, reads, here)) (h.below p is stones))
+    below_near (table_of (with_top shelf now)) p near (omega (arith, reads, here)) (h.below p is stones))
     fell h
 
 module _ (shelf : List Image) (now : List Entry) (rank : ℕ) (board : List ℕ) (dist : ℕ) (inside : rank < length now) (is_board : IsBoard board) (on_level : sum board ≡ length shelf)
-    (ranked : rank_of board ≡ rank) (by : IsByMoves (table_of (topped shelf now)) board dist) where
+    (ranked : rank_of board ≡ rank) (by : IsByMoves (table_of (with_top shelf now)) board dist) where
   abbrev put : Entry
   put = record (get_or now rank no_entry) { dist = dist }
 
@@ -134,8 +135,8 @@ module _ (shelf : List Image) (now : List Entry) (rank : ℕ) (board : List ℕ)
 
   put_above : dist < (get_or now rank no_entry).dist → AreAbove shelf now → AreAbove shelf (set now rank put)
   put_above less above p is stones =
-      let t = table_of (topped shelf now) in
-      let u = table_of (topped shelf (set now rank put)) in
+      let t = table_of (with_top shelf now) in
+      let u = table_of (with_top shelf (set now rank put)) in
       let near = nearer_entries shelf (image_of shelf now) (image_of shelf (set now rank put)) (put_nearer less) in
       let values : (q : List ℕ) → u.value q ≡ t.value q = λ q. (near q).0 in
       let dists : (q : List ℕ) → u.dist q ≤ t.dist q = λ q. (near q).1 in
@@ -156,7 +157,7 @@ module _ (shelf : List Image) (now : List Entry) (rank : ℕ) (board : List ℕ)
 
   -- what is near stays
   put_held : (near : ℕ) → dist < (get_or now rank no_entry).dist → near ≤ dist
-      → (q : List ℕ) → min ((table_of (topped shelf (set now rank put))).dist q) near ≡ min ((table_of (topped shelf now)).dist q) near
+      → (q : List ℕ) → min ((table_of (with_top shelf (set now rank put))).dist q) near ≡ min ((table_of (with_top shelf now)).dist q) near
   put_held near less beyond =
       related (λ (x y : Entry). min x.dist near ≡ min y.dist near) (λ e. refl) shelf (image_of shelf now) (image_of shelf (set now rank put)) (λ k. elim (cases_eq k rank) [
         | inl here ↦
@@ -191,10 +192,10 @@ module _ (shelf : List Image) (now : List Entry) (rank : ℕ) (board : List ℕ)
   })
     where
       t : Table
-      t = table_of (topped shelf now)
+      t = table_of (with_top shelf now)
 
       u : Table
-      u = table_of (topped shelf (set now rank put))
+      u = table_of (with_top shelf (set now rank put))
 
       values : (q : List ℕ) → u.value q ≡ t.value q
       values q = (nearer_entries shelf (image_of shelf now) (image_of shelf (set now rank put)) (put_nearer less) q).0
@@ -214,8 +215,8 @@ module _ (shelf : List Image) (now : List Entry) (rank : ℕ) (board : List ℕ)
       (lowering-more shelf old now near rank
       (λ p is stones here.
       let entry = entry_of-rank shelf (image_of shelf now) p rank stones here in
-      let reads : (table_of (topped shelf now)).dist p ≡ (get_or now rank no_entry).dist = ap (λ (e : Entry). e.dist) entry in
-      below_by_moves (table_of (topped shelf now)) p dist (subst (λ b. IsByMoves (table_of (topped shelf now)) b dist) (is_here p is stones here) by) (omega (arith, reads, least)))
+      let reads : (table_of (with_top shelf now)).dist p ≡ (get_or now rank no_entry).dist = ap (λ (e : Entry). e.dist) entry in
+      below_by_moves (table_of (with_top shelf now)) p dist (subst (λ b. IsByMoves (table_of (with_top shelf now)) b dist) (is_here p is stones here) by) (omega (arith, reads, least)))
       fell h)
 
 -- the distance of the board of this rank fell
@@ -245,8 +246,8 @@ fell_all shelf old now near rank false all ranks h = (h.fell.0, λ p is stones. 
 pub above_image : (shelf : List Image) (image : Image) → ConsistentBy Falling shelf image → AreAbove shelf image.entries
 above_image shelf image old p is stones =
     let t = table_of (shelf ++ image ∷ []) in
-    let u = table_of (topped shelf image.entries) in
-    let same : (q : List ℕ) → entry_of (topped shelf image.entries) q ≡ entry_of (shelf ++ image ∷ []) q
+    let u = table_of (with_top shelf image.entries) in
+    let same : (q : List ℕ) → entry_of (with_top shelf image.entries) q ≡ entry_of (shelf ++ image ∷ []) q
     = related (λ x y. x ≡ y) (λ e. refl) shelf image (image_of shelf image.entries) (λ k. refl) in
     above_keeps t u (λ q. ap (λ (e : Entry). e.value) (same q)) p (λ q. omega (arith, ap (λ (e : Entry). e.dist) (same q))) (ap (λ (e : Entry). e.dist) (same p))
     (above_falling t p (old.right p is (stones ∙ sym old.next)))
@@ -260,7 +261,7 @@ module _ (shelf : List Image) (image last : Image) (lowered : List Entry) (old :
   first = table_of (shelf ++ image ∷ [])
 
   abbrev middle : Table
-  middle = table_of (topped shelf lowered)
+  middle = table_of (with_top shelf lowered)
 
   abbrev table : Table
   table = table_of (shelf ++ last ∷ [])

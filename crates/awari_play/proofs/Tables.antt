@@ -10,7 +10,7 @@ use Rattle.awari_table.specs.declared.images.Image.{Image}
 use Rattle.awari_table.specs.Images.{entry_of, table_of, no_entry}
 use Rattle.awari_table.proofs.EntryLemmas.{entry_of-append, entry_of-rank, entry_of-above}
 use Rattle.awari_play.specs.Plan.{IsLowest}
-use Rattle.awari_play.specs.Planning.{IsPlanned, SameSettled, topped}
+use Rattle.awari_play.specs.Planning.{ArePlannedBelow, SameSettled, with_top}
 use Rattle.awari_play.proofs.Serving.{lowest_alike}
 
 -- a property of both images' entries, wherever the board is
@@ -53,20 +53,20 @@ same_set old now rank e same inside value dist = record {
       | inr other ↦ ap f (get_or-set_other now rank k e no_entry other) ∙ was
     ]
 
-pub planned_none : (shelf : List Image) (old new : List Entry) → IsPlanned shelf old new 0
+pub planned_none : (shelf : List Image) (old new : List Entry) → ArePlannedBelow shelf old new 0
 planned_none shelf old new p whole stones below = absurd (omega (arith, below))
 
 -- the plan of the board of this rank is set, after those of smaller ranks
-pub planned_more : (shelf : List Image) (old now : List Entry) (rank : ℕ) (board : List ℕ) (e : Entry) → SameSettled old now → IsPlanned shelf old now rank → rank < length now
-    → IsBoard board → sum board ≡ length shelf → rank_of board ≡ rank → IsLowest (table_of (topped shelf now)) board e.plan → IsPlanned shelf old (set now rank e) (rank + 1)
+pub planned_more : (shelf : List Image) (old now : List Entry) (rank : ℕ) (board : List ℕ) (e : Entry) → SameSettled old now → ArePlannedBelow shelf old now rank → rank < length now
+    → IsBoard board → sum board ≡ length shelf → rank_of board ≡ rank → IsLowest (table_of (with_top shelf now)) board e.plan → ArePlannedBelow shelf old (set now rank e) (rank + 1)
 planned_more shelf old now rank board e same planned inside is_board on_level ranked lowest p whole stones below = elim (cases_eq (rank_of p) rank) [
   | inl here ↦
       let is : board ≡ p = rank_fixes board p is_board.pits whole.pits (on_level ∙ sym stones) (ranked ∙ sym here) in
-      let old_lowest : IsLowest (table_of (topped shelf old)) board e.plan =
+      let old_lowest : IsLowest (table_of (with_top shelf old)) board e.plan =
       lowest_alike_images shelf (record { level = length shelf; limit = 0; entries = now }) (record { level = length shelf; limit = 0; entries = old }) (same_back old now same) board e.plan lowest in
       let put : (get_or (set now rank e) (rank_of p) no_entry).plan ≡ e.plan = ap (λ j. (get_or (set now rank e) j no_entry).plan) here ∙ ap (λ x. x.plan) (get_or-set_same now rank e no_entry inside) in
-      subst (λ plan. IsLowest (table_of (topped shelf old)) p plan) (sym put) (subst (λ b. IsLowest (table_of (topped shelf old)) b e.plan) is old_lowest)
+      subst (λ plan. IsLowest (table_of (with_top shelf old)) p plan) (sym put) (subst (λ b. IsLowest (table_of (with_top shelf old)) b e.plan) is old_lowest)
   | inr other ↦
       let kept : (get_or (set now rank e) (rank_of p) no_entry).plan ≡ (get_or now (rank_of p) no_entry).plan = ap (λ x. x.plan) (get_or-set_other now rank (rank_of p) e no_entry other) in
-      subst (λ plan. IsLowest (table_of (topped shelf old)) p plan) (sym kept) (planned p whole stones (omega arith))
+      subst (λ plan. IsLowest (table_of (with_top shelf old)) p plan) (sym kept) (planned p whole stones (omega arith))
 ]

@@ -9,7 +9,7 @@ use Rattle.awari_table.specs.declared.images.Image.{Image}
 use Rattle.awari_table.specs.Images.{table_of, no_entry}
 use Rattle.awari_table.specs.Reached.{gain_of, plies_of}
 use Rattle.awari_table.specs.declared.rules.Reached.{Reached}
-use Rattle.awari_play.specs.Planning.{topped}
+use Rattle.awari_play.specs.Planning.{with_top}
 
 -- no distance is below what the moves say
 pub record IsAbove (t : Table) (p : List ℕ) : Type 0 where
@@ -41,13 +41,13 @@ abbrev pub IsBelow : Table → List ℕ → Type 0
 IsBelow t p = IsBelowTo (t.dist p) t p
 
 abbrev pub AreAbove : List Image → List Entry → Type 0
-AreAbove shelf entries = (p : List ℕ) → IsBoard p → sum p ≡ length shelf → IsAbove (table_of (topped shelf entries)) p
+AreAbove shelf entries = (p : List ℕ) → IsBoard p → sum p ≡ length shelf → IsAbove (table_of (with_top shelf entries)) p
 
 abbrev pub AreBelowTo : ℕ → List Image → List Entry → Type 0
-AreBelowTo most shelf entries = (p : List ℕ) → IsBoard p → sum p ≡ length shelf → IsBelowTo most (table_of (topped shelf entries)) p
+AreBelowTo most shelf entries = (p : List ℕ) → IsBoard p → sum p ≡ length shelf → IsBelowTo most (table_of (with_top shelf entries)) p
 
 abbrev pub AreBelow : List Image → List Entry → Type 0
-AreBelow shelf entries = (p : List ℕ) → IsBoard p → sum p ≡ length shelf → IsBelow (table_of (topped shelf entries)) p
+AreBelow shelf entries = (p : List ℕ) → IsBoard p → sum p ≡ length shelf → IsBelow (table_of (with_top shelf entries)) p
 
 -- the most plies so far, and those of one more move
 abbrev pub farther_by : ℕ → Option Reached → ℕ
@@ -79,7 +79,7 @@ abbrev pub LowersBoard : List Image → List Entry → List Entry → ℕ → �
 LowersBoard shelf old new near rank fell =
     (((slice_index_or old rank no_entry).dist ≤ near) × (new ≡ old) × (fell ≡ false))
     ⊎ ((near < (slice_index_or old rank no_entry).dist)
-    × ((board : List ℕ) × (dist : ℕ) × IsBoard board × (sum board ≡ length shelf) × (rank_of board ≡ rank) × IsByMoves (table_of (topped shelf old)) board dist × Lowers old new rank dist fell))
+    × ((board : List ℕ) × (dist : ℕ) × IsBoard board × (sum board ≡ length shelf) × (rank_of board ≡ rank) × IsByMoves (table_of (with_top shelf old)) board dist × Lowers old new rank dist fell))
 
 -- distances fell, and those of boards that are below to this number are so to one more; or none had to fall
 abbrev pub Fell : List Image → List Entry → List Entry → ℕ → Bool → Type 0

@@ -1,4 +1,4 @@
--- What a book says of the legal moves of a board, and the lines that tell it.
+-- What a shelf says of the legal moves of a board, and the lines that tell it.
 use Rattle.std.specs.Prelude.{◌≡◌, ◌↔◌, ℕ, ◌<◌, ◌==◌, if◌then◌else◌, Bool, false, List, All, Contains, ◌++◌, ◌∷◌, [], length, map, sum, codes, ℤ, Option, Some, None}
 use Rattle.std.specs.Fmt.{decimal, signed_decimal}
 use Rattle.std.specs.List.{flat_map}
@@ -11,13 +11,13 @@ use Rattle.awari_table.specs.declared.images.Entry.{Entry}
 use Rattle.awari_table.specs.declared.images.Image.{Image}
 use Rattle.awari_play.specs.declared.weighing.Weighed.{Weighed}
 
--- The entry is the book's of the board, and these are the legal moves of the board, ascending by pit, with what each is worth by the book.
-pub record IsWeighed (book : List Image) (board : List ℕ) (w : Weighed) : Type 0 where
-  pub known : sum board < length book
-  pub entry : w.entry ≡ entry_of book board
+-- The entry is the shelf's of the board, and these are the legal moves of the board, ascending by pit, with what each is worth by the shelf.
+pub record IsWeighed (shelf : List Image) (board : List ℕ) (w : Weighed) : Type 0 where
+  pub known : sum board < length shelf
+  pub entry : w.entry ≡ entry_of shelf board
   pub legal : (pit : ℕ) → Contains (map pit_of w.worths.items) pit ↔ IsLegal board pit
   pub ascending : IsStrictlyIncreasing (map pit_of w.worths.items)
-  pub worth : All (IsMoveWorth (table_of book) board) w.worths.items
+  pub worth : All (IsMoveWorth (table_of shelf) board) w.worths.items
 
 -- what marks the plan
 abbrev pub plan_mark : Bool → List ℕ

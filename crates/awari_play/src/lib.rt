@@ -1,5 +1,6 @@
-//! Play by the plans of a shelf: which pit is a board's plan, the play that follows the plans to its
-//! outcome, what each move is worth, and the least distances. None of it needs what builds a level.
+//! Plans by the values and distances of a table, and play by the plans of a shelf: the line that follows
+//! them to its outcome, what each legal move of a board is worth and how that is printed, and the least
+//! distances. None of it needs what builds a level.
 //!
 //! The play from a board in which both sides follow the plans of a shelf, in
 //! `crates/awari_answers/src/lines.rt`:
@@ -17,6 +18,6 @@ mod worths;
 pub use laws::{lowest_levels_are_one, lowest_plans_stay};
 pub use lines::{Line, LineFault, best_line};
 pub use lowering::least;
-pub use plans::{lowest_plan, set_plans, values_of};
-pub use weighing::{MOVES_ROOM, MovesText, Weighed, text_of, weigh};
+pub use plans::{entry_values, lowest_plan, set_lowest_plans};
+pub use weighing::{MOVES_ROOM, MovesText, Weighed, text_of_line, weigh};
 pub use worths::{MoveWorth, move_worths};

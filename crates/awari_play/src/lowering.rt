@@ -7,9 +7,9 @@ ghost use Rattle.awari_table.specs.Shelves.{Consistent, ConsistentBy};
 ghost use Rattle.awari_play.specs.Least.{NoFarther, IsPlannedLowest};
 ghost use Rattle.awari_table.specs.Reached.{Reaches};
 ghost use Rattle.awari_play.specs.Lowering.{IsNearest, IsFarthest, IsByMoves, AreAbove, AreBelow, AreBelowTo, IsNearerBy, farther_by, IsLowered, Lowers, LowersBoard, Fell};
-ghost use Rattle.awari_play.specs.Planning.{topped};
+ghost use Rattle.awari_play.specs.Planning.{with_top};
 
-use crate::plans::{entry_after, set_plans};
+use crate::plans::{entry_after, set_lowest_plans};
 use awari_board::SIDE;
 use awari_packed::PackedBoard;
 use awari_rank::size;
@@ -27,7 +27,7 @@ pub fn least(shelf: &Shelf, image: Image) -> Image
     let Image { level, entries, .. } = image;
     let mut entries = entries.into_vec();
     lower(shelf, &mut entries);
-    set_plans(shelf, &[], &mut entries);
+    set_lowest_plans(shelf, &[], &mut entries);
     Image {
         level,
         limit: greatest_dist(entries.as_slice()),
@@ -121,8 +121,8 @@ fn by_moves(shelf: &Shelf, entries: &[Entry], board: &PackedBoard, own: Entry) -
     requires sized { length entries.now ≡ size_of (length shelf.now) }
     requires stones { sum board.now ≡ length shelf.now }
     requires low { length shelf.now ≤ 24 }
-    requires own { own ≡ entry_of (topped shelf.now entries.now) board.now }
-    ensures { IsByMoves (table_of (topped shelf.now entries.now)) board.now result }
+    requires own { own ≡ entry_of (with_top shelf.now entries.now) board.now }
+    ensures { IsByMoves (table_of (with_top shelf.now entries.now)) board.now result }
 {
     if own.value > 0 {
         nearest(shelf, entries, board, own)
@@ -138,8 +138,8 @@ fn nearest(shelf: &Shelf, entries: &[Entry], board: &PackedBoard, own: Entry) ->
     requires sized { length entries.now ≡ size_of (length shelf.now) }
     requires stones { sum board.now ≡ length shelf.now }
     requires low { length shelf.now ≤ 24 }
-    requires own { own ≡ entry_of (topped shelf.now entries.now) board.now }
-    ensures { IsNearest (table_of (topped shelf.now entries.now)) board.now result }
+    requires own { own ≡ entry_of (with_top shelf.now entries.now) board.now }
+    ensures { IsNearest (table_of (with_top shelf.now entries.now)) board.now result }
 {
     let mut nearest = u64::from(own.dist);
     for pit in 0..SIDE {
@@ -153,7 +153,7 @@ fn farthest(shelf: &Shelf, entries: &[Entry], board: &PackedBoard) -> u64
     requires sized { length entries.now ≡ size_of (length shelf.now) }
     requires stones { sum board.now ≡ length shelf.now }
     requires low { length shelf.now ≤ 24 }
-    ensures { IsFarthest (table_of (topped shelf.now entries.now)) board.now result }
+    ensures { IsFarthest (table_of (with_top shelf.now entries.now)) board.now result }
 {
     let mut farthest = 0u64;
     for pit in 0..SIDE {
@@ -190,7 +190,7 @@ fn reached(shelf: &Shelf, entries: &[Entry], board: &PackedBoard, pit: u8) -> Op
     requires sized { length entries.now ≡ size_of (length shelf.now) }
     requires stones { sum board.now ≡ length shelf.now }
     requires low { length shelf.now ≤ 24 }
-    ensures { Reaches (table_of (topped shelf.now entries.now)) board.now pit result }
+    ensures { Reaches (table_of (with_top shelf.now entries.now)) board.now pit result }
 {
     if !board.legal(pit) {
         return None;

@@ -4,29 +4,34 @@ ghost use Rattle.std.specs.Prelude.{◌≡◌, ◌<◌, ◌≤◌, ◌+◌, ◌�
 ghost use Rattle.awari_rank.specs.Rank.{rank_of, size_of};
 ghost use Rattle.awari_table.specs.Images.{entry_of, no_entry, table_of};
 ghost use Rattle.awari_play.specs.Plan.{IsLowest, Serves};
-ghost use Rattle.awari_play.specs.Planning.{AreValues, Gains, IsPlanned, SameSettled, topped, values_of};
+ghost use Rattle.awari_play.specs.Planning.{AreFirstValues, Gains, ArePlannedBelow, SameSettled, with_top, entry_values};
 
 use awari_packed::{PackedBoard, PackedMove};
 use awari_rank::size;
 use awari_table::{Entry, Shelf};
 use std::alloc::{AllocError, Global};
 
-/// The values of the entries, which lie eight times as close together as these. Most moves do not
-/// gain the board's value, and of those no more is read. It takes a byte an entry.
-pub fn values_of(alloc: Global, entries: &[Entry]) -> Result<Vec<i8>, AllocError>
-    ensures { IfOk result (λ values. values.items ≡ values_of entries.now) }
+/// The value of each entry, in their order. They lie eight times as close together as the entries,
+/// and most moves do not gain the board's value: of those no more is read. It takes memory, a byte an
+/// entry, and is refused only where that is.
+pub fn entry_values(alloc: Global, entries: &[Entry]) -> Result<Vec<i8>, AllocError>
+    ensures { IfOk result (λ values. values.items ≡ entry_values entries.now) }
 {
     entries.iter().map(|entry| entry.value).collect(alloc)
 }
 
-/// Sets the plan of each board of the level above the shelf, in order of rank. The values are those
-/// of the entries, all or none.
-pub fn set_plans(shelf: &Shelf, values: &[i8], entries: &mut Vec<Entry>)
+/// Gives each board of the level above the shelf its lowest plan: the lowest pit whose move gains the
+/// board's value and, where that is positive, captures or leads to a smaller distance, and none where
+/// no pit does. Given are the entries of that level, one for each board in order of rank, and their
+/// values once more, as [`entry_values`] answers them, or none of these, which only takes longer.
+/// Values and distances stay as they are. Condition: the shelf has at most 24 levels. It takes no
+/// memory.
+pub fn set_lowest_plans(shelf: &Shelf, values: &[i8], entries: &mut Vec<Entry>)
     requires low { length shelf.now ≤ 24 }
     requires sized { length entries.old.items ≡ size_of (length shelf.now) }
-    requires valued { AreValues values.now entries.old.items }
+    requires valued { AreFirstValues values.now entries.old.items }
     ensures same { SameSettled entries.old.items entries.new.items }
-    ensures planned { IsPlanned shelf.now entries.old.items entries.new.items (size_of (length shelf.now)) }
+    ensures planned { ArePlannedBelow shelf.now entries.old.items entries.new.items (size_of (length shelf.now)) }
 {
     let level = shelf.levels();
     let boards = size(level);
@@ -40,7 +45,9 @@ pub fn set_plans(shelf: &Shelf, values: &[i8], entries: &mut Vec<Entry>)
     }
 }
 
-/// The lowest pit that serves as the board's plan, none where none does.
+/// The lowest plan of one board of the level above the shelf, none where no pit serves. Given are the
+/// board and its rank, and the entries and their values as for [`set_lowest_plans`]. No plan of theirs
+/// is read. Condition: the shelf has at most 24 levels. It takes no memory.
 ///
 /// The pits are written out, each a plain number: so the tests of each pit stand at places of their
 /// own, which the processor foresees apart, and the shifts of its move are constants. That holds only
@@ -54,12 +61,12 @@ pub fn lowest_plan(
     rank: u32,
 ) -> Option<u8>
     requires sized { length entries.now ≡ size_of (length shelf.now) }
-    requires valued { AreValues values.now entries.now }
+    requires valued { AreFirstValues values.now entries.now }
     requires stones { sum board.now ≡ length shelf.now }
     requires low { length shelf.now ≤ 24 }
     requires ranked { rank_of board.now ≡ rank }
     requires below { rank < size_of (length shelf.now) }
-    ensures { IsLowest (table_of (topped shelf.now entries.now)) board.now result }
+    ensures { IsLowest (table_of (with_top shelf.now entries.now)) board.now result }
 {
     let own = entries[rank as usize];
     if serves(shelf, values, entries, board, own, 0) {
@@ -95,11 +102,11 @@ fn serves(
     pit: u8,
 ) -> bool
     requires sized { length entries.now ≡ size_of (length shelf.now) }
-    requires valued { AreValues values.now entries.now }
+    requires valued { AreFirstValues values.now entries.now }
     requires stones { sum board.now ≡ length shelf.now }
     requires low { length shelf.now ≤ 24 }
-    requires own { own ≡ entry_of (topped shelf.now entries.now) board.now }
-    ensures { IsTrue result ↔ Serves (table_of (topped shelf.now entries.now)) board.now pit }
+    requires own { own ≡ entry_of (with_top shelf.now entries.now) board.now }
+    ensures { IsTrue result ↔ Serves (table_of (with_top shelf.now entries.now)) board.now pit }
 {
     if !board.legal(pit) {
         return false;
@@ -116,7 +123,7 @@ fn serves(
 /// that is positive, leads to a smaller distance.
 #[inline(always)]
 fn quiet_gains(own: Entry, values: &[i8], entries: &[Entry], rank: u32) -> bool
-    requires valued { AreValues values.now entries.now }
+    requires valued { AreFirstValues values.now entries.now }
     requires held { rank < length entries.now }
     ensures { IsTrue result ↔ Gains own 0 (slice_index_or entries.now rank no_entry) }
 {
@@ -129,7 +136,7 @@ fn quiet_gains(own: Entry, values: &[i8], entries: &[Entry], rank: u32) -> bool
 /// The value of the entry of this rank, which is read of the values where they have it.
 #[inline(always)]
 fn value_at(values: &[i8], entries: &[Entry], rank: u32) -> i8
-    requires valued { AreValues values.now entries.now }
+    requires valued { AreFirstValues values.now entries.now }
     requires held { rank < length entries.now }
     ensures { result ≡ (slice_index_or entries.now rank no_entry).value }
 {
@@ -160,7 +167,7 @@ pub fn entry_after(shelf: &Shelf, entries: &[Entry], moved: &PackedMove) -> Entr
     requires sized { length entries.now ≡ size_of (length shelf.now) }
     requires stones { sum moved.now.board + moved.now.captured ≡ length shelf.now }
     requires low { length shelf.now ≤ 24 }
-    ensures { result ≡ entry_of (topped shelf.now entries.now) moved.now.board }
+    ensures { result ≡ entry_of (with_top shelf.now entries.now) moved.now.board }
 {
     if moved.captured == 0 {
         return entries[moved.board.rank() as usize];

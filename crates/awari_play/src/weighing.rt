@@ -9,7 +9,8 @@ use arrayvec::ArrayVec;
 use awari_board::Board;
 use awari_table::{Entry, NotYet, Shelf, TextLine, push_number, push_signed, push_text};
 
-/// Room for the lines of six moves, of 69 bytes each at most, and for a line feed behind them.
+/// Room for the lines of six moves, of 69 bytes each at most, and for a line feed behind them. Any other
+/// line of an answer is shorter.
 pub const MOVES_ROOM: usize = 420;
 
 /// The lines of moves, or one other line.
@@ -18,7 +19,7 @@ pub type MovesText = ArrayVec<u8, MOVES_ROOM>;
 /// A board's entry, and what each of its legal moves is worth, ascending by pit.
 #[derive(Debug, PartialEq, Eq, Drop)]
 pub struct Weighed {
-    /// What the book says of the board itself.
+    /// What the shelf says of the board itself.
     pub entry: Entry,
     /// What each legal move is worth, none where the play has ended.
     pub worths: ArrayVec<MoveWorth, 6>,
@@ -45,7 +46,7 @@ impl Weighed {
         ensures room { array_vec_len result < MOVES_ROOM }
     {
         if self.worths.is_empty() {
-            return text_of(&line_of_end(self.entry.value));
+            return text_of_line(&line_of_end(self.entry.value));
         }
         lines_of(self.entry.plan, self.worths.as_slice())
     }
@@ -65,8 +66,9 @@ fn lines_of(plan: Option<u8>, worths: &[MoveWorth]) -> MovesText
     text
 }
 
-/// The text of this one line.
-pub fn text_of(line: &TextLine) -> MovesText
+/// The text that is this one line, for an answer that tells of no moves. There is room for any line, and
+/// for a line feed behind it. It takes no memory.
+pub fn text_of_line(line: &TextLine) -> MovesText
     ensures text { result.items ≡ line.now.items }
     ensures room { array_vec_len result < MOVES_ROOM }
 {

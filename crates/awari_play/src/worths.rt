@@ -1,6 +1,6 @@
 //! What each legal move of a board is worth.
 
-ghost use Rattle.std.specs.Prelude.{◌≡◌, ◌≢◌, ◌<◌, ◌↔◌, ◌-ℤ◌, ℕ, All, Contains, IsOk, IfOk, IfErr, length, map, pos, sum};
+ghost use Rattle.std.specs.Prelude.{◌≡◌, ◌≢◌, ◌<◌, ◌↔◌, ℕ, All, Contains, IsOk, IfOk, IfErr, length, map, pos, sum};
 ghost use Rattle.std.specs.List.Sorted.{IsStrictlyIncreasing};
 ghost use Rattle.awari_board.specs.Rules.{IsLegal};
 ghost use Rattle.awari_table.specs.Reached.{gain_of, plies_of};

@@ -16,14 +16,14 @@ pub returns-clause-planned : goal.returns-clause-planned
 returns-clause-planned c =
     (next_image c.args.shelf.now _ c.lower.new.entries.items
     (c.lower.ensures.nearer.size ∙ ap (λ (es : List Entry). length es) c.into_vec-entries.ensures ∙ c.requires.sized ∙ ap size_of c.requires.next)
-    (planned _ _ _ _ c.requires.next c.from.ensures (c.greatest_dist.ensures ∙ ap greatest_dist c.as_slice.ensures.value) c.set_plans.ensures.same c.set_plans.ensures.planned)).planned
+    (planned _ _ _ _ c.requires.next c.from.ensures (c.greatest_dist.ensures ∙ ap greatest_dist c.as_slice.ensures.value) c.set_lowest_plans.ensures.same c.set_lowest_plans.ensures.planned)).planned
 
 pub returns-clause-consistent : goal.returns-clause-consistent
 returns-clause-consistent c =
     let done =
     next_image c.args.shelf.now _ c.lower.new.entries.items
     (c.lower.ensures.nearer.size ∙ ap (λ (es : List Entry). length es) c.into_vec-entries.ensures ∙ c.requires.sized ∙ ap size_of c.requires.next)
-    (planned _ _ _ _ c.requires.next c.from.ensures (c.greatest_dist.ensures ∙ ap greatest_dist c.as_slice.ensures.value) c.set_plans.ensures.same c.set_plans.ensures.planned) in
+    (planned _ _ _ _ c.requires.next c.from.ensures (c.greatest_dist.ensures ∙ ap greatest_dist c.as_slice.ensures.value) c.set_lowest_plans.ensures.same c.set_lowest_plans.ensures.planned) in
     least_consistent c.args.shelf.now c.args.image _ c.lower.new.entries.items c.requires
     (subst (λ (es : List Entry). NoFarther es c.lower.new.entries.items) c.into_vec-entries.ensures c.lower.ensures.nearer)
-    c.lower.ensures.above c.lower.ensures.below (subst (SameSettled c.lower.new.entries.items) (sym c.from.ensures) c.set_plans.ensures.same) done
+    c.lower.ensures.above c.lower.ensures.below (subst (SameSettled c.lower.new.entries.items) (sym c.from.ensures) c.set_lowest_plans.ensures.same) done

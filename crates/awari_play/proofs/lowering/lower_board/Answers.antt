@@ -5,7 +5,7 @@ use Rattle.awari_table.specs.declared.images.Image.{Image}
 use Rattle.awari_table.specs.Images.{entry_of, no_entry, table_of}
 use Rattle.awari_play.specs.Lowering.{IsByMoves}
 use Rattle.awari_table.proofs.EntryLemmas.{entry_of-rank}
-use Rattle.awari_play.specs.Planning.{topped}
+use Rattle.awari_play.specs.Planning.{with_top}
 use Rattle.awari_play.proofs.lowering.lower_board.Goals as goal
 
 pub by_moves-dist-requires-clause-own : goal.by_moves-dist-requires-clause-own
@@ -14,7 +14,7 @@ by_moves-dist-requires-clause-own c =
     let image : Image = record { level = length c.args.shelf.now; limit = 0; entries = c.args.entries.now.items } in
     let found = c.index-own.ensures ∙ get_or_default c.args.entries.now.items c.args.rank c.index-own.result.now no_entry inside in
     found ∙ sym (entry_of-rank c.args.shelf.now image c.unrank-board.result c.args.rank (c.unrank-board.ensures.stones ∙ c.levels.ensures.levels) c.unrank-board.ensures.rank)
-    ∙ ap (λ (es : List Entry). entry_of (topped c.args.shelf.now es) c.unrank-board.result) (sym c.as_slice.ensures.value)
+    ∙ ap (λ (es : List Entry). entry_of (with_top c.args.shelf.now es) c.unrank-board.result) (sym c.as_slice.ensures.value)
 
 pub returns : goal.returns
 returns c =
@@ -30,7 +30,7 @@ returns c =
         c.unrank-board.ensures.board,
         c.unrank-board.ensures.stones ∙ c.levels.ensures.levels,
         c.unrank-board.ensures.rank,
-        subst (λ (es : List Entry). IsByMoves (table_of (topped c.args.shelf.now es)) c.unrank-board.result c.by_moves-dist.result) c.as_slice.ensures.value c.by_moves-dist.ensures,
+        subst (λ (es : List Entry). IsByMoves (table_of (with_top c.args.shelf.now es)) c.unrank-board.result c.by_moves-dist.result) c.as_slice.ensures.value c.by_moves-dist.ensures,
         c.lower_to.ensures,
       ),
     )

@@ -4,9 +4,9 @@ use Rattle.awari_rank.specs.Rank.{size_of}
 use Rattle.awari_table.specs.declared.images.Entry.{Entry}
 use Rattle.awari_table.specs.Images.{no_entry, table_of}
 use Rattle.awari_play.specs.Plan.{IsLowest}
-use Rattle.awari_play.specs.Planning.{topped}
+use Rattle.awari_play.specs.Planning.{with_top}
 use Rattle.awari_play.proofs.Tables.{same_set, planned_more, same_settled, planned_none}
-use Rattle.awari_play.proofs.plans.set_plans.Goals as goal
+use Rattle.awari_play.proofs.plans.set_lowest_plans.Goals as goal
 
 pub loop-rank-init : goal.loop-rank-init
 loop-rank-init c = record {
@@ -25,7 +25,7 @@ loop-rank-preserved c =
     let boards : size_of c.levels-level.result ≡ size_of (length c.args.shelf.now) = ap size_of c.levels-level.ensures.levels in
     let inside : c.loop-rank.rank < length c.loop-rank.entries.items = omega (arith, boards, before.same.size, c.size-boards.ensures.boards, c.requires.sized, c.loop-rank-test.true) in
     let was = c.index_mut.ensures.value ∙ get_or_default c.loop-rank.entries.items c.loop-rank.rank c.index_mut.result.now no_entry inside in
-    let lowest = subst (λ (es : List Entry). IsLowest (table_of (topped c.args.shelf.now es)) c.loop-rank.board put.plan) c.as_slice.ensures.value c.lowest_plan-plan.ensures in
+    let lowest = subst (λ (es : List Entry). IsLowest (table_of (with_top c.args.shelf.now es)) c.loop-rank.board put.plan) c.as_slice.ensures.value c.lowest_plan-plan.ensures in
     record {
       same = same_set _ _ _ put before.same inside (ap (λ e. e.value) was) (ap (λ e. e.dist) was);
       planned = planned_more _ _ _ _ _ put before.same before.planned inside before.is_board before.stones ranked lowest;
