@@ -1,5 +1,14 @@
-//! The boards that stand in README.md, docs/RULES.md and docs/FORMATS.md, with what is said of them
-//! there.
+//! The boards that stand on the pages, with what is said of them there.
+//!
+//! | Rows | Page |
+//! |---|---|
+//! | `PLAYED` | docs/RULES.md; the last also docs/MANUAL.md |
+//! | `JUDGED` | docs/RULES.md; the second also docs/MANUAL.md |
+//! | `RANKED`, `SIZES` | docs/RULES.md |
+//! | `README` | README.md; the first build and `moves` also docs/MANUAL.md |
+//!
+//! What else docs/MANUAL.md shows is tested by `commands`, `levels`, `files`, `texts`, `migrations`,
+//! `progress` and `services`, and the files of docs/FORMATS.md by the crate `awari_file_tests`.
 
 use crate::commands::{Line, expect_lines};
 use crate::expect::expect_equal;
@@ -52,7 +61,7 @@ fn boards_are_played_as_the_rules_say(rt: HostRuntime) {
     expect_lines(&rt, rt.alloc(), &PLAYED);
 }
 
-/// Boards of docs/RULES.md and docs/FORMATS.md, and the moves from them.
+/// Boards of docs/RULES.md and docs/MANUAL.md, and the moves from them.
 const JUDGED: [Line; 2] = [
     (
         &["awari", "judge", "0,0,0,0,0,1/1,0,1,0,0,0", "9", "5"],
@@ -78,7 +87,7 @@ const RANKED: [(&str, u32); 3] = [
     ("1,0,0,0,0,0/0,0,0,0,0,0", 11),
 ];
 
-/// The sizes of levels 0 to 12, as docs/RULES.md and docs/FORMATS.md have them.
+/// The sizes of levels 0 to 12, as docs/RULES.md has them.
 const SIZES: [u32; 13] = [
     1, 12, 78, 364, 1365, 4368, 12376, 31824, 75582, 167960, 352716, 705432, 1352078,
 ];

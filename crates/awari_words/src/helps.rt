@@ -1,5 +1,5 @@
-//! What `awari --version` and `awari help` say. A help is at most a screen of 24 lines, and what a
-//! command refuses is told in docs/FORMATS.md alone.
+//! What `awari --version` and `awari help` say. A help is at most a screen of 24 lines. docs/MANUAL.md
+//! has more of each command, and docs/FORMATS.md the numbers of its refusals.
 
 use awari_table::HIGHEST_LEVEL;
 
