@@ -9,8 +9,8 @@ pub const VERSION: &str = "0.1.0, levels 0 to 24";
 const _: () = prove!(HIGHEST_LEVEL == 24);
 
 pub const AWARI_HELP: &str = "\
-The status is 0 where it is done, 1 where something was refused, and 2 where no
-command was understood. docs/FORMATS.md tells every form.";
+The status is 0 if it is done, 1 if something was refused, and 2 if no command
+was understood. docs/MANUAL.md shows each command by an example.";
 
 pub const CHECK_HELP: &str = "\
 The input has a block of lines for each level 0, 1, 2 and so on, in order:
@@ -26,8 +26,8 @@ It prints one line:
                                  and this is the first rule that it breaks
     refused N Name ..            the input is no such text
 
-The status is 0 for a yes, and 1 otherwise. docs/FORMATS.md tells the form, the
-rules and each refusal.";
+The status is 0 for a yes, and 1 otherwise. docs/FORMATS.md has the form, the
+rules and all refusals.";
 
 pub const MOVE_HELP: &str = "\
 BOARD is the stones in the mover's pits 0 to 5 and, after a slash, in the
@@ -37,7 +37,7 @@ opponent's pits 6 to 11. It prints one line:
                       and the stones captured
     refused N Name    BOARD is no board, or PIT may not be played
 
-The status is 0 for a move, and 1 for a refusal. docs/FORMATS.md tells each.";
+The status is 0 for a move, and 1 for a refusal. docs/FORMATS.md lists them.";
 
 pub const JUDGE_HELP: &str = "\
 The moves are played from the board. It prints four lines, or a refusal alone:
@@ -48,8 +48,8 @@ The moves are played from the board. It prints four lines, or a refusal alone:
     outcome X      what the play has come to for the first mover, or `none`
 
 LIMIT is at most 4294967295. The status is 0, or 1 for a refusal, as `refused 5
-EmptyPit at 2` of the second move. docs/FORMATS.md tells each, and when a play
-has an outcome.";
+EmptyPit at 2` of the second move. docs/FORMATS.md lists them, and docs/RULES.md
+says when a play has an outcome.";
 
 pub const BUILD_HELP: &str = "\
 It prints a line for each level that it builds, the lowest first:
@@ -59,8 +59,8 @@ It prints a line for each level that it builds, the lowest first:
 S boards, of which the mover wins A, holds B even and loses C; K is the greatest
 distance. A folder's levels are verified first, and stay. One builder at a time
 may save there. W, R and S change no level, only how soon it comes. The status
-is 0, or 1 for a refusal; the lines before it stand. docs/FORMATS.md tells each,
-and how much memory and time a level takes.";
+is 0, or 1 for a refusal; the lines before it stand. docs/MANUAL.md says what to
+do then, and how much memory and time a level takes.";
 
 pub const VERIFY_HELP: &str = "\
 It prints a line for each level, in order, and one for them all:
@@ -74,20 +74,20 @@ or else one line, of the first file that is at fault:
     refused N Name level L ..
 
 The status is 0, or 1 for a refusal. A folder that is not there is an empty one.
-docs/FORMATS.md tells each refusal, and the file of a level.";
+docs/FORMATS.md lists the refusals, and has the form of the files.";
 
 pub const TEXT_HELP: &str = "\
 It prints the levels of the folder as text, in order; with LEVEL that one alone:
 
     level L limit K    for each level: its greatest distance K, and then
     V P D              for each board, by rank: its value, a pit to play (0 to
-                       5, or - where the play has ended), and its distance
+                       5, or - if the play has ended), and its distance
 
 The levels are verified first, so `awari text FOLDER | awari check` says yes. A
 folder with no level prints nothing.
 
-The status is 0, or 1 for a refusal, as `refused 59 NotYet levels M` where the
-folder has only levels 0 to M - 1. docs/FORMATS.md tells each.";
+The status is 0, or 1 for a refusal, as `refused 59 NotYet levels M` if the
+folder has only levels 0 to M - 1. docs/FORMATS.md lists them.";
 
 pub const MIGRATE_HELP: &str = "\
 FROM is only read, and TO has to be there. Each level is verified by the rules
@@ -100,15 +100,15 @@ plans the lowest pits that serve; one of version 2 stays as it is. It prints:
 
 or a refusal alone; the files that were written before it stand. A FROM that is
 not there is an empty one. The status is 0, or 1 for a refusal. docs/FORMATS.md
-tells each.";
+lists them.";
 
 pub const ASK_HELP: &str = "\
 It prints `V P D`: the value of the board for its mover, a pit to play (0 to 5,
-or - where the play has ended), and the distance. The levels of the folder are
+or - if the play has ended), and the distance. The levels of the folder are
 verified first, so the answer is right.
 
-The status is 0, or 1 for a refusal, as `refused 59 NotYet levels M` where the
-folder has only levels 0 to M - 1. docs/FORMATS.md tells each.";
+The status is 0, or 1 for a refusal, as `refused 59 NotYet levels M` if the
+folder has only levels 0 to M - 1. docs/FORMATS.md lists them.";
 
 pub const MOVES_HELP: &str = "\
 It prints a line for each pit that the mover may play, the lowest first:
@@ -117,11 +117,11 @@ It prints a line for each pit that the mover may play, the lowest first:
 
 V is what the mover gains by the move: the stones that it captures, C, less the
 value of the board that it leaves. In at most D plies a capture or the end comes
-while the side that V favours follows the plans; D is 0 where V is 0. The line
-of the plan ends in ` plan`. Where the play has ended it prints `ended G`, G
-being what the mover gains by that. The levels of the folder are verified first.
+while the side that V favours follows the plans; D is 0 if V is 0. The line of
+the plan ends in ` plan`. If the play has ended, it prints `ended G`, where G is
+what the mover gains by that. The levels of the folder are verified first.
 
-The status is 0, or 1 for a refusal. docs/FORMATS.md tells each.";
+The status is 0, or 1 for a refusal. docs/FORMATS.md lists them.";
 
 pub const LINE_HELP: &str = "\
 It prints three lines, of the play in which both players follow the plans:
@@ -133,7 +133,7 @@ It prints three lines, of the play in which both players follow the plans:
 The play goes on to its end, or until more plies captured nothing than the
 greatest limit of the levels. The levels of the folder are verified first.
 
-The status is 0, or 1 for a refusal. docs/FORMATS.md tells each.";
+The status is 0, or 1 for a refusal. docs/FORMATS.md lists them.";
 
 pub const SERVE_HELP: &str = "\
 A thread builds the levels above the folder's, once these are verified, up to
@@ -147,4 +147,4 @@ in order. So `awari serve FOLDER 0 0` answers a million: examples/ask_many.py.
     other lines  `what`
 
 It ends at `quit` or with the input, once the thread has ended, whose refusal is
-printed. The status is 0, or 1 for a refusal. docs/FORMATS.md tells each.";
+printed. The status is 0, or 1 for a refusal. docs/FORMATS.md lists them.";
