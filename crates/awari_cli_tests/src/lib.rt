@@ -12,6 +12,8 @@ mod desks;
 #[cfg(test)]
 mod documents;
 #[cfg(test)]
+mod examples;
+#[cfg(test)]
 mod expect;
 #[cfg(test)]
 mod files;

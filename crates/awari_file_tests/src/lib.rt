@@ -7,6 +7,8 @@ mod bytes;
 #[cfg(test)]
 mod calls;
 #[cfg(test)]
+mod examples;
+#[cfg(test)]
 mod expect;
 #[cfg(test)]
 mod folders;

@@ -12,6 +12,8 @@ mod cores;
 #[cfg(test)]
 mod drawing;
 #[cfg(test)]
+mod examples;
+#[cfg(test)]
 mod expect;
 #[cfg(test)]
 mod grids;

@@ -5,6 +5,8 @@
 #[cfg(test)]
 mod deceits;
 #[cfg(test)]
+mod examples;
+#[cfg(test)]
 mod expect;
 #[cfg(test)]
 mod moves;
