@@ -1,14 +1,17 @@
-//! The commands of the program `awari` that build nothing and change no folder: a move, a judgement, and
-//! what the levels in a folder answer. What they print goes to a writer that is lent.
+//! The commands of the program `awari` that build nothing and change no folder: a move, a judgement,
+//! and what the levels in a folder answer. Each prints to a writer that is lent to it, and gives the
+//! status that the program ends with. The status is 0 if it is done, and 1 if it was refused or the
+//! writer gave a fault.
 //!
-//! Each command that prints answers the status that the program ends with: 0 where it is done, and 1
-//! where it was refused or the writer gave a fault.
+//! What the levels in a folder say of a board, printed, in `crates/awari_cli_tests/src/plain.rt`:
 //!
-//! The board after a move, by lines of `crates/awari_cli/src/runs.rt`:
-//!
-//!     match play_on(board.as_bytes(), pit) {
-//!         Ok(moved) => status_of(print(writer, &Played(moved))),
-//!         Err(fault) => refuse(writer, fault),
+//!     pub(crate) fn asked(
+//!         rt: &(impl AllocGlobal + Threads + Wait + Sync),
+//!         folder: &mut MemoryFolder,
+//!         board: &str,
+//!         output: &mut Vec<u8>,
+//!     ) -> u8 {
+//!         run_ask(rt, folder, rt.alloc(), board, output)
 //!     }
 #![tactic(auto)]
 

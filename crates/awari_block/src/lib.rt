@@ -1,18 +1,24 @@
-//! The boards of a block of a level that is in work.
+//! The boards of a block of a level that is being built.
 //!
-//! A [`Block`] is the boards of a level from one rank up to, not including, another. Its [`Boards`] have
-//! a [`Cell`] each, which says what is known of the board. A board is fresh while it is settled and not
-//! spread yet. A [`Note`] says of a quiet move that it leads to a settled board. What a cell has to
-//! know of the notes that its board heard is defined in `specs/Tally.antt`. `Boards::unopened` takes all
-//! the memory that the boards will ever need, and no other call takes any. How many owners share the
-//! blocks of a level, and how they work, is a [`Pace`], which stands here, under all threads.
+//! A [`Block`] is the boards of a level from one rank up to, not including, another. Its [`Boards`]
+//! keep a [`Cell`] for each of them, with what is known of the board. A board is *settled* once its
+//! value and distance are known, and *fresh* until it is also spread. A [`Note`] says that a quiet move
+//! leads to a settled board. `specs/Tally.antt` defines what a cell knows of the notes that its board
+//! heard. `Boards::unopened` takes all memory; no other call takes any. A [`Pace`] says how many owners
+//! share a level, and how they work.
 //!
-//! The boards of an owner's block, by lines of `crates/awari_owner/src/parts.rt`:
+//! The cells of a block of which nothing is known yet, in `crates/awari_owner/src/scans.rt`:
 //!
-//!     let block = Block::of(shelf.levels(), owners, owner);
-//!     self.boards.open_gain(gain);
-//!     self.boards.hear(note.target, note.pit, note.kind);
-//!     let rank = self.boards.take_first();
+//!     pub fn unscanned_block(alloc: Global, block: Block) -> Result<ScannedBlock, AllocError>
+//!         requires order { block.start ≤ block.end }
+//!         ensures cells { IfOk result (λ found. length found.cells.items ≡ block.end - block.start) }
+//!         ensures leaving { IfOk result (λ found. length found.leaving.items ≡ block.end - block.start) }
+//!     {
+//!         let boards = (block.end - block.start) as usize;
+//!         let cells = vec![in alloc; Cell::unheard(Mark::Ended, 0, 0); boards]?;
+//!         let leaving = vec![in alloc; 0; boards]?;
+//!         Ok(ScannedBlock { cells, leaving })
+//!     }
 #![tactic(auto)]
 
 mod awaited;

@@ -1,10 +1,20 @@
-//! The next level of a shelf, built whole.
+//! The next level of a shelf, built whole, by one part or by several owners in threads.
 //!
-//! A level built on those of a book, and published, in `crates/awari_cli_tests/src/services.rt`:
+//! The level is proved right, and to be the one with the lowest plans, so nothing verifies it when the
+//! program runs. [`build_alone`] always returns. Nothing proves that [`build_level`] does: its contract
+//! says what holds if it returns.
 //!
-//!     let level = build_alone(alloc, publisher.pages.book())?;
-//!     let level = Arc::new(alloc, level)?;
-//!     publisher.publish(level)?;
+//! A shelf of as many levels as are asked for, each built on those below it, in
+//! `crates/awari_owner_tests/src/shelves.rt`:
+//!
+//!     pub(crate) fn levels_below(alloc: Global, count: u8) -> Result<Shelf, Fail> {
+//!         let mut shelf = Shelf::empty();
+//!         for _level in 0..count {
+//!             let level = build_alone(alloc, &shelf)?;
+//!             shelf.push(Arc::new(alloc, level)?);
+//!         }
+//!         Ok(shelf)
+//!     }
 #![tactic(auto)]
 
 mod alone;

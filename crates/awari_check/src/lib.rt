@@ -1,9 +1,21 @@
-//! Whether bytes are the text of tables that are right, and what the program says of them.
+//! Whether bytes are the text of levels that are right, and what the program prints of them.
 //!
-//! The levels of a text, which are right, in `crates/awari_cli_tests/src/commands.rt`:
+//! [`check`] gives the shelf of the levels, or the first fault. [`check_input`] does so for all that a
+//! reader has left, and its [`Answer`] prints as one line.
 //!
-//!     let text = levels_0_to_1(alloc, 1, 6, "-1 5 1")?;
-//!     Ok(check(alloc, text.as_bytes())?)
+//! The command `check` prints that answer, in `crates/awari_cli/src/runs.rt`:
+//!
+//!     fn run_check<R: Read, W: Write>(alloc: Global, reader: &mut R, writer: &mut W) -> u8
+//!         ensures status { result ≤ 1 }
+//!         ensures yes { result ≡ 0 → PrintsYes (R.remaining reader.old) (W.contents writer.old) (W.contents writer.new) }
+//!     {
+//!         let answer = check_input(alloc, &mut Counted::new(reader));
+//!         if print(writer, &answer) {
+//!             answer.status()
+//!         } else {
+//!             1
+//!         }
+//!     }
 #![tactic(auto)]
 
 mod answers;

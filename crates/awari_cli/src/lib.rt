@@ -1,11 +1,25 @@
-//! The commands of the program `awari`.
+//! The commands of the program `awari`, over words, streams and folders that are lent to them.
 //!
-//! A command on words and streams, in `crates/awari_cli_tests/src/commands.rt`:
+//! [`run`] reads the words and runs the command that they name. The other calls are single commands,
+//! for folders of any kind. What a command prints is right if it ends with status 0.
 //!
-//!     let mut reader = input;
-//!     let mut output = Vec::new(alloc);
-//!     let mut errors = Vec::new(alloc);
-//!     let status = run(rt, alloc, words, &mut reader, &mut output, &mut errors);
+//! Levels are built up to `top` in a folder in memory, in `crates/awari_cli_tests/src/plain.rt`:
+//!
+//!     fn build_to(
+//!         rt: &(impl AllocGlobal + Threads + Wait + Sync),
+//!         folder: &mut MemoryFolder,
+//!         top: u8,
+//!         progress: &mut impl Progress,
+//!         output: &mut Vec<u8>,
+//!     ) -> u8 {
+//!         let mut builder = Builder {
+//!             rt,
+//!             alloc: rt.alloc(),
+//!             pace: ALONE,
+//!             progress,
+//!         };
+//!         run_build_in(&mut builder, folder, top, output)
+//!     }
 #![tactic(auto)]
 
 mod building;

@@ -1,16 +1,18 @@
-//! A model that only tests and schedules use: a level that is built by 1 to 16 owners, as a list of
-//! events.
+//! A model that only tests and `awari_schedules` run: 1 to 16 owners build a level by a list of events.
 //!
-//! A core, the events that it runs, the next distance or gain, and the level at the end, by lines of
+//! A [`Core`] takes events in any order, and refuses those that are not possible now. Once all gains
+//! are closed, [`Core::finish`] gives the level, whatever the events were. The program itself builds by
+//! `awari_phase`, which keeps the same rules in threads.
+//!
+//! Between two lists of events, the next distance or gain is opened, in
 //! `crates/awari_owner_tests/src/cores.rt`:
 //!
-//!     let mut core = Core::new(alloc, shelf, 16, 1)?;
-//!     core.run(events);
-//!     match core.next_wave() {
-//!         Ok(None) => core.next_gain() == Ok(0),
-//!         _ => false,
+//!     fn opens_last(core: &mut Core) -> bool {
+//!         match core.next_wave() {
+//!             Ok(None) => core.next_gain() == Ok(0),
+//!             _ => false,
+//!         }
 //!     }
-//!     let image = core.finish(alloc)?;
 #![tactic(auto)]
 
 mod cores;

@@ -1,14 +1,21 @@
-//! Readers of one book of levels, which never wait, and its publisher.
+//! Readers who look boards up in one book of levels, while its publisher adds levels on top.
 //!
-//! A desk of one reader, who is told of the levels that are published, in
-//! `crates/awari_cli/src/serving.rt`:
+//! [`desk`] makes the publisher and its readers. A reader sees every level up to the last one that it
+//! saw or was told of, and maybe more. To tell readers of what is published, pass them what
+//! `Pages::tell` gives, for [`Reader::learn`]. [`Reader::ask`] and [`Reader::moves`] look a board up
+//! and wait for nobody. [`serve`] answers the lines of a stream.
 //!
-//!     let (mut publisher, mut readers) = desk(rt, alloc, 1)?;
-//!     publish_each(&mut publisher, shelf)?;
-//!     let Some(mut reader) = readers.pop() else {
-//!         unreachable!()
-//!     };
-//!     reader.learn(publisher.pages.tell()?);
+//! A publisher's next level, built and published, in `crates/awari_cli_tests/src/services.rt`:
+//!
+//!     pub(crate) fn publish_next<R: Wait + Drop>(
+//!         alloc: Global,
+//!         publisher: &mut Publisher<R>,
+//!     ) -> Result<(), Fail> {
+//!         let level = build_alone(alloc, publisher.pages.book())?;
+//!         let level = Arc::new(alloc, level)?;
+//!         publisher.publish(level)?;
+//!         Ok(())
+//!     }
 #![tactic(auto)]
 
 mod answers;

@@ -1,13 +1,23 @@
-//! The file of a level, byte by byte: read with each fault in its place, and written.
+//! The file of one level, byte by byte.
 //!
-//! The file of a level, written and brought to the disk, in `crates/awari_folder/src/saving.rt`:
+//! [`write_level`] writes the file, and [`read_image`] reads one or answers its first fault. A file
+//! that is read may still say wrong things of boards: judging them is the verifier's business.
+//! `docs/FORMATS.md` has the layout, and `specs/FileText.antt` defines it.
 //!
-//!     let mut writer = Counted::new(new);
-//!     let digest = write_level(level, below, &mut writer)?;
-//!     let mut new = writer.into_inner();
-//!     match new.sync() {
-//!         Ok(()) => Ok(Written { new, digest }),
-//!         Err(_) => Err(FileFault::Write),
+//! Level 0 is written and read again, in `crates/awari_file_tests/src/examples.rt`:
+//!
+//!     #[test]
+//!     fn a_level_is_written_and_read(rt: HostRuntime) -> Result<(), Fail> {
+//!         let mut text = TableText::new(rt.alloc(), b"level 0 limit 0\n0 - 0\n");
+//!         let image = text.next()?.ok_or("a level")?;
+//!         let level = verify(&Shelf::empty(), image)?;
+//!         let mut file = Vec::new(rt.alloc());
+//!         let digest = write_level(&level, [0; 32], &mut Counted::new(&mut file))?;
+//!         let loaded = read_image(rt.alloc(), &mut Counted::new(file.as_slice()))?;
+//!         expect_equal(&rt, "digest", loaded.digest, digest);
+//!         let entries = loaded.image.entries;
+//!         expect_equal(&rt, "entries", entries.as_slice(), level.entries());
+//!         Ok(())
 //!     }
 #![tactic(auto)]
 

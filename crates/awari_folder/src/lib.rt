@@ -1,13 +1,24 @@
-//! A folder with the files of levels: a shelf is loaded from one, a level saved into one, and the
-//! levels of one are brought over to another.
+//! A folder with the files of levels.
 //!
-//! The levels of a folder, and what one of their boards is worth, in
-//! `crates/awari_example/src/main.rt`:
+//! [`load`] makes a shelf of the files, and verifies each level. [`save`] gives a level its file, whole
+//! or not at all, at whatever moment the machine stops. [`migrate`] brings the levels of older files
+//! over to another folder. A [`Folder`] is a trait: [`HostFolder`] is one on disk, and [`MemoryFolder`]
+//! one for tests.
 //!
-//!     let mut folder = HostFolder::new(rt, rt.alloc(), Path::new(folder));
-//!     let shelf = load(rt.alloc(), &mut folder)?.shelf;
-//!     let value = shelf.entry(&board)?.value;
-//!     println!(rt; "{board} is worth {value}")?;
+//! Level 0 is saved and loaded again, in `crates/awari_file_tests/src/examples.rt`:
+//!
+//!     #[test]
+//!     fn a_saved_level_is_loaded(rt: HostRuntime) -> Result<(), Fail> {
+//!         let mut text = TableText::new(rt.alloc(), b"level 0 limit 0\n0 - 0\n");
+//!         let image = text.next()?.ok_or("a level")?;
+//!         let level = verify(&Shelf::empty(), image)?;
+//!         let mut folder = MemoryFolder::new(rt.alloc());
+//!         let digest = save(&mut folder, &level, [0; 32])?;
+//!         let stored = load(rt.alloc(), &mut folder)?;
+//!         expect_equal(&rt, "levels", stored.shelf.levels(), 1);
+//!         expect_equal(&rt, "digest", stored.digest, digest);
+//!         Ok(())
+//!     }
 #![tactic(auto)]
 
 mod calls;

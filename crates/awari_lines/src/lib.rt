@@ -1,12 +1,18 @@
 //! Lines among the owners of a level: a ring of batches for each ordered pair of different owners.
 //!
-//! The ends of the lines, for an owner each, in `crates/awari_phase/src/making.rt`:
+//! [`grid`] makes the [`Ends`] of all owners, and takes all memory that the lines will ever need. Each
+//! owner sends by its own ends and receives by them, in any thread. Once all ends are in one thread
+//! again, [`settle`] looks whether anything still waits.
 //!
-//!     let lines = grid(alloc, owners, room)?;
-//!     let mut all = Vec::with_capacity(alloc, lines.len())?;
-//!     for ends in lines {
-//!         let owner = scanned_owner(rt, alloc, shelf, owners, ends)?;
-//!         all.push(owner)?;
+//! Three owners whose lines have room for one batch each, in
+//! `crates/awari_owner_tests/src/examples.rt`:
+//!
+//!     #[test]
+//!     fn lines_begin_empty(rt: HostRuntime) -> Result<(), Fail> {
+//!         let mut all = grid(rt.alloc(), 3, 1)?;
+//!         expect_equal(&rt, "owners", all.len(), 3);
+//!         expect(&rt, "nothing waits", settle(all.as_mut_slice()));
+//!         Ok(())
 //!     }
 #![tactic(auto)]
 

@@ -1,22 +1,26 @@
 //! The analysis of a level, backward from the ends of play and the captures.
 //!
-//! A level is shared out in blocks of boards, and each owner has a [`Part`]: a cell for each board
-//! of its block. Gains are opened from the greatest down to 1, and within a gain distances from 0
-//! on. A board that is settled tells the boards whose quiet moves lead to it that its mover has won
-//! or lost that gain, which may settle those. What a cell has to know of the notes that its board
-//! heard is defined in `specs/Tally.antt` of `awari_block`; `specs/Level.antt` says what the parts of a
-//! level heard together, and `specs/Finish.antt` what is right once all is heard. Memory is taken by
-//! `Part::scan`, `scan_parallel` and `Outboxes::new`, by `spread_one` where there is another owner, and by
-//! no other call.
+//! A level is shared out in blocks, and each owner has a [`Part`]: a cell for each board of its block.
+//! Gains are opened from the greatest down to 1, and within a gain distances from 0 on. A settled board
+//! tells the boards whose quiet moves lead to it that its mover won or lost that gain, which may settle
+//! those. Notes to other owners' boards go to the [`Outboxes`]. `specs/Level.antt` says what all parts
+//! together have heard, and `specs/Finish.antt` what is right in the end. Memory is taken by
+//! `Part::scan`, `Part::scan_parallel` and `Outboxes::new`, and by `Part::spread_one` if there is
+//! another owner.
 //!
-//! The part of an owner who has all of level 1: a gain, a distance and a board of it, by lines of
+//! The first gain of a part of level 1 is opened, and its nearest boards are due at distance 0, in
 //! `crates/awari_owner_tests/src/parts.rt`:
 //!
-//!     let mut part = Part::scan(rt.alloc(), &shelf, 1, 0)?;
-//!     let mut outboxes = Outboxes::new(rt.alloc(), 1, 0)?;
-//!     part.open_gain(1);
-//!     part.open_wave(1);
-//!     expect_equal(rt, "a board", part.spread_one(outboxes), Ok(true));
+//!     pub(crate) fn open_gain_1(rt: &impl Abort, part: &mut Part, outboxes: &Outboxes)
+//!         requires made { IsPartOf part.old outboxes.now }
+//!         ensures made { IsPartOf part.new outboxes.now }
+//!         ensures wave { part.new.wave ≡ 0 }
+//!     {
+//!         assert!(rt; part.gain() == 2 && part.idle());
+//!         part.open_gain(1);
+//!         let standing = (part.gain(), part.wave(), part.due());
+//!         expect_equal(rt, "gain, wave and due", standing, (1, 0, Some(0)));
+//!     }
 #![tactic(auto)]
 
 mod faults;

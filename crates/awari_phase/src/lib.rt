@@ -1,14 +1,22 @@
-//! Owners that work side by side until a gain is closed. Their rounds are made in threads, one for each
-//! owner, or in turn on the caller's thread.
+//! Owners that work side by side until a gain is closed.
 //!
-//! Three owners of level 1, a round of them, and all rounds up to the end of the gain, by lines of
-//! `crates/awari_owner_tests/src/rounds.rt`:
+//! [`scanned_owners`] makes them, [`open_gain`] opens the next gain in all parts, and [`gain_phase`]
+//! makes rounds until no board is fresh and nothing is on its way. A round runs each owner in a thread
+//! of its own, or one after the other on the caller's thread. No contract says that rounds come to an
+//! end; each says what holds of owners that come back.
 //!
-//!     let mut owners = scanned_owners(rt, alloc, &shelf, 3, 1)?;
-//!     open_gain(rt, owners.as_mut_slice());
-//!     let owners = round(rt, owners, &Open, 1)?;
-//!     let mut owners = gain_phase(&rt, owners, &Open, 1)?;
-//!     expect(&rt, "settled", settle_owners(owners.as_mut_slice()));
+//! One round in which each owner makes one sweep, in `crates/awari_owner_tests/src/rounds.rt`:
+//!
+//!     pub(crate) fn next_round<R: Threads + Wait + Sync>(
+//!         rt: &R,
+//!         owners: Vec<Owner>,
+//!     ) -> Result<Vec<Owner>, Fail>
+//!         requires { IsGrid (all_ends owners.items) }
+//!         ensures { IfOk result (λ all. AllGrown owners.items all.items) }
+//!     {
+//!         let owners = round(rt, owners, &Open, 1)?;
+//!         Ok(owners)
+//!     }
 #![tactic(auto)]
 
 mod faults;

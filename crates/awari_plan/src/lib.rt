@@ -1,10 +1,28 @@
-//! A level whose gains are all closed made an image: the settled values and distances, and for each
-//! board the lowest plan that they make. The calls of `awari_play` that follow plans or lower distances,
-//! and what they answer, have their path here too.
+//! The image of a level whose gains are all closed: its settled values and distances, and for each
+//! board the lowest pit that serves as a plan. [`finish_parallel`] shares the work among threads. The
+//! calls of `awari_play` that follow plans or lower distances have a path here too.
 //!
-//! The image of closed parts, in `crates/awari_build/src/alone.rt`:
+//! The level that several owners have settled, in `crates/awari_build/src/owned.rt`:
 //!
-//!     let image = finish_closed(alloc, shelf, parts)?;
+//!     fn level_of<R: Threads + Sync>(
+//!         rt: &R,
+//!         alloc: Global,
+//!         shelf: &Shelf,
+//!         owners: Vec<Owner>,
+//!     ) -> Result<Level, BuildFault>
+//!         requires shelf { IsShelf shelf.now }
+//!         requires low { length shelf.now ≤ HIGHEST_LEVEL }
+//!         requires closed { AreAt (table_of shelf.now).value (length shelf.now) 1 owners.items }
+//!         ensures consistent { IfOk result (λ level. Consistent shelf.now level) }
+//!         ensures meaning { IfOk result (λ level. TellsTruth (shelf.now ++ level ∷ [])) }
+//!         ensures planned { IfOk result (IsPlannedLowest shelf.now) }
+//!         ensures memory { IfErr result (λ fault. fault ≡ BuildFault.Memory) }
+//!     {
+//!         finished_owners_are_right();
+//!         let parts = closed_parts(alloc, owners)?;
+//!         let image = finish_parallel(rt, alloc, shelf, parts)?;
+//!         Ok(Level::new(image))
+//!     }
 #![tactic(auto)]
 
 mod finishing;

@@ -1,11 +1,24 @@
-//! Plans by the values and distances of a table, and play by the plans of a shelf: the line that follows
-//! them to its outcome, what each legal move of a board is worth and how that is printed, and the least
-//! distances. None of it needs what builds a level.
+//! Plans by the values and distances of a table, and play by the plans of a shelf.
 //!
-//! The play from a board in which both sides follow the plans of a shelf, in
-//! `crates/awari_answers/src/lines.rt`:
+//! [`best_line`] plays both sides up to the outcome, and [`move_worths`] says what each legal move is
+//! worth. [`least`] brings distances down to the least ones. To look values up you need this crate and
+//! those below it, and nothing of what builds a level.
 //!
-//!     let line = best_line(alloc, &shelf, board, shelf.limit())?;
+//! The moves of a line and its outcome, as a test expects them, in
+//! `crates/awari_owner_tests/src/lines.rt`:
+//!
+//!     fn expect_line(
+//!         rt: &impl Abort,
+//!         alloc: Global,
+//!         shelf: &Shelf,
+//!         (text, moves, outcome): (&str, &[u8], i16),
+//!     ) -> Result<(), Fail> {
+//!         let board = Board::parse(text.as_bytes())?;
+//!         let line = best_line(alloc, shelf, board, shelf.limit())?;
+//!         expect_equal(rt, text, line.moves.as_slice(), moves);
+//!         expect_equal(rt, text, line.outcome, outcome);
+//!         Ok(())
+//!     }
 #![tactic(auto)]
 
 mod laws;

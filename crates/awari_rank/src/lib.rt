@@ -1,17 +1,24 @@
 //! Numbers the boards of Awari that have at most 24 stones.
 //!
-//! The boards with as many stones are a level. `rank` is the place of a board in its level, in
-//! lexicographic order, `unrank` gives the board at a place, `successor` the board at the next
-//! place, and `size` says how many there are.
+//! A level is all boards with as many stones. [`rank`] is the place of a board in its level, in
+//! lexicographic order, and [`unrank`] the board at a place. [`successor`] is the board at the next
+//! place, and [`size`] says how many there are. No call takes memory.
 //!
-//! The boards of a level by their ranks, in `crates/awari_tests/src/numbering.rt`:
+//! All boards of five stones, in order of rank, in `crates/awari_tests/src/numbering.rt`:
 //!
-//!     let last = Board::new([12, 0, 0, 0, 0, 0, 0, 0, 0, 0, 0, 0]);
-//!     assert_eq!(rt; size(12), 1352078);
-//!     assert_eq!(rt; unrank(12, 1352077), last);
-//!     assert_eq!(rt; successor(&last), None);
-//!     let first = Board::new([0, 0, 0, 0, 0, 0, 0, 0, 0, 0, 0, 12]);
-//!     assert_eq!(rt; successor(&first), Some(unrank(12, 1)));
+//!     #[test]
+//!     fn a_level_in_order_of_rank(rt: HostRuntime) {
+//!         let mut board = Board::new([0, 0, 0, 0, 0, 0, 0, 0, 0, 0, 0, 5]);
+//!         for expected in 0..size(5) {
+//!             assert_eq!(rt; board.stones(), 5);
+//!             assert_eq!(rt; board, unrank(5, expected));
+//!             assert_eq!(rt; rank(&board), expected);
+//!             match successor(&board) {
+//!                 Some(next) => board = next,
+//!                 None => assert_eq!(rt; expected, 4367),
+//!             }
+//!         }
+//!     }
 #![tactic(auto)]
 
 mod counts;

@@ -1,14 +1,20 @@
-//! Tables of Awari: what is known of each board of a level, the shelf that holds the levels that
-//! were verified, from the lowest on, the text that tables are spelled in, and readers and writers whose
-//! faults are counted.
+//! Tables of Awari: what is known of each board of a level, and the shelf of finished levels.
 //!
-//! A text of three levels, read onto a shelf, in `crates/awari_file_tests/src/levels.rt`:
+//! An [`Image`] holds entries that nobody has checked. A [`Level`] on a [`Shelf`] is consistent over
+//! the levels below it: the shelf's type says so, and [`Shelf::entry`] looks a board up in it.
+//! [`TableText`] reads levels from their text, and `write_shelf_text` writes it. [`Counted`] counts the
+//! faults of a reader or writer that is lent.
 //!
-//!     let mut text = TableText::new(alloc, text.as_slice());
-//!     let mut shelf = Shelf::empty();
-//!     for _ in 0..3u8 {
-//!         let image = next_image(&mut text)?;
-//!         put_on(alloc, &mut shelf, image)?;
+//! A game's next move by the plan of a shelf, in `crates/awari_example/src/main.rt`:
+//!
+//!     fn reply(shelf: &Shelf, game: &mut Game) -> Option<u8>
+//!         ensures plan { IfSome result (λ pit. (entry_of shelf.now game.old.board).plan ≡ Some pit) }
+//!         ensures played { IfSome result (λ pit. (board pits : List ℕ) → Shows game.old board pits → Shows game.new board (pits ++ pit ∷ [])) }
+//!         ensures unchanged { IsNone result → game.new ≡ game.old }
+//!     {
+//!         let pit = shelf.entry(&game.board()).ok()?.plan?;
+//!         game.step(pit).ok()?;
+//!         Some(pit)
 //!     }
 #![tactic(auto)]
 

@@ -1,15 +1,23 @@
 //! Quiet moves backward: the boards and pits whose quiet move gives a board.
 //!
-//! [`Unmoves::of`] lists them; what it lists is defined in `specs/Predecessors.antt`. [`PitUnmoves::of`]
-//! lists those from one pit, of packed boards, which is what the builder goes by. Nothing in this
-//! crate takes memory.
+//! [`Unmoves::of`] lists them, and `specs/Predecessors.antt` defines the list. [`PitUnmoves::of`] lists
+//! those from one pit, of packed boards, which is what the builder uses. Nothing in this crate takes
+//! memory.
 //!
-//! The one quiet move that leads to a board, in `crates/awari_tests/src/predecessors.rt`:
+//! Twelve quiet moves of pit 0 lead to one board, in `crates/awari_tests/src/predecessors.rt`:
 //!
-//!     let mut unmoves = Unmoves::of(&Board::new(pits));
-//!     let only = Board::new(before);
-//!     expect_equal(&rt, pits, unmoves.next(), Some((only, 5)));
-//!     expect_equal(&rt, pits, unmoves.next(), None);
+//!     #[test]
+//!     fn sowings_of_one_to_twelve_stones_are_taken_back(rt: HostRuntime) {
+//!         let board = Board::new([1, 1, 1, 1, 1, 1, 0, 2, 1, 1, 1, 1]);
+//!         let mut unmoves = Unmoves::of(&board);
+//!         let first = Board::new([1; 12]);
+//!         expect_equal(&rt, "first", unmoves.next(), Some((first, 0)));
+//!         let second = Board::new([2, 1, 0, 1, 1, 1, 1, 1, 1, 1, 1, 1]);
+//!         expect_equal(&rt, "second", unmoves.next(), Some((second, 0)));
+//!         let last = Board::new([12, 0, 0, 0, 0, 0, 0, 0, 0, 0, 0, 0]);
+//!         expect_equal(&rt, "last", unmoves.last(), Some((last, 0)));
+//!         expect_equal(&rt, "count", Unmoves::of(&board).count(), 12);
+//!     }
 #![tactic(auto)]
 
 mod from_pit;

@@ -1,14 +1,25 @@
-//! Says whether an image may stand as the next level of a shelf, and if not, which board breaks a
-//! rule first, and which rule. `verify_parallel` alone takes memory.
+//! Says whether an image may stand as the next level of a shelf. If not, it says which board breaks a
+//! rule first, and which rule.
 //!
-//! Two levels that are verified, and put on a shelf, in `crates/awari_tests/src/tables.rt`:
+//! [`verify`] makes a level of an image that is right, and refuses any other. [`verify_parallel`]
+//! answers the same with the boards shared among threads, and is the only call that takes memory.
 //!
-//!     let mut shelf = Shelf::empty();
-//!     let level = verify(&shelf, image(alloc, 0, 0, &level_0())?)?;
-//!     shelf.push(Arc::new(alloc, level)?);
-//!     let level = verify(&shelf, image(alloc, 1, 1, &level_1())?)?;
-//!     shelf.push(Arc::new(alloc, level)?);
-//!     Ok(shelf)
+//! An image is verified and put on top of its shelf, in `crates/awari_check/src/checks.rt`:
+//!
+//!     fn put_on(alloc: Global, shelf: &mut Shelf, image: Image) -> Result<(), CheckFault>
+//!         ensures ok { OnOk result (Consistent shelf.old image) }
+//!         ensures shelf { OnOk result (shelf.new ≡ shelf.old ++ image ∷ []) }
+//!         ensures fault { IfErr result (Stops shelf.old image) }
+//!     {
+//!         let level = image.level;
+//!         match verify(shelf, image) {
+//!             Ok(verified) => {
+//!                 shelf.push(Arc::new(alloc, verified)?);
+//!                 Ok(())
+//!             }
+//!             Err(fault) => Err(CheckFault::Verify { level, fault }),
+//!         }
+//!     }
 #![tactic(auto)]
 
 mod laws;

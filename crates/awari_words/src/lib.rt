@@ -1,12 +1,20 @@
-//! What the words that the program is called with ask for.
+//! What the words ask for that the program is called with.
 //!
-//! The request that they name is done, in `crates/awari_cli/src/runs.rt`:
+//! [`request_of`] reads them by `clap`, and gives a [`Request`] or the text that `clap` prints. The
+//! help texts stand here too.
 //!
-//!     match request_of(alloc, words) {
-//!         Ok(Some(request)) => run_request(rt, alloc, request, reader, writer, errors),
-//!         // `clap` lets no other command through.
-//!         Ok(None) => 2,
-//!         Err(error) => {
+//! The words of a move are read, in `crates/awari_cli_tests/src/examples.rt`:
+//!
+//!     #[test]
+//!     fn words_ask_for_a_move(rt: HostRuntime) -> Result<(), Fail> {
+//!         let words = ["awari", "move", "0,0,0,0,0,1/1,0,1,0,0,0", "5"];
+//!         let request = request_of(rt.alloc(), words.as_slice())?;
+//!         let Some(Request::Move { board, pit }) = request else {
+//!             return Err(Fail::new("another request"));
+//!         };
+//!         expect_equal(&rt, pit, board, "0,0,0,0,0,1/1,0,1,0,0,0");
+//!         Ok(())
+//!     }
 #![tactic(auto)]
 
 mod commands;
