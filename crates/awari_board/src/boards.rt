@@ -46,10 +46,12 @@ impl Board {
         Board { pits }
     }
 
-    /// The position that `text` spells, as [`Board::print`] does: the stones of the pits in decimal,
-    /// parted by commas and, between the two sides, a slash. Refused, tried in this order, are a
-    /// text that is not twelve such fields as 1 `Shape`, one with a field that is no number below
-    /// 100 without a leading zero as 2 `Number`, and more than 48 stones as 3 `TooMany`.
+    /// The position that `text` spells, in the form that [`Board::print`] gives: the stones of the
+    /// twelve pits in decimal, with commas between them and a slash between the two sides.
+    ///
+    /// Refused as 1 `Shape` if the text is not twelve such fields, else as 2 `Number` if a field is
+    /// not a number below 100 without a leading zero, else as 3 `TooMany` if there are more than 48
+    /// stones.
     pub fn parse(text: &[u8]) -> Result<Self, BoardFault>
         ensures read { (board : List ℕ) → (result ≡ Ok board) ↔ (IsBoard board × (text.now ≡ text_of board)) }
         ensures faulty { IfErr result (IsFaulty text.now) }
@@ -116,7 +118,7 @@ impl Board {
         stones > 0 && (pit + stones >= SIDE || other_stones(&self.pits) > 0)
     }
 
-    /// The pits that the mover may play, ascending; none where the play has ended.
+    /// The pits that the mover may play, ascending; none if the play has ended.
     pub fn moves(&self) -> ArrayVec<u8, 6>
         ensures legal { (pit : ℕ) → Contains result.items pit ↔ IsLegal self.now pit }
         ensures ascending { IsStrictlyIncreasing result.items }
@@ -130,8 +132,8 @@ impl Board {
         moves
     }
 
-    /// What the mover gains, in stones, where no move is legal and so the play has ended; `None`
-    /// where a move is legal. Each player takes the stones on their own side, one of which is empty.
+    /// What the mover gains, in stones, if no move is legal and so the play has ended; `None` if a
+    /// move is legal. Each player takes the stones on their own side, and one of the sides is empty.
     pub fn end(&self) -> Option<i8>
         ensures none { IsNone result ↔ ((pit : ℕ) × IsLegal self.now pit) }
         ensures some { (gain : ℤ) → (result ≡ Some gain) ↔ IsEnd self.now gain }
@@ -147,10 +149,11 @@ impl Board {
         })
     }
 
-    /// Plays `pit`: sows its stones, captures, and turns the board to the other player. Refused,
-    /// tried in this order, are a pit above 5 as 4 `NoPit`, any pit where the play has ended as
-    /// 7 `Ended`, an empty pit as 5 `EmptyPit`, and, where the opponent has no stones, a pit that gives
-    /// none while another does as 6 `MustFeed`.
+    /// Plays `pit`: sows its stones, captures, and turns the board to the other player.
+    ///
+    /// Refused as 4 `NoPit` if the pit is above 5, else as 7 `Ended` if the play has ended, else as 5
+    /// `EmptyPit` if the pit is empty. It is refused as 6 `MustFeed` if the opponent has no stones
+    /// and this pit gives none, while another pit does.
     #[inline(always)]
     pub fn play(&self, pit: u8) -> Result<Moved, MoveFault>
         ensures ok { IsOk result ↔ IsLegal self.now pit }

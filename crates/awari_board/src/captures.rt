@@ -5,9 +5,9 @@ ghost use Rattle.awari_board.specs.Rules.{captured_pits, captured_stones, emptie
 
 use crate::sides::{SIDE, other_stones};
 
-/// Takes from the pits after a sowing the opponent's of two or three stones from `last` backward,
-/// and gives their stones. A grand slam, which would leave the opponent no stones, takes nothing.
-/// Conditions: `last` is below 12, and there are at most 48 stones in all.
+/// Captures after a sowing: empties the opponent's pits of two or three stones from `last` backward,
+/// and gives how many stones those were. A grand slam, which would leave the opponent no stones,
+/// takes nothing. Conditions: `last` is below 12, and there are at most 48 stones in all.
 pub fn capture(pits: &mut [u8; 12], last: u8) -> u8
     requires on_board { last < 12 }
     requires few { sum pits.old ≤ 48 }

@@ -23,13 +23,13 @@ pub fn tests_decide()
     ensures ended { (board : List ℕ) → (is_ended board ≡ true) ↔ IsEnded board }
 {}
 
-/// At most one fault is due, and none where the move is legal.
+/// At most one fault is due, and none if the move is legal.
 pub fn one_fault_is_due()
     ensures one { (board : List ℕ) (x : ℕ) (fault other : MoveFault) → IsDue board x fault → IsDue board x other → fault ≡ other }
     ensures none { (board : List ℕ) (x : ℕ) (fault : MoveFault) → IsDue board x fault → IsLegal board x → ⊥ }
 {}
 
-/// At most one fault of a text is due, and none where it is the text of a board.
+/// At most one fault of a text is due, and none if it is the text of a board.
 pub fn one_board_fault_is_due()
     ensures one { (text : List ℕ) (fault other : BoardFault) → IsFaulty text fault → IsFaulty text other → fault ≡ other }
     ensures none { (text board : List ℕ) (fault : BoardFault) → IsFaulty text fault → IsBoard board → text ≡ text_of board → ⊥ }

@@ -16,8 +16,8 @@ pub struct Moved {
     pub captured: u8,
 }
 
-/// Why a pit can't be played. A fault is answered only where none of those above it is due. Printed,
-/// it is its number and its name.
+/// Why a pit can't be played. A fault is answered only if none of those above it is due. It is
+/// printed as its number and its name.
 #[derive(Clone, Copy, Debug, PartialEq, Eq, Error)]
 pub enum MoveFault {
     /// 4: the mover's pits are 0 to 5.

@@ -10,16 +10,16 @@ use arrayvec::ArrayVec;
 use std::fmt;
 use thiserror::Error;
 
-/// What parts the twelve pits of a text.
+/// The separators between the twelve pits of a text, in order.
 const MARKS: [u8; 11] = *b",,,,,/,,,,,";
 
-/// Why a text is no board. A fault is answered only where none of those above it is due. Printed, it
-/// is its number and its name.
+/// Why a text is not a board. A fault is answered only if none of those above it is due. It is
+/// printed as its number and its name.
 #[derive(Clone, Copy, Debug, PartialEq, Eq, Error)]
 pub enum BoardFault {
-    /// 1: the text is not twelve fields, parted by five commas, a slash and five commas.
+    /// 1: the text is not twelve fields with five commas, a slash and five commas between them.
     Shape,
-    /// 2: a field is not `0`, nor one or two digits of which the first is not 0.
+    /// 2: a field is neither `0` nor one or two digits that begin with 1 to 9.
     Number,
     /// 3: the numbers come to more than 48.
     TooMany,
@@ -54,7 +54,7 @@ impl fmt::Display for BoardFault {
     }
 }
 
-/// Whether `text` is twelve fields parted by five commas, a slash and five commas.
+/// Whether `text` is twelve fields with five commas, a slash and five commas between them.
 pub fn is_shaped(text: &[u8]) -> bool
     ensures { IsTrue result ↔ IsShaped text.now }
 {
@@ -83,7 +83,7 @@ fn is_separator(byte: u8) -> bool
     byte == b',' || byte == b'/'
 }
 
-/// The twelve numbers of a text of the right shape, or none where a field is no number below 100.
+/// The twelve numbers of a text of the right shape, or none if a field is not a number below 100.
 pub fn read_pits(text: &[u8]) -> Option<[u8; 12]>
     requires { IsShaped text.now }
     ensures read { IfSome result (IsReadAs text.now) }
@@ -147,7 +147,7 @@ pub fn total(pits: &[u8; 12]) -> u16
     total
 }
 
-/// Writes the stones of pit `place`, and what parts it from the next one.
+/// Writes the stones of pit `place`, and the separator before the next pit.
 pub fn push_pit(text: &mut ArrayVec<u8, 35>, place: u8, stones: u8)
     requires place { place < 12 }
     requires stones { stones < 100 }

@@ -17,7 +17,7 @@ pub struct Game {
     /// What the first mover captured less what the second captured.
     running: i16,
     first_moves: bool,
-    /// The plies since the last capture or the start, staying at the greatest number.
+    /// The plies since the last capture or the start, at most the greatest u64.
     quiet: u64,
 }
 
@@ -36,7 +36,7 @@ impl Model for Game {
 }
 
 impl Game {
-    /// The play of no move from this position, whose mover is the first mover.
+    /// The play that begins at this position, with no move made. Its mover is the first mover.
     pub fn start(board: Board) -> Self
         ensures { Shows result board [] }
     {
@@ -50,8 +50,8 @@ impl Game {
         }
     }
 
-    /// Plays `pit` for the player to move. A pit that can't be played is refused as
-    /// [`Board::play`] refuses it, and then the game is as it was.
+    /// Plays `pit` for the player to move. A pit that can't be played is refused as [`Board::play`]
+    /// refuses it, and the game stays as it was.
     pub fn step(&mut self, pit: u8) -> Result<(), MoveFault>
         ensures ok { IsOk result ↔ IsLegal self.old.board pit }
         ensures played { OnOk result ((board pits : List ℕ) → Shows self.old board pits → Shows self.new board (pits ++ pit ∷ [])) }
@@ -83,17 +83,17 @@ impl Game {
         self.running
     }
 
-    /// The plies since the last capture, or since the start. It stays at the greatest number.
+    /// The plies since the last capture, or since the start, at most the greatest u64.
     pub fn quiet(&self) -> u64
         ensures { result ≡ self.now.quiet }
     {
         self.quiet
     }
 
-    /// The outcome, as the first mover sees it. Where no move is legal, it is what was captured and
-    /// what the mover gains, which counts against the first mover if the second is to move. Where a
-    /// move is legal, it is what was captured, once more than `limit` plies captured nothing; until
-    /// then there is none.
+    /// The outcome, as the first mover sees it. If no move is legal, it is what was captured and what
+    /// the mover gains, which counts against the first mover if the second is to move. Otherwise it
+    /// is what was captured, once more than `limit` plies captured nothing. Before that there is
+    /// none.
     pub fn outcome(&self, limit: u32) -> Option<i16>
         ensures none { IsNone result ↔ (((pit : ℕ) × IsLegal self.now.board pit) × (self.now.quiet ≤ limit)) }
         ensures some { (s : Standing) (outcome : ℤ) → IsShown self.now s → (result ≡ Some outcome) ↔ IsOutcome limit s outcome }

@@ -4,7 +4,8 @@
 ghost use Rattle.std.specs.Prelude.{◌≡◌, [], ◌∷◌, true, false, pos};
 ghost use Rattle.awari_game.specs.Plays.{IsOutcome, after, start};
 
-/// A capture of two, which leaves a board with one stone on which no move is legal; and a quiet move.
+/// Worked plays: a capture of two that leaves a board with one stone and no legal move, and a quiet
+/// move.
 pub fn worked_examples()
     ensures capture { after (start (0 ∷ 0 ∷ 0 ∷ 0 ∷ 0 ∷ 1 ∷ 1 ∷ 0 ∷ 1 ∷ 0 ∷ 0 ∷ 0 ∷ [])) 5
         ≡ record { board = 0 ∷ 0 ∷ 1 ∷ 0 ∷ 0 ∷ 0 ∷ 0 ∷ 0 ∷ 0 ∷ 0 ∷ 0 ∷ 0 ∷ []; running = pos 2; first_moves = false; quiet = 0 } }

@@ -13,7 +13,7 @@ use awari_board::{Board, SIDE};
 use awari_rank::unrank;
 use std::marker::Model;
 
-/// A position of at most 24 stones in one number. Contracts see the list of the twelve pits.
+/// A position of at most 24 stones in one number. Contracts see it as the list of the twelve pits.
 #[derive(Clone, Copy, PartialEq, Eq)]
 pub struct PackedBoard {
     bits: u64,
@@ -76,8 +76,8 @@ impl PackedBoard {
         ])
     }
 
-    /// The board with so many stones and of that rank. Condition: at most 24 stones, and a rank
-    /// below the number of such boards.
+    /// The board of this rank among those with so many stones. Conditions: at most 24 stones, and a
+    /// rank below the number of such boards.
     pub fn unrank(stones: u8, rank: u32) -> Self
         requires few { stones ≤ 24 }
         requires in_range { rank < size_of stones }
@@ -149,8 +149,8 @@ impl PackedBoard {
         }
     }
 
-    /// The position with one stone of pit `from` laid into pit `to`. Condition: the pits are two
-    /// below 12, and `from` holds stones.
+    /// The position with one stone moved from pit `from` to pit `to`. Conditions: both are below 12
+    /// and differ, and `from` holds stones.
     #[inline(always)]
     pub fn with_stone_moved(&self, from: u8, to: u8) -> PackedBoard
         requires from { from < 12 }
@@ -164,8 +164,8 @@ impl PackedBoard {
         }
     }
 
-    /// Whether a sowing that gave this position and ended in pit `last` captures nothing.
-    /// Condition: `last` is below 12.
+    /// Whether a sowing that ended in pit `last` and gave this position captures nothing. Condition:
+    /// `last` is below 12.
     #[inline(always)]
     pub fn captures_nothing(&self, last: u8) -> bool
         requires { last < 12 }
@@ -184,7 +184,7 @@ impl PackedBoard {
         rank(self.bits)
     }
 
-    /// The board of the next rank among those with as many stones, and `None` for the last of them.
+    /// The board of the next rank among those with as many stones, or `None` if this is the last.
     #[inline(always)]
     pub fn successor(&self) -> Option<PackedBoard>
         ensures last { IsNone result ↔ (rank_of self.now + 1 ≡ size_of (sum self.now)) }

@@ -16,7 +16,8 @@ pub fn other_stones(bits: u64) -> u8
     pit(right_sums(bits), 6)
 }
 
-/// Takes from the pits after a sowing the opponent's of two or three stones from `last` backward.
+/// Captures after a sowing: empties the opponent's pits of two or three stones from `last` backward.
+/// Gives the number of what is left, and the stones that were taken.
 #[inline(always)]
 pub fn capture(bits: u64, last: u8) -> (u64, u8)
     requires packing { IsPacking bits }

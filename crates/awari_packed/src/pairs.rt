@@ -379,7 +379,7 @@ static PAIRS: [[u32; 800]; 6] = [
     ],
 ];
 
-/// How many larger boards the sums from pits `11 - 2 * row` and `10 - 2 * row` on tell of.
+/// How many larger boards are counted by the sums from pits `11 - 2 * row` and `10 - 2 * row` on.
 #[inline(always)]
 pub fn two_pits(sums: u64, row: u8) -> u32
     requires row { row < 5 }
@@ -390,7 +390,7 @@ pub fn two_pits(sums: u64, row: u8) -> u32
     PAIRS[row as usize][((sums >> (10 * row)) % 1024) as usize]
 }
 
-/// The boards of the level but one, without those that the sum from pit 1 on tells of.
+/// The boards of the level, less one and less those that the sum from pit 1 on counts.
 #[inline(always)]
 pub fn level(sums: u64) -> u32
     requires all { slice_index (pits_of sums) 0 ≤ 24 }

@@ -8,7 +8,7 @@ ghost use Rattle.awari_packed.specs.Packed.{IsPacking, pits_of};
 /// How many numbers the pits after pit 0 have.
 pub const REST: u64 = 36028797018963968;
 
-/// The number of the board of the next rank. Stones lie after pit 0.
+/// The number of the board of the next rank. Condition: some pit after pit 0 holds stones.
 #[inline(always)]
 pub fn next(bits: u64) -> u64
     requires packing { IsPacking bits }

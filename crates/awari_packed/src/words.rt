@@ -16,7 +16,7 @@ pub fn pit(bits: u64, i: u8) -> u8
     ((bits >> (55 - 5 * i)) % 32) as u8
 }
 
-/// Empties pit `i`, which holds so many stones.
+/// The number with pit `i`, which holds so many stones, emptied.
 #[inline(always)]
 pub fn without(bits: u64, i: u8, stones: u8) -> u64
     requires packing { IsPacking bits }
@@ -27,7 +27,7 @@ pub fn without(bits: u64, i: u8, stones: u8) -> u64
     bits - (u64::from(stones) << (55 - 5 * i))
 }
 
-/// Takes a stone from pit `from`, which holds some, and lays it into pit `to`.
+/// The number with a stone moved from pit `from`, which holds some, to pit `to`.
 #[inline(always)]
 pub fn with_stone_moved(bits: u64, from: u8, to: u8) -> u64
     requires packing { IsPacking bits }
@@ -40,7 +40,7 @@ pub fn with_stone_moved(bits: u64, from: u8, to: u8) -> u64
     bits - (1 << (55 - 5 * from)) + (1 << (55 - 5 * to))
 }
 
-/// Sows the stones of pit `origin`, so many, by one addition.
+/// The number after the stones of pit `origin`, so many, are sown. It is one addition.
 #[inline(always)]
 pub fn sow(bits: u64, origin: u8, stones: u8) -> u64
     requires packing { IsPacking bits }
@@ -66,7 +66,7 @@ pub fn turned(bits: u64) -> u64
     ((bits % HALF) << 30) + (bits >> 30)
 }
 
-/// The number that has in each pit the stones from that pit on.
+/// The number that has in each pit the sum of the stones from that pit on.
 #[inline(always)]
 pub fn right_sums(bits: u64) -> u64
     requires { IsPacking bits }

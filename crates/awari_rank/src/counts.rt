@@ -10,12 +10,13 @@ pub const MOST_STONES: u8 = 24;
 /// A row of the table is asked for each number of stones from 0 to one more than a board has.
 const COLUMNS: usize = MOST_STONES as usize + 2;
 
-/// Row `pit` has, at `stones`, the number of ways to lay fewer than `stones` stones in the pits
-/// after `pit`.
+/// Row `pit` has, at `stones`, the number of ways to lay fewer than `stones` stones in the pits after
+/// `pit`.
 ///
-/// A rank is the number of smaller boards. To count those that first differ at a pit takes a number for
-/// each stone fewer in it. The larger ones that first differ there have fewer stones after it, however
-/// they lie, which is one number a pit. So these are counted, and the rank is what they leave of the level.
+/// A rank is the number of smaller boards. Counting those that first differ at a pit takes one number
+/// for each stone that is missing there. Larger boards are easier to count: those that first differ
+/// at a pit have fewer stones after it, however these lie, which is one number a pit. So the larger
+/// boards are counted, and the rank is the rest of the level.
 static FEWER: [[u32; COLUMNS]; 11] = [
     [
         0, 1, 12, 78, 364, 1365, 4368, 12376, 31824, 75582, 167960, 352716, 705432, 1352078,

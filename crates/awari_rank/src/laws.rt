@@ -12,7 +12,7 @@ pub fn tuples_are_listed_once()
     ensures nothing_else { (k n : ℕ) → All (IsTuple k n) (tuples k n) }
 {}
 
-/// Two lists are the same by the lexicographic comparison where they are equal.
+/// Lists that the lexicographic comparison calls the same are equal.
 pub fn same_lists_are_equal()
     ensures { (a b : List ℕ) → (is_same a b ≡ true) ↔ (a ≡ b) }
 {}

@@ -44,11 +44,10 @@ pub fn rank(board: &Board) -> u32
     boards - 1 - larger
 }
 
-/// The board with so many stones, at most `MOST_STONES`, and of that rank, which is below the
-/// number of such boards.
+/// The board of this rank among those with so many stones. Conditions: at most `MOST_STONES` stones,
+/// and a rank below the number of such boards.
 ///
-/// It takes no memory, and no more steps than there are stones and pits: what is left for the pits
-/// to the right only falls.
+/// It takes no memory, and no more steps than there are stones and pits.
 pub fn unrank(stones: u8, rank: u32) -> Board
     requires few { stones ≤ MOST_STONES }
     requires in_range { rank < size_of stones }

@@ -8,12 +8,12 @@ ghost use Rattle.awari_rank.specs.declared.counts.TheConstants.{MOST_STONES};
 
 use awari_board::Board;
 
-/// The board of the next rank among those with as many stones, or none for the last of them. The
-/// board has at most `MOST_STONES` stones.
+/// The board of the next rank among those with as many stones, or none if this is the last.
+/// Condition: the board has at most `MOST_STONES` stones.
 ///
-/// It ranks nothing and takes no memory. Of the stones in the last pit that holds any, one goes to
-/// the pit before it, so that the board becomes larger, and the others go to the last pit, so that
-/// it becomes larger by as little as it can.
+/// It computes no rank and takes no memory. From the last pit that holds stones, one goes to the pit
+/// before it, which makes the board larger. The others go to the last pit, which makes it larger by
+/// as little as possible.
 pub fn successor(board: &Board) -> Option<Board>
     requires { sum board.now ≤ MOST_STONES }
     ensures last { IsNone result ↔ (rank_of board.now + 1 ≡ size_of (sum board.now)) }
@@ -33,7 +33,7 @@ pub fn successor(board: &Board) -> Option<Board>
     Some(Board::new(pits))
 }
 
-/// The last pit that holds stones, or pit 0 where none does.
+/// The last pit that holds stones, or pit 0 if none does.
 fn last_held(pits: &[u8; 12]) -> usize
     ensures { IsLastHeld pits.now result }
 {

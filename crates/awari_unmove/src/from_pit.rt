@@ -12,9 +12,10 @@ ghost use Rattle.awari_unmove.specs.Undoing.{IsUndoingFrom, unmoves_from};
 use awari_packed::PackedBoard;
 use std::marker::Model;
 
-/// What [`Unmoves`](crate::Unmoves) gives of one pit, of packed boards: the boards whose quiet
-/// move from it gives a board of at most 24 stones, each once, by the stones sown, and each with the
-/// pit. Contracts see the list of those that are still to come.
+/// The quiet moves from one pit that lead to a board of at most 24 stones, packed. It gives the
+/// boards before the move, each once and with the pit, by the stones sown.
+/// [`Unmoves`](crate::Unmoves) does the same for all pits. Contracts see it as the list of what is
+/// still to come.
 #[derive(Drop)]
 pub struct PitUnmoves {
     /// The board as the player before saw it.
@@ -40,8 +41,8 @@ impl Model for PitUnmoves {
 }
 
 impl PitUnmoves {
-    /// The quiet moves of pit `pit` that lead to `board`. Condition: `pit` is below 6. It takes no
-    /// memory. A pit that is not empty now gives nothing, as one is empty that was just played.
+    /// The quiet moves of pit `pit` that lead to `board`. A pit that holds stones gives none, since a
+    /// pit that was just played is empty. Condition: `pit` is below 6. It takes no memory.
     #[inline(always)]
     pub fn of(board: &PackedBoard, pit: u8) -> Self
         requires { pit < 6 }
@@ -105,7 +106,7 @@ fn next_from(
     None
 }
 
-/// Takes one more stone back into the empty pit. Gives the board that is reached where its move is
+/// Takes one more stone back into the empty pit. Gives the board that is reached, if its move is
 /// quiet.
 #[inline(always)]
 fn take_back(

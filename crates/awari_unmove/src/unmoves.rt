@@ -8,9 +8,9 @@ use crate::search::next_unmove;
 use awari_board::{Board, turned};
 use std::marker::Model;
 
-/// The boards and pits whose quiet move gives a board, each once, by pits ascending and then by
-/// the stones sown. A grand slam captures nothing, so it is among them. Contracts see the list of
-/// those that are still to come.
+/// The boards and pits whose quiet move gives a board, each once, by pits ascending and then by the
+/// stones sown. A grand slam captures nothing, so it is among them. Contracts see it as the list of
+/// what is still to come.
 #[derive(Drop)]
 pub struct Unmoves {
     /// The board as the player before saw it.
@@ -34,9 +34,8 @@ impl Model for Unmoves {
 }
 
 impl Unmoves {
-    /// The quiet moves that lead to `board`, of at most 48 stones as each board has. It takes no
-    /// memory, and tries only what a sowing can have come from: pits that are empty now, and as
-    /// many stones as can be taken back.
+    /// The quiet moves that lead to `board`. It takes no memory. It tries only what can have been a
+    /// sowing: pits that are empty now, and as many stones as can be taken back.
     pub fn of(board: &Board) -> Self
         ensures predecessors { IsPredecessors board.now result }
         ensures few { length result ≤ 288 }
