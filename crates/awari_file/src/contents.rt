@@ -5,21 +5,22 @@ use awari_table::Image;
 /// What stands before the entries.
 #[derive(Clone, Copy)]
 pub(crate) struct Header {
-    /// By it goes the highest level that the file may be of.
+    /// The version, which sets the highest level that the file may have.
     pub version: u16,
     pub level: u8,
     pub limit: u32,
     pub below: [u8; 32],
 }
 
-/// What was read from the file of a level. Its bytes are right; what it says of boards is unchecked.
+/// What was read from the file of a level. The file's form and digest are right; what it says of
+/// boards is unchecked.
 #[derive(Debug, Drop)]
 pub struct Loaded {
-    /// The version of the file: 1, of tables whose distances only had to fall, or 2.
+    /// The version of the file: 2, or 1 for older tables, whose distances only had to fall.
     pub version: u16,
     /// The level, and what is said of its boards.
     pub image: Image,
-    /// What the file says is the digest of the file of the level below, zeros for level 0.
+    /// The digest that the file gives for the file of the level below, zeros for level 0.
     pub below: [u8; 32],
     /// The last 32 bytes of the file, which are the SHA-256 of all before them.
     pub digest: [u8; 32],

@@ -7,8 +7,8 @@ use std::alloc::AllocError;
 use std::fmt;
 use thiserror::Error;
 
-/// Why the file of a level is not read or written. Reading answers the fault of the first field
-/// that has one, in the order of the bytes. Printed, a fault is its number and its name.
+/// Why the file of a level is not read or written. Reading answers the fault of the first field that
+/// has one, in the order of the bytes. A fault is printed as its number and its name.
 #[derive(Clone, Copy, Debug, PartialEq, Eq, Error)]
 pub enum FileFault {
     /// 60: the input ends within a field.

@@ -21,7 +21,7 @@ pub(crate) const MAGIC: u32 = 0x4157_4442;
 /// The version that is written.
 pub(crate) const VERSION: u16 = 2;
 
-/// The version of tables whose distances only had to fall, which is read too.
+/// The version of older tables, whose distances only had to fall. It is still read.
 pub const OLD_VERSION: u16 = 1;
 
 /// Stands in the place of a pit where there is no plan.

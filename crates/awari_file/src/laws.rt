@@ -4,8 +4,7 @@ ghost use Rattle.std.specs.Prelude.{◌≡◌, ℕ, List};
 ghost use Rattle.awari_table.specs.declared.images.Image.{Image};
 ghost use Rattle.awari_file.specs.FileText.{HasFile, file_text};
 
-/// A file is that of one image over one digest in one version: two that have the same bytes are the
-/// same.
+/// No two files have the same bytes, unless image, digest and version are the same.
 pub fn files_tell_images_apart()
     ensures { (version other : ℕ) (image shown : Image) (below under : List ℕ)
         → HasFile version image below → HasFile other shown under

@@ -111,11 +111,12 @@ fn put_entries<W: Write>(
     Ok(())
 }
 
-/// Writes the file of a level, in version 2, over the file whose digest is `below`, zeros for level 0,
-/// and gives the digest that it ends in. It takes no memory, and doesn't flush.
+/// Writes the file of a level, in version 2, and gives the digest that the file ends in. `below` is
+/// the digest of the file of the level below, zeros for level 0. It takes no memory, and doesn't
+/// flush.
 ///
-/// It is refused as 70 where the writer answers a fault or takes no byte, and then nothing is known
-/// of what the writer holds.
+/// It is refused as 70 if the writer answers a fault or takes no byte. Then nothing is known of what
+/// the writer holds.
 pub fn write_level<W: Write>(
     level: &Level,
     below: [u8; 32],

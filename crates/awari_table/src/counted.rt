@@ -11,8 +11,8 @@ use std::io::{self, Error, ErrorKind, Read, Write};
 /// How often a call is made in a row while it is interrupted: once, and 1000 times again.
 const TURNS: u32 = 1001;
 
-/// Passes the calls of a reader or a writer on, and counts those that answered a fault or, writing
-/// a slice that is not empty, took no byte.
+/// Passes the calls of a reader or a writer on, and counts its faults: the calls that answered a
+/// fault, and writes of some bytes that took none.
 ///
 /// A call that is interrupted is made again, at most 1000 times in a row. Then it is answered as a
 /// fault of kind `Other` and counted once. It takes no memory.
@@ -25,7 +25,7 @@ pub struct Counted<T> {
 impl<T> Counted<T> {
     ghost use Rattle.awari_table.specs.Counted.{inner_of, faults_of, one_more};
 
-    /// Holds this reader or writer, of which no fault is counted yet.
+    /// Takes this reader or writer, with no fault counted yet.
     pub fn new(inner: T) -> Self
         ensures inner { inner_of result ≡ inner }
         ensures faults { faults_of result ≡ 0 }
@@ -33,14 +33,14 @@ impl<T> Counted<T> {
         Counted { inner, count: 0 }
     }
 
-    /// The reader or writer itself, for the one who held it before.
+    /// The reader or writer itself.
     pub fn into_inner(self) -> T
         ensures { result ≡ inner_of self }
     {
         self.inner
     }
 
-    /// How many faults there were so far. It stays at the greatest u64.
+    /// How many faults there were so far, at most the greatest u64.
     pub fn faults(&self) -> u64
         ensures { result ≡ faults_of self.now }
     {
@@ -127,8 +127,8 @@ impl<W: Write> Call<W> for Flushing {
 impl<T> Counted<T> {
     ghost use Rattle.awari_table.specs.Counted.{inner_of, faults_of, one_more};
 
-    /// Makes the call, and again while it is interrupted, 1001 times at most in all. A fault is
-    /// counted.
+    /// Makes the call, and makes it again while it is interrupted, at most 1001 times in all. A fault
+    /// is counted.
     fn repeat<C: Call<T>>(&mut self, call: &C, room: &mut [u8]) -> io::Result<C::Answer>
         ensures given { IfOk result (λ answer. (mid : Option (List ℕ)) × Keeps (C.bytes (inner_of self.old)) mid
             × C.gives mid (C.bytes (inner_of self.new)) call.now room.new answer) }

@@ -7,12 +7,12 @@ use std::alloc::AllocError;
 use std::fmt;
 use thiserror::Error;
 
-/// Why the text of a table is refused, at its first line that has a fault. Lines are numbered from
-/// 1. Of one line, the faults are looked for in the order of 13, 10, 12, 11. Printed, a fault is its
+/// Why the text of a table is refused, at the first line that has a fault. Lines are numbered from 1.
+/// In one line, the faults are looked for in the order 13, 10, 12, 11. A fault is printed as its
 /// number, its name, and its field with its name.
 #[derive(Clone, Copy, Debug, PartialEq, Eq, Error)]
 pub enum TableFault {
-    /// 10: the line has its line feed, and is not of the form that is due there.
+    /// 10: the line ends in a line feed, and does not have the form that is due there.
     Line { line: u64 },
     /// 11: the line is the header of a level up to the highest, and not of the next level.
     Order { line: u64 },

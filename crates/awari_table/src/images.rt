@@ -11,10 +11,10 @@ pub struct Entry {
     /// The best difference in stones that the mover can still gain: what the mover captures from
     /// here on, less what the opponent does, with what the end of play gives.
     pub value: i8,
-    /// The mover's pit to play, 0 to 5, or none where the play has ended.
+    /// The mover's pit to play, 0 to 5, or none if the play has ended.
     pub plan: Option<u8>,
     /// The plies within which a capture or the end of play comes, while the side with the positive
-    /// value follows its plans. It is 0 where the value is 0 or the play has ended.
+    /// value follows its plans. It is 0 if the value is 0 or the play has ended.
     pub dist: u32,
 }
 
@@ -81,7 +81,8 @@ impl Entries {
     }
 }
 
-/// What is said to be a level: an entry for each board of `level` stones. Nothing of it is checked.
+/// What is said to be a level: an entry for each board of `level` stones. Nothing of it has been
+/// checked.
 #[derive(Debug, Drop)]
 pub struct Image {
     /// The stones on each board.
@@ -92,7 +93,7 @@ pub struct Image {
     pub entries: Entries,
 }
 
-/// The greatest distance of the entries, in plies, 0 where there is none. It takes no memory.
+/// The greatest distance of the entries, in plies; 0 if there are none. It takes no memory.
 pub fn greatest_dist(entries: &[Entry]) -> u32
     ensures { result ≡ greatest_dist entries.now }
 {

@@ -21,8 +21,8 @@ pub fn shelves_are_certificates()
     ensures { (levels : List Image) → IsShelf levels → IsCertificate (table_of levels) (length levels) (greatest_limit levels) }
 {}
 
-/// The lowest levels of a shelf are a shelf. So what is said of a board needs no limit of a level
-/// above it.
+/// The lowest levels of a shelf are a shelf. So what is said of a board does not depend on the levels
+/// above its own.
 pub fn fronts_are_shelves()
     ensures { (levels : List Image) (n : ℕ) → IsShelf levels → IsShelf (take n levels) }
 {}
@@ -32,8 +32,8 @@ pub fn texts_tell_images_apart()
     ensures { (xs ys : List Image) → AreImages 0 xs → AreImages 0 ys → table_text xs ≡ table_text ys → xs ≡ ys }
 {}
 
-/// Want of memory aside, at most one fault is due, and none where an image of the level that is due
-/// stands.
+/// Apart from want of memory, at most one fault is due, and none if an image of the level that is due
+/// stands there.
 pub fn one_text_fault_is_due()
     ensures one { (level line : ℕ) (bytes : List ℕ) (f g : TableFault) → f ≢ TableFault.Memory → g ≢ TableFault.Memory
         → IsDueAt level line bytes f → IsDueAt level line bytes g → f ≡ g }
@@ -41,8 +41,8 @@ pub fn one_text_fault_is_due()
         → IsImage level image → bytes ≡ block image ++ rest → IsDueAt level line bytes fault → ⊥ }
 {}
 
-/// The definitions at rows that were worked out by hand: the lines of a text, each with its line feed (10), and
-/// the plies of a capture and of a quiet move.
+/// The definitions at rows that were worked out by hand: the lines of a text, each with its line feed
+/// (10), and the plies of a capture and of a quiet move.
 pub fn worked_examples()
     ensures header { header_line 2 9 ≡ codes "level 2 limit 9" ++ 10 ∷ [] }
     ensures lost { entry_line (record { value = neg_ℤ (pos 1); plan = Some 5; dist = 1 }) ≡ codes "-1 5 1" ++ 10 ∷ [] }

@@ -27,8 +27,9 @@ impl Model for Level {
 }
 
 impl Level {
-    /// Takes an image over as it is, with no memory. Its level must be at most `HIGHEST_LEVEL`, its
-    /// entries as many as the level has boards, and each plan absent or 0 to 5.
+    /// The image as a level. It is taken over as it is, with no memory. Conditions: its level is at
+    /// most `HIGHEST_LEVEL`, it has an entry for each board of the level, and each plan is absent or
+    /// 0 to 5.
     pub fn new(image: Image) -> Self
         requires { IsLevel image }
         ensures { result ≡ image }
@@ -44,7 +45,8 @@ impl Level {
         self.image.level
     }
 
-    /// The limit that the image names: in a level on a shelf, its greatest distance in plies.
+    /// The limit that the image names. For a level on a shelf that is its greatest distance, in
+    /// plies.
     pub fn limit(&self) -> u32
         ensures { result ≡ self.now.limit }
     {
@@ -58,7 +60,8 @@ impl Level {
         self.image.entries.as_slice()
     }
 
-    /// The entry of the board of this rank, which must be below the number of boards of the level.
+    /// The entry of the board of this rank. Condition: the rank is below the number of boards of the
+    /// level.
     pub fn entry_at(&self, rank: u32) -> Entry
         requires { rank < size_of self.now.level }
         ensures { slice_get self.now.entries rank ≡ Some result }

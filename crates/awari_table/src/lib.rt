@@ -46,9 +46,10 @@ pub use spelling::{
 };
 pub use text::TableText;
 
-/// The highest level that a shelf may hold, in stones. What reads or writes tables goes by this one;
-/// boards, ranks and parts of levels are bounded by 24 stones, its value, which a law tells.
+/// The highest level that a shelf may hold, in stones. What reads or writes tables goes by this
+/// constant. Boards, ranks and parts of levels are bounded by 24 stones; a law says that this is the
+/// same number.
 pub const HIGHEST_LEVEL: u8 = 24;
 
-/// The highest level of tables whose distances only had to fall.
+/// The highest level of older tables, whose distances only had to fall along the plans.
 pub const HIGHEST_FALLING_LEVEL: u8 = 12;

@@ -8,11 +8,10 @@ use crate::images::Entry;
 /// What rule V6 asks of distances.
 #[derive(Clone, Copy, Debug, PartialEq, Eq)]
 pub enum Distances {
-    /// That they fall along the plans: what was asked at first, of levels up to
-    /// `HIGHEST_FALLING_LEVEL`.
+    /// They fall along the plans. This is the older rule, for levels up to `HIGHEST_FALLING_LEVEL`.
     Falling,
-    /// That they are the least: of a won board the fewest plies of a move that gains the value, of a lost one
-    /// the most plies of a move.
+    /// They are the least: the fewest plies of a move that gains the value if the board is won, and
+    /// the most plies of any move if it is lost.
     Least,
 }
 
@@ -24,15 +23,15 @@ pub struct Reached {
 }
 
 impl Reached {
-    /// What the mover gains by the move, in stones: those captured, less the value of the board that is
-    /// left.
+    /// What the mover gains by the move, in stones: those captured, less the value of the board that
+    /// is left.
     pub fn gain(&self) -> i16
         ensures { result ≡ gain_of self.now }
     {
         i16::from(self.captured) - i16::from(self.entry.value)
     }
 
-    /// How many plies the move takes: one where it captures, and else one more than the distance of the
+    /// How many plies the move takes: one if it captures, else one more than the distance of the
     /// board that is left, which may be the greatest u32.
     pub fn plies(&self) -> u64
         ensures { result ≡ plies_of self.now }

@@ -21,11 +21,12 @@ use thiserror::Error;
 /// The levels from 0 to the highest.
 const SLOTS: usize = HIGHEST_LEVEL as usize + 1;
 
-/// The board's level is not on the shelf. Printed, it is its number, its name, and its field with its
-/// name.
+/// The board's level is not on the shelf. It is printed as its number, its name, and its field with
+/// its name.
 #[derive(Clone, Copy, Debug, PartialEq, Eq, Error)]
 pub struct NotYet {
-    /// How many levels the shelf has: those below this number.
+    /// How many levels the shelf has. They are numbered from 0, so this one is the first that it
+    /// lacks.
     pub levels: u8,
 }
 
@@ -49,8 +50,8 @@ impl fmt::Display for NotYet {
     }
 }
 
-/// The levels 0, 1, 2 and so on, up to `HIGHEST_LEVEL` at most, each consistent over those below
-/// it. A contract sees a shelf as the list of their images.
+/// The levels 0, 1, 2 and so on, at most up to `HIGHEST_LEVEL`, each consistent over those below it.
+/// A contract sees a shelf as the list of their images.
 #[derive(Drop)]
 pub struct Shelf {
     slots: ArrayVec<Option<Arc<Level, Global>>, SLOTS>,
@@ -86,7 +87,7 @@ impl Shelf {
         self.slots.len() as u8
     }
 
-    /// The greatest limit of the levels in plies, 0 where there is none.
+    /// The greatest limit of the levels, in plies; 0 if there is no level.
     pub fn limit(&self) -> u32
         ensures { result ≡ greatest_limit self.now }
     {
@@ -97,8 +98,8 @@ impl Shelf {
         limit
     }
 
-    /// A shelf of the same levels, which both then hold. It is refused only where the sharing of a
-    /// level's `Arc` is, and takes no other memory.
+    /// A second shelf that holds the same levels. Each level's `Arc` is shared, and the call is
+    /// refused only if that is. It takes no other memory.
     pub fn share(&self) -> Result<Shelf, AllocError>
         ensures { IfOk result (λ shelf. shelf ≡ self.now) }
     {
@@ -109,8 +110,8 @@ impl Shelf {
         Ok(shelf)
     }
 
-    /// Puts a level on top. It must be consistent over the shelf, and so be its next level. It
-    /// takes no memory.
+    /// Puts a level on top. Condition: the level is consistent over the shelf, and so its next level.
+    /// It takes no memory.
     pub fn push(&mut self, level: Arc<Level, Global>)
         requires { Consistent self.old (arc_value level) }
         ensures { self.new ≡ self.old ++ arc_value level ∷ [] }
@@ -118,7 +119,7 @@ impl Shelf {
         self.slots.push(Some(level));
     }
 
-    /// The level of this number, which must be below `levels()`.
+    /// The level of this number. Condition: it is below `levels()`.
     pub fn level(&self, number: u8) -> &Arc<Level, Global>
         requires { number < length self.now }
         ensures { slice_get self.now number ≡ Some (arc_value result.now) }
@@ -129,8 +130,8 @@ impl Shelf {
         }
     }
 
-    /// The entry of a board. It is refused as 59 exactly where the board has at least as many stones
-    /// as there are levels. It takes no memory.
+    /// The entry of a board. It is refused as 59 if the board has at least as many stones as there
+    /// are levels, and only then. It takes no memory.
     pub fn entry(&self, board: &Board) -> Result<Entry, NotYet>
         ensures known { IsOk result ↔ (sum board.now < length self.now) }
         ensures entry { IfOk result (λ e. e ≡ entry_of self.now board.now) }
@@ -146,8 +147,8 @@ impl Shelf {
         }
     }
 
-    /// The entry of a packed board. Condition: it has so many stones, fewer than there are
-    /// levels. It takes no memory.
+    /// The entry of a packed board. Conditions: the board has `stones` stones, and there are more
+    /// levels than that. It takes no memory.
     #[inline(always)]
     pub fn entry_below(&self, board: &PackedBoard, stones: u8) -> Entry
         requires stones { sum board.now ≡ stones }

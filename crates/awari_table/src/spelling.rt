@@ -15,8 +15,8 @@ use crate::shelves::Shelf;
 use arrayvec::ArrayVec;
 use std::io::{self, Write};
 
-/// Room for a line, in bytes. Here the longest is of an entry or a header and has 27 bytes, with its
-/// line feed; lines that other crates spell are longer.
+/// Room for a line, in bytes. The longest line of an entry or a header has 27 bytes with its line
+/// feed. Lines that other crates spell are longer.
 pub const LINE_ROOM: usize = 80;
 
 /// A line that is being spelled.
@@ -28,7 +28,7 @@ const BATCH: usize = 200;
 /// Room for the lines of as many entries, of 23 bytes each.
 const BATCH_ROOM: usize = 4600;
 
-/// Puts the text at the end of the line, which must have room for it.
+/// Puts the text at the end of the line. Condition: the line has room for it.
 pub fn push_text(line: &mut TextLine, text: &[u8])
     requires { array_vec_len line.old + length text.now ≤ LINE_ROOM }
     ensures items { line.new.items ≡ line.old.items ++ text.now }
@@ -39,7 +39,7 @@ pub fn push_text(line: &mut TextLine, text: &[u8])
     };
 }
 
-/// Puts the decimal of the number at the end of the line, which must have room for it.
+/// Puts the number in decimal at the end of the line. Condition: the line has room for it.
 #[tactic(auto, using(crate::proofs::Digits::one_digit, crate::proofs::Digits::more_digits))]
 pub fn push_number(line: &mut TextLine, number: u64)
     requires { array_vec_len line.old + length (decimal number) ≤ LINE_ROOM }
@@ -54,8 +54,8 @@ pub fn push_number(line: &mut TextLine, number: u64)
     line.push(b'0' + (number % 10) as u8);
 }
 
-/// Puts the decimal of the number, with its sign, at the end of the line, which must have room for 6
-/// bytes.
+/// Puts the number in decimal, with its sign, at the end of the line. Condition: the line has room
+/// for 6 bytes.
 #[tactic(auto, using(crate::proofs::Digits::five_digits))]
 pub fn push_signed(line: &mut TextLine, number: i16)
     requires { array_vec_len line.old + 6 ≤ LINE_ROOM }
@@ -155,9 +155,11 @@ fn write_entries<W: Write>(entries: &[Entry], writer: &mut Counted<W>) -> io::Re
     Ok(())
 }
 
-/// Writes the text of a level, of which `TableText` reads the level again: its header, and a line for
-/// each entry. It takes no memory, and doesn't flush. It is refused only where the writer answers a
-/// fault or takes no byte, and then nothing is known of what the writer holds.
+/// Writes the text of a level, which `TableText` reads as that level again: its header, and a line
+/// for each entry. It takes no memory, and doesn't flush.
+///
+/// It is refused only if the writer answers a fault or takes no byte. Then nothing is known of what
+/// the writer holds.
 pub fn write_level_text<W: Write>(level: &Level, writer: &mut Counted<W>) -> io::Result<()>
     ensures written { OnOk result (Appends (W.contents (inner_of writer.old)) (W.contents (inner_of writer.new)) (block level.now)) }
     // What was written is the text of an image, which `TableText` reads.
@@ -169,9 +171,11 @@ pub fn write_level_text<W: Write>(level: &Level, writer: &mut Counted<W>) -> io:
     write_entries(level.entries(), writer)
 }
 
-/// Writes the text of the levels of a shelf, which `check` says yes to. It takes no memory, and doesn't
-/// flush. It is refused only where the writer answers a fault or takes no byte, and then nothing is
-/// known of what the writer holds.
+/// Writes the text of the levels of a shelf. `check` of `awari_check` says yes to it. It takes no
+/// memory, and doesn't flush.
+///
+/// It is refused only if the writer answers a fault or takes no byte. Then nothing is known of what
+/// the writer holds.
 pub fn write_shelf_text<W: Write>(shelf: &Shelf, writer: &mut Counted<W>) -> io::Result<()>
     ensures written { OnOk result (Appends (W.contents (inner_of writer.old)) (W.contents (inner_of writer.new)) (table_text shelf.now)) }
     ensures images { OnOk result (AreImages 0 shelf.now) }

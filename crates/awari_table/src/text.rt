@@ -14,8 +14,7 @@ use crate::images::Image;
 use std::alloc::Global;
 use std::marker::Model;
 
-/// Reads the levels that the text of a table spells, one a call. A contract sees a reader as the
-/// place that it has come to.
+/// Reads the levels of a text, one a call. A contract sees a reader as the place that it has come to.
 #[derive(Drop)]
 pub struct TableText<'a> {
     text: &'a [u8],
@@ -39,7 +38,7 @@ impl<'a> Model for TableText<'a> {
 }
 
 impl<'a> TableText<'a> {
-    /// A reader at the start of the text. It takes no memory now; `next` takes a level's from this
+    /// A reader at the start of the text. It takes no memory yet: `next` takes each level's from this
     /// allocator.
     pub fn new(alloc: Global, text: &'a [u8]) -> Self
         ensures { result ≡ record { rest = text.now; next = 0; line = 1; refused = None } }
@@ -53,10 +52,10 @@ impl<'a> TableText<'a> {
         }
     }
 
-    /// The next level, none where nothing of the text is left, or the first fault. What is said of
-    /// boards is not judged. Once a fault was answered, each later call answers the same.
+    /// The next level, none at the end of the text, or the first fault. What the level says of boards
+    /// is not judged. Once a fault was answered, each later call answers the same fault.
     ///
-    /// It takes memory for the level's entries, once, when the level's header was read.
+    /// It takes memory for the level's entries, all at once, after the level's header.
     pub fn next(&mut self) -> Result<Option<Image>, TableFault>
         // What is read is spelled so, and a fault is due where it is answered.
         ensures reads { Reads self.old result self.new }

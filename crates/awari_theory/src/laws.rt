@@ -13,8 +13,8 @@ pub fn plays_end()
     ensures { (p : List ℕ) → IsBoard p → Ends p }
 {}
 
-/// Who follows a certificate's plans gets at least the value as first mover, and as second mover lets
-/// the first have no more.
+/// The first mover gets at least the value by following a certificate's plans. A second mover who
+/// follows them lets the first have no more.
 pub fn plans_secure()
     ensures { (t : Table) (levels limit : ℕ) → IsCertificate t levels limit → (p : List ℕ) → IsBoard p → sum p < levels → Secures t limit p }
 {}
@@ -25,7 +25,7 @@ pub fn plans_are_soon()
     ensures { (t : Table) (levels limit : ℕ) → IsCertificate t levels limit → (p : List ℕ) → IsBoard p → sum p < levels → Soon t p }
 {}
 
-/// Where both sides follow the plans, the play comes to an outcome, which is the value.
+/// If both sides follow the plans, the play comes to an outcome, which is the value.
 pub fn plans_come_to_the_value()
     ensures { (t : Table) (levels limit : ℕ) → IsCertificate t levels limit → (p : List ℕ) → IsBoard p → sum p < levels → Comes t limit p }
 {}
@@ -35,8 +35,8 @@ pub fn values_are_worths()
     ensures { (t : Table) (levels limit : ℕ) → IsCertificate t levels limit → (p : List ℕ) → IsBoard p → sum p < levels → IsRightWorth t p }
 {}
 
-/// A board has one worth at most. It is known by what the boards are worth that captures lead to,
-/// and the count of stones in its definition, which lets that end, doesn't matter.
+/// A board has at most one worth. The definition counts stones so that it comes to an end; the count
+/// that one begins with does not matter.
 pub fn worths_are_unique()
     ensures unique { (p : List ℕ) (v w : ℤ) → IsWorth p v → IsWorth p w → v ≡ w }
     ensures by_captures { (p : List ℕ) (w : ℤ) → IsBoard p → IsWorth p w ↔ IsWorthBy IsWorth p w }

@@ -14,7 +14,7 @@ pub fn shelves_tell_the_truth()
     ensures { (levels : List Image) → IsShelf levels → TellsTruth levels }
 {}
 
-/// Where both sides follow a shelf's plans, the play comes to an outcome, which is the value.
+/// If both sides follow a shelf's plans, the play comes to an outcome, which is the value.
 pub fn shelves_come_to_their_values()
     ensures { (levels : List Image) → IsShelf levels → (board : List ℕ) → IsBoard board → sum board < length levels
         → Comes (table_of levels) (greatest_limit (take (sum board + 1) levels)) board }
@@ -28,7 +28,8 @@ pub fn shelves_agree()
         → sum board < length levels → sum board < length others → (entry_of levels board).dist ≡ (entry_of others board).dist }
 {}
 
-/// The distance of each board is the least, by what boards are worth and by moves alone.
+/// The distance of each board is the least one, as the worths of boards and the moves alone define
+/// it.
 pub fn distances_are_least()
     ensures is { (levels : List Image) → IsShelf levels → (board : List ℕ) → IsBoard board → sum board < length levels
         → IsLeastDistance board (entry_of levels board).dist }

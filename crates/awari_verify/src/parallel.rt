@@ -22,8 +22,9 @@ use std::thread::Threads;
 /// How many boards are judged in one go. A level of fewer is judged by one thread.
 const PIECE: u64 = 4096;
 
-/// What [`verify`](crate::verify) answers, found by as many threads as there are processors; or 23
-/// `Memory`, where there was no room for what each piece of the level came to.
+/// Answers what [`verify`](crate::verify) does, with the boards shared among as many threads as there
+/// are processors. It takes memory for a result for each piece of the level. Want of it is 23
+/// `Memory`.
 pub fn verify_parallel<R: Threads + Sync>(
     rt: &R,
     alloc: Global,

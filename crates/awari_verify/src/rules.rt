@@ -11,7 +11,7 @@ use awari_table::{Distances, Entry, Reached};
 use std::fmt;
 
 /// The rules of a table, in the order in which they are judged. V1 to V6 are judged of each board,
-/// and V7 of the image as a whole. Printed, a rule is its name.
+/// and V7 of the image as a whole. A rule is printed as its name.
 #[derive(Clone, Copy, Debug, PartialEq, Eq)]
 pub enum Rule {
     /// The value is within the stones on the board, and the plan is absent or 0 to 5.
@@ -24,13 +24,15 @@ pub enum Rule {
     V4,
     /// The plan gains the value.
     V5,
-    /// Distances are the least: value 0 has distance 0, a positive board that is not ended the least
-    /// number of plies that a move takes which gains its value, and a negative one the greatest that a
-    /// move takes, where a capture takes one ply, and a quiet move one more than the distance that it
-    /// leads to; and the plan of a positive board captures or goes to a smaller distance. By the old
-    /// rules they only fall: value 0 has distance 0, any other board that is not ended at least 1, the
-    /// plan of a positive board captures or goes to a smaller distance, and every quiet move of a
-    /// negative board goes to a smaller distance.
+    /// Distances are the least. A board of value 0 has distance 0. A board of positive value that is
+    /// not ended has the fewest plies of a move that gains the value, and a board of negative value
+    /// the most plies of any move. A capture takes one ply, and a quiet move one more than the
+    /// distance that it leads to. The plan of a positive board captures or goes to a smaller
+    /// distance.
+    ///
+    /// The older rule asks less. A board of value 0 has distance 0, and any other that is not ended
+    /// at least 1. The plan of a positive board captures or goes to a smaller distance, and so does
+    /// every quiet move of a negative board go to a smaller one.
     V6,
     /// The limit is the greatest distance.
     V7,
@@ -55,20 +57,20 @@ impl fmt::Display for Rule {
     }
 }
 
-/// All that the rules ask of a board.
+/// All that the rules need to know of a board.
 #[derive(Clone, Copy)]
 pub struct Seen {
     /// The stones on the board.
     pub stones: u8,
     pub entry: Entry,
-    /// The mover's gain where the board is ended.
+    /// The mover's gain if the board is ended.
     pub end: Option<i8>,
-    /// The move of each own pit, none where it is not legal.
+    /// The move of each own pit, none if it is not legal.
     pub moves: [Option<Reached>; 6],
 }
 
 impl Seen {
-    /// Nothing of any board, to be filled in.
+    /// A blank, to be filled in.
     pub fn nothing() -> Self {
         let entry = Entry {
             value: 0,

@@ -11,7 +11,7 @@ use crate::sights::see;
 use awari_packed::PackedBoard;
 use awari_table::{Distances, Image, Shelf};
 
-/// A board that breaks a rule, by its rank, and the first rule that it breaks.
+/// The rank of a board that breaks a rule, and the first rule that it breaks.
 #[derive(Clone, Copy)]
 pub struct Refusal {
     pub rank: u32,
@@ -20,8 +20,8 @@ pub struct Refusal {
 
 /// The first refusal among the boards from rank `low` up to, not including, rank `high`.
 ///
-/// Only the first board is found by its rank: each other is the successor of the one before, which
-/// takes far less time.
+/// Only the first board is found by its rank. Each further one is the successor of the one before,
+/// which takes far less time.
 pub fn refusal_between(
     asked: Distances,
     shelf: &Shelf,

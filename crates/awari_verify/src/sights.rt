@@ -13,10 +13,10 @@ use awari_board::SIDE;
 use awari_packed::{PackedBoard, PackedMove};
 use awari_table::{Distances, Entry, Image, Reached, Shelf};
 
-/// Puts into `seen` what the image says of the board, which is that of this rank, and what image
-/// and shelf say of the boards that its moves lead to. Each is looked up once.
+/// Fills `seen` with what the image says of the board of this rank, and with what image and shelf say
+/// of the boards that its moves lead to. Each is looked up once.
 ///
-/// It is filled in where it stands, since to hand it on copies six moves for each board.
+/// It is filled in place, since handing it on would copy six moves for each board.
 pub fn see(shelf: &Shelf, image: &Image, board: &PackedBoard, rank: u32, seen: &mut Seen)
     requires shaped { IsShaped Distances.Least shelf.now image.now }
     requires stones { sum board.now ≡ image.now.level }

@@ -18,16 +18,16 @@ use std::alloc::AllocError;
 use std::fmt;
 use thiserror::Error;
 
-/// Why an image is not the next level of a shelf. A fault is looked for only where those before it
-/// are not due. Printed, it is its number, its name, and each field with its name.
+/// Why an image is not the next level of a shelf. A fault is looked for only if those before it are
+/// not due. It is printed as its number, its name, and each field with its name.
 #[derive(Clone, Copy, Debug, PartialEq, Eq, Error)]
 pub enum VerifyFault {
-    /// 20: the image is not of the shelf's next level, or of one above the highest.
+    /// 20: the image is not that of the shelf's next level, or that level is above the highest.
     WrongLevel,
-    /// 21: the image has more entries, or fewer, than its level has boards.
+    /// 21: the image has not just one entry for each board of its level.
     WrongSize,
-    /// 22: the board of this rank is the first that breaks a rule, and this is the first rule that
-    /// it breaks. Where each board keeps V1 to V6 and the limit is wrong, rank 0 and V7.
+    /// 22: the board of this rank is the first that breaks a rule, and this is the first rule that it
+    /// breaks. If each board keeps V1 to V6 and the limit is wrong, it is rank 0 and V7.
     Refused { rank: u32, rule: Rule },
     /// 23: there was no room. Only [`verify_parallel`](crate::verify_parallel) takes memory.
     Memory,
@@ -76,9 +76,9 @@ impl From<AllocError> for VerifyFault {
     }
 }
 
-/// The image as a level, if it is consistent over the shelf: of its next level, with an entry for
-/// each board, with each board right by the table of the shelf with the image on top, and with the
-/// greatest distance as its limit. Otherwise it is refused as 20, 21 or 22, and dropped.
+/// The image as a level, if it is consistent over the shelf. It must be of the shelf's next level,
+/// with an entry for each board, each board right by the table of the shelf with the image on top,
+/// and the greatest distance as its limit. Otherwise it is refused as 20, 21 or 22, and dropped.
 ///
 /// It goes over the boards in order of rank, and takes no memory.
 pub fn verify(shelf: &Shelf, image: Image) -> Result<Level, VerifyFault>
@@ -97,8 +97,8 @@ pub fn verify(shelf: &Shelf, image: Image) -> Result<Level, VerifyFault>
     }
 }
 
-/// Why the image is not the shelf's next level, none where it may be: what [`verify`] answers, of an
-/// image that stays with the caller. It takes no memory.
+/// Why [`verify`] would refuse the image, none if it would not. The image stays with the caller. It
+/// takes no memory.
 pub fn fault_of(shelf: &Shelf, image: &Image) -> Option<VerifyFault>
     // An image with no fault tells the truth, on the shelf: following the plans secures the value,
     // soon, the value is what the board is worth, and the distance is the least.
@@ -109,9 +109,9 @@ pub fn fault_of(shelf: &Shelf, image: &Image) -> Option<VerifyFault>
     fault_by(Distances::Least, shelf, image)
 }
 
-/// Ok where the image is consistent over the shelf by the old rules, of levels up to
-/// `HIGHEST_FALLING_LEVEL`, which ask that distances fall, and not that they are the least. What is
-/// refused is refused as [`verify`] does, by these rules. It takes no memory.
+/// Ok if the image is consistent over the shelf by the older rules, which ask of distances that they
+/// fall and not that they are the least. They are for levels up to `HIGHEST_FALLING_LEVEL`. An image
+/// is refused as by [`verify`], but by these rules. It takes no memory.
 pub fn verify_old(shelf: &Shelf, image: &Image) -> Result<(), VerifyFault>
     ensures ok { IsOk result ↔ ConsistentBy Distances.Falling shelf.now image.now }
     ensures fault { IfErr result (IsDueBy Distances.Falling shelf.now image.now) }
@@ -122,7 +122,7 @@ pub fn verify_old(shelf: &Shelf, image: &Image) -> Result<(), VerifyFault>
     }
 }
 
-/// Why the image is not the shelf's next level, by the rules that ask this of distances.
+/// Why the image is not the shelf's next level, if distances have to be as `asked`.
 fn fault_by(asked: Distances, shelf: &Shelf, image: &Image) -> Option<VerifyFault>
     ensures none { IsNone result ↔ ConsistentBy asked shelf.now image.now }
     ensures fault { IfSome result (IsDueBy asked shelf.now image.now) }
