@@ -7,18 +7,18 @@ ghost use Rattle.awari_folder.specs.Contents.{Same, SameBut, Stays, StaysBut, Op
 
 use std::io::{Read, Write};
 
-/// Why a call of a folder came to nothing.
+/// Why a folder refused a call.
 #[derive(Clone, Copy, Debug, PartialEq, Eq)]
 pub enum Refusal {
-    /// The folder refused it.
+    /// The folder itself refused.
     Refused,
     /// There was no room for a name.
     Memory,
 }
 
-/// A file that is written beside the files of levels.
+/// A new file, written beside the files of levels until it takes a level's name.
 pub trait Draft: Write {
-    /// What of it is on the disk for certain, where that is known.
+    /// What of it is on the disk for certain, if that is known.
     ghost kept: { Self → Option (List ℕ) };
 
     /// Brings what was written to the disk.
@@ -32,7 +32,7 @@ pub trait Folder {
 
     type New: Draft + Drop;
 
-    /// What has the name of a level's file, where that is known: a file of these bytes, or none.
+    /// What has the name of a level's file, if that is known: a file of these bytes, or none.
     ghost stands: { Self → ℕ → Option (Option (List ℕ)) };
 
     /// What a crash at this moment may leave under that name.
@@ -41,13 +41,13 @@ pub trait Folder {
     /// Nothing of a draft of this level lies there.
     ghost is_clear: { Self → ℕ → Type 0 };
 
-    /// How many calls were refused so far, but those to remove a draft.
+    /// How many calls were refused so far, not counting those to remove a draft.
     ghost refusals: { Self → ℕ };
 
     /// How many calls to remove a draft came to nothing.
     ghost stuck: { Self → ℕ };
 
-    /// The file of a level, none where there is none.
+    /// The file of a level, if there is one.
     fn open(&mut self, level: u8) -> Result<Option<Self::File>, Refusal>
         requires { level ≤ HIGHEST_LEVEL }
         ensures opened { IfOk result (λ opened. Opens Self.File.remaining (stands self.old level) opened) }

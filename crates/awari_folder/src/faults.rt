@@ -10,21 +10,22 @@ use std::fmt;
 use thiserror::Error;
 
 /// Why a folder is not loaded or brought over, or a level not saved. For each file in turn the faults
-/// are looked for in the order 82, 81, 86, 80, 83. Printed, a fault is its number, its name, its
+/// are looked for in the order 82, 81, 86, 80, 83. A fault is printed as its number, its name, its
 /// level, and the fault inside it.
 #[derive(Clone, Copy, Debug, PartialEq, Eq, Error)]
 pub enum FolderFault {
-    /// 80: the level's file was written over another file than that of the level below.
+    /// 80: the level's file does not name the file of the level below as the one it was written over.
     Below { level: u8 },
     /// 81: the level's file is not read or written.
     File { level: u8, fault: FileFault },
-    /// 82: the level's file is there and does not open, or could not be made or take its name.
+    /// 82: the level's file is there and does not open, or could not be made, or could not take its
+    /// name.
     Open { level: u8 },
     /// 83: the level's file was read, and what it says is not right.
     Verify { level: u8, fault: VerifyFault },
     /// 84: there was no room for a level, or for a name.
     Memory,
-    /// 85: the level has a file already in the folder that it was to be brought over to.
+    /// 85: the folder that the level was to be brought over to already has a file of that level.
     Occupied { level: u8 },
     /// 86: the level's file is of version 1, which `migrate` brings over.
     Old { level: u8 },

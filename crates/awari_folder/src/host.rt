@@ -10,8 +10,8 @@ use std::io::{self, Error, ErrorKind, Write};
 use std::path::Path;
 use std::rt::Files;
 
-/// A folder of the host. From the first level that is saved on it is locked, so that one builder at
-/// a time writes into it; no reader waits for that.
+/// A folder on disk. The first save locks it, so that one builder at a time writes into it. Readers
+/// never wait for that lock.
 #[derive(Drop)]
 pub struct HostFolder<'a, R> {
     files: &'a R,
@@ -75,7 +75,7 @@ fn create_file<R: Files>(files: &R, path: Path<'_>) -> io::Result<R::File> {
     how.open(files, path)
 }
 
-/// A new file of the host.
+/// A new file on disk.
 #[derive(Drop)]
 pub struct HostDraft {
     file: File,

@@ -28,13 +28,13 @@ pub struct Stored {
 }
 
 /// Loads the levels of a folder: the files `level_00.awdb`, `level_01.awdb` and so on, up to the
-/// first that is not there or the highest level. A folder that is not there is an empty one.
+/// first that is not there or the highest level. A folder that does not exist counts as empty.
 ///
 /// Each file is read and its level verified, so what the shelf says is right, whatever lies in the
-/// folder. For each file in turn it is refused as 82 where the file is there and does not open, 81
-/// where it is not read, 86 where it is of version 1, 80 where it does not name the digest of the
-/// file before it, 83 where the level is not right over those below. It takes memory for names,
-/// entries and an `Arc` for each level; want of it is 84.
+/// folder. Each file in turn is refused as 82 if it is there and does not open, 81 if it is not read,
+/// 86 if it is of version 1, 80 if it does not name the digest of the file before it, and 83 if the
+/// level is not right over those below. It takes memory for names, entries and an `Arc` for each
+/// level; want of it is 84.
 pub fn load<F: Folder>(alloc: Global, folder: &mut F) -> Result<Stored, FolderFault>
     // What the shelf says of each of its boards is the truth: following its plans secures the
     // value, soon, the value is what the board is worth, and the distance is the least.
@@ -59,8 +59,8 @@ pub fn load<F: Folder>(alloc: Global, folder: &mut F) -> Result<Stored, FolderFa
     )
 }
 
-/// What [`load`] answers, each level being verified by as many threads as there are processors. It
-/// takes memory for what each piece of a level came to, too.
+/// Answers what [`load`] does, with each level verified by as many threads as there are processors.
+/// It also takes memory for a result for each piece of a level.
 pub fn load_parallel<T: Threads + Sync, F: Folder>(
     rt: &T,
     alloc: Global,

@@ -57,9 +57,9 @@ impl Draft for MemoryDraft {
     }
 }
 
-/// A folder in memory, for tests: any of its calls, or of those of a new file, can be made to be
-/// refused. It keeps each file that was ever given a name. It takes memory for what is written, and
-/// for each file.
+/// A folder in memory, for tests. It can be told to refuse any of its calls, or those of a new file.
+/// It keeps each file that was ever given a name. It takes memory for what is written, and for each
+/// file.
 #[derive(Drop)]
 pub struct MemoryFolder {
     alloc: Global,
@@ -75,7 +75,7 @@ pub struct MemoryFolder {
 impl MemoryFolder {
     ghost use Rattle.awari_folder.specs.Log.{files_in, has_draft};
 
-    /// An empty folder, of which nothing is refused.
+    /// An empty folder, which refuses nothing.
     pub fn new(alloc: Global) -> MemoryFolder
         ensures { (level : ℕ) → files_in result level ≡ None }
     {
@@ -91,7 +91,7 @@ impl MemoryFolder {
         }
     }
 
-    /// From now on the call of this number is refused, 1 for the next, 0 for none.
+    /// The call of this number is refused from now on: 1 for the next, 0 for none.
     pub fn refuse(&mut self, call: u32)
         ensures { (level : ℕ) → files_in self.new level ≡ files_in self.old level }
     {
@@ -106,7 +106,7 @@ impl MemoryFolder {
         self.refuses_sync = sync;
     }
 
-    /// Whether something lies there of a new file that got no name.
+    /// Whether a new file lies there that got no name.
     pub fn has_draft(&self) -> bool
         ensures { result ≡ has_draft self.now }
     {

@@ -43,19 +43,20 @@ pub struct Migrated {
     pub digest: [u8; 32],
 }
 
-/// Brings the levels of one folder over to another, which has no files of theirs yet: those whose
-/// files [`load`](crate::load) would look for, of version 1 or 2, over the levels that were brought
-/// over before. The files that are written are of version 2, and have their own chain of digests.
+/// Brings the levels of one folder over to another, which has no files of theirs yet. They are the
+/// levels whose files [`load`](crate::load) would look for, of version 1 or 2, and each is judged
+/// over those that were brought over before. The new files are of version 2, and have their own chain
+/// of digests.
 ///
-/// A level of a file of version 1 has to be right by the rules of that version. It keeps its values,
-/// and gets the least distances and the lowest plans. One of version 2 has to be right by the rules
-/// in force, and stays as it is.
+/// A level of version 1 has to be right by the rules of that version. It keeps its values, and gets
+/// the least distances and the lowest plans. One of version 2 has to be right by the rules in force,
+/// and stays as it is.
 ///
-/// For each level in turn it is refused as 82 where its file in `from` is there and does not open, 81
-/// where that is not read, 80 where it does not name the digest of the file before it, 83 where the
-/// level is not right, 85 where it has a file in `to`, and as 82 or 81 with 70 where it can't be
-/// written there. What was written before stands. It takes memory for names, entries, limits and an
-/// `Arc` for each level; want of it is 84.
+/// Each level in turn is refused as 82 if its file in `from` is there and does not open, 81 if that
+/// is not read, 80 if it does not name the digest of the file before it, 83 if the level is not
+/// right, 85 if it has a file in `to`, and as 82 or 81 with 70 if it can't be written there. The
+/// levels that were written before stay. It takes memory for names, entries, limits and an `Arc` for
+/// each level; want of it is 84.
 pub fn migrate<F: Folder, G: Folder>(
     alloc: Global,
     from: &mut F,

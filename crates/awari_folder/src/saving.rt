@@ -14,14 +14,14 @@ use crate::faults::FolderFault;
 use awari_file::{FileFault, write_level};
 use awari_table::{Counted, Level};
 
-/// Saves a level into a folder, over the file whose digest is `below`, zeros for level 0, and gives
-/// the digest of its file.
+/// Saves a level into a folder, and gives the digest of its file. `below` is the digest of the file
+/// of the level below, zeros for level 0.
 ///
 /// A file of that level is replaced as a whole: the new one is written beside it, brought to the
-/// disk, and takes its name. It is refused as 82 where the folder refuses to make the file or to
-/// give it its name, as one that is not there, or that another builder has locked; and as 81 with 70
-/// where the file could not be written, or brought to the disk. Then an old file stays as it was. It
-/// takes memory for names; want of it is 84.
+/// disk, and takes its name. It is refused as 82 if the folder refuses to make the file or to give it
+/// its name, for example because it does not exist or another builder has locked it. It is refused as
+/// 81 with 70 if the file could not be written, or brought to the disk. After a refusal an old file
+/// is as it was. It takes memory for names; want of it is 84.
 pub fn save<F: Folder>(
     folder: &mut F,
     level: &Level,

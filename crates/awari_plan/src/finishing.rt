@@ -18,13 +18,14 @@ use awari_rank::size;
 use awari_table::{Entries, Entry, Image, Shelf, greatest_dist};
 use std::alloc::{AllocError, Global};
 
-/// The image of the shelf's next level, once the parts have closed all gains: each settled board
-/// with its value and distance, any other with 0 and 0, and as plan the lowest pit that gains the
-/// value and, where that is positive, captures or leads to a smaller distance. The limit is the
-/// greatest distance. It is consistent over the shelf where the parts heard all notes of settled boards, and
-/// no others. Conditions: the shelf has at most `HIGHEST_LEVEL` levels, and the parts are
-/// all blocks of its next level in order, with no fresh board and gain 1 open. It takes memory for
-/// the entries, and a byte a board while it runs, and is refused only where that is.
+/// The image of the shelf's next level, once the parts have closed all gains. A settled board has its
+/// value and distance, any other 0 and 0. Its plan is the lowest pit that gains the value and, if
+/// that is positive, captures or leads to a smaller distance. The limit is the greatest distance. The
+/// image is consistent over the shelf if the parts heard all notes of settled boards, and no others.
+///
+/// Conditions: the shelf has at most `HIGHEST_LEVEL` levels, and the parts are all blocks of its next
+/// level in order, with no fresh board and gain 1 open. It takes memory for the entries, and a byte a
+/// board while it runs, and is refused only if that runs out.
 pub fn finish(alloc: Global, shelf: &Shelf, parts: &[Part]) -> Result<Image, AllocError>
     requires low { length shelf.now ≤ HIGHEST_LEVEL }
     requires whole { AreWhole (length shelf.now) parts.now }
@@ -36,9 +37,10 @@ pub fn finish(alloc: Global, shelf: &Shelf, parts: &[Part]) -> Result<Image, All
     planned_image(alloc, shelf, entries)
 }
 
-/// What [`finish`] answers, of parts that are given up. Each is closed, which its type says. The cells
-/// are given back before plans are looked for. So no more than sixteen bytes a board are ever allocated:
-/// eight of a cell and eight of an entry, and then eight of an entry and one of its value.
+/// Answers what [`finish`] does, for parts that are given up. Each is closed, as its type says. The
+/// cells are given back before plans are looked for. So at most sixteen bytes a board are allocated
+/// at a time: eight of a cell and eight of an entry, and later eight of an entry and one of its
+/// value.
 pub fn finish_closed(
     alloc: Global,
     shelf: &Shelf,
@@ -123,7 +125,7 @@ fn push_closed_block(entries: &mut Vec<Entry>, part: &ClosedPart) -> Result<(), 
     Ok(())
 }
 
-/// The entry of a board, with no plan, where it is settled so.
+/// The entry of a board that is settled so, with no plan.
 pub fn settled_entry(settled: Option<(i8, u32)>) -> Entry
     ensures { HasSettled settled result }
 {

@@ -24,10 +24,11 @@ use std::thread::Threads;
 /// How many boards a thread goes over at once. Where there are fewer, one thread does it all.
 const PIECE: usize = 4096;
 
-/// What [`finish_closed`](crate::finish_closed) answers, made by as many threads as there are
-/// processors. Conditions: the shelf has at most `HIGHEST_LEVEL` levels, and the parts are all blocks
-/// of its next level in order. It takes memory for the entries, and, once the cells are given back,
-/// three bytes a board beside them while plans are found, and is refused only where that is.
+/// Answers what [`finish_closed`](crate::finish_closed) does, with the boards shared among as many
+/// threads as there are processors. Conditions: the shelf has at most `HIGHEST_LEVEL` levels, and the
+/// parts are all blocks of its next level in order. It takes memory for the entries. Once the cells
+/// are given back, it takes three bytes a board beside them while plans are found. It is refused only
+/// if that runs out.
 pub fn finish_parallel<R: Threads + Sync>(
     rt: &R,
     alloc: Global,

@@ -5,8 +5,9 @@ ghost use Rattle.awari_play.specs.Least.{HasLowestPlans, IsPlannedLowest};
 ghost use Rattle.awari_table.specs.Shelves.{Consistent, IsShelf};
 ghost use Rattle.awari_table.specs.declared.images.Image.{Image};
 
-/// Over a shelf there is one consistent image whose plans are the lowest, and one shelf of so many
-/// levels whose plans are: whoever builds them, and in whatever order, all entries are the same.
+/// Over a shelf there is at most one consistent image whose plans are the lowest, and at most one
+/// shelf of so many levels whose plans are. So all entries are the same, whoever builds them and in
+/// whatever order.
 pub fn lowest_levels_are_one()
     ensures image { (shelf : List Image) (image other : Image) → IsShelf shelf → Consistent shelf image → Consistent shelf other
         → IsPlannedLowest shelf image → IsPlannedLowest shelf other → image ≡ other }
@@ -14,7 +15,8 @@ pub fn lowest_levels_are_one()
         → HasLowestPlans levels → HasLowestPlans others → levels ≡ others }
 {}
 
-/// A shelf whose plans are the lowest has them still with one more level on top whose plans are.
+/// If the plans of a shelf are the lowest, they still are with one more level on top whose plans are
+/// the lowest.
 pub fn lowest_plans_stay()
     ensures { (shelf : List Image) (image : Image) → HasLowestPlans shelf → IsPlannedLowest shelf image → HasLowestPlans (shelf ++ image ∷ []) }
 {}

@@ -25,7 +25,7 @@ pub struct Line {
     pub outcome: i16,
 }
 
-/// Why there is no line. Printed, it is its number, its name, and its field with its name.
+/// Why there is no line. A fault is printed as its number, its name, and its field with its name.
 #[derive(Clone, Copy, Debug, PartialEq, Eq, Error)]
 pub enum LineFault {
     /// 56: the board's level is not on the shelf, which has this many levels.
@@ -64,10 +64,11 @@ impl fmt::Display for LineFault {
 }
 
 /// The play from the board in which both sides follow the shelf's plans, up to the first outcome by
-/// this limit. It always returns. Where the limit is at least that of each level up to the board's,
-/// as the shelf's own limit is, the outcome is the board's value. Refused are a board with at least
-/// as many stones as there are levels, as 56 `NotYet`, and then want of memory as 57 `Memory`. It
-/// takes memory for the moves, a byte each.
+/// this limit. It always returns. If the limit is at least that of each level up to the board's, as
+/// the shelf's own limit is, the outcome is the board's value.
+///
+/// Refused as 56 `NotYet` if the board has at least as many stones as there are levels, else as 57
+/// `Memory` if memory runs out. It takes memory for the moves, a byte each.
 pub fn best_line(alloc: Global, shelf: &Shelf, board: Board, limit: u32) -> Result<Line, LineFault>
     ensures line { IfOk result (λ line. IsBestLine (table_of shelf.now) limit board line.moves.items line.outcome) }
     ensures value { IfOk result (λ line. greatest_limit (take (sum board + 1) shelf.now) ≤ limit → line.outcome ≡ (entry_of shelf.now board).value) }

@@ -15,9 +15,9 @@ use awari_packed::PackedBoard;
 use awari_rank::size;
 use awari_table::{Distances, Entries, Entry, Image, Reached, Shelf, greatest_dist};
 
-/// The image of the same values with the least distances, the lowest plans that these make, and the
-/// greatest distance as limit. Condition: the image is consistent by the old rules, which ask that
-/// distances fall. It takes no memory.
+/// The image with the same values, the least distances, the lowest plans that these make, and the
+/// greatest distance as its limit. Condition: the image is consistent by the older rules, which ask
+/// that distances fall. It takes no memory.
 pub fn least(shelf: &Shelf, image: Image) -> Image
     requires { ConsistentBy Distances.Falling shelf.now image }
     ensures consistent { Consistent shelf.now result }

@@ -11,9 +11,9 @@ use awari_rank::size;
 use awari_table::{Entry, Shelf};
 use std::alloc::{AllocError, Global};
 
-/// The value of each entry, in their order. They lie eight times as close together as the entries,
-/// and most moves do not gain the board's value: of those no more is read. It takes memory, a byte an
-/// entry, and is refused only where that is.
+/// The values of the entries, in their order. For a search of plans they serve better than the
+/// entries: they lie eight times as close together, and most moves are ruled out by the value alone.
+/// It takes memory, a byte an entry, and is refused only if that runs out.
 pub fn entry_values(alloc: Global, entries: &[Entry]) -> Result<Vec<i8>, AllocError>
     ensures { IfOk result (λ values. values.items ≡ entry_values entries.now) }
 {
@@ -21,11 +21,12 @@ pub fn entry_values(alloc: Global, entries: &[Entry]) -> Result<Vec<i8>, AllocEr
 }
 
 /// Gives each board of the level above the shelf its lowest plan: the lowest pit whose move gains the
-/// board's value and, where that is positive, captures or leads to a smaller distance, and none where
-/// no pit does. Given are the entries of that level, one for each board in order of rank, and their
-/// values once more, as [`entry_values`] answers them, or none of these, which only takes longer.
-/// Values and distances stay as they are. Condition: the shelf has at most 24 levels. It takes no
-/// memory.
+/// board's value and, if that is positive, captures or leads to a smaller distance. A board that no
+/// pit serves gets none. Values and distances stay as they are.
+///
+/// `entries` has an entry for each board of that level, in order of rank. `values` has their values
+/// once more, as [`entry_values`] gives them, or is empty, which only takes longer. Condition: the
+/// shelf has at most 24 levels. It takes no memory.
 pub fn set_lowest_plans(shelf: &Shelf, values: &[i8], entries: &mut Vec<Entry>)
     requires low { length shelf.now ≤ 24 }
     requires sized { length entries.old.items ≡ size_of (length shelf.now) }
@@ -45,13 +46,13 @@ pub fn set_lowest_plans(shelf: &Shelf, values: &[i8], entries: &mut Vec<Entry>)
     }
 }
 
-/// The lowest plan of one board of the level above the shelf, none where no pit serves. Given are the
-/// board and its rank, and the entries and their values as for [`set_lowest_plans`]. No plan of theirs
-/// is read. Condition: the shelf has at most 24 levels. It takes no memory.
+/// The lowest plan of one board of the level above the shelf, none if no pit serves. `entries` and
+/// `values` are as for [`set_lowest_plans`]; no plan of theirs is read. Conditions: the board is that
+/// of this rank, and the shelf has at most 24 levels. It takes no memory.
 ///
-/// The pits are written out, each a plain number: so the tests of each pit stand at places of their
-/// own, which the processor foresees apart, and the shifts of its move are constants. That holds only
-/// where what they call is written into each of them.
+/// The six pits are written out as plain numbers. So the processor predicts the tests of each pit
+/// apart, and the shifts of its move are constants. This works only if what they call is inlined into
+/// each of them.
 #[inline(always)]
 pub fn lowest_plan(
     shelf: &Shelf,

@@ -9,8 +9,8 @@ use arrayvec::ArrayVec;
 use awari_board::Board;
 use awari_table::{Entry, NotYet, Shelf, TextLine, push_number, push_signed, push_text};
 
-/// Room for the lines of six moves, of 69 bytes each at most, and for a line feed behind them. Any other
-/// line of an answer is shorter.
+/// Room, in bytes, for the lines of six moves, at most 69 each, and a line feed. Any other line of an
+/// answer is shorter.
 pub const MOVES_ROOM: usize = 420;
 
 /// The lines of moves, or one other line.
@@ -21,12 +21,12 @@ pub type MovesText = ArrayVec<u8, MOVES_ROOM>;
 pub struct Weighed {
     /// What the shelf says of the board itself.
     pub entry: Entry,
-    /// What each legal move is worth, none where the play has ended.
+    /// What each legal move is worth, none if the play has ended.
     pub worths: ArrayVec<MoveWorth, 6>,
 }
 
-/// What the shelf says of the board and of its legal moves. It is refused as 59 exactly where the
-/// board has at least as many stones as there are levels. It takes no memory.
+/// What the shelf says of the board and of its legal moves. It is refused as 59 if the board has at
+/// least as many stones as there are levels, and only then. It takes no memory.
 pub fn weigh(shelf: &Shelf, board: &Board) -> Result<Weighed, NotYet>
     ensures known { IsOk result ↔ (sum board.now < length shelf.now) }
     ensures weighed { IfOk result (IsWeighed shelf.now board.now) }
@@ -38,8 +38,8 @@ pub fn weigh(shelf: &Shelf, board: &Board) -> Result<Weighed, NotYet>
 }
 
 impl Weighed {
-    /// A line for each move, ended by a line feed: its pit, what it captures, its value and its
-    /// distance, and whether it is the plan. Where there is no move it is one line, of what the mover
+    /// A line for each move, with its line feed: the pit, what it captures, its value and its
+    /// distance, and whether it is the plan. If there is no move, it is one line with what the mover
     /// gains by the end. It takes no memory.
     pub fn text(&self) -> MovesText
         ensures text { result.items ≡ weighed_text self.now }
@@ -66,8 +66,8 @@ fn lines_of(plan: Option<u8>, worths: &[MoveWorth]) -> MovesText
     text
 }
 
-/// The text that is this one line, for an answer that tells of no moves. There is room for any line, and
-/// for a line feed behind it. It takes no memory.
+/// A text of this one line, for an answer without moves. There is room for any line, and for a line
+/// feed behind it. It takes no memory.
 pub fn text_of_line(line: &TextLine) -> MovesText
     ensures text { result.items ≡ line.now.items }
     ensures room { array_vec_len result < MOVES_ROOM }

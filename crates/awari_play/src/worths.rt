@@ -20,15 +20,15 @@ pub struct MoveWorth {
     pub captured: u8,
     /// What the mover gains, in stones: those captured, less the value of the board that is left.
     pub value: i16,
-    /// In how many plies a capture or the end comes while the side that is favoured follows the plans:
-    /// one where the move captures, and else one more than the distance of the board that is left. It
-    /// is 0 where no side is favoured.
+    /// The plies within which a capture or the end comes, while the favoured side follows the plans:
+    /// one if the move captures, else one more than the distance of the board that is left. It is 0
+    /// if no side is favoured.
     pub plies: u64,
 }
 
-/// What the board's legal pits are worth, ascending by pit; none where the play has ended. It is
-/// refused as 59 exactly where the board has at least as many stones as there are levels. It takes no
-/// memory.
+/// What each legal pit of the board is worth, ascending by pit; none if the play has ended. It is
+/// refused as 59 if the board has at least as many stones as there are levels, and only then. It
+/// takes no memory.
 pub fn move_worths(shelf: &Shelf, board: &Board) -> Result<ArrayVec<MoveWorth, 6>, NotYet>
     ensures known { IsOk result ↔ (sum board.now < length shelf.now) }
     ensures legal { IfOk result (λ all. (pit : ℕ) → Contains (map pit_of all.items) pit ↔ IsLegal board.now pit) }
