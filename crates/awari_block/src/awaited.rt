@@ -12,16 +12,16 @@ use std::alloc::{AllocError, Global};
 /// How many boards have a word together.
 pub const WIDTH: usize = 32;
 
-/// The gains whose opening may settle a board, a bit for each gain, a word for each row of 32 boards.
-/// Few rows await a great gain, and no cell of the others is read when it is opened.
+/// The gains whose opening may settle a board: a bit for each gain, a word for each row of 32 boards.
+/// Few rows await a great gain. When one is opened, no cell of the other rows is read.
 #[derive(Drop)]
 pub struct Awaited {
     gains: Vec<u64>,
 }
 
 impl Awaited {
-    /// The gains that these boards of a level await, of which none is open. It takes two bits a board,
-    /// and is refused where that was.
+    /// The gains that these boards of a level await, with no gain open. It takes two bits a board,
+    /// and is refused only if memory runs out.
     pub fn of(alloc: Global, level: u8, cells: &[Cell]) -> Result<Awaited, AllocError>
         requires low { level ≤ 24 }
         requires fit { All (λ c. FitsBy c.mark level (level + 1) c.score c.dist) cells.now }

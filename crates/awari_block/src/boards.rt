@@ -21,12 +21,12 @@ use awari_packed::PackedBoard;
 use std::alloc::{AllocError, Global};
 use std::marker::Model;
 
-/// The boards of a block: where the analysis of the level stands, a cell for each board, and which
-/// boards are fresh, that is, settled and not spread yet.
+/// The boards of a block: where the analysis stands, a cell for each board, and which boards are
+/// fresh, that is, settled and not spread yet.
 ///
-/// The first three go together. The fresh boards are ordered by the distances in the cells, and what a
-/// cell may hold goes by the open gain. The others save time: which gains are awaited where, and boards
-/// that others are found from.
+/// Place, cells and fresh boards go together: the fresh boards are ordered by the distances in the
+/// cells, and the open gain limits what a cell may hold. The other two fields save time. They say
+/// which gains are awaited where, and keep some boards from which the others are found.
 #[derive(Drop)]
 pub struct Boards {
     place: Place,
@@ -50,9 +50,12 @@ impl Model for Boards {
 }
 
 impl Boards {
-    /// The boards of a block of this level, from this rank on, with no gain open and none of them
-    /// fresh. It takes the memory that it will ever need, a little more than two bytes for each board, and is
-    /// refused where that was.
+    /// The boards of a block of this level, from rank `start` on, with no gain open and no board
+    /// fresh. It takes all memory that they will ever need, a little more than two bytes a board, and
+    /// is refused only if that runs out.
+    ///
+    /// Conditions: the level has at most 24 stones, the block lies within the level, and each cell
+    /// fits a level with no gain open.
     pub fn unopened(
         alloc: Global,
         level: u8,
@@ -145,7 +148,7 @@ impl Boards {
         self.fresh.len()
     }
 
-    /// The least distance of a fresh board, none where no board is fresh.
+    /// The least distance of a fresh board, none if no board is fresh.
     pub fn due(&self) -> Option<u32>
         ensures least { IsLeastDue self.now result }
         ensures timely { IfSome result (λ dist. self.now.wave ≤ dist) }
@@ -157,8 +160,8 @@ impl Boards {
         }
     }
 
-    /// Takes the first fresh board from the fresh ones, and gives its rank. Condition: there is one, and it
-    /// has the open distance.
+    /// Makes the first fresh board fresh no longer, and gives its rank. Conditions: a board is fresh,
+    /// and the first has the open distance.
     pub fn take_first(&mut self) -> u32
         requires due { IsLeastDue self.old (Some self.old.wave) }
         ensures first { TakesFirst self.old self.new result }
@@ -172,8 +175,7 @@ impl Boards {
         self.place.start + index as u32
     }
 
-    /// The note of the open gain and distance that is due to the board of this rank, in this block
-    /// or another.
+    /// A note of the open gain and distance, for the board of this rank in this block or another.
     #[inline(always)]
     pub fn note(&self, target: u32, pit: u8, kind: Kind) -> Note
         ensures { result ≡ record { level = self.now.level; target = target; pit = pit; kind = kind; gain = self.now.gain; dist = self.now.wave } }
@@ -188,9 +190,9 @@ impl Boards {
         }
     }
 
-    /// Hears for the board of this rank that its quiet move from `pit` leads to a won or a lost
-    /// board, of the open gain and distance. That may settle it. Conditions: the board is one of the block,
-    /// the pit is below 6, a gain is open, and the open distance is not the greatest that can be stored.
+    /// The board of this rank hears that its quiet move from `pit` leads to a board that is won or
+    /// lost, at the open gain and distance. That may settle it. Conditions: the board is in the
+    /// block, the pit is below 6, a gain is open, and the open distance is not the greatest u32.
     #[inline(always)]
     pub fn hear(&mut self, target: u32, pit: u8, kind: Kind)
         requires { CanHear self.old target pit }
@@ -203,8 +205,8 @@ impl Boards {
         }
     }
 
-    /// Opens the next smaller gain, which is 1 at least: the boards that a capture settles at that gain are
-    /// settled, and so are fresh. It needs no board to be fresh.
+    /// Opens the next smaller gain. The boards that an end or a capture settles at that gain are
+    /// settled, and so become fresh. Conditions: the gain is at least 1, and no board is fresh.
     pub fn open_gain(&mut self, gain: u8)
         requires idle { self.old.fresh ≡ [] }
         requires next { gain + 1 ≡ self.old.gain }
@@ -222,7 +224,7 @@ impl Boards {
         self.open_cells();
     }
 
-    /// Opens a greater distance. It needs no fresh board to have a smaller one.
+    /// Opens a greater distance. Condition: no fresh board has a smaller one.
     pub fn open_wave(&mut self, dist: u32)
         requires farther { self.old.wave < dist }
         requires nearest { All (λ f. dist ≤ due_dist f) self.old.fresh }
@@ -235,7 +237,7 @@ impl Boards {
         };
     }
 
-    /// What is kept of them once all gains are closed: gain 1 is open, and no board is fresh.
+    /// What is kept once all gains are closed. Conditions: gain 1 is open, and no board is fresh.
     pub fn close(self) -> ClosedPart
         requires { IsClosed self }
         ensures { result ≡ self }
@@ -268,8 +270,8 @@ impl Boards {
         self.awaited.awaits(row, self.place.gain)
     }
 
-    /// Opens the gain of the place in the cells of this row, in order of rank. Where none of its boards
-    /// awaits it, no cell is read.
+    /// Opens the gain of the place in the cells of this row, in order of rank. If none of its boards
+    /// awaits the gain, no cell is read.
     fn open_row(&mut self, row: usize)
         requires gain { self.old.gain ≤ self.old.level }
         requires opened { self.old.wave ≡ 0 }
@@ -293,8 +295,7 @@ impl Boards {
         }
     }
 
-    /// Puts the cell of the board of this rank, which joins the fresh boards where it is newly
-    /// settled.
+    /// Replaces the cell of the board of this rank. A board that this settles becomes fresh.
     #[inline(always)]
     fn put(&mut self, rank: u32, cell: Cell)
         requires { CanPut self.old rank cell }

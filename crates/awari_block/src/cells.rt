@@ -82,12 +82,12 @@ impl Cell {
         self.heard & (1 << pit) != 0
     }
 
-    /// Hears the note of this pit and kind, of the open gain and distance, and answers whether that
-    /// settles the board, which was not settled before. Conditions: the pit is below 6, a gain is open, and
-    /// the open distance is not the greatest that can be stored.
+    /// Hears the note of this pit and kind, of the open gain and distance. True if that settles the
+    /// board, which was not settled before. Conditions: the pit is below 6, a gain is open, and the
+    /// open distance is not the greatest u32.
     ///
-    /// A lost board gives the gain at once. A won one leaves one move less that might do better; the
-    /// last, where no capture does better either, settles the board.
+    /// A lost board gives the gain at once. A won one leaves one quiet move less that might do
+    /// better. The last of them settles the board, unless a capture does better.
     #[inline(always)]
     pub(crate) fn hear(&mut self, place: Place, pit: u8, kind: Kind) -> bool
         requires pit { pit < 6 }
@@ -147,8 +147,8 @@ impl Cell {
         self.mark == Mark::Ended && place.gain == place.level
     }
 
-    /// The gain whose opening may settle the board, in a level of so many stones: that of its end, or what
-    /// its best capture gains or loses. None where it is settled, or has neither.
+    /// The gain whose opening may settle the board, in a level of so many stones: that of its end, or
+    /// what its best capture gains or loses. None if the board is settled, or has neither.
     pub(crate) fn awaited_gain(&self, level: u8) -> Option<u8>
         requires low { level ≤ 24 }
         requires fits { FitsBy self.now.mark level (level + 1) self.now.score self.now.dist }
@@ -167,9 +167,9 @@ impl Cell {
         }
     }
 
-    /// The cell once the gain of the place is opened. An end with the greatest gain settles the
-    /// board, and so does a capture that gains just that, or that loses just that where each quiet
-    /// move has a Won note.
+    /// The cell once the gain of the place is opened. An end settles the board at the greatest gain.
+    /// A capture does so at the gain that it wins, or at the gain that it loses if each quiet move
+    /// has a Won note.
     pub(crate) fn with_gain(self, place: Place) -> Cell
         requires low { place.level ≤ 24 }
         requires gain { place.gain ≤ place.level }

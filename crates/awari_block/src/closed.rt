@@ -7,8 +7,8 @@ use crate::cells::Cell;
 use crate::places::Place;
 use std::marker::Model;
 
-/// A part with all gains closed: gain 1 is open, and no board is fresh. Nothing is heard or spread any
-/// more, so it has the cells alone, which are eight bytes a board.
+/// A part with all gains closed: gain 1 is open, and no board is fresh. It keeps the cells alone,
+/// eight bytes a board, since nothing is heard or spread any more.
 #[derive(Drop)]
 pub struct ClosedPart {
     pub(crate) place: Place,
@@ -29,8 +29,8 @@ impl Model for ClosedPart {
 }
 
 impl ClosedPart {
-    /// Value in stones and distance in plies of the board of this rank, if it is settled. The rank
-    /// is one of the block.
+    /// Value in stones and distance in plies of the board of this rank, none if it is not settled.
+    /// Condition: the board is in the block.
     pub fn settled(&self, rank: u32) -> Option<(i8, u32)>
         requires { InBlock self.now rank }
         ensures { result ≡ settled_at self.now rank }

@@ -1,4 +1,15 @@
 //! The fresh boards of a block: those that are settled and not spread.
+//!
+//! How to think of it. This is a priority queue by distance and then rank that stores no distances:
+//! they stand in the cells. A bit for each board says whether it is fresh, and 64 boards are a run,
+//! with one word. Of the fresh boards with the least distance, those in the first run that has any
+//! are kept in `run`, `dist` and `bits`, so most calls touch one word and no cell.
+//!
+//! `least` has for each run a bound that none of its fresh boards outside `bits` is below. It may be
+//! too low, never too high: `insert` lowers it, and only a look at the run's cells raises it. Once
+//! `bits` is empty, `remove` looks for boards of the same distance in the runs from there on, and
+//! then for those one ply farther, which are mostly there. It skips each run whose bound is too
+//! great. Only if both fail does it search all runs for the nearest board.
 
 ghost use Rattle.std.specs.Prelude.{◌≡◌, ◌≢◌, ℕ, ◌+◌, ◌*◌, ◌/◌, ◌%◌, ◌^◌, ◌<◌, ◌≤◌, ◌↔◌, ◌⊎◌, false, true, None, List, length, IfOk, IfSome, IsTrue, slice_index_or, Option, Some};
 ghost use Rattle.std.specs.Int.{bit_at};
@@ -13,15 +24,14 @@ use std::alloc::{AllocError, Global};
 /// How many runs are passed over at once.
 const STEP: usize = 16;
 
-/// Which boards of a block are fresh, by their places in it, and the first of them: those of the
-/// least distance, in order of rank. What their distances are stands in the cells. Sixty-four boards
-/// are a run, and those of the first run that are first are kept at hand.
+/// Which boards of a block are fresh, by their places in it, and which of them come first: those of
+/// the least distance, in order of rank. Their distances stand in the cells.
 #[derive(Drop)]
 pub struct Fresh {
     /// A bit for each board, a word for each run.
     words: Vec<u64>,
-    /// For each run, a distance that none of its fresh boards is below, those at hand left out: the greatest
-    /// u32 where no other is fresh.
+    /// For each run, a lower bound of the distances of its fresh boards, not counting those in
+    /// `bits`: the greatest u32 if it has no others.
     least: Vec<u32>,
     /// How many boards are fresh.
     count: usize,
@@ -49,8 +59,8 @@ struct OfRun {
 }
 
 impl Fresh {
-    /// No fresh boards, with room for so many. It takes twelve bytes for each run of 64, and is refused
-    /// where that was.
+    /// No fresh boards, with room for so many. It takes twelve bytes for each run of 64, and is
+    /// refused only if memory runs out.
     pub fn new(alloc: Global, boards: usize) -> Result<Fresh, AllocError>
         requires { boards < 2 ^ 32 }
         ensures sound { IfOk result (λ fresh. (cells : List CellView) → length cells ≡ boards → IsFresh cells fresh) }
@@ -76,7 +86,7 @@ impl Fresh {
         self.count
     }
 
-    /// The distance and the place of the first fresh board, none where no board is fresh.
+    /// The distance and the place of the first fresh board, none if no board is fresh.
     pub fn first(&self) -> Option<(u32, usize)>
         requires { self.now.run ≤ 2 ^ 26 }
         ensures first { (cells : List CellView) → AreFirst cells self.now.words.items self.now.run self.now.dist self.now.bits → IsFirstOf cells self.now.words.items result }
@@ -119,7 +129,7 @@ impl Fresh {
         self.bits = with_bit(self.bits, (place % 64) as u32);
     }
 
-    /// The board at this place, which is one of the first at hand, is fresh no longer.
+    /// The board at this place is fresh no longer. Condition: it is one of those in `bits`.
     pub fn remove(&mut self, cells: &[Cell], place: usize)
         requires run { place / 64 ≡ self.old.run }
         requires bit { bit_at self.old.bits (place % 64) ≡ 1 }

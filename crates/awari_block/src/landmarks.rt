@@ -11,16 +11,16 @@ use std::alloc::{AllocError, Global};
 /// How many ranks lie from one landmark to the next.
 pub const STRIDE: usize = 4;
 
-/// Each fourth board of a block. The others are found from these, by at most three steps to the next
-/// board, which cost less than the search for a board by its rank.
+/// Each fourth board of a block. The others are at most three steps to the next board away, which
+/// cost less than a search for a board by its rank.
 #[derive(Drop)]
 pub struct Landmarks {
     boards: Vec<PackedBoard>,
 }
 
 impl Landmarks {
-    /// Those of so many boards of this level, from this rank on. It takes two bytes a board, and is
-    /// refused where that was.
+    /// The landmarks among so many boards of this level, from this rank on. It takes two bytes a
+    /// board, and is refused only if memory runs out.
     pub fn of(alloc: Global, level: u8, start: u32, boards: usize) -> Result<Landmarks, AllocError>
         requires low { level ≤ 24 }
         requires within { start + boards ≤ size_of level }

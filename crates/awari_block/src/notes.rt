@@ -1,6 +1,6 @@
 //! What is told of a settled board to the boards whose quiet moves lead to it.
 
-/// What a note says of the board that its move leads to: its mover has won, or has lost.
+/// Who wins the settled board that a note's move leads to.
 #[derive(Clone, Copy, Debug, Default, PartialEq, Eq)]
 pub enum Kind {
     /// The mover of the board that the move leads to wins the gain.
@@ -10,8 +10,8 @@ pub enum Kind {
     Lost,
 }
 
-/// That a quiet move leads to a settled board: whether that one is won or lost, by how much, and
-/// how far it is from a capture or the end of play.
+/// A note for a board: its quiet move from `pit` leads to a settled board, which is won or lost by so
+/// much, and so many plies away from a capture or the end of play.
 #[derive(Clone, Copy, Debug, Default, PartialEq, Eq)]
 pub struct Note {
     /// The stones on the boards of the level.

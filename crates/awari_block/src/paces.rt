@@ -7,19 +7,19 @@ ghost use Rattle.std.specs.Prelude.{◌≡◌};
 pub struct Pace {
     /// How many owners share the boards of the level, 1 to 16.
     pub owners: u8,
-    /// For how many batches each line between two owners has room, 1 to 256.
+    /// How many batches a line between two owners has room for, 1 to 256.
     pub room: u32,
-    /// How many sweeps each owner makes in a round at most, 1 to 1000.
+    /// How many sweeps an owner makes in a round at most, 1 to 1000.
     pub sweeps: u32,
 }
 
-/// How many owners a level has, at most.
+/// The most owners of a level.
 pub const MOST_OWNERS: u8 = 16;
 
-/// For how many batches a line has room, at most.
+/// The greatest room of a line, in batches.
 pub const MOST_ROOM: u32 = 256;
 
-/// How many sweeps an owner makes in a round at most.
+/// The greatest number of sweeps of an owner in a round.
 pub const MOST_SWEEPS: u32 = 1000;
 
 impl Pace {

@@ -8,12 +8,13 @@ ghost use Rattle.awari_block.specs.Leaving.{IsAmong, IsBlockOf, first_rank};
 use awari_packed::PackedBoard;
 use awari_rank::size;
 
-/// The level, the open gain and distance, and where the block begins.
+/// Where the analysis of a block stands: the level, the open gain and distance, and the block's first
+/// rank.
 #[derive(Clone, Copy)]
 pub struct Place {
     /// The stones on the boards of the level.
     pub level: u8,
-    /// The open gain in stones, one more than the level where none was opened yet.
+    /// The open gain in stones, one more than the level if none was opened yet.
     pub gain: u8,
     /// The open distance in plies.
     pub wave: u32,
@@ -26,15 +27,15 @@ pub struct Place {
 pub struct Block {
     /// The rank of the first board.
     pub start: u32,
-    /// The rank behind that of the last board.
+    /// One more than the rank of the last board.
     pub end: u32,
     /// Whether these are all boards of the level.
     pub whole: bool,
 }
 
 impl Block {
-    /// The block of this owner, one of so many, of the boards of a level. Conditions: the level has at most
-    /// 24 stones, and there is one owner at least and `owner` is below `owners`.
+    /// The block of this owner, one of `owners`, in a level. Conditions: the level has at most 24
+    /// stones, and `owner` is below `owners`.
     pub fn of(level: u8, owners: u8, owner: u8) -> Block
         requires low { level ≤ 24 }
         requires some { 1 ≤ owners }
@@ -53,7 +54,7 @@ impl Block {
         }
     }
 
-    /// Whether the board is in the block. Where the block is the whole level no rank is computed.
+    /// Whether the board is in the block. If the block is the whole level, no rank is computed.
     #[inline(always)]
     pub fn holds(self, board: &PackedBoard) -> bool
         requires board { IsBoard board.now }
@@ -69,8 +70,8 @@ impl Block {
     }
 }
 
-/// The rank of the first board of an owner's block, where so many boards are shared out in blocks of
-/// one length. It is the number of boards where the owner has none.
+/// The rank of the first board of an owner's block, if so many boards are shared out in blocks of one
+/// length. It is the number of boards if the owner has none.
 fn first_rank(boards: u32, owners: u8, owner: u8) -> u32
     requires some { 1 ≤ owners }
     requires few { owner ≤ owners }
@@ -81,8 +82,8 @@ fn first_rank(boards: u32, owners: u8, owner: u8) -> u32
     (u64::from(owner) * u64::from(length)).min(u64::from(boards)) as u32
 }
 
-/// How many boards each block has but the last ones, where so many boards are shared out among so many
-/// owners. Condition: there is one owner at least.
+/// How many boards a block has, if so many boards are shared out among so many owners. Only the last
+/// blocks may have fewer. Condition: there is at least one owner.
 pub fn block_length(boards: u32, owners: u8) -> u32
     requires some { 1 ≤ owners }
     ensures { result ≡ (boards + (owners - 1)) / owners }

@@ -33,8 +33,8 @@ pub struct Ran {
     pub refused: usize,
 }
 
-/// All owners of the next level of a shelf, with the lines between them. What each of them has given
-/// and heard is what was due, at any time.
+/// All owners of the next level of a shelf, with the lines between them. At any time, what each has
+/// given and heard is what was due.
 #[derive(Drop)]
 pub struct Core {
     shelf: Shelf,
@@ -55,13 +55,13 @@ impl Model for Core {
 }
 
 impl Core {
-    /// The owners of the shelf's next level, so many of them, with the greatest gain open, which is
-    /// the number of stones (none at level 0), and nothing under way. Each line has room for `room`
-    /// batches. Refused in this order: as 35 `Owners` where there are not 1 to 16 owners, as 36 `Room`
-    /// where the room is not 1 to 256, as 37 `TooHigh` where the shelf has all levels, and as 38
-    /// `Memory` where there was no room.
+    /// The owners of the shelf's next level, with nothing under way. The greatest gain is open, which
+    /// is the number of stones; at level 0 there is none. Each line has room for `room` batches. It
+    /// takes memory for the parts and the lines, and for a share of the shelf.
     ///
-    /// It takes the memory for the parts and the lines, and a share of the shelf.
+    /// Refused as 35 `Owners` if there are not 1 to 16 owners, else as 36 `Room` if the room is not 1
+    /// to 256, else as 37 `TooHigh` if the shelf has all levels, else as 38 `Memory` if memory runs
+    /// out.
     pub fn new(alloc: Global, shelf: &Shelf, owners: u8, room: u32) -> Result<Core, CoreFault>
         ensures sound { IfOk result Sound }
         ensures begun { IfOk result (IsBegun shelf.now owners room) }
@@ -81,10 +81,9 @@ impl Core {
         Ok(core)
     }
 
-    /// Takes an event, if it is enabled here. Refused are an event that is not, as 34 `NotEnabled`,
-    /// and a Spread where there was no room, as 38 `Memory`; then nothing changes. A Spread takes memory
-    /// for notes to other owners, and a Send or a Take none. No distance reaches the greatest that can
-    /// be stored.
+    /// Takes an event. It is refused as 34 `NotEnabled` if the event is not enabled, and a Spread as
+    /// 38 `Memory` if memory runs out; then nothing changes. A Spread takes memory for notes to other
+    /// owners, and a Send or a Take none. No distance reaches the greatest u32.
     pub fn step(&mut self, event: Event) -> Result<(), CoreFault>
         ensures sound { Sound self.new }
         ensures done { OnOk result (Does self.old self.new event) }
@@ -99,8 +98,8 @@ impl Core {
         }
     }
 
-    /// Takes each event in turn. One that is refused changes nothing, and is counted. It takes memory as
-    /// `step` does.
+    /// Takes each event in turn, and counts those that are taken and those that are refused. A
+    /// refused one changes nothing. It takes memory as `step` does.
     pub fn run(&mut self, events: &[Event]) -> Ran
         ensures sound { Sound self.new }
         ensures leads { Runs self.old events.now self.new result.taken result.refused }
@@ -129,7 +128,7 @@ impl Core {
         are_idle(&self.parts) && self.is_all_taken()
     }
 
-    /// The open gain in stones, 0 where all gains are closed.
+    /// The open gain in stones, 0 once all gains are closed.
     pub fn gain(&self) -> u8
         ensures { result ≡ self.now.gain }
     {
@@ -143,9 +142,9 @@ impl Core {
         self.parts[0].wave()
     }
 
-    /// Opens the next smaller gain in all parts and gives it, or 0 after gain 1 and where all gains
-    /// are closed already. Refused as 39 `NotQuiet` where a board is fresh or something is under way,
-    /// and then nothing changes. It takes no memory.
+    /// Opens the next smaller gain in all parts and gives it, or 0 after gain 1 and once all gains
+    /// are closed. Refused as 39 `NotQuiet` if a board is fresh or something is under way, and then
+    /// nothing changes. It takes no memory.
     pub fn next_gain(&mut self) -> Result<u8, CoreFault>
         ensures sound { Sound self.new }
         ensures quiet { OnOk result (IsQuiet self.old) }
@@ -161,9 +160,9 @@ impl Core {
         Ok(self.gain)
     }
 
-    /// Opens the least distance of a fresh board of all owners in all parts and gives it in plies, or
-    /// None where no board is fresh. Refused as 39 `NotQuiet` where a fresh board has the open
-    /// distance or something is under way, and then nothing changes. It takes no memory.
+    /// Opens the least distance of a fresh board in all parts and gives it in plies, or None if no
+    /// board is fresh. Refused as 39 `NotQuiet` if a fresh board has the open distance or something
+    /// is under way, and then nothing changes. It takes no memory.
     pub fn next_wave(&mut self) -> Result<Option<u32>, CoreFault>
         ensures sound { Sound self.new }
         ensures done { OnOk result (IsWaveDone self.old) }
@@ -186,9 +185,8 @@ impl Core {
         Ok(Some(dist))
     }
 
-    /// The image of the level, which is consistent over the shelf, once all gains are closed. Refused
-    /// as 39 `NotQuiet` before that, and as 38 `Memory` where there was no room: it takes memory for the
-    /// entries.
+    /// The image of the level, which is consistent over the shelf. Refused as 39 `NotQuiet` until all
+    /// gains are closed, and as 38 `Memory` if memory runs out. It takes memory for the entries.
     pub fn finish(&self, alloc: Global) -> Result<Image, CoreFault>
         ensures consistent { IfOk result (Consistent self.now.shelf) }
         ensures finished { IfOk result (IsFinished self.now.shelf self.now.parts) }
@@ -283,7 +281,7 @@ impl Core {
         self.gain = gain;
     }
 
-    /// The least distance of a fresh board in plies, none where no board is fresh.
+    /// The least distance of a fresh board in plies, none if no board is fresh.
     fn due(&self) -> Option<u32>
         ensures least { IsLeastOfAll self.now result }
         ensures timely { IfSome result (λ dist. (part_at self.now 0).wave ≤ dist) }

@@ -8,8 +8,8 @@ use std::alloc::AllocError;
 use std::fmt;
 use thiserror::Error;
 
-/// Why a core is not made, an event is not taken, or nothing is opened or finished. Printed, it is
-/// its number and its name.
+/// Why a core is not made, an event is not taken, or nothing is opened or finished. A fault is
+/// printed as its number and its name.
 #[derive(Clone, Copy, Debug, PartialEq, Eq, Error)]
 pub enum CoreFault {
     /// 34: the event is not enabled.

@@ -9,8 +9,8 @@ ghost use Rattle.awari_core.specs.Sound.{AreNext, AreTaken};
 use awari_owner::{Batch, Part};
 use awari_rank::ranks_tell_boards_apart;
 
-/// Has the part hear the notes of a batch, in order. They are the next ones to it from another owner of
-/// sound ones, so none is refused.
+/// The part hears the notes of a batch, in order. Condition: they are the next ones to it from
+/// another one of sound owners, so that none is refused.
 pub fn hear_batch(part: &mut Part, batch: &Batch)
     requires { (value : List ℕ → ℤ) × (n : ℕ) × (owners : ℕ) × (i : ℕ) × (j : ℕ) × (others : ℕ → PartView) × (coming : ℕ → ℕ → List NoteView) × (taken : ℕ → ℕ → List NoteView) × (rest : List NoteView)
         × AreNext value n owners i j others coming taken part.old batch.now.items rest }

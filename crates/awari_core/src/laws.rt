@@ -11,14 +11,14 @@ ghost use Rattle.awari_core.specs.Core.{Core, Sound, IsAllTaken};
 
 use awari_owner::{distances_fit, sound_parts_are_told};
 
-/// Parts that were scanned are sound with nothing on its way.
+/// Parts that were just scanned are sound, with nothing on its way.
 pub fn scanned_owners_are_sound()
     ensures { (value : List ℕ → ℤ) (n owners : ℕ) (part : ℕ → Part) → 0 < owners
         → ((i : ℕ) → i < owners → IsScan n owners i (part i)) → ((i : ℕ) → i < owners → IsTallied value (part i) []) → ((i : ℕ) → i < owners → HearsOwn (part i) [])
         → AreSound value n owners part (λ _ _. []) (λ _ _. []) }
 {}
 
-/// A gain or a distance that is opened in all parts, with nothing on its way, keeps the owners sound.
+/// Opening a gain or a distance in all parts keeps the owners sound, if nothing is on its way.
 pub fn opening_keeps_owners_sound()
     ensures { (value : List ℕ → ℤ) (n owners : ℕ) (part part' : ℕ → Part) (coming taken : ℕ → ℕ → List Note)
         → ((i : ℕ) → i < owners → IsSeenAs (part i) (part' i)) → ((i : ℕ) → i < owners → (part' i).gain ≡ (part' 0).gain) → ((i : ℕ) → i < owners → (part' i).wave ≡ (part' 0).wave)
@@ -28,8 +28,8 @@ pub fn opening_keeps_owners_sound()
         → AreSound value n owners part coming taken → AreSound value n owners part' coming taken }
 {}
 
-/// The parts of a sound core are all boards of its level, and what they heard is true. So distances
-/// are below the greatest that can be stored; and once nothing is on its way, they heard all.
+/// The parts of a sound core together have all boards of its level, and what they heard is true. So
+/// each distance is below the greatest u32. Once nothing is on its way, they heard all.
 pub fn sound_cores_are_told()
     ensures whole { (core : Core) → Sound core → AreWhole (length core.shelf) core.parts }
     ensures fit { (core : Core) → Sound core → All DistancesFit core.parts }

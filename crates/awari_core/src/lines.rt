@@ -52,7 +52,7 @@ impl Line {
         self.batches.len() < self.room as usize
     }
 
-    /// Puts a batch at the end, for which there is room.
+    /// Puts a batch at the end. Condition: there is room for it.
     pub fn push(&mut self, batch: Batch)
         requires { length self.old.batches < self.old.room }
         ensures { self.new ≡ record self.old { batches = self.old.batches ++ batch.items ∷ [] } }

@@ -42,7 +42,7 @@ pub fn are_idle(parts: &[Part]) -> bool
     parts.iter().all(Part::idle)
 }
 
-/// Opens this gain in all parts, none of which has a fresh board.
+/// Opens this gain in all parts. Condition: no board is fresh.
 pub fn open_gains(parts: &mut Vec<Part>, gain: u8)
     requires idle { (i : ℕ) → i < vec_len parts.old → (slice_index_or parts.old.items i no_part).fresh ≡ [] }
     requires next { (i : ℕ) → i < vec_len parts.old → gain + 1 ≡ (slice_index_or parts.old.items i no_part).gain }
@@ -56,7 +56,7 @@ pub fn open_gains(parts: &mut Vec<Part>, gain: u8)
     }
 }
 
-/// Opens this distance in all parts, none of which has a nearer fresh board.
+/// Opens this distance in all parts. Condition: no fresh board has a smaller one.
 pub fn open_waves(parts: &mut Vec<Part>, dist: u32)
     requires farther { (i : ℕ) → i < vec_len parts.old → (slice_index_or parts.old.items i no_part).wave < dist }
     requires nearest { (i : ℕ) → i < vec_len parts.old → All (λ f. dist ≤ due_dist f) (slice_index_or parts.old.items i no_part).fresh }
@@ -72,7 +72,7 @@ pub fn open_waves(parts: &mut Vec<Part>, dist: u32)
     }
 }
 
-/// The lesser of two distances, where there is one.
+/// The lesser of two distances, as far as there are any.
 pub fn nearer(one: Option<u32>, other: Option<u32>) -> Option<u32>
     ensures { IsNearer one other result }
 {

@@ -30,8 +30,8 @@ impl Model for Sender {
 }
 
 impl Sender {
-    /// What this owner, one of `owners`, sends by, with nothing to send. Each line has room for
-    /// `room` batches, which is taken here.
+    /// The outboxes and lines of this owner, one of `owners`, with nothing to send. Each line has
+    /// room for `room` batches, which is taken here.
     pub fn new(alloc: Global, owners: u8, owner: u8, room: u32) -> Result<Sender, AllocError>
         requires owners { (1 ≤ owners) × (owners ≤ 16) }
         requires owner { owner < owners }
@@ -64,8 +64,8 @@ impl Sender {
         part.spread_one(&mut self.outboxes)
     }
 
-    /// Puts the first batch of the outbox for this owner at the end of the line to it. It is false where
-    /// there is none, or no room on the line.
+    /// Puts the first batch of the outbox for this owner at the end of the line to it. False if there
+    /// is no batch, or no room on the line.
     pub fn send(&mut self, to: u8) -> bool
         requires { to < length self.old.lines }
         ensures sent { result ≡ true → (batch : List NoteView) × (rest : List (List NoteView)) × (queue_to self.old.outboxes to ≡ batch ∷ rest)
@@ -112,7 +112,7 @@ pub fn are_silent(senders: &[Sender]) -> bool
     senders.iter().all(Sender::is_silent)
 }
 
-/// What so many owners send by, with nothing to send.
+/// The outboxes and lines of so many owners, with nothing to send.
 pub fn silent_senders(alloc: Global, owners: u8, room: u32) -> Result<Vec<Sender>, AllocError>
     requires owners { (1 ≤ owners) × (owners ≤ 16) }
     ensures count { IfOk result (λ senders. vec_len senders ≡ owners) }

@@ -40,8 +40,8 @@ impl Ends {
         self.lines.len() + 1
     }
 
-    /// Sends a batch to another owner of the grid, or hands it back where the line is full. It takes
-    /// no memory.
+    /// Sends a batch to another owner of the grid, or hands it back if the line is full. It takes no
+    /// memory.
     pub fn push(&mut self, to: u8, batch: Batch) -> Result<(), Batch>
         requires { IsOther self.old to }
         ensures lines { SameLines self.old self.new }
@@ -95,8 +95,8 @@ impl Ends {
         })
     }
 
-    /// Looks at both rings between two owners of one grid. True where nothing waits on them. It takes
-    /// no memory.
+    /// Looks at both rings between two owners of one grid. True if nothing waits on them. It takes no
+    /// memory.
     pub fn look_beside(&mut self, other: &mut Ends) -> bool
         requires other { IsOther self.old other.old.owner }
         requires this { IsOther other.old self.old.owner }
@@ -118,7 +118,7 @@ impl Line {
     ghost use Rattle.rtrb.specs.Ring.{sent, received, known_items};
     ghost use Rattle.awari_lines.specs.Lines.{PairedOn, LineLooked};
 
-    /// Looks at both rings. True where nothing waits on them.
+    /// Looks at both rings. True if nothing waits on them.
     fn look_beside(&mut self, other: &mut Line) -> bool
         requires { PairedOn (Some self.old) (Some other.old) }
         ensures here { LineLooked self.old self.new }

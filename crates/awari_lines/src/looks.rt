@@ -6,9 +6,9 @@ ghost use Rattle.awari_lines.specs.declared.lines.Ends.{Ends as AnEnds};
 
 use crate::lines::Ends;
 
-/// Looks at every line of a grid, all ends of which are here, in the order of their owners. On each,
-/// what was received and then what waits is what was sent. True where nothing waits on any. It takes
-/// no memory.
+/// Looks at every line of a grid. All ends are here, in the order of their owners. On each line, what
+/// was received and then what waits is what was sent. True if nothing waits on any. It takes no
+/// memory.
 pub fn settle(all: &mut [Ends]) -> bool
     requires { IsGrid all.old }
     ensures grid { IsGrid all.new }
@@ -26,7 +26,7 @@ pub fn settle(all: &mut [Ends]) -> bool
     empty
 }
 
-/// Looks at the two lines between two owners. True where nothing waits on them.
+/// Looks at the two lines between two owners. True if nothing waits on them.
 fn settle_pair(all: &mut [Ends], i: usize, j: usize) -> bool
     requires grid { IsGrid all.old }
     requires pair { (i < j) × (j < length all.old) }

@@ -6,9 +6,9 @@ ghost use Rattle.awari_lines.specs.Lines.{AllUnused, HaveRoom, IsGrid};
 use crate::lines::Ends;
 use std::alloc::{AllocError, Global};
 
-/// The ends of all lines among so many owners, 1 to 16, in the order of their numbers: one line for
-/// each ordered pair of different owners, with room for `room` batches, 1 to 256. Refused where
-/// there was no room: it takes all the memory that the lines will ever need.
+/// The ends of all lines among 1 to 16 owners, in the order of their numbers. There is a line for
+/// each ordered pair of different owners, with room for `room` batches, 1 to 256. It takes all the
+/// memory that the lines will ever need, and is refused only if that runs out.
 pub fn grid(alloc: Global, owners: u8, room: u16) -> Result<Vec<Ends>, AllocError>
     requires owners { (1 ≤ owners) × (owners ≤ 16) }
     requires room { (1 ≤ room) × (room ≤ 256) }

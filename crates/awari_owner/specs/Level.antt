@@ -1,4 +1,13 @@
 -- The parts of a level, all together.
+--
+-- How to think of it. A board that is spread owes a note to each board whose quiet move leads to it.
+-- For two owners i and j, the notes from i to j are one list: those that j took, and behind them
+-- those still on their way. The spread boards of i owe just these notes to boards of j, each once
+-- (AreSpreadNotes). What j knows is a tally of what it took from the others, and of what its own
+-- spread boards told its own boards (HearsTaken). AreSound says both of all owners at once. It holds
+-- after every step, in whatever order the owners work, since it speaks of lists and not of time. Once
+-- nothing is on its way, each board has heard of every spread board that its quiet moves lead to
+-- (AreHeard), and Finish.antt says why the level is then right.
 use Rattle.std.specs.Prelude.{◌≡◌, ℕ, ◌+◌, ◌-◌, ◌^◌, ◌<◌, ◌≤◌, ◌↔◌, List, [], ◌∷◌, ◌++◌, length, sum, ℤ, Some, All, slice_index_or}
 use Rattle.std.specs.List.{flat_map}
 use Rattle.awari_board.specs.Rules.{IsBoard}

@@ -8,16 +8,16 @@ use std::alloc::AllocError;
 use std::fmt;
 use thiserror::Error;
 
-/// Why a note or a spread is refused. A fault is answered only where none of those above it is due.
-/// Printed, it is its number and its name.
+/// Why a note or a spread is refused. A fault is answered only if none of those above it is due. It
+/// is printed as its number and its name.
 #[derive(Clone, Copy, Debug, PartialEq, Eq, Error)]
 pub enum OwnerFault {
-    /// 30: the note is of another level, of a board of another block, or not of the open gain and
-    /// distance; or its pit is not a quiet move of the board, or one that stays in the block.
+    /// 30: the note is of another level, for a board of another block, or not of the open gain and
+    /// distance; or its pit has no quiet move that leaves the block.
     Stranger,
     /// 31: a note of this board and pit was heard before.
     Doubled,
-    /// 32: a distance is the greatest that can be stored, so none can be one more.
+    /// 32: a distance is the greatest u32, so that no other can be one more.
     Far,
     /// 33: there was no room.
     Memory,

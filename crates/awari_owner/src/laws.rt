@@ -14,23 +14,23 @@ ghost use Rattle.awari_block.specs.declared.notes.Note.{Note};
 
 use awari_rank::ranks_tell_boards_apart;
 
-/// Where a cell is a tally at gain 1 of the notes of the settled boards that the quiet moves of its
-/// board lead to, and of no others, the board keeps the rules of a table: settled boards with their
-/// values and distances, and the others with value 0 and distance 0.
+/// If a cell is a tally at gain 1 of the notes of the settled boards that its board's quiet moves
+/// lead to, and of no others, the board keeps the rules of a table. A settled board has its value and
+/// distance, and any other value 0 and distance 0.
 pub fn quiet_boards_are_right()
     ensures { (value : List ℕ → ℤ) (cell : List ℕ → Cell) (p : List ℕ) (notes : List Note) → IsQuietAt value cell p notes → IsRightAt value cell p }
 {}
 
-/// So are the boards of a level whose parts heard all notes, once gain 1 is open and no board is
-/// fresh.
+/// If the parts of a level heard all notes, each of its boards keeps the rules of a table, once gain
+/// 1 is open and no board is fresh.
 pub fn closed_parts_are_right()
     ensures { (value : List ℕ → ℤ) (level : ℕ) (parts : List Part) → AreWhole level parts → All IsClosed parts → AreHeard value parts
         → (p : List ℕ) → IsBoard p → sum p ≡ level → IsRightAt value (λ q. known_at parts (rank_of q)) p }
 {}
 
-/// A distance is below the greatest that can be stored, also while notes are under way: for each
-/// smaller one from 1 on there is a settled board in some part, and a level has not so many boards.
-/// So is that of a note of a spread board.
+/// Each distance is below the greatest u32, also while notes are under way, and so is the distance of
+/// a note. For each smaller distance from 1 on there is a settled board in some part, and a level has
+/// fewer boards than that.
 pub fn distances_fit()
     ensures settled { (value : List ℕ → ℤ) (level : ℕ) (parts : List Part) → AreWhole level parts → level ≤ 24 → AreTold value parts
         → All DistancesFit parts }
@@ -38,8 +38,8 @@ pub fn distances_fit()
         → All NotesFit parts }
 {}
 
-/// The parts of owners that are sound are all boards of the level, and what they heard is true; and
-/// where nothing is on its way, they heard all.
+/// The parts of sound owners together have all boards of the level, and what they heard is true. If
+/// nothing is on its way, they heard all.
 pub fn sound_parts_are_told()
     ensures whole { (value : List ℕ → ℤ) (level : ℕ) (parts : List Part) (coming taken : ℕ → ℕ → List Note) → 1 ≤ length parts
         → AreSound value level (length parts) (part_at parts) coming taken → AreWhole level parts }
@@ -50,7 +50,7 @@ pub fn sound_parts_are_told()
         → ((i j : ℕ) → i < length parts → j < length parts → (i ≡ j → ⊥) → coming i j ≡ []) → AreHeard value parts }
 {}
 
-/// The parts of all owners, as they were scanned, have all boards of the level, and so they do while
+/// The parts of all owners have all boards of the level once they are scanned, and for as long as
 /// each keeps its block.
 pub fn scanned_parts_are_whole()
     ensures whole { (level owners : ℕ) (parts : List Part) → 1 ≤ owners → length parts ≡ owners
@@ -58,7 +58,7 @@ pub fn scanned_parts_are_whole()
     ensures still { (level : ℕ) (old new : List Part) → AllZip SameBlock old new → AreWhole level old → AreWhole level new }
 {}
 
-/// One part that has all boards of its level heard all notes, where it heard those of its own spread
+/// One part that has all boards of its level heard all notes, if it heard those of its own spread
 /// boards.
 pub fn one_part_hears_all()
     ensures whole { (part : Part) → IsWhole part → AreWhole part.level (part ∷ []) }

@@ -8,7 +8,7 @@ use crate::queues::{Batch, Queue};
 use std::alloc::{AllocError, Global};
 use std::marker::Model;
 
-/// What an owner has still to send: a queue of batches for each owner, its own being empty. Each
+/// What an owner has still to send: a queue of batches for each owner. Its own is empty, and each
 /// batch has a note.
 #[derive(Drop)]
 pub struct Outboxes {
@@ -28,7 +28,7 @@ impl Model for Outboxes {
 }
 
 impl Outboxes {
-    /// The outboxes of this owner, one of `owners`, with nothing to send. It takes room for the
+    /// The outboxes of this owner, one of `owners`, with nothing to send. It takes memory for the
     /// queues, and none for batches.
     pub fn new(alloc: Global, owners: u8, owner: u8) -> Result<Outboxes, AllocError>
         requires owners { (1 ≤ owners) × (owners ≤ 16) }
@@ -42,7 +42,7 @@ impl Outboxes {
         Ok(Outboxes { owner, queues })
     }
 
-    /// Whether nothing is to be sent. Nothing ever is to the owner itself, and a batch has 1 to 32
+    /// Whether nothing is to be sent. Nothing ever is to the owner itself, and each batch has 1 to 32
     /// notes.
     pub fn is_empty(&self) -> bool
         ensures empty { IsTrue result ↔ All (λ q. q ≡ []) self.now.queues }
@@ -56,8 +56,8 @@ impl Outboxes {
         true
     }
 
-    /// A copy of the first batch that is to be sent to this owner. None where nothing is to be sent there, or
-    /// `to` is no other owner's number.
+    /// A copy of the first batch that is to be sent to this owner. None if nothing is to be sent
+    /// there, or `to` is not the number of another owner.
     pub fn front(&self, to: u8) -> Option<Batch>
         ensures some { IfSome result (λ batch. (rest : List (List NoteView)) × (queue_to self.now to ≡ batch.items ∷ rest)) }
         ensures none { IfNone result (queue_to self.now to ≡ []) }
@@ -66,7 +66,7 @@ impl Outboxes {
         self.queues.get(to as usize)?.front()
     }
 
-    /// Drops the first batch that is to be sent to this owner, of which there is one.
+    /// Drops the first batch that is to be sent to this owner. Condition: there is one.
     pub fn drop_front(&mut self, to: u8)
         requires { queue_to self.old to ≢ [] }
         ensures { (batch : List NoteView) × (rest : List (List NoteView)) × (queue_to self.old to ≡ batch ∷ rest)

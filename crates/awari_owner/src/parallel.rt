@@ -20,7 +20,7 @@ const MOST_PIECES: usize = 64;
 /// Fewer boards than these are not worth a thread.
 const LEAST_PIECE: usize = 4096;
 
-/// What is found of the boards of a block.
+/// What a scan finds of the boards of a block, by as many threads as there are processors.
 pub fn scanned_block_parallel<R: Threads + Sync>(
     rt: &R,
     alloc: Global,

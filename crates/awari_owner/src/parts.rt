@@ -30,9 +30,10 @@ use std::alloc::Global;
 use std::marker::Model;
 use std::thread::Threads;
 
-/// One owner's part of a level that is being built: what is known of each board of its block, which of
-/// the settled boards are fresh, that is, not spread yet, and the pits of each board whose quiet moves
-/// lead out of the block, a bit for each. It has memory for the predecessors of one board, too.
+/// One owner's part of a level that is being built: what is known of each board of its block, and
+/// which boards are fresh, that is, settled and not spread yet. It also has, for each board, the pits
+/// whose quiet moves lead out of the block, a bit for each, and room for the predecessors of one
+/// board.
 #[derive(Drop)]
 pub struct Part {
     boards: Boards,
@@ -54,12 +55,12 @@ impl Model for Part {
 }
 
 impl Part {
-    /// The part of this owner, one of `owners`, of the shelf's next level: each board of its block
-    /// with no note heard, and no gain open. There are 1 to 16 owners, and the shelf has at most
-    /// `HIGHEST_LEVEL` levels. Refused as 33 `Memory` where there was no room.
+    /// The part of this owner, one of `owners`, of the shelf's next level: no board has heard a note,
+    /// and no gain is open. Conditions: there are 1 to 16 owners, `owner` is below `owners`, and the
+    /// shelf has at most `HIGHEST_LEVEL` levels. Refused as 33 `Memory` if memory runs out.
     ///
-    /// It takes all the memory that the part will ever need, a little more than eleven bytes a board, and 2304
-    /// bytes for the predecessors of the board that is spread.
+    /// It takes all the memory that the part will ever need, a little more than eleven bytes a board,
+    /// and 2304 bytes for the predecessors of the board that is spread.
     pub fn scan(alloc: Global, shelf: &Shelf, owners: u8, owner: u8) -> Result<Part, OwnerFault>
         requires owners { (1 ≤ owners) × (owners ≤ 16) }
         requires owner { owner < owners }
@@ -77,7 +78,8 @@ impl Part {
         Part::from_scanned(alloc, shelf, owners, owner, block, found)
     }
 
-    /// What [`Part::scan`] answers, found by as many threads as there are processors.
+    /// Answers what [`Part::scan`] does, with the block shared among as many threads as there are
+    /// processors.
     pub fn scan_parallel<R: Threads + Sync>(
         rt: &R,
         alloc: Global,
@@ -101,8 +103,8 @@ impl Part {
         Part::from_scanned(alloc, shelf, owners, owner, block, found)
     }
 
-    /// Value in stones and distance in plies of the board of this rank, if it is settled. The rank
-    /// is one of the block.
+    /// Value in stones and distance in plies of the board of this rank, none if it is not settled.
+    /// Condition: the board is in the block.
     pub fn settled(&self, rank: u32) -> Option<(i8, u32)>
         requires { InBlock self.now rank }
         ensures known { result ≡ settled_at self.now rank }
@@ -119,7 +121,7 @@ impl Part {
         self.boards.block()
     }
 
-    /// The open gain in stones, one more than the level where none was opened yet.
+    /// The open gain in stones, one more than the level if none was opened yet.
     pub fn gain(&self) -> u8
         ensures gain { result ≡ self.now.gain }
         ensures range { (1 ≤ self.now.gain) × (self.now.gain ≤ self.now.level + 1) }
@@ -141,7 +143,7 @@ impl Part {
         self.boards.idle()
     }
 
-    /// The least distance of a fresh board in plies, none where no board is fresh. It is that of a
+    /// The least distance of a fresh board in plies, none if no board is fresh. It is that of a
     /// settled board of the block, and not below the open one.
     pub fn due(&self) -> Option<u32>
         ensures least { IsLeastDue self.now result }
@@ -158,8 +160,9 @@ impl Part {
         self.boards.fresh_boards()
     }
 
-    /// Opens the next smaller gain, which is 1 at least: the boards that a capture settles at that gain are
-    /// settled, and so are fresh. It needs no board to be fresh. It takes no memory.
+    /// Opens the next smaller gain. The boards that an end or a capture settles at that gain are
+    /// settled, and so become fresh. Conditions: the gain is at least 1, and no board is fresh. It
+    /// takes no memory.
     pub fn open_gain(&mut self, gain: u8)
         requires idle { self.old.fresh ≡ [] }
         requires next { gain + 1 ≡ self.old.gain }
@@ -177,7 +180,7 @@ impl Part {
         self.boards.open_gain(gain);
     }
 
-    /// Opens a greater distance. It needs no fresh board to have a smaller one. It takes no memory.
+    /// Opens a greater distance. Condition: no fresh board has a smaller one. It takes no memory.
     pub fn open_wave(&mut self, dist: u32)
         requires farther { self.old.wave < dist }
         requires nearest { All (λ f. dist ≤ due_dist f) self.old.fresh }
@@ -189,9 +192,9 @@ impl Part {
         self.boards.open_wave(dist);
     }
 
-    /// Hears a note of another owner, which may settle the board that it is for. It takes no
-    /// memory. In this order it is refused as 30 `Stranger`, 31 `Doubled` or 32 `Far`, and then
-    /// nothing changes.
+    /// Hears a note of another owner, which may settle the board that it is for. It is refused as 30
+    /// `Stranger`, else as 31 `Doubled`, else as 32 `Far`, and then nothing changes. It takes no
+    /// memory.
     pub fn take(&mut self, note: Note) -> Result<(), OwnerFault>
         ensures added { OnOk result ((value : List ℕ → ℤ) (notes : List NoteView) → IsTallied value self.old notes → IsTallied value self.new (note ∷ notes)) }
         ensures hears { OnOk result ((notes : List NoteView) → HearsOwn self.old notes → HearsOwn self.new (note ∷ notes)) }
@@ -216,16 +219,18 @@ impl Part {
         Ok(())
     }
 
-    /// Spreads the first fresh board, the one of least distance and then of least rank, if its
-    /// distance is the open one: its quiet predecessors hear of it, and it is fresh no longer.
-    /// It is false where no board is fresh, or the first is farther. Refused as 32 `Far` where its
-    /// distance is the greatest that can be stored, and then nothing changes.
+    /// Spreads the first fresh board, which has the least distance and among those the least rank, if
+    /// its distance is the open one. Its quiet predecessors hear of it, and it is fresh no longer.
+    /// False if no board is fresh, or the first one has a greater distance.
     ///
-    /// The outboxes are those of the part's owner. Predecessors in the block hear of the board at once.
-    /// For each other one a note is put to the outbox of the owner of its block, in the order in which the
-    /// predecessors are told: those that [`PitUnmoves`](awari_unmove::PitUnmoves) gives, by pits ascending,
-    /// which is the order of [`Unmoves`](awari_unmove::Unmoves). Room for the notes is taken first, and
-    /// refused as 33 `Memory`; then nothing changes. It takes none where there is no other owner.
+    /// The outboxes are those of the part's owner. Predecessors in the block hear of the board at
+    /// once. For each other predecessor a note goes to the outbox of its owner. They are told in the
+    /// order of [`PitUnmoves`](awari_unmove::PitUnmoves), by pits ascending, which is that of
+    /// [`Unmoves`](awari_unmove::Unmoves).
+    ///
+    /// Refused as 32 `Far` if the distance is the greatest u32, and as 33 `Memory` if there is no
+    /// room for the notes, which is taken first. Then nothing changes. If there is no other owner, it
+    /// takes no memory.
     pub fn spread_one(&mut self, outboxes: &mut Outboxes) -> Result<bool, OwnerFault>
         requires part { IsPartOf self.old outboxes.old }
         ensures spread { result ≡ Ok true → (q : List ℕ) × (sources : List Source) × (notes : List NoteView)
@@ -271,8 +276,8 @@ impl Part {
         Ok(true)
     }
 
-    /// What is kept of the part once its gains are all closed. It needs gain 1 to be open, and no board
-    /// to be fresh. Nothing is heard or spread any more, so what serves that alone is given back.
+    /// What is kept of the part once all gains are closed; the rest of its memory is given back.
+    /// Conditions: gain 1 is open, and no board is fresh.
     pub fn close(self) -> ClosedPart
         requires { IsClosed self }
         ensures { result ≡ self }
@@ -280,7 +285,8 @@ impl Part {
         self.boards.close()
     }
 
-    /// The part of this owner, one of so many, of the shelf's next level, of what was found of its block.
+    /// The part of this owner, one of `owners`, of the shelf's next level, made of what was found of
+    /// its block.
     fn from_scanned(
         alloc: Global,
         shelf: &Shelf,

@@ -11,7 +11,7 @@ use std::alloc::{AllocError, Global};
 use std::collections::VecDeque;
 use std::marker::Model;
 
-/// How many notes are sent at once, at most.
+/// The most notes that are sent at once.
 pub const MOST_NOTES: usize = 32;
 
 /// Notes that are sent at once.
@@ -66,7 +66,7 @@ impl Queue {
         }
     }
 
-    /// Drops the first batch, which there is.
+    /// Drops the first batch. Condition: there is one.
     pub fn drop_front(&mut self)
         requires { self.old.batches ≢ [] }
         ensures { (batch : List NoteView) × (self.old.batches ≡ batch ∷ self.new.batches) }
@@ -84,8 +84,8 @@ impl Queue {
         self.batches.reserve(MOST_BATCHES)
     }
 
-    /// Puts a note, for which there is room: into the last batch, or into a new one where that is
-    /// full or absent.
+    /// Puts a note into the last batch, or into a new one if that is full or there is none.
+    /// Condition: there is room.
     pub fn put(&mut self, note: Note)
         requires { 0 < self.old.room }
         ensures notes { self.new.batches ≡ with_note self.old.batches note }

@@ -15,8 +15,8 @@ use awari_rank::ranks_tell_boards_apart;
 use awari_table::Shelf;
 use std::alloc::{AllocError, Global};
 
-/// A block that is scanned, or will be: the cell of each board, and the pits whose quiet moves lead out
-/// of the block, a bit for each.
+/// What a scan finds of a block: the cell of each board, and the pits whose quiet moves lead out of
+/// the block, a bit for each.
 #[derive(Drop)]
 pub struct ScannedBlock {
     pub cells: Vec<Cell>,
@@ -39,7 +39,7 @@ struct Outlook {
     leaving: u8,
 }
 
-/// What is found of the boards of a block.
+/// What a scan finds of the boards of a block.
 pub fn scanned_block(alloc: Global, shelf: &Shelf, block: Block) -> Result<ScannedBlock, AllocError>
     requires low { length shelf.now ≤ HIGHEST_LEVEL }
     requires ranged { IsRanged (table_of shelf.now).value (length shelf.now) }
@@ -57,7 +57,7 @@ pub fn scanned_block(alloc: Global, shelf: &Shelf, block: Block) -> Result<Scann
     Ok(found)
 }
 
-/// A block of which no board is scanned yet, with the memory of cells and bits.
+/// A block with no board scanned yet, and the memory for its cells and bits.
 pub fn unscanned_block(alloc: Global, block: Block) -> Result<ScannedBlock, AllocError>
     requires order { block.start ≤ block.end }
     ensures cells { IfOk result (λ found. length found.cells.items ≡ block.end - block.start) }
@@ -71,7 +71,7 @@ pub fn unscanned_block(alloc: Global, block: Block) -> Result<ScannedBlock, Allo
 
 /// Scans boards of the block from rank `first` on, one for each cell.
 ///
-/// Only the first board is found by its rank: each other is the successor of the one before.
+/// Only the first board is found by its rank. Each further one is the successor of the one before.
 pub fn scan_boards(shelf: &Shelf, block: Block, first: u32, cells: &mut [Cell], leaving: &mut [u8])
     requires { CanScan (table_of shelf.now).value (length shelf.now) block first (length cells.old) (length leaving.old) }
     ensures { IsPiece (table_of shelf.now).value (length shelf.now) block first (length cells.old) cells.new leaving.new }

@@ -19,10 +19,9 @@ use awari_board::moves_keep_boards;
 use awari_packed::PackedBoard;
 use awari_rank::ranks_tell_boards_apart;
 
-/// Tells the predecessors of a board that it is won or lost, where a block has `span` boards.
+/// Tells the predecessors of a board that it is won or lost. A block has `span` boards.
 ///
-/// All of them are found first, and put into `targets`. Nothing of what stands there before or after is
-/// used.
+/// All of them are found first, and put into `targets`. What stood there before does not matter.
 pub fn tell_all(
     boards: &mut Boards,
     queues: &mut Vec<Queue>,

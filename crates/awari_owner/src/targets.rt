@@ -9,7 +9,7 @@ ghost use Rattle.awari_owner.specs.Spread.{Source};
 use awari_packed::PackedBoard;
 use awari_unmove::PitUnmoves;
 
-/// How many predecessors a board has at most: `PitUnmoves` promises at most 48 for each of six pits.
+/// The most predecessors of a board: `PitUnmoves` promises at most 48 for each of six pits.
 pub const MOST_PREDECESSORS: usize = 288;
 
 /// A board that is told, by its rank, and its pit whose move leads to the board that is spread.
@@ -19,7 +19,8 @@ pub struct Target {
     pub pit: u8,
 }
 
-/// Puts the predecessors of a board into the first places of `targets`, and answers how many they are.
+/// Puts the predecessors of a board into the first places of `targets`, and answers how many there
+/// are.
 pub fn find_all(board: &PackedBoard, targets: &mut [Target]) -> usize
     requires room { 288 ≤ length targets.old }
     ensures found { (sources : List Source) × IsPredecessors board.now sources × Lists targets.new result sources }
