@@ -19,11 +19,11 @@ use awari_rank::size;
 use awari_table::{HIGHEST_LEVEL, Level, Shelf};
 use std::alloc::{AllocError, Global};
 
-/// The shelf's next level, built by one part. It always returns. Refused are a shelf that has all
-/// levels, as 51 `TooHigh`, and want of memory as 53 `Memory`. It takes memory for the part, a little
-/// more than eleven bytes a board, and for the entries.
+/// The shelf's next level, built by one part in one thread. It always returns. Refused as 51
+/// `TooHigh` if the shelf has all levels, and as 53 `Memory` if memory runs out. It takes memory for
+/// the part, a little more than eleven bytes a board, and for the entries.
 ///
-/// That the level is right is proved, and nothing verifies it when the program runs.
+/// The level is proved right, so nothing verifies it when the program runs.
 pub fn build_alone(alloc: Global, shelf: &Shelf) -> Result<Level, BuildFault>
     ensures consistent { IfOk result (λ level. Consistent shelf.now level) }
     ensures meaning { IfOk result (λ level. TellsTruth (shelf.now ++ level ∷ [])) }
@@ -36,8 +36,8 @@ pub fn build_alone(alloc: Global, shelf: &Shelf) -> Result<Level, BuildFault>
     build_alone_with_progress(alloc, shelf, &mut Silent)
 }
 
-/// What `build_alone` does; `progress` is told that the level begins, at each gain and distance how many
-/// boards are settled, and that the plans are begun.
+/// Does what `build_alone` does, and tells `progress` when the level begins, at each gain and
+/// distance how many boards are settled, and when the plans begin.
 pub fn build_alone_with_progress<P: Progress>(
     alloc: Global,
     shelf: &Shelf,
@@ -113,8 +113,9 @@ fn settled_part<P: Progress>(
     Ok(part)
 }
 
-/// Spreads all boards that are settled at the open gain, the nearest ones first. So many were spread
-/// before, and the result says how many are now; whenever another distance is begun, that is told.
+/// Spreads all boards that are settled at the open gain, the nearest first. `before` counts the
+/// boards that were spread before, and the result those that are now. `progress` hears of each new
+/// distance.
 fn spread_all<P: Progress>(
     part: &mut Part,
     outboxes: &mut Outboxes,
@@ -154,7 +155,7 @@ fn spread_nearest(part: &mut Part, outboxes: &mut Outboxes, dist: u32)
     ensures alone { (outboxes.new.owner ≡ 0) × (length outboxes.new.queues ≡ 1) }
     ensures sound { (value : List ℕ → ℤ) → IsSound value part.old → IsSound value part.new }
 {
-    // That a distance can be one more is what this call tells the proof.
+    // Ghost: `distances_fit` bounds dist + 1.
     distances_fit();
     if part.wave() < dist {
         part.open_wave(dist);

@@ -9,8 +9,8 @@ use std::alloc::AllocError;
 use std::fmt;
 use thiserror::Error;
 
-/// Why a level is not built. A fault is looked for only where those before it are not due. Printed,
-/// it is its number, its name, and the fault inside it.
+/// Why a level is not built. A fault is looked for only if those before it are not due. It is printed
+/// as its number, its name, and the fault inside it.
 #[derive(Clone, Copy, Debug, PartialEq, Eq, Error)]
 pub enum BuildFault {
     /// 50: there is no owner, or there are more than 16.

@@ -26,14 +26,15 @@ use std::sync::Wait;
 use std::thread::Threads;
 
 /// The shelf's next level, built by several owners, each in a thread of its own, that work as `pace`
-/// says; each enters the gate at the start of each of its sweeps. Refused are a number of owners that
-/// is not 1 to 16, as 50 `Owners`, another room or number of sweeps than `Pace` allows, as 55 `Pace`,
-/// a shelf that has all levels, as 51 `TooHigh`, want of memory as 53 `Memory`, and a thread that could
-/// not be started as 52 `Phase`. It takes memory for the parts, a little more than eleven bytes a board,
-/// for the lines and for the entries.
+/// says. Each enters the gate at the start of each of its sweeps. It takes memory for the parts, a
+/// little more than eleven bytes a board, for the lines and for the entries.
 ///
-/// That the level is right, whatever order the owners' steps had, is proved, and nothing verifies it
-/// when the program runs.
+/// Refused as 50 `Owners` if there are not 1 to 16 owners, else as 55 `Pace` if room or sweeps are
+/// not what `Pace` allows, else as 51 `TooHigh` if the shelf has all levels. It is refused as 53
+/// `Memory` if memory runs out, and as 52 `Phase` if a thread could not be started.
+///
+/// The level is proved right, whatever order the owners' steps have, so nothing verifies it when the
+/// program runs.
 pub fn build_level<R: Threads + Wait + Sync, G: Gate + Sync>(
     rt: &R,
     alloc: Global,
@@ -56,8 +57,8 @@ pub fn build_level<R: Threads + Wait + Sync, G: Gate + Sync>(
     build_level_with_progress(rt, alloc, shelf, pace, gate, &mut Silent)
 }
 
-/// What `build_level` does; `progress` is told that the level begins, after each round which gain is open
-/// and how many boards are settled, and that the plans are begun.
+/// Does what `build_level` does, and tells `progress` when the level begins, after each round which
+/// gain is open and how many boards are settled, and when the plans begin.
 pub fn build_level_with_progress<R: Threads + Wait + Sync, G: Gate + Sync, P: Progress>(
     rt: &R,
     alloc: Global,

@@ -21,9 +21,9 @@ pub enum Answer {
     NotYet { levels: u8 },
     /// The publisher is gone.
     Gone,
-    /// What was asked for is no board.
+    /// The text that was asked for is not a board.
     Refused { fault: BoardFault },
-    /// How many levels the longest book has that was seen or told of.
+    /// How many levels the reader knows: those of the longest book that it has seen or was told of.
     Seen { levels: u8 },
     /// The service ends.
     Bye,

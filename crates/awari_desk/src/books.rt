@@ -35,7 +35,8 @@ impl Absorb<Shelf> for Book {
     }
 }
 
-/// What a thread knows of the book: levels that it has seen or was told of. No value of it is made.
+/// What a thread knows of the book: the levels that it has seen or was told of. Only contracts have
+/// values of it.
 pub type Known = LinkedList<Image>;
 
 /// The book begins with all that anyone knows of it.

@@ -16,9 +16,9 @@ use std::sync::Wait;
 /// The most readers that a desk may have.
 pub const MOST_READERS: u8 = 8;
 
-/// The publisher of a book that has no level yet, and that many readers of it, which have seen
-/// nothing. There are as many places again for what the publisher tells. Refused are a number of
-/// readers that is not 1 to 8, as 72 `Readers`, and want of memory, as 73 `Memory`.
+/// The publisher of a book that has no level yet, and `readers` readers of it, which have seen
+/// nothing. There are as many places again for what the publisher tells. Refused as 72 `Readers` if
+/// there are not 1 to 8 readers, else as 73 `Memory` if memory runs out.
 pub fn desk<R: Wait + Drop>(
     rt: R,
     alloc: Global,

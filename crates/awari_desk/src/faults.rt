@@ -10,16 +10,15 @@ use std::alloc::AllocError;
 use std::fmt;
 use thiserror::Error;
 
-/// Why a desk is not made, a level not published, or nobody told. Printed, it is its number and its
-/// name.
+/// Why a desk is not made, a level not published, or nobody told. A fault is printed as its number
+/// and its name.
 #[derive(Clone, Copy, Debug, PartialEq, Eq, Error)]
 pub enum DeskFault {
     /// 71: the level is not the next of the book.
     NotNext,
     /// 72: there is no place for so many readers, or for one more.
     Readers,
-    /// 73: there was no room, or none to share a level, in this call or, within a publication, in
-    /// an earlier one.
+    /// 73: memory ran out, or a level could not be shared, in this call or in an earlier publication.
     Memory,
 }
 
@@ -60,8 +59,8 @@ impl From<AllocError> for DeskFault {
     }
 }
 
-/// Why a board's entry is not answered. Printed, it is its number, its name, and its field with its
-/// name.
+/// Why a board's entry is not answered. A fault is printed as its number, its name, and its field
+/// with its name.
 #[derive(Clone, Copy, Debug, PartialEq, Eq, Error)]
 pub enum AskFault {
     /// 74: the book that was seen has only the levels below `levels`.
@@ -96,7 +95,7 @@ impl fmt::Display for AskFault {
     }
 }
 
-/// Why a service ends early. Printed, it is its number and its name.
+/// Why a service ends early. A fault is printed as its number and its name.
 #[derive(Clone, Copy, Debug, PartialEq, Eq, Error)]
 pub enum ServeFault {
     /// 90: the reader answered a fault.

@@ -9,7 +9,8 @@ use crate::readers::Reader;
 use arrayvec::ArrayVec;
 use awari_board::Board;
 
-/// A line of more bytes, its line feed not counted, asks for nothing.
+/// The longest line that can ask for something, in bytes without its line feed. A longer one asks for
+/// nothing.
 pub const LONGEST_LINE: usize = 200;
 
 /// The line that is coming in: its bytes, or that they are too many.

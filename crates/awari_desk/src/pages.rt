@@ -12,7 +12,7 @@ use core::mem::replace_with;
 use std::alloc::{AllocError, Global};
 use std::sync::{Arc, Wait};
 
-/// What a publisher publishes. It is not `Drop`, and is given up with its publisher.
+/// The book that a publisher publishes. It is not `Drop`, and is given up with its publisher.
 pub struct Pages {
     pub(crate) writer: BookWriter,
     ghost known: { view writer.desk.place ≡ writer.desk.shown.value.0 },
@@ -32,8 +32,8 @@ impl Pages {
         &self.writer.published().0
     }
 
-    /// Tells of the whole book, for a reader to learn. It is refused as 72 `Readers` where no place is
-    /// free. It never waits, and takes no memory.
+    /// Tells of the whole book, for a reader to learn. Refused as 72 `Readers` if no place is free.
+    /// It never waits, and takes no memory.
     pub fn tell(&mut self) -> Result<Told, DeskFault>
         ensures told { IfOk result (λ told. told ≡ book_of self.old) }
         ensures readers { IfErr result (λ fault. fault ≡ Readers) }

@@ -6,10 +6,10 @@ use awari_table::Level;
 use std::alloc::Global;
 use std::sync::{Arc, Wait};
 
-/// The publisher of a book. It keeps the handle `R`, since its drop ends the desk and can wait for
-/// readers. What never waits are the calls of its `pages`.
+/// The publisher of a book. It keeps the handle `R`, since dropping it ends the desk and can wait for
+/// readers. The calls of its `pages` never wait.
 pub struct Publisher<R: Wait + Drop> {
-    /// The book, and the telling of it.
+    /// The book, and the call that tells of it.
     pub pages: Pages,
     pub(crate) rt: R,
 }
@@ -21,11 +21,11 @@ impl<R: Wait + Drop> Publisher<R> {
     ghost use Rattle.awari_desk.specs.Desks.{book_of, IsStuck};
     ghost use Rattle.awari_desk.specs.declared.faults.DeskFault.TheVariants.{NotNext, Readers, Memory};
 
-    /// Puts a level on top of the book, all at once for every reader. Where it is the book's next, it
-    /// must be consistent over the book. Refused are a level that is not the next, as 71 `NotNext`,
-    /// and want of memory, as 73 `Memory`. A refusal leaves the book as it is, and the call may be made
-    /// again; but once the sharing of a level was refused within a publication, each call that is not
-    /// 71 is 73. It can wait for readers.
+    /// Puts a level on top of the book, at once for every reader. Condition: if it is the book's next
+    /// level, it is consistent over the book. Refused as 71 `NotNext` if it is not the next level,
+    /// and as 73 `Memory` if memory runs out. After a refusal the book is as it was, and the call may
+    /// be made again. But once a publication could not share a level, each later call that is not 71
+    /// is 73. It can wait for readers.
     pub fn publish(&mut self, level: Arc<Level, Global>) -> Result<(), DeskFault>
         requires { (arc_value level).level ≡ length (book_of self.old.pages) → Consistent (book_of self.old.pages) (arc_value level) }
         ensures published { OnOk result (book_of self.new.pages ≡ book_of self.old.pages ++ arc_value level ∷ []) }
@@ -40,7 +40,7 @@ impl<R: Wait + Drop> Publisher<R> {
         self.pages.publish(&self.rt, level)
     }
 
-    /// Ends the desk. It can wait for readers, as a drop can.
+    /// Ends the desk. It can wait for readers, as dropping the publisher can.
     pub fn close(self) {}
 }
 

@@ -31,8 +31,8 @@ impl Model for Reader {
     ghost invariant = { λ r. r.levels ≡ length (known_at r.seat.place) };
 }
 
-/// What a publisher told: all levels of its book as it was then. A contract sees it as those levels.
-/// It has a place of the desk until it is learnt or dropped.
+/// What a publisher told: all levels that its book had then. A contract sees it as those levels. It
+/// holds a place of the desk until it is learnt or dropped.
 #[derive(Drop)]
 pub struct Told {
     pub(crate) reader: Reader,
@@ -58,10 +58,10 @@ impl Reader {
         self.levels
     }
 
-    /// What the book that is published now says of the board. That book begins with all that this
-    /// reader knows, and is what it knows then. Refused are a board of at least as many stones as that
-    /// book has levels, as 74 `NotYet`, and, as 75 `Gone`, a call after the publisher was closed. It
-    /// never waits, and takes no memory.
+    /// What the book that is published now says of the board. This book begins with all that this
+    /// reader knows, and is what it knows from then on. Refused as 74 `NotYet` if the board has at
+    /// least as many stones as that book has levels, and as 75 `Gone` after the publisher was closed.
+    /// It never waits, and takes no memory.
     pub fn ask(&mut self, board: &Board) -> Result<Entry, AskFault>
         ensures { IsAnswer self.old self.new board.now result }
     {
@@ -77,10 +77,10 @@ impl Reader {
         }
     }
 
-    /// What the book that is published now says of the board's legal moves, and of the board. It begins
-    /// with all that this reader knows, and is what it knows then. Refused are a board of at least as
-    /// many stones as that book has levels, as 74 `NotYet`, and, as 75 `Gone`, a call after the publisher
-    /// was closed. It never waits, and takes no memory.
+    /// What the book that is published now says of the board and of its legal moves. This book begins
+    /// with all that this reader knows, and is what it knows from then on. Refused as 74 `NotYet` if
+    /// the board has at least as many stones as that book has levels, and as 75 `Gone` after the
+    /// publisher was closed. It never waits, and takes no memory.
     pub fn moves(&mut self, board: &Board) -> Result<Weighed, AskFault>
         ensures { IsWeighing self.old self.new board.now result }
     {
@@ -96,8 +96,8 @@ impl Reader {
         }
     }
 
-    /// Learns what was told, where that is more than this reader knows. Of the places of the two, the
-    /// one that is not needed any more is given back. It never waits, and takes no memory.
+    /// Learns what was told, if that is more than this reader knows. Either way one of the two places
+    /// is given back. It never waits, and takes no memory.
     pub fn learn(&mut self, told: Told)
         ensures known { self.new ≡ longer_of self.old told }
         ensures seen { length self.new ≡ max (length self.old) (length told) }

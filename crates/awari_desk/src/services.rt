@@ -15,7 +15,7 @@ use crate::readers::Reader;
 use awari_table::Counted;
 use std::io::{Read, Write};
 
-/// A service takes no more bytes than this.
+/// The most bytes that a service takes.
 pub const LONGEST_INPUT: u32 = 100_000_000;
 
 /// How many bytes the reader is asked for at once.
@@ -172,11 +172,11 @@ fn take_some<R: Read, W: Write>(
     Err(ServeFault::TooLong)
 }
 
-/// Answers the lines of the input, in order, until one says `quit` or the input ends. Each line whose
-/// end has come is answered before the reader is called again. Refused are a fault of the reader, as
-/// 90 `Read`, more than `LONGEST_INPUT` bytes, as 91 `TooLong`, and a fault of the writer, as 92
-/// `Write`; then nothing more is read or written. It never waits for the publisher, and takes no
-/// memory.
+/// Answers the lines of the input, in order, until one says `quit` or the input ends. It answers each
+/// complete line before it calls the reader again. Refused as 90 `Read` if the reader answers a
+/// fault, as 91 `TooLong` if more than `LONGEST_INPUT` bytes come, and as 92 `Write` if the writer
+/// answers a fault or takes no byte. Then it reads and writes nothing more. It never waits for the
+/// publisher, and takes no memory.
 pub fn serve<R: Read, W: Write>(
     reader: &mut Reader,
     input: &mut Counted<R>,

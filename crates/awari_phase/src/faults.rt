@@ -7,8 +7,8 @@ use awari_owner::OwnerFault;
 use std::fmt;
 use thiserror::Error;
 
-/// Why a round, or the rounds of a gain, came to nothing. Printed, a fault is its number and its
-/// name, and of a bad note the owner and the owner's fault.
+/// Why a round, or the rounds of a gain, came to nothing. A fault is printed as its number and its
+/// name, and a bad note with the owner and the owner's fault.
 #[derive(Clone, Copy, Debug, PartialEq, Eq, Error)]
 pub enum PhaseFault {
     /// 40: a thread could not be started.

@@ -1,6 +1,7 @@
 //! What a worker enters at the start of each of its sweeps.
 
-/// A gate for the workers of a round.
+/// What the workers of a round pass through at the start of each sweep, so that a test can watch
+/// them.
 pub trait Gate {
     /// The worker of this owner begins a sweep.
     fn enter(&self, owner: u8);

@@ -11,17 +11,17 @@ ghost use Rattle.awari_phase.specs.declared.owners.Owner.{Owner};
 
 use awari_owner::{closed_parts_are_right, sound_parts_are_told};
 
-/// Owners that are sound together, and whose lines were looked at as `settle_owners` does it, are sound
-/// as `specs/Level.antt` of `awari_owner` says it, with the notes that each took from each other one, and
-/// those that are on their way to it.
+/// Owners that are sound together, and whose lines `settle_owners` looked at, are sound as
+/// `specs/Level.antt` of `awari_owner` defines it. The notes are those that each took from each other
+/// one, and those that are on their way to it.
 pub fn owners_together_are_sound()
     ensures { (value : List ℕ → ℤ) (n : ℕ) (os : List Owner) (d : Owner) → AreTogether value n os → AreLooked os
         → AreSound value n (length os) (part_at (parts_of os)) (coming_notes os d) (taken_notes os d) }
 {}
 
 /// Owners that are each sound, with nothing to be sent and nothing on the lines, heard all notes of
-/// each other; and once gain 1 is open and no board is fresh, each board of the level keeps the rules
-/// of a table.
+/// each other. Once gain 1 is open and no board is fresh, each board of the level keeps the rules of
+/// a table.
 pub fn finished_owners_are_right()
     ensures heard { (value : List ℕ → ℤ) (n : ℕ) (os : List Owner) → AreFinished value n os → AreWhole n (parts_of os) × AreHeard value (parts_of os) }
     ensures closed { (os : List Owner) → AreIdle os → ((i : ℕ) (d : Owner) → i < length os → (slice_index_or os i d).part.gain ≡ 1) → All IsClosed (parts_of os) }

@@ -16,11 +16,11 @@ use awari_table::Shelf;
 use std::alloc::{AllocError, Global};
 use std::thread::Threads;
 
-/// The owners of the shelf's next level, 1 to 16 of them, on one grid with room for 1 to 256 batches
-/// on each line. No gain is open, no board is fresh, and nothing is on its way. The shelf has at most
-/// `HIGHEST_LEVEL` levels. The parts are scanned one after the other, each by as many threads as
-/// there are processors. Refused where there was no room: it takes the memory for the parts and the
-/// lines.
+/// The owners of the shelf's next level, 1 to 16, on one grid whose lines have room for 1 to 256
+/// batches. No gain is open, no board is fresh, and nothing is on its way. The parts are scanned one
+/// after the other, each by as many threads as there are processors. Condition: the shelf has at most
+/// `HIGHEST_LEVEL` levels. It takes memory for the parts and the lines, and is refused only if that
+/// runs out.
 pub fn scanned_owners<R: Threads + Sync>(
     rt: &R,
     alloc: Global,
@@ -66,8 +66,8 @@ fn scanned_owner<R: Threads + Sync>(
     Ok(Owner::new(part, ends, outboxes))
 }
 
-/// The parts of the owners, in their order, each closed. All of them have gain 1 open, and no fresh board.
-/// Refused where there was no room: it takes memory for the list of them.
+/// The parts of the owners, in their order, each closed. Conditions: all of them have gain 1 open,
+/// and no board is fresh. It takes memory for the list of them, and is refused only if that runs out.
 pub fn closed_parts(alloc: Global, owners: Vec<Owner>) -> Result<Vec<ClosedPart>, AllocError>
     requires { All IsClosed (parts_of owners.items) }
     ensures { IfOk result (λ parts. parts.items ≡ parts_of owners.items) }

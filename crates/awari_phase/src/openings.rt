@@ -10,9 +10,9 @@ use crate::owners::Owner;
 use rayon::prelude::*;
 use std::thread::Threads;
 
-/// Opens the next smaller gain in each part, several parts at a time. No board is fresh, nothing is to
-/// be sent or waits on a line, and the open gain is at least 2. It takes no memory but for threads, and
-/// where none is to be had the parts are gone through in turn.
+/// Opens the next smaller gain in each part, several parts at a time. Conditions: no board is fresh,
+/// nothing is to be sent or waits on a line, and the open gain is at least 2. It takes memory for
+/// threads alone; if no thread is to be had, it opens the parts one after the other.
 pub fn open_gain<R: Threads + Sync>(rt: &R, owners: &mut [Owner])
     requires idle { AreIdle owners.old }
     requires sent { AreSent owners.old }

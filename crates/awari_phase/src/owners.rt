@@ -1,4 +1,16 @@
 //! One owner, with all that its worker works on.
+//!
+//! How to think of it. During a round an owner is alone in its thread: it sees its part, its outboxes
+//! and its own ends of the lines, and nothing of the others. So each contract here speaks of one
+//! owner. `Kept` says that an owner that was sound stays so over the batches that it took and gave.
+//! These are lists that only grow, whatever the others do meanwhile. `Swept` says that it took,
+//! spread and sent, or saw that there was nothing to take, to spread or to send, or no room. Whether
+//! the lists of two owners fit together is seen later, by `settle_owners`, once all ends are in one
+//! thread again.
+//!
+//! A sweep never waits. It passes over a line with nothing on it, and if a line is full it leaves the
+//! batch in the outbox. A step that is refused stops the worker, and the owner carries the fault
+//! until all threads are joined.
 
 ghost use Rattle.std.specs.Prelude.{◌≡◌, ◌≤◌, length};
 ghost use Rattle.awari_lines.specs.Lines.{owners_of};
@@ -10,7 +22,7 @@ use crate::spreading::spread_one;
 use awari_lines::Ends;
 use awari_owner::{Outboxes, OwnerFault, Part};
 
-/// How many boards a sweep spreads, at most.
+/// The most boards that a sweep spreads.
 pub const MOST_SPREADS: u32 = 64;
 
 /// One owner: its part of the level, its ends of the lines, and what it has still to send.
@@ -41,7 +53,7 @@ impl Owner {
     ghost use Rattle.awari_phase.specs.Stops.{HasWorked, Stopped};
 
     /// The owner of this part of a level, with these ends of its lines to the others and these
-    /// outboxes. All three are one owner's, of as many owners.
+    /// outboxes. Condition: all three are those of one owner, one of as many.
     pub fn new(part: Part, ends: Ends, outboxes: Outboxes) -> Owner
         requires queues { length outboxes.queues ≡ owners_of ends }
         requires numbered { outboxes.owner ≡ ends.owner }
@@ -67,7 +79,7 @@ impl Owner {
         self.boards_spread
     }
 
-    /// Takes at most one batch from another owner. True where there was one.
+    /// Takes at most one batch from another owner. True if there was one.
     fn take_from(&mut self, from: u8) -> Result<bool, OwnerFault>
         requires { IsOther self.old.ends from }
         ensures kept { OnOk result (Kept self.old self.new) }
@@ -81,7 +93,7 @@ impl Owner {
         Ok(true)
     }
 
-    /// Sends at most one batch to another owner. True where one went.
+    /// Sends at most one batch to another owner. True if one went.
     fn send_to(&mut self, to: u8) -> bool
         requires { IsOther self.old.ends to }
         ensures kept { Kept self.old self.new }
@@ -126,7 +138,7 @@ impl Owner {
         }
     }
 
-    /// Spreads at most one board. True where there was one.
+    /// Spreads at most one board. True if there was one.
     fn spread(&mut self) -> Result<bool, OwnerFault>
         ensures kept { OnOk result (Kept self.old self.new) }
         ensures ends { OnOk result (self.new.ends ≡ self.old.ends) }
@@ -139,7 +151,7 @@ impl Owner {
         Ok(done)
     }
 
-    /// At most one batch from each other owner. True where there was one.
+    /// Takes at most one batch from each other owner. True if there was one.
     #[tactic(auto, using(crate::proofs::Stopping::stopping))]
     fn take_each(&mut self) -> Result<bool, OwnerFault>
         ensures kept { OnOk result (Kept self.old self.new) }
@@ -155,7 +167,7 @@ impl Owner {
         Ok(busy)
     }
 
-    /// At most 64 boards spread. True where there was one.
+    /// Spreads at most 64 boards. True if there was one.
     #[tactic(auto, using(crate::proofs::Stopping::stopping))]
     fn spread_some(&mut self) -> Result<bool, OwnerFault>
         ensures kept { OnOk result (Kept self.old self.new) }
@@ -171,7 +183,7 @@ impl Owner {
         Ok(true)
     }
 
-    /// At most one batch to each other owner. True where one went.
+    /// Sends at most one batch to each other owner. True if one went.
     #[tactic(auto, using(crate::proofs::Keeping::keeping))]
     fn send_each(&mut self) -> bool
         ensures kept { Kept self.old self.new }
@@ -188,8 +200,8 @@ impl Owner {
         busy
     }
 
-    /// At most one batch from each other owner, at most 64 boards spread, and at most one batch to
-    /// each other owner. True where anything was done.
+    /// Takes at most one batch from each other owner, spreads at most 64 boards, and sends at most
+    /// one batch to each other owner. True if it did anything.
     #[tactic(auto, using(crate::proofs::Stopping::stopping))]
     fn sweep(&mut self) -> Result<bool, OwnerFault>
         ensures kept { OnOk result (Kept self.old self.new) }
@@ -202,7 +214,7 @@ impl Owner {
         Ok(came || spread || went)
     }
 
-    /// Sweeps until nothing is done, or so many times.
+    /// Sweeps until a sweep finds nothing to do, at most so many times.
     #[tactic(auto, using(crate::proofs::Stopping::stopping))]
     fn sweeps<G: Gate>(&mut self, gate: &G, most: u32) -> Result<(), OwnerFault>
         requires { 1 ≤ most }

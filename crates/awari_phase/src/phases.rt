@@ -35,13 +35,14 @@ enum Standing {
     Busy,
 }
 
-/// Rounds, one open distance after another, the least that is due first, until no board is fresh and
-/// nothing is to be sent or waits on a line. An owner makes at most `sweeps` sweeps a round, 1 to 1000,
-/// and the owners stand on one grid. It takes memory as a round does. Refused as a round is, and never
-/// as 42 where the owners were sound together; then the owners are gone.
+/// Makes rounds, one open distance after another from the least on, until no board is fresh and
+/// nothing is to be sent or waits on a line. An owner makes at most `sweeps` sweeps a round.
+/// Conditions: `sweeps` is 1 to 1000, and the owners stand on one grid. It takes memory as a round
+/// does, and is refused as one is; then the owners are gone. If the owners were sound together, 42
+/// cannot occur.
 ///
-/// One owner works on the caller's thread; of several, rounds are made in threads or in turn, which
-/// docs/DECISIONS.md explains.
+/// A single owner works on the caller's thread. For several, a round is made in threads or in turn;
+/// docs/DECISIONS.md explains which.
 pub fn gain_phase<R: Threads + Wait + Sync, G: Gate + Sync>(
     rt: &R,
     owners: Vec<Owner>,
@@ -61,8 +62,8 @@ pub fn gain_phase<R: Threads + Wait + Sync, G: Gate + Sync>(
     gain_phase_with_progress(rt, owners, gate, sweeps, &mut Silent)
 }
 
-/// What `gain_phase` does; after each round `progress` is told which gain is open, and how many boards
-/// are settled.
+/// Does what `gain_phase` does, and after each round tells `progress` which gain is open and how many
+/// boards are settled.
 pub fn gain_phase_with_progress<R: Threads + Wait + Sync, G: Gate + Sync, P: Progress>(
     rt: &R,
     owners: Vec<Owner>,

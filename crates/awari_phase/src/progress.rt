@@ -1,7 +1,6 @@
 //! Who is told how far a build is.
 
-/// Is told how far the build of a level is. What it does with that is its own affair: no level and no
-/// table depends on it.
+/// Hears how far the build of a level is. No level and no table depends on what it does with that.
 pub trait Progress {
     /// A level of so many stones begins, which has so many boards.
     fn begin(&mut self, level: usize, boards: usize);
@@ -13,7 +12,7 @@ pub trait Progress {
     fn plan(&mut self);
 }
 
-/// The one that tells nobody.
+/// A progress that ignores what it hears.
 #[derive(Clone, Copy)]
 pub struct Silent;
 

@@ -18,17 +18,17 @@ use std::sync::Wait;
 use std::thread::Threads;
 
 /// Each owner works in a thread of its own until it has nothing to do, or for so many sweeps, and
-/// comes back to its place. There are 1 to 1000 sweeps, and the owners stand on one grid. It takes memory
-/// for the threads, and each owner takes it for the notes that it has to send.
+/// comes back to its place. Conditions: there are 1 to 1000 sweeps, and the owners stand on one grid.
+/// It takes memory for the threads, and each owner takes it for the notes that it has to send.
 ///
-/// Each makes one sweep at least. So from each other owner it took a batch, or it saw none wait; it
-/// spread 64 boards, or all fresh ones of the open distance; and to each other owner it sent a batch,
-/// or had none to send, or saw the line full.
+/// Each owner makes at least one sweep. So from each other owner it took a batch, or saw that none
+/// waited. It spread 64 boards, or all fresh ones of the open distance. To each other owner it sent a
+/// batch, or had none to send, or saw that the line was full.
 ///
 /// All threads that were started are joined before anything is answered. Refused as 40 `NotStarted`
-/// where one could not be started, as 41 `Memory` where there was no room, else as 41 or 42 `BadNote` by
-/// the fault of the first owner that had one. Then the owners are gone. It is never 42 where the owners
-/// were sound together.
+/// if one could not be started, as 41 `Memory` if memory runs out, else as 41 or 42 `BadNote` by the
+/// fault of the first owner that had one. Then the owners are gone. If the owners were sound
+/// together, 42 cannot occur.
 pub fn round<R: Threads + Wait + Sync, G: Gate + Sync>(
     rt: &R,
     owners: Vec<Owner>,

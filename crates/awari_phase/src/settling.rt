@@ -7,9 +7,9 @@ ghost use Rattle.awari_phase.specs.Owners.{all_ends, rest_of};
 
 use crate::owners::Owner;
 
-/// Looks at every line among owners that stand on one grid, and leaves all else as it is. On each,
-/// what was received and then what waits is what was sent. True where nothing waits on any. It takes
-/// no memory.
+/// Looks at every line among owners that stand on one grid, and changes nothing else. On each line,
+/// what was received and then what waits is what was sent. True if nothing waits on any. It takes no
+/// memory.
 pub fn settle_owners(all: &mut [Owner]) -> bool
     requires { IsGrid (all_ends all.old) }
     ensures grid { IsGrid (all_ends all.new) }

@@ -11,8 +11,8 @@ use awari_board::moves_keep_boards;
 use awari_owner::{Outboxes, OwnerFault, Part};
 use awari_rank::ranks_tell_boards_apart;
 
-/// Spreads the first fresh board, if it has the open distance. It is false where none has. Refused as
-/// 32 `Far` where its distance is the greatest that can be stored, and as 33 `Memory`.
+/// Spreads the first fresh board, if it has the open distance. False if none has. Refused as 32 `Far`
+/// if its distance is the greatest u32, and as 33 `Memory` if memory runs out.
 pub fn spread_one(part: &mut Part, outboxes: &mut Outboxes) -> Result<bool, OwnerFault>
     requires { IsPartOf part.old outboxes.old }
     ensures block { SamePlace part.old part.new }
