@@ -23,14 +23,14 @@ pub struct Asked {
     pub shelf: Shelf,
 }
 
-/// Why a folder gives no answer about a board. Printed, it is the fault inside it.
+/// Why a folder gives no answer about a board. It is printed as the fault inside it.
 #[derive(Clone, Copy)]
 pub enum NoAnswer {
-    /// The text is no board.
+    /// The text is not a board.
     Board { fault: BoardFault },
     /// The folder is not loaded.
     Folder { fault: FolderFault },
-    /// 59: the folder has only so many levels, and the board has at least as many stones.
+    /// 59: the board has at least as many stones as the folder has levels.
     NotYet { fault: NotYet },
     /// The levels have no line of play from the board, or there is no room for it.
     Line { fault: LineFault },
@@ -84,8 +84,8 @@ impl fmt::Display for NoAnswer {
     }
 }
 
-/// The board that `text` spells, and the levels in the folder. The text is read before the folder is:
-/// where it is no board it is refused for that, whatever the folder holds. It takes the memory that
+/// The board that `text` spells, and the levels in the folder. The text is read before the folder. If
+/// it is not a board, it is refused for that, whatever the folder holds. It takes the memory that
 /// `load_parallel` takes.
 pub fn ask_folder<T: Threads + Sync, F: Folder>(
     rt: &T,

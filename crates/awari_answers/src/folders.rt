@@ -42,7 +42,7 @@ impl fmt::Display for RightLevel {
 pub struct Summary {
     /// How many levels the folder has.
     pub levels: usize,
-    /// The digest of the last level's file, 32 zeros where the folder has no level.
+    /// The digest of the last level's file, 32 zeros if the folder has no level.
     pub digest: [u8; 32],
 }
 

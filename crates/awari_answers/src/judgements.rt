@@ -24,10 +24,10 @@ pub struct Judgement {
     pub outcome: Option<i16>,
 }
 
-/// Why a play could not be judged. Printed, it is the fault inside it, and the number of the move.
+/// Why a play could not be judged. It is printed as the fault inside it, and the number of the move.
 #[derive(Clone, Copy, Debug, PartialEq, Eq, Error)]
 pub enum JudgeFault {
-    /// The text is no board.
+    /// The text is not a board.
     Board { fault: BoardFault },
     /// The move of this number, counted from 1, can't be played.
     Move { fault: MoveFault, number: usize },
@@ -55,10 +55,11 @@ impl From<BoardFault> for JudgeFault {
     }
 }
 
-/// Plays the moves from the board that `text` spells, and judges where that stands: with the
-/// outcome where the play has ended, or once more than `limit` plies captured nothing. Each byte of
-/// `moves` is the digit of a pit; any other byte is no pit's. Refused are a text that is no board,
-/// as [`Board::parse`] refuses it, and the first move that can't be played. It takes no memory.
+/// Plays the moves from the board that `text` spells, and says where the play then stands. It has an
+/// outcome if the play has ended, or once more than `limit` plies captured nothing. Each byte of
+/// `moves` is the digit of a pit. Refused as [`Board::parse`] refuses it if the text is not a board,
+/// else for the first move that can't be played; a byte that is no digit of a pit is 4 `NoPit`. It
+/// takes no memory.
 pub fn judge(text: &[u8], limit: u32, moves: &[u8]) -> Result<Judgement, JudgeFault>
     ensures judged { IfOk result (IsJudgement text.now limit moves.now) }
     ensures fault { IfErr result (IsJudgeFault text.now moves.now) }

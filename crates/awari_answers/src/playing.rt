@@ -8,10 +8,10 @@ use awari_board::{Board, BoardFault, MoveFault, Moved};
 use std::fmt;
 use thiserror::Error;
 
-/// Why no move was played. Printed, it is the fault inside it.
+/// Why no move was played. It is printed as the fault inside it.
 #[derive(Clone, Copy, Debug, PartialEq, Eq, Error)]
 pub enum PlayFault {
-    /// The text is no board.
+    /// The text is not a board.
     Board { fault: BoardFault },
     /// The pit can't be played.
     Move { fault: MoveFault },
@@ -47,8 +47,8 @@ impl From<MoveFault> for PlayFault {
     }
 }
 
-/// Plays `pit` on the board that `text` spells. Refused are a text that is no board, as
-/// [`Board::parse`] refuses it, and then the move, as [`Board::play`] does. It takes no memory.
+/// Plays `pit` on the board that `text` spells. A text that is not a board is refused as
+/// [`Board::parse`] refuses it, and then the move as [`Board::play`] does. It takes no memory.
 pub fn play_on(text: &[u8], pit: u8) -> Result<Moved, PlayFault>
     ensures played { IfOk result (IsPlayed text.now pit) }
     ensures fault { IfErr result (IsPlayFault text.now pit) }

@@ -7,7 +7,7 @@ use std::fmt;
 use std::fmt::Display;
 use std::io::Write;
 
-/// Writes the lines and a line feed, and has them passed on. It says whether the writer took them.
+/// Writes the lines and a line feed, and flushes. True if the writer took them.
 pub fn print<W: Write, T: Display>(writer: &mut W, lines: &T) -> bool
     ensures { result ≡ true → IfSome (T.output lines.now) (λ text. Appends (W.contents writer.old) (W.contents writer.new) (text ++ 10 ∷ [])) }
 {
@@ -17,14 +17,14 @@ pub fn print<W: Write, T: Display>(writer: &mut W, lines: &T) -> bool
     }
 }
 
-/// Writes the bytes of lines, and has them passed on. It says whether the writer took them.
+/// Writes the bytes of lines, and flushes. True if the writer took them.
 pub fn print_bytes<W: Write>(writer: &mut W, lines: &[u8]) -> bool
     ensures { result ≡ true → Appends (W.contents writer.old) (W.contents writer.new) lines.now }
 {
     writer.write_all(lines).is_ok() && writer.flush().is_ok()
 }
 
-/// A refusal. Printed, it is `refused` and the fault.
+/// A refusal. It is printed as `refused` and the fault.
 #[derive(Clone, Copy)]
 pub struct Refused<T>(pub T);
 
@@ -39,7 +39,7 @@ impl<T: Display> Display for Refused<T> {
     }
 }
 
-/// The status of a command whose lines were written, or were not: 0 or 1.
+/// The status of a command: 0 if its lines were written, 1 if not.
 pub fn status_of(written: bool) -> u8
     ensures status { result ≤ 1 }
     ensures written { result ≡ 0 ↔ written ≡ true }
@@ -47,7 +47,7 @@ pub fn status_of(written: bool) -> u8
     u8::from(!written)
 }
 
-/// Writes a refusal, and gives the status that goes with it, whether the writer took it or not.
+/// Writes a refusal, and gives the status 1, whether the writer took it or not.
 pub fn refuse<W: Write, T: Display + Copy>(writer: &mut W, fault: T) -> u8
     ensures { result ≡ 1 }
 {

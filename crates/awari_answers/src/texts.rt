@@ -14,8 +14,8 @@ use std::alloc::Global;
 use std::io::{self, Write};
 use std::thread::Threads;
 
-/// Prints the text of the levels in a folder, or of the one of this number, or the refusal: 59 where the
-/// folder has no level of this number.
+/// Prints the text of the levels in a folder, or of the one of this number, or the refusal. It is 59
+/// if the folder has no level of this number.
 pub fn run_text<T: Threads + Sync, F: Folder, W: Write>(
     rt: &T,
     folder: &mut F,

@@ -12,14 +12,14 @@ use std::alloc::Global;
 use std::fmt;
 use std::io::Read;
 
-/// What `check` has to say of its input. Printed, it is the line without its line feed.
+/// What `check` says of its input. It is printed as one line, without the line feed.
 #[derive(Clone, Copy, Debug, PartialEq, Eq)]
 pub enum Answer {
     /// `yes levels M limit K`: the tables of this many levels are right, and this is their limit.
     Yes { levels: u8, limit: u32 },
     /// `no level L rank R rule Vx`, or a refusal.
     Fault { fault: CheckFault },
-    /// 14: the input gave a fault.
+    /// 14: the reader gave a fault.
     Read,
 }
 
@@ -60,8 +60,8 @@ impl fmt::Display for Answer {
     }
 }
 
-/// The answer for the bytes that the reader has left, all of which it takes: 14 where the reader
-/// gave a fault, and 15 where there is no room for what it gave.
+/// The answer for the bytes that the reader has left, all of which it takes: 14 if the reader gave a
+/// fault, and 15 if memory runs out.
 pub fn check_input<R: Read>(alloc: Global, reader: &mut Counted<R>) -> Answer
     ensures answer { IfSome (R.remaining (inner_of reader.old)) (λ bytes. IsAnswer bytes result) }
 

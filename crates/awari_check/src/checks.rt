@@ -17,8 +17,8 @@ use std::fmt;
 use std::sync::Arc;
 use thiserror::Error;
 
-/// The first fault of bytes that are not the text of tables that are right. Printed, it is the fault
-/// inside it, behind the level that is not right.
+/// The first fault of bytes that are not the text of right tables. It is printed as the fault inside
+/// it, behind the number of a level that is not right.
 #[derive(Clone, Copy, Debug, PartialEq, Eq, Error)]
 pub enum CheckFault {
     /// The text is at fault, or there was no room for a level.
@@ -59,10 +59,9 @@ impl<T: Drop> From<AllocFailed<T>> for CheckFault {
     }
 }
 
-/// The shelf of the levels that the bytes spell, if each of them is right, which is proved of it.
-/// Otherwise the first fault: 10 to 13 of the text, or 22 of a level that is not right. Levels are
-/// read and verified one by one, so a fault in what a level says comes before one in the text of the
-/// next.
+/// The shelf of the levels that the bytes spell, if each of them is right. Otherwise the first fault:
+/// 10 to 13 of the text, or 22 of a level that is not right. Levels are read and verified one by one.
+/// So a fault in what a level says comes before one in the text of the next level.
 ///
 /// It takes memory for the entries, and for an `Arc` for each level; want of it is 15.
 pub fn check(alloc: Global, bytes: &[u8]) -> Result<Shelf, CheckFault>
@@ -92,7 +91,7 @@ pub fn check(alloc: Global, bytes: &[u8]) -> Result<Shelf, CheckFault>
     Ok(shelf)
 }
 
-/// Puts the image on top of the shelf, if it is right.
+/// Puts the image on top of the shelf, if it is right over it.
 fn put_on(alloc: Global, shelf: &mut Shelf, image: Image) -> Result<(), CheckFault>
     ensures ok { OnOk result (Consistent shelf.old image) }
     ensures shelf { OnOk result (shelf.new ≡ shelf.old ++ image ∷ []) }

@@ -7,8 +7,8 @@ ghost use Rattle.awari_check.specs.declared.checks.CheckFault.{CheckFault};
 ghost use Rattle.awari_check.specs.declared.checks.CheckFault.TheVariants.{Table};
 ghost use Rattle.awari_check.specs.CheckFault.{IsShelfText, IsCheckFault};
 
-/// Want of memory aside, bytes have at most one first fault, and none where they are the text of
-/// tables that are right.
+/// Apart from want of memory, bytes have at most one first fault, and none if they are the text of
+/// right tables.
 pub fn one_check_fault_is_due()
     ensures one { (bytes : List ℕ) (f g : CheckFault) → f ≢ Table Memory → g ≢ Table Memory
         → IsCheckFault bytes f → IsCheckFault bytes g → f ≡ g }

@@ -24,8 +24,7 @@ use std::io::Write;
 use std::sync::{Arc, Wait};
 use std::thread::Threads;
 
-/// What builds levels: the threads and the memory that it takes, how its owners work, and who is told
-/// how far it is.
+/// What a build works with: its threads and memory, how its owners work, and who hears how far it is.
 #[derive(Drop)]
 pub struct Builder<'a, T, P> {
     pub rt: &'a T,
@@ -124,8 +123,8 @@ impl fmt::Display for BuildingFault {
     }
 }
 
-/// Builds the levels up to `top` and prints the line of each. A refusal is printed, and the lines
-/// before it stand.
+/// Builds the levels up to `top` and prints the line of each. A refusal is printed behind the lines
+/// before it.
 pub fn run_build<T: Threads + Wait + Sync, P: Progress, W: Write>(
     builder: &mut Builder<'_, T, P>,
     top: u8,
@@ -137,8 +136,8 @@ pub fn run_build<T: Threads + Wait + Sync, P: Progress, W: Write>(
     build_up(builder, top, &mut Shelf::empty(), writer)
 }
 
-/// Builds the levels up to `top` above those of the folder, and prints the line of each once it is
-/// saved there. A refusal is printed, and the lines before it stand.
+/// Builds the levels above those of the folder, up to `top`, and prints the line of each once it is
+/// saved there. A refusal is printed behind the lines before it.
 pub fn run_build_in<T: Threads + Wait + Sync, P: Progress, F: Folder, W: Write>(
     builder: &mut Builder<'_, T, P>,
     folder: &mut F,

@@ -7,8 +7,8 @@ ghost use Rattle.awari_play.specs.Least.{HasLowestPlans, IsPlannedLowest};
 ghost use Rattle.awari_table.specs.Shelves.{Consistent, IsShelf};
 ghost use Rattle.awari_table.specs.declared.images.Image.{Image};
 
-/// The level that a builder makes over a shelf has one file over a digest, however many owners it had
-/// and in whatever order their steps fell. So two folders of as many levels with the lowest plans, as
+/// The level that a builder makes over a shelf has one file over a digest, whatever the number of
+/// owners and the order of their steps. So two folders of as many levels with the lowest plans, as
 /// `build` makes them, have the same files, byte for byte.
 pub fn one_file_for_every_schedule()
     ensures file { (version : ℕ) (shelf : List Image) (image other : Image) (below : List ℕ) → IsShelf shelf → Consistent shelf image → Consistent shelf other

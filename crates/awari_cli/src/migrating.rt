@@ -31,8 +31,8 @@ impl fmt::Display for MigratedLevel {
     }
 }
 
-/// Brings the levels of one folder over into another, and prints a line for each and one for all.
-/// A refusal is printed alone, and the files that were written before it stand.
+/// Brings the levels of one folder over into another, and prints a line for each and one for all. A
+/// refusal is printed alone, and the files that were written before it stay.
 pub fn run_migrate<F: Folder, G: Folder, W: Write>(
     alloc: Global,
     from: &mut F,

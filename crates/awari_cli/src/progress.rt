@@ -7,9 +7,9 @@ use std::time::{Clock, Duration, Instant};
 /// How many milliseconds lie between two lines of one gain, at least.
 const MILLISECONDS_BETWEEN: u128 = 250;
 
-/// Tells on a stream how far a build is: at each gain, when the plans are begun, and between these at most
-/// four times a second. A line that is not written is left out. Where the clock gives no time, a line is
-/// told at each gain alone, with no time gone.
+/// Tells on a stream how far a build is: at each gain, when the plans begin, and between these at
+/// most four times a second. A line that cannot be written is left out. If the clock gives no time,
+/// there is a line at each gain alone, and its time is 0.
 #[derive(Drop)]
 pub struct ProgressLines<'a, C, E> {
     clock: &'a C,
@@ -36,12 +36,12 @@ impl<'a, C: Clock, E: Write> ProgressLines<'a, C, E> {
         }
     }
 
-    /// Whether it is long enough ago that a line was told.
+    /// Whether the last line is long enough ago.
     fn is_due(&self, now: Option<Instant>) -> bool {
         between(self.told, now).as_millis() >= MILLISECONDS_BETWEEN
     }
 
-    /// The time that is gone, in seconds and tenths of one.
+    /// The time since the build began, in seconds and tenths of one.
     fn time_gone(&self, now: Option<Instant>) -> (u64, u32) {
         let gone = between(self.begun, now);
         (gone.as_secs(), gone.subsec_millis() / 100)

@@ -38,11 +38,11 @@ use std::sync::Wait;
 use std::thread::Threads;
 use std::time::Clock;
 
-/// Runs the command that the words name, of which the first is the program's own name. What it
-/// prints goes to the writer, and the text of `clap` to `errors`. The result is the status that the
-/// program ends with: 0 where it is done, 1 where it was refused or the writer gave a fault, and 2
-/// where the words were not understood, or asked for help. It takes memory for the words,
-/// and for what the commands read and build; want of it is a refusal.
+/// Runs the command that the words name. The first word is the program's own name. What the command
+/// prints goes to the writer, and the text of `clap` to `errors`. It gives the status that the
+/// program ends with: 0 if it is done, 1 if it was refused or the writer gave a fault, and 2 if the
+/// words were not understood, or asked for help. It takes memory for the words, and for what the
+/// commands read and build; want of it is a refusal.
 pub fn run<
     T: Files<File = File> + Threads + Clock + Wait + Sync + Send + Clone + Drop + 'static,
     S: AsStr,

@@ -105,10 +105,10 @@ impl fmt::Display for ServingFault {
     }
 }
 
-/// Answers the lines of the reader by the levels of the folder, and by those above them up to `top`
-/// as a thread builds and publishes them, with so many owners or, where there are to be none, by one
-/// part. Nothing is saved. A refusal is printed after the answers, but where they could not be written
-/// nothing more is.
+/// Answers the lines of the reader by the levels of the folder, and by the levels above them up to
+/// `top`, which a thread builds and publishes meanwhile. It has `owners` owners, or builds by one
+/// part if that is 0. Nothing is saved. A refusal is printed after the answers, unless these could
+/// not be written.
 pub fn run_serve<
     T: Threads + Wait + Sync + Send + Clone + Drop + 'static,
     F: Folder,

@@ -13,7 +13,7 @@ ghost use Rattle.clap.specs.declared.error.kind.ErrorKind.TheVariants.{
   ValueValidation,
 };
 
-/// The commands that words name, and why words are refused.
+/// Worked rows: the command that some words name, and why other words are refused.
 pub fn worked_words()
     ensures check { named (codes "awari" ∷ codes "check" ∷ []) ≡ Some (codes "check", []) }
 

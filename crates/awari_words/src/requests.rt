@@ -86,8 +86,8 @@ pub enum Request<'a> {
     },
 }
 
-/// What the words ask for, of which the first is the program's own name. The error has the text of
-/// `clap`, for `--help` as well. `None` comes only where `clap` lets words through that the program does
+/// What the words ask for. The first word is the program's own name. The error has the text of
+/// `clap`, also for `--help`. `None` comes only if `clap` lets words through that the program does
 /// not offer: no command of its own, or one without the values that it needs. It takes memory.
 pub fn request_of<'a, S: AsStr>(alloc: Global, words: &'a [S]) -> Result<Option<Request<'a>>, Error>
     // The request is that of the command that the words name, with the values that they give.
