@@ -97,11 +97,11 @@ pub fn ask_folder<T: Threads + Sync, F: Folder>(
     ensures same { Same (F.stands folder.old) (F.stands folder.new) }
     ensures board { (fault : BoardFault) → (result ≡ Err (no_answer.Board fault)) ↔ IsFaulty text.now fault }
 {
-    // That a text has one fault at most is what this call tells the proof.
+    // Ghost: a text has at most one fault.
     one_board_fault_is_due();
     let board = Board::parse(text)?;
     let shelf = load_parallel(rt, alloc, folder)?.shelf;
-    // That the levels are a shelf is what this call tells the proof.
+    // For the proof: the levels are a shelf.
     let _levels = shelf.levels();
     Ok(Asked { board, shelf })
 }

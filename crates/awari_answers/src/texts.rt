@@ -38,7 +38,7 @@ pub fn run_text<T: Threads + Sync, F: Folder, W: Write>(
     status_of(print_text(&stored.shelf, level, writer))
 }
 
-/// Whether the shelf has the level of this number, where there is one.
+/// Whether the shelf has the level of this number, if a number is given.
 fn has_level(shelf: &Shelf, level: Option<u8>) -> bool
     ensures has { IsTrue result ↔ IfSome level (λ number. number < length shelf.now) }
     ensures shelf { IsShelf shelf.now }
@@ -75,7 +75,7 @@ fn write_text<W: Write>(shelf: &Shelf, level: Option<u8>, output: &mut Counted<W
     requires { IfSome level (λ number. number < length shelf.now) }
     ensures { OnOk result (AppendsText shelf.now level (W.contents (inner_of output.old)) (W.contents (inner_of output.new))) }
 {
-    // That the levels are a shelf is what this call tells the proof.
+    // For the proof: the levels are a shelf.
     let _levels = shelf.levels();
     let Some(number) = level else {
         write_shelf_text(shelf, output)?;

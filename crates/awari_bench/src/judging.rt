@@ -50,8 +50,8 @@ fn is_judged_right(alloc: Global, shelf: &Shelf, level: &Level) -> Result<bool, 
     Ok(verify(shelf, image_of(alloc, level)?).is_ok())
 }
 
-/// Whether the level comes out again when its distances, doubled, are brought down. That they keep
-/// the older rules is judged first.
+/// Whether the level comes out again when its distances are doubled and brought down. It is judged
+/// first whether the doubled level keeps the older rules.
 fn is_lowered(alloc: Global, shelf: &Shelf, level: &Level) -> Result<bool, AllocError> {
     let farther = doubled(alloc, level)?;
     if verify_old(shelf, &farther).is_err() {

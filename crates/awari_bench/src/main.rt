@@ -23,7 +23,7 @@ fn first() -> Board {
     Board::new([0, 0, 0, 0, 0, 0, 0, 0, 0, 0, 0, STONES])
 }
 
-/// The next board where it can be numbered, and the first one otherwise.
+/// The next board if it can be numbered, and the first one otherwise.
 fn after(board: &Board) -> Board {
     if board.stones() > STONES {
         return first();

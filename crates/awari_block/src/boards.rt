@@ -21,12 +21,12 @@ use awari_packed::PackedBoard;
 use std::alloc::{AllocError, Global};
 use std::marker::Model;
 
-/// The boards of a block: where the analysis stands, a cell for each board, and which boards are
-/// fresh, that is, settled and not spread yet.
+/// The boards of a block: how far the analysis is, a cell for each board, and which boards are fresh,
+/// that is, settled and not spread yet.
 ///
 /// Place, cells and fresh boards go together: the fresh boards are ordered by the distances in the
-/// cells, and the open gain limits what a cell may hold. The other two fields save time. They say
-/// which gains are awaited where, and keep some boards from which the others are found.
+/// cells, and the open gain limits what a cell may hold. The other two fields save time. One says
+/// which gains each row of boards awaits. The other keeps some boards from which the rest are found.
 #[derive(Drop)]
 pub struct Boards {
     place: Place,
@@ -191,7 +191,7 @@ impl Boards {
     }
 
     /// The board of this rank hears that its quiet move from `pit` leads to a board that is won or
-    /// lost, at the open gain and distance. That may settle it. Conditions: the board is in the
+    /// lost, at the open gain and distance. This may settle it. Conditions: the board is in the
     /// block, the pit is below 6, a gain is open, and the open distance is not the greatest u32.
     #[inline(always)]
     pub fn hear(&mut self, target: u32, pit: u8, kind: Kind)

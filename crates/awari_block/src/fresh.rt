@@ -178,7 +178,7 @@ fn unmark(words: &mut Vec<u64>, place: usize)
     words[run] = without_bit(words[run], (place % 64) as u32);
 }
 
-/// The first boards, where there is none any more of this distance up to this run.
+/// The first boards, if none of this distance is left up to this run.
 fn first_behind(cells: &[Cell], words: &[u64], least: &mut [u32], run: usize, dist: u32) -> First
     requires kept { AreKept cells.now words.now least.old }
     requires run { run < length words.now }
@@ -193,7 +193,7 @@ fn first_behind(cells: &[Cell], words: &[u64], least: &mut [u32], run: usize, di
     }
 }
 
-/// The first boards, where all are farther than this distance.
+/// The first boards, if all are farther than this distance.
 fn first_farther(cells: &[Cell], words: &[u64], least: &mut [u32], dist: u32) -> First
     requires kept { AreKept cells.now words.now least.old }
     requires farther { (k : ℕ) → is_marked words.now k ≡ true → dist < dist_at cells.now k }
@@ -235,7 +235,7 @@ fn alone(place: usize, dist: u32) -> First
     }
 }
 
-/// The first boards, where the first of all is at this place.
+/// The first boards, if the first of all is at this place.
 fn first_at(cells: &[Cell], words: &[u64], least: &mut [u32], first: Option<usize>) -> First
     requires kept { AreKept cells.now words.now least.old }
     requires first { IsNearest cells.now words.now 0 (64 * length words.now) first }
@@ -292,7 +292,7 @@ fn is_at(cells: &[Cell], place: usize, dist: u32) -> bool
     cells[place].dist == dist
 }
 
-/// The bits with this one where that is so, and else as they are.
+/// The bits, with this one set if `so`.
 fn with_bit_if(so: bool, bits: u64, i: u32) -> u64
     requires { i < 64 }
     ensures set { so ≡ true → bit_at result i ≡ 1 }
@@ -302,7 +302,7 @@ fn with_bit_if(so: bool, bits: u64, i: u32) -> u64
     if so { with_bit(bits, i) } else { bits }
 }
 
-/// The least of both distances, or the first as it is where that is so.
+/// The lesser of both distances, or `least` as it is if `so`.
 fn least_unless(so: bool, least: u32, dist: u32) -> u32
     ensures low { result ≤ least }
     ensures both { so ≡ false → result ≤ dist }
@@ -310,8 +310,8 @@ fn least_unless(so: bool, least: u32, dist: u32) -> u32
     if so { least } else { least.min(dist) }
 }
 
-/// The first boards, where none is nearer than this distance, and those before this run are farther.
-/// There is none where all are farther.
+/// The first boards of this distance, none if all are farther. Conditions: no fresh board is nearer,
+/// and those in runs before this one are farther.
 #[inline(always)]
 fn first_as_near(
     cells: &[Cell],
@@ -360,8 +360,8 @@ fn next_run(least: &[u32], from: usize, dist: u32) -> usize
     least.len()
 }
 
-/// A run from this one on, before which all are farther than this distance. They are passed over by
-/// steps, most of which are farther where few boards are fresh.
+/// A run from this one on, with only farther boards in the runs between. Runs are skipped a step at a
+/// time: if few boards are fresh, most steps have none that is near.
 fn skip_far_runs(least: &[u32], from: usize, dist: u32) -> usize
     requires { from ≤ length least.now }
     ensures within { (from ≤ result) × (result ≤ length least.now) }
@@ -414,7 +414,7 @@ fn is_as_near(cells: &[Cell], best: Option<usize>, dist: u32) -> bool
     }
 }
 
-/// The first of the fresh boards so far, and of those of this run, which is passed over where none of
+/// The first of the best board so far and the fresh boards of this run. The run is skipped if none of
 /// its boards may be nearer.
 fn with_run(
     cells: &[Cell],
@@ -435,7 +435,7 @@ fn with_run(
     nearest_in(cells, words, run, best)
 }
 
-/// The first of the fresh boards so far, and of those of this run of 64.
+/// The first of the best board so far and the fresh boards of this run.
 fn nearest_in(cells: &[Cell], words: &[u64], run: usize, best: Option<usize>) -> Option<usize>
     requires few { length words.now ≤ 2 ^ 26 }
     requires inside { (k : ℕ) → is_marked words.now k ≡ true → k < length cells.now }

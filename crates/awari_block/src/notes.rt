@@ -10,8 +10,8 @@ pub enum Kind {
     Lost,
 }
 
-/// A note for a board: its quiet move from `pit` leads to a settled board, which is won or lost by so
-/// much, and so many plies away from a capture or the end of play.
+/// Tells a board that its quiet move from `pit` leads to a settled board. It says whether that one is
+/// won or lost, how much is won, and how far a capture or the end of play is.
 #[derive(Clone, Copy, Debug, Default, PartialEq, Eq)]
 pub struct Note {
     /// The stones on the boards of the level.

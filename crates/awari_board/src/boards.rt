@@ -46,12 +46,14 @@ impl Board {
         Board { pits }
     }
 
-    /// The position that `text` spells, in the form that [`Board::print`] gives: the stones of the
-    /// twelve pits in decimal, with commas between them and a slash between the two sides.
+    /// The position that `text` spells, in the form that [`Board::print`] gives. It is the stones of
+    /// the twelve pits in decimal, with commas between them and a slash between the two sides.
     ///
-    /// Refused as 1 `Shape` if the text is not twelve such fields, else as 2 `Number` if a field is
-    /// not a number below 100 without a leading zero, else as 3 `TooMany` if there are more than 48
-    /// stones.
+    /// It is refused as the first of these that is due:
+    ///
+    /// - 1 `Shape`: the text is not twelve such fields.
+    /// - 2 `Number`: a field is not a number below 100 without a leading zero.
+    /// - 3 `TooMany`: there are more than 48 stones.
     pub fn parse(text: &[u8]) -> Result<Self, BoardFault>
         ensures read { (board : List ℕ) → (result ≡ Ok board) ↔ (IsBoard board × (text.now ≡ text_of board)) }
         ensures faulty { IfErr result (IsFaulty text.now) }
@@ -151,9 +153,12 @@ impl Board {
 
     /// Plays `pit`: sows its stones, captures, and turns the board to the other player.
     ///
-    /// Refused as 4 `NoPit` if the pit is above 5, else as 7 `Ended` if the play has ended, else as 5
-    /// `EmptyPit` if the pit is empty. It is refused as 6 `MustFeed` if the opponent has no stones
-    /// and this pit gives none, while another pit does.
+    /// It is refused as the first of these that is due:
+    ///
+    /// - 4 `NoPit`: the pit is above 5.
+    /// - 7 `Ended`: the play has ended.
+    /// - 5 `EmptyPit`: the pit is empty.
+    /// - 6 `MustFeed`: the opponent has no stones, and this pit gives none while another does.
     #[inline(always)]
     pub fn play(&self, pit: u8) -> Result<Moved, MoveFault>
         ensures ok { IsOk result ↔ IsLegal self.now pit }

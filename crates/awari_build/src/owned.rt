@@ -29,9 +29,13 @@ use std::thread::Threads;
 /// says. Each enters the gate at the start of each of its sweeps. It takes memory for the parts, a
 /// little more than eleven bytes a board, for the lines and for the entries.
 ///
-/// Refused as 50 `Owners` if there are not 1 to 16 owners, else as 55 `Pace` if room or sweeps are
-/// not what `Pace` allows, else as 51 `TooHigh` if the shelf has all levels. It is refused as 53
-/// `Memory` if memory runs out, and as 52 `Phase` if a thread could not be started.
+/// It is refused in this order:
+///
+/// - 50 `Owners`: there are not 1 to 16 owners.
+/// - 55 `Pace`: room or sweeps are not what `Pace` allows.
+/// - 51 `TooHigh`: the shelf has all levels.
+/// - 53 `Memory`: memory ran out.
+/// - 52 `Phase`: a thread could not be started.
 ///
 /// The level is proved right, whatever order the owners' steps have, so nothing verifies it when the
 /// program runs.
@@ -158,7 +162,7 @@ fn closed_gain<R: Threads + Wait + Sync, G: Gate + Sync, P: Progress>(
     }
 }
 
-/// Why a level is not built, where the phase of a gain was refused.
+/// Why a level is not built, if the rounds of a gain were refused.
 fn of_phase(fault: PhaseFault) -> BuildFault
     ensures { IsWant fault → IsOfPhase result }
 {

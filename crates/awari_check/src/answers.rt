@@ -65,7 +65,7 @@ impl fmt::Display for Answer {
 pub fn check_input<R: Read>(alloc: Global, reader: &mut Counted<R>) -> Answer
     ensures answer { IfSome (R.remaining (inner_of reader.old)) (λ bytes. IsAnswer bytes result) }
 
-    // 14 comes where the reader gave a fault, and only there.
+    // It is 14 if the reader gave a fault, and only then.
     ensures read { (result ≡ answer.Read) ↔ Grew (faults_of reader.old) (faults_of reader.new) }
 {
     let one_more = reader.faults().saturating_add(1);

@@ -235,7 +235,7 @@ fn build_next<T: Threads + Wait + Sync, P: Progress>(
     ensures built { IfOk result (λ told. (image : Image) × (shelf.new ≡ shelf.old ++ image ∷ []) × IsToldOf image told) }
     ensures planned { OnOk result (HasLowestPlans shelf.old → HasLowestPlans shelf.new) }
 {
-    // That the plans stay the lowest is what this call tells the proof.
+    // Ghost: the plans stay the lowest.
     lowest_plans_stay();
     let level = built_level(builder, shelf)?;
     let told = told_of(&level);
@@ -258,7 +258,7 @@ fn save_next<T: Threads + Wait + Sync, P: Progress, F: Folder>(
     ensures err { OnErr result (Same (F.stands folder.old) (F.stands folder.new)) }
     ensures crash { IsSome (F.stands folder.old (length shelf.old)) → LeavesFiles (length shelf.old) (F.may_leave folder.old) (F.may_leave folder.new) }
 {
-    // That the plans stay the lowest is what this call tells the proof.
+    // Ghost: the plans stay the lowest.
     lowest_plans_stay();
     let level = built_level(builder, shelf)?;
     let own = save(folder, &level, *digest)?;
@@ -268,8 +268,8 @@ fn save_next<T: Threads + Wait + Sync, P: Progress, F: Folder>(
     Ok(told)
 }
 
-/// The level above the shelf, built by so many owners or, where there are to be none, by one part,
-/// with the room that it takes on a shelf.
+/// The level above the shelf, in the `Arc` that a shelf holds. It is built by the owners of the pace,
+/// or by one part if there are none.
 fn built_level<T: Threads + Wait + Sync, P: Progress>(
     builder: &mut Builder<'_, T, P>,
     shelf: &Shelf,

@@ -43,7 +43,8 @@ pub fn run_migrate<F: Folder, G: Folder, W: Write>(
     ensures migrated { result ≡ 0
         → PrintsMigrated (F.stands from.old) (G.stands to.old) (G.stands to.new) (W.contents writer.old) (W.contents writer.new) }
 
-    // Whatever is printed, and whether it is: all levels were brought over, or those below the first that is refused.
+    // Whatever is printed or not, all levels were brought over, or those below the first that is
+    // refused.
     ensures leaves { LeavesMigrated (F.stands from.old) (G.stands to.old) (G.stands to.new) }
     ensures kept { KeepsFiles (G.stands to.old) (G.stands to.new) }
 

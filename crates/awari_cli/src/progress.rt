@@ -48,7 +48,7 @@ impl<'a, C: Clock, E: Write> ProgressLines<'a, C, E> {
     }
 }
 
-/// The time from one moment to another, none where one of them is not known.
+/// The time from one moment to another, zero if one of them is not known.
 fn between(earlier: Option<Instant>, later: Option<Instant>) -> Duration {
     match (earlier, later) {
         (Some(earlier), Some(later)) => later.saturating_duration_since(earlier),

@@ -52,15 +52,15 @@ pub fn run<
 >(rt: &T, alloc: Global, words: &[S], reader: &mut R, writer: &mut W, errors: &mut E) -> u8
     ensures status { result ≤ 2 }
 
-    // The words name a request, and have no fault, where it doesn't end with 2. Where it ends with 0,
-    // what is printed is what is due for that request: a yes is said only of tables that are right, a
-    // move or a judgement only of a right play, and a level, an entry, a move's worth, a line of play
-    // or an answer only of right levels.
+    // Unless it ends with 2, the words name a request, and have no fault. If it ends with 0, what is
+    // printed is due for that request. A yes is said only of tables that are right, a move or a
+    // judgement only of a right play, and a level, an entry, a move's worth, a line of play or an
+    // answer only of right levels.
     ensures understood { result ≢ 2 → fault_of awari_commands (map S.text words.entry.now) ≡ [] }
     ensures done { result ≢ 2 → (request : Request) × IsAsked (subcommand_of awari_commands (map S.text words.entry.now)) (Some request)
         × (result ≡ 0 → PrintsFor request (R.remaining reader.old) (W.contents writer.old) (W.contents writer.new)) }
 
-    // Where the words were not understood, nothing is printed.
+    // If the words were not understood, nothing is printed.
     ensures nothing { result ≡ 2 → Keeps (W.contents writer.old) (W.contents writer.new) }
 {
     match request_of(alloc, words) {

@@ -255,7 +255,7 @@ fn grow_by_one<T: Threads + Wait + Sync + Drop>(
     Ok(())
 }
 
-/// The level above the book, by so many owners or, where there are to be none, by one part.
+/// The level above the book, built by `owners` owners, or by one part if that is 0.
 fn next_level<T: Threads + Wait + Sync>(
     rt: &T,
     alloc: Global,

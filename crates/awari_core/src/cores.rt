@@ -59,9 +59,12 @@ impl Core {
     /// is the number of stones; at level 0 there is none. Each line has room for `room` batches. It
     /// takes memory for the parts and the lines, and for a share of the shelf.
     ///
-    /// Refused as 35 `Owners` if there are not 1 to 16 owners, else as 36 `Room` if the room is not 1
-    /// to 256, else as 37 `TooHigh` if the shelf has all levels, else as 38 `Memory` if memory runs
-    /// out.
+    /// It is refused as the first of these that is due:
+    ///
+    /// - 35 `Owners`: there are not 1 to 16 owners.
+    /// - 36 `Room`: the room is not 1 to 256.
+    /// - 37 `TooHigh`: the shelf has all levels.
+    /// - 38 `Memory`: memory ran out.
     pub fn new(alloc: Global, shelf: &Shelf, owners: u8, room: u32) -> Result<Core, CoreFault>
         ensures sound { IfOk result Sound }
         ensures begun { IfOk result (IsBegun shelf.now owners room) }
@@ -105,7 +108,7 @@ impl Core {
         ensures leads { Runs self.old events.now self.new result.taken result.refused }
         ensures all { result.taken + result.refused ≡ length events.now }
     {
-        // What the proof begins with: that the core is sound.
+        // For the proof: the core is sound.
         let _ = &self.shelf;
         let mut ran = Ran {
             taken: 0,

@@ -17,7 +17,7 @@ pub enum Answer {
     Found { entry: Entry },
     /// What the board's legal moves are worth, by the book that was seen.
     Moves { weighed: Weighed },
-    /// That book has only the levels below `levels`.
+    /// The book that was seen has only the levels below `levels`.
     NotYet { levels: u8 },
     /// The publisher is gone.
     Gone,

@@ -54,7 +54,7 @@ impl Coming {
         !self.is_long && self.bytes.is_empty()
     }
 
-    /// The answer to the line. A reader is asked where the line asks for a board.
+    /// The answer to the line. If the line asks for a board, the reader is asked.
     pub(crate) fn answer(&self, reader: &mut Reader) -> Answer
         ensures { (line : List ℕ) → Holds self.now line → IsAnswerTo reader.old line result reader.new }
     {

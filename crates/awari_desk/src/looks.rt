@@ -19,7 +19,7 @@ pub(crate) struct Seen<T: Drop> {
     pub answer: Result<T, NotYet>,
 }
 
-/// Looks a board up in the book that is published. There is none where the publisher is gone.
+/// Looks a board up in the book that is published. Nothing is seen if the publisher is gone.
 pub(crate) fn look(seat: Seat, board: &Board) -> (Seat, Option<Seen<Entry>>)
     ensures grows { MatchOption result.1 (view result.0.place ≡ view seat.place) (λ _. BeginsWith (view result.0.place) (view seat.place)) }
     ensures levels { MatchOption result.1 ⊤ (λ s. (s.levels ≡ length (view result.0.place)) × IsShelf (view result.0.place)) }
@@ -37,7 +37,8 @@ pub(crate) fn look(seat: Seat, board: &Board) -> (Seat, Option<Seen<Entry>>)
     }
 }
 
-/// Weighs the moves of a board by the book that is published. There is none where the publisher is gone.
+/// Weighs the moves of a board by the book that is published. Nothing is seen if the publisher is
+/// gone.
 pub(crate) fn look_at_moves(seat: Seat, board: &Board) -> (Seat, Option<Seen<Weighed>>)
     ensures grows { MatchOption result.1 (view result.0.place ≡ view seat.place) (λ _. BeginsWith (view result.0.place) (view seat.place)) }
     ensures levels { MatchOption result.1 ⊤ (λ s. (s.levels ≡ length (view result.0.place)) × IsShelf (view result.0.place)) }

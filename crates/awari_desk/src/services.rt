@@ -114,7 +114,7 @@ fn feed<W: Write>(
     Ok(false)
 }
 
-/// Answers a last line that has no line feed, where there is one.
+/// Answers a last line that has no line feed, if there is one.
 fn finish<W: Write>(
     reader: &mut Reader,
     coming: &Coming,
@@ -133,8 +133,8 @@ fn finish<W: Write>(
     Ok(())
 }
 
-/// Asks the reader once for bytes, of which `left` more may come, and answers each line that ends
-/// in them. It says how many more may come then, or none where the service has ended.
+/// Asks the reader once for bytes, of which `left` more may come, and answers each line that ends in
+/// them. Gives how many more may come then, or none if the service has ended.
 fn take_some<R: Read, W: Write>(
     reader: &mut Reader,
     coming: &mut Coming,
@@ -173,30 +173,34 @@ fn take_some<R: Read, W: Write>(
 }
 
 /// Answers the lines of the input, in order, until one says `quit` or the input ends. It answers each
-/// complete line before it calls the reader again. Refused as 90 `Read` if the reader answers a
-/// fault, as 91 `TooLong` if more than `LONGEST_INPUT` bytes come, and as 92 `Write` if the writer
-/// answers a fault or takes no byte. Then it reads and writes nothing more. It never waits for the
-/// publisher, and takes no memory.
+/// complete line before it calls the reader again. It never waits for the publisher, and takes no
+/// memory.
+///
+/// After a refusal it reads and writes nothing more:
+///
+/// - 90 `Read`: the reader answered a fault.
+/// - 91 `TooLong`: more than `LONGEST_INPUT` bytes came.
+/// - 92 `Write`: the writer answered a fault, or took no byte.
 pub fn serve<R: Read, W: Write>(
     reader: &mut Reader,
     input: &mut Counted<R>,
     output: &mut Counted<W>,
 ) -> Result<(), ServeFault>
-    // What was written is the output for the input, where that is known.
+    // What was written is the output for the input, if that is known.
     ensures served { OnOk result ((bytes : List ℕ) × IsInput (R.remaining (inner_of input.old)) bytes
         × HasServed reader.old (W.contents (inner_of output.old)) bytes (W.contents (inner_of output.new)) reader.new) }
 
-    // Where it is refused, what was written is the front of an output for a front of the input.
+    // If it is refused, what was written is the front of an output for a front of the input.
     ensures begun { OnErr result ((bytes : List ℕ) × IsInput (R.remaining (inner_of input.old)) bytes
         × HasBegun reader.old (W.contents (inner_of output.old)) bytes (W.contents (inner_of output.new)) reader.new) }
 
-    // Either goes by no more than the first `LONGEST_INPUT` bytes. Ok comes only where the input has no
-    // more, or a line within them says `quit`, and before a refusal nothing behind them is answered.
+    // Either goes by no more than the first `LONGEST_INPUT` bytes. Ok comes only if the input has no
+    // more, or a line within them says `quit`. Before a refusal nothing behind them is answered.
     ensures served_within { OnOk result (HasServedWithin LONGEST_INPUT reader.old (W.contents (inner_of output.old)) (R.remaining (inner_of input.old)) (W.contents (inner_of output.new)) reader.new) }
     ensures begun_within { OnErr result (HasBegunWithin LONGEST_INPUT reader.old (W.contents (inner_of output.old)) (R.remaining (inner_of input.old)) (W.contents (inner_of output.new)) reader.new) }
 
-    // 90 comes only where the reader gave a fault, 91 only where too many bytes came, and 92 only
-    // where the writer gave a fault or took no byte.
+    // 90 comes only if the reader gave a fault, 91 only if too many bytes came, and 92 only if the
+    // writer gave a fault or took no byte.
     ensures read { result ≡ Err serve_fault.Read → Grew (faults_of input.old) (faults_of input.new) }
     ensures too_long { result ≡ Err serve_fault.TooLong → IfSome (R.remaining (inner_of input.old)) (λ bytes. LONGEST_INPUT < length bytes) }
     ensures write { result ≡ Err serve_fault.Write → Grew (faults_of output.old) (faults_of output.new) }

@@ -67,8 +67,8 @@ fn take_turns(rt: &impl Print, shelf: &Shelf, game: &mut Game, line: &str) -> Re
     Ok(())
 }
 
-/// Plays the plan of the shelf for the player to move, and gives its pit. Where the shelf has none, as
-/// where the play has ended, the game stays as it was.
+/// Plays the plan of the shelf for the player to move, and gives its pit. If the shelf has none,
+/// because it lacks the level or the play has ended, the game stays as it was.
 fn reply(shelf: &Shelf, game: &mut Game) -> Option<u8>
     ensures plan { IfSome result (λ pit. (entry_of shelf.now game.old.board).plan ≡ Some pit) }
     ensures played { IfSome result (λ pit. (board pits : List ℕ) → Shows game.old board pits → Shows game.new board (pits ++ pit ∷ [])) }

@@ -1,5 +1,5 @@
-//! The fields of a file, each at the front of some bytes. `short` is the fault where there are too
-//! few.
+//! The fields of a file, each at the front of some bytes. `short` is the fault if there are too few
+//! bytes.
 
 ghost use Rattle.std.specs.Prelude.{◌≡◌, ◌≤◌, ◌==◌, nat_le, IfOk};
 ghost use Rattle.std.specs.Int.{w8, w16, w32, w64};
@@ -24,7 +24,7 @@ pub(crate) const VERSION: u16 = 2;
 /// The version of older tables, whose distances only had to fall. It is still read.
 pub const OLD_VERSION: u16 = 1;
 
-/// Stands in the place of a pit where there is no plan.
+/// The byte of a plan that is none.
 pub(crate) const NO_PLAN: u8 = 255;
 
 fn magic_at(bytes: &[u8], short: FileFault) -> Result<(u32, &[u8]), FileFault>

@@ -192,11 +192,16 @@ fn read_all<R: Read>(alloc: Global, reader: &mut Counted<R>) -> Result<Loaded, F
 /// Reads the file of a level, of version 1 or 2, which has to be all that the reader has left. It
 /// judges neither what the file says of boards, nor whether `below` is the digest of the file below.
 ///
-/// The fields are read in order, each entry being one, and the first fault is answered. For a field
-/// that is 68 if the reader answers a fault, else 60 if the input ends within the field, else the
-/// field's own, 61 to 66. After the digest it asks for one more byte, and answers 67 if there is one.
-/// Room for all entries is taken after the header; want of it is 69. It takes no other memory. After
-/// a refusal nothing is known of the reader's place.
+/// The fields are read in order, each entry being one, and the first fault is answered. In a field
+/// these are looked for in order:
+///
+/// - 68: the reader answered a fault.
+/// - 60: the input ended within the field.
+/// - 61 to 66: the field's own fault.
+///
+/// After the digest it asks for one more byte, and answers 67 if there is one. Room for all entries
+/// is taken after the header; want of it is 69. It takes no other memory. After a refusal nothing is
+/// known of the reader's place.
 pub fn read_image<R: Read>(alloc: Global, reader: &mut Counted<R>) -> Result<Loaded, FileFault>
     // What is read is the file of a level, and all of it.
     ensures found { IfSome (R.remaining (inner_of reader.old)) (λ bytes. IfOk result (λ loaded. IsFileOf bytes loaded)) }

@@ -10,7 +10,7 @@ use crate::faults::FileFault;
 use awari_table::Counted;
 use std::io::Read;
 
-/// How many bytes came, and where there are fewer than were asked for, why.
+/// How many bytes came, and why there are no more if they are fewer than were asked for.
 #[derive(Clone, Copy)]
 pub(crate) struct Came {
     pub count: usize,

@@ -10,8 +10,8 @@ use std::io::{self, Error, ErrorKind, Write};
 use std::path::Path;
 use std::rt::Files;
 
-/// A folder on disk. The first save locks it, so that one builder at a time writes into it. Readers
-/// never wait for that lock.
+/// A folder on disk. The first save locks it, if the file system has locks, so that one builder at a
+/// time writes into it. Readers never wait for that lock.
 #[derive(Drop)]
 pub struct HostFolder<'a, R> {
     files: &'a R,
@@ -37,8 +37,8 @@ impl<'a, R> HostFolder<'a, R> {
     }
 }
 
-/// The folder, open and locked. It is refused where the folder is not there, and where another has
-/// the lock. Where the file system knows no locks, it is opened, and goes without one.
+/// The folder, open and locked. It is refused if the folder is not there, and if another has the
+/// lock. If the file system knows no locks, the folder is opened and goes without one.
 fn locked<R: Files<File = File>>(
     files: &R,
     alloc: Global,
@@ -67,7 +67,7 @@ fn open_file<R: Files>(files: &R, path: Path<'_>) -> io::Result<R::File> {
 /// Makes a file that was not there, in place of what a save that was killed may have left. What has
 /// the name is removed and not written to, so that no link is followed.
 fn create_file<R: Files>(files: &R, path: Path<'_>) -> io::Result<R::File> {
-    // Where it could not be removed, no new file can be made, which is told below.
+    // If it could not be removed, no new file can be made, which is told below.
     let _ = fs::remove_file(files, path);
     let mut how = OpenOptions::new();
     how.write(true);

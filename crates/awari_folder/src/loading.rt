@@ -31,19 +31,24 @@ pub struct Stored {
 /// first that is not there or the highest level. A folder that does not exist counts as empty.
 ///
 /// Each file is read and its level verified, so what the shelf says is right, whatever lies in the
-/// folder. Each file in turn is refused as 82 if it is there and does not open, 81 if it is not read,
-/// 86 if it is of version 1, 80 if it does not name the digest of the file before it, and 83 if the
-/// level is not right over those below. It takes memory for names, entries and an `Arc` for each
-/// level; want of it is 84.
+/// folder. It takes memory for names, entries and an `Arc` for each level; want of it is 84. The
+/// files are taken in turn, and each is refused as the first of these that is due:
+///
+/// - 82: it is there and does not open.
+/// - 81: it is not read.
+/// - 86: it is of version 1.
+/// - 80: it does not name the digest of the file before it.
+/// - 83: the level is not right over those below.
 pub fn load<F: Folder>(alloc: Global, folder: &mut F) -> Result<Stored, FolderFault>
-    // What the shelf says of each of its boards is the truth: following its plans secures the
-    // value, soon, the value is what the board is worth, and the distance is the least.
+    // What the shelf says of each of its boards is the truth: following its plans secures the value,
+    // soon, the value is what the board is worth, and the distance is the least.
     ensures meaning { IfOk result (λ stored. TellsTruth stored.shelf) }
     ensures named { IfErr result NamesLevel }
-    // Where it is known what has the names: the levels up to the first that has no file, or the first fault.
+    // If it is known what has the names: the levels up to the first that has no file, or the first
+    // fault.
     ensures exact { (names : ℕ → Option (List ℕ)) → AreNames (F.stands folder.old) names
         → MatchResult result (λ stored. IsStored names stored.shelf stored.digest) (IsFirstFault names) }
-    // 82 is told where the folder refused to open a file, and only there.
+    // It is 82 if the folder refused to open a file, and only then.
     ensures refused { OpenIfRefused result (F.refusals folder.old) (F.refusals folder.new) }
     // Nothing is changed.
     ensures stands { Same (F.stands folder.old) (F.stands folder.new) }
@@ -66,14 +71,15 @@ pub fn load_parallel<T: Threads + Sync, F: Folder>(
     alloc: Global,
     folder: &mut F,
 ) -> Result<Stored, FolderFault>
-    // What the shelf says of each of its boards is the truth: following its plans secures the
-    // value, soon, the value is what the board is worth, and the distance is the least.
+    // What the shelf says of each of its boards is the truth: following its plans secures the value,
+    // soon, the value is what the board is worth, and the distance is the least.
     ensures meaning { IfOk result (λ stored. TellsTruth stored.shelf) }
     ensures named { IfErr result NamesLevel }
-    // Where it is known what has the names: the levels up to the first that has no file, or the first fault.
+    // If it is known what has the names: the levels up to the first that has no file, or the first
+    // fault.
     ensures exact { (names : ℕ → Option (List ℕ)) → AreNames (F.stands folder.old) names
         → MatchResult result (λ stored. IsStored names stored.shelf stored.digest) (IsFirstFault names) }
-    // 82 is told where the folder refused to open a file, and only there.
+    // It is 82 if the folder refused to open a file, and only then.
     ensures refused { OpenIfRefused result (F.refusals folder.old) (F.refusals folder.new) }
     // Nothing is changed.
     ensures stands { Same (F.stands folder.old) (F.stands folder.new) }
@@ -97,14 +103,15 @@ fn load_by<V: Fn(&Shelf, Image) -> Result<Level, VerifyFault>, F: Folder>(
 ) -> Result<Stored, FolderFault>
     requires callable { V.IsAlwaysCallable judge.now }
     requires judges { Judges (V.post judge.now) }
-    // What the shelf says of each of its boards is the truth: following its plans secures the
-    // value, soon, the value is what the board is worth, and the distance is the least.
+    // What the shelf says of each of its boards is the truth: following its plans secures the value,
+    // soon, the value is what the board is worth, and the distance is the least.
     ensures meaning { IfOk result (λ stored. TellsTruth stored.shelf) }
     ensures named { IfErr result NamesLevel }
-    // Where it is known what has the names: the levels up to the first that has no file, or the first fault.
+    // If it is known what has the names: the levels up to the first that has no file, or the first
+    // fault.
     ensures exact { (names : ℕ → Option (List ℕ)) → AreNames (F.stands folder.old) names
         → MatchResult result (λ stored. IsStored names stored.shelf stored.digest) (IsFirstFault names) }
-    // 82 is told where the folder refused to open a file, and only there.
+    // It is 82 if the folder refused to open a file, and only then.
     ensures refused { OpenIfRefused result (F.refusals folder.old) (F.refusals folder.new) }
     // Nothing is changed.
     ensures stands { Same (F.stands folder.old) (F.stands folder.new) }

@@ -52,18 +52,23 @@ pub struct Migrated {
 /// the least distances and the lowest plans. One of version 2 has to be right by the rules in force,
 /// and stays as it is.
 ///
-/// Each level in turn is refused as 82 if its file in `from` is there and does not open, 81 if that
-/// is not read, 80 if it does not name the digest of the file before it, 83 if the level is not
-/// right, 85 if it has a file in `to`, and as 82 or 81 with 70 if it can't be written there. The
-/// levels that were written before stay. It takes memory for names, entries, limits and an `Arc` for
-/// each level; want of it is 84.
+/// It takes memory for names, entries, limits and an `Arc` for each level; want of it is 84. The
+/// levels that were written before a refusal stay. They are taken in turn, and each is refused as the
+/// first of these that is due:
+///
+/// - 82: its file in `from` is there and does not open.
+/// - 81: this file is not read.
+/// - 80: it does not name the digest of the file before it.
+/// - 83: the level is not right.
+/// - 85: the level has a file in `to`.
+/// - 82, or 81 with 70: it can't be written there.
 pub fn migrate<F: Folder, G: Folder>(
     alloc: Global,
     from: &mut F,
     to: &mut G,
 ) -> Result<Migrated, FolderFault>
-    // Where it is known what has the names in both: all levels are brought over, or there is the
-    // first fault.
+    // If it is known what has the names in both: all levels are brought over, or there is the first
+    // fault.
     ensures exact { (names others : ℕ → Option (List ℕ)) → AreNames (F.stands from.old) names → AreNames (G.stands to.old) others
         → MatchResult result (λ done. IsMigrated names others (G.stands to.new) done.limits.items done.digest) (IsFirstMigrationFault names others (G.stands to.new)) }
     ensures named { IfErr result NamesLevel }
@@ -72,7 +77,7 @@ pub fn migrate<F: Folder, G: Folder>(
     ensures kept_still { LeavesStill (G.may_leave to.old) (G.may_leave to.new) }
     // A crash at any moment leaves no half of a file, and harms none that was there.
     ensures whole { (others : ℕ → Option (List ℕ)) → AreNames (G.stands to.old) others → LeavesWhole others (G.may_leave to.old) (G.may_leave to.new) }
-    // 82 is told where one of the folders refused to open, to make or to name a file, and only there.
+    // It is 82 if one of the folders refused to open, to make or to name a file, and only then.
     ensures refused { OpenIfEither result (F.refusals from.old) (F.refusals from.new) (G.refusals to.old) (G.refusals to.new) }
     // Nothing is changed in the folder that the levels come from.
     ensures stands { Same (F.stands from.old) (F.stands from.new) }
@@ -107,7 +112,7 @@ struct MigratedLevel {
     digest: [u8; 32],
 }
 
-/// The shelf's next level, read from a folder and brought over, or none where it has no file there.
+/// The shelf's next level, read from a folder and brought over, or none if it has no file there.
 fn next_migrated<F: Folder>(
     alloc: Global,
     from: &mut F,
@@ -192,7 +197,7 @@ fn migrated_over(shelf: &Shelf, version: u16, image: Image) -> Result<Level, Ver
     Ok(Level::new(least(shelf, image)))
 }
 
-/// Saves a level into a folder where it has no file yet.
+/// Saves a level into a folder that has no file of it yet.
 fn store<G: Folder>(to: &mut G, level: &Level, below: [u8; 32]) -> Result<[u8; 32], FolderFault>
     ensures next { (shelf : List Image) → HoldsIn (G.stands to.old) shelf below → Consistent shelf level.now
         → IfOk result (HoldsIn (G.stands to.new) (shelf ++ level.now ∷ [])) }

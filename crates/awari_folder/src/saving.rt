@@ -15,13 +15,14 @@ use awari_file::{FileFault, write_level};
 use awari_table::{Counted, Level};
 
 /// Saves a level into a folder, and gives the digest of its file. `below` is the digest of the file
-/// of the level below, zeros for level 0.
+/// of the level below, zeros for level 0. It takes memory for names; want of it is 84.
 ///
 /// A file of that level is replaced as a whole: the new one is written beside it, brought to the
-/// disk, and takes its name. It is refused as 82 if the folder refuses to make the file or to give it
-/// its name, for example because it does not exist or another builder has locked it. It is refused as
-/// 81 with 70 if the file could not be written, or brought to the disk. After a refusal an old file
-/// is as it was. It takes memory for names; want of it is 84.
+/// disk, and takes its name. After a refusal an old file is as it was:
+///
+/// - 82: the folder refuses to make the file or to give it its name. It may not exist, or another
+///   builder may have locked it.
+/// - 81 with 70: the file could not be written, or brought to the disk.
 pub fn save<F: Folder>(
     folder: &mut F,
     level: &Level,
@@ -34,7 +35,7 @@ pub fn save<F: Folder>(
     // The level's name has the level's file, and what has the other names stays.
     ensures saved { OnOk result (Becomes (F.stands folder.old level.now.level) (F.stands folder.new level.now.level) (Some (file_text 2 level.now below))) }
     ensures others { SameBut level.now.level (F.stands folder.old) (F.stands folder.new) }
-    // A folder that holds a shelf holds it with the level on top, where the level is right over it.
+    // A folder that holds a shelf holds it with the level on top, if the level is right over it.
     ensures next { (shelf : List Image) → HoldsIn (F.stands folder.old) shelf below → Consistent shelf level.now
         → IfOk result (HoldsIn (F.stands folder.new) (shelf ++ level.now ∷ [])) }
     // A refusal changes nothing.
@@ -47,7 +48,7 @@ pub fn save<F: Folder>(
     ensures ok { OnOk result (F.is_clear folder.new level.now.level) }
     ensures clear { F.is_clear folder.old level.now.level → F.is_clear folder.new level.now.level ⊎ Grew (F.stuck folder.old) (F.stuck folder.new) }
     ensures others_clear { StaysBut level.now.level (F.is_clear folder.old) (F.is_clear folder.new) }
-    // 82 is told where the folder refused to make the file or to give it its name, and only there.
+    // It is 82 if the folder refused to make the file or to give it its name, and only then.
     ensures refused { OpenIfRefused result (F.refusals folder.old) (F.refusals folder.new) }
 {
     let number = level.number();
@@ -70,7 +71,8 @@ pub fn save<F: Folder>(
             fault,
         },
     };
-    // What was written of the new file is of no use; that it could not be removed is no other fault.
+    // What was written of the new file is of no use. If it cannot be removed, that is no further
+    // fault.
     let _ = folder.remove_new(number);
     Err(fault)
 }

@@ -40,7 +40,7 @@ impl Game {
     pub fn start(board: Board) -> Self
         ensures { Shows result board [] }
     {
-        // That a board has few stones is what this call tells the proof.
+        // For the proof: a board has at most 48 stones.
         let _stones = board.stones();
         Game {
             board,

@@ -50,7 +50,7 @@ impl Ends {
         ensures ok { OnOk result (sent_to self.new to ≡ sent_to self.old to ++ batch ∷ []) }
         ensures full { IfErr result (λ back. (back ≡ batch) × (sent_to self.new to ≡ sent_to self.old to)) }
 
-        // It is refused only where the line was seen to be full.
+        // It is refused only if the line was seen to be full.
         ensures no_room { OnErr result (free_to self.new to ≡ 0) }
     {
         let place = seat(self.owner, to);
@@ -70,7 +70,7 @@ impl Ends {
         ensures some { IfSome result (λ batch. received_from self.new from ≡ received_from self.old from ++ batch ∷ []) }
         ensures none { IfNone result (received_from self.new from ≡ received_from self.old from) }
 
-        // None is answered only where the line was seen to be empty.
+        // None is answered only if the line was seen to be empty.
         ensures nothing_waits { IfNone result (waiting_from self.new from ≡ []) }
     {
         let place = seat(self.owner, from);
@@ -78,8 +78,8 @@ impl Ends {
         line.consumer.pop().ok()
     }
 
-    /// One more line at the end, to a new owner, with so much room. Gives that owner's line. Refused
-    /// where there was no room.
+    /// One more line at the end, to a new owner, with room for `room` batches. Gives that owner's
+    /// line. It is refused only if memory runs out.
     pub(crate) fn connect(&mut self, alloc: Global, room: usize) -> Result<Line, AllocError>
         ensures { IfOk result (λ theirs. Connected room self.old self.new theirs) }
     {

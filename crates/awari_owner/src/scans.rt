@@ -92,11 +92,11 @@ pub fn scan_boards(shelf: &Shelf, block: Block, first: u32, cells: &mut [Cell], 
     }
 }
 
-/// What is found of a board of the shelf's next level.
+/// What a scan finds of a board of the shelf's next level.
 ///
-/// The pits are written out, each a plain number: so the tests of each pit stand at places of their
-/// own, which the processor foresees apart, and the shifts of its move are constants. That holds only
-/// where what they call is written into each of them.
+/// The six pits are written out as plain numbers. So the processor predicts the tests of each pit
+/// apart, and the shifts of its move are constants. This works only if what they call is inlined into
+/// each of them.
 fn scanned(shelf: &Shelf, block: Block, board: &PackedBoard) -> ScannedBoard
     requires board { IsBoard board.now }
     requires stones { sum board.now ≡ length shelf.now }
@@ -123,8 +123,8 @@ fn scanned(shelf: &Shelf, block: Block, board: &PackedBoard) -> ScannedBoard
     }
 }
 
-/// Puts one pit more into the outlook, which is filled in where it stands: handed on from pit to pit
-/// by value, it would be written anew at each.
+/// Adds one pit to the outlook, in place. If the outlook were handed on by value from pit to pit, it
+/// would be written anew each time.
 #[inline(always)]
 fn see_pit(seen: &mut Outlook, shelf: &Shelf, block: Block, board: &PackedBoard, pit: u8)
     requires stones { sum board.now ≡ length shelf.now }
@@ -207,7 +207,7 @@ fn gain_of(shelf: &Shelf, moved: &PackedMove) -> i8
     moved.captured as i8 - entry.value
 }
 
-/// The cell of a board with this outlook, which is ended where it has no quiet move and no capture.
+/// The cell of a board with this outlook. The board is ended if it has no quiet move and no capture.
 fn cell_of(board: &PackedBoard, seen: Outlook) -> Cell
     requires ended { seen.quiet ≡ 0 → seen.best ≡ None → IsEnded board.now }
     ensures { (value : List ℕ → ℤ) → IsBoard board.now → IsRanged value (sum board.now)
@@ -225,7 +225,7 @@ fn cell_of(board: &PackedBoard, seen: Outlook) -> Cell
     }
 }
 
-/// What the mover gains where no move is legal.
+/// What the mover gains if no move is legal.
 fn end_of(board: &PackedBoard) -> i8
     requires { IsEnded board.now }
     ensures { IsEnd board.now result }

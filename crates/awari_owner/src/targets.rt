@@ -1,5 +1,5 @@
-//! The boards that are told of one that is spread, as they are found: all of them before the first is
-//! told, so that the cells of several are on their way from memory at the same time.
+//! The boards that are told of one that is spread. All of them are found before the first is told, so
+//! that the cells of several are on their way from memory at the same time.
 
 ghost use Rattle.std.specs.Prelude.{◌≡◌, ◌+◌, ◌<◌, ◌≤◌, ◌++◌, List, length};
 ghost use Rattle.awari_unmove.specs.Predecessors.{IsPredecessors, IsPredecessorsFrom};

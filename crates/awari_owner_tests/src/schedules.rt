@@ -101,7 +101,7 @@ fn count(outcome: &mut Outcome, stones: usize, ended: Option<u64>)
     outcome.taken = outcome.taken.wrapping_add(taken);
 }
 
-/// How many events were taken, where they ended in the level that one part builds.
+/// How many events were taken, if they ended in the level that one part builds.
 fn taken_by_chance(alloc: Global, task: &Task, numbers: &mut Numbers) -> io::Result<Option<u64>> {
     let owners = 1 + numbers.below(16) as u8;
     let room = 1 + numbers.below(3) as u32;
@@ -117,8 +117,8 @@ fn taken_by_chance(alloc: Global, task: &Task, numbers: &mut Numbers) -> io::Res
     Ok(says_the_same(&image, &task.level).then_some(taken))
 }
 
-/// Runs lists of events until all gains are closed, and counts how many events were taken; none where
-/// that never came.
+/// Runs lists of events until all gains are closed, and counts how many events were taken; none if
+/// they never close.
 fn close_by_chance(
     alloc: Global,
     core: &mut Core,
@@ -139,8 +139,7 @@ fn close_by_chance(
     Ok(None)
 }
 
-/// Opens the next distance, or the next gain where no board is fresh. It is true once all gains are
-/// closed.
+/// Opens the next distance, or the next gain if no board is fresh. True once all gains are closed.
 fn opens_last(core: &mut Core) -> bool {
     match core.next_wave() {
         Ok(None) => core.next_gain() == Ok(0),

@@ -41,8 +41,7 @@ fn open_next(owner: &mut Owner)
     owner.part.open_gain(gain);
 }
 
-/// Opens this distance in each part, where it is not open. Nothing is to be sent or waits on a line,
-/// and no fresh board is nearer.
+/// Opens this distance in each part, unless it is open there.
 pub(crate) fn open_waves(owners: &mut [Owner], dist: u32)
     requires grid { IsGrid (all_ends owners.old) }
     requires sent { AreSent owners.old }
@@ -56,7 +55,7 @@ pub(crate) fn open_waves(owners: &mut [Owner], dist: u32)
     }
 }
 
-/// Opens this distance in the part, where it is not open.
+/// Opens this distance in the part, unless it is open.
 fn open_wave(owner: &mut Owner, dist: u32)
     requires sent { All (λ q. q ≡ []) owner.old.outboxes.queues }
     requires nearest { All (λ f. dist ≤ due_dist f) owner.old.part.fresh }

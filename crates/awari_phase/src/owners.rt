@@ -63,7 +63,7 @@ impl Owner {
         ensures outboxes { result.outboxes ≡ outboxes }
         ensures fault { result.fault ≡ None }
     {
-        // That there are at most 16 owners is what this call tells the proof.
+        // For the proof: there are at most 16 owners.
         outboxes.is_empty();
         Owner {
             part,
@@ -231,7 +231,8 @@ impl Owner {
         Ok(())
     }
 
-    /// Sweeps until nothing is done, or so many times, and keeps the fault that came, if one did.
+    /// Sweeps until a sweep finds nothing to do, at most so many times, and keeps the fault that
+    /// came, if one did.
     #[tactic(auto, using(crate::proofs::Stopping::stopping))]
     pub(crate) fn work<G: Gate>(&mut self, gate: &G, most: u32)
         requires { 1 ≤ most }

@@ -94,8 +94,9 @@ pub fn gain_phase_with_progress<R: Threads + Wait + Sync, G: Gate + Sync, P: Pro
     unreachable!()
 }
 
-/// Whether the next round is to be made in turn, after one that was or was not. Where nothing is left of
-/// the open distance, the least one that is due is opened; there is none where no board is fresh.
+/// Whether the next round is to be made in turn, given whether the last one was. If nothing is left
+/// of the open distance, it opens the least one that is due. None if no board is fresh, so that no
+/// round is left.
 fn look_ahead(owners: &mut [Owner], in_turn: bool) -> Option<bool>
     requires { IsGrid (all_ends owners.old) }
     ensures grown { AllGrown owners.old owners.new }

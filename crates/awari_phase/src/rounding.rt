@@ -25,10 +25,13 @@ use std::thread::Threads;
 /// waited. It spread 64 boards, or all fresh ones of the open distance. To each other owner it sent a
 /// batch, or had none to send, or saw that the line was full.
 ///
-/// All threads that were started are joined before anything is answered. Refused as 40 `NotStarted`
-/// if one could not be started, as 41 `Memory` if memory runs out, else as 41 or 42 `BadNote` by the
-/// fault of the first owner that had one. Then the owners are gone. If the owners were sound
-/// together, 42 cannot occur.
+/// All threads that were started are joined before anything is answered. After a refusal the owners
+/// are gone:
+///
+/// - 40 `NotStarted`: a thread could not be started.
+/// - 41 `Memory`: memory ran out, here or for the first owner that had a fault.
+/// - 42 `BadNote`: the first owner that had a fault was sent a note that it refuses, or could not
+///   spread a board. If the owners were sound together, it cannot occur.
 pub fn round<R: Threads + Wait + Sync, G: Gate + Sync>(
     rt: &R,
     owners: Vec<Owner>,
@@ -76,7 +79,7 @@ pub(crate) fn round_in_turn<G: Gate>(
     }
 }
 
-/// Each owner works where it stands.
+/// Each owner works in its place in the list.
 fn work_in_turn<G: Gate>(owners: &mut [Owner], gate: &G, sweeps: u32)
     requires { 1 ≤ sweeps }
     ensures { HaveWorked owners.old owners.new }
@@ -86,10 +89,10 @@ fn work_in_turn<G: Gate>(owners: &mut [Owner], gate: &G, sweeps: u32)
     }
 }
 
-/// Tells this fault of owners that came back from their work, the first among them.
+/// Gives this fault of owners that came back from their work, the first among them.
 ///
-/// Both ends of each line are looked at before that: only so is it known of a note that was refused
-/// that another owner had sent it, and none of those is refused where the owners were sound together.
+/// It looks at both ends of each line first. Only so is it known that a note that was refused had
+/// been sent by another owner. None of those is refused if the owners were sound together.
 fn refused(mut all: Vec<Owner>, fault: PhaseFault) -> PhaseFault
     requires grid { IsGrid (all_ends all.items) }
     requires first { IsFirstFault all.items fault }

@@ -28,7 +28,7 @@ pub fn settle_owners(all: &mut [Owner]) -> bool
     empty
 }
 
-/// Looks at the two lines between two owners. True where nothing waits on them.
+/// Looks at the two lines between two owners. True if nothing waits on them.
 fn settle_pair(all: &mut [Owner], i: usize, j: usize) -> bool
     requires grid { IsGrid (all_ends all.old) }
     requires pair { (i < j) × (j < length all.old) }

@@ -34,8 +34,8 @@ fn worked<G: Gate>(mut owner: Owner, gate: &G, sweeps: u32) -> Owner
 }
 
 /// Starts the last owner, then the others before it, and joins it whatever became of those. So all
-/// that were started are joined before a refusal is answered: 40 `NotStarted` where one could not be
-/// started, 41 `Memory` where there was no room.
+/// that were started are joined before a refusal is answered. It is 40 `NotStarted` if one could not
+/// be started, and 41 `Memory` if memory runs out.
 #[cycle(starts)]
 pub(crate) fn start_each<R: Threads + Wait + Sync, G: Gate + Sync>(
     rt: &R,

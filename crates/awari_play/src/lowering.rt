@@ -148,7 +148,7 @@ fn nearest(shelf: &Shelf, entries: &[Entry], board: &PackedBoard, own: Entry) ->
     nearest
 }
 
-/// The most plies of a move, 0 where there is none.
+/// The most plies of a move, 0 if there is none.
 fn farthest(shelf: &Shelf, entries: &[Entry], board: &PackedBoard) -> u64
     requires sized { length entries.now ≡ size_of (length shelf.now) }
     requires stones { sum board.now ≡ length shelf.now }

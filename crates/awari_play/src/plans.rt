@@ -91,8 +91,8 @@ pub fn lowest_plan(
     None
 }
 
-/// Whether the move from `pit` gains the board's value and, where that is positive, captures or
-/// leads to a smaller distance.
+/// Whether the move from `pit` gains the board's value and, if that is positive, captures or leads to
+/// a smaller distance.
 #[inline(always)]
 fn serves(
     shelf: &Shelf,
@@ -120,7 +120,7 @@ fn serves(
     gains(own, moved.captured, reached)
 }
 
-/// Whether a quiet move to the board of this rank gains the value of the board's own entry and, where
+/// Whether a quiet move to the board of this rank gains the value of the board's own entry and, if
 /// that is positive, leads to a smaller distance.
 #[inline(always)]
 fn quiet_gains(own: Entry, values: &[i8], entries: &[Entry], rank: u32) -> bool
@@ -134,7 +134,7 @@ fn quiet_gains(own: Entry, values: &[i8], entries: &[Entry], rank: u32) -> bool
     own.value <= 0 || entries[rank as usize].dist < own.dist
 }
 
-/// The value of the entry of this rank, which is read of the values where they have it.
+/// The value of the entry of this rank, read from `values` if they have it.
 #[inline(always)]
 fn value_at(values: &[i8], entries: &[Entry], rank: u32) -> i8
     requires valued { AreFirstValues values.now entries.now }
@@ -147,8 +147,8 @@ fn value_at(values: &[i8], entries: &[Entry], rank: u32) -> i8
     }
 }
 
-/// Whether a move with so many captured stones gains the value of the board's own entry and, where
-/// that is positive, captures or leads to a smaller distance.
+/// Whether a move with so many captured stones gains the value of the board's own entry and, if that
+/// is positive, captures or leads to a smaller distance.
 #[inline(always)]
 fn gains(own: Entry, captured: u8, reached: Entry) -> bool
     ensures { IsTrue result ↔ Gains own captured reached }

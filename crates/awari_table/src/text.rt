@@ -57,7 +57,7 @@ impl<'a> TableText<'a> {
     ///
     /// It takes memory for the level's entries, all at once, after the level's header.
     pub fn next(&mut self) -> Result<Option<Image>, TableFault>
-        // What is read is spelled so, and a fault is due where it is answered.
+        // What is read is spelled so, and a fault that is answered is due.
         ensures reads { Reads self.old result self.new }
 
         // What is spelled so is read, unless memory runs out.

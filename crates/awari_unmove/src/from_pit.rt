@@ -79,8 +79,8 @@ impl Iterator for PitUnmoves {
     }
 }
 
-/// Goes on to the next quiet move backward from `pit`, if there is one: until the pit that the next
-/// stone had fallen into is empty, so that no more can be taken back.
+/// Goes on to the next quiet move backward from `pit`, if there is one. It ends once the pit that the
+/// next stone had fallen into is empty, so that no more can be taken back.
 #[inline(always)]
 fn next_from(
     back: &PackedBoard,

@@ -46,7 +46,7 @@ pub fn verify_parallel<R: Threads + Sync>(
     }
 }
 
-/// Why the image is not the shelf's next level, none where it may be.
+/// Why the image is not the shelf's next level, none if it may be.
 fn fault_in_pieces<R: Threads + Sync>(
     rt: &R,
     alloc: Global,
@@ -139,7 +139,7 @@ fn found_in_piece(shelf: &Shelf, image: &Image, boards: u32, piece: u64) -> Opti
     )
 }
 
-/// The rank of the first board of a piece, or the number of boards where there is none.
+/// The rank of the first board of a piece, or the number of boards if there is none.
 fn start_of(boards: u32, piece: u64) -> u32
     requires { piece ≤ 2 ^ 32 }
     ensures start { result ≡ piece_start boards piece }

@@ -76,9 +76,13 @@ impl From<AllocError> for VerifyFault {
     }
 }
 
-/// The image as a level, if it is consistent over the shelf. It must be of the shelf's next level,
-/// with an entry for each board, each board right by the table of the shelf with the image on top,
-/// and the greatest distance as its limit. Otherwise it is refused as 20, 21 or 22, and dropped.
+/// The image as a level, if it is consistent over the shelf. Otherwise it is dropped, and refused as
+/// the first of these that is due:
+///
+/// - 20 `WrongLevel`: it is not of the shelf's next level, or that is above the highest.
+/// - 21 `WrongSize`: it has not just one entry for each board.
+/// - 22 `Refused`: a board is not right by the table of the shelf with the image on top, or the limit
+///   is not the greatest distance.
 ///
 /// It goes over the boards in order of rank, and takes no memory.
 pub fn verify(shelf: &Shelf, image: Image) -> Result<Level, VerifyFault>

@@ -91,7 +91,7 @@ fn with_folders<'a>(
     with_command(awari, serve_command(alloc))
 }
 
-/// The program with one more command, where there was room to make both.
+/// The program with one more command, if there was room to make both.
 fn with_command<'a>(
     awari: Result<Command<'a>, AllocError>,
     command: Result<Command<'a>, AllocError>,
@@ -101,7 +101,7 @@ fn with_command<'a>(
     awari?.subcommand(command?)
 }
 
-/// The command with one more word, where there was room to make it.
+/// The command with one more word, if there was room to make it.
 fn with_word<'a>(
     command: Result<Command<'a>, AllocError>,
     word: Arg<'a>,

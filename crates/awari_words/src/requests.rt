@@ -93,7 +93,8 @@ pub fn request_of<'a, S: AsStr>(alloc: Global, words: &'a [S]) -> Result<Option<
     // The request is that of the command that the words name, with the values that they give.
     ensures asked { IfOk result (IsAsked (subcommand_of awari_commands (map S.text words.entry.now))) }
 
-    // Words are refused for their first fault, and for want of memory alone where they have none.
+    // Words are refused for their first fault. Only if they have none are they refused for want of
+    // memory.
     ensures faults { FailsBy (fault_of awari_commands (map S.text words.entry.now)) result }
 {
     let matches = commands(alloc)?.try_get_matches_from(words)?;
@@ -259,7 +260,7 @@ fn flag(given: &ArgMatches<'_>, name: &str) -> bool
     given.get_flag(name)
 }
 
-/// The value of this name, where it spells a number below 2^8.
+/// The value of this name, if it spells a number below 2^8.
 fn byte(given: &ArgMatches<'_>, name: &str) -> Option<u8>
     ensures some { IfSome result (Spells (values given.now) name.now) }
     ensures none { IsNone result → SpellsNone 8 (values given.now) name.now }
@@ -267,7 +268,7 @@ fn byte(given: &ArgMatches<'_>, name: &str) -> Option<u8>
     given.get_one(name)
 }
 
-/// The value of this name, where it spells a number below 2^32.
+/// The value of this name, if it spells a number below 2^32.
 fn number(given: &ArgMatches<'_>, name: &str) -> Option<u32>
     ensures some { IfSome result (Spells (values given.now) name.now) }
     ensures none { IsNone result → SpellsNone 32 (values given.now) name.now }
