@@ -57,9 +57,10 @@ impl From<BoardFault> for JudgeFault {
 
 /// Plays the moves from the board that `text` spells, and says where the play then stands. It has an
 /// outcome if the play has ended, or once more than `limit` plies captured nothing. Each byte of
-/// `moves` is the digit of a pit. Refused as [`Board::parse`] refuses it if the text is not a board,
-/// else for the first move that can't be played; a byte that is no digit of a pit is 4 `NoPit`. It
-/// takes no memory.
+/// `moves` is the digit of a pit; any other byte is 4 `NoPit`. It takes no memory.
+///
+/// A text that is not a board is refused as [`Board::parse`] refuses it. After that, the first move
+/// that can't be played is refused.
 pub fn judge(text: &[u8], limit: u32, moves: &[u8]) -> Result<Judgement, JudgeFault>
     ensures judged { IfOk result (IsJudgement text.now limit moves.now) }
     ensures fault { IfErr result (IsJudgeFault text.now moves.now) }

@@ -7,9 +7,9 @@ ghost use Rattle.awari_block.specs.Steps.{after_note, after_opening};
 ghost use Rattle.awari_block.specs.Tally.{Open, Settled, Ended};
 ghost use Rattle.awari_block.specs.declared.notes.Kind.TheVariants.{Won, Lost};
 
-/// Worked rows. They show what the last note of gain 3 makes of a board, and the notes before it, and
-/// what the opening of gain 1 makes of boards with nothing left to hear. They also show the blocks of
-/// four owners of level 2, and of sixteen owners of level 1.
+/// Worked rows. They show what notes of gain 3 make of a board, the last of them and those before it.
+/// They show what the opening of gain 1 makes of boards with nothing left to hear. And they show the
+/// blocks of four owners of level 2, and of sixteen owners of level 1.
 pub fn worked_examples()
     ensures lost { after_note (Open 2 None 0) Lost 3 4 ≡ Settled (pos 3) 5 }
     ensures first_won { after_note (Open 2 None 0) Won 3 4 ≡ Open 1 None 4 }

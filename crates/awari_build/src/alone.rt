@@ -36,8 +36,8 @@ pub fn build_alone(alloc: Global, shelf: &Shelf) -> Result<Level, BuildFault>
     build_alone_with_progress(alloc, shelf, &mut Silent)
 }
 
-/// Does what `build_alone` does, and tells `progress` when the level begins, at each gain and
-/// distance how many boards are settled, and when the plans begin.
+/// Does what `build_alone` does, and tells `progress` how far it is: when the level begins, at each
+/// gain and distance how many boards are settled, and when the plans begin.
 pub fn build_alone_with_progress<P: Progress>(
     alloc: Global,
     shelf: &Shelf,

@@ -61,8 +61,8 @@ pub fn build_level<R: Threads + Wait + Sync, G: Gate + Sync>(
     build_level_with_progress(rt, alloc, shelf, pace, gate, &mut Silent)
 }
 
-/// Does what `build_level` does, and tells `progress` when the level begins, after each round which
-/// gain is open and how many boards are settled, and when the plans begin.
+/// Does what `build_level` does, and tells `progress` how far it is: when the level begins, after
+/// each round which gain is open and how many boards are settled, and when the plans begin.
 pub fn build_level_with_progress<R: Threads + Wait + Sync, G: Gate + Sync, P: Progress>(
     rt: &R,
     alloc: Global,

@@ -39,10 +39,14 @@ use std::thread::Threads;
 use std::time::Clock;
 
 /// Runs the command that the words name. The first word is the program's own name. What the command
-/// prints goes to the writer, and the text of `clap` to `errors`. It gives the status that the
-/// program ends with: 0 if it is done, 1 if it was refused or the writer gave a fault, and 2 if the
-/// words were not understood, or asked for help. It takes memory for the words, and for what the
-/// commands read and build; want of it is a refusal.
+/// prints goes to the writer, and the text of `clap` to `errors`. It takes memory for the words, and
+/// for what the commands read and build; want of it is a refusal.
+///
+/// It gives the status that the program ends with:
+///
+/// - 0: it is done.
+/// - 1: it was refused, or the writer gave a fault.
+/// - 2: the words were not understood, or asked for help.
 pub fn run<
     T: Files<File = File> + Threads + Clock + Wait + Sync + Send + Clone + Drop + 'static,
     S: AsStr,

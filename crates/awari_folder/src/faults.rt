@@ -14,7 +14,7 @@ use thiserror::Error;
 /// level, and the fault inside it.
 #[derive(Clone, Copy, Debug, PartialEq, Eq, Error)]
 pub enum FolderFault {
-    /// 80: the level's file does not name the file of the level below as the one it was written over.
+    /// 80: the digest that the level's file gives for the file below is not that file's digest.
     Below { level: u8 },
     /// 81: the level's file is not read or written.
     File { level: u8, fault: FileFault },

@@ -13,7 +13,7 @@ use thiserror::Error;
 #[derive(Clone, Copy, Debug, PartialEq, Eq, Error)]
 pub enum OwnerFault {
     /// 30: the note is of another level, for a board of another block, or not of the open gain and
-    /// distance; or its pit has no quiet move that leaves the block.
+    /// distance. Or its pit has no quiet move that leaves the block.
     Stranger,
     /// 31: a note of this board and pit was heard before.
     Doubled,

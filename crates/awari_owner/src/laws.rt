@@ -14,15 +14,15 @@ ghost use Rattle.awari_block.specs.declared.notes.Note.{Note};
 
 use awari_rank::ranks_tell_boards_apart;
 
-/// If a cell is a tally at gain 1 of the notes of the settled boards that its board's quiet moves
-/// lead to, and of no others, the board keeps the rules of a table. A settled board has its value and
-/// distance, and any other value 0 and distance 0.
+/// A board keeps the rules of a table if its cell is a tally, at gain 1, of just the notes of settled
+/// boards that its quiet moves lead to. A settled board has its value and distance, and any other
+/// value 0 and distance 0.
 pub fn quiet_boards_are_right()
     ensures { (value : List ℕ → ℤ) (cell : List ℕ → Cell) (p : List ℕ) (notes : List Note) → IsQuietAt value cell p notes → IsRightAt value cell p }
 {}
 
-/// If the parts of a level heard all notes, each of its boards keeps the rules of a table, once gain
-/// 1 is open and no board is fresh.
+/// If the parts of a level heard all notes, all its boards keep the rules of a table once gain 1 is
+/// open and no board is fresh.
 pub fn closed_parts_are_right()
     ensures { (value : List ℕ → ℤ) (level : ℕ) (parts : List Part) → AreWhole level parts → All IsClosed parts → AreHeard value parts
         → (p : List ℕ) → IsBoard p → sum p ≡ level → IsRightAt value (λ q. known_at parts (rank_of q)) p }

@@ -30,10 +30,10 @@ use std::alloc::Global;
 use std::marker::Model;
 use std::thread::Threads;
 
-/// One owner's part of a level that is being built: what is known of each board of its block, and
-/// which boards are fresh, that is, settled and not spread yet. It also has, for each board, the pits
-/// whose quiet moves lead out of the block, a bit for each, and room for the predecessors of one
-/// board.
+/// One owner's part of a level that is being built. It has what is known of each board of its block,
+/// and which boards are fresh, that is, settled and not spread yet. For each board it also has the
+/// pits whose quiet moves lead out of the block, a bit for each. And it has room for the predecessors
+/// of one board.
 #[derive(Drop)]
 pub struct Part {
     boards: Boards,
@@ -59,7 +59,7 @@ impl Part {
     /// and no gain is open. Conditions: there are 1 to 16 owners, `owner` is below `owners`, and the
     /// shelf has at most `HIGHEST_LEVEL` levels. Refused as 33 `Memory` if memory runs out.
     ///
-    /// It takes all the memory that the part will ever need, a little more than eleven bytes a board,
+    /// It takes all the memory that the part will ever need: a little more than eleven bytes a board,
     /// and 2304 bytes for the predecessors of the board that is spread.
     pub fn scan(alloc: Global, shelf: &Shelf, owners: u8, owner: u8) -> Result<Part, OwnerFault>
         requires owners { (1 ≤ owners) × (owners ≤ 16) }

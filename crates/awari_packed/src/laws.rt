@@ -4,8 +4,8 @@
 ghost use Rattle.std.specs.Prelude.{◌≡◌, ◌*◌, ◌^◌, [], ◌∷◌};
 ghost use Rattle.awari_packed.specs.Packed.{packed, pits_of};
 
-/// Worked rows: a stone in pit 11 is 1, one in pit 10 is 32, twenty-four in pit 0 are the greatest
-/// number, and three stones in three pits are packed and unpacked.
+/// Worked rows. A stone in pit 11 is 1, one in pit 10 is 32, and twenty-four in pit 0 are the
+/// greatest number. Three stones in three pits are packed and unpacked.
 pub fn worked_examples()
     ensures last_pit { packed (0 ∷ 0 ∷ 0 ∷ 0 ∷ 0 ∷ 0 ∷ 0 ∷ 0 ∷ 0 ∷ 0 ∷ 0 ∷ 1 ∷ []) ≡ 1 }
     ensures pit_before { packed (0 ∷ 0 ∷ 0 ∷ 0 ∷ 0 ∷ 0 ∷ 0 ∷ 0 ∷ 0 ∷ 0 ∷ 1 ∷ 0 ∷ []) ≡ 32 }

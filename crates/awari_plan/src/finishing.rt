@@ -38,9 +38,9 @@ pub fn finish(alloc: Global, shelf: &Shelf, parts: &[Part]) -> Result<Image, All
 }
 
 /// Answers what [`finish`] does, for parts that are given up. Each is closed, as its type says. The
-/// cells are given back before plans are looked for. So at most sixteen bytes a board are allocated
-/// at a time: eight of a cell and eight of an entry, and later eight of an entry and one of its
-/// value.
+/// cells are given back before plans are looked for, so at most sixteen bytes a board are allocated
+/// at a time. They are eight of a cell and eight of an entry, and later eight of an entry and one of
+/// its value.
 pub fn finish_closed(
     alloc: Global,
     shelf: &Shelf,

@@ -20,9 +20,10 @@ pub fn entry_values(alloc: Global, entries: &[Entry]) -> Result<Vec<i8>, AllocEr
     entries.iter().map(|entry| entry.value).collect(alloc)
 }
 
-/// Gives each board of the level above the shelf its lowest plan: the lowest pit whose move gains the
-/// board's value and, if that is positive, captures or leads to a smaller distance. A board that no
-/// pit serves gets none. Values and distances stay as they are.
+/// Gives each board of the level above the shelf its lowest plan, that is, the lowest pit that
+/// serves. A pit serves if its move gains the board's value and, if that is positive, captures or
+/// leads to a smaller distance. A board that no pit serves gets none. Values and distances stay as
+/// they are.
 ///
 /// `entries` has an entry for each board of that level, in order of rank. `values` has their values
 /// once more, as [`entry_values`] gives them, or is empty, which only takes longer. Condition: the

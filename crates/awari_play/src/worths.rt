@@ -20,9 +20,9 @@ pub struct MoveWorth {
     pub captured: u8,
     /// What the mover gains, in stones: those captured, less the value of the board that is left.
     pub value: i16,
-    /// The plies within which a capture or the end comes, while the favoured side follows the plans:
-    /// one if the move captures, else one more than the distance of the board that is left. It is 0
-    /// if no side is favoured.
+    /// The plies within which a capture or the end comes, while the favoured side follows the plans.
+    /// It is one if the move captures, else one more than the distance of the board that is left. It
+    /// is 0 if no side is favoured.
     pub plies: u64,
 }
 

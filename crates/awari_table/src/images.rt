@@ -8,8 +8,8 @@ use std::marker::Model;
 /// What a table says of one board, as its mover sees it.
 #[derive(Clone, Copy, Debug, PartialEq, Eq)]
 pub struct Entry {
-    /// The best difference in stones that the mover can still gain: what the mover captures from
-    /// here on, less what the opponent does, with what the end of play gives.
+    /// The best difference in stones that the mover can still gain. It counts what the mover captures
+    /// from here on, less what the opponent does, with what the end of play gives.
     pub value: i8,
     /// The mover's pit to play, 0 to 5, or none if the play has ended.
     pub plan: Option<u8>,

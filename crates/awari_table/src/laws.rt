@@ -15,8 +15,8 @@ pub fn highest_level_is_24()
     ensures { HIGHEST_LEVEL ≡ 24 }
 {}
 
-/// The levels of a shelf are a certificate: every board of every level keeps the rules by the one
-/// table of all levels, and no distance is above the greatest limit.
+/// The levels of a shelf are a certificate: by the one table of all levels, every board keeps the
+/// rules, and no distance is above the greatest limit.
 pub fn shelves_are_certificates()
     ensures { (levels : List Image) → IsShelf levels → IsCertificate (table_of levels) (length levels) (greatest_limit levels) }
 {}
@@ -41,8 +41,8 @@ pub fn one_text_fault_is_due()
         → IsImage level image → bytes ≡ block image ++ rest → IsDueAt level line bytes fault → ⊥ }
 {}
 
-/// The definitions at rows that were worked out by hand: the lines of a text, each with its line feed
-/// (10), and the plies of a capture and of a quiet move.
+/// The definitions at rows that were worked out by hand. They are the lines of a text, each with its
+/// line feed (10), and the plies of a capture and of a quiet move.
 pub fn worked_examples()
     ensures header { header_line 2 9 ≡ codes "level 2 limit 9" ++ 10 ∷ [] }
     ensures lost { entry_line (record { value = neg_ℤ (pos 1); plan = Some 5; dist = 1 }) ≡ codes "-1 5 1" ++ 10 ∷ [] }

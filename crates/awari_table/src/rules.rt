@@ -10,8 +10,8 @@ use crate::images::Entry;
 pub enum Distances {
     /// They fall along the plans. This is the older rule, for levels up to `HIGHEST_FALLING_LEVEL`.
     Falling,
-    /// They are the least: the fewest plies of a move that gains the value if the board is won, and
-    /// the most plies of any move if it is lost.
+    /// They are the least. A won board has the fewest plies of a move that gains the value, and a
+    /// lost one the most plies of any move.
     Least,
 }
 

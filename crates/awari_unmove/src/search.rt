@@ -53,8 +53,8 @@ fn step(back: &[u8; 12], pit: &mut u8, stones: &mut u8, left: &mut [u8; 12]) -> 
     }
 }
 
-/// Takes one more stone back into pit `origin`. False if none can be taken back: the pit holds stones
-/// now, while one that was just played is empty, or the pit that the stone fell into is empty.
+/// Takes one more stone back into pit `origin`. False if none can be taken back. Either the pit holds
+/// stones now, while one that was just played is empty, or the pit that the stone fell into is empty.
 fn take_back(back: &[u8; 12], origin: u8, stones: &mut u8, left: &mut [u8; 12]) -> bool
     requires own { origin < 6 }
     requires undoing { IsUndoing back.now origin stones.old left.old }

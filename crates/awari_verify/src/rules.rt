@@ -24,15 +24,14 @@ pub enum Rule {
     V4,
     /// The plan gains the value.
     V5,
-    /// Distances are the least. A board of value 0 has distance 0. A board of positive value that is
-    /// not ended has the fewest plies of a move that gains the value, and a board of negative value
-    /// the most plies of any move. A capture takes one ply, and a quiet move one more than the
-    /// distance that it leads to. The plan of a positive board captures or goes to a smaller
-    /// distance.
+    /// Distances are the least. A board of value 0 has distance 0. A won board that is not ended has
+    /// the fewest plies of a move that gains its value, and a lost one the most plies of any move. A
+    /// capture takes one ply, and a quiet move one more than the distance that it leads to. The plan
+    /// of a won board captures or goes to a smaller distance.
     ///
     /// The older rule asks less. A board of value 0 has distance 0, and any other that is not ended
-    /// at least 1. The plan of a positive board captures or goes to a smaller distance, and so does
-    /// every quiet move of a negative board go to a smaller one.
+    /// at least 1. The plan of a won board captures or goes to a smaller distance. Each quiet move of
+    /// a lost board goes to a smaller distance.
     V6,
     /// The limit is the greatest distance.
     V7,
