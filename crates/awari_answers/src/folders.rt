@@ -19,7 +19,7 @@ use std::fmt;
 use std::io::Write;
 use std::thread::Threads;
 
-/// A level of a folder that is right. Printed, it is its line without the line feed.
+/// A level of a folder that is right. It is printed as its line, without the line feed.
 #[derive(Clone, Copy)]
 struct RightLevel {
     level: u8,

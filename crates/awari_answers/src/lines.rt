@@ -17,8 +17,8 @@ use std::fmt;
 use std::io::Write;
 use std::thread::Threads;
 
-/// The entry of a board, and the line of play from it. Printed, it is the value and the line, in
-/// three lines without the last line feed.
+/// The entry of a board, and the line of play from it. It is printed as three lines, without the last
+/// line feed.
 #[derive(Drop)]
 struct ValuedLine {
     entry: Entry,
@@ -39,7 +39,7 @@ impl fmt::Display for ValuedLine {
     }
 }
 
-/// The pits of a line. Printed, each stands after a space.
+/// The pits of a line. Each is printed after a space.
 #[derive(Clone, Copy)]
 struct Moves<'a>(&'a [u8]);
 

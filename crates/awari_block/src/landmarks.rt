@@ -50,7 +50,7 @@ impl Landmarks {
     }
 }
 
-/// The board so many ranks after this one. Where its level ends before, it is the last of it.
+/// The board `steps` ranks after this one, or the last of its level if that ends before.
 #[inline(always)]
 fn ahead(board: &PackedBoard, steps: usize) -> PackedBoard
     ensures { (level rank : ℕ) → IsBoardAt level rank board.now → rank + steps < size_of level → IsBoardAt level (rank + steps) result }

@@ -1,4 +1,4 @@
-//! What is told of a settled board to the boards whose quiet moves lead to it.
+//! What a settled board tells the boards whose quiet moves lead to it.
 
 /// Who wins the settled board that a note's move leads to.
 #[derive(Clone, Copy, Debug, Default, PartialEq, Eq)]

@@ -33,7 +33,7 @@ pub struct Builder<'a, T, P> {
     pub progress: &'a mut P,
 }
 
-/// What is told of a level that was built. Printed, it is its line without the line feed.
+/// What is printed of a level that was built: its line, without the line feed.
 #[derive(Clone, Copy)]
 struct BuiltLevel {
     level: u8,
@@ -76,7 +76,7 @@ impl fmt::Display for Shares {
     }
 }
 
-/// Why a level is not built, or not saved. Printed, it is the fault inside it.
+/// Why a level is not built, or not saved. It is printed as the fault inside it.
 #[derive(Clone, Copy)]
 enum BuildingFault {
     Build { fault: BuildFault },
@@ -243,8 +243,8 @@ fn build_next<T: Threads + Wait + Sync, P: Progress>(
     Ok(told)
 }
 
-/// Builds the level above the shelf, saves it, and puts it on top. The file comes last of what may be
-/// refused, so a level that is saved is told of.
+/// Builds the level above the shelf, saves it, and puts it on top. Nothing is refused after the file
+/// is saved, so a level that is saved is always answered.
 fn save_next<T: Threads + Wait + Sync, P: Progress, F: Folder>(
     builder: &mut Builder<'_, T, P>,
     folder: &mut F,
@@ -294,7 +294,7 @@ fn built_level<T: Threads + Wait + Sync, P: Progress>(
     Ok(shared)
 }
 
-/// What is told of the level.
+/// What is printed of the level.
 fn told_of(level: &Level) -> BuiltLevel
     ensures { IsToldOf level.now result }
 {

@@ -12,7 +12,7 @@ use std::alloc::Global;
 use std::fmt;
 use std::io::Write;
 
-/// A level that was brought over. Printed, it is its line without the line feed.
+/// A level that was brought over. It is printed as its line, without the line feed.
 #[derive(Clone, Copy)]
 struct MigratedLevel {
     level: usize,

@@ -21,12 +21,12 @@ use std::sync::{Arc, Wait};
 use std::thread::Threads;
 use std::{fmt, thread};
 
-/// Why a service is not begun, or not ended as asked. Printed, it is the fault inside it.
+/// Why a service does not begin, or does not end as asked. It is printed as the fault inside it.
 #[derive(Clone, Copy)]
 enum ServingFault {
     /// The folder is not loaded.
     Folder { fault: FolderFault },
-    /// The levels are not published, or nobody is told of them.
+    /// The levels are not published, or the reader is not told of them.
     Desk { fault: DeskFault },
     /// The thread that builds is not started.
     Start { fault: PhaseFault },

@@ -1,5 +1,5 @@
-//! What is known of a board before any note is heard: how many quiet moves it has, which of them lead
-//! out of the block, and what its best capture gains by the shelf.
+//! What is known of a board before it hears any note: how many quiet moves it has, which of them
+//! leave the block, and what its best capture gains by the shelf.
 
 ghost use Rattle.std.specs.Prelude.{◌≡◌, ◌<◌, ◌≤◌, ◌+◌, ℕ, ℤ, pos, ◌-ℤ◌, ◌-◌, List, None, IfOk, length, sum};
 ghost use Rattle.awari_board.specs.Rules.{IsBoard, IsEnd, IsEnded, IsMove};

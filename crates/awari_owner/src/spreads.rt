@@ -1,5 +1,5 @@
-//! What the predecessors of a board that is spread are told: those in the block at once, the others by notes
-//! that are put to their owners' queues.
+//! How the predecessors of a board that is spread hear of it. Those in the block hear at once, the
+//! others by notes that go to their owners' queues.
 
 ghost use Rattle.std.specs.Prelude.{◌≡◌, ℕ, ℤ, ◌+◌, ◌-◌, ◌^◌, ◌<◌, ◌≤◌, ◌/◌, List, length, sum, vec_len, false};
 ghost use Rattle.awari_rank.specs.Rank.{rank_of, size_of};

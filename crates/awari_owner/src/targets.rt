@@ -12,7 +12,7 @@ use awari_unmove::PitUnmoves;
 /// The most predecessors of a board: `PitUnmoves` promises at most 48 for each of six pits.
 pub const MOST_PREDECESSORS: usize = 288;
 
-/// A board that is told, by its rank, and its pit whose move leads to the board that is spread.
+/// A predecessor of the board that is spread: its rank, and its pit whose move leads there.
 #[derive(Clone, Copy)]
 pub struct Target {
     pub rank: u32,

@@ -12,7 +12,7 @@ use std::thread::Threads;
 
 /// Opens the next smaller gain in each part, several parts at a time. Conditions: no board is fresh,
 /// nothing is to be sent or waits on a line, and the open gain is at least 2. It takes memory for
-/// threads alone; if no thread is to be had, it opens the parts one after the other.
+/// threads alone. If no thread can be started, it opens the parts one after the other.
 pub fn open_gain<R: Threads + Sync>(rt: &R, owners: &mut [Owner])
     requires idle { AreIdle owners.old }
     requires sent { AreSent owners.old }

@@ -1,4 +1,4 @@
-//! Who is told how far a build is.
+//! Who hears how far a build is.
 
 /// Hears how far the build of a level is. No level and no table depends on what it does with that.
 pub trait Progress {

@@ -1,4 +1,4 @@
-//! Owners that are started, each in a thread of its own, so that a start that fails is told.
+//! How owners are started, each in a thread of its own, and how a start that fails is reported.
 
 ghost use Rattle.std.specs.Prelude.{◌≡◌, ◌≤◌, IfOk, IfErr, vec_len, ◌+◌, ◌++◌, ◌∷◌, [], Ok};
 ghost use Rattle.std.specs.declared.vec.Vec.{Vec as AVec};

@@ -21,7 +21,7 @@ use rayon::prelude::*;
 use std::alloc::{AllocError, Global};
 use std::thread::Threads;
 
-/// How many boards a thread goes over at once. Where there are fewer, one thread does it all.
+/// How many boards a thread goes over at once. If there are fewer, one thread does it all.
 const PIECE: usize = 4096;
 
 /// Answers what [`finish_closed`](crate::finish_closed) does, with the boards shared among as many

@@ -7,7 +7,7 @@ ghost use Rattle.awari_rank.specs.declared.counts.TheConstants.{MOST_STONES};
 /// The most stones of a board that is numbered.
 pub const MOST_STONES: u8 = 24;
 
-/// A row of the table is asked for each number of stones from 0 to one more than a board has.
+/// A row of the table has a number for each count of stones from 0 to one more than a board has.
 const COLUMNS: usize = MOST_STONES as usize + 2;
 
 /// Row `pit` has, at `stones`, the number of ways to lay fewer than `stones` stones in the pits after

@@ -10,7 +10,7 @@ ghost use Rattle.awari_table.specs.declared.faults.TableFault.{TableFault};
 ghost use Rattle.awari_table.specs.Spelling.{block, entry_line, header_line, table_text, IsImage, AreImages};
 ghost use Rattle.awari_table.specs.TableFault.{IsDueAt};
 
-/// The highest level of which tables are made, read and written is that of 24 stones.
+/// Tables are made, read and written up to the level of 24 stones.
 pub fn highest_level_is_24()
     ensures { HIGHEST_LEVEL ≡ 24 }
 {}
