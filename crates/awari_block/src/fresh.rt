@@ -5,11 +5,11 @@
 //! with one word. Of the fresh boards with the least distance, those in the first run that has any
 //! are kept in `run`, `dist` and `bits`, so most calls touch one word and no cell.
 //!
-//! `least` has for each run a bound that none of its fresh boards outside `bits` is below. It may be
-//! too low, never too high: `insert` lowers it, and only a look at the run's cells raises it. Once
-//! `bits` is empty, `remove` looks for boards of the same distance in the runs from there on, and
-//! then for those one ply farther, which are mostly there. It skips each run whose bound is too
-//! great. Only if both fail does it search all runs for the nearest board.
+//! `least` has for each run a bound that none of its fresh boards outside `bits` is below. It need
+//! not be exact, but it is never too high: `insert` lowers it, and only a look at the run's cells
+//! raises it. Once `bits` is empty, `remove` looks for boards of the same distance in the runs from
+//! there on, and then for those one ply farther, which are mostly there. It skips each run whose
+//! bound is too great. Only if both fail does it search all runs for the nearest board.
 
 ghost use Rattle.std.specs.Prelude.{◌≡◌, ◌≢◌, ℕ, ◌+◌, ◌*◌, ◌/◌, ◌%◌, ◌^◌, ◌<◌, ◌≤◌, ◌↔◌, ◌⊎◌, false, true, None, List, length, IfOk, IfSome, IsTrue, slice_index_or, Option, Some};
 ghost use Rattle.std.specs.Int.{bit_at};

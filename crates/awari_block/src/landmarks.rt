@@ -11,7 +11,7 @@ use std::alloc::{AllocError, Global};
 /// How many ranks lie from one landmark to the next.
 pub const STRIDE: usize = 4;
 
-/// Each fourth board of a block. The others are at most three steps to the next board away, which
+/// Each fourth board of a block. Any other is found by at most three steps to the next board, which
 /// cost less than a search for a board by its rank.
 #[derive(Drop)]
 pub struct Landmarks {

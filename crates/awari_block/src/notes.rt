@@ -1,6 +1,6 @@
 //! What a settled board tells the boards whose quiet moves lead to it.
 
-/// Who wins the settled board that a note's move leads to.
+/// Whether the mover of the board that a note's move leads to wins or loses.
 #[derive(Clone, Copy, Debug, Default, PartialEq, Eq)]
 pub enum Kind {
     /// The mover of the board that the move leads to wins the gain.

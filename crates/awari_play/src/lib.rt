@@ -1,8 +1,8 @@
 //! Plans by the values and distances of a table, and play by the plans of a shelf.
 //!
 //! [`best_line`] plays both sides up to the outcome, and [`move_worths`] says what each legal move is
-//! worth. [`least`] brings distances down to the least ones. To look values up you need this crate and
-//! those below it, and nothing of what builds a level.
+//! worth. [`least`] brings distances down to the least ones. All of it works on a finished shelf, and
+//! needs nothing of what builds a level.
 //!
 //! The moves of a line and its outcome, as a test expects them, in
 //! `crates/awari_owner_tests/src/lines.rt`:

@@ -11,8 +11,8 @@ use std::io::{self, Error, ErrorKind, Read, Write};
 /// How often a call is made in a row while it is interrupted: once, and 1000 times again.
 const TURNS: u32 = 1001;
 
-/// Passes the calls of a reader or a writer on, and counts its faults: the calls that answered a
-/// fault, and writes of some bytes that took none.
+/// Passes the calls of a reader or a writer on, and counts its faults: calls that answered a fault,
+/// and writes of at least one byte that took none.
 ///
 /// A call that is interrupted is made again, at most 1000 times in a row. Then it is answered as a
 /// fault of kind `Other` and counted once. It takes no memory.
