@@ -1,4 +1,4 @@
-//! A model that only tests and `awari_schedules` run: 1 to 16 owners build a level by a list of events.
+//! A model that only tests run: 1 to 16 owners build a level by a list of events.
 //!
 //! A [`Core`] takes events in any order, and refuses those that are not possible now. Once all gains
 //! are closed, [`Core::finish`] gives the level, whatever the events were. The program itself builds by

@@ -1,4 +1,4 @@
--- What the taking of a note keeps, and why it is not refused.
+-- Why a note that is on its way is not refused, and what stays while the same boards are spread.
 use Rattle.std.proofs.Common.{◌≡◌, ℕ, ◌+◌, ◌-◌, ◌*◌, ◌/◌, ◌^◌, ◌<◌, ◌≤◌, ◌⊎◌, inl, inr, Bool, true, false, min, List, [], ◌∷◌, ◌++◌, length, sum, ℤ, refl, sym, ap, subst, subst₂, ◌∙◌, arith, append_assoc}
 use Rattle.std.proofs.lemmas.Bool.{cases_lt, cases_eq}
 use Rattle.std.proofs.lemmas.Nat.{mul-le}

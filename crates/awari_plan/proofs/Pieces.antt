@@ -1,4 +1,4 @@
--- Plans of a piece found one after another.
+-- The lowest plans of a level found piece by piece.
 use Rattle.std.proofs.Common.{◌≡◌, ℕ, ◌+◌, ◌-◌, ◌<◌, List, length, get_or, set, sum, Option, None, sym, ap, ◌∙◌, subst, arith, inl, inr, get_or-set_same, get_or-set_other}
 use Rattle.std.proofs.lemmas.Bool.{cases_eq}
 use Rattle.awari_board.specs.Rules.{IsBoard}
