@@ -1,5 +1,6 @@
 -- Reading entries one after the other, as a loop does.
-use Rattle.std.proofs.Common.{◌≡◌, ℕ, zero, suc, ◌-◌, ◌+◌, ◌≤◌, ◌<◌, List, [], ◌∷◌, ◌++◌, Result, Ok, Err, refl, sym, ap, ◌∙◌, append_assoc, arith}
+use Rattle.std.proofs.Common.{◌≡◌, ℕ, zero, suc, ◌-◌, ◌+◌, ◌≤◌, ◌<◌, List, [], ◌∷◌, ◌++◌, Result, Ok, Err, refl, sym, ap, ◌∙◌, append_assoc, arith, subst}
+use Rattle.std.specs.Prelude.{IsOk}
 use Rattle.std.proofs.lemmas.List.{append-nil}
 use Rattle.awari_table.specs.declared.images.Entry.{Entry}
 use Rattle.awari_file.specs.declared.faults.FileFault.{FileFault}
@@ -98,3 +99,39 @@ unfolding entries_at
 all_done front n s bytes total none so_far =
     let one : with_front front (entries_at n s bytes) ≡ Ok (front, bytes) = rw none (ap (λ (ns : List Entry). Ok (ns, bytes)) (append-nil front)) in
     sym so_far ∙ one
+
+-- ---- what came is right
+
+pub ok_from : {A : Type 0} (read : Result A FileFault) (x : A) → read ≡ Ok x → IsOk read
+ok_from (Ok y) x is = refl
+ok_from (Err e) x is = absurd cc
+
+pub value_of : {A : Type 0} (read : Result A FileFault) → IsOk read → (x : A) × (read ≡ Ok x)
+value_of (Ok x) right = (x, refl)
+value_of (Err e) right = absurd cc
+
+ok_with_front : (front : List Entry) (read : Result (List Entry × List ℕ) FileFault) → IsOk read → IsOk (with_front front read)
+ok_with_front front (Ok x) right = refl
+ok_with_front front (Err e) right = absurd cc
+
+ok_before : (b : ℕ) (s : FileFault) (read : Result (List Entry × List ℕ) FileFault) → IsOk (then_more b s read) → IsOk read
+ok_before b s (Ok x) right = refl
+ok_before b s (Err e) right = absurd cc
+
+-- entries that are right, of all that are to come
+pub some_right : (front : List Entry) (n a k : ℕ) (s : FileFault) (bytes : List ℕ) (m : ℕ) (all : List ℕ) → k ≤ (m - n) + a → n ≤ m → a ≤ n
+    → entries_at (m - n) s all ≡ Ok (front, bytes) → IsOk (entries_at a s bytes) → IsOk (entries_at k s all)
+some_right front n a k s bytes m all low within le so_far right =
+    let both : entries_at ((m - n) + a) s all ≡ with_front front (entries_at a s bytes) = entries_at-add (m - n) a s all ∙ ap (then_more a s) so_far in
+    let together : IsOk (entries_at ((m - n) + a) s all) = subst IsOk (sym both) (ok_with_front front (entries_at a s bytes) right) in
+    ok_before (((m - n) + a) - k) s (entries_at k s all) (subst IsOk (in_parts ((m - n) + a) k s all low) together)
+
+pub nothing_yet : (m : ℕ) (s : FileFault) (bytes : List ℕ) → entries_at (m - m) s bytes ≡ Ok ([], bytes)
+unfolding entries_at
+nothing_yet m s bytes = let none : m - m ≡ 0 = omega arith in rw none refl
+
+pub more_come : (front more : List Entry) (n a m : ℕ) (s : FileFault) (bytes rest all : List ℕ) → n ≤ m → a ≤ n → entries_at (m - n) s all ≡ Ok (front, bytes) → entries_at a s bytes ≡ Ok (more, rest)
+    → entries_at (m - (n - a)) s all ≡ Ok (front ++ more, rest)
+more_come front more n a m s bytes rest all within le so_far h =
+    let k : m - (n - a) ≡ (m - n) + a = omega (arith, within, le) in
+    ap (λ (i : ℕ). entries_at i s all) k ∙ entries_at-add (m - n) a s all ∙ ap (then_more a s) so_far ∙ ap (with_front front) h

@@ -1,5 +1,5 @@
 -- Steps over a reader: what a piece of its bytes gives is what all that it has left gives.
-use Rattle.std.proofs.Common.{◌≡◌, ℕ, zero, suc, ◌<◌, ◌≤◌, List, [], ◌∷◌, ◌++◌, length, Option, Some, None, Result, Ok, Err, refl, sym, ap, ◌∙◌, append_assoc}
+use Rattle.std.proofs.Common.{◌≡◌, ℕ, zero, suc, ◌<◌, ◌≤◌, List, [], ◌∷◌, ◌++◌, length, Option, Some, None, Result, Ok, Err, refl, sym, ap, subst, ◌∙◌, ◌⊎◌, inl, inr, append_assoc}
 use Rattle.std.specs.Io.KnownBytes.{Consumes, IsAtEnd}
 use Rattle.sha2.specs.Hashers.{Holds256}
 use Rattle.sha2.specs.declared.Sha256.{Sha256}
@@ -9,7 +9,9 @@ use Rattle.awari_file.specs.Reading.{Fails, IsOwn}
 use Rattle.awari_file.specs.Source as source
 use Rattle.awari_file.specs.Source.{IsAt, StopsIn, Unfinished, HasFault}
 use Rattle.awari_file.specs.FileText.{IsBytes}
+use Rattle.std.specs.Prelude.{IsOk}
 use Rattle.awari_file.proofs.FieldLaws.{Reader, IsField}
+use Rattle.awari_file.proofs.Loop.{ok_from, value_of}
 use Rattle.awari_file.proofs.FileLaws.{IsWhy, piece_fails, piece_gives, piece_own, read_stops, early_from_short}
 
 abbrev some : List ℕ → Option (List ℕ)
@@ -97,3 +99,19 @@ step_early Y n f is s front old new calm h = calm (not_the_readers s (early_from
 pub fault_was : {X : Type 0} (r : Result X FileFault) (d e : FileFault) → r ≡ Err d → r ≡ Err e → d ≡ e
 fault_was (Ok x) d e h k = absurd cc
 fault_was (Err f) d e h k = cc
+
+-- a fault that is not want of memory
+pub not_lacking : {X : Type 0} (e d : FileFault) (read : Result X FileFault) → (d ≡ faults.Memory → ⊥) → e ≡ d → (read ≡ Err e) ⊎ ((e ≡ faults.Memory) × IsOk read) → read ≡ Err d
+not_lacking e d read other is (inl h) = h ∙ ap (λ (f : FileFault). Err f) is
+not_lacking e d read other is (inr h) = absurd (other (sym is ∙ h.0))
+
+pub own_not_memory : (d : FileFault) → IsOwn d → d ≡ faults.Memory → ⊥
+own_not_memory d own is = subst IsOwn is own
+
+-- what is right in the piece that came is right in all that is left
+pub step_right : (Y : Type 0) (n : ℕ) (f : Reader Y) → IsField Y n f → (s : FileFault) (front whole left : List ℕ) (a b : Option (List ℕ)) (hasher : Sha256)
+    → IsAt whole left a hasher → Consumes a b front → length front ≤ n → IsOk (f s front) → IsOk (f faults.Truncated left)
+step_right Y n f is s front whole left a b hasher here took small right =
+    let (rest, b-is, parts) = consumes_some a b left front here.known_is took in
+    let (x, h) = value_of (f s front) right in
+    ok_from (f faults.Truncated left) (x.0, rest) (ap (f faults.Truncated) parts ∙ piece_gives Y n f is s front rest x small h)

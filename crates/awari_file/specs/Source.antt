@@ -1,14 +1,17 @@
 -- What a reader has left, and what a hasher holds of what came before.
-use Rattle.std.specs.Prelude.{◌≡◌, ◌⊎◌, IsOk, ℕ, List, ◌++◌, Option, Some, Result, Ok, Err}
+use Rattle.std.specs.Prelude.{◌≡◌, ◌⊎◌, min, IsOk, ℕ, List, ◌++◌, Option, Some, Result, Ok, Err}
 use Rattle.std.specs.Io.KnownBytes.{Appends, IsAtEnd}
 use Rattle.sha2.specs.Hashers.{Holds256}
 use Rattle.sha2.specs.declared.Sha256.{Sha256}
+use Rattle.awari_rank.specs.Rank.{size_of}
 use Rattle.awari_table.specs.Counted.{Grew}
+use Rattle.awari_file.specs.declared.contents.Header.{Header}
+use Rattle.awari_file.specs.declared.sizes.TheConstants.{BUFFERED}
 use Rattle.awari_file.specs.declared.faults.FileFault.{FileFault}
 use Rattle.awari_file.specs.declared.faults.FileFault.TheVariants as faults
 use Rattle.awari_table.specs.declared.images.Entry.{Entry}
 use Rattle.awari_file.specs.FileText.{IsBytes}
-use Rattle.awari_file.specs.Reading.{entries_at, end_at, file_in, Fails}
+use Rattle.awari_file.specs.Reading.{header_at, entries_at, end_at, file_in, Fails}
 
 -- Why fewer bytes came than were asked for: the input ended, or the reader answered a fault, which was counted.
 abbrev pub IsWhy : FileFault → Option (List ℕ) → ℕ → ℕ → Type 0
@@ -68,10 +71,25 @@ abbrev pub Adds : {X : Type 0} → List Entry → List Entry → Result X FileFa
 Adds old new (Ok x) read = (entries : List Entry) × (rest : List ℕ) × (new ≡ old ++ entries) × (read ≡ Ok (entries, rest))
 Adds old new (Err e) read = read ≡ Err e
 
--- the same over a reader
+-- reading gives a value, or this fault
+abbrev pub Judges : {X Y : Type 0} → Result X FileFault → Result Y FileFault → Type 0
+Judges (Ok x) read = IsOk read
+Judges (Err e) read = read ≡ Err e
+
+-- Entries were put behind the old ones as reading gives them; or reading gives this fault; or there was no room for entries that
+-- reading gives.
+abbrev pub AddsOrLacks : {X : Type 0} → List Entry → List Entry → Result X FileFault → Result (List Entry × List ℕ) FileFault → Type 0
+AddsOrLacks old new (Ok x) read = (entries : List Entry) × (rest : List ℕ) × (new ≡ old ++ entries) × (read ≡ Ok (entries, rest))
+AddsOrLacks old new (Err e) read = (read ≡ Err e) ⊎ ((e ≡ faults.Memory) × IsOk read)
+
+-- what is added over a reader
 abbrev pub AddsAt : {X : Type 0} → List Entry → List Entry → ℕ → List ℕ → List ℕ → Option (List ℕ) → Sha256 → Result X FileFault → Type 0
 AddsAt old new count whole left known hasher (Ok x) = (entries : List Entry) × (rest : List ℕ) × (new ≡ old ++ entries) × IsAt whole rest known hasher × (entries_at count faults.Truncated left ≡ Ok (entries, rest))
 AddsAt old new count whole left known hasher (Err e) = Fails e (entries_at count faults.Truncated left)
+
+-- The header of the bytes is right, and so are the entries that are read at once, or all if there are fewer.
+abbrev pub BeginsRight : List ℕ → Type 0
+BeginsRight bytes = (header : Header) × (rest : List ℕ) × (header_at faults.Truncated bytes ≡ Ok (header, rest)) × IsOk (entries_at (min (size_of header.level) BUFFERED) faults.Truncated rest)
 
 -- bytes were put behind what a writer holds, and behind what a hasher holds
 pub record Puts (old new : Option (List ℕ)) (before after : Sha256) (bytes : List ℕ) : Type 0 where

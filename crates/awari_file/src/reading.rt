@@ -1,6 +1,6 @@
 //! Reading the file of a level.
 
-ghost use Rattle.std.specs.Prelude.{◌≡◌, ◌≢◌, ◌≤◌, ◌+◌, List, ℕ, IfOk, OnOk, IsOk, IfSome, Some, Ok, Err, vec_len};
+ghost use Rattle.std.specs.Prelude.{◌≡◌, ◌≢◌, ◌≤◌, ◌+◌, min, List, ℕ, IfOk, OnOk, IsOk, IfSome, Some, Ok, Err, vec_len};
 ghost use Rattle.std.specs.Vec.{vec_capacity};
 ghost use Rattle.awari_table.specs.declared.TheConstants.{HIGHEST_LEVEL};
 ghost use Rattle.awari_table.specs.Counted.{inner_of, faults_of, Grew};
@@ -10,7 +10,7 @@ ghost use Rattle.awari_file.specs.declared.faults.FileFault.{FileFault};
 ghost use Rattle.awari_file.specs.declared.sizes.TheConstants.{BUFFERED};
 ghost use Rattle.awari_file.specs.FileText.{IsBytes, HasFile, IsFileOf, file_text, found_of};
 ghost use Rattle.awari_file.specs.Reading.{header_at, entries_at, end_at, file_in, IsOwn};
-ghost use Rattle.awari_file.specs.Source.{IsAt, StopsIn, Unfinished, HasFault, IsRefused, IsSoundEnd, IsSoundSoFar, Advances, Adds, AddsAt, Answers};
+ghost use Rattle.awari_file.specs.Source.{IsAt, StopsIn, Unfinished, HasFault, IsRefused, IsSoundEnd, IsSoundSoFar, Advances, Adds, AddsAt, AddsOrLacks, Answers, BeginsRight, Judges};
 
 use crate::contents::{Header, Loaded};
 use crate::faults::FileFault;
@@ -68,33 +68,64 @@ fn push_entries(
     Ok(())
 }
 
-/// So many entries, and nothing behind them. They fit the buffer.
+/// Judges as many entries as the bytes have, and keeps none.
+fn judge_entries(count: u32, bytes: &[u8], short: FileFault) -> Result<(), FileFault>
+    ensures { Judges result (entries_at count short bytes.now) }
+{
+    let mut rest = bytes;
+    for _ in 0..count {
+        let (_, after) = entry_at(rest, short)?;
+        rest = after;
+    }
+    Ok(())
+}
+
+/// Puts as many entries as the bytes have behind those that are there. If there is no room for them
+/// and all that are left, it is taken once they are known to be right.
+fn add_entries(
+    entries: &mut Vec<Entry>,
+    count: u32,
+    left: u32,
+    bytes: &[u8],
+    short: FileFault,
+) -> Result<(), FileFault>
+    requires { count ≤ left }
+    ensures added { AddsOrLacks entries.old.items entries.new.items result (entries_at count short bytes.now) }
+{
+    if entries.capacity() - entries.len() < left as usize {
+        judge_entries(count, bytes, short)?;
+        entries.reserve_exact(left as usize)?;
+    }
+    push_entries(entries, count, bytes, short)
+}
+
+/// So many entries of those that are left, and nothing behind them. They fit the buffer.
 fn read_some<R: Read>(
     reader: &mut Counted<R>,
     hasher: &mut Sha256,
     entries: &mut Vec<Entry>,
     count: u32,
+    left: u32,
 ) -> Result<(), FileFault>
     requires few { count ≤ BUFFERED }
-    requires room { vec_len entries.old + count ≤ vec_capacity entries.old }
+    requires within { count ≤ left }
     ensures parsed { (whole left : List ℕ) → IsAt whole left (R.remaining (inner_of reader.old)) hasher.old
         → AddsAt entries.old.items entries.new.items count whole left (R.remaining (inner_of reader.new)) hasher.new result }
     ensures stops { (whole left : List ℕ) → IsAt whole left (R.remaining (inner_of reader.old)) hasher.old
         → result ≡ Err FileFault.Read → StopsIn (Unfinished (entries_at count)) left (R.remaining (inner_of reader.new)) }
     ensures whole { (whole left : List ℕ) (fault : FileFault) → IsAt whole left (R.remaining (inner_of reader.old)) hasher.old
         → IsOwn fault → result ≡ Err fault → StopsIn (HasFault fault (entries_at count)) left (R.remaining (inner_of reader.new)) }
-    ensures len { OnOk result (vec_len entries.new ≡ vec_len entries.old + count) }
-    ensures capacity { vec_capacity entries.new ≡ vec_capacity entries.old }
     ensures clean { OnOk result (faults_of reader.new ≡ faults_of reader.old) }
     ensures early { result ≡ Err FileFault.Truncated → faults_of reader.new ≡ faults_of reader.old }
     ensures read { result ≡ Err FileFault.Read → Grew (faults_of reader.old) (faults_of reader.new) }
-    ensures memory { result ≢ Err FileFault.Memory }
+    ensures memory { (whole left : List ℕ) → IsAt whole left (R.remaining (inner_of reader.old)) hasher.old
+        → result ≡ Err FileFault.Memory → IsOk (entries_at count FileFault.Truncated left) }
     ensures faults { faults_of reader.old ≤ faults_of reader.new }
 {
     let mut buf = [0u8; BUFFER_LEN];
     let came = fill(reader, &mut buf, count as usize * ENTRY_LEN);
     let bytes = &buf[..came.count];
-    push_entries(entries, count, bytes, came.short)?;
+    add_entries(entries, count, left, bytes, came.short)?;
     hasher.update(bytes);
     Ok(())
 }
@@ -106,7 +137,6 @@ fn read_entries<R: Read>(
     entries: &mut Vec<Entry>,
     count: u32,
 ) -> Result<(), FileFault>
-    requires { vec_len entries.old + count ≤ vec_capacity entries.old }
     ensures parsed { (whole left : List ℕ) → IsAt whole left (R.remaining (inner_of reader.old)) hasher.old
         → AddsAt entries.old.items entries.new.items count whole left (R.remaining (inner_of reader.new)) hasher.new result }
     ensures stops { (whole left : List ℕ) → IsAt whole left (R.remaining (inner_of reader.old)) hasher.old
@@ -116,13 +146,16 @@ fn read_entries<R: Read>(
     ensures clean { OnOk result (faults_of reader.new ≡ faults_of reader.old) }
     ensures early { result ≡ Err FileFault.Truncated → faults_of reader.new ≡ faults_of reader.old }
     ensures read { result ≡ Err FileFault.Read → Grew (faults_of reader.old) (faults_of reader.new) }
-    ensures memory { result ≢ Err FileFault.Memory }
+
+    // With 69, the entries that are read at once have come, and are right.
+    ensures memory { (whole left : List ℕ) → IsAt whole left (R.remaining (inner_of reader.old)) hasher.old
+        → result ≡ Err FileFault.Memory → IsOk (entries_at (min count BUFFERED) FileFault.Truncated left) }
     ensures faults { faults_of reader.old ≤ faults_of reader.new }
 {
     let mut left = count;
     while left > 0 {
         let some = left.min(BUFFERED);
-        read_some(reader, hasher, entries, some)?;
+        read_some(reader, hasher, entries, some, left)?;
         left -= some;
     }
     Ok(())
@@ -168,12 +201,12 @@ fn read_all<R: Read>(alloc: Global, reader: &mut Counted<R>) -> Result<Loaded, F
     ensures whole { (fault : FileFault) → IsOwn fault → result ≡ Err fault
         → IfSome (R.remaining (inner_of reader.old)) (λ bytes. StopsIn (IsRefused fault) bytes (R.remaining (inner_of reader.new))) }
     ensures memory { result ≡ Err FileFault.Memory
-        → IfSome (R.remaining (inner_of reader.old)) (λ bytes. IsOk (header_at FileFault.Truncated bytes)) }
+        → IfSome (R.remaining (inner_of reader.old)) BeginsRight }
 {
     let mut hasher = Sha256::new();
     let header = read_header(reader, &mut hasher)?;
     let count = size(header.level);
-    let mut entries = Vec::with_capacity(alloc, count as usize)?;
+    let mut entries = Vec::new(alloc);
     read_entries(reader, &mut hasher, &mut entries, count)?;
     let digest = read_end(reader, hasher)?;
     let below = header.below;
@@ -200,8 +233,9 @@ fn read_all<R: Read>(alloc: Global, reader: &mut Counted<R>) -> Result<Loaded, F
 /// - 61 to 66: the field's own fault.
 ///
 /// After the digest it asks for one more byte, and answers 67 if there is one. Room for all entries
-/// is taken after the header; want of it is 69. It takes no other memory. After a refusal nothing is
-/// known of the reader's place.
+/// is taken after the header and the first 680 entries, or all if there are fewer; want of it is 69.
+/// So a file that ends early asks for no room, whatever its header says. It takes no other memory.
+/// After a refusal nothing is known of the reader's place.
 pub fn read_image<R: Read>(alloc: Global, reader: &mut Counted<R>) -> Result<Loaded, FileFault>
     // What is read is the file of a level, and all of it.
     ensures found { IfSome (R.remaining (inner_of reader.old)) (λ bytes. IfOk result (λ loaded. IsFileOf bytes loaded)) }
@@ -227,9 +261,9 @@ pub fn read_image<R: Read>(alloc: Global, reader: &mut Counted<R>) -> Result<Loa
     ensures whole { (fault : FileFault) → IsOwn fault → result ≡ Err fault
         → IfSome (R.remaining (inner_of reader.old)) (λ bytes. StopsIn (IsRefused fault) bytes (R.remaining (inner_of reader.new))) }
 
-    // With 69, the header is right.
+    // With 69, the header is right, and so are the first 680 entries, or all if there are fewer.
     ensures memory { result ≡ Err FileFault.Memory
-        → IfSome (R.remaining (inner_of reader.old)) (λ bytes. IsOk (header_at FileFault.Truncated bytes)) }
+        → IfSome (R.remaining (inner_of reader.old)) BeginsRight }
 {
     read_all(alloc, reader)
 }

@@ -1,6 +1,6 @@
 //! The folder of the host: what its files hold is not known to any proof.
 
-ghost use Rattle.std.specs.Prelude.{None, ⊤};
+ghost use Rattle.std.specs.Prelude.{◌≡◌, ◌↔◌, None, IsTrue, ⊤};
 
 use crate::calls::{Draft, Folder, Refusal};
 use crate::names::{path_of, path_of_itself, path_of_new};
@@ -37,8 +37,17 @@ impl<'a, R> HostFolder<'a, R> {
     }
 }
 
-/// The folder, open and locked. It is refused if the folder is not there, and if another has the
-/// lock. If the file system knows no locks, the folder is opened and goes without one.
+/// Whether a build goes on without a lock that was refused with an error of this kind: only if the
+/// file system knows no locks.
+fn needs_no_lock(kind: ErrorKind) -> bool
+    ensures { IsTrue result ↔ (kind ≡ ErrorKind.Unsupported) }
+{
+    kind == ErrorKind::Unsupported
+}
+
+/// The folder, open and locked. It is refused if the folder is not there, if another has the lock,
+/// or if the lock is refused for another reason. If the file system knows no locks, the folder is
+/// opened, and goes without one.
 fn locked<R: Files<File = File>>(
     files: &R,
     alloc: Global,
@@ -51,8 +60,9 @@ fn locked<R: Files<File = File>>(
         return Err(Refusal::Refused);
     };
     match place.try_lock() {
-        Err(TryLockError::WouldBlock) => Err(Refusal::Refused),
-        Ok(()) | Err(TryLockError::Error(_)) => Ok(place),
+        Ok(()) => Ok(place),
+        Err(TryLockError::Error(error)) if needs_no_lock(error.kind()) => Ok(place),
+        Err(_) => Err(Refusal::Refused),
     }
 }
 
@@ -165,7 +175,14 @@ impl<R: Files<File = File>> Folder for HostFolder<'_, R> {
             return Err(Refusal::Memory);
         };
         match fs::rename(self.files, new.as_path(), path.as_path()) {
-            Ok(()) => Ok(()),
+            Ok(()) => {
+                if let Some(folder) = &self.lock {
+                    // The file has its name. If that could not be brought to the disk, a crash may
+                    // leave the old one, which is no other than after a crash within this call.
+                    let _ = folder.sync_all();
+                }
+                Ok(())
+            }
             Err(_) => {
                 self.refused = self.refused.saturating_add(1);
                 Err(Refusal::Refused)

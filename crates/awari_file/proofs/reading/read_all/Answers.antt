@@ -1,10 +1,14 @@
-use Rattle.std.proofs.Common.{◌≡◌, ◌∙◌, ◌++◌, List, Ok, Err, sym, ap}
+use Rattle.std.proofs.Common.{◌≡◌, ◌∙◌, ◌++◌, ℕ, List, Ok, Err, sym, ap, subst, min}
 use Rattle.std.proofs.lemmas.Result.{err_from_is_err_and}
 use Rattle.awari_table.specs.declared.images.Entry.{Entry}
-use Rattle.awari_file.proofs.WholeLaws.{known_bytes, bytes_at, both_bytes, known_header, known_fails, known_gives, start_at, header_bad, entries_bad, end_bad, all_ok, loaded_of, known_stops, stops_in_header, stops_in_entries, stops_in_end, known_fault, fault_in_header, fault_in_entries, fault_in_end}
+use Rattle.awari_file.proofs.WholeLaws.{known_bytes, bytes_at, both_bytes, known_intro, known_fails, known_gives, start_at, header_bad, entries_bad, end_bad, all_ok, loaded_of, known_stops, stops_in_header, stops_in_entries, stops_in_end, known_fault, fault_in_header, fault_in_entries, fault_in_end}
 use Rattle.awari_file.proofs.Steps.{fault_was}
 use Rattle.awari_file.specs.declared.faults.FileFault.{FileFault}
-use Rattle.awari_file.specs.declared.faults.FileFault.TheVariants.{Read}
+use Rattle.awari_file.specs.declared.faults.FileFault.TheVariants.{Read, Memory, Truncated}
+use Rattle.awari_file.specs.declared.sizes.TheConstants.{BUFFERED}
+use Rattle.awari_file.specs.Reading.{entries_at}
+use Rattle.awari_file.specs.Source.{BeginsRight}
+use Rattle.std.specs.Prelude.{IsOk}
 use Rattle.awari_file.proofs.reading.read_all.Goals as goal
 
 pub returns-in_err-header-clause-exact : goal.returns-in_err-header-clause-exact
@@ -42,17 +46,20 @@ returns-clause-exact g c =
     let start = start_at xs _ c.new-hasher.result c.new-hasher.ensures known in
     let (rest, at, header) = c.in_ok-header.ensures.parsed xs xs start in
     let (new, left, items, at2, entries) = c.in_ok-read_entries.ensures.parsed xs rest at in
-    let same : new ≡ c.from.result = sym (items ∙ ap (λ (l : List Entry). l ++ new) c.in_ok-entries.ensures.items) ∙ sym c.from.ensures in
+    let same : new ≡ c.from.result = sym (items ∙ ap (λ (l : List Entry). l ++ new) c.new-entries.ensures.items) ∙ sym c.from.ensures in
     all_ok xs c.in_ok-header.header rest c.size-count.result new left at2.done c.in_ok-digest.digest c.size-count.ensures.boards header entries at2.parts
     (c.in_ok-digest.ensures.parsed left at2.done at2.known_is at2.holds) ∙ ap (λ (es : List Entry). Ok (loaded_of c.in_ok-header.header es c.in_ok-digest.digest)) same)
 
-pub returns-in_err-entries-clause-memory : goal.returns-in_err-entries-clause-memory
-returns-in_err-entries-clause-memory g c = λ is.
-    known_header _ c.in_ok-header.header
+pub returns-in_err-read_entries-clause-memory : goal.returns-in_err-read_entries-clause-memory
+returns-in_err-read_entries-clause-memory g c = λ is.
+    let p = err_from_is_err_and c.from_residual-in_err-read_entries.result c.from_residual-in_err-read_entries.ensures.1 in
+    let same : c.in_err-read_entries.field-0.0 ≡ Memory = sym p.2 ∙ fault_was c.from_residual-in_err-read_entries.result p.0 Memory p.1 is in
+    known_intro _ BeginsRight
     (λ xs known.
     let start = start_at xs _ c.new-hasher.result c.new-hasher.ensures known in
     let (rest, at, header) = c.in_ok-header.ensures.parsed xs xs start in
-    (rest, header))
+    let right = c.in_err-read_entries.ensures.memory xs rest at (ap (λ (e : FileFault). Err e) same) in
+    (c.in_ok-header.header, rest, header, subst (λ (n : ℕ). IsOk (entries_at (min n BUFFERED) Truncated rest)) c.size-count.ensures.boards right))
 
 pub returns-clause-bytes : goal.returns-clause-bytes
 returns-clause-bytes g c = known_bytes _ (λ xs known.

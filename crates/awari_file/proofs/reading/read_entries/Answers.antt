@@ -1,27 +1,28 @@
-use Rattle.std.proofs.Common.{◌≡◌, ◌≤◌, ◌*◌, ◌∙◌, ◌++◌, [], List, ℕ, Err, refl, sym, ap, arith, append_assoc}
+use Rattle.std.proofs.Common.{◌≡◌, ◌≤◌, ◌*◌, ◌∙◌, ◌++◌, [], List, ℕ, Err, refl, sym, ap, arith, min, append_assoc}
 use Rattle.std.proofs.lemmas.List.{append-nil}
 use Rattle.std.proofs.lemmas.Result.{err_from_is_err_and}
 use Rattle.awari_table.specs.declared.images.Entry.{Entry}
 use Rattle.awari_file.specs.declared.faults.FileFault.{FileFault}
-use Rattle.awari_file.specs.declared.faults.FileFault.TheVariants.{Truncated, Read}
+use Rattle.awari_file.specs.declared.faults.FileFault.TheVariants.{Truncated, Read, Memory}
+use Rattle.awari_file.specs.declared.sizes.TheConstants.{BUFFERED}
 use Rattle.awari_file.specs.Reading.{entries_at}
 use Rattle.awari_file.proofs.FieldLaws.{took}
 use Rattle.awari_file.proofs.FileLaws.{entries-is, fails_along}
 use Rattle.awari_file.proofs.Steps.{fault_was}
-use Rattle.awari_file.proofs.Loop.{with_front-nil, some_go_on, some_end, all_done}
+use Rattle.awari_file.proofs.Loop.{with_front-nil, nothing_yet, more_come, some_right, some_go_on, some_end, all_done}
 use Rattle.awari_file.proofs.reading.read_entries.Goals as goal
 
 pub loop-left-init : goal.loop-left-init
 loop-left-init g c = record {
-  room = omega arith;
+  within = omega arith;
   faults = refl;
-  read = λ whole left here. ([], left, [], sym (append-nil c.args.entries.now.items), here, refl, λ more. with_front-nil (entries_at c.args.count Truncated more));
+  read = λ whole left here. ([], left, [], sym (append-nil c.args.entries.now.items), here, refl, λ more. with_front-nil (entries_at c.args.count Truncated more), nothing_yet c.args.count Truncated left);
 }
 
 pub returns-in_err-read_some-clause-parsed : goal.returns-in_err-read_some-clause-parsed
 returns-in_err-read_some-clause-parsed g c = λ whole left here.
     let p = err_from_is_err_and c.from_residual.result c.from_residual.ensures.1 in
-    let (new, rest, taken, items, at, parts, so_far) = c.loop-left.invariant.read whole left here in
+    let (new, rest, taken, items, at, parts, so_far, come) = c.loop-left.invariant.read whole left here in
     let a = c.min-some.result in
     let le : a ≤ c.loop-left.left = omega (arith, c.min-some.ensures) in
     rw (p.1, p.2) (fails_along c.in_err-read_some.field-0.0 (entries_at a Truncated rest) (entries_at c.args.count Truncated left)
@@ -32,7 +33,7 @@ pub returns-in_err-read_some-clause-stops : goal.returns-in_err-read_some-clause
 returns-in_err-read_some-clause-stops g c = λ whole left here is.
     let p = err_from_is_err_and c.from_residual.result c.from_residual.ensures.1 in
     let same : c.in_err-read_some.field-0.0 ≡ Read = sym p.2 ∙ fault_was c.from_residual.result p.0 Read p.1 is in
-    let (new, rest, taken, items, at, parts, so_far) = c.loop-left.invariant.read whole left here in
+    let (new, rest, taken, items, at, parts, so_far, come) = c.loop-left.invariant.read whole left here in
     let a = c.min-some.result in
     let le : a ≤ c.loop-left.left = omega (arith, c.min-some.ensures) in
     let stop = c.in_err-read_some.ensures.stops whole rest at (ap (λ (e : FileFault). Err e) same) in
@@ -48,7 +49,7 @@ pub returns-in_err-read_some-clause-whole : goal.returns-in_err-read_some-clause
 returns-in_err-read_some-clause-whole g c = λ whole left e here own is.
     let p = err_from_is_err_and c.from_residual.result c.from_residual.ensures.1 in
     let same : c.in_err-read_some.field-0.0 ≡ e = sym p.2 ∙ fault_was c.from_residual.result p.0 e p.1 is in
-    let (new, rest, taken, items, at, parts, so_far) = c.loop-left.invariant.read whole left here in
+    let (new, rest, taken, items, at, parts, so_far, come) = c.loop-left.invariant.read whole left here in
     let a = c.min-some.result in
     let le : a ≤ c.loop-left.left = omega (arith, c.min-some.ensures) in
     let stop = c.in_err-read_some.ensures.whole whole rest e at own (ap (λ (d : FileFault). Err d) same) in
@@ -60,15 +61,25 @@ returns-in_err-read_some-clause-whole g c = λ whole left e here own is.
       kind = some_end e new c.loop-left.left a Truncated stop.came (entries_at c.args.count Truncated (taken ++ stop.came)) le (so_far stop.came) stop.kind;
     }
 
+pub returns-in_err-read_some-clause-memory : goal.returns-in_err-read_some-clause-memory
+returns-in_err-read_some-clause-memory g c = λ whole left here is.
+    let p = err_from_is_err_and c.from_residual.result c.from_residual.ensures.1 in
+    let same : c.in_err-read_some.field-0.0 ≡ Memory = sym p.2 ∙ fault_was c.from_residual.result p.0 Memory p.1 is in
+    let (new, rest, taken, items, at, parts, so_far, come) = c.loop-left.invariant.read whole left here in
+    let a = c.min-some.result in
+    let le : a ≤ c.loop-left.left = omega (arith, c.min-some.ensures) in
+    some_right new c.loop-left.left a (min c.args.count BUFFERED) Truncated rest c.args.count left (omega (arith, c.min-some.ensures, c.loop-left.invariant.within)) c.loop-left.invariant.within le come
+    (c.in_err-read_some.ensures.memory whole rest at (ap (λ (e : FileFault). Err e) same))
+
 pub loop-left-preserved : goal.loop-left-preserved
 loop-left-preserved g c =
     let a = c.min-some.result in
     let le : a ≤ c.loop-left.left = omega (arith, c.min-some.ensures) in
     record {
-      room = omega (arith, c.in_ok-read_some.ensures.len, c.read_some.ensures.capacity, c.loop-left.invariant.room, le);
+      within = omega (arith, c.loop-left.invariant.within);
       faults = c.in_ok-read_some.ensures.clean ∙ c.loop-left.invariant.faults;
       read = λ whole left here.
-          let (new, rest, taken, items, at, parts, so_far) = c.loop-left.invariant.read whole left here in
+          let (new, rest, taken, items, at, parts, so_far, come) = c.loop-left.invariant.read whole left here in
           let (more, after, items2, at2, gives) = c.in_ok-read_some.ensures.parsed whole rest at in
           let t = took (List Entry) (6 * a) (entries_at a) (entries-is a) Truncated Truncated rest (more, after) gives in (
             new ++ more,
@@ -79,11 +90,12 @@ loop-left-preserved g c =
             parts ∙ ap (λ (l : List ℕ). taken ++ l) t.parts ∙ sym (append_assoc taken t.front after),
             λ behind. some_go_on new more c.loop-left.left a Truncated (t.front ++ behind) behind (entries_at c.args.count Truncated (taken ++ (t.front ++ behind))) le (t.again behind) (so_far (t.front ++ behind))
                 ∙ ap (entries_at c.args.count Truncated) (sym (append_assoc taken t.front behind)),
+            more_come new more c.loop-left.left a c.args.count Truncated rest after left c.loop-left.invariant.within le come gives,
           );
     }
 
 pub returns-clause-parsed : goal.returns-clause-parsed
 returns-clause-parsed g c = λ whole left here.
-    let (new, rest, taken, items, at, parts, so_far) = c.loop-left.invariant.read whole left here in
+    let (new, rest, taken, items, at, parts, so_far, come) = c.loop-left.invariant.read whole left here in
     let none : c.loop-left.left ≡ 0 = omega arith in
     (new, rest, items, at, ap (entries_at c.args.count Truncated) parts ∙ all_done new c.loop-left.left Truncated rest (entries_at c.args.count Truncated (taken ++ rest)) none (so_far rest))

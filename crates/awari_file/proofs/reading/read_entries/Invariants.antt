@@ -1,5 +1,4 @@
-use Rattle.std.proofs.Common.{◌≡◌, ◌≤◌, ◌+◌, ◌++◌, ℕ, List, vec_len}
-use Rattle.std.specs.Vec.{vec_capacity}
+use Rattle.std.proofs.Common.{◌≡◌, ◌≤◌, ◌-◌, ◌++◌, List, ℕ, Ok}
 use Rattle.awari_table.specs.Counted.{inner_of, faults_of}
 use Rattle.awari_table.specs.declared.images.Entry.{Entry}
 use Rattle.awari_file.specs.declared.faults.FileFault.TheVariants.{Truncated}
@@ -10,11 +9,12 @@ use Rattle.awari_file.proofs.reading.read_entries.Given as goal
 
 abbrev pub invariant-loop-left : goal.invariant-loop-left
 invariant-loop-left g l = record {
-  room : vec_len l.entries + l.left ≤ vec_capacity l.entries;
+  within : l.left ≤ l.count;
   faults : faults_of l.reader ≡ faults_of l.initial.reader;
   read : (whole left : List ℕ) → IsAt whole left (g.R.Read.remaining (inner_of l.initial.reader)) l.initial.hasher
       → (new : List Entry) × (rest taken : List ℕ) × (l.entries.items ≡ l.initial.entries.items ++ new) × IsAt whole rest (g.R.Read.remaining (inner_of l.reader)) l.hasher
-      × (left ≡ taken ++ rest) × ((more : List ℕ) → with_front new (entries_at l.left Truncated more) ≡ entries_at l.count Truncated (taken ++ more));
+      × (left ≡ taken ++ rest) × ((more : List ℕ) → with_front new (entries_at l.left Truncated more) ≡ entries_at l.count Truncated (taken ++ more))
+      × (entries_at (l.count - l.left) Truncated left ≡ Ok (new, rest));
 }
 
 abbrev pub decreases-loop-left : goal.decreases-loop-left
