@@ -1,5 +1,5 @@
 -- What a reader has left, and what a hasher holds of what came before.
-use Rattle.std.specs.Prelude.{◌≡◌, ◌⊎◌, min, IsOk, ℕ, List, ◌++◌, Option, Some, Result, Ok, Err}
+use Rattle.std.specs.Prelude.{◌≡◌, ◌≢◌, ◌⊎◌, Bool, true, false, min, IsOk, ℕ, List, ◌++◌, Option, Some, Result, Ok, Err}
 use Rattle.std.specs.Io.KnownBytes.{Appends, IsAtEnd}
 use Rattle.sha2.specs.Hashers.{Holds256}
 use Rattle.sha2.specs.declared.Sha256.{Sha256}
@@ -95,3 +95,8 @@ BeginsRight bytes = (header : Header) × (rest : List ℕ) × (header_at faults.
 pub record Puts (old new : Option (List ℕ)) (before after : Sha256) (bytes : List ℕ) : Type 0 where
   pub appends : Appends old new bytes
   pub holds : (m : List ℕ) → Holds256 before m → Holds256 after (m ++ bytes)
+
+-- a reader with these bytes left had those next, and the rest is behind them; or it did not
+abbrev pub Meets : Bool → List ℕ → Option (List ℕ) → List ℕ → Type 0
+Meets true left known bytes = (rest : List ℕ) × (known ≡ Some rest) × (left ≡ bytes ++ rest)
+Meets false left known bytes = (rest : List ℕ) → left ≢ bytes ++ rest

@@ -21,6 +21,7 @@
 //!     }
 #![tactic(auto)]
 
+mod comparing;
 mod contents;
 mod faults;
 mod fields;
@@ -30,6 +31,7 @@ mod sizes;
 mod source;
 mod writing;
 
+pub use comparing::compare_level;
 pub use contents::Loaded;
 pub use faults::FileFault;
 pub use fields::OLD_VERSION;

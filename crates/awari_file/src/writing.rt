@@ -1,6 +1,6 @@
 //! Writing the file of a level.
 
-ghost use Rattle.std.specs.Prelude.{◌≡◌, ◌≤◌, length, All, IfErr, OnOk, OnErr, IfOk};
+ghost use Rattle.std.specs.Prelude.{◌≡◌, ◌≤◌, length, take, All, IfErr, OnOk, OnErr, IfOk};
 ghost use Rattle.std.specs.List.{flat_map};
 ghost use Rattle.std.specs.Io.KnownBytes.{Appends};
 ghost use Rattle.sha2.specs.Sha256.{sha256};
@@ -21,7 +21,7 @@ use sha2::{Digest, Sha256};
 use std::io::Write;
 
 /// What stands before the entries.
-fn header_of(level: u8, limit: u32, below: &[u8; 32]) -> [u8; 52]
+pub(crate) fn header_of(level: u8, limit: u32, below: &[u8; 32]) -> [u8; 52]
     requires { level ≤ HIGHEST_LEVEL }
     ensures { result ≡ header_text 2 level limit below.now }
 {
@@ -67,6 +67,22 @@ fn put<W: Write>(
     }
 }
 
+/// Spells entries that fit the buffer, and gives how many bytes of it they take.
+pub(crate) fn spell(entries: &[Entry], buf: &mut [u8; 4080]) -> usize
+    requires { length entries.now ≤ BUFFERED }
+    ensures len { result ≤ 4080 }
+    ensures text { take result buf.new ≡ flat_map entry_text entries.now }
+    ensures fit { All FitsNumbers entries.now }
+{
+    let mut len = 0;
+    for entry in entries {
+        let bytes = bytes_of(*entry);
+        buf[len..len + ENTRY_LEN].copy_from_slice(&bytes);
+        len += ENTRY_LEN;
+    }
+    len
+}
+
 /// Writes entries that fit the buffer.
 fn put_some<W: Write>(
     writer: &mut Counted<W>,
@@ -81,12 +97,7 @@ fn put_some<W: Write>(
     ensures faults { faults_of writer.old ≤ faults_of writer.new }
 {
     let mut buf = [0u8; BUFFER_LEN];
-    let mut len = 0;
-    for entry in entries {
-        let bytes = bytes_of(*entry);
-        buf[len..len + ENTRY_LEN].copy_from_slice(&bytes);
-        len += ENTRY_LEN;
-    }
+    let len = spell(entries, &mut buf);
     put(writer, hasher, &buf[..len])
 }
 
