@@ -1,9 +1,10 @@
 -- Levels that are built on those of a folder.
-use Rattle.std.proofs.Common.{rules, arith, ◌≡◌, ◌<◌, ◌≤◌, ◌+◌, inl, inr, ⊎_elim, List, ℕ, [], ◌∷◌, ◌++◌, length, Option, Some, None, subst, length-append, ap, ◌∙◌}
-use Rattle.std.specs.Prelude.{IfSome, IsSome}
+use Rattle.std.proofs.Common.{arith, ◌≡◌, ◌<◌, ◌≤◌, ◌+◌, inl, inr, ⊎_elim, List, ℕ, [], ◌∷◌, ◌++◌, length, Option, Some, None, subst, sym, length-append, ap, ◌∙◌}
+use Rattle.std.specs.Prelude.{IfSome}
 use Rattle.awari_file.specs.FileText.{file_text}
 use Rattle.std.specs.Io.KnownBytes.{Appends}
 use Rattle.awari_folder.specs.Contents.{AreNames, HoldsIn, IsStoredIn, LeavesNoMore, LeavesToo, Same, nothing_known}
+use Rattle.awari_folder.specs.Migration.{KeepsFiles}
 use Rattle.awari_play.specs.Least.{HasLowestPlans}
 use Rattle.awari_table.specs.Shelves.{IsShelf}
 use Rattle.awari_table.specs.declared.images.Image.{Image}
@@ -16,24 +17,23 @@ built_nowhere below built names are = no_name (names 0) (are 0)
     no_name : {A : Type 0} (name : Option (List ℕ)) → nothing_known 0 ≡ Some name → A
     no_name name e = absurd cc
 
-files_of_save : (level : ℕ) (stand : Option (Option (List ℕ))) (image : Image) (below : List ℕ) (old new : ℕ → Option (List ℕ) → Type 0)
-    → IfSome stand (λ _. LeavesToo level (λ c. c ≡ Some (file_text 2 image below)) old new) → IsSome stand → LeavesFiles level old new
-files_of_save level (Some stand) image below old new leaves known n c left =
-    ⊎_elim (λ l. inl l) (λ r. inr (omega (arith, r.0), (image, below, r.1))) (leaves n c left)
-files_of_save level None image below old new leaves known n c left = search rules
+name_is : (stand : Option (Option (List ℕ))) (name : Option (List ℕ)) (P : Option (List ℕ) → Type 0) → stand ≡ Some name → IfSome stand P → P name
+name_is None name P is holds = absurd cc
+name_is (Some other) name P is holds = let same : other ≡ name = cc in subst P same holds
 
 -- What a save may leave is a whole file.
-pub files_at : (stands : ℕ → Option (Option (List ℕ))) (level m : ℕ) (image : Image) (below : List ℕ) (old new : ℕ → Option (List ℕ) → Type 0)
-    → level ≡ m → IfSome (stands level) (λ _. LeavesToo level (λ c. c ≡ Some (file_text 2 image below)) old new) → IsSome (stands m) → LeavesFiles m old new
-files_at stands level m image below old new next leaves =
-    subst (λ k. IsSome (stands k) → LeavesFiles k old new) next (files_of_save level (stands level) image below old new leaves)
+pub files_at : (stands : ℕ → Option (Option (List ℕ))) (names : ℕ → Option (List ℕ)) (level m : ℕ) (image : Image) (below : List ℕ) (old new : ℕ → Option (List ℕ) → Type 0)
+    → level ≡ m → IfSome (stands level) (λ name. LeavesToo level (λ left. (name ≡ None) × (left ≡ Some (file_text 2 image below))) old new) → stands m ≡ Some (names m) → LeavesFiles m names old new
+files_at stands names level m image below old new next leaves known n left end =
+    let leaves_here = name_is (stands level) (names level) (λ name. LeavesToo level (λ c. (name ≡ None) × (c ≡ Some (file_text 2 image below))) old new) (ap stands next ∙ known ∙ ap (λ k. Some (names k)) (sym next)) leaves in
+    ⊎_elim (λ l. inl l) (λ r. inr (omega (arith, r.0, next), ap names r.0 ∙ r.1.0, (image, below, r.1.1))) (leaves_here n left end)
 
-pub more_files : (m k : ℕ) (first old new : ℕ → Option (List ℕ) → Type 0) → m ≤ k → LeavesFiles m first old → LeavesFiles k old new → LeavesFiles m first new
-more_files m k first old new low before after n c left =
-    ⊎_elim (λ l. before n c l) (λ r. inr (omega (arith, low, r.0), r.1)) (after n c left)
+pub more_files : (m k : ℕ) (names : ℕ → Option (List ℕ)) (first old new : ℕ → Option (List ℕ) → Type 0) → m ≤ k → LeavesFiles m names first old → LeavesFiles k names old new → LeavesFiles m names first new
+more_files m k names first old new low before after n c left =
+    ⊎_elim (λ l. before n c l) (λ r. inr (omega (arith, low, r.0), r.1, r.2)) (after n c left)
 
-pub is_known : (stand : Option (Option (List ℕ))) (name : Option (List ℕ)) → stand ≡ Some name → IsSome stand
-is_known stand name is = search rules
+pub files_kept : (first old new : ℕ → Option (Option (List ℕ))) → KeepsFiles first old → KeepsFiles old new → KeepsFiles first new
+files_kept first old new before after n bytes is = after n bytes (before n bytes is)
 
 pub longer_by_one : (less : List Image) (image : Image) (shelf : List Image) → shelf ≡ less ++ image ∷ [] → length shelf ≡ length less + 1
 longer_by_one less image shelf put = ap length put ∙ length-append less (image ∷ [])
@@ -60,7 +60,7 @@ prints_on old mid new top below shelf under digest before after stored same righ
 
 pub keeps_on : (old mid new : ℕ → Option (Option (List ℕ))) (left middle leaves : ℕ → Option (List ℕ) → Type 0) (top : ℕ) (below : List Image) (under : List ℕ)
     → IsStoredIn old below under → Same old mid → LeavesNoMore left middle → SameOutside (length below) top mid new
-    → ((names : ℕ → Option (List ℕ)) → AreNames mid names → LeavesFiles (length below) middle leaves)
+    → ((names : ℕ → Option (List ℕ)) → AreNames mid names → LeavesFiles (length below) names middle leaves)
     → (names : ℕ → Option (List ℕ)) → AreNames old names → KeepsLevels top names old new left leaves
 keeps_on old mid new left middle leaves top below under stored same none outside files names are =
     inr (

@@ -1,5 +1,5 @@
 -- The command `build`: what is printed of the levels that were built.
-use Rattle.std.specs.Prelude.{◌≡◌, ◌<◌, ◌≤◌, ◌⊎◌, ℕ, List, ◌++◌, ◌∷◌, [], length, codes, Option}
+use Rattle.std.specs.Prelude.{◌≡◌, ◌<◌, ◌≤◌, ◌⊎◌, ℕ, List, ◌++◌, ◌∷◌, [], length, codes, Option, None}
 use Rattle.std.specs.Fmt.{decimal}
 use Rattle.std.specs.List.{flat_map}
 use Rattle.std.specs.Io.KnownBytes.{Appends}
@@ -65,13 +65,13 @@ PrintsLevels top old new before after = (below built : List Image) × IsShelf (b
 abbrev pub SameOutside : ℕ → ℕ → (ℕ → Option (Option (List ℕ))) → (ℕ → Option (Option (List ℕ))) → Type 0
 SameOutside low top old new = (n : ℕ) → (n < low) ⊎ (top < n) → new n ≡ old n
 
--- A crash may leave nothing else than before, but under the names from level `low` on a whole file.
-abbrev pub LeavesFiles : ℕ → (ℕ → Option (List ℕ) → Type 0) → (ℕ → Option (List ℕ) → Type 0) → Type 0
-LeavesFiles low old new = (n : ℕ) (left : Option (List ℕ)) → new n left → old n left ⊎ ((low ≤ n) × IsWholeFile left)
+-- A crash may leave nothing else than before, but a whole file under the names from level `low` on that had none.
+abbrev pub LeavesFiles : ℕ → (ℕ → Option (List ℕ)) → (ℕ → Option (List ℕ) → Type 0) → (ℕ → Option (List ℕ) → Type 0) → Type 0
+LeavesFiles low names old new = (n : ℕ) (left : Option (List ℕ)) → new n left → old n left ⊎ ((low ≤ n) × (names n ≡ None) × IsWholeFile left)
 
 -- Nothing is changed, or levels were stored and each of their files stays, as does what has the names above `top`; and a crash
--- leaves what it might have left before, or a whole file under a name above those levels.
+-- leaves what it might have left before, or a whole file under a name above those levels that had none.
 abbrev pub KeepsLevels : ℕ → (ℕ → Option (List ℕ)) → (ℕ → Option (Option (List ℕ))) → (ℕ → Option (Option (List ℕ)))
     → (ℕ → Option (List ℕ) → Type 0) → (ℕ → Option (List ℕ) → Type 0) → Type 0
 KeepsLevels top names old new left leaves = (Same old new × LeavesNoMore left leaves)
-    ⊎ ((below : List Image) × (under : List ℕ) × IsStored names below under × SameOutside (length below) top old new × LeavesFiles (length below) left leaves)
+    ⊎ ((below : List Image) × (under : List ℕ) × IsStored names below under × SameOutside (length below) top old new × LeavesFiles (length below) names left leaves)

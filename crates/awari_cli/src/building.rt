@@ -1,6 +1,6 @@
 //! The command `build`: levels built one on another.
 
-ghost use Rattle.std.specs.Prelude.{◌≡◌, ◌≤◌, ◌<◌, ◌++◌, ◌∷◌, [], ℕ, List, length, Option, OnOk, OnErr, IfOk, IsSome};
+ghost use Rattle.std.specs.Prelude.{◌≡◌, ◌≤◌, ◌<◌, ◌++◌, ◌∷◌, [], ℕ, List, length, Option, Some, OnOk, OnErr, IfOk};
 ghost use Rattle.std.specs.Arc.{arc_value};
 ghost use Rattle.std.specs.Io.KnownBytes.{Appends};
 ghost use Rattle.awari_build.specs.declared.faults.BuildFault.TheVariants as build_fault;
@@ -8,12 +8,13 @@ ghost use Rattle.awari_table.specs.declared.images.Image.{Image};
 ghost use Rattle.awari_play.specs.Least.{HasLowestPlans, IsPlannedLowest};
 ghost use Rattle.awari_table.specs.Shelves.{Consistent, IsShelf};
 ghost use Rattle.awari_folder.specs.Contents.{AreNames, HoldsIn, Same, SameBut, nothing_known};
+ghost use Rattle.awari_folder.specs.Migration.{KeepsFiles};
 ghost use Rattle.awari_cli.specs.Building.{IsToldOf, KeepsLevels, LeavesFiles, PrintsLevels, SameOutside, level_lines};
 ghost use Rattle.awari_cli.specs.declared.building.BuildingFault.TheVariants as building_fault;
 
 use awari_answers::{Refused, print, refuse};
 use awari_build::{BuildFault, Pace, build_alone_with_progress, build_level_with_progress};
-use awari_folder::{Folder, FolderFault, load_parallel, save};
+use awari_folder::{Folder, FolderFault, load_parallel, save_or_keep};
 use awari_phase::{Open, Progress};
 use awari_play::lowest_plans_stay;
 use awari_rank::size;
@@ -137,7 +138,8 @@ pub fn run_build<T: Threads + Wait + Sync, P: Progress, W: Write>(
 }
 
 /// Builds the levels above those of the folder, up to `top`, and prints the line of each once it is
-/// saved there. A refusal is printed behind the lines before it.
+/// saved there. A file that stands there already stays: it counts as saved if it is the level's, and
+/// else the level is refused as 85. A refusal is printed behind the lines before it.
 pub fn run_build_in<T: Threads + Wait + Sync, P: Progress, F: Folder, W: Write>(
     builder: &mut Builder<'_, T, P>,
     folder: &mut F,
@@ -148,7 +150,9 @@ pub fn run_build_in<T: Threads + Wait + Sync, P: Progress, F: Folder, W: Write>(
     ensures built { result ≡ 0
         → PrintsLevels top (F.stands folder.old) (F.stands folder.new) (W.contents writer.old) (W.contents writer.new) }
 
-    // A folder that is at fault stays as it was, and no level that is there is written again.
+    // Each file stays that was there. A folder that is at fault stays as it was, and no level that is
+    // there is written again.
+    ensures kept { KeepsFiles (F.stands folder.old) (F.stands folder.new) }
     ensures keeps { (names : ℕ → Option (List ℕ)) → AreNames (F.stands folder.old) names
         → KeepsLevels top names (F.stands folder.old) (F.stands folder.new) (F.may_leave folder.old) (F.may_leave folder.new) }
 {
@@ -208,8 +212,9 @@ fn build_up_in<T: Threads + Wait + Sync, P: Progress, F: Folder, W: Write>(
     ensures planned { result ≡ 0 → HasLowestPlans shelf.old → HasLowestPlans shelf.new }
     ensures holds { HoldsIn (F.stands folder.old) shelf.old digest.old → result ≡ 0 → HoldsIn (F.stands folder.new) shelf.new digest.new }
     ensures same { SameOutside (length shelf.old) top (F.stands folder.old) (F.stands folder.new) }
+    ensures kept { KeepsFiles (F.stands folder.old) (F.stands folder.new) }
     ensures crash { (names : ℕ → Option (List ℕ)) → AreNames (F.stands folder.old) names
-        → LeavesFiles (length shelf.old) (F.may_leave folder.old) (F.may_leave folder.new) }
+        → LeavesFiles (length shelf.old) names (F.may_leave folder.old) (F.may_leave folder.new) }
 {
     while shelf.levels() <= top {
         match save_next(builder, folder, shelf, digest) {
@@ -243,8 +248,8 @@ fn build_next<T: Threads + Wait + Sync, P: Progress>(
     Ok(told)
 }
 
-/// Builds the level above the shelf, saves it, and puts it on top. Nothing is refused after the file
-/// is saved, so a level that is saved is always answered.
+/// Builds the level above the shelf, saves it unless its file is there, and puts it on top. Nothing is
+/// refused after the file is saved, so a level that is saved is always answered.
 fn save_next<T: Threads + Wait + Sync, P: Progress, F: Folder>(
     builder: &mut Builder<'_, T, P>,
     folder: &mut F,
@@ -255,13 +260,15 @@ fn save_next<T: Threads + Wait + Sync, P: Progress, F: Folder>(
     ensures planned { OnOk result (HasLowestPlans shelf.old → HasLowestPlans shelf.new) }
     ensures holds { HoldsIn (F.stands folder.old) shelf.old digest.old → OnOk result (HoldsIn (F.stands folder.new) shelf.new digest.new) }
     ensures others { SameBut (length shelf.old) (F.stands folder.old) (F.stands folder.new) }
+    ensures kept { KeepsFiles (F.stands folder.old) (F.stands folder.new) }
     ensures err { OnErr result (Same (F.stands folder.old) (F.stands folder.new)) }
-    ensures crash { IsSome (F.stands folder.old (length shelf.old)) → LeavesFiles (length shelf.old) (F.may_leave folder.old) (F.may_leave folder.new) }
+    ensures crash { (names : ℕ → Option (List ℕ)) → F.stands folder.old (length shelf.old) ≡ Some (names (length shelf.old))
+        → LeavesFiles (length shelf.old) names (F.may_leave folder.old) (F.may_leave folder.new) }
 {
     // Ghost: the plans stay the lowest.
     lowest_plans_stay();
     let level = built_level(builder, shelf)?;
-    let own = save(folder, &level, *digest)?;
+    let own = save_or_keep(folder, &level, *digest)?;
     *digest = own;
     let told = told_of(&level);
     shelf.push(level);

@@ -4,3 +4,4 @@ pub mod Opened
 pub mod Log
 pub mod Saved
 pub mod Migrations
+pub mod Kept

@@ -65,7 +65,7 @@ becomes_own : (old new : Option (Option (List ℕ))) (name : Option (List ℕ)) 
 becomes_own old new name bytes is becomes = subst (λ o. Becomes o new (Some bytes)) is becomes
 
 -- A folder that holds a shelf holds it with a level on top, once the level has its file.
-holds_more : (old new : ℕ → Option (Option (List ℕ))) (shelf : List Image) (below : List ℕ) (image : Image) (digest : List ℕ) → HoldsIn old shelf below → Consistent shelf image
+pub holds_more : (old new : ℕ → Option (Option (List ℕ))) (shelf : List Image) (below : List ℕ) (image : Image) (digest : List ℕ) → HoldsIn old shelf below → Consistent shelf image
     → HasFile 2 image below → SameBut image.level old new → new image.level ≡ Some (Some (file_text 2 image below)) → digest ≡ sha256 (body_text 2 image below)
     → HoldsIn new (shelf ++ image ∷ []) digest
 holds_more old new shelf below image digest (names, are, held) right has others own ends =

@@ -5,3 +5,4 @@ pub mod Judges
 pub mod Contents
 pub mod Log
 pub mod Host
+pub mod Keeping

@@ -24,6 +24,7 @@
 mod calls;
 mod faults;
 mod host;
+mod keeping;
 mod laws;
 mod loading;
 mod memory;
@@ -34,6 +35,7 @@ mod saving;
 pub use calls::{Draft, Folder, Refusal};
 pub use faults::FolderFault;
 pub use host::{HostDraft, HostFolder};
+pub use keeping::save_or_keep;
 pub use laws::{folders_hold_one_shelf, stored_shelves_are_loaded};
 pub use loading::{Stored, load, load_parallel};
 pub use memory::{MemoryDraft, MemoryFolder};

@@ -1,6 +1,6 @@
 use Rattle.std.proofs.Common.{arith, ◌≡◌, ◌∙◌, ◌+◌, inl, length, refl}
 use Rattle.awari_cli.proofs.BuildLaws.{built_none, built_more}
-use Rattle.awari_cli.proofs.FolderBuilds.{is_known, longer_by_one, more_files}
+use Rattle.awari_cli.proofs.FolderBuilds.{longer_by_one, more_files}
 use Rattle.awari_cli.proofs.building.build_up_in.Goals as goal
 
 pub loop-builder-init : goal.loop-builder-init
@@ -12,6 +12,7 @@ loop-builder-init g c = record {
   high = λ n top low. low;
   below = λ n low. refl;
   above = λ n high. refl;
+  kept = λ n bytes is. is;
   crash = λ names are n c left. inl left;
 }
 
@@ -29,18 +30,25 @@ loop-builder-preserved g c =
       high = λ n top low. omega (arith, size, top);
       below = λ n low. e.others n (λ same. omega (arith, low, i.longer, same)) ∙ i.below n low;
       above = λ n high. e.others n (λ same. omega (arith, high, size, same)) ∙ i.above n (omega (arith, high, size));
-      crash = λ names are. more_files _ _ _ _ _ i.longer (i.crash names are)
-          (e.crash (is_known _ (names (length c.loop-builder.shelf)) (i.above (length c.loop-builder.shelf) (omega arith) ∙ are (length c.loop-builder.shelf))));
+      kept = λ n bytes is. e.kept n bytes (i.kept n bytes is);
+      crash = λ names are. more_files _ _ names _ _ _ i.longer (i.crash names are)
+          (e.crash names (i.above (length c.loop-builder.shelf) (omega arith) ∙ are (length c.loop-builder.shelf)));
     }
 
 pub returns-then-not-print-clause-crash : goal.returns-then-not-print-clause-crash
 returns-then-not-print-clause-crash g c = λ names are.
     let i = c.loop-builder.invariant in
-    more_files _ _ _ _ _ i.longer (i.crash names are)
-    (c.save_next.ensures.crash (is_known _ (names (length c.loop-builder.shelf)) (i.above (length c.loop-builder.shelf) (omega arith) ∙ are (length c.loop-builder.shelf))))
+    more_files _ _ names _ _ _ i.longer (i.crash names are)
+    (c.save_next.ensures.crash names (i.above (length c.loop-builder.shelf) (omega arith) ∙ are (length c.loop-builder.shelf)))
 
 pub returns-in-Err-clause-crash : goal.returns-in-Err-clause-crash
 returns-in-Err-clause-crash g c = λ names are.
     let i = c.loop-builder.invariant in
-    more_files _ _ _ _ _ i.longer (i.crash names are)
-    (c.save_next.ensures.crash (is_known _ (names (length c.loop-builder.shelf)) (i.above (length c.loop-builder.shelf) (omega arith) ∙ are (length c.loop-builder.shelf))))
+    more_files _ _ names _ _ _ i.longer (i.crash names are)
+    (c.save_next.ensures.crash names (i.above (length c.loop-builder.shelf) (omega arith) ∙ are (length c.loop-builder.shelf)))
+
+pub returns-then-not-print-clause-kept : goal.returns-then-not-print-clause-kept
+returns-then-not-print-clause-kept g c = λ n bytes is. c.save_next.ensures.kept n bytes (c.loop-builder.invariant.kept n bytes is)
+
+pub returns-in-Err-clause-kept : goal.returns-in-Err-clause-kept
+returns-in-Err-clause-kept g c = λ n bytes is. c.save_next.ensures.kept n bytes (c.loop-builder.invariant.kept n bytes is)

@@ -1,5 +1,6 @@
 use Rattle.std.proofs.Common.{◌≡◌, ◌≤◌, ◌<◌, ◌-◌, ◌+◌, ℕ, List, Option, length}
 use Rattle.awari_folder.specs.Contents.{AreNames, HoldsIn}
+use Rattle.awari_folder.specs.Migration.{KeepsFiles}
 use Rattle.awari_play.specs.Least.{HasLowestPlans}
 use Rattle.awari_cli.specs.Building.{LeavesFiles}
 use Rattle.awari_cli.proofs.BuildLaws.{IsBuilt}
@@ -17,7 +18,8 @@ invariant-loop-builder g l =
       high : (n : ℕ) → l.top < n → length l.fn.shelf ≤ n → length l.shelf ≤ n;
       below : (n : ℕ) → n < length l.fn.shelf → stands l.folder n ≡ stands l.fn.folder n;
       above : (n : ℕ) → length l.shelf ≤ n → stands l.folder n ≡ stands l.fn.folder n;
-      crash : (names : ℕ → Option (List ℕ)) → AreNames (stands l.fn.folder) names → LeavesFiles (length l.fn.shelf) (may_leave l.fn.folder) (may_leave l.folder);
+      kept : KeepsFiles (stands l.fn.folder) (stands l.folder);
+      crash : (names : ℕ → Option (List ℕ)) → AreNames (stands l.fn.folder) names → LeavesFiles (length l.fn.shelf) names (may_leave l.fn.folder) (may_leave l.folder);
     }
 
 abbrev pub decreases-loop-builder : goal.decreases-loop-builder
