@@ -28,6 +28,11 @@ level 0 boards 1 won 0 even 1 lost 0 limit 0
 refused 82 Open level 1
 ";
 
+const LEVEL_0_AND_OCCUPIED_1: &str = "\
+level 0 boards 1 won 0 even 1 lost 0 limit 0
+refused 85 Occupied level 1
+";
+
 const RIGHT_LEVELS_0_TO_1: &str = "\
 level 0 ok limit 0
 level 1 ok limit 1
@@ -90,13 +95,13 @@ fn expect_both(
 #[test]
 fn each_call_of_a_build_is_refused(rt: HostRuntime) {
     expect_both(&rt, 0, LEVELS_0_TO_1, 0, "");
-    for call in 1..4u32 {
+    for call in 1..5u32 {
         expect_both(&rt, call, OPEN_0, 1, LEVELS_0_TO_1);
     }
-    for call in 4..6u32 {
+    for call in 5..8u32 {
         expect_both(&rt, call, LEVEL_0_AND_OPEN_1, 1, LEVEL_1);
     }
-    expect_both(&rt, 6, LEVELS_0_TO_1, 0, "");
+    expect_both(&rt, 8, LEVELS_0_TO_1, 0, "");
 }
 
 /// A build whose new file refuses this writes nothing.
@@ -169,6 +174,72 @@ fn a_faulty_folder_stays_as_it_was(rt: HostRuntime) -> Result<(), Fail> {
     expect_verify(&rt, &mut folder, printed, 1);
     expect_file(&rt, &mut folder, 0, &first)?;
     expect_file(&rt, &mut folder, 1, b"AWDB")
+}
+
+/// A folder in which level 1 alone has a file, of these bytes.
+fn folder_with_a_gap(
+    rt: &(impl Abort + AllocGlobal + Threads + Wait + Sync),
+    second: &[u8],
+) -> Result<MemoryFolder, Fail> {
+    let mut folder = memory_folder(rt.alloc());
+    lay(&mut folder, 1, second)?;
+    Ok(folder)
+}
+
+/// The files of levels 0 and 1.
+fn two_files(
+    rt: &(impl Abort + AllocGlobal + Threads + Wait + Sync),
+) -> Result<(Vec<u8>, Vec<u8>), Fail> {
+    let mut folder = memory_folder(rt.alloc());
+    expect_build(rt, &mut folder, LEVELS_0_TO_1, 0);
+    let first = file_of(rt.alloc(), &mut folder, 0)?;
+    let second = file_of(rt.alloc(), &mut folder, 1)?;
+    Ok((first, second))
+}
+
+#[test]
+fn a_right_file_above_a_gap_counts_as_saved(rt: HostRuntime) -> Result<(), Fail> {
+    let (first, second) = two_files(&rt)?;
+    let mut folder = folder_with_a_gap(&rt, &second)?;
+    // The load makes one call, the save of level 0 three, and that of level 1 one: none writes there.
+    refuse(&mut folder, 6);
+    expect_build(&rt, &mut folder, LEVELS_0_TO_1, 0);
+    refuse(&mut folder, 0);
+    expect_no_draft(&rt, &folder);
+    expect_file(&rt, &mut folder, 0, &first)?;
+    expect_file(&rt, &mut folder, 1, &second)?;
+    expect_verify(&rt, &mut folder, RIGHT_LEVELS_0_TO_1, 0);
+    Ok(())
+}
+
+/// A file above a gap that is not the right one is not replaced.
+fn expect_occupied(
+    rt: &(impl Abort + AllocGlobal + Threads + Wait + Sync),
+    first: &[u8],
+    other: &[u8],
+) -> Result<(), Fail> {
+    let mut folder = folder_with_a_gap(rt, other)?;
+    expect_build(rt, &mut folder, LEVEL_0_AND_OCCUPIED_1, 1);
+    expect_no_draft(rt, &folder);
+    expect_file(rt, &mut folder, 0, first)?;
+    expect_file(rt, &mut folder, 1, other)
+}
+
+#[test]
+fn another_file_above_a_gap_stays(rt: HostRuntime) -> Result<(), Fail> {
+    let (first, second) = two_files(&rt)?;
+    let cut = second.get(..155).ok_or("a file of 156 bytes")?;
+    expect_occupied(&rt, &first, cut)?;
+    expect_occupied(&rt, &first, b"")?;
+    let mut longer = second.to_vec(rt.alloc())?;
+    longer.push(0)?;
+    expect_occupied(&rt, &first, &longer)?;
+    for place in [0, 19, 20, 52, 123, 124, 155] {
+        let mut changed = second.to_vec(rt.alloc())?;
+        *changed.get_mut(place).ok_or("a place in the file")? ^= 1;
+        expect_occupied(&rt, &first, &changed)?;
+    }
+    Ok(())
 }
 
 /// What `ask` and `line` print of a board and their status, where the folder refuses a call.

@@ -2,7 +2,7 @@
 
 use crate::expect::{expect, expect_equal};
 use crate::levels::{changed, digest_in, digested, right_file, right_shelf};
-use crate::plain::{level_of, put_on, read, verdict};
+use crate::plain::{compare, level_of, put_on, read, verdict};
 use awari_file::{FileFault, Loaded};
 use awari_table::{Counted, Level, Shelf};
 use awari_verify::{Rule, VerifyFault};
@@ -260,4 +260,56 @@ fn values_are_for_the_verifier(rt: HostRuntime) -> Result<(), Fail> {
     let shelf = shelf_of(rt.alloc(), &first)?;
     let bytes = file_with_wrong_value(rt.alloc())?;
     expect_refused(&rt, rt.alloc(), &shelf, &bytes)
+}
+
+/// The header of a file of level 24, and nothing behind it.
+pub(crate) const HEADER_24: [u8; 52] = [
+    0x41, 0x57, 0x44, 0x42, 0, 2, 24, 0, 0, 0, 0, 0, 0x18, 0xde, 0x5c, 0xac, 0, 0, 1, 0, 0, 0, 0,
+    0, 0, 0, 0, 0, 0, 0, 0, 0, 0, 0, 0, 0, 0, 0, 0, 0, 0, 0, 0, 0, 0, 0, 0, 0, 0, 0, 0, 0,
+];
+
+#[test]
+fn a_header_alone_ends_early(rt: HostRuntime) {
+    expect_equal(&rt, "60", fault_of(rt.alloc(), &HEADER_24), 60);
+}
+
+/// What these bytes are beside the file of a level: the digest of that, or none.
+fn compared(level: &Level, below: [u8; 32], bytes: &[u8]) -> Result<Option<[u8; 32]>, FileFault> {
+    compare(level, below, &mut Counted::new(bytes))
+}
+
+/// Each changed, missing or further byte makes the file another one.
+fn expect_others(rt: &impl Abort, alloc: Global, level: &Level, file: &[u8]) -> Result<(), Fail> {
+    let below = digest_in(&right_file(alloc, 1)?);
+    for (place, byte) in file.iter().enumerate() {
+        let other = changed(alloc, file, place, byte ^ 1)?;
+        expect_equal(rt, place, compared(level, below, &other), Ok(None));
+        let cut = file.get(..place).ok_or("a place in the file")?;
+        expect_equal(rt, place, compared(level, below, cut), Ok(None));
+    }
+    let mut longer = file.to_vec(alloc)?;
+    longer.push(0)?;
+    expect_equal(rt, "a byte more", compared(level, below, &longer), Ok(None));
+    Ok(())
+}
+
+#[test]
+fn a_file_is_told_from_each_other(rt: HostRuntime) -> Result<(), Fail> {
+    let shelf = right_shelf(rt.alloc())?;
+    let file = right_file(rt.alloc(), 2)?;
+    let level = level_of(&shelf, 2)?;
+    let below = digest_in(&right_file(rt.alloc(), 1)?);
+    expect_equal(
+        &rt,
+        "the file",
+        compared(level, below, &file),
+        Ok(Some(digest_in(&file))),
+    );
+    expect_equal(
+        &rt,
+        "over another",
+        compared(level, [0; 32], &file),
+        Ok(None),
+    );
+    expect_others(&rt, rt.alloc(), level, &file)
 }

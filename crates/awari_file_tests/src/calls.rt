@@ -3,7 +3,7 @@
 use crate::expect::{expect, expect_equal};
 use crate::levels::{digest_in, right_file, right_shelf, save_two};
 use crate::plain::{
-    has_draft, level_of, load_from, memory_folder, open, refuse, refuse_files, save_into,
+    has_draft, keep_in, level_of, load_from, memory_folder, open, refuse, refuse_files, save_into,
 };
 use awari_file::FileFault;
 use awari_folder::{FolderFault, MemoryFolder};
@@ -188,5 +188,42 @@ fn a_save_that_is_refused_keeps_the_old_file(rt: HostRuntime) -> Result<(), Fail
     let shelf = right_shelf(rt.alloc())?;
     let first = right_file(rt.alloc(), 0)?;
     expect_kept(&rt, level_of(&shelf, 0)?, &first)?;
+    Ok(())
+}
+
+/// What is answered where level 1 is to be kept in a folder of levels 0 and 1, and the call of this
+/// number is refused.
+fn kept(
+    rt: &(impl Abort + AllocGlobal),
+    level: &Level,
+    below: [u8; 32],
+    call: u32,
+) -> Result<Result<[u8; 32], FolderFault>, Fail> {
+    let mut folder = folder_of_two(rt.alloc())?;
+    refuse(&mut folder, call);
+    let answer = keep_in(&mut folder, level, below);
+    refuse(&mut folder, 0);
+    expect(rt, "no draft", !has_draft(&folder));
+    expect_equal(rt, "levels", levels_in(&mut folder, rt.alloc()), Ok(2));
+    Ok(answer)
+}
+
+#[test]
+fn a_file_that_is_there_is_kept(rt: HostRuntime) -> Result<(), Fail> {
+    let shelf = right_shelf(rt.alloc())?;
+    let below = digest_in(&right_file(rt.alloc(), 0)?);
+    let digest = digest_in(&right_file(rt.alloc(), 1)?);
+    let level = level_of(&shelf, 1)?;
+    let refused = FolderFault::Open { level: 1 };
+    let occupied = FolderFault::Occupied { level: 1 };
+    expect_equal(&rt, "kept", kept(&rt, level, below, 0)?, Ok(digest));
+    expect_equal(&rt, "opened alone", kept(&rt, level, below, 2)?, Ok(digest));
+    expect_equal(&rt, "refused", kept(&rt, level, below, 1)?, Err(refused));
+    expect_equal(
+        &rt,
+        "occupied",
+        kept(&rt, level, [7; 32], 0)?,
+        Err(occupied),
+    );
     Ok(())
 }

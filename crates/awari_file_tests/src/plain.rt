@@ -2,8 +2,10 @@
 //! promises is a premise of each goal behind it, and no test is proved from that: it is seen when the
 //! test runs.
 
-use awari_file::{FileFault, Loaded, read_image, write_level};
-use awari_folder::{Folder, FolderFault, MemoryFolder, Migrated, Stored, load, migrate, save};
+use awari_file::{FileFault, Loaded, compare_level, read_image, write_level};
+use awari_folder::{
+    Folder, FolderFault, MemoryFolder, Migrated, Stored, load, migrate, save, save_or_keep,
+};
 use awari_table::{Counted, HIGHEST_LEVEL, Image, Level, Shelf, TableText};
 use awari_verify::{VerifyFault, verify};
 use std::alloc::Global;
@@ -49,6 +51,24 @@ pub(crate) fn write<W: Write>(
     writer: &mut Counted<W>,
 ) -> Result<[u8; 32], FileFault> {
     write_level(level, below, writer)
+}
+
+/// The digest of a level's file, if that is what the reader has.
+pub(crate) fn compare<R: Read>(
+    level: &Level,
+    below: [u8; 32],
+    reader: &mut Counted<R>,
+) -> Result<Option<[u8; 32]>, FileFault> {
+    compare_level(level, below, reader)
+}
+
+/// Saves a level into a folder unless it has a file there, and gives the digest of its file.
+pub(crate) fn keep_in(
+    folder: &mut impl Folder,
+    level: &Level,
+    below: [u8; 32],
+) -> Result<[u8; 32], FolderFault> {
+    save_or_keep(folder, level, below)
 }
 
 /// Saves a level into a folder, and gives the digest of its file.

@@ -3,6 +3,7 @@
 //! growth refused, for each growth in turn. A `?` stands for what is made before the call, whose
 //! refusal is no wrong answer.
 
+use crate::bytes::HEADER_24;
 use crate::expect::expect_equal;
 use crate::levels::{digest_in, right_file, right_shelf};
 use crate::plain::{level_of, load_from, read, save_into};
@@ -32,6 +33,13 @@ fn a_file_is_read(rt: HostRuntime) -> Result<(), Fail> {
     }
     expect_equal(&rt, "entries", found, Ok(12));
     Ok(())
+}
+
+/// A header that names level 24 asks for no room if no entry follows it.
+#[test]
+fn a_header_alone_takes_no_room(rt: HostRuntime) {
+    let found = entries_read(rt.alloc(), &HEADER_24);
+    expect_equal(&rt, "entries", found, Err(FileFault::Truncated));
 }
 
 /// A new folder of this name.

@@ -1,4 +1,4 @@
--- A level that is saved where no other file has its name.
+-- A level that is saved in place of no file.
 use Rattle.std.specs.Prelude.{◌≡◌, ◌≢◌, ◌⊎◌, ⊤, ℕ, List, Option, Some, None, IsSome, IsSomeAnd}
 use Rattle.awari_file.specs.declared.faults.FileFault.TheVariants.{Read, Write}
 use Rattle.awari_folder.specs.declared.faults.FolderFault.{FolderFault}

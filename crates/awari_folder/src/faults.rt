@@ -25,7 +25,8 @@ pub enum FolderFault {
     Verify { level: u8, fault: VerifyFault },
     /// 84: there was no room for a level, or for a name.
     Memory,
-    /// 85: the folder that the level was to be brought over to already has a file of that level.
+    /// 85: a file has the level's name already: any file in the folder that the level was to be brought
+    /// over to, or another file than the level's in the one that it was to be saved in.
     Occupied { level: u8 },
     /// 86: the level's file is of version 1, which `migrate` brings over.
     Old { level: u8 },

@@ -1,4 +1,4 @@
-//! A level as a file in a folder where no other file has its name.
+//! A level as a file in a folder, in place of none.
 
 ghost use Rattle.std.specs.Prelude.{◌≡◌, ◌⊎◌, [], ◌∷◌, ◌++◌, List, Some, None, IfOk, IfErr, IfSome, OnOk, OnErr};
 ghost use Rattle.sha2.specs.Sha256.{sha256};
@@ -40,19 +40,19 @@ pub fn save_or_keep<F: Folder>(
     ensures saved { OnOk result (Becomes (F.stands folder.old level.now.level) (F.stands folder.new level.now.level) (Some (file_text 2 level.now below))) }
     ensures others { SameBut level.now.level (F.stands folder.old) (F.stands folder.new) }
     ensures kept { KeepsFiles (F.stands folder.old) (F.stands folder.new) }
-    // A folder that holds a shelf holds it with the level on top, where the level is right over it.
+    // A folder that holds a shelf holds it with the level on top, if the level is right over it.
     ensures next { (shelf : List Image) → HoldsIn (F.stands folder.old) shelf below → Consistent shelf level.now
         → IfOk result (HoldsIn (F.stands folder.new) (shelf ++ level.now ∷ [])) }
     // A refusal changes nothing.
     ensures err { OnErr result (Same (F.stands folder.old) (F.stands folder.new)) }
-    // A crash at any moment leaves each name what it might have left before, or the level's its file, if it had none.
+    // A crash at any moment leaves each name what it might have left before, or the level's file, whole, if its name had none.
     ensures crash { IfSome (F.stands folder.old level.now.level) (λ name.
         LeavesToo level.now.level (λ left. (name ≡ None) × (left ≡ Some (file_text 2 level.now below))) (F.may_leave folder.old) (F.may_leave folder.new)) }
     ensures still { LeavesStill (F.may_leave folder.old) (F.may_leave folder.new) }
     // No new file is left beside where none was, or it could not be removed.
     ensures clear { F.is_clear folder.old level.now.level → F.is_clear folder.new level.now.level ⊎ Grew (F.stuck folder.old) (F.stuck folder.new) }
     ensures others_clear { StaysBut level.now.level (F.is_clear folder.old) (F.is_clear folder.new) }
-    // 82 is told where the folder refused to open, to make or to name a file, and only there.
+    // 82 is told if the folder refused to open, to make or to name a file, and only then.
     ensures refused { OpenIfRefused result (F.refusals folder.old) (F.refusals folder.new) }
 {
     let number = level.number();
