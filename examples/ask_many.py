@@ -47,8 +47,13 @@ def line(service):
 
 
 def answer(service):
-    """The lines of the next answer: one, or those of moves or of an end up to the empty line."""
+    """The lines of the next answer: one, or those of moves or of an end up to the empty line.
+
+    A board is refused by the numbers 1 to 3. Another refusal is the service's own, and the last line.
+    """
     lines = [line(service)]
+    if lines[0].startswith(b"refused ") and lines[0].split()[1] not in (b"1", b"2", b"3"):
+        sys.exit(f"the service has ended: {lines[0].decode().strip()}")
     if lines[0].startswith((b"pit ", b"ended ")):
         while lines[-1] != b"\n":
             lines.append(line(service))
@@ -79,6 +84,8 @@ def words():
 
 
 def main(given):
+    if not Path(given.folder).is_dir():
+        sys.exit(f"{given.folder}: no such folder")
     if given.random:
         count, stones = given.random
         boards = [random_board(stones) for _ in range(count)]

@@ -7,6 +7,7 @@ prints `V P D` as `./awari ask` does: the value, the plan and the distance. It s
 file is whole and is what its digest says. That what it says is right, `./awari verify levels` says.
 """
 import hashlib
+import re
 import struct
 import sys
 from math import comb
@@ -15,6 +16,10 @@ from pathlib import Path
 HEADER = struct.Struct(">4sHBBQI32s")
 ENTRY = struct.Struct(">bBI")
 NO_PLAN = 255
+
+PIT = "(?:0|[1-9][0-9]?)"
+SIDE = f"{PIT}(?:,{PIT}){{5}}"
+BOARD = re.compile(f"{SIDE}/{SIDE}")
 
 
 def size(stones):
@@ -45,9 +50,9 @@ def entries(path, stones):
 
 
 def main(folder, text):
-    board = [int(pit) for side in text.split("/") for pit in side.split(",")]
-    if len(board) != 12 or min(board) < 0:
+    if not BOARD.fullmatch(text):
         sys.exit(f"{text}: no board")
+    board = [int(pit) for pit in re.findall("[0-9]+", text)]
     path = Path(folder) / f"level_{sum(board):02}.awdb"
     value, plan, distance = ENTRY.unpack_from(entries(path, sum(board)), ENTRY.size * rank(board))
     print(value, "-" if plan == NO_PLAN else plan, distance)

@@ -3,19 +3,12 @@ use Rattle.std.proofs.Common.{arith, ◌≡◌, ◌<◌, ◌≤◌, ◌+◌, inl
 use Rattle.std.specs.Prelude.{IfSome}
 use Rattle.awari_file.specs.FileText.{file_text}
 use Rattle.std.specs.Io.KnownBytes.{Appends}
-use Rattle.awari_folder.specs.Contents.{AreNames, HoldsIn, IsStoredIn, LeavesNoMore, LeavesToo, Same, nothing_known}
+use Rattle.awari_folder.specs.Contents.{AreNames, HoldsIn, IsStoredIn, LeavesNoMore, LeavesToo, Same}
 use Rattle.awari_folder.specs.Migration.{KeepsFiles}
 use Rattle.awari_play.specs.Least.{HasLowestPlans}
 use Rattle.awari_table.specs.Shelves.{IsShelf}
 use Rattle.awari_table.specs.declared.images.Image.{Image}
-use Rattle.awari_cli.specs.Building.{IsBuiltIn, KeepsLevels, PrintsLevels, SameOutside, LeavesFiles, level_lines}
-
--- Nothing is said of a folder of which nothing is known.
-pub built_nowhere : (below built : List Image) → IsBuiltIn nothing_known nothing_known below built
-built_nowhere below built names are = no_name (names 0) (are 0)
-  where
-    no_name : {A : Type 0} (name : Option (List ℕ)) → nothing_known 0 ≡ Some name → A
-    no_name name e = absurd cc
+use Rattle.awari_cli.specs.Building.{KeepsLevels, PrintsAllLevels, PrintsLevels, SameOutside, LeavesFiles, level_lines}
 
 name_is : (stand : Option (Option (List ℕ))) (name : Option (List ℕ)) (P : Option (List ℕ) → Type 0) → stand ≡ Some name → IfSome stand P → P name
 name_is None name P is holds = absurd cc
@@ -71,8 +64,15 @@ keeps_on old mid new left middle leaves top below under stored same none outside
       (λ n end leaving. ⊎_elim (λ l. inl (none n end l)) (λ r. inr r) (files names (λ n. same n ∙ are n) n end leaving)),
     )
 
+-- no level, so no board, has another plan
+no_plans : HasLowestPlans []
+no_plans = λ p is low. absurd (omega (arith, low))
+
 -- Levels that are built on none, in no folder.
-pub prints_anew : (top : ℕ) (first shelf : List Image) (before after : Option (List ℕ)) → IsShelf shelf × (top < length shelf) → (HasLowestPlans first → HasLowestPlans shelf)
-    → (built : List Image) × (shelf ≡ first ++ built) × Appends before after (level_lines built) → PrintsLevels top nothing_known nothing_known before after
-prints_anew top first shelf before after right planned (built, put, lines) =
-    (first, built, subst IsShelf put right.0, subst (λ xs. top < length xs) put right.1, built_nowhere first built, (λ lowest. subst HasLowestPlans put (planned lowest)), lines)
+pub prints_all : (top : ℕ) (first shelf : List Image) (before after : Option (List ℕ)) → first ≡ [] → IsShelf shelf × (top < length shelf)
+    → (length first ≤ top + 1 → length shelf ≤ top + 1) → (HasLowestPlans first → HasLowestPlans shelf)
+    → (built : List Image) × (shelf ≡ first ++ built) × Appends before after (level_lines built) → PrintsAllLevels top before after
+prints_all top first shelf before after none right few planned (built, put, lines) =
+    let same : shelf ≡ built = put ∙ ap (λ xs. xs ++ built) none in
+    let most = few (omega (arith, ap length none)) in
+    (built, subst IsShelf same right.0, omega (arith, ap length same, right.1, most), subst HasLowestPlans same (planned (subst HasLowestPlans (sym none) no_plans)), lines)

@@ -1,5 +1,5 @@
 -- The command `build`: what is printed of the levels that were built.
-use Rattle.std.specs.Prelude.{◌≡◌, ◌<◌, ◌≤◌, ◌⊎◌, ℕ, List, ◌++◌, ◌∷◌, [], length, codes, Option, None}
+use Rattle.std.specs.Prelude.{◌≡◌, ◌<◌, ◌≤◌, ◌⊎◌, ◌+◌, ℕ, List, ◌++◌, ◌∷◌, [], length, codes, Option, Some, None}
 use Rattle.std.specs.Fmt.{decimal}
 use Rattle.std.specs.List.{flat_map}
 use Rattle.std.specs.Io.KnownBytes.{Appends}
@@ -10,7 +10,7 @@ use Rattle.awari_play.specs.Least.{HasLowestPlans}
 use Rattle.awari_table.specs.Shelves.{IsShelf}
 use Rattle.awari_table.specs.declared.images.Counts.{Counts}
 use Rattle.awari_table.specs.declared.images.Image.{Image}
-use Rattle.awari_folder.specs.Contents.{AreNames, HoldsIn, IsStored, LeavesNoMore, Same}
+use Rattle.awari_folder.specs.Contents.{AreNames, HoldsIn, IsStored, LeavesNoMore, Same, nothing_known}
 use Rattle.awari_folder.specs.Migration.{IsWholeFile}
 use Rattle.awari_cli.specs.declared.building.BuiltLevel.{BuiltLevel}
 use Rattle.awari_cli.specs.declared.building.BuildingFault.{BuildingFault}
@@ -60,6 +60,16 @@ IsBuiltIn old new below built = (names : ℕ → Option (List ℕ)) → AreNames
 abbrev pub PrintsLevels : ℕ → (ℕ → Option (Option (List ℕ))) → (ℕ → Option (Option (List ℕ))) → Option (List ℕ) → Option (List ℕ) → Type 0
 PrintsLevels top old new before after = (below built : List Image) × IsShelf (below ++ built) × (top < length (below ++ built)) × IsBuiltIn old new below built
     × (HasLowestPlans below → HasLowestPlans (below ++ built)) × Appends before after (level_lines built)
+
+-- Where it is known what the writer holds, what was written are the lines of levels 0 to `top`, which are right and have the lowest
+-- plans. There is one list of such levels, so it is one text.
+abbrev pub PrintsAllLevels : ℕ → Option (List ℕ) → Option (List ℕ) → Type 0
+PrintsAllLevels top before after = (built : List Image) × IsShelf built × (length built ≡ top + 1) × HasLowestPlans built × Appends before after (level_lines built)
+
+-- The same without a folder; of what a folder holds nothing is known.
+abbrev pub PrintsBuild : {A : Type 0} → Option A → ℕ → Option (List ℕ) → Option (List ℕ) → Type 0
+PrintsBuild None top before after = PrintsAllLevels top before after
+PrintsBuild (Some folder) top before after = PrintsLevels top nothing_known nothing_known before after
 
 -- each of the levels below `low` and above `top` has what it had
 abbrev pub SameOutside : ℕ → ℕ → (ℕ → Option (Option (List ℕ))) → (ℕ → Option (Option (List ℕ))) → Type 0

@@ -2,13 +2,13 @@
 use Rattle.std.specs.Prelude.{ℕ, List, Option}
 use Rattle.awari_check.specs.Answer.{PrintsYes}
 use Rattle.awari_folder.specs.Contents.{nothing_known}
-use Rattle.awari_cli.specs.Building.{PrintsLevels}
+use Rattle.awari_cli.specs.Building.{PrintsBuild}
 use Rattle.awari_answers.specs.Folders.{PrintsFolder, PrintsEntry}
 use Rattle.awari_answers.specs.Judgement.{PrintsJudgement}
 use Rattle.awari_answers.specs.Lines.{PrintsLine}
 use Rattle.awari_cli.specs.Migrating.{PrintsMigrated}
 use Rattle.awari_answers.specs.Playing.{PrintsMove}
-use Rattle.awari_cli.specs.Serving.{PrintsService}
+use Rattle.awari_cli.specs.Serving.{PrintsService, HasLevelsTo}
 use Rattle.awari_answers.specs.Texts.{PrintsText}
 use Rattle.awari_answers.specs.Worths.{PrintsWorths}
 use Rattle.awari_words.specs.declared.requests.Request.{Request}
@@ -21,11 +21,11 @@ abbrev pub PrintsFor : Request → Option (List ℕ) → Option (List ℕ) → O
 PrintsFor Check input before after = PrintsYes input before after
 PrintsFor (Move board pit) input before after = PrintsMove board.now pit before after
 PrintsFor (Judge board limit moves) input before after = PrintsJudgement board.now limit moves.now before after
-PrintsFor (Build top folder pace progress) input before after = PrintsLevels top nothing_known nothing_known before after
+PrintsFor (Build top folder pace progress) input before after = PrintsBuild folder top before after
 PrintsFor (Verify folder) input before after = PrintsFolder nothing_known before after
 PrintsFor (Text folder level) input before after = PrintsText nothing_known level before after
 PrintsFor (Migrate from to) input before after = PrintsMigrated nothing_known nothing_known nothing_known before after
 PrintsFor (Ask folder board) input before after = PrintsEntry nothing_known board.now before after
 PrintsFor (Moves folder board) input before after = PrintsWorths nothing_known board.now before after
 PrintsFor (Line folder board) input before after = PrintsLine nothing_known board.now before after
-PrintsFor (Serve folder top owners) input before after = PrintsService nothing_known input before after
+PrintsFor (Serve folder top owners) input before after = PrintsService nothing_known input before after × HasLevelsTo top

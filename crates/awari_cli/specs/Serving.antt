@@ -1,5 +1,5 @@
 -- The command `serve`: what is answered.
-use Rattle.std.specs.Prelude.{ℕ, List, Option}
+use Rattle.std.specs.Prelude.{◌<◌, ℕ, List, length, Option}
 use Rattle.awari_build.specs.BuildFault.{fault_text as build_fault_text}
 use Rattle.awari_desk.specs.DeskFault.{fault_text as desk_fault_text}
 use Rattle.awari_desk.specs.ServeFault.{fault_text as serve_fault_text}
@@ -19,6 +19,10 @@ IsServed known input before after = (bytes : List ℕ) × (last : List Image) ×
 -- The reader knew right levels: those that the folder stores, where it is known what its names have.
 abbrev pub PrintsService : (ℕ → Option (Option (List ℕ))) → Option (List ℕ) → Option (List ℕ) → Option (List ℕ) → Type 0
 PrintsService stands input before after = (images : List Image) × (digest : List ℕ) × IsShelf images × IsStoredIn stands images digest × IsServed images input before after
+
+-- Right levels up to `top` at least are there. No definition says that there are any: a shelf of them shows it, which is built.
+abbrev pub HasLevelsTo : ℕ → Type 0
+HasLevelsTo top = (book : List Image) × IsShelf book × (top < length book)
 
 -- the fault inside it
 abbrev pub serving_fault_text : ServingFault → List ℕ

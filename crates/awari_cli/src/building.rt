@@ -1,15 +1,15 @@
 //! The command `build`: levels built one on another.
 
-ghost use Rattle.std.specs.Prelude.{◌≡◌, ◌≤◌, ◌<◌, ◌++◌, ◌∷◌, [], ℕ, List, length, Option, Some, OnOk, OnErr, IfOk};
+ghost use Rattle.std.specs.Prelude.{◌≡◌, ◌≤◌, ◌<◌, ◌+◌, ◌++◌, ◌∷◌, [], ℕ, List, length, Option, Some, OnOk, OnErr, IfOk};
 ghost use Rattle.std.specs.Arc.{arc_value};
 ghost use Rattle.std.specs.Io.KnownBytes.{Appends};
 ghost use Rattle.awari_build.specs.declared.faults.BuildFault.TheVariants as build_fault;
 ghost use Rattle.awari_table.specs.declared.images.Image.{Image};
 ghost use Rattle.awari_play.specs.Least.{HasLowestPlans, IsPlannedLowest};
 ghost use Rattle.awari_table.specs.Shelves.{Consistent, IsShelf};
-ghost use Rattle.awari_folder.specs.Contents.{AreNames, HoldsIn, Same, SameBut, nothing_known};
+ghost use Rattle.awari_folder.specs.Contents.{AreNames, HoldsIn, Same, SameBut};
 ghost use Rattle.awari_folder.specs.Migration.{KeepsFiles};
-ghost use Rattle.awari_cli.specs.Building.{IsToldOf, KeepsLevels, LeavesFiles, PrintsLevels, SameOutside, level_lines};
+ghost use Rattle.awari_cli.specs.Building.{IsToldOf, KeepsLevels, LeavesFiles, PrintsAllLevels, PrintsLevels, SameOutside, level_lines};
 ghost use Rattle.awari_cli.specs.declared.building.BuildingFault.TheVariants as building_fault;
 
 use awari_answers::{Refused, print, refuse};
@@ -132,7 +132,7 @@ pub fn run_build<T: Threads + Wait + Sync, P: Progress, W: Write>(
     writer: &mut W,
 ) -> u8
     ensures status { result ≤ 1 }
-    ensures built { result ≡ 0 → PrintsLevels top nothing_known nothing_known (W.contents writer.old) (W.contents writer.new) }
+    ensures built { result ≡ 0 → PrintsAllLevels top (W.contents writer.old) (W.contents writer.new) }
 {
     build_up(builder, top, &mut Shelf::empty(), writer)
 }
@@ -178,6 +178,7 @@ fn build_up<T: Threads + Wait + Sync, P: Progress, W: Write>(
     ensures built { result ≡ 0 → (built : List Image) × (shelf.new ≡ shelf.old ++ built)
         × Appends (W.contents writer.old) (W.contents writer.new) (level_lines built) }
     ensures planned { result ≡ 0 → HasLowestPlans shelf.old → HasLowestPlans shelf.new }
+    ensures no_more { result ≡ 0 → length shelf.old ≤ top + 1 → length shelf.new ≤ top + 1 }
 {
     while shelf.levels() <= top {
         match build_next(builder, shelf) {

@@ -3,8 +3,7 @@
 ghost use Rattle.std.specs.Prelude.{◌≡◌, ◌≢◌, ◌≤◌, [], Some, map};
 ghost use Rattle.std.specs.Io.KnownBytes.{Keeps};
 ghost use Rattle.awari_check.specs.Answer.{PrintsYes};
-ghost use Rattle.awari_folder.specs.Contents.{nothing_known};
-ghost use Rattle.awari_cli.specs.Building.{PrintsLevels};
+ghost use Rattle.awari_cli.specs.Building.{PrintsBuild};
 ghost use Rattle.awari_cli.specs.Done.{PrintsFor};
 ghost use Rattle.awari_answers.specs.Judgement.{PrintsJudgement};
 ghost use Rattle.awari_answers.specs.Playing.{PrintsMove};
@@ -30,8 +29,8 @@ use awari_table::Counted;
 use awari_words::{Request, request_of};
 use std::alloc::Global;
 use std::convert::AsStr;
-use std::fs::File;
-use std::io::{Read, Write};
+use std::fs::{self, File};
+use std::io::{ErrorKind, Read, Write};
 use std::path::Path;
 use std::rt::Files;
 use std::sync::Wait;
@@ -112,28 +111,28 @@ fn run_request<
             run_build_by(rt, alloc, top, folder, pace, &mut lines, writer)
         }
         Request::Verify { folder } => {
-            let mut folder = host_folder(rt, alloc, folder);
+            let mut folder = folder_to_read(rt, alloc, folder, errors);
             run_verify(rt, &mut folder, alloc, writer)
         }
         Request::Text { folder, level } => {
-            let mut folder = host_folder(rt, alloc, folder);
+            let mut folder = folder_to_read(rt, alloc, folder, errors);
             run_text(rt, &mut folder, alloc, level, writer)
         }
         Request::Migrate { from, to } => {
-            let mut from = host_folder(rt, alloc, from);
+            let mut from = folder_to_read(rt, alloc, from, errors);
             let mut to = host_folder(rt, alloc, to);
             run_migrate(alloc, &mut from, &mut to, writer)
         }
         Request::Ask { folder, board } => {
-            let mut folder = host_folder(rt, alloc, folder);
+            let mut folder = folder_to_read(rt, alloc, folder, errors);
             run_ask(rt, &mut folder, alloc, board, writer)
         }
         Request::Moves { folder, board } => {
-            let mut folder = host_folder(rt, alloc, folder);
+            let mut folder = folder_to_read(rt, alloc, folder, errors);
             run_moves(rt, &mut folder, alloc, board, writer)
         }
         Request::Line { folder, board } => {
-            let mut folder = host_folder(rt, alloc, folder);
+            let mut folder = folder_to_read(rt, alloc, folder, errors);
             run_line(rt, &mut folder, alloc, board, writer)
         }
         Request::Serve {
@@ -141,7 +140,7 @@ fn run_request<
             top,
             owners,
         } => {
-            let mut folder = host_folder(rt, alloc, folder);
+            let mut folder = folder_to_read(rt, alloc, folder, errors);
             run_serve(rt, &mut folder, alloc, top, owners, reader, writer)
         }
     }
@@ -158,7 +157,7 @@ fn run_build_by<T: Files<File = File> + Threads + Wait + Sync, P: Progress, W: W
     writer: &mut W,
 ) -> u8
     ensures status { result ≤ 1 }
-    ensures built { result ≡ 0 → PrintsLevels top nothing_known nothing_known (W.contents writer.old) (W.contents writer.new) }
+    ensures built { result ≡ 0 → PrintsBuild folder.entry top (W.contents writer.old) (W.contents writer.new) }
 {
     let mut builder = Builder {
         rt,
@@ -173,6 +172,22 @@ fn run_build_by<T: Files<File = File> + Threads + Wait + Sync, P: Progress, W: W
             run_build_in(&mut builder, &mut folder, top, writer)
         }
     }
+}
+
+/// The folder of this name, to be read. One that is not there counts as a folder without levels, which
+/// the error stream says.
+fn folder_to_read<'a, T: Files, E: Write>(
+    files: &'a T,
+    alloc: Global,
+    folder: &'a str,
+    errors: &mut E,
+) -> HostFolder<'a, T> {
+    let found = fs::metadata(files, Path::new(folder));
+    if matches!(found, Err(error) if error.kind() == ErrorKind::NotFound) {
+        // There is nowhere to say that this could not be written.
+        let _ = writeln!(errors, "no such folder: {folder}");
+    }
+    host_folder(files, alloc, folder)
 }
 
 /// The folder of this name.

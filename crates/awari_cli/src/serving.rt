@@ -1,11 +1,11 @@
 //! The command `serve`: a reader of the levels in a folder that is served while a thread builds those
 //! above them.
 
-ghost use Rattle.std.specs.Prelude.{◌≡◌, ◌≤◌, ◌+◌, [], length, IfOk, OnOk};
+ghost use Rattle.std.specs.Prelude.{◌≡◌, ◌≤◌, ◌<◌, ◌+◌, [], length, IfOk, OnOk};
 ghost use Rattle.awari_desk.specs.Desks.{book_of};
 ghost use Rattle.awari_desk.specs.declared.faults.DeskFault.TheVariants as desk_fault;
 ghost use Rattle.awari_table.specs.Shelves.{Consistent, IsShelf};
-ghost use Rattle.awari_cli.specs.Serving.{PrintsService, IsServed};
+ghost use Rattle.awari_cli.specs.Serving.{PrintsService, HasLevelsTo, IsServed};
 ghost use Rattle.awari_cli.specs.declared.serving.ServingFault.TheVariants as serving_fault;
 
 use awari_answers::refuse;
@@ -18,7 +18,7 @@ use core::mem::replace_with;
 use std::alloc::{AllocError, AllocFailed, Global};
 use std::io::{Read, Write};
 use std::sync::{Arc, Wait};
-use std::thread::Threads;
+use std::thread::{Promise, Threads};
 use std::{fmt, thread};
 
 /// Why a service does not begin, or does not end as asked. It is printed as the fault inside it.
@@ -119,6 +119,9 @@ pub fn run_serve<
 
     // What was written is a service by right levels, of which the first are those of the folder.
     ensures served { result ≡ 0 → PrintsService (F.stands folder.old) (R.remaining reader.old) (W.contents writer.old) (W.contents writer.new) }
+
+    // The levels up to `top` were built, unless the folder had them.
+    ensures grown { result ≡ 0 → HasLevelsTo top }
 {
     match serve_beside(rt, folder, alloc, top, owners, reader, writer) {
         Ok(()) => 0,
@@ -147,12 +150,15 @@ fn serve_beside<
     reader: &mut R,
     writer: &mut W,
 ) -> Result<(), ServingFault>
-    ensures { OnOk result (PrintsService (F.stands folder.old) (R.remaining reader.old) (W.contents writer.old) (W.contents writer.new)) }
+    ensures served { OnOk result (PrintsService (F.stands folder.old) (R.remaining reader.old) (W.contents writer.old) (W.contents writer.new)) }
+    ensures grown { OnOk result (HasLevelsTo top) }
 {
     let stored = load_parallel(rt, alloc, folder)?;
     let (publisher, known) = published(rt.clone()?, alloc, &stored.shelf)?;
     let own = rt.clone()?;
-    let Ok(builder) = thread::spawn(rt, move || grow(own, alloc, publisher, top, owners)) else {
+    let Ok(builder) = thread::spawn_with(rt, GrowsTo(top), move || {
+        grow(own, alloc, publisher, top, owners)
+    }) else {
         return Err(ServingFault::Start {
             fault: PhaseFault::NotStarted,
         });
@@ -163,6 +169,15 @@ fn serve_beside<
     served?;
     grown?;
     Ok(())
+}
+
+/// The promise of the thread that builds: unless it is refused, it has published right levels up to
+/// this one.
+#[derive(Drop)]
+struct GrowsTo(u8);
+
+impl<T: Wait + Drop> Promise<(Publisher<T>, Result<(), ServingFault>)> for GrowsTo {
+    ghost kept_by = { λ promise grown. OnOk grown.1 (IsShelf (book_of grown.0.pages) × (promise.0 < length (book_of grown.0.pages))) };
 }
 
 /// A publisher of the levels of the shelf, and a reader that knows them.
@@ -231,7 +246,9 @@ fn grow<T: Threads + Wait + Sync + Drop>(
     mut publisher: Publisher<T>,
     top: u8,
     owners: u8,
-) -> (Publisher<T>, Result<(), ServingFault>) {
+) -> (Publisher<T>, Result<(), ServingFault>)
+    ensures { OnOk result.1 (IsShelf (book_of result.0.pages) × (top < length (book_of result.0.pages))) }
+{
     'level: while publisher.pages.book().levels() <= top {
         if let Err(fault) = grow_by_one(&rt, alloc, &mut publisher, owners) {
             return (publisher, Err(fault));

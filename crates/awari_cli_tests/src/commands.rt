@@ -19,6 +19,9 @@ use std::{io, str};
 /// Words of the program, what it prints of them, and its status.
 pub(crate) type Line = (&'static [&'static str], &'static str, u8);
 
+/// A folder that is not there, of which the error stream tells if it is to be read.
+pub(crate) const NOWHERE: &str = "awari_cli_test_nowhere";
+
 /// Runs the program on these words, and compares what it prints and its status.
 pub(crate) fn expect_run(
     rt: &(impl Abort
@@ -43,7 +46,8 @@ pub(crate) fn expect_run(
     let status = run(rt, alloc, words, &mut reader, &mut output, &mut errors);
     expect_text(rt, words, &output, printed);
     let found = (status, errors.is_empty());
-    expect_equal(rt, words, found, (expected, expected != 2));
+    let is_told = expected == 2 || words.get(2) == Some(&NOWHERE);
+    expect_equal(rt, words, found, (expected, !is_told));
 }
 
 /// What was printed of these words is this text.

@@ -1,6 +1,6 @@
 //! The commands `build`, `verify`, `ask` and `line`.
 
-use crate::commands::{Line, expect_lines, expect_run};
+use crate::commands::{Line, NOWHERE, expect_lines, expect_run};
 use std::alloc::Global;
 use std::fs::File;
 use std::process::Abort;
@@ -144,8 +144,6 @@ pub(crate) fn expect_in_folder(
     expect_lines(rt, rt.alloc(), lines);
     fs::remove_dir_all(rt, folder)
 }
-
-const NOWHERE: &str = "awari_cli_test_nowhere";
 
 /// A folder that isn't there.
 const IN_NO_FOLDER: [Line; 4] = [

@@ -32,6 +32,8 @@ mod refusals;
 #[cfg(test)]
 mod services;
 #[cfg(test)]
+mod serving;
+#[cfg(test)]
 mod texts;
 #[cfg(test)]
 mod words;

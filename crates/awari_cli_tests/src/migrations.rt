@@ -1,7 +1,7 @@
 //! Folders that are the same, byte for byte: whoever built their levels, and of levels that were
 //! brought over from older files.
 
-use crate::commands::expect_run;
+use crate::commands::{NOWHERE, expect_run};
 use crate::expect::expect;
 use sha2::{Digest, Sha256};
 use std::alloc::Global;
@@ -209,8 +209,6 @@ level 0 ok limit 0
 level 1 ok limit 1
 levels 2 digest e5a9a57f6858a25baad0b0a5a6a39407e11a4315b2a1df329ebea00cef062deb
 ";
-
-const NOWHERE: &str = "awari_cli_test_nowhere";
 
 /// Brings the levels of one folder over into the other.
 fn expect_migrated(

@@ -3,10 +3,14 @@
 //! test runs.
 
 use awari_build::Pace;
-use awari_cli::{Builder, ProgressLines, run_ask, run_build_in, run_line, run_verify};
+use awari_cli::{
+    Builder, ProgressLines, run_ask, run_build_in, run_line, run_moves, run_serve, run_text,
+    run_verify,
+};
 use awari_folder::MemoryFolder;
 use awari_phase::{Progress, Silent};
 use std::alloc::Global;
+use std::io::{Read, Write};
 use std::sync::Wait;
 use std::thread::Threads;
 use std::time::Clock;
@@ -81,7 +85,7 @@ pub(crate) fn build_telling(
 pub(crate) fn verified(
     rt: &(impl AllocGlobal + Threads + Wait + Sync),
     folder: &mut MemoryFolder,
-    output: &mut Vec<u8>,
+    output: &mut impl Write,
 ) -> u8 {
     run_verify(rt, folder, rt.alloc(), output)
 }
@@ -104,4 +108,34 @@ pub(crate) fn lined(
     output: &mut Vec<u8>,
 ) -> u8 {
     run_line(rt, folder, rt.alloc(), board, output)
+}
+
+/// Says what the moves of a board are worth by the folder, and gives the status.
+pub(crate) fn weighed(
+    rt: &(impl AllocGlobal + Threads + Wait + Sync),
+    folder: &mut MemoryFolder,
+    board: &str,
+    output: &mut impl Write,
+) -> u8 {
+    run_moves(rt, folder, rt.alloc(), board, output)
+}
+
+/// Prints the text of the levels of the folder, and gives the status.
+pub(crate) fn texted(
+    rt: &(impl AllocGlobal + Threads + Wait + Sync),
+    folder: &mut MemoryFolder,
+    output: &mut impl Write,
+) -> u8 {
+    run_text(rt, folder, rt.alloc(), None, output)
+}
+
+/// Serves the folder while levels up to this one are built by so many owners, and gives the status.
+pub(crate) fn served(
+    rt: &(impl AllocGlobal + Threads + Wait + Sync + Send + Clone + Drop + 'static),
+    folder: &mut MemoryFolder,
+    (top, owners): (u8, u8),
+    input: &mut impl Read,
+    output: &mut impl Write,
+) -> u8 {
+    run_serve(rt, folder, rt.alloc(), top, owners, input, output)
 }

@@ -1,6 +1,6 @@
 //! The text of the levels in a folder, as `text` prints it.
 
-use crate::commands::{Broken, Line, expect_lines, expect_run, levels_0_to_2};
+use crate::commands::{Broken, Line, NOWHERE, expect_lines, expect_run, levels_0_to_2};
 use crate::expect::expect_equal;
 use crate::levels::{LEVELS_0_TO_2, empty_folder, expect_in_folder};
 use crate::worths::LEVELS_3_TO_4;
@@ -18,8 +18,6 @@ use std::thread::Threads;
 use std::time::Clock;
 
 const ALONE: &str = "awari_cli_test_text_alone";
-
-const NOWHERE: &str = "awari_cli_test_text_nowhere";
 
 const LEVEL_1: &str = "\
 level 1 limit 1

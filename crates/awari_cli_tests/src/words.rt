@@ -1,6 +1,6 @@
 //! Words in unusual forms, the text of `clap`, and a `build` whose lines can't be written.
 
-use crate::commands::{Broken, Line, expect_lines};
+use crate::commands::{Broken, Line, NOWHERE, expect_lines};
 use crate::expect::{expect, expect_equal};
 use crate::levels::{LEVELS_0_TO_1, empty_folder};
 use awari_cli::run;
@@ -16,8 +16,6 @@ use std::{fs, io, str};
 const WON: &str = "1,0,0,0,0,0/0,0,1,0,0,0";
 
 const NO_BOARD: &str = "-1,0,0,0,0,0/0,0,0,0,0,0";
-
-const NOWHERE: &str = "awari_cli_test_nowhere";
 
 const PIT_0_PLAYED: &str = "0,0,1,0,0,0/0,1,0,0,0,0 0\n";
 

@@ -1,5 +1,7 @@
-use Rattle.awari_cli.proofs.FolderBuilds.{prints_anew}
+use Rattle.awari_cli.proofs.FolderBuilds.{prints_all}
 use Rattle.awari_cli.proofs.building.run_build.Goals as goal
 
 pub returns-clause-built : goal.returns-clause-built
-returns-clause-built g c = λ done. prints_anew c.args.top c.empty.result c.build_up.new.shelf _ _ (c.build_up.ensures.shelf done) (c.build_up.ensures.planned done) (c.build_up.ensures.built done)
+returns-clause-built g c = λ done.
+    prints_all c.args.top c.empty.result c.build_up.new.shelf _ _ c.empty.ensures (c.build_up.ensures.shelf done) (c.build_up.ensures.no_more done)
+    (c.build_up.ensures.planned done) (c.build_up.ensures.built done)
