@@ -149,11 +149,13 @@ impl Write for Passing {
     }
 }
 
-/// A stream to which nothing came yet.
-fn passing() -> Passing {
-    Passing {
-        flushes: 0,
-        is_held: false,
+impl Passing {
+    /// A stream to which nothing came yet.
+    fn new() -> Passing {
+        Passing {
+            flushes: 0,
+            is_held: false,
+        }
     }
 }
 
@@ -167,7 +169,7 @@ fn expect_answers_passed(
     rt: &(impl Abort + AllocGlobal + Threads + Wait + Sync + Send + Clone + Drop + 'static),
     alloc: Global,
 ) {
-    let mut output = passing();
+    let mut output = Passing::new();
     let mut input: &[u8] = b"seen\nask 1\nmoves 0,0,0,0,0,1/0,0,0,0,0,0\nhello\nquit\n";
     let mut folder = memory_folder(alloc);
     let _status = served(rt, &mut folder, (1, 0), &mut input, &mut output);
@@ -186,13 +188,13 @@ fn expect_lines_passed(
 ) {
     let mut folder = memory_folder(alloc);
     let _status = build(rt, &mut folder, &mut Vec::new(alloc));
-    let mut output = passing();
+    let mut output = Passing::new();
     let _status = verified(rt, &mut folder, &mut output);
     expect_passed(rt, "verify", &output, 3);
-    let mut output = passing();
+    let mut output = Passing::new();
     let _status = texted(rt, &mut folder, &mut output);
     expect_passed(rt, "text", &output, 1);
-    let mut output = passing();
+    let mut output = Passing::new();
     let _status = weighed(rt, &mut folder, "0,0,0,0,0,1/0,0,0,0,0,0", &mut output);
     expect_passed(rt, "moves", &output, 1);
 }

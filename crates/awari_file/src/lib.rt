@@ -6,7 +6,6 @@
 //!
 //! Level 0 is written and read again, in `crates/awari_file_tests/src/examples.rt`:
 //!
-//!     #[test]
 //!     fn a_level_is_written_and_read(rt: HostRuntime) -> Result<(), Fail> {
 //!         let mut text = TableText::new(rt.alloc(), b"level 0 limit 0\n0 - 0\n");
 //!         let image = text.next()?.ok_or("a level")?;

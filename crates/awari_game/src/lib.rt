@@ -6,7 +6,6 @@
 //! Eight quiet moves end this play, and the first mover has two stones more, in
 //! `crates/awari_tests/src/examples.rt`:
 //!
-//!     #[test]
 //!     fn a_play_has_its_outcome(rt: HostRuntime) -> Result<(), Fail> {
 //!         let mut game = Game::start(Board::parse(b"1,0,0,0,0,0/0,0,1,0,0,0")?);
 //!         for pit in [0, 2, 1, 3, 2, 4, 3, 5u8] {

@@ -7,7 +7,6 @@
 //! Three owners whose lines have room for one batch each, in
 //! `crates/awari_owner_tests/src/examples.rt`:
 //!
-//!     #[test]
 //!     fn lines_begin_empty(rt: HostRuntime) -> Result<(), Fail> {
 //!         let mut all = grid(rt.alloc(), 3, 1)?;
 //!         expect_equal(&rt, "owners", all.len(), 3);

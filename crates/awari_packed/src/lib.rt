@@ -7,7 +7,6 @@
 //! Each legal move of each board of two stones, played both ways, in
 //! `crates/awari_tests/src/examples.rt`:
 //!
-//!     #[test]
 //!     fn packed_boards_move_as_boards_do(rt: HostRuntime) {
 //!         for rank in 0..size(2) {
 //!             let packed = PackedBoard::unrank(2, rank);

@@ -6,7 +6,6 @@
 //!
 //! All boards of five stones, in order of rank, in `crates/awari_tests/src/numbering.rt`:
 //!
-//!     #[test]
 //!     fn a_level_in_order_of_rank(rt: HostRuntime) {
 //!         let mut board = Board::new([0, 0, 0, 0, 0, 0, 0, 0, 0, 0, 0, 5]);
 //!         for expected in 0..size(5) {

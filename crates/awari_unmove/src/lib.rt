@@ -6,7 +6,6 @@
 //!
 //! Twelve quiet moves of pit 0 lead to one board, in `crates/awari_tests/src/predecessors.rt`:
 //!
-//!     #[test]
 //!     fn sowings_of_one_to_twelve_stones_are_taken_back(rt: HostRuntime) {
 //!         let board = Board::new([1, 1, 1, 1, 1, 1, 0, 2, 1, 1, 1, 1]);
 //!         let mut unmoves = Unmoves::of(&board);

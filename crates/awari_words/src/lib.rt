@@ -5,7 +5,6 @@
 //!
 //! The words of a move are read, in `crates/awari_cli_tests/src/examples.rt`:
 //!
-//!     #[test]
 //!     fn words_ask_for_a_move(rt: HostRuntime) -> Result<(), Fail> {
 //!         let words = ["awari", "move", "0,0,0,0,0,1/1,0,1,0,0,0", "5"];
 //!         let request = request_of(rt.alloc(), words.as_slice())?;
