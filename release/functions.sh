@@ -10,6 +10,18 @@ sources_digest() {
   )
 }
 
+# the same digest, hashed anew only if a file has changed since the last time: its name, its size, when it
+# was written, or when anything of it was changed, which no program can set
+known_digest() {
+  local files was digest kept=$top/out/digest
+  files=$(cd "$top" && find crates.txt crates/*/src crates/*/specs crates/*/proofs -type f -printf '%p %s %T@ %C@\n' | sha256sum | cut -c 1-64)
+  if ! { read -r was digest <"$kept"; } 2>/dev/null || [ "$was" != "$files" ]; then
+    digest=$(sources_digest)
+    mkdir -p "$top/out" && echo "$files $digest" >"$kept.$$" && mv "$kept.$$" "$kept"
+  fi
+  echo "$digest"
+}
+
 # what the manifest says under this word: `program`, `sources` or `toolchain`
 manifest() { sed -n "s/^$1 //p" "$top/release/MANIFEST"; }
 
