@@ -1,5 +1,5 @@
 -- The plans of a level that stands on top of a shelf, set board by board, by the values and distances of its entries.
-use Rattle.std.specs.Prelude.{◌≡◌, ℕ, ◌<◌, List, [], ◌∷◌, ◌++◌, length, sum, slice_index_or, ◌⊎◌, ℤ, pos, ◌-ℤ◌, ◌<ℤ◌, Some, map, slice_get}
+use Rattle.std.specs.Prelude.{◌≡◌, ℕ, ◌<◌, List, [], ◌∷◌, ◌++◌, length, sum, slice_index_or, ◌⊎◌, pos, ◌-ℤ◌, ◌<ℤ◌}
 use Rattle.awari_board.specs.Rules.{IsBoard}
 use Rattle.awari_rank.specs.Rank.{rank_of, size_of}
 use Rattle.awari_table.specs.declared.images.Entry.{Entry}
@@ -10,14 +10,6 @@ use Rattle.awari_play.specs.Plan.{IsLowest}
 -- the levels of the shelf, and on top of them one with these entries
 abbrev pub with_top : List Image → List Entry → List Image
 with_top shelf entries = shelf ++ record { level = length shelf; limit = 0; entries = entries } ∷ []
-
--- the value of each entry, in their order
-abbrev pub entry_values : List Entry → List ℤ
-entry_values entries = map (λ e. e.value) entries
-
--- These are the values of the first entries, or of all; none are values of any entries.
-abbrev pub AreFirstValues : List ℤ → List Entry → Type 0
-AreFirstValues values entries = (k : ℕ) (v : ℤ) → slice_get values k ≡ Some v → v ≡ (slice_index_or entries k no_entry).value
 
 -- A move with c captured stones to the board of an entry gains the value of the board's own entry; and where that is positive,
 -- it captures or leads to a smaller distance.

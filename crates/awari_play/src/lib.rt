@@ -31,6 +31,5 @@ mod worths;
 pub use laws::{lowest_levels_are_one, lowest_plans_stay};
 pub use lines::{Line, LineFault, best_line};
 pub use lowering::least;
-pub use plans::{entry_values, lowest_plan, set_lowest_plans};
 pub use weighing::{MOVES_ROOM, MovesText, Weighed, text_of_line, weigh};
 pub use worths::{MoveWorth, move_worths};

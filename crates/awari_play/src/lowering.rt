@@ -27,7 +27,7 @@ pub fn least(shelf: &Shelf, image: Image) -> Image
     let Image { level, entries, .. } = image;
     let mut entries = entries.into_vec();
     lower(shelf, &mut entries);
-    set_lowest_plans(shelf, &[], &mut entries);
+    set_lowest_plans(shelf, &mut entries);
     Image {
         level,
         limit: greatest_dist(entries.as_slice()),
