@@ -11,37 +11,43 @@ use Rattle.awari_block.specs.declared.cells.Mark.{Mark}
 use Rattle.awari_block.specs.declared.cells.Mark.TheVariants as mark
 use Rattle.awari_block.specs.Awaited.{AreAwaited, AwaitsNoMore, MayOpen}
 use Rattle.awari_block.specs.Blocks.{no_cell}
-use Rattle.awari_block.specs.Cells.{status_by, status_of}
-use Rattle.awari_block.specs.Steps.{after_opening}
+use Rattle.awari_block.specs.Cells.{status_by, view_of}
+use Rattle.awari_block.specs.Tally as tally
+use Rattle.awari_block.specs.Steps.{after_opening, cell_after_opening}
 
 -- what awaits no gain stays as it is
-still_by : (m : Mark) (score : ℤ) (left dist n t : ℕ) → (MayOpen m score n t → ⊥) → after_opening (status_by m left score dist) n t ≡ status_by m left score dist
-still_by mark.Settled score left dist n t idle = refl
-still_by mark.Ended score left dist n t idle = by (t == n) refl
+still_by : (m : Mark) (score : ℤ) (left plans dist n t : ℕ) → (MayOpen m score n t → ⊥) → after_opening left (status_by m score plans dist) n t ≡ status_by m score plans dist
+still_by mark.Settled score left plans dist n t idle = refl
+still_by mark.Ended score left plans dist n t idle = by (t == n) refl
   where
-    by : (b : Bool) → (t == n) ≡ b → after_opening (status_by mark.Ended left score dist) n t ≡ status_by mark.Ended left score dist
+    by : (b : Bool) → (t == n) ≡ b → after_opening left (status_by mark.Ended score plans dist) n t ≡ status_by mark.Ended score plans dist
     by true e = absurd (idle (eqb-true t n e))
     by false e = rw e refl
-still_by mark.Quiet score left dist n t idle = by (left == 0) refl
+still_by mark.Quiet score left plans dist n t idle = by (left == 0) refl
   where
-    by : (b : Bool) → (left == 0) ≡ b → after_opening (status_by mark.Quiet left score dist) n t ≡ status_by mark.Quiet left score dist
+    by : (b : Bool) → (left == 0) ≡ b → after_opening left (status_by mark.Quiet score plans dist) n t ≡ status_by mark.Quiet score plans dist
     by true e = rw e refl
     by false e = rw e refl
-still_by mark.Capturing score left dist n t idle = by (int_eq score (pos t)) refl (int_eq score (neg_ℤ (pos t))) refl (left == 0) refl
+still_by mark.Noted score left plans dist n t idle = by (left == 0) refl
+  where
+    by : (b : Bool) → (left == 0) ≡ b → after_opening left (status_by mark.Noted score plans dist) n t ≡ status_by mark.Noted score plans dist
+    by true e = rw e refl
+    by false e = rw e refl
+still_by mark.Capturing score left plans dist n t idle = by (int_eq score (pos t)) refl (int_eq score (neg_ℤ (pos t))) refl (left == 0) refl
   where
     by : (a : Bool) → int_eq score (pos t) ≡ a → (b : Bool) → int_eq score (neg_ℤ (pos t)) ≡ b → (c : Bool) → (left == 0) ≡ c
-        → after_opening (status_by mark.Capturing left score dist) n t ≡ status_by mark.Capturing left score dist
+        → after_opening left (status_by mark.Capturing score plans dist) n t ≡ status_by mark.Capturing score plans dist
     by true e b f c g = absurd (idle (inl ((Decides-int_eq score (pos t)).0 e)))
     by false e true f c g = absurd (idle (inr ((Decides-int_eq score (neg_ℤ (pos t))).0 f)))
     by false e false f true g = rw (e, f, g) refl
     by false e false f false g = rw (e, f, g) refl
 
-pub still : (c : Cell) (n t : ℕ) → (MayOpen c.mark c.score n t → ⊥) → after_opening (status_of c) n t ≡ status_of c
-still c n t idle = still_by c.mark c.score c.left c.dist n t idle
+pub still : (c : Cell) (n t : ℕ) → (MayOpen c.mark c.score n t → ⊥) → cell_after_opening (view_of c) n t ≡ view_of c
+still c n t idle = ap (λ (s : tally.Status). record { left = c.left; status = s }) (still_by c.mark c.score c.left c.plans c.dist n t idle)
 
 -- of a row whose word has no bit for the gain, no cell changes
 pub row_still : (n t row : ℕ) (cells : List Cell) (gains : List ℕ) → AreAwaited n cells gains → bit_at (get_or gains row 0) t ≡ 0
-    → (k : ℕ) → k < length cells → WIDTH * row ≤ k → k < WIDTH * row + WIDTH → after_opening (status_of (get_or cells k no_cell)) n t ≡ status_of (get_or cells k no_cell)
+    → (k : ℕ) → k < length cells → WIDTH * row ≤ k → k < WIDTH * row + WIDTH → cell_after_opening (view_of (get_or cells k no_cell)) n t ≡ view_of (get_or cells k no_cell)
 row_still n t row cells gains are none k inside from to =
     let at : k / WIDTH ≡ row = omega (arith, from, to) in
     still (get_or cells k no_cell) n t (λ may. let one = are.bits k t inside may in let zero = ap (λ r. bit_at (get_or gains r 0) t) at ∙ none in absurd (omega (arith, one, zero)))

@@ -13,13 +13,14 @@ use Rattle.awari_block.proofs.BlockLemmas.{all_both, due_settled, settled_inside
 
 -- a settled cell of this distance
 pub settled_cell : (c : Cell) (d : ℕ) → is_settled c.mark ≡ true → c.dist ≡ d → settled_by (status_of c) ≡ Some (c.score, d)
-settled_cell c d settled near = at c.mark settled c.score c.left c.dist near
+settled_cell c d settled near = at c.mark settled c.score c.plans c.dist near
   where
-    at : (m : Mark) → is_settled m ≡ true → (score : ℤ) (left dist : ℕ) → dist ≡ d → settled_by (status_by m left score dist) ≡ Some (score, d)
-    at mark.Settled e score left dist near = ap (λ n. Some (score, n)) near
-    at mark.Ended e score left dist near = absurd (false≢true e)
-    at mark.Quiet e score left dist near = absurd (false≢true e)
-    at mark.Capturing e score left dist near = absurd (false≢true e)
+    at : (m : Mark) → is_settled m ≡ true → (score : ℤ) (plans dist : ℕ) → dist ≡ d → settled_by (status_by m score plans dist) ≡ Some (score, d)
+    at mark.Settled e score plans dist near = ap (λ n. Some (score, n)) near
+    at mark.Ended e score plans dist near = absurd (false≢true e)
+    at mark.Quiet e score plans dist near = absurd (false≢true e)
+    at mark.Capturing e score plans dist near = absurd (false≢true e)
+    at mark.Noted e score plans dist near = absurd (false≢true e)
 
 -- the fresh boards are settled ones of the block, each once
 pub fresh_of_block : (place : Place) (cells : List Cell) (fresh : List Due) → IsBlock place cells fresh → AreFresh (part_of place cells fresh)

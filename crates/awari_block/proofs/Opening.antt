@@ -3,8 +3,8 @@ use Rattle.std.proofs.Common.{◌≡◌, ◌≢◌, ℕ, ◌+◌, ◌<◌, ◌�
 use Rattle.std.proofs.lemmas.Bool.{cases_lt}
 use Rattle.std.proofs.lemmas.Bool.Decides.{nat_tests}
 use Rattle.awari_block.specs.declared.cells.Cell.{Cell}
-use Rattle.awari_block.specs.Cells.{status_of}
-use Rattle.awari_block.specs.Steps.{after_opening}
+use Rattle.awari_block.specs.Cells.{view_of}
+use Rattle.awari_block.specs.Steps.{cell_after_opening}
 use Rattle.awari_block.specs.Blocks.{no_cell}
 use Rattle.awari_block.specs.Boards.{OpensCells}
 use Rattle.awari_block.specs.Part.{Part, SameLevel}
@@ -24,20 +24,16 @@ put_cases xs ys i next put high k = by (k == i) refl
 
 module _ (old new : Part) where
   -- cells that the opening leaves as they are
-  pub opens_still : (low high : ℕ) → ((k : ℕ) → k < length old.cells → low ≤ k → k < high → after_opening (status_of (get_or old.cells k no_cell)) old.level old.gain ≡ status_of (get_or old.cells k no_cell))
+  pub opens_still : (low high : ℕ) → ((k : ℕ) → k < length old.cells → low ≤ k → k < high → cell_after_opening (view_of (get_or old.cells k no_cell)) old.level old.gain ≡ view_of (get_or old.cells k no_cell))
       → OpensCells old old low high
-  opens_still low high still = record { heard = λ k h. refl; inside = λ k h from to. sym (still k h from to); outside = λ k out. refl }
+  opens_still low high still = record { inside = λ k h from to. sym (still k h from to); outside = λ k out. refl }
 
   -- one cell, which is put
-  pub opens_one : (i : ℕ) (next : Cell) → new.cells ≡ set old.cells i next → i < length old.cells → next.heard ≡ (get_or old.cells i no_cell).heard
-      → status_of next ≡ after_opening (status_of (get_or old.cells i no_cell)) old.level old.gain → OpensCells old new i (i + 1)
-  opens_one i next put high same opened = record {
-    heard = λ k h. elim (put_cases old.cells new.cells i next put high k) [
-      | inl at ↦ ap (λ (d : Cell). d.heard) at.1 ∙ same ∙ ap (λ j. (get_or old.cells j no_cell).heard) (sym at.0)
-      | inr other ↦ ap (λ (d : Cell). d.heard) other.1
-    ];
+  pub opens_one : (i : ℕ) (next : Cell) → new.cells ≡ set old.cells i next → i < length old.cells
+      → view_of next ≡ cell_after_opening (view_of (get_or old.cells i no_cell)) old.level old.gain → OpensCells old new i (i + 1)
+  opens_one i next put high opened = record {
     inside = λ k h from to. elim (put_cases old.cells new.cells i next put high k) [
-      | inl at ↦ ap status_of at.1 ∙ opened ∙ ap (λ j. after_opening (status_of (get_or old.cells j no_cell)) old.level old.gain) (sym at.0)
+      | inl at ↦ ap view_of at.1 ∙ opened ∙ ap (λ j. cell_after_opening (view_of (get_or old.cells j no_cell)) old.level old.gain) (sym at.0)
       | inr other ↦ (let o = other.0 in absurd (o (omega (arith, from, to))))
     ];
     outside = λ k out. elim (put_cases old.cells new.cells i next put high k) [
@@ -52,29 +48,28 @@ module _ (old new : Part) where
 
 -- what is read of one cell, at the level and gain of the part
 module _ (part : Part) (i n t : ℕ) (cell : Cell) (read : get_or part.cells i no_cell ≡ cell) (level : part.level ≡ n) (gain : part.gain ≡ t) where
-  at_part : after_opening (status_of cell) n t ≡ after_opening (status_of (get_or part.cells i no_cell)) part.level part.gain
+  at_part : cell_after_opening (view_of cell) n t ≡ cell_after_opening (view_of (get_or part.cells i no_cell)) part.level part.gain
   at_part =
-      ap (λ (d : Cell). after_opening (status_of d) n t) (sym read) ∙ ap (λ m. after_opening (status_of (get_or part.cells i no_cell)) m t) (sym level)
-      ∙ ap (λ u. after_opening (status_of (get_or part.cells i no_cell)) part.level u) (sym gain)
+      ap (λ (d : Cell). cell_after_opening (view_of d) n t) (sym read) ∙ ap (λ m. cell_after_opening (view_of (get_or part.cells i no_cell)) m t) (sym level)
+      ∙ ap (λ u. cell_after_opening (view_of (get_or part.cells i no_cell)) part.level u) (sym gain)
 
-  pub still_one : after_opening (status_of cell) n t ≡ status_of cell → OpensCells part part i (i + 1)
+  pub still_one : cell_after_opening (view_of cell) n t ≡ view_of cell → OpensCells part part i (i + 1)
   still_one stays = opens_still part part i (i + 1) (λ k h from to.
       let same : i ≡ k = omega (arith, from, to) in
-      subst (λ j. after_opening (status_of (get_or part.cells j no_cell)) part.level part.gain ≡ status_of (get_or part.cells j no_cell)) same
-      (sym at_part ∙ stays ∙ ap status_of (sym read)))
+      subst (λ j. cell_after_opening (view_of (get_or part.cells j no_cell)) part.level part.gain ≡ view_of (get_or part.cells j no_cell)) same
+      (sym at_part ∙ stays ∙ ap view_of (sym read)))
 
-  pub put_one : (new : Part) (next : Cell) → new.cells ≡ set part.cells i next → i < length part.cells → next.heard ≡ cell.heard → status_of next ≡ after_opening (status_of cell) n t → OpensCells part new i (i + 1)
-  put_one new next put high heard opened = opens_one part new i next put high (heard ∙ ap (λ (d : Cell). d.heard) (sym read)) (opened ∙ at_part)
+  pub put_one : (new : Part) (next : Cell) → new.cells ≡ set part.cells i next → i < length part.cells → view_of next ≡ cell_after_opening (view_of cell) n t → OpensCells part new i (i + 1)
+  put_one new next put high opened = opens_one part new i next put high (opened ∙ at_part)
 
 -- cells after cells
 pub opens_both : (a b c : Part) (low mid high : ℕ) → low ≤ mid → mid ≤ high → SameLevel a b → length b.cells ≡ length a.cells → OpensCells a b low mid → OpensCells b c mid high → OpensCells a c low high
 opens_both a b c low mid high first last same size one two = record {
-  heard = λ k h. two.heard k (omega (arith, h, size)) ∙ one.heard k h;
   inside = λ k h from to. elim (cases_lt k mid) [
-    | inl less ↦ ap status_of (two.outside k (inl less)) ∙ one.inside k h from less
+    | inl less ↦ ap view_of (two.outside k (inl less)) ∙ one.inside k h from less
     | inr more ↦
-        two.inside k (omega (arith, h, size)) more to ∙ ap (λ (d : Cell). after_opening (status_of d) b.level b.gain) (one.outside k (inr more))
-        ∙ ap (λ n. after_opening (status_of (get_or a.cells k no_cell)) n b.gain) same.level ∙ ap (λ t. after_opening (status_of (get_or a.cells k no_cell)) a.level t) same.gain
+        two.inside k (omega (arith, h, size)) more to ∙ ap (λ (d : Cell). cell_after_opening (view_of d) b.level b.gain) (one.outside k (inr more))
+        ∙ ap (λ n. cell_after_opening (view_of (get_or a.cells k no_cell)) n b.gain) same.level ∙ ap (λ t. cell_after_opening (view_of (get_or a.cells k no_cell)) a.level t) same.gain
   ];
   outside = λ k out. two.outside k (later k out) ∙ one.outside k (earlier k out);
 }

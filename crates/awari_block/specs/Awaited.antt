@@ -13,6 +13,7 @@ abbrev pub MayOpen : Mark → ℤ → ℕ → ℕ → Type 0
 MayOpen mark.Ended score n t = t ≡ n
 MayOpen mark.Capturing score n t = IsEither t score
 MayOpen mark.Quiet score n t = ⊥
+MayOpen mark.Noted score n t = ⊥
 MayOpen mark.Settled score n t = ⊥
 
 -- what a cell awaits, it awaited before

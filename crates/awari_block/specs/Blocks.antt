@@ -16,7 +16,7 @@ abbrev pub due_dist : Due → ℕ
 due_dist f = f.0
 
 abbrev pub no_cell : Cell
-no_cell = record { heard = 0; left = 0; mark = Ended; score = pos 0; dist = 0 }
+no_cell = record { dist = 0; score = pos 0; plans = 0; left = 0; mark = Ended }
 
 -- the cell of the board of this rank
 abbrev pub cell_in : ℕ → List Cell → ℕ → Cell

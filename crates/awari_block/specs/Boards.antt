@@ -1,10 +1,9 @@
 -- What becomes of the boards of a block, and what is needed for it. The contracts of `Boards` go by this; those of a part do not.
 use Rattle.std.specs.Prelude.{◌≡◌, ℕ, ◌-◌, ◌^◌, ◌<◌, ◌≤◌, ◌⊎◌, ◌∷◌, length, All, slice_index_or, slice_set}
 use Rattle.std.specs.List.Sorted.{IsPermutation}
-use Rattle.awari_block.specs.Tally.{with_pit}
 use Rattle.awari_block.specs.Awaited.{AwaitsNoMore}
-use Rattle.awari_block.specs.Steps.{after_note, after_opening}
-use Rattle.awari_block.specs.Cells.{Fits, Keeps, SettlesTimely, status_of}
+use Rattle.awari_block.specs.Steps.{cell_after_note, cell_after_opening}
+use Rattle.awari_block.specs.Cells.{Fits, Keeps, SettlesTimely, view_of}
 use Rattle.awari_block.specs.Blocks.{due_dist, due_rank, no_cell, IsBlock, KeepSettled}
 use Rattle.awari_block.specs.Part.{Part, AreFresh, InBlock, JoinsFresh, SameLevel, stored_at, unspread}
 use Rattle.awari_block.specs.declared.cells.Cell.{Cell}
@@ -27,9 +26,8 @@ pub record Settles (old new : Part) : Type 0 where
 
 -- Of the cells from place `low` up to, not including, place `high` the open gain is opened. The others stay as they are.
 pub record OpensCells (old new : Part) (low high : ℕ) : Type 0 where
-  pub heard : (k : ℕ) → k < length old.cells → (slice_index_or new.cells k no_cell).heard ≡ (slice_index_or old.cells k no_cell).heard
   pub inside : (k : ℕ) → k < length old.cells → low ≤ k → k < high
-      → status_of (slice_index_or new.cells k no_cell) ≡ after_opening (status_of (slice_index_or old.cells k no_cell)) old.level old.gain
+      → view_of (slice_index_or new.cells k no_cell) ≡ cell_after_opening (view_of (slice_index_or old.cells k no_cell)) old.level old.gain
   pub outside : (k : ℕ) → (k < low) ⊎ (high ≤ k) → slice_index_or new.cells k no_cell ≡ slice_index_or old.cells k no_cell
 
 -- this cell may take the place of that of the board of this rank
@@ -50,8 +48,7 @@ pub record CanHear (part : Part) (target pit : ℕ) : Type 0 where
 -- it is heard: only the cell of that board changes, by what the note says
 pub record HearsNote (old new : Part) (target pit : ℕ) (kind : Kind) : Type 0 where
   pub cells : new.cells ≡ slice_set old.cells (target - old.start) (stored_at new target)
-  pub heard : (stored_at new target).heard ≡ with_pit (stored_at old target).heard pit
-  pub status : status_of (stored_at new target) ≡ after_note (status_of (stored_at old target)) kind old.gain old.wave
+  pub cell : view_of (stored_at new target) ≡ cell_after_note (view_of (stored_at old target)) kind pit old.gain old.wave
 
 -- The first fresh board is of the open distance and of this rank, and is fresh no longer.
 pub record TakesFirst (old new : Part) (rank : ℕ) : Type 0 where

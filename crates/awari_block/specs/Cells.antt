@@ -1,29 +1,46 @@
 -- What a stored cell means.
-use Rattle.std.specs.Prelude.{◌≡◌, ℕ, ◌-◌, ◌^◌, ◌<◌, ◌≤◌, ◌⊎◌, Bool, true, false, ℤ, pos, neg_ℤ, ◌≤ℤ◌, Some, None}
-use Rattle.awari_block.specs.Tally.{Status, Ended, Open, Settled}
+use Rattle.std.specs.Prelude.{◌≡◌, ℕ, ◌-◌, ◌^◌, ◌<◌, ◌≤◌, ◌⊎◌, Bool, true, false, ℤ, pos, neg_ℤ, ◌≤ℤ◌}
 use Rattle.awari_block.specs.Tally as tally
+use Rattle.awari_block.specs.Tally.{Status, Ended, Open, Settled, Nothing, ByCapture, ByNotes, gain_of}
+use Rattle.awari_block.specs.Steps.{best_after, pits_after}
 use Rattle.awari_block.specs.declared.cells.Cell.{Cell}
 use Rattle.awari_block.specs.declared.cells.Mark.{Mark}
 use Rattle.awari_block.specs.declared.cells.Mark.TheVariants as mark
 use Rattle.awari_block.specs.declared.places.Place.{Place}
 
-abbrev pub status_by : Mark → ℕ → ℤ → ℕ → Status
-status_by mark.Ended left score dist = Ended score
-status_by mark.Quiet left score dist = Open left None dist
-status_by mark.Capturing left score dist = Open left (Some score) dist
-status_by mark.Settled left score dist = Settled score dist
+abbrev pub status_by : Mark → ℤ → ℕ → ℕ → Status
+status_by mark.Ended score plans dist = Ended score
+status_by mark.Quiet score plans dist = Open Nothing plans dist
+status_by mark.Capturing score plans dist = Open (ByCapture score) plans dist
+status_by mark.Noted score plans dist = Open (ByNotes score) plans dist
+status_by mark.Settled score plans dist = Settled score dist plans
 
 abbrev pub status_of : Cell → Status
-status_of c = status_by c.mark c.left c.score c.dist
+status_of c = status_by c.mark c.score c.plans c.dist
+
+abbrev pub view_of : Cell → tally.Cell
+view_of c = record { left = c.left; status = status_of c }
 
 abbrev pub is_settled : Mark → Bool
 is_settled mark.Settled = true
 is_settled mark.Quiet = false
 is_settled mark.Capturing = false
+is_settled mark.Noted = false
 is_settled mark.Ended = false
 
-abbrev pub view_of : Cell → tally.Cell
-view_of c = record { heard = c.heard; status = status_of c }
+-- a note says that the move from pit x gains v
+abbrev pub knowing : Status → ℤ → ℕ → Status
+knowing (Ended gain) v x = Ended gain
+knowing (Open best pits far) v x = Open (best_after best v) (pits_after (gain_of best) pits v x) far
+knowing (Settled value dist pits) v x = Settled value dist pits
+
+-- the board is not ended, and not settled
+abbrev pub IsOpen : Mark → Type 0
+IsOpen mark.Quiet = Unit {0}
+IsOpen mark.Capturing = Unit {0}
+IsOpen mark.Noted = Unit {0}
+IsOpen mark.Ended = ⊥
+IsOpen mark.Settled = ⊥
 
 -- v is at most n stones, either way
 abbrev pub IsWithin : ℕ → ℤ → Type 0
@@ -37,12 +54,13 @@ IsBeyond t v = (pos t ≤ℤ v) ⊎ (v ≤ℤ neg_ℤ (pos t))
 abbrev pub IsEither : ℕ → ℤ → Type 0
 IsEither t v = (v ≡ pos t) ⊎ (v ≡ neg_ℤ (pos t))
 
--- Of the level of n stones at the open gain t: a settled value is between t and n stones, a capture gains at most n, an end
+-- Of the level of n stones at the open gain t: a settled value is between t and n stones, what is known gains at most n, an end
 -- gains n, each either way, and the distance of an open cell can still grow by one.
 abbrev pub FitsBy : Mark → ℕ → ℕ → ℤ → ℕ → Type 0
 FitsBy mark.Settled n t score dist = IsWithin n score × IsBeyond t score
 FitsBy mark.Quiet n t score dist = dist < 2 ^ 32 - 1
 FitsBy mark.Capturing n t score dist = (dist < 2 ^ 32 - 1) × IsWithin n score
+FitsBy mark.Noted n t score dist = (dist < 2 ^ 32 - 1) × IsWithin n score
 FitsBy mark.Ended n t score dist = IsEither n score
 
 abbrev pub Fits : Place → Cell → Type 0

@@ -71,8 +71,8 @@ JoinsFresh old new = JoinNewlySettled old.start old.cells old.fresh new.cells ne
 -- value and distance of a settled cell
 abbrev pub settled_by : tally.Status → Option (ℤ × ℕ)
 settled_by (tally.Ended gain) = None
-settled_by (tally.Open left best far) = None
-settled_by (tally.Settled value dist) = Some (value, dist)
+settled_by (tally.Open best plans far) = None
+settled_by (tally.Settled value dist plans) = Some (value, dist)
 
 abbrev pub settled_at : Part → ℕ → Option (ℤ × ℕ)
 settled_at part rank = settled_by (cell_at part rank).status

@@ -1,94 +1,96 @@
--- A cell, and when it tells what a list of notes says of its board.
-use Rattle.std.specs.Prelude.{◌≡◌, ℕ, ◌+◌, ◌^◌, ◌<◌, ◌≤◌, ◌==◌, ◌⊎◌, Bool, not, ◌&&◌, List, [], ◌∷◌, ℤ, pos, neg_ℤ, ◌-ℤ◌, ◌≤ℤ◌, ◌<ℤ◌, Option, Some, None, count_by, sum, bit_and, bit_or}
-use Rattle.awari_board.specs.Rules.{IsMove, IsEnd, IsEnded, captured}
+-- A cell, and when it tells what a list of notes says of its board and its plans.
+use Rattle.std.specs.Prelude.{◌≡◌, ◌↔◌, ℕ, ◌^◌, ◌<◌, ◌≤◌, ◌==◌, ◌⊎◌, Bool, true, false, not, ◌&&◌, List, ℤ, pos, ◌-ℤ◌, ◌≤ℤ◌, ◌<ℤ◌, Option, Some, None}
+use Rattle.awari_board.specs.Rules.{IsMove, captured}
 use Rattle.awari_board.specs.Tests.{is_legal}
-use Rattle.awari_block.specs.Notes.{IsQuietMove, Has, gain_by, is_heard_at, is_won_at, far_of, AreOfOtherPits}
+use Rattle.awari_block.specs.Notes.{IsQuietMove, Has, gain_by, is_heard_at, AreOfOtherPits}
+pub use Rattle.awari_block.specs.Pits.{has_pit, with_pit, pits}
+use Rattle.awari_block.specs.Plain as plain
+pub use Rattle.awari_block.specs.Plain.{is_left, left_of, Captures, IsBest, Knows, IsPlain}
 use Rattle.awari_block.specs.declared.notes.Note.{Note}
 
--- What is known of a board's value. Ended: the board is ended, and its gain is not open yet. Open: the quiet moves of
--- which no Won note was heard, the best capture, if there is one, and the greatest distance of a Won note. Settled:
--- value and distance.
+-- The greatest gain that is known of a move, if there is one: a capture gains it, or notes alone do.
+pub data Best : Type 0 where
+  Nothing : Best
+  ByCapture : ℤ → Best
+  ByNotes : ℤ → Best
+
+-- what it is, and what it is where a capture gains it
+abbrev pub gain_of : Best → Option ℤ
+gain_of Nothing = None
+gain_of (ByCapture best) = Some best
+gain_of (ByNotes best) = Some best
+
+abbrev pub capture_of : Best → Option ℤ
+capture_of Nothing = None
+capture_of (ByCapture best) = Some best
+capture_of (ByNotes best) = None
+
+-- Ended: the board is ended, and its gain is not open yet. Open: the greatest gain that is known of a move, the pits of the
+-- moves that are known to gain it, and the greatest distance of a Won note. Settled: value, distance, and the pits that serve as
+-- plans.
 pub data Status : Type 0 where
   Ended : ℤ → Status
-  Open : ℕ → Option ℤ → ℕ → Status
-  Settled : ℤ → ℕ → Status
+  Open : Best → ℕ → ℕ → Status
+  Settled : ℤ → ℕ → ℕ → Status
 
--- the pits of which a note was heard, a bit for each, and the status
+-- the pits of the quiet moves of which no note was heard, a bit for each, and what is known of the board
 pub record Cell : Type 0 where
-  pub heard : ℕ
+  pub left : ℕ
   pub status : Status
 
--- whether pit x is among these
-abbrev pub has_pit : ℕ → ℕ → Bool
-has_pit pits x = not (bit_and pits (2 ^ x) == 0)
+-- whether the move from pit x is quiet and no note of it was heard
+abbrev pub is_unheard : List ℕ → List Note → ℕ → Bool
+is_unheard p notes x = (is_legal p x && (captured p x == 0)) && not (is_heard_at notes x)
 
--- these pits and x
-abbrev pub with_pit : ℕ → ℕ → ℕ
-with_pit pits x = bit_or pits (2 ^ x)
+-- the move from pit x is a capture that gains v
+abbrev pub CapturesFrom : (List ℕ → ℤ) → List ℕ → ℕ → ℤ → Type 0
+CapturesFrom value p x v = (c : ℕ) × (q : List ℕ) × IsMove p x c q × (0 < c) × (v ≡ (pos c -ℤ value q))
 
-abbrev pub pits : List ℕ
-pits = 0 ∷ 1 ∷ 2 ∷ 3 ∷ 4 ∷ 5 ∷ []
+-- the move from pit x is known to gain v: it captures that, or a note says so
+abbrev pub KnowsAt : (List ℕ → ℤ) → List ℕ → List Note → ℕ → ℤ → Type 0
+KnowsAt value p notes x v = CapturesFrom value p x v ⊎ ((m : Note) × Has notes m × (m.pit ≡ x) × (v ≡ gain_by m.kind m.gain))
 
--- whether the move from pit x is quiet and has no Won note, and how many are so
-abbrev pub is_left : List ℕ → List Note → ℕ → Bool
-is_left p notes x = (is_legal p x && (captured p x == 0)) && not (is_won_at notes x)
+-- and it serves as a plan of a board of value v and this distance: where v is positive, a note is nearer than the board
+abbrev pub KnownToServe : (List ℕ → ℤ) → List ℕ → List Note → ℤ → ℕ → ℕ → Type 0
+KnownToServe value p notes v dist x =
+    CapturesFrom value p x v ⊎ ((m : Note) × Has notes m × (m.pit ≡ x) × (v ≡ gain_by m.kind m.gain) × (pos 0 <ℤ v → m.dist < dist))
 
-abbrev pub left_of : List ℕ → List Note → ℕ
-left_of p notes = count_by (is_left p notes) pits
+-- the greatest gain that is known of a move, with the pits that are known to gain it; or none where nothing is known
+abbrev pub IsBestGain : (List ℕ → ℤ) → List ℕ → List Note → Option ℤ → ℕ → Type 0
+IsBestGain value p notes None plans = (v : ℤ) → Knows value p notes v → ⊥
+IsBestGain value p notes (Some best) plans =
+    Knows value p notes best × ((v : ℤ) → Knows value p notes v → v ≤ℤ best) × ((x : ℕ) → x < 6 → (has_pit plans x ≡ true) ↔ KnowsAt value p notes x best)
 
--- some capture of p gains v, where a board is worth this value to its mover
-abbrev pub Captures : (List ℕ → ℤ) → List ℕ → ℤ → Type 0
-Captures value p v = (x c : ℕ) × (q : List ℕ) × IsMove p x c q × (0 < c) × (v ≡ (pos c -ℤ value q))
+-- and whether a capture gains it
+abbrev pub IsOfCapture : (List ℕ → ℤ) → List ℕ → Best → Type 0
+IsOfCapture value p Nothing = Unit {0}
+IsOfCapture value p (ByCapture best) = Captures value p best
+IsOfCapture value p (ByNotes best) = Captures value p best → ⊥
 
--- the best that a capture gains, or none where none is legal
-abbrev pub IsBest : (List ℕ → ℤ) → List ℕ → Option ℤ → Type 0
-IsBest value p None = (v : ℤ) → Captures value p v → ⊥
-IsBest value p (Some best) = Captures value p best × ((v : ℤ) → Captures value p v → v ≤ℤ best)
+-- a board that is not settled: as `IsPlain` says of it, for its best capture
+pub record IsOpenStatus (value : List ℕ → ℤ) (p : List ℕ) (notes : List Note) (t : ℕ) (best : Best) (plans far : ℕ) : Type 0 where
+  pub plain : (capture : Option ℤ) × IsPlain value p notes t (plain.Open (left_of p notes) capture far)
+  pub known : IsBestGain value p notes (gain_of best) plans
+  pub captures : IsOfCapture value p best
 
--- a capture gains v, or a note says so of its move
-abbrev pub Knows : (List ℕ → ℤ) → List ℕ → List Note → ℤ → Type 0
-Knows value p notes v = Captures value p v ⊎ ((m : Note) × Has notes m × (v ≡ gain_by m.kind m.gain))
+-- a settled board: as `IsPlain` says of it, with the pits that serve
+pub record IsSettledStatus (value : List ℕ → ℤ) (p : List ℕ) (notes : List Note) (t : ℕ) (v : ℤ) (dist plans : ℕ) : Type 0 where
+  pub settled : IsPlain value p notes t (plain.Settled v dist)
+  pub serve : (x : ℕ) → x < 6 → (has_pit plans x ≡ true) ↔ KnownToServe value p notes v dist x
 
--- Nothing known reaches t, and something may exceed -t: a quiet move with no Won note, or what is known.
-pub record IsOpen (value : List ℕ → ℤ) (p : List ℕ) (notes : List Note) (t : ℕ) : Type 0 where
-  pub below : (v : ℤ) → Knows value p notes v → v <ℤ pos t
-  pub above : (0 < left_of p notes) ⊎ ((v : ℤ) × Knows value p notes v × (neg_ℤ (pos t) <ℤ v))
-
--- the distance of a board that is not ended: 1 where a capture gains its positive value, else one more than the Lost
--- note of that gain with least distance; at a negative value one more than the greatest distance of a Won note
-abbrev pub IsDistance : (List ℕ → ℤ) → List ℕ → List Note → ℤ → ℕ → Type 0
-IsDistance value p notes v dist =
-    ((pos 0 <ℤ v) × Captures value p v × (dist ≡ 1))
-    ⊎ ((pos 0 <ℤ v) × (Captures value p v → ⊥)
-    × ((m : Note) × Has notes m × (gain_by m.kind m.gain ≡ v) × (dist ≡ m.dist + 1)
-    × ((k : Note) → Has notes k → gain_by k.kind k.gain ≡ v → m.dist ≤ k.dist)))
-    ⊎ ((v <ℤ pos 0) × (dist ≡ far_of notes + 1))
-
--- v is the greatest of what is known, and it is at least t, or at most -t with each quiet move known to be won
-pub record IsSettledAs (value : List ℕ → ℤ) (p : List ℕ) (notes : List Note) (t : ℕ) (v : ℤ) (dist : ℕ) : Type 0 where
-  pub known : Knows value p notes v
-  pub most : (u : ℤ) → Knows value p notes u → u ≤ℤ v
-  pub reached : (pos t ≤ℤ v) ⊎ ((v ≤ℤ neg_ℤ (pos t)) × (left_of p notes ≡ 0))
-  pub distance : IsDistance value p notes v dist
-
--- what an open board's counts are
-pub record IsCount (value : List ℕ → ℤ) (p : List ℕ) (notes : List Note) (left : ℕ) (best : Option ℤ) (far : ℕ) : Type 0 where
-  pub quiet_left : left ≡ left_of p notes
-  pub best_capture : IsBest value p best
-  pub farthest : far ≡ far_of notes
-
--- what the status is, once the notes came in, at the open gain t
+-- what is known, once the notes came in, at the open gain t
 abbrev pub IsStatus : (List ℕ → ℤ) → List ℕ → List Note → ℕ → Status → Type 0
-IsStatus value p notes t (Ended gain) = IsEnd p gain × (sum p < t)
-IsStatus value p notes t (Open left best far) = (IsEnded p → ⊥) × IsCount value p notes left best far × IsOpen value p notes t
-IsStatus value p notes t (Settled v dist) =
-    (IsEnd p v × (t ≤ sum p) × (dist ≡ 0)) ⊎ ((IsEnded p → ⊥) × IsSettledAs value p notes t v dist)
+IsStatus value p notes t (Ended gain) = IsPlain value p notes t (plain.Ended gain)
+IsStatus value p notes t (Open best plans far) = IsOpenStatus value p notes t best plans far
+IsStatus value p notes t (Settled v dist plans) = IsSettledStatus value p notes t v dist plans
 
--- The cell of p tells what these notes say of p, at the open gain t and the open distance w.
+-- The cell of p tells what these notes say of p and its plans, at the open gain t and the open distance w. The gains were opened
+-- downward: no note is of a lesser one than t. Within a gain the distances were opened upward: no note of gain t is farther than w.
 pub record IsTally (value : List ℕ → ℤ) (cell : Cell) (p : List ℕ) (notes : List Note) (t w : ℕ) : Type 0 where
   pub once : AreOfOtherPits notes
   pub quiet : (m : Note) → Has notes m → (q : List ℕ) × IsQuietMove p m.pit q
   pub opened : (m : Note) → Has notes m → t ≤ m.gain
   pub waved : (m : Note) → Has notes m → m.gain ≡ t → m.dist ≤ w
-  pub heard : (x : ℕ) → x < 6 → has_pit cell.heard x ≡ is_heard_at notes x
+  pub few : cell.left < 2 ^ 6
+  pub left : (x : ℕ) → x < 6 → has_pit cell.left x ≡ is_unheard p notes x
   pub status : IsStatus value p notes t cell.status

@@ -3,8 +3,8 @@
 ghost use Rattle.std.specs.Prelude.{◌≡◌, ℕ, ℤ, ◌+◌, ◌-◌, ◌*◌, ◌/◌, ◌^◌, ◌<◌, ◌≤◌, ◌↔◌, IsTrue, false, sum, IfOk, IfSome, All, Some, [], length, vec_len, slice_set, slice_index_or};
 ghost use Rattle.awari_board.specs.Rules.{IsBoard};
 ghost use Rattle.awari_rank.specs.Rank.{rank_of, size_of};
-ghost use Rattle.awari_block.specs.Cells.{Fits, FitsBy, status_of};
-ghost use Rattle.awari_block.specs.Steps.{after_opening};
+ghost use Rattle.awari_block.specs.Cells.{Fits, FitsBy, view_of};
+ghost use Rattle.awari_block.specs.Steps.{cell_after_opening};
 ghost use Rattle.awari_block.specs.Blocks.{due_dist, no_cell};
 ghost use Rattle.awari_block.specs.Part.{Part as PartView, AreFresh, InBlock, IsLeastDue, settled_at, stored_at, IsClosed};
 ghost use Rattle.awari_block.specs.declared.awaited.TheConstants.{WIDTH};
@@ -212,8 +212,7 @@ impl Boards {
         requires next { gain + 1 ≡ self.old.gain }
         requires positive { 1 ≤ gain }
         ensures settles { Settles (record self.old { gain = gain; wave = 0 }) self.new }
-        ensures heard { (k : ℕ) → k < length self.old.cells → (slice_index_or self.new.cells k no_cell).heard ≡ (slice_index_or self.old.cells k no_cell).heard }
-        ensures status { (k : ℕ) → k < length self.old.cells → status_of (slice_index_or self.new.cells k no_cell) ≡ after_opening (status_of (slice_index_or self.old.cells k no_cell)) self.old.level gain }
+        ensures cells { (k : ℕ) → k < length self.old.cells → view_of (slice_index_or self.new.cells k no_cell) ≡ cell_after_opening (view_of (slice_index_or self.old.cells k no_cell)) self.old.level gain }
         ensures fresh { AreFresh self.new }
     {
         self.place = Place {
@@ -265,7 +264,7 @@ impl Boards {
         requires gain { self.now.gain ≤ self.now.level }
         requires row { row ≤ length self.now.cells / WIDTH }
         ensures { result ≡ false → (k : ℕ) → k < length self.now.cells → WIDTH * row ≤ k → k < WIDTH * row + WIDTH
-            → after_opening (status_of (slice_index_or self.now.cells k no_cell)) self.now.level self.now.gain ≡ status_of (slice_index_or self.now.cells k no_cell) }
+            → cell_after_opening (view_of (slice_index_or self.now.cells k no_cell)) self.now.level self.now.gain ≡ view_of (slice_index_or self.now.cells k no_cell) }
     {
         self.awaited.awaits(row, self.place.gain)
     }

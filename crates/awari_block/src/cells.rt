@@ -1,15 +1,18 @@
 //! What is kept of each board of a block.
 
-ghost use Rattle.std.specs.Prelude.{◌≡◌, ℕ, false, not, ◌&&◌, ◌+◌, ◌-◌, ◌^◌, ◌<◌, ◌≤◌, IfSome, Some};
-ghost use Rattle.awari_block.specs.Tally.{has_pit, with_pit};
+ghost use Rattle.std.specs.Prelude.{◌≡◌, ℕ, false, not, ◌&&◌, ◌⊎◌, ◌+◌, ◌-◌, ◌^◌, ◌<◌, ◌≤◌, IfSome, Some, None};
 ghost use Rattle.awari_block.specs.Awaited.{AwaitsNoMore, MayOpen};
-ghost use Rattle.awari_block.specs.Cells.{status_of, is_settled, Fits, FitsBy, IsBeyond, IsWithin, Keeps, SettlesTimely};
+ghost use Rattle.awari_block.specs.Cells.{status_of, view_of, is_settled, knowing, Fits, FitsBy, IsBeyond, IsOpen, IsWithin, IsEither, Keeps, SettlesTimely};
 ghost use Rattle.awari_block.specs.Part.{settled_by};
-ghost use Rattle.awari_block.specs.Steps.{after_note, after_opening};
-ghost use Rattle.awari_block.specs.declared.cells.Mark.TheVariants.{Settled};
+ghost use Rattle.awari_block.specs.Pits.{has_pit};
+ghost use Rattle.awari_block.specs.Steps.{after_note, cell_after_note, cell_after_opening};
+ghost use Rattle.awari_block.specs.Tally as tally;
+ghost use Rattle.awari_block.specs.declared.cells.Mark.TheVariants.{Capturing, Noted, Quiet, Settled};
+ghost use Rattle.awari_block.specs.declared.notes.Kind.TheVariants.{Won, Lost};
 ghost use Rattle.awari_block.specs.declared.places.Place.{Place as PlaceView};
 
 use crate::notes::Kind;
+use crate::pits::{pit_alone, with_pit, without_pit};
 use crate::places::Place;
 
 /// What a cell knows of its board.
@@ -17,10 +20,13 @@ use crate::places::Place;
 pub enum Mark {
     /// No move is legal, and the gain of the end, which is the score, is not open yet.
     Ended,
-    /// No move captures, and the board is not settled.
+    /// No move captures, no note was heard, and the board is not settled.
     Quiet,
-    /// The best capture gains the score, and the board is not settled.
+    /// The best capture gains the score, no note says that a move gains more, and the board is not
+    /// settled.
     Capturing,
+    /// Notes say that moves gain the score, no capture gains as much, and the board is not settled.
+    Noted,
     /// The score is the board's value.
     Settled,
 }
@@ -28,32 +34,20 @@ pub enum Mark {
 /// The cell of a board, in eight bytes. Once it is settled it keeps mark, score and distance.
 #[derive(Clone, Copy)]
 pub struct Cell {
-    /// The pits of which a note was heard, a bit for each.
-    pub heard: u8,
-    /// How many quiet moves have no Won note.
+    /// The greatest distance of a Won note, or the distance of a settled board, in plies.
+    pub dist: u32,
+    /// Stones, for the mover.
+    pub score: i8,
+    /// The pits of the moves that are known to gain the score, a bit for each. Once the board is
+    /// settled, they are those that serve as its plan.
+    pub plans: u8,
+    /// The pits of the quiet moves of which no note was heard, a bit for each.
     pub left: u8,
     /// What the score and the distance say.
     pub mark: Mark,
-    /// Stones, for the mover.
-    pub score: i8,
-    /// The greatest distance of a Won note, or the distance of a settled board, in plies.
-    pub dist: u32,
 }
 
 impl Cell {
-    /// The cell of a board of which no note was heard.
-    pub fn unheard(mark: Mark, left: u8, score: i8) -> Cell
-        ensures { result ≡ record { heard = 0; left = left; mark = mark; score = score; dist = 0 } }
-    {
-        Cell {
-            heard: 0,
-            left,
-            mark,
-            score,
-            dist: 0,
-        }
-    }
-
     /// Whether the board is settled.
     #[inline(always)]
     pub(crate) fn is_settled(&self) -> bool
@@ -74,20 +68,21 @@ impl Cell {
         }
     }
 
-    /// Whether a note of this pit was heard.
-    pub fn has_heard(&self, pit: u8) -> bool
+    /// Whether the move from this pit is quiet, and no note of it was heard.
+    pub fn has_left(&self, pit: u8) -> bool
         requires { pit < 6 }
-        ensures { result ≡ has_pit self.now.heard pit }
+        ensures { result ≡ has_pit self.now.left pit }
     {
-        self.heard & (1 << pit) != 0
+        self.left & (1 << pit) != 0
     }
 
     /// Hears the note of this pit and kind, of the open gain and distance. True if that settles the
     /// board, which was not settled before. Conditions: the pit is below 6, a gain is open, and the
     /// open distance is not the greatest u32.
     ///
-    /// A lost board gives the gain at once. A won one leaves one quiet move less that might do
-    /// better. The last of them settles the board, unless a capture does better.
+    /// A lost board gives the gain at once, and another that is as near serves as a plan as well. A
+    /// won one leaves one quiet move less that might do better. The last of them settles the board,
+    /// unless a capture does better.
     #[inline(always)]
     pub(crate) fn hear(&mut self, place: Place, pit: u8, kind: Kind) -> bool
         requires pit { pit < 6 }
@@ -95,41 +90,104 @@ impl Cell {
         requires gain { place.gain ≤ place.level }
         requires near { place.wave < 2 ^ 32 - 1 }
         requires fits { Fits place self.old }
-        ensures heard { self.new.heard ≡ with_pit self.old.heard pit }
-        ensures status { status_of self.new ≡ after_note (status_of self.old) kind place.gain place.wave }
+        ensures cell { view_of self.new ≡ cell_after_note (view_of self.old) kind pit place.gain place.wave }
         ensures keeps { Keeps self.old self.new }
         ensures awaits { AwaitsNoMore self.old self.new }
         ensures timely { SettlesTimely place self.old self.new }
         ensures fits { Fits place self.new }
         ensures settles { result ≡ (is_settled self.new.mark && not (is_settled self.old.mark)) }
     {
-        self.heard |= 1 << pit;
+        self.left = without_pit(self.left, pit);
+        if kind == Kind::Lost {
+            return self.hear_lost(place, pit);
+        }
+        self.hear_won(place, pit)
+    }
+
+    /// Hears that the move from this pit leads to a lost board.
+    #[inline(always)]
+    fn hear_lost(&mut self, place: Place, pit: u8) -> bool
+        requires pit { pit < 6 }
+        requires low { place.level ≤ 24 }
+        requires gain { place.gain ≤ place.level }
+        requires near { place.wave < 2 ^ 32 - 1 }
+        requires fits { Fits place self.old }
+        ensures known { status_of self.new ≡ after_note self.old.left (status_of self.old) Lost pit place.gain place.wave }
+        ensures left { self.new.left ≡ self.old.left }
+        ensures keeps { Keeps self.old self.new }
+        ensures awaits { AwaitsNoMore self.old self.new }
+        ensures timely { SettlesTimely place self.old self.new }
+        ensures fits { Fits place self.new }
+        ensures settles { result ≡ (is_settled self.new.mark && not (is_settled self.old.mark)) }
+    {
+        let gain = place.gain as i8;
+        let dist = place.wave + 1;
+        match self.mark {
+            Mark::Settled => {
+                if self.score == gain && self.dist == dist {
+                    self.plans = with_pit(self.plans, pit);
+                }
+                false
+            }
+            Mark::Ended => false,
+            Mark::Quiet | Mark::Capturing | Mark::Noted => {
+                self.plans = pit_alone(pit);
+                self.settle(gain, dist);
+                true
+            }
+        }
+    }
+
+    /// Hears that the move from this pit leads to a won board.
+    #[inline(always)]
+    fn hear_won(&mut self, place: Place, pit: u8) -> bool
+        requires pit { pit < 6 }
+        requires low { place.level ≤ 24 }
+        requires gain { place.gain ≤ place.level }
+        requires near { place.wave < 2 ^ 32 - 1 }
+        requires fits { Fits place self.old }
+        ensures known { status_of self.new ≡ after_note self.old.left (status_of self.old) Won pit place.gain place.wave }
+        ensures left { self.new.left ≡ self.old.left }
+        ensures keeps { Keeps self.old self.new }
+        ensures awaits { AwaitsNoMore self.old self.new }
+        ensures timely { SettlesTimely place self.old self.new }
+        ensures fits { Fits place self.new }
+        ensures settles { result ≡ (is_settled self.new.mark && not (is_settled self.old.mark)) }
+    {
         if self.mark == Mark::Settled || self.mark == Mark::Ended {
             return false;
         }
-        if kind == Kind::Lost {
-            self.settle(place.gain as i8, place.wave + 1);
-            return true;
-        }
+        let gain = -(place.gain as i8);
         let far = place.wave.max(self.dist);
-        if self.left == 1 && (self.mark == Mark::Quiet || self.score <= -(place.gain as i8)) {
-            self.settle(-(place.gain as i8), far + 1);
+        self.know(gain, pit);
+        if self.left == 0 && self.score == gain {
+            self.settle(gain, far + 1);
             return true;
         }
-        self.left = self.left.saturating_sub(1);
         self.dist = far;
         false
     }
 
-    /// Settles the board at this value and distance. What was heard is kept.
+    /// Takes in that the move from this pit gains this, by a note. Condition: the board is neither
+    /// ended nor settled.
     #[inline(always)]
-    fn settle(&mut self, score: i8, dist: u32)
-        ensures { self.new ≡ record self.old { left = 0; mark = Settled; score = score; dist = dist } }
+    fn know(&mut self, gain: i8, pit: u8)
+        requires pit { pit < 6 }
+        requires open { IsOpen self.old.mark }
+        ensures known { status_of self.new ≡ knowing (status_of self.old) gain pit }
+        ensures gains { (self.new.mark ≡ Noted) ⊎ (self.new.mark ≡ Capturing) }
+        ensures either { ((self.new.score ≡ gain) × (self.new.mark ≡ Noted)) ⊎ ((self.new.score ≡ self.old.score) × (self.new.mark ≡ self.old.mark) × (self.old.mark ≡ Quiet → ⊥)) }
+        ensures same { (self.new.dist ≡ self.old.dist) × (self.new.left ≡ self.old.left) }
     {
-        self.left = 0;
-        self.mark = Mark::Settled;
-        self.score = score;
-        self.dist = dist;
+        if self.mark == Mark::Quiet || self.score < gain {
+            self.mark = Mark::Noted;
+            self.score = gain;
+            self.plans = pit_alone(pit);
+            return;
+        }
+        if self.score == gain {
+            self.plans = with_pit(self.plans, pit);
+        }
     }
 
     /// Whether the opening of the gain of the place can change the cell.
@@ -138,7 +196,7 @@ impl Cell {
         requires low { place.level ≤ 24 }
         requires gain { place.gain ≤ place.level }
         requires fits { Fits place self.now }
-        ensures { result ≡ false → after_opening (status_of self.now) place.level place.gain ≡ status_of self.now }
+        ensures { result ≡ false → cell_after_opening (view_of self.now) place.level place.gain ≡ view_of self.now }
     {
         let gain = place.gain as i8;
         if self.mark == Mark::Capturing {
@@ -156,7 +214,7 @@ impl Cell {
         ensures only { (t : ℕ) → MayOpen self.now.mark self.now.score level t → result ≡ Some t }
     {
         match self.mark {
-            Mark::Settled | Mark::Quiet => None,
+            Mark::Settled | Mark::Quiet | Mark::Noted => None,
             Mark::Ended => Some(level),
             Mark::Capturing => {
                 if self.score < 0 {
@@ -175,19 +233,19 @@ impl Cell {
         requires gain { place.gain ≤ place.level }
         requires opened { place.wave ≡ 0 }
         requires fits { Fits place self }
-        ensures heard { result.heard ≡ self.heard }
-        ensures status { status_of result ≡ after_opening (status_of self) place.level place.gain }
+        ensures cell { view_of result ≡ cell_after_opening (view_of self) place.level place.gain }
         ensures keeps { Keeps self result }
         ensures awaits { AwaitsNoMore self result }
         ensures timely { SettlesTimely place self result }
         ensures fits { Fits place result }
     {
         match self.mark {
-            Mark::Settled | Mark::Quiet => self,
+            Mark::Settled | Mark::Quiet | Mark::Noted => self,
             Mark::Ended => {
                 if place.gain == place.level {
                     Cell {
                         mark: Mark::Settled,
+                        plans: 0,
                         dist: 0,
                         ..self
                     }
@@ -213,6 +271,59 @@ impl Cell {
                 self
             }
         }
+    }
+
+    /// The cell of a board that is ended, with what its end gains.
+    pub fn of_end(gain: i8) -> Cell
+        ensures cell { view_of result ≡ record { left = 0; status = tally.Ended gain } }
+        ensures fits { (place : PlaceView) → IsEither place.level gain → Fits place result }
+    {
+        Cell {
+            dist: 0,
+            score: gain,
+            plans: 0,
+            left: 0,
+            mark: Mark::Ended,
+        }
+    }
+
+    /// The cell of a board that heard no note, with these quiet pits and no capture.
+    pub fn of_quiet(quiet: u8) -> Cell
+        ensures cell { view_of result ≡ record { left = quiet; status = tally.Open tally.Nothing 0 0 } }
+        ensures fits { (place : PlaceView) → Fits place result }
+    {
+        Cell {
+            dist: 0,
+            score: 0,
+            plans: 0,
+            left: quiet,
+            mark: Mark::Quiet,
+        }
+    }
+
+    /// The cell of a board that heard no note, with these quiet pits. Its best captures gain `best`,
+    /// and `plans` are their pits.
+    pub fn of_captures(quiet: u8, best: i8, plans: u8) -> Cell
+        ensures cell { view_of result ≡ record { left = quiet; status = tally.Open (tally.ByCapture best) plans 0 } }
+        ensures fits { (place : PlaceView) → IsWithin place.level best → Fits place result }
+    {
+        Cell {
+            dist: 0,
+            score: best,
+            plans,
+            left: quiet,
+            mark: Mark::Capturing,
+        }
+    }
+
+    /// Settles the board at this value and distance, with the plans that it has.
+    #[inline(always)]
+    fn settle(&mut self, score: i8, dist: u32)
+        ensures { self.new ≡ record self.old { mark = Settled; score = score; dist = dist } }
+    {
+        self.mark = Mark::Settled;
+        self.score = score;
+        self.dist = dist;
     }
 }
 

@@ -1,7 +1,7 @@
 //! What is kept of a part once its gains are all closed.
 
 ghost use Rattle.std.specs.Prelude.{◌≡◌, ◌+◌, length};
-ghost use Rattle.awari_block.specs.Part.{InBlock, settled_at, IsClosed};
+ghost use Rattle.awari_block.specs.Part.{InBlock, stored_at, IsClosed};
 
 use crate::cells::Cell;
 use crate::places::Place;
@@ -29,13 +29,12 @@ impl Model for ClosedPart {
 }
 
 impl ClosedPart {
-    /// Value in stones and distance in plies of the board of this rank, none if it is not settled.
-    /// Condition: the board is in the block.
-    pub fn settled(&self, rank: u32) -> Option<(i8, u32)>
+    /// What is known of the board of this rank. Condition: the board is in the block.
+    pub fn cell(&self, rank: u32) -> Cell
         requires { InBlock self.now rank }
-        ensures { result ≡ settled_at self.now rank }
+        ensures { result ≡ stored_at self.now rank }
     {
-        self.cells[(rank - self.place.start) as usize].settled()
+        self.cells[(rank - self.place.start) as usize]
     }
 
     /// The ranks of the boards of the block: from the first number up to, not including, the second.

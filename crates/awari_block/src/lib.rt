@@ -15,7 +15,7 @@
 //!         ensures leaving { IfOk result (λ found. length found.leaving.items ≡ block.end - block.start) }
 //!     {
 //!         let boards = (block.end - block.start) as usize;
-//!         let cells = vec![in alloc; Cell::unheard(Mark::Ended, 0, 0); boards]?;
+//!         let cells = vec![in alloc; Cell::of_end(0); boards]?;
 //!         let leaving = vec![in alloc; 0; boards]?;
 //!         Ok(ScannedBlock { cells, leaving })
 //!     }
@@ -30,6 +30,7 @@ mod landmarks;
 mod laws;
 mod notes;
 mod paces;
+mod pits;
 mod places;
 mod words;
 

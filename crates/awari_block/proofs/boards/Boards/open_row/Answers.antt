@@ -47,5 +47,5 @@ loop-rank-preserved c =
       settles = settles_both c.args.self.now c.loop-rank.self c.put.new.self before.settles c.put.ensures.settles;
       opens = subst (OpensCells c.args.self.now c.put.new.self (WIDTH * c.args.row)) next
           (opens_both c.args.self.now c.loop-rank.self c.put.new.self _ _ _ (omega (arith, low)) (omega arith) same size before.opens
-          (put_one c.loop-rank.self _ _ _ c.cell-cell.result read level gain c.put.new.self c.with_gain.result put high c.with_gain.ensures.heard c.with_gain.ensures.status));
+          (put_one c.loop-rank.self _ _ _ c.cell-cell.result read level gain c.put.new.self c.with_gain.result put high c.with_gain.ensures.cell));
     }
