@@ -1,5 +1,5 @@
 -- A cell, and when it tells what a list of notes says of its board and its plans.
-use Rattle.std.specs.Prelude.{◌≡◌, ◌↔◌, ℕ, ◌^◌, ◌<◌, ◌≤◌, ◌==◌, ◌⊎◌, Bool, true, false, not, ◌&&◌, List, ℤ, pos, ◌-ℤ◌, ◌≤ℤ◌, ◌<ℤ◌, Option, Some, None}
+use Rattle.std.specs.Prelude.{◌≡◌, ◌↔◌, ℕ, ◌^◌, ◌<◌, ◌≤◌, ◌==◌, ◌⊎◌, Bool, true, not, ◌&&◌, List, ℤ, pos, ◌-ℤ◌, ◌≤ℤ◌, ◌<ℤ◌, Option, Some, None}
 use Rattle.awari_board.specs.Rules.{IsMove, captured}
 use Rattle.awari_board.specs.Tests.{is_legal}
 use Rattle.awari_block.specs.Notes.{IsQuietMove, Has, gain_by, is_heard_at, AreOfOtherPits}

@@ -9,7 +9,9 @@ use Rattle.awari_rank.proofs.Examples.{highest}
 use Rattle.awari_rank.proofs.Ranking.{rank_of-below}
 use Rattle.awari_rank.proofs.Reaching.{board_reached, size_of-grows}
 use Rattle.awari_block.specs.Notes.{Has}
-use Rattle.awari_block.specs.Tally.{Settled, IsDistance, IsStatus}
+use Rattle.awari_block.specs.Plain as plain
+use Rattle.awari_block.specs.Plain.{IsDistance, IsPlain}
+use Rattle.awari_block.specs.Tally.{IsStatus}
 use Rattle.awari_block.specs.Tally as tally
 use Rattle.awari_block.specs.Cells.{status_by, status_of}
 use Rattle.awari_block.specs.Blocks.{no_cell, cell_in}
@@ -21,13 +23,13 @@ use Rattle.awari_block.specs.declared.cells.Mark.{Mark}
 use Rattle.awari_block.specs.declared.cells.Mark.TheVariants as mark
 use Rattle.awari_block.specs.declared.notes.Note.{Note}
 use Rattle.awari_owner.proofs.Basics.{far_attained}
-use Rattle.awari_owner.proofs.Finishing.{settled_status}
+use Rattle.awari_owner.proofs.RightCells.{settled_status}
 use Rattle.awari_owner.proofs.Levels.{block_at, cells_in_all, holds, known_there, next_board_is, of_level}
 
 -- ---- the board behind one
 
 -- a distance above 1 is one more than a note's
-behind : (value : List ℕ → ℤ) (p : List ℕ) (notes : List Note) (t : ℕ) (v : ℤ) (d : ℕ) → IsStatus value p notes t (Settled v d)
+behind : (value : List ℕ → ℤ) (p : List ℕ) (notes : List Note) (t : ℕ) (v : ℤ) (d : ℕ) → IsPlain value p notes t (plain.Settled v d)
     → (d ≤ 1) ⊎ ((m : Note) × Has notes m × (d ≡ m.dist + 1))
 behind value p notes t v d (inl ended) = inl (omega (arith, ended.2))
 behind value p notes t v d (inr going) = at going.1.distance
@@ -41,13 +43,14 @@ behind value p notes t v d (inr going) = at going.1.distance
     ]
 
 stored_dist : (c : Cell) (v : ℤ) (d : ℕ) → settled_by (status_of c) ≡ Some (v, d) → c.dist ≡ d
-stored_dist c v d e = at c.mark c.left c.score c.dist e
+stored_dist c v d e = at c.mark c.score c.plans c.dist e
   where
-    at : (m : Mark) (left : ℕ) (score : ℤ) (dist : ℕ) → settled_by (status_by m left score dist) ≡ Some (v, d) → dist ≡ d
-    at mark.Settled left score dist e = ap dist_by (settled_status (Settled score dist) v d e)
-    at mark.Ended left score dist e = absurd (false≢true (ap is_some e))
-    at mark.Quiet left score dist e = absurd (false≢true (ap is_some e))
-    at mark.Capturing left score dist e = absurd (false≢true (ap is_some e))
+    at : (m : Mark) (score : ℤ) (plans dist : ℕ) → settled_by (status_by m score plans dist) ≡ Some (v, d) → dist ≡ d
+    at mark.Settled score plans dist e = let found = settled_status (status_by mark.Settled score plans dist) v d e in ap dist_by found.1
+    at mark.Ended score plans dist e = absurd (false≢true (ap is_some e))
+    at mark.Quiet score plans dist e = absurd (false≢true (ap is_some e))
+    at mark.Capturing score plans dist e = absurd (false≢true (ap is_some e))
+    at mark.Noted score plans dist e = absurd (false≢true (ap is_some e))
 
 -- ---- as many boards as distances
 
@@ -121,8 +124,9 @@ module _ (value : List ℕ → ℤ) (level : ℕ) (parts : List Part) (whole : A
       let here : settled_at part (rank_of p) ≡ Some (v, d + 1) =
       ap (λ (c : tally.Cell). settled_by c.status) (sym (known_there level parts whole i inside (rank_of p) held)) ∙ ap known ranked ∙ settled in
       let said = tallied p is on_level held in
-      let status = subst (IsStatus value p (notes_for (rank_of p) notes) part.gain) (settled_status (cell_at part (rank_of p)).status v (d + 1) here) said.status in
-      elim (behind value p (notes_for (rank_of p) notes) part.gain v (d + 1) status) [
+      let found = settled_status (cell_at part (rank_of p)).status v (d + 1) here in
+      let status = subst (IsStatus value p (notes_for (rank_of p) notes) part.gain) found.1 said.status in
+      elim (behind value p (notes_for (rank_of p) notes) part.gain v (d + 1) status.settled) [
         | inl near ↦ absurd (omega (arith, near, some))
         | inr note ↦
             let (q, quiet) = said.quiet note.0 note.1 in

@@ -1,5 +1,5 @@
 -- Why a note that is on its way is not refused, and what stays while the same boards are spread.
-use Rattle.std.proofs.Common.{◌≡◌, ℕ, ◌+◌, ◌-◌, ◌*◌, ◌/◌, ◌^◌, ◌<◌, ◌≤◌, ◌⊎◌, inl, inr, Bool, true, false, min, List, [], ◌∷◌, ◌++◌, length, sum, ℤ, refl, sym, ap, subst, subst₂, ◌∙◌, arith, append_assoc}
+use Rattle.std.proofs.Common.{◌≡◌, ℕ, ◌+◌, ◌-◌, ◌*◌, ◌/◌, ◌^◌, ◌<◌, ◌≤◌, ◌⊎◌, inl, inr, Bool, true, false, not, min, List, [], ◌∷◌, ◌++◌, length, sum, ℤ, refl, sym, ap, subst, subst₂, ◌∙◌, arith, append_assoc}
 use Rattle.std.proofs.lemmas.Bool.{cases_lt, cases_eq}
 use Rattle.std.proofs.lemmas.Nat.{mul-le}
 use Rattle.awari_board.specs.Rules.{IsBoard, next_board}
@@ -7,8 +7,9 @@ use Rattle.awari_rank.specs.Rank.{rank_of, size_of}
 use Rattle.awari_block.specs.Notes.{IsQuietMove, Has, IsNoteOf, is_heard_at}
 use Rattle.awari_block.specs.Tally.{has_pit}
 use Rattle.awari_block.specs.Blocks.{KeepSettled}
-use Rattle.awari_block.specs.Part.{Part, InBlock, Leaves, IsTallied, IsExpected, JoinsFresh, SameLevel, stored_at, notes_for}
+use Rattle.awari_block.specs.Part.{Part, InBlock, Leaves, IsTallied, IsExpected, JoinsFresh, SameLevel, cell_at, stored_at, notes_for}
 use Rattle.awari_block.specs.Leaving.{first_rank}
+use Rattle.awari_owner.proofs.PlannedTallies.{unheard_told}
 use Rattle.awari_owner.specs.Spread.{HearsOwn, IsSpread, IsSeenAs}
 use Rattle.awari_block.specs.declared.notes.Note.{Note}
 use Rattle.awari_owner.proofs.Spreading.{IsInjective}
@@ -139,17 +140,22 @@ module _ (injective : IsInjective) (value : List ℕ → ℤ) (n owners : ℕ) (
       let owner : i' ≡ i = one_block n owners i' i (rank_of q) (part i') (part i) (sound.shares i' low) (sound.shares i high) (subst (λ (b : List ℕ). InBlock (part i') (rank_of b)) leads in_i) inside in
       once_apart (taken i j) rest m k given_next.once (subst (λ a. Has (taken a j) k) owner has) target pit
 
-  pub note_unheard : has_pit (stored_at (part j) m.target).heard m.pit ≡ false
-  note_unheard = by (has_pit (stored_at (part j) m.target).heard m.pit) refl
+  pub note_unheard : has_pit (stored_at (part j) m.target).left m.pit ≡ true
+  note_unheard = by (has_pit (stored_at (part j) m.target).left m.pit) refl
     where
-      by : (b : Bool) → has_pit (stored_at (part j) m.target).heard m.pit ≡ b → b ≡ false
-      by false e = refl
-      by true e =
+      flip : (b : Bool) → not b ≡ false → b ≡ true
+      flip b e = grind arith
+
+      by : (b : Bool) → has_pit (stored_at (part j) m.target).left m.pit ≡ b → b ≡ true
+      by true e = refl
+      by false e =
           let (q, v, d, p, x, spread, inside, is_q, is_p, stones, inside', note) = note_is in
           let hears = sound.hears j high' in
           let tally = hears.tallied p is_p stones inside' in
           let heard : is_heard_at (notes_for (rank_of p) hears.notes) m.pit ≡ true =
-          sym (tally.heard m.pit note_expected.own) ∙ subst (λ r. has_pit (stored_at (part j) r).heard m.pit ≡ true) note.target e in
+          flip (is_heard_at (notes_for (rank_of p) hears.notes) m.pit)
+          (sym (unheard_told value (cell_at (part j) (rank_of p)) p (notes_for (rank_of p) hears.notes) (part j).gain (part j).wave tally m.pit q (subst (λ y. IsQuietMove p y q) (sym note.pit) note.quiet))
+          ∙ subst (λ r. has_pit (stored_at (part j) r).left m.pit ≡ false) note.target e) in
           let found = heard_note (notes_for (rank_of p) hears.notes) m.pit heard in
           let there = Has-notes_for (rank_of p) hears.notes found.0 found.1 in
           let target : found.0.target ≡ m.target = there.1 ∙ sym note.target in

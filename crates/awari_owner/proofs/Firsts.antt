@@ -14,7 +14,7 @@ use Rattle.awari_block.specs.Part.{Part, InBlock, IsTallied, part_of, stored_at,
 use Rattle.awari_owner.specs.Spread.{Source, Tells, kind_of, note_to, with_all_own, LeavesFresh, Spreads, SpreadsOne}
 use Rattle.awari_block.specs.declared.cells.Cell.{Cell}
 use Rattle.awari_block.specs.declared.cells.Mark.{Mark}
-use Rattle.awari_block.specs.declared.cells.Mark.TheVariants.{Ended, Quiet, Capturing, Settled}
+use Rattle.awari_block.specs.declared.cells.Mark.TheVariants.{Ended, Quiet, Capturing, Noted, Settled}
 use Rattle.awari_block.specs.declared.notes.Kind.{Kind}
 use Rattle.awari_block.specs.declared.places.Place.{Place}
 use Rattle.awari_block.specs.Boards.{Settles, TakesFirst, place_of}
@@ -36,6 +36,7 @@ gain_low place c fits settled either = at c.mark settled fits
         within w (inr down) = let low = w.0 in omega (arith, ints, low, down)
     at Quiet e f = absurd (false≢true e)
     at Capturing e f = absurd (false≢true e)
+    at Noted e f = absurd (false≢true e)
     at Ended e f = absurd (false≢true e)
 
 first_of : (x : Due) (fresh : List Due) (wave rank : ℕ) → due_dist x ≡ wave → rank ≡ due_rank x → All (λ y. (due_dist x ≤ due_dist y) × (due_dist y ≡ due_dist x → due_rank x ≤ due_rank y)) fresh

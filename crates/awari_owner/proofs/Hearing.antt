@@ -11,7 +11,7 @@ use Rattle.awari_block.specs.declared.notes.Kind.TheVariants.{Won, Lost}
 use Rattle.awari_block.specs.Cells.{IsEither, is_settled, status_of, status_by, Keeps}
 use Rattle.awari_block.specs.declared.cells.Cell.{Cell}
 use Rattle.awari_block.specs.declared.cells.Mark.{Mark}
-use Rattle.awari_block.specs.declared.cells.Mark.TheVariants.{Ended, Quiet, Capturing, Settled}
+use Rattle.awari_block.specs.declared.cells.Mark.TheVariants.{Ended, Quiet, Capturing, Noted, Settled}
 use Rattle.std.proofs.lemmas.Bool.{false≢true}
 use Rattle.awari_block.specs.Blocks.{is_settled_in, times_due, cell_in, KeepSettled}
 use Rattle.awari_owner.specs.Spread.{Source, HearsOwn, IsSpread, LeavesFresh, kind_of, is_held, note_to, with_own, with_all_own, SpreadsOne}
@@ -64,18 +64,20 @@ some_settled c v d e = at c.mark refl
   where
     at : (m : Mark) → c.mark ≡ m → is_settled c.mark ≡ true
     at Settled f = ap is_settled f
-    at Quiet f = absurd (false≢true (ap (λ k. is_some (settled_by (status_by k c.left c.score c.dist))) (sym f) ∙ ap is_some e))
-    at Capturing f = absurd (false≢true (ap (λ k. is_some (settled_by (status_by k c.left c.score c.dist))) (sym f) ∙ ap is_some e))
-    at Ended f = absurd (false≢true (ap (λ k. is_some (settled_by (status_by k c.left c.score c.dist))) (sym f) ∙ ap is_some e))
+    at Quiet f = absurd (false≢true (ap (λ k. is_some (settled_by (status_by k c.score c.plans c.dist))) (sym f) ∙ ap is_some e))
+    at Noted f = absurd (false≢true (ap (λ k. is_some (settled_by (status_by k c.score c.plans c.dist))) (sym f) ∙ ap is_some e))
+    at Capturing f = absurd (false≢true (ap (λ k. is_some (settled_by (status_by k c.score c.plans c.dist))) (sym f) ∙ ap is_some e))
+    at Ended f = absurd (false≢true (ap (λ k. is_some (settled_by (status_by k c.score c.plans c.dist))) (sym f) ∙ ap is_some e))
 
 -- value and distance of a settled cell
 pub settled_value : (c : Cell) → is_settled c.mark ≡ true → settled_by (status_of c) ≡ Some (c.score, c.dist)
 settled_value c h = by c.mark h
   where
-    by : (k : Mark) → is_settled k ≡ true → settled_by (status_by k c.left c.score c.dist) ≡ Some (c.score, c.dist)
+    by : (k : Mark) → is_settled k ≡ true → settled_by (status_by k c.score c.plans c.dist) ≡ Some (c.score, c.dist)
     by Settled h = refl
     by Quiet h = absurd (false≢true h)
     by Capturing h = absurd (false≢true h)
+    by Noted h = absurd (false≢true h)
     by Ended h = absurd (false≢true h)
 
 kept_status : (a b : Cell) → Keeps a b → is_settled a.mark ≡ true → settled_by (status_of b) ≡ settled_by (status_of a)

@@ -8,7 +8,7 @@ use Rattle.awari_rank.specs.Rank.{rank_of}
 use Rattle.awari_block.specs.Tally.{has_pit, with_pit}
 use Rattle.awari_block.specs.Leaving.{IsAmong, LeavesFrom, LeavesAt, AreLeavingBelow, AreLeaving}
 use Rattle.awari_owner.proofs.Basics.{below_six}
-use Rattle.awari_owner.proofs.Tallies.{has_pit-with}
+use Rattle.awari_owner.proofs.PitSets.{has_pit-with}
 
 module _ (start boards : ℕ) (p : List ℕ) where
   pub leaving-none : AreLeavingBelow start boards p 0 0

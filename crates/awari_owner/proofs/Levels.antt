@@ -22,7 +22,7 @@ use Rattle.awari_owner.specs.Spread.{Hears, HearsTruth, HearsOwn, IsSpread, Same
 use Rattle.awari_owner.specs.Level.{AreBlocks, AreWhole, all_cells, known_at, AreHeard, AreTold, AreSound, IsShare, no_part, part_at}
 use Rattle.awari_owner.specs.Finish.{IsQuietAt, IsRightAt}
 use Rattle.awari_block.specs.declared.notes.Note.{Note}
-use Rattle.awari_owner.proofs.Finishing.{quiet_right, settled_status}
+use Rattle.awari_owner.proofs.RightCells.{quiet_right}
 
 -- ---- blocks one after another
 
@@ -154,7 +154,7 @@ module _ (level : ℕ) (parts : List Part) (whole : AreWhole level parts) where
       (IsBoard-next p x 0 q is quiet, omega (arith, kept, stones))
 
   module _ (value : List ℕ → ℤ) (closed : All IsClosed parts) (heard : AreHeard value parts) where
-    quiet_at : (p : List ℕ) → IsBoard p → sum p ≡ level → (notes : List Note) × IsQuietAt value (λ q. known_at parts (rank_of q)) p notes
+    pub quiet_at : (p : List ℕ) → IsBoard p → sum p ≡ level → (notes : List Note) × IsQuietAt value (λ q. known_at parts (rank_of q)) p notes
     quiet_at p is stones =
         let (i, inside, held) = holds p is stones in
         let (notes, tallied, hears) = heard i no_part inside in
@@ -173,12 +173,12 @@ module _ (level : ℕ) (parts : List Part) (whole : AreWhole level parts) where
                 let next = next_board_is p m.pit q is stones quiet in
                 let (j, inside_j, held_j) = holds q next.0 next.1 in
                 let (v, d, spread, note) = (hears j no_part inside_j).true_notes p m.pit q is on_level held held_j quiet m has refl in
-                (q, v, d, quiet, settled_status (known_at parts (rank_of q)).status v d (ap (λ (c : tally.Cell). settled_by c.status) (known_there j inside_j (rank_of q) held_j) ∙ spread.0), note.gain, note.same_dist);
+                (q, v, d, quiet, ap (λ (c : tally.Cell). settled_by c.status) (known_there j inside_j (rank_of q) held_j) ∙ spread.0, note.gain, note.same_dist);
             all_notes = λ x q v d quiet settled.
                 let next = next_board_is p x q is stones quiet in
                 let (j, inside_j, held_j) = holds q next.0 next.1 in
                 let spread : IsSpread (part_at parts j) (rank_of q) v d = (
-                  ap (λ (c : tally.Cell). settled_by c.status) (sym (known_there j inside_j (rank_of q) held_j)) ∙ ap settled_by settled,
+                  ap (λ (c : tally.Cell). settled_by c.status) (sym (known_there j inside_j (rank_of q) held_j)) ∙ settled,
                   ap (λ (fs : List Due). times_due fs (rank_of q)) (closed j no_part inside_j).1,
                 ) in
                 let (m, has, note) = (hears j no_part inside_j).all_notes p x q v d is on_level held held_j quiet spread in

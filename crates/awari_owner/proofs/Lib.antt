@@ -1,13 +1,18 @@
 pub mod Basics
 pub mod Legality
 pub mod Statuses
-pub mod Tallies
+pub mod PitSets
+pub mod Knowing
+pub mod HearingPlans
+pub mod OpeningPlans
+pub mod PlannedTallies
 pub mod Taking
 pub mod Gains
 pub mod Spreading
 pub mod Hearing
 pub mod LeavingMoves
 pub mod Scanning
+pub mod Looks
 pub mod PieceLemmas
 pub mod Firsts
 pub mod Sending
@@ -16,6 +21,7 @@ pub mod Telling
 pub mod Queueing
 pub mod Sharing
 pub mod Finishing
+pub mod RightCells
 pub mod Levels
 pub mod Distances
 pub mod Lists

@@ -7,13 +7,16 @@ use Rattle.std.proofs.Math.Seq.{get_or-append_seam}
 use Rattle.awari_board.specs.Rules.{IsBoard, IsEnd, IsEnded, IsLegal, IsMove, captured, next_board, own_stones}
 use Rattle.awari_board.specs.Tests.{is_legal}
 use Rattle.awari_board.proofs.Legal.{legal_is}
-use Rattle.awari_block.specs.Tally.{Open, has_pit, is_left, left_of, pits, Captures, IsBest, Knows, IsStatus, IsTally}
+use Rattle.awari_block.specs.Pits.{pits}
+use Rattle.awari_block.specs.Plain as plain
+use Rattle.awari_block.specs.Plain.{is_left, left_of, Captures, IsBest, Knows, IsPlain}
+use Rattle.awari_block.specs.Tally.{IsStatus, IsTally}
 use Rattle.awari_block.specs.Cells.{IsWithin, IsEither, Fits, FitsBy, view_of, status_of, status_by, is_settled}
 use Rattle.awari_block.specs.declared.cells.Cell.{Cell}
 use Rattle.awari_block.specs.declared.cells.Mark.{Mark}
-use Rattle.awari_block.specs.declared.cells.Mark.TheVariants.{Ended, Quiet, Capturing, Settled}
+use Rattle.awari_block.specs.declared.cells.Mark.TheVariants.{Ended, Quiet, Capturing, Noted, Settled}
 use Rattle.awari_block.specs.declared.places.Place.{Place}
-use Rattle.awari_owner.specs.Scan.{IsRanged, IsBestBelow, IsOutlook, IsScanned, AreScanned}
+use Rattle.awari_owner.specs.Scan.{IsRanged, IsBestBelow, IsCounted, IsScanned, AreScanned}
 use Rattle.awari_rank.specs.Rank.{rank_of}
 use Rattle.awari_block.specs.Blocks.{Due, due_rank, cell_in, no_cell, times_due, is_settled_in, IsDueAs, IsBlock}
 use Rattle.awari_block.specs.Part.{Part, InBlock, settled_by, settled_at}
@@ -25,7 +28,7 @@ use Rattle.awari_owner.proofs.Legality.{quiet_counted}
 
 pub scanned : (value : List ℕ → ℤ) (p : List ℕ) (best : Option ℤ) → ((x : ℕ) × IsLegal p x) → IsBest value p best
     → ((v : ℤ) → Captures value p v → (neg_ℤ (pos (sum p + 1)) <ℤ v) × (v <ℤ pos (sum p + 1)))
-    → IsStatus value p [] (sum p + 1) (Open (left_of p []) best 0)
+    → IsPlain value p [] (sum p + 1) (plain.Open (left_of p []) best 0)
 scanned value p best going is within = (
   λ ended. ended going.0 going.1,
   record { quiet_left = refl; best_capture = is; farthest = refl },
@@ -53,7 +56,7 @@ scanned value p best going is within = (
 -- ---- the outlook, pit by pit
 
 module _ (value : List ℕ → ℤ) (p : List ℕ) where
-  pub outlook-none : IsOutlook value p 0 0 None
+  pub outlook-none : IsCounted value p 0 0 None
   outlook-none = record { few = omega arith; counted = refl; best_below = λ x c q h move some. absurd (omega (arith, h)) }
 
   -- one pit more is one count more where it is a quiet move
@@ -90,14 +93,14 @@ module _ (value : List ℕ → ℤ) (p : List ℕ) where
   best-skips k (Some b) none h =
       (h.0, h.1, λ x c q low move some. elim (split x k low) [ inl less ↦ h.2 x c q less move some | inr same ↦ absurd (none c q (subst (λ y. IsMove p y c q) same move) some) ])
 
-  pub outlook-skips : (k quiet : ℕ) (best : Option ℤ) → k < 6 → (IsLegal p k → ⊥) → IsOutlook value p k quiet best → IsOutlook value p (k + 1) quiet best
+  pub outlook-skips : (k quiet : ℕ) (best : Option ℤ) → k < 6 → (IsLegal p k → ⊥) → IsCounted value p k quiet best → IsCounted value p (k + 1) quiet best
   outlook-skips k quiet best own illegal h = record {
     few = omega (arith, h.few);
     counted = let more = count-more k own in let none = left-illegal k illegal in omega (arith, h.counted, more, none);
     best_below = best-skips k best (λ c q move some. illegal move.legal) h.best_below;
   }
 
-  pub outlook-quiet : (k quiet : ℕ) (best : Option ℤ) (q : List ℕ) → k < 6 → IsMove p k 0 q → IsOutlook value p k quiet best → IsOutlook value p (k + 1) (quiet + 1) best
+  pub outlook-quiet : (k quiet : ℕ) (best : Option ℤ) (q : List ℕ) → k < 6 → IsMove p k 0 q → IsCounted value p k quiet best → IsCounted value p (k + 1) (quiet + 1) best
   outlook-quiet k quiet best q own move h = record {
     few = omega (arith, h.few);
     counted = let more = count-more k own in let one = left-quiet k q move in omega (arith, h.counted, more, one);
@@ -113,7 +116,7 @@ module _ (value : List ℕ → ℤ) (p : List ℕ) where
 
   pub outlook-capture : (k quiet c : ℕ) (best : Option ℤ) (q : List ℕ) (v w : ℤ) → k < 6 → IsMove p k c q → 0 < c → v ≡ (pos c -ℤ value q) → IsWithin (sum p) v
       → (best ≡ None) × (w ≡ v) ⊎ ((b : ℤ) × (best ≡ Some b) × (b ≤ℤ w) × (v ≤ℤ w) × ((w ≡ b) ⊎ (w ≡ v)))
-      → IsOutlook value p k quiet best → IsOutlook value p (k + 1) quiet (Some w)
+      → IsCounted value p k quiet best → IsCounted value p (k + 1) quiet (Some w)
   outlook-capture k quiet c best q v w own move some gain within either h = record {
     few = omega (arith, h.few);
     counted = let more = count-more k own in let none = left-capture k c q move some in omega (arith, h.counted, more, none);
@@ -152,7 +155,7 @@ module _ (value : List ℕ → ℤ) (p : List ℕ) where
   best-all (Some b) h = (h.0, λ v capture. subst (λ u. u ≤ℤ b) (sym capture.5) (h.2 capture.0 capture.1 capture.2 capture.3.legal.own capture.3 capture.4))
 
   -- no pit is legal where none is quiet and none captures
-  pub outlook-ended : (best : Option ℤ) → best ≡ None → IsOutlook value p 6 0 best → IsEnded p
+  pub outlook-ended : (best : Option ℤ) → best ≡ None → IsCounted value p 6 0 best → IsEnded p
   outlook-ended best none h x legal = by (captured p x) refl
     where
       uncounted : left_of p [] ≡ 0
@@ -170,7 +173,7 @@ module _ (value : List ℕ → ℤ) (p : List ℕ) where
           below x (suc c) (next_board p x) legal.own (record { legal = legal; captures = sym e; leaves = refl }) (omega arith)
 
   -- a quiet move is legal
-  pub outlook-quiet_legal : (quiet : ℕ) (best : Option ℤ) → 0 < quiet → IsOutlook value p 6 quiet best → (x : ℕ) × IsLegal p x
+  pub outlook-quiet_legal : (quiet : ℕ) (best : Option ℤ) → 0 < quiet → IsCounted value p 6 quiet best → (x : ℕ) × IsLegal p x
   outlook-quiet_legal quiet best some h =
       let found = count_by-some (is_left p []) (omega (arith, h.counted)) in
       (found.0, (legal_is p found.0).0 (first (is_legal p found.0) (captured p found.0 == 0) found.2))
@@ -193,41 +196,6 @@ captures_within value p keeps ranged v capture =
     let gain = capture.5 in
     (omega (arith, ints, low, high, gain, stones), omega (arith, ints, low, high, gain, stones, some))
 
-pub scanned_capturing : (value : List ℕ → ℤ) (p : List ℕ) (quiet : ℕ) (b : ℤ) (best : Option ℤ) (c : Cell) → ((x c : ℕ) (q : List ℕ) → IsMove p x c q → IsBoard q × (sum q + c ≡ sum p)) → IsRanged value (sum p)
-    → best ≡ Some b → IsOutlook value p 6 quiet best → c ≡ record { heard = 0; left = quiet; mark = Capturing; score = b; dist = 0 } → IsScanned value p c
-scanned_capturing value p quiet b best c keeps ranged some h is = subst (IsScanned value p) (sym is) (record {
-  heard = refl;
-  fits = λ t. (omega arith, below.1);
-  unsettled = refl;
-  status = subst (λ n. IsStatus value p [] (sum p + 1) (Open n (Some b) 0)) (sym h.counted)
-      (scanned value p (Some b) (below.0.0, below.0.3.legal) (best-all value p (Some b) below) (captures_within value p keeps ranged));
-})
-  where
-    below : IsBestBelow value p 6 (Some b)
-    below = subst (IsBestBelow value p 6) some h.best_below
-
-pub scanned_quiet : (value : List ℕ → ℤ) (p : List ℕ) (quiet : ℕ) (best : Option ℤ) (c : Cell) → ((x c : ℕ) (q : List ℕ) → IsMove p x c q → IsBoard q × (sum q + c ≡ sum p)) → IsRanged value (sum p)
-    → best ≡ None → 0 < quiet → IsOutlook value p 6 quiet best → c ≡ record { heard = 0; left = quiet; mark = Quiet; score = pos 0; dist = 0 } → IsScanned value p c
-scanned_quiet value p quiet best c keeps ranged none some h is = subst (IsScanned value p) (sym is) (record {
-  heard = refl;
-  fits = λ t. omega arith;
-  unsettled = refl;
-  status = subst (λ n. IsStatus value p [] (sum p + 1) (Open n None 0)) (sym h.counted)
-      (scanned value p None (outlook-quiet_legal value p quiet best some h) (best-all value p None (subst (IsBestBelow value p 6) none h.best_below)) (captures_within value p keeps ranged));
-})
-
-pub scanned_ended : (value : List ℕ → ℤ) (p : List ℕ) (g : ℤ) (c : Cell) → IsEnd p g → c ≡ record { heard = 0; left = 0; mark = Ended; score = g; dist = 0 } → IsScanned value p c
-scanned_ended value p g c end is = subst (IsScanned value p) (sym is) (record {
-  heard = refl;
-  fits = λ t. subst (IsEither (sum p)) (sym end.gains) (either (own_stones p == 0));
-  unsettled = refl;
-  status = (end, omega arith);
-})
-  where
-    either : (b : Bool) → IsEither (sum p) (cond b (neg_ℤ (pos (sum p))) (pos (sum p)))
-    either true = inr refl
-    either false = inl refl
-
 -- the cell of a board of which no note was heard is a tally of none
 pub scanned_tally : (value : List ℕ → ℤ) (p : List ℕ) (c : Cell) (t w : ℕ) → t ≡ sum p + 1 → IsScanned value p c → IsTally value (view_of c) p [] t w
 scanned_tally value p c t w at h = record {
@@ -235,8 +203,9 @@ scanned_tally value p c t w at h = record {
   quiet = λ m has. absurd has;
   opened = λ m has. absurd has;
   waved = λ m has _. absurd has;
-  heard = λ x own. subst (λ n. has_pit n x ≡ false) (sym h.heard) (below_six (λ x. has_pit 0 x ≡ false) refl refl refl refl refl refl x own);
-  status = subst (λ n. IsStatus value p [] n (status_of c)) (sym at) h.status;
+  few = h.tallied.few;
+  left = h.tallied.left;
+  status = subst (λ n. IsStatus value p [] n (status_of c)) (sym at) h.tallied.status;
 }
 
 -- ---- the cells, board by board
@@ -309,10 +278,11 @@ module _ (value : List ℕ → ℤ) (n start end : ℕ) (cells : List Cell) (lon
       c : Cell
       c = cell_in start cells r
 
-      at : (m : Mark) → is_settled m ≡ false → settled_by (status_by m c.left c.score c.dist) ≡ None
+      at : (m : Mark) → is_settled m ≡ false → settled_by (status_by m c.score c.plans c.dist) ≡ None
       at Settled e = absurd (false≢true (sym e))
       at Quiet e = refl
       at Capturing e = refl
+      at Noted e = refl
       at Ended e = refl
 
 -- of no notes there is nothing to hear where no board is settled

@@ -1,5 +1,5 @@
 -- What the notes of a board that is spread make of its own part.
-use Rattle.std.proofs.Common.{◌≡◌, ◌↔◌, IsTrue, ℕ, suc, ◌||◌, eqb-true, ◌+◌, ◌-◌, ◌<◌, ◌≤◌, ◌==◌, ◌⊎◌, inl, inr, Bool, true, false, ◌&&◌, cond, if◌then◌else◌, nat_le, nat_lt, List, [], ◌∷◌, ◌++◌, length, length-append, append_assoc, get_or, slice_index, fold, sum, ℤ, All, Contains, refl, sym, ap, subst, subst₂, ◌∙◌, arith}
+use Rattle.std.proofs.Common.{◌≡◌, ◌↔◌, IsTrue, ℕ, suc, ◌||◌, eqb-true, ◌+◌, ◌-◌, ◌<◌, ◌≤◌, ◌==◌, ◌⊎◌, inl, inr, Bool, true, false, not, ◌&&◌, cond, if◌then◌else◌, nat_le, nat_lt, List, [], ◌∷◌, ◌++◌, length, length-append, append_assoc, get_or, slice_index, fold, sum, ℤ, All, Contains, refl, sym, ap, subst, subst₂, ◌∙◌, arith}
 use Rattle.std.proofs.lemmas.Bool.Decides.{nat_tests}
 use Rattle.std.proofs.lemmas.List.{get_or_default, get_or_append_left}
 use Rattle.std.proofs.Math.Seq.{get_or-append_seam}
@@ -10,13 +10,14 @@ use Rattle.awari_rank.specs.Rank.{rank_of}
 use Rattle.awari_block.specs.Notes.{IsQuietMove, Has, is_heard_at}
 use Rattle.awari_block.specs.Tally.{has_pit}
 use Rattle.awari_block.specs.Blocks.{Due, due_rank, times_due, is_settled_in, JoinNewlySettled}
-use Rattle.awari_block.specs.Part.{Part, InBlock, IsTallied, SameLevel, stored_at, notes_for}
+use Rattle.awari_block.specs.Part.{Part, InBlock, IsTallied, SameLevel, cell_at, stored_at, notes_for}
 use Rattle.awari_block.specs.Boards.{HearsNote}
 use Rattle.awari_owner.specs.Spread.{Source, is_held, note_to, with_own, with_all_own, IsSource, AreUnheard, Tells, HearsOwn}
 use Rattle.awari_unmove.specs.Predecessors.{IsPredecessors, ComesBefore}
 use Rattle.awari_block.specs.declared.notes.Note.{Note}
 use Rattle.awari_block.specs.declared.notes.Kind.{Kind}
 use Rattle.awari_block.specs.declared.cells.Cell.{Cell}
+use Rattle.awari_owner.proofs.PlannedTallies.{unheard_told}
 use Rattle.awari_owner.proofs.Taking.{IsTakeable, added_heard}
 
 pub held_is : (a b n : ℕ) → a ≤ b → b - a < n → (nat_le a b && nat_lt (b - a) n) ≡ true
@@ -69,8 +70,8 @@ heard_here value notes part new kind y injective one source inside unheard same 
     (sym (held_is part.start (rank_of y.0) (length part.cells) inside.0 inside.1))
     (added_heard value notes part new (note_to part kind y) one due silent same hears tallied)
   where
-    silent : has_pit (stored_at part (rank_of y.0)).heard y.1 ≡ false
-    silent = (tallied y.0 source.0 source.1 inside).heard y.1 source.2.1.legal.own ∙ unheard
+    silent : has_pit (stored_at part (rank_of y.0)).left y.1 ≡ true
+    silent = unheard_told value (cell_at part (rank_of y.0)) y.0 (notes_for (rank_of y.0) notes) part.gain part.wave (tallied y.0 source.0 source.1 inside) y.1 source.2.0 source.2.1 ∙ ap not unheard
 
     due : IsTakeable part (note_to part kind y)
     due = record {

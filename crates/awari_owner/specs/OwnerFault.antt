@@ -27,6 +27,6 @@ fault_text fault = decimal (number_of fault) ++ codes " " ++ name_of fault
 -- The fault of a note. At most one is due, since each is tested only where those before it are not.
 abbrev pub IsFaultOf : Part → Note → OwnerFault → Type 0
 IsFaultOf part note Stranger = IsExpected part note → ⊥
-IsFaultOf part note Doubled = IsExpected part note × (has_pit (stored_at part note.target).heard note.pit ≡ true)
-IsFaultOf part note Far = IsExpected part note × (has_pit (stored_at part note.target).heard note.pit ≡ false) × (note.dist ≡ 2 ^ 32 - 1)
+IsFaultOf part note Doubled = IsExpected part note × (has_pit (stored_at part note.target).left note.pit ≡ false)
+IsFaultOf part note Far = IsExpected part note × (has_pit (stored_at part note.target).left note.pit ≡ true) × (note.dist ≡ 2 ^ 32 - 1)
 IsFaultOf part note Memory = ⊥

@@ -1,6 +1,6 @@
 //! What follows of a level whose parts heard its notes.
 
-ghost use Rattle.std.specs.Prelude.{◌≡◌, ℕ, ℤ, ◌<◌, ◌≤◌, ◌^◌, ◌-◌, List, [], ◌∷◌, All, false, sum, length};
+ghost use Rattle.std.specs.Prelude.{◌≡◌, ℕ, ℤ, ◌<◌, ◌≤◌, ◌^◌, ◌-◌, List, [], ◌∷◌, All, true, sum, length};
 ghost use Rattle.std.specs.List.{AllZip};
 ghost use Rattle.awari_board.specs.Rules.{IsBoard};
 ghost use Rattle.awari_rank.specs.Rank.{rank_of};
@@ -70,7 +70,7 @@ pub fn one_part_hears_all()
 pub fn coming_notes_are_expected()
     ensures { (value : List ℕ → ℤ) (n owners : ℕ) (part : ℕ → Part) (coming taken : ℕ → ℕ → List Note) → AreSound value n owners part coming taken
         → (i j : ℕ) → i < owners → j < owners → (i ≡ j → ⊥) → (m : Note) (rest : List Note) → coming i j ≡ m ∷ rest
-        → IsExpected (part j) m × (has_pit (stored_at (part j) m.target).heard m.pit ≡ false) × (m.dist < 2 ^ 32 - 1) }
+        → IsExpected (part j) m × (has_pit (stored_at (part j) m.target).left m.pit ≡ true) × (m.dist < 2 ^ 32 - 1) }
 {
     ranks_tell_boards_apart();
 }

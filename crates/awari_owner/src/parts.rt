@@ -22,7 +22,7 @@ use crate::queues::reserve_others;
 use crate::scans::{ScannedBlock, scanned_block};
 use crate::spreads::{kind_of, tell_all};
 use crate::targets::{MOST_PREDECESSORS, Target};
-use awari_block::{Block, Boards, ClosedPart, Note, block_length};
+use awari_block::{Block, Boards, Cell, ClosedPart, Note, block_length};
 use awari_board::{SIDE, moves_keep_boards};
 use awari_rank::{ranks_tell_boards_apart, size};
 use awari_table::{Shelf, shelves_are_certificates};
@@ -111,6 +111,14 @@ impl Part {
         ensures ranged { IfSome result (λ s. IsWithin self.now.level s.0 × IsBeyond self.now.gain s.0) }
     {
         self.boards.cell(rank).settled()
+    }
+
+    /// What is known of the board of this rank. Condition: the board is in the block.
+    pub fn cell(&self, rank: u32) -> Cell
+        requires { InBlock self.now rank }
+        ensures { result ≡ stored_at self.now rank }
+    {
+        self.boards.cell(rank)
     }
 
     /// The ranks of the boards of the block: from the first number up to, not including, the second.
@@ -202,14 +210,14 @@ impl Part {
         ensures stays { KeepSettled self.old.start self.old.cells self.new.cells }
         ensures unspread { unspread self.new ≡ unspread self.old }
         ensures fresh { AreFresh self.new }
-        ensures ok { OnOk result (IsExpected self.old note × (has_pit (stored_at self.old note.target).heard note.pit ≡ false) × (note.dist < 2 ^ 32 - 1)) }
+        ensures ok { OnOk result (IsExpected self.old note × (has_pit (stored_at self.old note.target).left note.pit ≡ true) × (note.dist < 2 ^ 32 - 1)) }
         ensures refused { IfErr result (IsFaultOf self.old note) }
         ensures err { OnErr result (self.new ≡ self.old) }
     {
         if !self.expects(&note) {
             return Err(OwnerFault::Stranger);
         }
-        if self.boards.cell(note.target).has_heard(note.pit) {
+        if !self.boards.cell(note.target).has_left(note.pit) {
             return Err(OwnerFault::Doubled);
         }
         if note.dist == u32::MAX {

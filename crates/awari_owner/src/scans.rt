@@ -1,15 +1,16 @@
-//! What is known of a board before it hears any note: how many quiet moves it has, which of them
-//! leave the block, and what its best capture gains by the shelf.
+//! What is known of a board before it hears any note: its quiet moves, which of them leave the block,
+//! and what its best captures gain by the shelf.
 
 ghost use Rattle.std.specs.Prelude.{◌≡◌, ◌<◌, ◌≤◌, ◌+◌, ℕ, ℤ, pos, ◌-ℤ◌, ◌-◌, List, None, IfOk, length, sum};
 ghost use Rattle.awari_board.specs.Rules.{IsBoard, IsEnd, IsEnded, IsMove};
 ghost use Rattle.awari_table.specs.Images.{table_of};
 ghost use Rattle.awari_table.specs.declared.TheConstants.{HIGHEST_LEVEL};
 ghost use Rattle.awari_block.specs.Cells.{IsWithin};
+ghost use Rattle.awari_block.specs.Steps.{greater_of, pits_after};
 ghost use Rattle.awari_block.specs.Leaving.{AreLeavingBelow, IsBlockOf};
 ghost use Rattle.awari_owner.specs.Scan.{CanScan, IsOutlook, IsPiece, IsRanged, IsScanned, IsScannedBlock};
 
-use awari_block::{Block, Cell, Mark};
+use awari_block::{Block, Cell};
 use awari_packed::{PackedBoard, PackedMove};
 use awari_rank::ranks_tell_boards_apart;
 use awari_table::Shelf;
@@ -30,11 +31,12 @@ struct ScannedBoard {
     leaving: u8,
 }
 
-/// How many pits are quiet moves, what the best capture gains in stones, if one is legal, and which
-/// quiet moves lead out of the block.
+/// The pits of the quiet moves and of the best captures, what these gain in stones, if one is legal, and
+/// which quiet moves lead out of the block.
 #[derive(Clone, Copy)]
 struct Outlook {
     quiet: u8,
+    plans: u8,
     best: Option<i8>,
     leaving: u8,
 }
@@ -64,7 +66,7 @@ pub fn unscanned_block(alloc: Global, block: Block) -> Result<ScannedBlock, Allo
     ensures leaving { IfOk result (λ found. length found.leaving.items ≡ block.end - block.start) }
 {
     let boards = (block.end - block.start) as usize;
-    let cells = vec![in alloc; Cell::unheard(Mark::Ended, 0, 0); boards]?;
+    let cells = vec![in alloc; Cell::of_end(0); boards]?;
     let leaving = vec![in alloc; 0; boards]?;
     Ok(ScannedBlock { cells, leaving })
 }
@@ -108,6 +110,7 @@ fn scanned(shelf: &Shelf, block: Block, board: &PackedBoard) -> ScannedBoard
 {
     let mut seen = Outlook {
         quiet: 0,
+        plans: 0,
         best: None,
         leaving: 0,
     };
@@ -132,9 +135,9 @@ fn see_pit(seen: &mut Outlook, shelf: &Shelf, block: Block, board: &PackedBoard,
     requires ranged { IsRanged (table_of shelf.now).value (length shelf.now) }
     requires block { IsBlockOf (length shelf.now) block }
     requires own { pit < 6 }
-    requires seen { IsOutlook (table_of shelf.now).value board.now pit seen.old.quiet seen.old.best }
+    requires seen { IsOutlook (table_of shelf.now).value board.now pit seen.old.quiet seen.old.best seen.old.plans }
     requires leaving { AreLeavingBelow block.start (block.end - block.start) board.now pit seen.old.leaving }
-    ensures seen { IsOutlook (table_of shelf.now).value board.now (pit + 1) seen.new.quiet seen.new.best }
+    ensures seen { IsOutlook (table_of shelf.now).value board.now (pit + 1) seen.new.quiet seen.new.best seen.new.plans }
     ensures leaving { AreLeavingBelow block.start (block.end - block.start) board.now (pit + 1) seen.new.leaving }
 {
     if !board.legal(pit) {
@@ -145,25 +148,24 @@ fn see_pit(seen: &mut Outlook, shelf: &Shelf, block: Block, board: &PackedBoard,
         see_quiet(seen, block, pit, &moved.board);
         return;
     }
-    see_capture(seen, shelf, &moved);
+    see_capture(seen, shelf, pit, &moved);
 }
 
 /// Puts one quiet move more into the outlook, from `pit` to this board.
 #[inline(always)]
 fn see_quiet(seen: &mut Outlook, block: Block, pit: u8, next: &PackedBoard)
     requires own { pit < 6 }
-    requires few { seen.old.quiet < 6 }
     requires board { IsBoard next.now }
     requires low { sum next.now ≤ 24 }
     requires block { IsBlockOf (sum next.now) block }
     ensures seen { (value : List ℕ → ℤ) (p : List ℕ) → IsMove p pit 0 next.now
-        → IsOutlook value p pit seen.old.quiet seen.old.best
-        → IsOutlook value p (pit + 1) seen.new.quiet seen.new.best }
+        → IsOutlook value p pit seen.old.quiet seen.old.best seen.old.plans
+        → IsOutlook value p (pit + 1) seen.new.quiet seen.new.best seen.new.plans }
     ensures leaving { (p : List ℕ) → IsMove p pit 0 next.now
         → AreLeavingBelow block.start (block.end - block.start) p pit seen.old.leaving
         → AreLeavingBelow block.start (block.end - block.start) p (pit + 1) seen.new.leaving }
 {
-    seen.quiet += 1;
+    seen.quiet |= 1 << pit;
     if block.holds(next) {
         return;
     }
@@ -172,23 +174,42 @@ fn see_quiet(seen: &mut Outlook, block: Block, pit: u8, next: &PackedBoard)
 
 /// Puts one capture more into the outlook, which leads out of no block.
 #[inline(always)]
-fn see_capture(seen: &mut Outlook, shelf: &Shelf, moved: &PackedMove)
+fn see_capture(seen: &mut Outlook, shelf: &Shelf, pit: u8, moved: &PackedMove)
+    requires own { pit < 6 }
     requires kept { sum moved.now.board + moved.now.captured ≡ length shelf.now }
     requires board { IsBoard moved.now.board }
     requires low { length shelf.now ≤ HIGHEST_LEVEL }
     requires ranged { IsRanged (table_of shelf.now).value (length shelf.now) }
     requires captures { 0 < moved.now.captured }
-    ensures seen { (p : List ℕ) (pit : ℕ) → pit < 6 → sum p ≡ length shelf.now → IsMove p pit moved.now.captured moved.now.board
-        → IsOutlook (table_of shelf.now).value p pit seen.old.quiet seen.old.best
-        → IsOutlook (table_of shelf.now).value p (pit + 1) seen.new.quiet seen.new.best }
+    ensures seen { (p : List ℕ) → sum p ≡ length shelf.now → IsMove p pit moved.now.captured moved.now.board
+        → IsOutlook (table_of shelf.now).value p pit seen.old.quiet seen.old.best seen.old.plans
+        → IsOutlook (table_of shelf.now).value p (pit + 1) seen.new.quiet seen.new.best seen.new.plans }
     ensures leaving { seen.new.leaving ≡ seen.old.leaving }
 {
     let gain = gain_of(shelf, moved);
-    let best = match seen.best {
-        Some(best) => best.max(gain),
-        None => gain,
-    };
-    seen.best = Some(best);
+    put_capture(seen, pit, gain);
+}
+
+/// Puts a capture from this pit, which gains this, into the outlook.
+#[inline(always)]
+fn put_capture(seen: &mut Outlook, pit: u8, gain: i8)
+    requires { pit < 6 }
+    ensures { seen.new ≡ record seen.old { best = greater_of seen.old.best gain; plans = pits_after seen.old.best seen.old.plans gain pit } }
+{
+    match seen.best {
+        Some(best) => {
+            if best < gain {
+                seen.best = Some(gain);
+                seen.plans = 1 << pit;
+            } else if best == gain {
+                seen.plans |= 1 << pit;
+            }
+        }
+        None => {
+            seen.best = Some(gain);
+            seen.plans = 1 << pit;
+        }
+    }
 }
 
 /// What a capture gains: the stones captured, less the value of the board that it leaves.
@@ -211,15 +232,15 @@ fn gain_of(shelf: &Shelf, moved: &PackedMove) -> i8
 fn cell_of(board: &PackedBoard, seen: Outlook) -> Cell
     requires ended { seen.quiet ≡ 0 → seen.best ≡ None → IsEnded board.now }
     ensures { (value : List ℕ → ℤ) → IsBoard board.now → IsRanged value (sum board.now)
-        → IsOutlook value board.now 6 seen.quiet seen.best → IsScanned value board.now result }
+        → IsOutlook value board.now 6 seen.quiet seen.best seen.plans → IsScanned value board.now result }
 {
     match seen.best {
-        Some(best) => Cell::unheard(Mark::Capturing, seen.quiet, best),
+        Some(best) => Cell::of_captures(seen.quiet, best, seen.plans),
         None => {
             if seen.quiet > 0 {
-                Cell::unheard(Mark::Quiet, seen.quiet, 0)
+                Cell::of_quiet(seen.quiet)
             } else {
-                Cell::unheard(Mark::Ended, 0, end_of(board))
+                Cell::of_end(end_of(board))
             }
         }
     }

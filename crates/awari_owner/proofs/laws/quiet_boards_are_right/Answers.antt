@@ -1,4 +1,4 @@
-use Rattle.awari_owner.proofs.Finishing.{quiet_right}
+use Rattle.awari_owner.proofs.RightCells.{quiet_right}
 use Rattle.awari_owner.proofs.laws.quiet_boards_are_right.Goals as goal
 
 pub returns : goal.returns

@@ -4,12 +4,12 @@ use Rattle.awari_board.specs.Rules.{IsMove}
 use Rattle.awari_block.specs.Leaving.{AreLeavingBelow}
 use Rattle.awari_table.specs.Images.{table_of}
 use Rattle.awari_owner.proofs.LeavingMoves.{leaving-stays, captures-stays}
-use Rattle.awari_owner.proofs.Scanning.{outlook-skips}
+use Rattle.awari_owner.proofs.Looks.{looked-illegal}
 use Rattle.awari_owner.proofs.scans.see_pit.Goals as goal
 
 pub returns-then-not-legal-clause-seen : goal.returns-then-not-legal-clause-seen
 returns-then-not-legal-clause-seen c =
-    outlook-skips (table_of c.args.shelf.now).value c.args.board.now c.args.pit c.args.seen.now.quiet c.args.seen.now.best c.requires.own (λ legal. false≢true (sym c.if-not-legal.true ∙ c.legal.ensures.1 legal)) c.requires.seen
+    looked-illegal (table_of c.args.shelf.now).value c.args.board.now c.args.pit c.args.seen.now.quiet c.args.seen.now.best c.args.seen.now.plans c.requires.own (λ legal. false≢true (sym c.if-not-legal.true ∙ c.legal.ensures.1 legal)) c.requires.seen
 
 pub returns-then-not-legal-clause-leaving : goal.returns-then-not-legal-clause-leaving
 returns-then-not-legal-clause-leaving c =
@@ -27,7 +27,7 @@ returns-then-moved-eq0-clause-leaving c =
     (subst (λ n. IsMove c.args.board.now c.args.pit n c.play-moved.result.board) c.if-moved-eq0.true c.play-moved.ensures.moved) c.requires.leaving
 
 pub returns-clause-seen : goal.returns-clause-seen
-returns-clause-seen c = c.see_capture.ensures.seen c.args.board.now c.args.pit c.requires.own c.requires.stones c.play-moved.ensures.moved c.requires.seen
+returns-clause-seen c = c.see_capture.ensures.seen c.args.board.now c.requires.stones c.play-moved.ensures.moved c.requires.seen
 
 pub returns-clause-leaving : goal.returns-clause-leaving
 returns-clause-leaving c =

@@ -27,7 +27,7 @@ returns-clause-opened c = λ value notes.
     let settles : Settles (record old { gain = c.args.gain; wave = 0 }) new = c.open_gain.ensures.settles in
     subst (λ (o : Part). IsTallied value o notes → IsTallied value new notes) c.self.view_is
     (λ tallied. subst (λ (n : Part). IsTallied value n notes) (same_place (record old { gain = c.args.gain; wave = 0 }) new settles.same)
-    (opened value notes old new.cells new.fresh c.args.gain c.requires.positive next settles.size c.open_gain.ensures.heard c.open_gain.ensures.status tallied))
+    (opened value notes old new.cells new.fresh c.args.gain c.requires.positive next settles.size c.open_gain.ensures.cells tallied))
 
 pub returns-clause-hears : goal.returns-clause-hears
 returns-clause-hears c = λ notes.

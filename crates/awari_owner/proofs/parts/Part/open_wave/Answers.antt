@@ -1,6 +1,9 @@
-use Rattle.std.proofs.Common.{◌≤◌, length, ap, sym, subst, ◌∙◌}
+use Rattle.std.proofs.Common.{◌≤◌, ◌<◌, List, ℤ, ℕ, length, arith, ap, sym, subst, ◌∙◌}
 use Rattle.awari_block.specs.Leaving.{AreLeaving}
-use Rattle.awari_block.specs.Part.{Part}
+use Rattle.awari_block.specs.Part.{Part, IsTallied, cell_at, notes_for}
+use Rattle.awari_block.specs.declared.notes.Note.{Note}
+use Rattle.awari_rank.specs.Rank.{rank_of}
+use Rattle.awari_owner.proofs.PlannedTallies.{wave_tally}
 use Rattle.awari_owner.proofs.parts.Part.open_wave.Goals as goal
 
 pub invariant_of-self : goal.invariant_of-self
@@ -12,3 +15,12 @@ invariant_of-self c =
       fresh = c.open_wave.ensures.fresh;
       targets = c.self.invariant.targets;
     }
+
+waved : (value : List ℕ → ℤ) (notes : List Note) (old : Part) (dist : ℕ) → old.wave < dist → IsTallied value old notes → IsTallied value (record old { wave = dist }) notes
+waved value notes old dist farther tallied p is stones inside =
+    wave_tally value (cell_at old (rank_of p)) p (notes_for (rank_of p) notes) old.gain old.wave dist (omega (arith, farther)) (tallied p is stones inside)
+
+pub returns-clause-opened : goal.returns-clause-opened
+returns-clause-opened c = λ value notes tallied.
+    subst (λ (n : Part). IsTallied value n notes) (sym (c.open_wave.ensures.wave ∙ ap (λ (o : Part). record o { wave = c.args.dist }) c.self.view_is))
+    (waved value notes c.args.self.now c.args.dist c.requires.farther tallied)

@@ -1,4 +1,4 @@
-use Rattle.std.proofs.Common.{◌≡◌, false, ◌∷◌, subst, sym, ap, ◌∙◌, rules, arith}
+use Rattle.std.proofs.Common.{◌≡◌, true, ◌∷◌, subst, sym, ap, ◌∙◌, rules, arith}
 use Rattle.awari_block.specs.Boards.{Settles}
 use Rattle.awari_block.specs.Blocks.{KeepSettled}
 use Rattle.awari_block.specs.Tally.{has_pit}
@@ -25,7 +25,7 @@ pub returns-clause-added : goal.returns-clause-added
 returns-clause-added c = λ value notes.
     let old : Part = c.self.inside.boards in
     let due : IsExpected old c.args.note = subst (λ (o : Part). IsExpected o c.args.note) (sym c.self.view_is) (search rules) in
-    let silent : has_pit (stored_at old c.args.note.target).heard c.args.note.pit ≡ false = ap (λ (d : Cell). has_pit d.heard c.args.note.pit) (sym c.cell.ensures.stored) ∙ sym c.if-has_heard.ensures in
+    let silent : has_pit (stored_at old c.args.note.target).left c.args.note.pit ≡ true = ap (λ (d : Cell). has_pit d.left c.args.note.pit) (sym c.cell.ensures.stored) ∙ sym c.if-not-has_left.ensures in
     subst (λ (o : Part). IsTallied value o notes → IsTallied value c.hear.new.self (c.args.note ∷ notes)) c.self.view_is
     (added_heard value notes old c.hear.new.self c.args.note c.self.invariant.opened (expected_takeable old c.args.note due) silent c.hear.ensures.settles.same c.hear.ensures.hears)
 
