@@ -2,7 +2,7 @@
 use Rattle.std.proofs.Common.{◌≡◌, ℕ, ◌+◌, ◌-◌, ◌<◌, ◌≤◌, List, [], ◌∷◌, ◌++◌, length, get_or, Option, Some, None, ℤ, sym, ap, ◌∙◌, subst, arith, sum, take, drop, zero, suc, add-one}
 use Rattle.std.proofs.Math.Seq.{drop-cons}
 use Rattle.std.proofs.lemmas.List.{take_more, take_all, drop_all}
-use Rattle.awari_block.specs.Part.{Part, InBlock, settled_at, settled_by}
+use Rattle.awari_block.specs.Part.{Part, InBlock, cell_at}
 use Rattle.awari_table.specs.declared.images.Entry.{Entry}
 use Rattle.awari_table.specs.Images.{no_entry}
 use Rattle.awari_board.specs.Rules.{IsBoard}
@@ -12,7 +12,6 @@ use Rattle.awari_block.specs.Tally.{Cell}
 use Rattle.awari_owner.proofs.Levels.{blocks_in_order, holds, known_there}
 use Rattle.awari_plan.specs.Finished.{HasSettled, HasAllSettled}
 use Rattle.awari_plan.specs.Filling.{PushesBlock, PutsBlock}
-use Rattle.awari_play.specs.Planning.{SameSettled}
 
 -- each of these blocks ends at a rank that is not above this
 abbrev pub AllBelow : List Part → ℕ → Type 0
@@ -31,32 +30,23 @@ below_push (first ∷ parts) part high below last = (below.0, below_push parts p
 pub settled_more : (parts : List Part) (low : ℕ) (old now : List Entry) → AllBelow parts low → ((k : ℕ) → k < low → get_or now k no_entry ≡ get_or old k no_entry) → HasAllSettled parts old → HasAllSettled parts now
 settled_more [] low old now below same has = tt
 settled_more (part ∷ parts) low old now below same has = (
-  λ rank inside. subst (HasSettled (settled_at part rank)) (sym (same rank (omega (arith, inside.0, inside.1, below.0)))) (has.0 rank inside),
+  λ rank inside. subst (HasSettled (cell_at part rank)) (sym (same rank (omega (arith, inside.0, inside.1, below.0)))) (has.0 rank inside),
   settled_more parts low old now below.1 same has.1,
 )
 
 pub settled_push : (parts : List Part) (part : Part) (entries : List Entry) → HasAllSettled parts entries
-    → ((rank : ℕ) → InBlock part rank → HasSettled (settled_at part rank) (get_or entries rank no_entry)) → HasAllSettled (parts ++ part ∷ []) entries
+    → ((rank : ℕ) → InBlock part rank → HasSettled (cell_at part rank) (get_or entries rank no_entry)) → HasAllSettled (parts ++ part ∷ []) entries
 settled_push [] part entries has last = (last, tt)
 settled_push (first ∷ parts) part entries has last = (has.0, settled_push parts part entries has.1 last)
 
 -- a block that is put where its ranks begin has its settled boards there
-pub block_settled : (part : Part) (old now : List Entry) → part.start ≡ length old → PushesBlock part old now (length part.cells) → (rank : ℕ) → InBlock part rank → HasSettled (settled_at part rank) (get_or now rank no_entry)
+pub block_settled : (part : Part) (old now : List Entry) → part.start ≡ length old → PushesBlock part old now (length part.cells) → (rank : ℕ) → InBlock part rank → HasSettled (cell_at part rank) (get_or now rank no_entry)
 block_settled part old now here pushed rank inside =
     let k = rank - part.start in
     let a : part.start + k ≡ rank = omega (arith, inside.0) in
     let b : length old + k ≡ rank = omega (arith, inside.0, here) in
-    subst (λ n. HasSettled (settled_at part n) (get_or now rank no_entry)) a
-    (subst (λ n. HasSettled (settled_at part (part.start + k)) (get_or now n no_entry)) b (pushed.settled k inside.1))
-
--- plans aside the same entries have the same settled boards
-pub settled_alike : (parts : List Part) (old now : List Entry) → SameSettled old now → HasAllSettled parts old → HasAllSettled parts now
-settled_alike [] old now same has = tt
-settled_alike (part ∷ parts) old now same has = (λ rank inside. alike (settled_at part rank) rank (has.0 rank inside), settled_alike parts old now same has.1)
-  where
-    alike : (o : Option (ℤ × ℕ)) (rank : ℕ) → HasSettled o (get_or old rank no_entry) → HasSettled o (get_or now rank no_entry)
-    alike None rank here = (same.value rank ∙ here.0, same.dist rank ∙ here.1)
-    alike (Some s) rank here = (same.value rank ∙ here.0, same.dist rank ∙ here.1)
+    subst (λ n. HasSettled (cell_at part n) (get_or now rank no_entry)) a
+    (subst (λ n. HasSettled (cell_at part (part.start + k)) (get_or now n no_entry)) b (pushed.settled k inside.1))
 
 -- the next of the parts, its block, and the parts after it
 next_is : (parts : List Part) (i : ℕ) (part : Part) → i < length parts → part ≡ get_or parts i part → drop i parts ≡ part ∷ drop (i + 1) parts
@@ -78,7 +68,7 @@ pub put_none : (level high : ℕ) (parts : List Part) (entries : List Entry) →
 put_none level high parts entries blocks = record { rest = blocks; below = tt; done = tt }
 
 pub put_more : (level low high : ℕ) (parts : List Part) (i : ℕ) (part : Part) (old now : List Entry) → ArePut level low high parts i old → i < length parts → part ≡ get_or parts i part
-    → ((k : ℕ) → k < low → get_or now k no_entry ≡ get_or old k no_entry) → ((rank : ℕ) → InBlock part rank → HasSettled (settled_at part rank) (get_or now rank no_entry))
+    → ((k : ℕ) → k < low → get_or now k no_entry ≡ get_or old k no_entry) → ((rank : ℕ) → InBlock part rank → HasSettled (cell_at part rank) (get_or now rank no_entry))
     → ArePut level (low + length part.cells) high parts (i + 1) now
 put_more level low high parts i part old now before inside is kept settled =
     let (here, after) = next_block level low high parts i part before.rest inside is in
@@ -117,15 +107,15 @@ fill_more level low high parts i part old now before inside is puts =
 
 -- what one of the parts has settled
 pub settled_there : (parts : List Part) (entries : List Entry) → HasAllSettled parts entries → (i : ℕ) → i < length parts → (rank : ℕ) → InBlock (part_at parts i) rank
-    → HasSettled (settled_at (part_at parts i) rank) (get_or entries rank no_entry)
+    → HasSettled (cell_at (part_at parts i) rank) (get_or entries rank no_entry)
 settled_there [] entries has i inside rank held = absurd (omega (arith, inside))
 settled_there (part ∷ parts) entries has zero inside rank held = has.0 rank held
 settled_there (part ∷ parts) entries has (suc i) inside rank held = settled_there parts entries has.1 i (omega (arith, inside)) rank held
 
 -- what the level has settled
 pub finished_there : (level : ℕ) (parts : List Part) → AreWhole level parts → (entries : List Entry) → HasAllSettled parts entries → (p : List ℕ) → IsBoard p → sum p ≡ level
-    → HasSettled (settled_by (known_at parts (rank_of p)).status) (get_or entries (rank_of p) no_entry)
+    → HasSettled (known_at parts (rank_of p)) (get_or entries (rank_of p) no_entry)
 finished_there level parts whole entries has p is stones =
     let (i, inside, held) = holds level parts whole p is stones in
-    subst (λ (c : Cell). HasSettled (settled_by c.status) (get_or entries (rank_of p) no_entry)) (sym (known_there level parts whole i inside (rank_of p) held))
+    subst (λ (c : Cell). HasSettled c (get_or entries (rank_of p) no_entry)) (sym (known_there level parts whole i inside (rank_of p) held))
     (settled_there parts entries has i inside (rank_of p) held)

@@ -1,7 +1,5 @@
 -- A finished image is consistent over the shelf, where its parts heard what was due.
-use Rattle.std.proofs.Common.{◌≤◌, List, Result, All, length}
-use Rattle.std.specs.Prelude.{IfOk}
-use Rattle.std.proofs.lemmas.Result.{IfOk-weaker}
+use Rattle.std.proofs.Common.{◌≤◌, List, All, length}
 use Rattle.awari_rank.specs.Rank.{rank_of}
 use Rattle.awari_table.specs.declared.TheConstants.{HIGHEST_LEVEL}
 use Rattle.awari_table.specs.declared.images.Image.{Image}
@@ -14,6 +12,7 @@ use Rattle.awari_owner.proofs.Levels.{parts_right}
 use Rattle.awari_plan.specs.Finished.{IsFinished}
 use Rattle.awari_plan.proofs.Consistency.{consistent}
 use Rattle.awari_plan.proofs.Blocks.{finished_there}
+use Rattle.awari_plan.proofs.Whole.{finished_lowest}
 
 pub finished_consistent : (shelf : List Image) (parts : List Part) (image : Image) → IsShelf shelf → length shelf ≤ HIGHEST_LEVEL
     → AreWhole (length shelf) parts → All IsClosed parts → AreHeard (table_of shelf).value parts → IsFinished shelf parts image → Consistent shelf image
@@ -23,10 +22,4 @@ finished_consistent shelf parts image on_shelf low whole closed heard finished =
     (λ q is few. let range = (cert.right q is few).in_range in (range.0, range.1))
     (λ p is stones. parts_right _ parts whole (table_of shelf).value closed heard p is stones)
     (λ p is stones. finished_there _ parts whole image.entries finished.settled p is stones)
-    finished low
-
--- and where one is answered, it is
-pub consistent_if : {E : Type 0} (shelf : List Image) (parts : List Part) (result : Result Image E) → IsShelf shelf → length shelf ≤ HIGHEST_LEVEL
-    → AreWhole (length shelf) parts → IfOk result (IsFinished shelf parts) → All IsClosed parts → AreHeard (table_of shelf).value parts → IfOk result (Consistent shelf)
-consistent_if shelf parts result on_shelf low whole made closed heard =
-    IfOk-weaker result _ _ (λ image finished. finished_consistent shelf parts image on_shelf low whole closed heard finished) made
+    finished (finished_lowest shelf parts image whole closed heard finished) low

@@ -1,5 +1,5 @@
 pub mod Blocks
-pub mod Pieces
-pub mod Whole
+pub mod LowestPlans
 pub mod Consistency
+pub mod Whole
 pub mod Closing

@@ -1,29 +1,33 @@
 -- The image of a level whose gains are all closed.
-use Rattle.std.specs.Prelude.{◌≡◌, ℕ, List, [], ◌∷◌, ◌++◌, length, sum, ℤ, pos, Option, Some, None, slice_index_or}
-use Rattle.awari_board.specs.Rules.{IsBoard}
+use Rattle.std.specs.Prelude.{◌≡◌, ℕ, List, [], ◌∷◌, length, ℤ, pos, Option, Some, None, slice_index_or}
 use Rattle.awari_rank.specs.Rank.{size_of}
 use Rattle.awari_table.specs.declared.images.Entry.{Entry}
 use Rattle.awari_table.specs.declared.images.Image.{Image}
-use Rattle.awari_table.specs.Images.{table_of, greatest_dist, no_entry}
-use Rattle.awari_block.specs.Part.{Part, InBlock, settled_at}
-use Rattle.awari_play.specs.Plan.{IsLowest}
+use Rattle.awari_table.specs.Images.{greatest_dist, no_entry}
+use Rattle.awari_block.specs.Part.{Part, InBlock, cell_at}
+use Rattle.awari_block.specs.Pits.{IsLowestIn}
+use Rattle.awari_block.specs.Steps.{even_pits}
+use Rattle.awari_block.specs.Tally.{Cell, Status, Ended, Open, Settled}
 
--- the entry has value and distance of a settled board, and 0 and 0 for any other
-abbrev pub HasSettled : Option (ℤ × ℕ) → Entry → Type 0
-HasSettled None e = (e.value ≡ pos 0) × (e.dist ≡ 0)
-HasSettled (Some s) e = (e.value ≡ s.0) × (e.dist ≡ s.1)
+-- The entry has value and distance of a settled board, and 0 and 0 for any other, and as plan the lowest of the pits that serve:
+-- of a board that is not settled those that are left, and those whose captures gain 0.
+abbrev pub HasStatus : ℕ → Status → Entry → Type 0
+HasStatus left (Ended gain) e = (e.value ≡ pos 0) × (e.dist ≡ 0) × (e.plan ≡ None)
+HasStatus left (Open best plans far) e = (e.value ≡ pos 0) × (e.dist ≡ 0) × IsLowestIn (even_pits left best plans) e.plan
+HasStatus left (Settled value dist plans) e = (e.value ≡ value) × (e.dist ≡ dist) × IsLowestIn plans e.plan
+
+abbrev pub HasSettled : Cell → Entry → Type 0
+HasSettled c e = HasStatus c.left c.status e
 
 -- what these parts have settled, the image has
 abbrev pub HasAllSettled : List Part → List Entry → Type 0
 HasAllSettled [] entries = Unit {0}
 HasAllSettled (part ∷ parts) entries =
-    ((rank : ℕ) → InBlock part rank → HasSettled (settled_at part rank) (slice_index_or entries rank no_entry)) × HasAllSettled parts entries
+    ((rank : ℕ) → InBlock part rank → HasSettled (cell_at part rank) (slice_index_or entries rank no_entry)) × HasAllSettled parts entries
 
--- The image of the level above the shelf: the settled values and distances, the plans that they make, and the greatest distance.
+-- The image of the level above the shelf: the settled values and distances, the plans of the cells, and the greatest distance.
 pub record IsFinished (shelf : List Image) (parts : List Part) (image : Image) : Type 0 where
   pub level : image.level ≡ length shelf
   pub sized : length image.entries ≡ size_of (length shelf)
   pub settled : HasAllSettled parts image.entries
-  pub planned : (p : List ℕ) → IsBoard p → sum p ≡ length shelf
-      → IsLowest (table_of (shelf ++ image ∷ [])) p ((table_of (shelf ++ image ∷ [])).plan p)
   pub limited : image.limit ≡ greatest_dist image.entries

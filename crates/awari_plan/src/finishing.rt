@@ -6,41 +6,43 @@ ghost use Rattle.awari_table.specs.Images.{table_of};
 ghost use Rattle.awari_table.specs.Shelves.{Consistent};
 ghost use Rattle.awari_owner.specs.Level.{AreHeard, AreWhole};
 ghost use Rattle.awari_block.specs.Part.{IsClosed};
+ghost use Rattle.awari_block.specs.Cells.{view_of};
+ghost use Rattle.awari_block.specs.Pits.{IsLowestIn};
 ghost use Rattle.awari_plan.specs.Finished.{HasAllSettled, HasSettled, IsFinished};
-ghost use Rattle.awari_plan.specs.Filling.{PushesBlock};
-ghost use Rattle.awari_play.specs.Planning.{IsPlannedImage};
+ghost use Rattle.awari_plan.specs.Filling.{IsImageOf, PushesBlock};
+ghost use Rattle.awari_play.specs.Least.{IsPlannedLowest};
 ghost use Rattle.awari_table.specs.declared.TheConstants.{HIGHEST_LEVEL};
 
-use awari_block::ClosedPart;
+use awari_block::{Cell, ClosedPart, Mark};
 use awari_owner::Part;
-use awari_play::{entry_values, set_lowest_plans};
 use awari_rank::size;
 use awari_table::{Entries, Entry, Image, Shelf, greatest_dist};
 use std::alloc::{AllocError, Global};
 
 /// The image of the shelf's next level, once the parts have closed all gains. A settled board has its
-/// value and distance, any other 0 and 0. Its plan is the lowest pit that gains the value and, if
-/// that is positive, captures or leads to a smaller distance. The limit is the greatest distance. The
-/// image is consistent over the shelf if the parts heard all notes of settled boards, and no others.
+/// value and distance, any other 0 and 0. Its plan is the lowest pit that its cell knows to serve. The
+/// limit is the greatest distance. If the parts heard all notes of settled boards, and no others, the
+/// image is consistent over the shelf. Then each plan is the lowest pit that gains the value and, if
+/// that is positive, captures or leads to a smaller distance.
 ///
 /// Conditions: the shelf has at most `HIGHEST_LEVEL` levels, and the parts are all blocks of its next
-/// level in order, with no fresh board and gain 1 open. It takes memory for the entries, and a byte a
-/// board while it runs, and is refused only if that runs out.
+/// level in order, with no fresh board and gain 1 open. It takes memory for the entries, and is
+/// refused only if that runs out.
 pub fn finish(alloc: Global, shelf: &Shelf, parts: &[Part]) -> Result<Image, AllocError>
     requires low { length shelf.now ≤ HIGHEST_LEVEL }
     requires whole { AreWhole (length shelf.now) parts.now }
     requires closed { All IsClosed parts.now }
     ensures finished { IfOk result (IsFinished shelf.now parts.now) }
+    ensures planned { AreHeard (table_of shelf.now).value parts.now → IfOk result (IsPlannedLowest shelf.now) }
     ensures consistent { AreHeard (table_of shelf.now).value parts.now → IfOk result (Consistent shelf.now) }
 {
     let entries = settled_entries(alloc, shelf.levels(), parts)?;
-    planned_image(alloc, shelf, entries)
+    let image = image_of(shelf.levels(), entries);
+    Ok(image)
 }
 
-/// Answers what [`finish`] does, for parts that are given up. Each is closed, as its type says. The
-/// cells are given back before plans are looked for, so at most sixteen bytes a board are allocated
-/// at a time. They are eight of a cell and eight of an entry, and later eight of an entry and one of
-/// its value.
+/// Answers what [`finish`] does, for parts that are given up. Each is closed, as its type says. At
+/// most sixteen bytes a board are allocated at a time: eight of a cell and eight of an entry.
 pub fn finish_closed(
     alloc: Global,
     shelf: &Shelf,
@@ -49,31 +51,26 @@ pub fn finish_closed(
     requires low { length shelf.now ≤ HIGHEST_LEVEL }
     requires whole { AreWhole (length shelf.now) parts.items }
     ensures finished { IfOk result (IsFinished shelf.now parts.items) }
+    ensures planned { All IsClosed parts.items → AreHeard (table_of shelf.now).value parts.items → IfOk result (IsPlannedLowest shelf.now) }
     ensures consistent { All IsClosed parts.items → AreHeard (table_of shelf.now).value parts.items → IfOk result (Consistent shelf.now) }
 {
     let entries = closed_entries(alloc, shelf.levels(), parts.as_slice())?;
-
-    // No cell is read any more, and plans take memory.
-    drop(parts);
-    planned_image(alloc, shelf, entries)
+    let image = image_of(shelf.levels(), entries);
+    Ok(image)
 }
 
-/// The image of the level above the shelf, of its entries with no plans.
-fn planned_image(alloc: Global, shelf: &Shelf, mut entries: Vec<Entry>) -> Result<Image, AllocError>
-    requires low { length shelf.now ≤ 24 }
-    requires sized { length entries.items ≡ size_of (length shelf.now) }
-    ensures { IfOk result (IsPlannedImage shelf.now entries.items) }
+/// The image of this level that has these entries.
+pub fn image_of(level: u8, entries: Vec<Entry>) -> Image
+    ensures { IsImageOf level entries.items result }
 {
-    let values = entry_values(alloc, entries.as_slice())?;
-    set_lowest_plans(shelf, values.as_slice(), &mut entries);
-    Ok(Image {
-        level: shelf.levels(),
+    Image {
+        level,
         limit: greatest_dist(entries.as_slice()),
         entries: Entries::from(entries),
-    })
+    }
 }
 
-/// The entries of the level with no plans.
+/// The entries of the level.
 fn settled_entries(alloc: Global, level: u8, parts: &[Part]) -> Result<Vec<Entry>, AllocError>
     requires low { level ≤ 24 }
     requires whole { AreWhole level parts.now }
@@ -94,12 +91,12 @@ fn push_block(entries: &mut Vec<Entry>, part: &Part) -> Result<(), AllocError>
 {
     let (start, end) = part.block();
     for rank in start..end {
-        entries.push(settled_entry(part.settled(rank)))?;
+        entries.push(entry_of(part.cell(rank)))?;
     }
     Ok(())
 }
 
-/// The entries of the level with no plans, of closed parts.
+/// The entries of the level, of closed parts.
 fn closed_entries(alloc: Global, level: u8, parts: &[ClosedPart]) -> Result<Vec<Entry>, AllocError>
     requires low { level ≤ 24 }
     requires whole { AreWhole level parts.now }
@@ -120,19 +117,48 @@ fn push_closed_block(entries: &mut Vec<Entry>, part: &ClosedPart) -> Result<(), 
 {
     let (start, end) = part.block();
     for rank in start..end {
-        entries.push(settled_entry(part.settled(rank)))?;
+        entries.push(entry_of(part.cell(rank)))?;
     }
     Ok(())
 }
 
-/// The entry of a board that is settled so, with no plan.
-pub fn settled_entry(settled: Option<(i8, u32)>) -> Entry
-    ensures { HasSettled settled result }
+/// The entry of a board with this cell, once all gains are closed.
+#[inline(always)]
+pub fn entry_of(cell: Cell) -> Entry
+    ensures { HasSettled (view_of cell) result }
 {
-    let (value, dist) = settled.unwrap_or((0, 0));
+    match cell.mark {
+        Mark::Settled => entry(cell.score, cell.plans, cell.dist),
+        Mark::Capturing => {
+            let plans = if cell.score == 0 { cell.plans } else { 0 };
+            entry(0, cell.left | plans, 0)
+        }
+        Mark::Quiet | Mark::Noted => entry(0, cell.left, 0),
+        Mark::Ended => Entry {
+            value: 0,
+            plan: None,
+            dist: 0,
+        },
+    }
+}
+
+/// The entry of this value and distance, in which these pits serve.
+#[inline(always)]
+fn entry(value: i8, plans: u8, dist: u32) -> Entry
+    ensures { (result.value ≡ value) × (result.dist ≡ dist) × IsLowestIn plans result.plan }
+{
     Entry {
         value,
-        plan: None,
+        plan: lowest_pit(plans),
         dist,
     }
+}
+
+/// The lowest pit of a set, none if the set is empty.
+#[inline(always)]
+fn lowest_pit(pits: u8) -> Option<u8>
+    ensures { IsLowestIn pits result }
+{
+    let lowest = pits.trailing_zeros() as u8;
+    if lowest < 6 { Some(lowest) } else { None }
 }

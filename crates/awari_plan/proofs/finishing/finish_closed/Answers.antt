@@ -1,15 +1,20 @@
-use Rattle.std.proofs.Common.{List, IfOk, subst, ◌∙◌, ap}
+use Rattle.std.proofs.Common.{List, ◌∙◌, ap, subst}
 use Rattle.awari_rank.specs.Rank.{size_of}
 use Rattle.awari_block.specs.Part.{Part}
-use Rattle.awari_plan.specs.Finished.{IsFinished}
-use Rattle.awari_plan.proofs.Closing.{consistent_if}
-use Rattle.awari_plan.proofs.Whole.{finished_if}
+use Rattle.awari_plan.specs.Finished.{HasAllSettled}
+use Rattle.awari_plan.proofs.Closing.{finished_consistent}
+use Rattle.awari_plan.proofs.Whole.{entered_finished, finished_lowest}
+use Rattle.awari_plan.specs.Filling.{IsImageOf}
 use Rattle.awari_plan.proofs.finishing.finish_closed.Goals as goal
 
 pub returns-clause-finished : goal.returns-clause-finished
 returns-clause-finished c =
-    subst (λ (parts : List Part). IfOk c.planned_image.result (IsFinished c.args.shelf.now parts)) c.as_slice.ensures.value
-    (finished_if _ _ _ _ (c.in_ok-entries.ensures.sized ∙ ap size_of c.levels.ensures.levels) c.in_ok-entries.ensures.settled c.planned_image.ensures)
+    entered_finished _ _ _ _ (c.in_ok-entries.ensures.sized ∙ ap size_of c.levels.ensures.levels)
+    (subst (λ (parts : List Part). HasAllSettled parts c.in_ok-entries.entries.items) c.as_slice.ensures.value c.in_ok-entries.ensures.settled)
+    (subst (λ n. IsImageOf n c.in_ok-entries.entries.items c.image_of-image.result) c.levels-2.ensures.levels c.image_of-image.ensures)
+
+pub returns-clause-planned : goal.returns-clause-planned
+returns-clause-planned c = λ closed heard. finished_lowest _ _ _ c.requires.whole closed heard (returns-clause-finished c)
 
 pub returns-clause-consistent : goal.returns-clause-consistent
-returns-clause-consistent c = consistent_if _ _ _ c.levels.ensures.shelf c.requires.low c.requires.whole (returns-clause-finished c)
+returns-clause-consistent c = λ closed heard. finished_consistent _ _ _ c.levels.ensures.shelf c.requires.low c.requires.whole closed heard (returns-clause-finished c)
