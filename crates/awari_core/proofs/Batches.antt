@@ -58,8 +58,8 @@ module _ (injective : IsInjective) (value : List ℕ → ℤ) (n owners i j : �
   way_expected = subst (λ (o : Part). IsExpected o m) (part_here part j p)
       (note_expected injective value n owners (with_part part j p) (with_list coming i j (m ∷ rest)) (with_list taken i j (taken i j ++ done)) way.sound i j way.from way.to way.apart m rest next)
 
-  pub way_unheard : has_pit (stored_at p m.target).heard m.pit ≡ false
-  way_unheard = subst (λ (o : Part). has_pit (stored_at o m.target).heard m.pit ≡ false) (part_here part j p)
+  pub way_unheard : has_pit (stored_at p m.target).left m.pit ≡ true
+  way_unheard = subst (λ (o : Part). has_pit (stored_at o m.target).left m.pit ≡ true) (part_here part j p)
       (note_unheard injective value n owners (with_part part j p) (with_list coming i j (m ∷ rest)) (with_list taken i j (taken i j ++ done)) way.sound i j way.from way.to way.apart m rest next)
 
   pub way_near : m.dist < 2 ^ 32 - 1
@@ -128,9 +128,9 @@ way_end value n owners i j part coming taken p items rest k high way =
     subst₂ (λ (a b : List Note). AreSound value n owners (with_part part j p) (with_list coming i j (b ++ rest)) (with_list taken i j (taken i j ++ a))) (take_all k items high) (drop_all k items high) way.sound
 
 -- such a note is not refused
-pub not_refused : (p : Part) (m : Note) → IsExpected p m → has_pit (stored_at p m.target).heard m.pit ≡ false → m.dist < 2 ^ 32 - 1 → (f : OwnerFault) → IsFaultOf p m f → ⊥
+pub not_refused : (p : Part) (m : Note) → IsExpected p m → has_pit (stored_at p m.target).left m.pit ≡ true → m.dist < 2 ^ 32 - 1 → (f : OwnerFault) → IsFaultOf p m f → ⊥
 not_refused p m expected unheard near Stranger due = due expected
-not_refused p m expected unheard near Doubled due = false≢true (sym unheard ∙ due.1)
+not_refused p m expected unheard near Doubled due = false≢true (sym due.1 ∙ unheard)
 not_refused p m expected unheard near Far due = let far = due.2 in omega (arith, far, near)
 not_refused p m expected unheard near Memory due = due
 

@@ -4,6 +4,7 @@ ghost use Rattle.std.specs.Prelude.{◌≡◌, ◌+◌, ◌<◌, ◌≤◌, ◌�
 ghost use Rattle.awari_table.specs.Shelves.{Consistent};
 ghost use Rattle.awari_table.specs.declared.TheConstants.{HIGHEST_LEVEL};
 ghost use Rattle.awari_plan.specs.Finished.{IsFinished};
+ghost use Rattle.awari_play.specs.Least.{IsPlannedLowest};
 ghost use Rattle.awari_core.specs.Core.{Core as CoreView, Sound, Does, IsEnabled, IsFaultOf, IsBetween, DoesSpread, DoesSend, DoesTake, Runs};
 ghost use Rattle.awari_core.specs.Core.{IsAllTaken, IsBegun, IsClosed, IsLeastOfAll, IsNewFault, IsQuiet, IsScanned, IsWaveDone, OpensNextGain, OpensNextWave, part_at};
 ghost use Rattle.awari_core.specs.declared.events.Event.{Event as EventView};
@@ -188,11 +189,13 @@ impl Core {
         Ok(Some(dist))
     }
 
-    /// The image of the level, which is consistent over the shelf. Refused as 39 `NotQuiet` until all
-    /// gains are closed, and as 38 `Memory` if memory runs out. It takes memory for the entries.
+    /// The image of the level, which is consistent over the shelf and has the lowest plans. Refused as
+    /// 39 `NotQuiet` until all gains are closed, and as 38 `Memory` if memory runs out. It takes memory
+    /// for the entries.
     pub fn finish(&self, alloc: Global) -> Result<Image, CoreFault>
         ensures consistent { IfOk result (Consistent self.now.shelf) }
         ensures finished { IfOk result (IsFinished self.now.shelf self.now.parts) }
+        ensures planned { IfOk result (IsPlannedLowest self.now.shelf) }
         ensures closed { OnOk result (IsClosed self.now) }
         ensures refused { IfErr result (λ fault. ((fault ≡ CoreFault.NotQuiet) × (IsClosed self.now → ⊥)) ⊎ ((fault ≡ CoreFault.Memory) × IsClosed self.now)) }
     {
