@@ -1,5 +1,5 @@
 -- Owners that were sound together refuse no note.
-use Rattle.std.proofs.Common.{◌≡◌, ◌⊎◌, ℕ, ◌<◌, ◌≤◌, ◌^◌, ◌-◌, Some, None, List, [], ◌∷◌, ◌++◌, length, map, drop, All, ℤ, false, refl, sym, ap, subst, ◌∙◌, inl, inr, arith, get_or, append_assoc, suc}
+use Rattle.std.proofs.Common.{◌≡◌, ◌⊎◌, ℕ, ◌<◌, ◌≤◌, ◌^◌, ◌-◌, Some, None, List, [], ◌∷◌, ◌++◌, length, map, drop, All, ℤ, true, refl, sym, ap, subst, ◌∙◌, inl, inr, arith, get_or, append_assoc, suc}
 use Rattle.std.proofs.lemmas.Bool.{cases_lt, false≢true}
 use Rattle.std.proofs.lemmas.List.{append_cancel_left, drop_at, length-map, map-append, get_or_past}
 use Rattle.awari_block.specs.Notes.{Has}
@@ -80,7 +80,7 @@ open_since part received sent more waits gone o same opens m has =
 abbrev Expects : Type 0
 Expects = (value : List ℕ → ℤ) (n owners : ℕ) (part : ℕ → Part) (coming taken : ℕ → ℕ → List Note) → AreSound value n owners part coming taken
     → (i j : ℕ) → i < owners → j < owners → (i ≡ j → ⊥) → (m : Note) (rest : List Note) → coming i j ≡ m ∷ rest
-    → IsExpected (part j) m × (has_pit (stored_at (part j) m.target).heard m.pit ≡ false) × (m.dist < 2 ^ 32 - 1)
+    → IsExpected (part j) m × (has_pit (stored_at (part j) m.target).left m.pit ≡ true) × (m.dist < 2 ^ 32 - 1)
 
 abbrev Settles : Type 0
 Settles = (value : List ℕ → ℤ) (level : ℕ) (parts : List Part) → AreWhole level parts → level ≤ 24 → AreTold value parts → All DistancesFit parts
@@ -223,9 +223,9 @@ module _ (value : List ℕ → ℤ) (n : ℕ) (os ps : List Owner) (d : Owner) (
   abbrev Fit : Type 0
   Fit = (k : ℕ) → k < length os → DistancesFit (now k).part
 
-  refuted : (part : Part) (m : Note) (fault : OwnerFault) → IsFaultOf part m fault → IsExpected part m × (has_pit (stored_at part m.target).heard m.pit ≡ false) × (m.dist < 2 ^ 32 - 1) → ⊥
+  refuted : (part : Part) (m : Note) (fault : OwnerFault) → IsFaultOf part m fault → IsExpected part m × (has_pit (stored_at part m.target).left m.pit ≡ true) × (m.dist < 2 ^ 32 - 1) → ⊥
   refuted part m owner_fault.Stranger refused known = refused known.0
-  refuted part m owner_fault.Doubled refused known = absurd (false≢true (sym known.1 ∙ refused.1))
+  refuted part m owner_fault.Doubled refused known = absurd (false≢true (sym refused.1 ∙ known.1))
   refuted part m owner_fault.Far refused known = let near = known.2 in let far = refused.2 in omega (arith, near, far)
   refuted part m owner_fault.Memory refused known = refused
 
@@ -249,7 +249,7 @@ module _ (value : List ℕ → ℤ) (n : ℕ) (os ps : List Owner) (d : Owner) (
           let next = (comes j k (subst (λ x. j < x) long low') low apart).2 ∙ ap (λ l. l ++ (notes_of (map items_of (comes j k (subst (λ x. j < x) long low') low apart).0) ++ notes_of (queue_to (now j).outboxes k))) is in
           let known = expects value n (length parts) (part_at parts) coming (λ a b. notes_of (taken b a)) sound j k (subst (λ x. j < x) (sym (as_many ps)) low') (subst (λ x. k < x) (sym (as_many ps)) (low_ps k low)) apart m _ next in
           absurd (refuted (now k).part m fault refused
-          (subst (λ (p : Part). IsExpected p m × (has_pit (stored_at p m.target).heard m.pit ≡ false) × (m.dist < 2 ^ 32 - 1)) (sym (part_there ps k d (low_ps k low))) known))
+          (subst (λ (p : Part). IsExpected p m × (has_pit (stored_at p m.target).left m.pit ≡ true) × (m.dist < 2 ^ 32 - 1)) (sym (part_there ps k d (low_ps k low))) known))
     ]
   ]
 

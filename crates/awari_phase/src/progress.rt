@@ -8,7 +8,7 @@ pub trait Progress {
     /// This gain is open, and so many boards of the level are settled and were spread.
     fn settled(&mut self, gain: usize, boards: usize);
 
-    /// All gains are closed, and the plans are begun.
+    /// All gains are closed, and the entries are begun, with their plans.
     fn plan(&mut self);
 }
 
