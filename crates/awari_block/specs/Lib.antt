@@ -1,7 +1,6 @@
 pub mod Notes
 pub mod Pits
 pub mod Plain
-pub mod PlainSteps
 pub mod Tally
 pub mod Steps
 pub mod Cells

@@ -1,11 +1,15 @@
 -- What a note, and what the opening of a gain, makes of a status and of a cell.
-use Rattle.std.specs.Prelude.{ℕ, ◌+◌, ◌^◌, ◌==◌, ◌&&◌, if◌then◌else◌, max, ℤ, pos, neg_ℤ, int_lt, Option, Some, None, bit_or}
+use Rattle.std.specs.Prelude.{ℕ, ◌+◌, ◌^◌, ◌==◌, ◌&&◌, Bool, false, if◌then◌else◌, max, ℤ, pos, neg_ℤ, int_lt, Option, Some, None, bit_or}
 use Rattle.std.specs.Ordering.{int_eq}
 use Rattle.awari_block.specs.Pits.{with_pit, without_pit}
-use Rattle.awari_block.specs.PlainSteps.{is_best}
 use Rattle.awari_block.specs.Tally.{Best, Nothing, ByCapture, ByNotes, Cell, Status, Ended, Open, Settled, gain_of, capture_of}
 use Rattle.awari_block.specs.declared.notes.Kind.{Kind}
 use Rattle.awari_block.specs.declared.notes.Kind.TheVariants.{Won, Lost}
+
+-- whether this gain is v
+abbrev pub is_best : Option ℤ → ℤ → Bool
+is_best None v = false
+is_best (Some best) v = int_eq best v
 
 -- the greatest gain, once one more is v
 abbrev pub greater_of : Option ℤ → ℤ → Option ℤ

@@ -7,7 +7,7 @@ use Rattle.awari_board.specs.Rules.{IsMove, IsEnd, IsEnded, captured, next_board
 use Rattle.awari_block.specs.Notes.{IsQuietMove, Has, is_won, gain_by, is_won_at}
 use Rattle.awari_board.specs.Tests.{is_legal}
 use Rattle.awari_block.specs.Plain.{Status, Ended, Open, Settled, is_left, left_of, Captures, Knows, IsOpen, IsSettledAs, IsDistance, IsPlain as IsStatus}
-use Rattle.awari_owner.specs.PlainFinish.{value_by, dist_by, IsQuietAt, gains, IsRightAt}
+use Rattle.awari_owner.proofs.PlainFinish.{value_by, dist_by, IsQuietAt, gains, IsRightAt}
 use Rattle.awari_block.specs.declared.notes.Note.{Note}
 use Rattle.awari_block.specs.declared.notes.Kind.{Kind}
 use Rattle.awari_block.specs.declared.notes.Kind.TheVariants.{Won, Lost}

@@ -9,7 +9,8 @@ use Rattle.awari_block.specs.Notes.{Has, is_won, gain_by, is_heard_at, is_won_at
 use Rattle.awari_block.specs.Pits.{has_pit, with_pit, pits}
 use Rattle.awari_block.specs.Plain as plain
 use Rattle.awari_block.specs.Plain.{is_left, left_of, Knows, IsSettledAs, IsDistance, IsPlain}
-use Rattle.awari_block.specs.PlainSteps.{after_note, is_at_most, is_best}
+use Rattle.awari_block.specs.Steps.{is_best}
+use Rattle.awari_owner.proofs.PlainSteps.{after_note, is_at_most}
 use Rattle.awari_block.specs.declared.notes.Note.{Note}
 use Rattle.awari_block.specs.declared.notes.Kind.{Kind}
 use Rattle.awari_block.specs.declared.notes.Kind.TheVariants.{Won, Lost}

@@ -1,5 +1,6 @@
 pub mod Basics
 pub mod Legality
+pub mod PlainSteps
 pub mod Statuses
 pub mod PitSets
 pub mod Knowing
@@ -20,6 +21,7 @@ pub mod Finding
 pub mod Telling
 pub mod Queueing
 pub mod Sharing
+pub mod PlainFinish
 pub mod Finishing
 pub mod RightCells
 pub mod Levels

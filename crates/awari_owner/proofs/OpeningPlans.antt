@@ -7,7 +7,7 @@ use Rattle.awari_block.specs.Notes.{IsQuietMove, Has, gain_by}
 use Rattle.awari_block.specs.Pits.{has_pit}
 use Rattle.awari_block.specs.Plain as plain
 use Rattle.awari_block.specs.Plain.{left_of, Knows, IsPlain}
-use Rattle.awari_block.specs.PlainSteps.{is_best}
+use Rattle.awari_block.specs.Steps.{is_best}
 use Rattle.awari_block.specs.declared.notes.Note.{Note}
 use Rattle.awari_block.specs.declared.notes.Kind.{Kind}
 use Rattle.awari_block.specs.declared.notes.Kind.TheVariants.{Won, Lost}

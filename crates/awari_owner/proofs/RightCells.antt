@@ -9,7 +9,7 @@ use Rattle.awari_block.specs.Plain.{left_of, IsPlain}
 use Rattle.awari_block.specs.Tally.{Status, Ended, Open, Settled, Cell, IsStatus}
 use Rattle.awari_block.specs.Part.{settled_by}
 use Rattle.awari_block.specs.declared.notes.Note.{Note}
-use Rattle.awari_owner.specs.PlainFinish as plain_finish
+use Rattle.awari_owner.proofs.PlainFinish as plain_finish
 use Rattle.awari_owner.specs.Finish.{value_by, dist_by, gains, IsQuietAt, IsRightAt}
 use Rattle.awari_owner.proofs.Finishing as finishing
 

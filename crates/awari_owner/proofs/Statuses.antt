@@ -8,7 +8,8 @@ use Rattle.awari_board.specs.Rules.{captured}
 use Rattle.awari_block.specs.Notes.{IsQuietMove, Has, is_won, gain_by, is_heard_at, is_won_at, far_of}
 use Rattle.awari_board.specs.Tests.{is_legal}
 use Rattle.awari_block.specs.Plain.{Status, Ended, Open, Settled, is_left, left_of, Captures, IsBest, Knows, IsOpen, IsSettledAs, IsDistance, IsCount, IsPlain as IsStatus}
-use Rattle.awari_block.specs.PlainSteps.{after_note, after_opening, is_at_most, is_best}
+use Rattle.awari_block.specs.Steps.{is_best}
+use Rattle.awari_owner.proofs.PlainSteps.{after_note, after_opening, is_at_most}
 use Rattle.awari_block.specs.declared.notes.Note.{Note}
 use Rattle.awari_block.specs.declared.notes.Kind.{Kind}
 use Rattle.awari_block.specs.declared.notes.Kind.TheVariants.{Won, Lost}

@@ -3,7 +3,6 @@ pub mod Spread
 pub mod Found
 pub mod OwnerFault
 pub mod Level
-pub mod PlainFinish
 pub mod Finish
 pub mod Scan
 pub mod Outboxes

@@ -1,7 +1,7 @@
 -- What a note, and what the opening of a gain, makes of a status, plans aside.
-use Rattle.std.specs.Prelude.{ℕ, ◌+◌, ◌-◌, ◌==◌, ◌&&◌, Bool, true, false, if◌then◌else◌, max, ℤ, pos, neg_ℤ, int_le, Option, Some, None}
-use Rattle.std.specs.Ordering.{int_eq}
+use Rattle.std.specs.Prelude.{ℕ, ◌+◌, ◌-◌, ◌==◌, ◌&&◌, Bool, true, if◌then◌else◌, max, ℤ, pos, neg_ℤ, int_le, Option, Some, None}
 use Rattle.awari_block.specs.Plain.{Status, Ended, Open, Settled}
+use Rattle.awari_block.specs.Steps.{is_best}
 use Rattle.awari_block.specs.declared.notes.Kind.{Kind}
 use Rattle.awari_block.specs.declared.notes.Kind.TheVariants.{Won, Lost}
 
@@ -9,11 +9,6 @@ use Rattle.awari_block.specs.declared.notes.Kind.TheVariants.{Won, Lost}
 abbrev pub is_at_most : Option ℤ → ℤ → Bool
 is_at_most None v = true
 is_at_most (Some best) v = int_le best v
-
--- whether the best capture gains v
-abbrev pub is_best : Option ℤ → ℤ → Bool
-is_best None v = false
-is_best (Some best) v = int_eq best v
 
 -- a note of the open gain t with this distance
 abbrev pub after_note : Status → Kind → ℕ → ℕ → Status
