@@ -37,7 +37,7 @@ mod words;
 pub use boards::Boards;
 pub use cells::{Cell, Mark};
 pub use closed::ClosedPart;
-pub use laws::worked_examples;
+pub use laws::{paces_have_limits, worked_examples};
 pub use notes::{Kind, Note};
 pub use paces::{MOST_OWNERS, MOST_ROOM, MOST_SWEEPS, Pace};
 pub use places::{Block, Place, block_length};

@@ -11,6 +11,7 @@ ghost use Rattle.awari_block.specs.Part.{Part, IsClosed, IsExpected, IsTallied, 
 ghost use Rattle.awari_owner.specs.Scan.{IsScan, IsWhole};
 ghost use Rattle.awari_owner.specs.Spread.{HearsOwn, SameBlock};
 ghost use Rattle.awari_block.specs.declared.notes.Note.{Note};
+ghost use Rattle.awari_owner.specs.declared.queues.TheConstants.{MOST_NOTES};
 
 use awari_rank::ranks_tell_boards_apart;
 
@@ -74,3 +75,8 @@ pub fn coming_notes_are_expected()
 {
     ranks_tell_boards_apart();
 }
+
+/// A batch has at most 32 notes.
+pub fn batches_have_32_notes()
+    ensures { MOST_NOTES ≡ 32 }
+{}

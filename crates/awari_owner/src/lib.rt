@@ -35,8 +35,8 @@ mod targets;
 
 pub use faults::OwnerFault;
 pub use laws::{
-    closed_parts_are_right, coming_notes_are_expected, distances_fit, one_part_hears_all,
-    quiet_boards_are_right, scanned_parts_are_whole, sound_parts_are_told,
+    batches_have_32_notes, closed_parts_are_right, coming_notes_are_expected, distances_fit,
+    one_part_hears_all, quiet_boards_are_right, scanned_parts_are_whole, sound_parts_are_told,
 };
 pub use outboxes::Outboxes;
 pub use parts::Part;
