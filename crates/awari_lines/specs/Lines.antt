@@ -47,11 +47,11 @@ sent_to e j = sent_on (line_of e j)
 abbrev pub received_from : Ends → ℕ → List Notes
 received_from e j = received_on (line_of e j)
 
--- the batches that were seen to wait on the line from the owner j
+-- the batches that are known to wait on the line from the owner j: they come next
 abbrev pub waiting_from : Ends → ℕ → List Notes
 waiting_from e j = waiting_on (line_of e j)
 
--- for how many more batches the line to the owner j was seen to have room
+-- for how many more batches the line to the owner j is known to have room
 abbrev pub free_to : Ends → ℕ → ℕ
 free_to e j = free_on (line_of e j)
 
@@ -62,7 +62,7 @@ SameRings None (Some m) = ⊥
 SameRings (Some l) None = ⊥
 SameRings (Some l) (Some m) = SameProducer l.producer m.producer × SameConsumer l.consumer m.consumer
 
--- nothing was sent or received, and more may be seen to wait
+-- nothing was sent or received, and more may be known to wait
 pub record LineLooked (l m : Line) : Type 0 where
   pub producer : SameProducer l.producer m.producer
   pub consumer : SameConsumer l.consumer m.consumer
@@ -79,6 +79,20 @@ pub record SameLines (a b : Ends) : Type 0 where
 abbrev pub SameBut : Ends → Ends → ℕ → Type 0
 SameBut a b j = (k : ℕ) → k ≢ j → k ≢ a.owner → line_of b k ≡ line_of a k
 
+-- nothing has changed but what was sent to the owner j, and for how much more there is room
+pub record SendsOnly (a b : Ends) (j : ℕ) : Type 0 where
+  pub lines : SameLines a b
+  pub others : SameBut a b j
+  pub received : received_from b j ≡ received_from a j
+  pub waiting : waiting_from b j ≡ waiting_from a j
+
+-- nothing has changed but what was received from the owner j, and what waits
+pub record TakesOnly (a b : Ends) (j : ℕ) : Type 0 where
+  pub lines : SameLines a b
+  pub others : SameBut a b j
+  pub sent : sent_to b j ≡ sent_to a j
+  pub free : free_to b j ≡ free_to a j
+
 -- the two ends of each of the two rings between two owners
 abbrev pub PairedOn : Option Line → Option Line → Type 0
 PairedOn None m = ⊥
@@ -88,10 +102,10 @@ PairedOn (Some l) (Some m) = IsPair l.producer m.consumer × IsPair m.producer l
 abbrev pub Paired : Ends → Ends → Type 0
 Paired a b = PairedOn (line_of a b.owner) (line_of b a.owner)
 
--- nothing was sent or received
+-- nothing was sent or received, and all room is known to be free
 abbrev pub UnusedOn : Option Line → Type 0
 UnusedOn None = Unit {0}
-UnusedOn (Some l) = (sent l.producer ≡ []) × (received l.consumer ≡ []) × (known_items l.consumer ≡ [])
+UnusedOn (Some l) = (sent l.producer ≡ []) × (received l.consumer ≡ []) × (known_items l.consumer ≡ []) × (known_free l.producer ≡ producer_capacity l.producer)
 
 abbrev pub IsUnused : Ends → Type 0
 IsUnused e = (k : ℕ) → UnusedOn (slice_get e.lines.items k)
@@ -115,7 +129,7 @@ pub record Connected (space : ℕ) (a b : Ends) (m : Line) : Type 0 where
   pub room : HasRoomOn space (Some line)
   pub room_there : HasRoomOn space (Some m)
 
--- on the line to the owner j nothing was sent or received, and more may be seen to wait
+-- on the line to the owner j nothing was sent or received, and more may be known to wait
 pub record Looked (a b : Ends) (j : ℕ) : Type 0 where
   pub lines : SameLines a b
   pub others : SameBut a b j

@@ -23,8 +23,9 @@ pub struct Ends {
 }
 
 impl Ends {
-    ghost use Rattle.std.specs.Prelude.{◌≡◌, ◌≢◌, ◌+◌, ◌++◌, ◌∷◌, [], ℕ, vec_len, IfOk, IfErr, OnOk, OnErr, IfSome, IfNone, IsTrue, ◌↔◌};
-    ghost use Rattle.awari_lines.specs.Lines.{IsOther, owners_of, sent_to, received_from, waiting_from, free_to, SameLines, SameBut, Paired, Connected, Looked, IsExact, NothingWaits};
+    ghost use Rattle.std.specs.Prelude.{◌≡◌, ◌+◌, ◌<◌, ◌≤◌, ◌++◌, ◌∷◌, [], length, IfOk, IfErr, OnOk, IfSome, IfNone, IsOk, IsSome, IsTrue, ◌↔◌};
+    ghost use mathlib.Core.List.{IsPrefix};
+    ghost use Rattle.awari_lines.specs.Lines.{IsOther, owners_of, sent_to, received_from, waiting_from, free_to, SendsOnly, TakesOnly, Paired, Connected, Looked, IsExact, NothingWaits};
 
     /// The owner's number.
     pub fn owner(&self) -> u8
@@ -40,18 +41,14 @@ impl Ends {
         self.lines.len() + 1
     }
 
-    /// Sends a batch to another owner of the grid, or hands it back if the line is full. It takes no
-    /// memory.
+    /// Sends a batch to another owner of the grid, or hands it back if no room is known even after a
+    /// look at the line. If room was known before, it is sent. It takes no memory.
     pub fn push(&mut self, to: u8, batch: Batch) -> Result<(), Batch>
         requires { IsOther self.old to }
-        ensures lines { SameLines self.old self.new }
-        ensures others { SameBut self.old self.new to }
-        ensures received { (received_from self.new to ≡ received_from self.old to) × (waiting_from self.new to ≡ waiting_from self.old to) }
-        ensures ok { OnOk result (sent_to self.new to ≡ sent_to self.old to ++ batch ∷ []) }
-        ensures full { IfErr result (λ back. (back ≡ batch) × (sent_to self.new to ≡ sent_to self.old to)) }
-
-        // It is refused only if the line was seen to be full.
-        ensures no_room { OnErr result (free_to self.new to ≡ 0) }
+        ensures only { SendsOnly self.old self.new to }
+        ensures ok { OnOk result ((sent_to self.new to ≡ sent_to self.old to ++ batch ∷ []) × (free_to self.old to ≤ free_to self.new to + 1)) }
+        ensures full { IfErr result (λ back. (back ≡ batch) × (sent_to self.new to ≡ sent_to self.old to) × (free_to self.new to ≡ 0)) }
+        ensures succeeds { 0 < free_to self.old to → IsOk result }
     {
         let place = seat(self.owner, to);
         let line = &mut self.lines[place];
@@ -61,21 +58,21 @@ impl Ends {
         }
     }
 
-    /// The next batch from another owner of the grid, if one has come. It takes no memory.
+    /// The next batch from another owner of the grid, or None if none is known to wait even after a
+    /// look at the line. What was known before comes next. It takes no memory.
     pub fn pop(&mut self, from: u8) -> Option<Batch>
         requires { IsOther self.old from }
-        ensures lines { SameLines self.old self.new }
-        ensures others { SameBut self.old self.new from }
-        ensures sent { sent_to self.new from ≡ sent_to self.old from }
-        ensures some { IfSome result (λ batch. received_from self.new from ≡ received_from self.old from ++ batch ∷ []) }
-        ensures none { IfNone result (received_from self.new from ≡ received_from self.old from) }
-
-        // None is answered only if the line was seen to be empty.
-        ensures nothing_waits { IfNone result (waiting_from self.new from ≡ []) }
+        ensures only { TakesOnly self.old self.new from }
+        ensures some { IfSome result (λ batch. (received_from self.new from ≡ received_from self.old from ++ batch ∷ []) × IsPrefix (waiting_from self.old from) (batch ∷ waiting_from self.new from)) }
+        ensures none { IfNone result ((received_from self.new from ≡ received_from self.old from) × (waiting_from self.new from ≡ [])) }
+        ensures succeeds { 0 < length (waiting_from self.old from) → IsSome result }
     {
         let place = seat(self.owner, from);
         let line = &mut self.lines[place];
-        line.consumer.pop().ok()
+        match line.consumer.pop() {
+            Ok(batch) => Some(batch),
+            Err(_) => None,
+        }
     }
 
     /// One more line at the end, to a new owner, with room for `room` batches. Gives that owner's
