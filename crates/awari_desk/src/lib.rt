@@ -36,7 +36,7 @@ pub use awari_play::{MOVES_ROOM, MovesText, Weighed, weigh};
 pub use books::{Book, Growing};
 pub use desks::{MOST_READERS, desk};
 pub use faults::{AskFault, DeskFault, ServeFault};
-pub use laws::services_only_grow;
+pub use laws::{services_have_limits, services_only_grow};
 pub use lines::LONGEST_LINE;
 pub use pages::Pages;
 pub use publishers::Publisher;
