@@ -7,7 +7,7 @@ use Rattle.std.proofs.lemmas.List.Elements.{All-weaker}
 use Rattle.awari_rank.specs.Rank.{rank_of}
 use Rattle.awari_block.specs.Notes.{Has}
 use Rattle.awari_block.specs.Blocks.{KeepSettled}
-use Rattle.awari_block.specs.Part.{Part, InBlock, IsTallied, JoinsFresh, Leaves, SameLevel}
+use Rattle.awari_block.specs.Part.{Part, AreFresh, InBlock, IsTallied, JoinsFresh, Leaves, SameLevel}
 use Rattle.awari_owner.specs.Spread.{HearsOwn}
 use Rattle.awari_block.specs.declared.notes.Kind.TheVariants.{Won}
 use Rattle.awari_block.specs.declared.notes.Note.{Note}
@@ -98,10 +98,10 @@ module _ (old new : Part) (level : SameLevel old new) (long : length new.cells �
   }
 
   -- one note more of the batch
-  pub sound_more : (value : List ℕ → ℤ) (owner owners from : ℕ) (taken given boxed : ℕ → Batches) (b : List Note) (m : Note) → IsOtherOf owner owners from
+  pub sound_more : (value : List ℕ → ℤ) (owner owners from : ℕ) (taken given boxed : ℕ → Batches) (b : List Note) (m : Note) → IsOtherOf owner owners from → AreFresh new
       → ((notes : List Note) → IsTallied value old notes → IsTallied value new (m ∷ notes)) → ((notes : List Note) → HearsOwn old notes → HearsOwn new (m ∷ notes))
       → OwnerSound value owner owners old (with_taken taken from b) given boxed → OwnerSound value owner owners new (with_taken taken from (b ++ m ∷ [])) given boxed
-  sound_more value owner owners from taken given boxed b m apart added hears s = record {
+  sound_more value owner owners from taken given boxed b m apart fresh added hears s = record {
     heard = m ∷ s.heard;
     tallied = added s.heard s.tallied;
     hears_own = hears s.heard s.hears_own;
@@ -126,6 +126,7 @@ module _ (old new : Part) (level : SameLevel old new) (long : length new.cells �
     ];
     given_notes = λ j other. notes_still owners j (notes_of (given j)) (s.given_notes j other);
     opened = λ j other. All-weaker (IsOpenBatch old) (IsOpenBatch new) (open_still old new level) (boxed j) (s.opened j other);
+    fresh = fresh;
   }
 
 -- before the first
@@ -139,6 +140,7 @@ sound_first value owner owners from part taken given boxed s = record {
   heard_taken = λ n has leaves. let (j, other, took) = s.heard_taken n has leaves in (j, other, had_before taken from [] j n took);
   given_notes = s.given_notes;
   opened = s.opened;
+  fresh = s.fresh;
 }
 
 -- and after the last

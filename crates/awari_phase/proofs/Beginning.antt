@@ -49,6 +49,7 @@ sound_scanned value n owners o unused count s = record {
     all_notes = λ p q x v d is stones inside block quiet spread. (let none : None ≡ Some (v, d) = sym (s.scan.unsettled (rank_of q) inside) ∙ spread.0 in cc);
   });
   opened = λ j q. subst (λ (bs : Batches). All (IsOpenBatch o.part) bs) (sym (none j q)) (All-nil (IsOpenBatch o.part));
+  fresh = s.fresh;
 }
   where
     none : (j : ℕ) → IsOtherOf o.ends.owner (owners_of o.ends) j → queue_to o.outboxes j ≡ []

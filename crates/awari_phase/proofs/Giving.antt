@@ -6,7 +6,7 @@ use Rattle.awari_board.specs.Rules.{IsBoard, next_board}
 use Rattle.awari_rank.specs.Rank.{rank_of, size_of}
 use Rattle.awari_block.specs.Notes.{IsQuietMove, Has, IsNoteOf}
 use Rattle.awari_owner.specs.Outboxes.{Outboxes, put_behind, with_note, with_notes, queue_to, notes_of}
-use Rattle.awari_block.specs.Part.{Part, InBlock, Leaves, SameLevel, stored_at}
+use Rattle.awari_block.specs.Part.{Part, AreFresh, InBlock, Leaves, SameLevel, stored_at}
 use Rattle.awari_block.specs.Leaving.{first_rank}
 use Rattle.awari_owner.specs.Spread.{Source, IsSpread, Sends, Spreads, is_in_block, kind_of, note_to, with_all_own}
 use Rattle.awari_block.specs.declared.notes.Note.{Note}
@@ -66,7 +66,7 @@ to_test a b r low high = grind (arith, nat_tests)
 
 module _ (injective : IsInjective) (moves : (p : List ℕ) (x : ℕ) (r : List ℕ) → IsBoard p → IsQuietMove p x r → IsBoard r × (sum r ≡ sum p))
     (value : List ℕ → ℤ) (part part' : Part) (o o' : Outboxes) (taken sent : ℕ → Batches) (q : List ℕ) (sources : List Source) (notes : List Note)
-    (spreads : Spreads part part' q sources) (sends : Sends part q sources notes o o') (level : SameLevel part part') (len : length part'.cells ≡ length part.cells)
+    (spreads : Spreads part part' q sources) (sends : Sends part q sources notes o o') (level : SameLevel part part') (len : length part'.cells ≡ length part.cells) (fresh : AreFresh part')
     (s : OwnerSound value o.owner (length o.queues) part taken (λ j. sent j ++ queue_to o j) (queue_to o)) where
   abbrev score : ℤ
   score = (stored_at part (rank_of q)).score
@@ -202,4 +202,5 @@ module _ (injective : IsInjective) (moves : (p : List ℕ) (x : ℕ) (r : List �
     ];
     given_notes = given';
     opened = opened';
+    fresh = fresh;
   }

@@ -8,6 +8,8 @@ use Rattle.std.specs.List.{slice_get}
 use mathlib.Core.List.{IsPrefix}
 use Rattle.awari_block.specs.Notes.{Has}
 use Rattle.awari_owner.specs.Outboxes.{Outboxes, queue_to, notes_of}
+use Rattle.awari_block.specs.Blocks.{KeepSettled}
+use Rattle.awari_block.specs.Cells.{is_settled}
 use Rattle.awari_block.specs.Part.{Part, unspread}
 use Rattle.awari_lines.specs.declared.lines.Ends.{Ends}
 use Rattle.awari_lines.specs.declared.lines.Line.{Line}
@@ -48,13 +50,22 @@ prefix_then xs ys zs p q = (p.0 ++ q.0, sym (append_assoc xs p.0 q.0) ∙ (ap (�
 
 -- ---- blocks
 
+-- settled boards that kept value and distance, and kept them again
+pub stays_then : (a b c : Part) → b.start ≡ a.start → KeepSettled a.start a.cells b.cells → KeepSettled b.start b.cells c.cells → KeepSettled a.start a.cells c.cells
+stays_then a b c at s t rank low settled =
+    let here : KeepSettled a.start b.cells c.cells = subst (λ (i : ℕ). KeepSettled i b.cells c.cells) at t in
+    let one = s rank low settled in
+    let two = here rank low (ap is_settled one.0 ∙ settled) in
+    (two.0 ∙ one.0, two.1 ∙ one.1, two.2 ∙ one.2)
+
 pub same_block : (a : Part) → SamePlace a a
-same_block a = record { level = record { level = refl; gain = refl; wave = refl; start = refl }; long = refl }
+same_block a = record { level = record { level = refl; gain = refl; wave = refl; start = refl }; long = refl; stays = λ rank low settled. (refl, refl, refl) }
 
 pub block_then : (a b c : Part) → SamePlace a b → SamePlace b c → SamePlace a c
 block_then a b c s t = record {
   level = record { level = t.level.level ∙ s.level.level; gain = t.level.gain ∙ s.level.gain; wave = t.level.wave ∙ s.level.wave; start = t.level.start ∙ s.level.start };
   long = t.long ∙ s.long;
+  stays = stays_then a b c s.level.start s.stays t.stays;
 }
 
 -- a batch of the open gain and distance is so of each part of them
@@ -80,6 +91,7 @@ module _ (value : List ℕ → ℤ) (owner owners : ℕ) (part : Part) where
     heard_taken = λ m h l. (let e = s.heard_taken m h l in (e.0, e.1, subst (λ (bs : Batches). Has (notes_of bs) m) (sym (t e.0 e.1)) e.2));
     given_notes = λ j o. subst (λ (bs : Batches). HoldsNotes owners part j (notes_of bs)) (sym (g j o)) (s.given_notes j o);
     opened = λ j o. b j o (s.opened j o);
+    fresh = s.fresh;
   }
 
 pub moved : (value : List ℕ → ℤ) (e e' : Ends) (part : Part) (T G B : ℕ → Batches) → SameLines e e'

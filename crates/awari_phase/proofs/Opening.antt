@@ -2,7 +2,7 @@
 use Rattle.std.proofs.Common.{◌≡◌, ℕ, ◌<◌, List, [], length, All, ℤ, sym, subst, ◌∙◌, arith, get_or}
 use Rattle.awari_rank.specs.Rank.{rank_of}
 use Rattle.awari_owner.specs.Outboxes.{Outboxes, queue_to}
-use Rattle.awari_block.specs.Part.{Part, IsTallied}
+use Rattle.awari_block.specs.Part.{Part, AreFresh, IsTallied}
 use Rattle.awari_owner.specs.Spread.{HearsOwn, IsSeenAs}
 use Rattle.awari_block.specs.declared.notes.Note.{Note}
 use Rattle.awari_owner.proofs.Expecting.{inside_new, inside_old, leaves_old}
@@ -27,9 +27,9 @@ held_still owners old new j notes seen h = record {
 
 next_sound : (value : List ℕ → ℤ) (owner owners : ℕ) (old new : Part) (taken given boxed : ℕ → Batches) → IsSeenAs old new
     → ((notes : List Note) → IsTallied value old notes → IsTallied value new notes) → ((notes : List Note) → HearsOwn old notes → HearsOwn new notes)
-    → ((j : ℕ) → IsOtherOf owner owners j → boxed j ≡ [])
+    → ((j : ℕ) → IsOtherOf owner owners j → boxed j ≡ []) → AreFresh new
     → OwnerSound value owner owners old taken given boxed → OwnerSound value owner owners new taken given boxed
-next_sound value owner owners old new taken given boxed seen tallied hears none s = record {
+next_sound value owner owners old new taken given boxed seen tallied hears none fresh s = record {
   heard = s.heard;
   tallied = tallied s.heard s.tallied;
   hears_own = hears s.heard s.hears_own;
@@ -37,13 +37,14 @@ next_sound value owner owners old new taken given boxed seen tallied hears none 
   heard_taken = λ m has leaves. s.heard_taken m has (leaves_old old new m.target m.pit seen leaves);
   given_notes = λ j o. held_still owners old new j _ seen (s.given_notes j o);
   opened = λ j o. subst (λ (bs : Batches). All (IsOpenBatch new) bs) (sym (none j o)) (λ i x lt. absurd (omega (arith, lt)));
+  fresh = fresh;
 }
 
 owner_next : (value : List ℕ → ℤ) (a b : Owner) → OpensNext a b → All (λ (q : Batches). q ≡ []) a.outboxes.queues → IsSound value a.ends a.part a.outboxes → IsSound value b.ends b.part b.outboxes
 owner_next value a b opens none s =
     subst (λ (e : Ends). IsSound value e b.part b.outboxes) (sym opens.ends) (subst (λ (o : Outboxes). IsSound value a.ends b.part o) (sym opens.outboxes)
     (next_sound value a.ends.owner (owners_of a.ends) a.part b.part (taken_from a.ends) (given_to a.ends a.outboxes) (queue_to a.outboxes) opens.seen (opens.tallied value) opens.hears
-    (λ j o. none j [] (let many = a.queues in let low = o.1 in omega (arith, many, low))) s))
+    (λ j o. none j [] (let many = a.queues in let low = o.1 in omega (arith, many, low))) opens.fresh s))
 
 pub finished_next : (value : List ℕ → ℤ) (n : ℕ) (os ps : List Owner) → length ps ≡ length os → ((i : ℕ) (d : Owner) → i < length os → OpensNext (get_or os i d) (get_or ps i d)) → AreFinished value n os → AreFinished value n ps
 finished_next value n os ps many opens f =

@@ -5,7 +5,8 @@ use Rattle.awari_lines.specs.Lines.{Notes, IsOther, IsGrid, SameLines, owners_of
 use Rattle.awari_lines.specs.declared.lines.Ends.{Ends}
 use Rattle.awari_block.specs.declared.notes.Note.{Note}
 use Rattle.awari_owner.specs.Outboxes.{Outboxes, queue_to, notes_of}
-use Rattle.awari_block.specs.Part.{Part, IsLeastDue, IsTallied, unspread}
+use Rattle.awari_block.specs.Blocks.{KeepSettled}
+use Rattle.awari_block.specs.Part.{Part, AreFresh, IsLeastDue, IsTallied, unspread}
 use Rattle.awari_owner.specs.Scan.{IsScan}
 use Rattle.awari_owner.specs.Spread.{HearsOwn, IsSeenAs}
 use Rattle.awari_phase.specs.Sound.{Batches, OwnerSound, SamePlace, IsOpenBatch}
@@ -40,7 +41,7 @@ pub record Keeps (e : Ends) (part : Part) (o : Outboxes) (e' : Ends) (part' : Pa
 abbrev pub Kept : Owner → Owner → Type 0
 Kept a b = Keeps a.ends a.part a.outboxes b.ends b.part b.outboxes
 
--- a batch of owner j was taken, or none was seen to wait
+-- a batch of owner j was taken, or none is known to wait
 abbrev pub HasTaken : Owner → Owner → ℕ → Type 0
 HasTaken a b j = (waiting_from b.ends j ≡ []) ⊎ (length (received_from a.ends j) < length (received_from b.ends j))
 
@@ -48,7 +49,7 @@ HasTaken a b j = (waiting_from b.ends j ≡ []) ⊎ (length (received_from a.end
 abbrev pub HasSpread : Owner → Owner → Type 0
 HasSpread a b = IsLeastDue b.part (Some b.part.wave) → unspread b.part + 64 ≤ unspread a.part
 
--- a batch was sent to owner j, or there is none to send, or the line was seen to be full
+-- a batch was sent to owner j, or there is none to send, or no room is known on the line
 abbrev pub HasSent : Owner → Owner → ℕ → Type 0
 HasSent a b j = (queue_to b.outboxes j ≡ []) ⊎ ((free_to b.ends j ≡ 0) ⊎ (length (sent_to a.ends j) < length (sent_to b.ends j)))
 
@@ -70,12 +71,14 @@ abbrev pub rest_of : Owner → Part × Outboxes
 rest_of o = (o.part, o.outboxes)
 
 -- The owner on the same lines, with the same block and gain, is sound where it was, and what it took and sent has only grown.
+-- Settled boards keep value and distance.
 pub record Grown (a b : Owner) : Type 0 where
   pub lines : SameLines a.ends b.ends
   pub level : b.part.level ≡ a.part.level
   pub gain : b.part.gain ≡ a.part.gain
   pub start : b.part.start ≡ a.part.start
   pub long : length b.part.cells ≡ length a.part.cells
+  pub stays : KeepSettled a.part.start a.part.cells b.part.cells
   pub received : (j : ℕ) → IsOther a.ends j → IsPrefix (received_from a.ends j) (received_from b.ends j)
   pub sent : (j : ℕ) → IsOther a.ends j → IsPrefix (sent_to a.ends j) (sent_to b.ends j)
   pub sound : (value : List ℕ → ℤ) → IsSound value a.ends a.part a.outboxes → IsSound value b.ends b.part b.outboxes
@@ -97,13 +100,16 @@ pub record OpensWave (dist : ℕ) (a b : Owner) : Type 0 where
   pub ends : b.ends ≡ a.ends
   pub wave : b.part.wave ≡ max a.part.wave dist
 
--- the next smaller gain is open in the part, where the same boards are spread, and nothing was taken or sent
+-- The next smaller gain is open in the part, at distance 0. Settled boards keep value and distance, the same boards are spread,
+-- and nothing was taken or sent.
 pub record OpensNext (a b : Owner) : Type 0 where
   pub ends : b.ends ≡ a.ends
   pub outboxes : b.outboxes ≡ a.outboxes
   pub gain : b.part.gain + 1 ≡ a.part.gain
   pub wave : b.part.wave ≡ 0
   pub seen : IsSeenAs a.part b.part
+  pub stays : KeepSettled a.part.start a.part.cells b.part.cells
+  pub fresh : AreFresh b.part
   pub tallied : (value : List ℕ → ℤ) (notes : List Note) → IsTallied value a.part notes → IsTallied value b.part notes
   pub hears : (notes : List Note) → HearsOwn a.part notes → HearsOwn b.part notes
 
@@ -119,7 +125,7 @@ AreSent os = (i : ℕ) (d : Owner) → i < length os → All (λ q. q ≡ []) (s
 abbrev pub AreReceived : List Owner → Type 0
 AreReceived os = (i j : ℕ) (d : Ends) → i < length (all_ends os) → j < length (all_ends os) → i ≢ j → received_from (slice_index_or (all_ends os) i d) j ≡ sent_to (slice_index_or (all_ends os) j d) i
 
--- on each line what was received, and then what is seen to wait, is what was sent
+-- on each line what was received, and then what is known to wait, is what was sent
 abbrev pub AreLooked : List Owner → Type 0
 AreLooked os = (i j : ℕ) (d : Ends) → i < length (all_ends os) → j < length (all_ends os) → i ≢ j
     → received_from (slice_index_or (all_ends os) i d) j ++ waiting_from (slice_index_or (all_ends os) i d) j ≡ sent_to (slice_index_or (all_ends os) j d) i
@@ -128,7 +134,7 @@ AreLooked os = (i j : ℕ) (d : Ends) → i < length (all_ends os) → j < lengt
 abbrev pub taken_notes : List Owner → Owner → ℕ → ℕ → List Note
 taken_notes os d i j = notes_of (taken_from (slice_index_or os j d).ends i)
 
--- the notes on their way from owner i to owner j: those that are seen to wait on the line, and then those that are to be sent
+-- the notes on their way from owner i to owner j: those that are known to wait on the line, and then those that are to be sent
 abbrev pub coming_notes : List Owner → Owner → ℕ → ℕ → List Note
 coming_notes os d i j = notes_of (map items_of (waiting_from (slice_index_or os j d).ends i)) ++ notes_of (queue_to (slice_index_or os i d).outboxes j)
 
@@ -143,6 +149,7 @@ pub record IsScanned (value : List ℕ → ℤ) (n owners : ℕ) (e : Ends) (o :
   pub scan : IsScan n owners e.owner o.part
   pub tallied : IsTallied value o.part []
   pub hears : HearsOwn o.part []
+  pub fresh : AreFresh o.part
   pub sent : All (λ q. q ≡ []) o.outboxes.queues
 
 -- of these batches that were sent, those that are not among these received ones are of the open gain and distance

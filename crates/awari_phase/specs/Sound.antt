@@ -5,7 +5,8 @@ use Rattle.awari_rank.specs.Rank.{rank_of, size_of}
 use Rattle.awari_block.specs.Notes.{IsQuietMove, Has, IsNoteOf}
 use Rattle.awari_owner.specs.Outboxes.{notes_of}
 use Rattle.awari_owner.specs.Level.{AreOfOtherMoves}
-use Rattle.awari_block.specs.Part.{Part, InBlock, IsTallied, Leaves, SameLevel}
+use Rattle.awari_block.specs.Blocks.{KeepSettled}
+use Rattle.awari_block.specs.Part.{Part, AreFresh, InBlock, IsTallied, Leaves, SameLevel}
 use Rattle.awari_block.specs.Leaving.{first_rank}
 use Rattle.awari_owner.specs.Spread.{HearsOwn, IsSpread}
 use Rattle.awari_block.specs.declared.notes.Note.{Note}
@@ -47,12 +48,15 @@ pub record OwnerSound (value : List ℕ → ℤ) (owner owners : ℕ) (part : Pa
   pub given_notes : (j : ℕ) → IsOtherOf owner owners j → HoldsNotes owners part j (notes_of (given j))
   -- what is still to be sent is of the open gain and distance
   pub opened : (j : ℕ) → IsOtherOf owner owners j → All (IsOpenBatch part) (boxed j)
+  -- the fresh boards are settled ones of the open gain, each once
+  pub fresh : AreFresh part
 
 -- one batch more from owner j
 abbrev pub with_taken : (ℕ → Batches) → ℕ → List Note → ℕ → Batches
 with_taken taken j b k = if k == j then taken k ++ b ∷ [] else taken k
 
--- the same level, gain and distance, and the same block
+-- the same level, gain and distance, and the same block, whose settled boards keep value and distance
 pub record SamePlace (old new : Part) : Type 0 where
   pub level : SameLevel old new
   pub long : length new.cells ≡ length old.cells
+  pub stays : KeepSettled old.start old.cells new.cells

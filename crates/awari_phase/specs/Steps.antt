@@ -10,7 +10,7 @@ pub record TakesAt (a b : Owner) (j : ℕ) : Type 0 where
   pub took : IsOther a.ends j → HasTaken a b j
   pub others : SameBut a.ends b.ends j
 
--- nothing was taken, and as much is seen to wait
+-- nothing was taken, and as much is known to wait
 abbrev pub TakesNothing : Owner → Owner → Type 0
 TakesNothing a b =
     (j : ℕ) → IsOther a.ends j → (received_from b.ends j ≡ received_from a.ends j) × (waiting_from b.ends j ≡ waiting_from a.ends j)

@@ -8,6 +8,7 @@ ghost use Rattle.awari_owner.specs.Level.{AreHeard, AreSound, AreWhole, known_at
 ghost use Rattle.awari_block.specs.Part.{IsClosed};
 ghost use Rattle.awari_phase.specs.Owners.{AreFinished, AreIdle, AreLooked, AreTogether, coming_notes, parts_of, taken_notes};
 ghost use Rattle.awari_phase.specs.declared.owners.Owner.{Owner};
+ghost use Rattle.awari_phase.specs.declared.owners.TheConstants.{MOST_SPREADS};
 
 use awari_owner::{closed_parts_are_right, sound_parts_are_told};
 
@@ -31,3 +32,8 @@ pub fn finished_owners_are_right()
     sound_parts_are_told();
     closed_parts_are_right();
 }
+
+/// A sweep spreads at most 64 boards.
+pub fn sweeps_spread_64_boards()
+    ensures { MOST_SPREADS ≡ 64 }
+{}

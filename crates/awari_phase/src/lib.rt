@@ -35,7 +35,7 @@ mod starting;
 
 pub use faults::PhaseFault;
 pub use gates::{Gate, Open};
-pub use laws::{finished_owners_are_right, owners_together_are_sound};
+pub use laws::{finished_owners_are_right, owners_together_are_sound, sweeps_spread_64_boards};
 pub use making::{closed_parts, scanned_owners};
 pub use openings::open_gain;
 pub use owners::Owner;

@@ -1,11 +1,11 @@
 //! The owners of a level, before any gain is open, and their parts at the end.
 
 ghost use Rattle.std.specs.Prelude.{◌≡◌, ◌+◌, ◌<◌, ◌≤◌, ℕ, All, IfOk, length, slice_index_or, vec_len};
-ghost use Rattle.awari_lines.specs.Lines.{owners_of};
+ghost use Rattle.awari_lines.specs.Lines.{HaveRoom, owners_of};
 ghost use Rattle.awari_block.specs.Part.{IsClosed};
 ghost use Rattle.awari_table.specs.Images.{table_of};
 ghost use Rattle.awari_table.specs.declared.TheConstants.{HIGHEST_LEVEL};
-ghost use Rattle.awari_phase.specs.Owners.{AreFinished, AreIdle, IsScanned, parts_of};
+ghost use Rattle.awari_phase.specs.Owners.{AreFinished, AreIdle, IsScanned, all_ends, parts_of};
 ghost use Rattle.awari_phase.specs.declared.owners.Owner.{Owner as AnOwner};
 
 use crate::owners::Owner;
@@ -34,6 +34,7 @@ pub fn scanned_owners<R: Threads + Sync>(
     ensures count { IfOk result (λ all. vec_len all ≡ owners) }
     ensures finished { IfOk result (λ all. AreFinished (table_of shelf.now).value (length shelf.now) all.items) }
     ensures idle { IfOk result (λ all. AreIdle all.items) }
+    ensures room { IfOk result (λ all. HaveRoom room (all_ends all.items)) }
     ensures gain { IfOk result (λ all. (i : ℕ) (d : AnOwner) → i < owners → (slice_index_or all.items i d).part.gain ≡ length shelf.now + 1) }
 {
     let lines = grid(alloc, owners, room)?;

@@ -10,7 +10,7 @@ use crate::owners::Owner;
 use rayon::prelude::*;
 use std::thread::Threads;
 
-/// Opens the next smaller gain in each part, several parts at a time. Conditions: no board is fresh,
+/// Opens the next smaller gain in each part, several parts at a time, at distance 0. Conditions: no board is fresh,
 /// nothing is to be sent or waits on a line, and the open gain is at least 2. It takes memory for
 /// threads alone. If no thread can be started, it opens the parts one after the other.
 pub fn open_gain<R: Threads + Sync>(rt: &R, owners: &mut [Owner])
@@ -19,7 +19,7 @@ pub fn open_gain<R: Threads + Sync>(rt: &R, owners: &mut [Owner])
     requires received { AreReceived owners.old }
     requires greater { (i : ℕ) (d : AnOwner) → i < length owners.old → 2 ≤ (slice_index_or owners.old i d).part.gain }
     ensures finished { (value : List ℕ → ℤ) (n : ℕ) → AreFinished value n owners.old → AreFinished value n owners.new }
-    ensures gain { (i : ℕ) (d : AnOwner) → i < length owners.old → (slice_index_or owners.new i d).part.gain + 1 ≡ (slice_index_or owners.old i d).part.gain }
+    ensures each { (i : ℕ) (d : AnOwner) → i < length owners.old → OpensNext (slice_index_or owners.old i d) (slice_index_or owners.new i d) }
 {
     par_for_each_mut(
         rt,

@@ -4,8 +4,8 @@
 //! and its own ends of the lines, and nothing of the others. So each contract here speaks of one
 //! owner. `Kept` says that an owner that was sound stays so over the batches that it took and gave.
 //! These are lists that only grow, whatever the others do meanwhile. `Swept` says that it took,
-//! spread and sent, or saw that there was nothing to take, to spread or to send, or no room. Whether
-//! the lists of two owners fit together is seen later, by `settle_owners`, once all ends are in one
+//! spread and sent, or knows of nothing to take, to spread or to send, or of no room. Whether the
+//! lists of two owners fit together is looked at later, by `settle_owners`, once all ends are in one
 //! thread again.
 //!
 //! A sweep never waits. It passes over a line with nothing on it, and if a line is full it leaves the

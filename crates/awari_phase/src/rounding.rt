@@ -21,9 +21,9 @@ use std::thread::Threads;
 /// comes back to its place. Conditions: there are 1 to 1000 sweeps, and the owners stand on one grid.
 /// It takes memory for the threads, and each owner takes it for the notes that it has to send.
 ///
-/// Each owner makes at least one sweep. So from each other owner it took a batch, or saw that none
-/// waited. It spread 64 boards, or all fresh ones of the open distance. To each other owner it sent a
-/// batch, or had none to send, or saw that the line was full.
+/// Each owner makes at least one sweep. So from each other owner it took a batch, or none is known to
+/// wait. It spread 64 boards, or all fresh ones of the open distance. To each other owner it sent a
+/// batch, or had none to send, or no room is known on the line.
 ///
 /// All threads that were started are joined before anything is answered. After a refusal the owners
 /// are gone:

@@ -26,11 +26,11 @@ loop-note-preserved c =
     let puts = c.in_ok-take.ensures.puts in
     let long : length c.take.new.self.cells ≡ length c.loop-note.part.cells = ap length puts.cells ∙ length-set c.loop-note.part.cells (m.target - c.loop-note.part.start) (stored_at c.take.new.self m.target) in
     record {
-      block = block_then c.args.part.now c.loop-note.part c.take.new.self c.loop-note.invariant.block (record { level = puts.same; long = long });
+      block = block_then c.args.part.now c.loop-note.part c.take.new.self c.loop-note.invariant.block (record { level = puts.same; long = long; stays = c.take.ensures.stays });
       left = c.take.ensures.unspread ∙ c.loop-note.invariant.left;
       sound = λ value owner owners from taken given boxed apart s.
           subst (λ (b : List Note). OwnerSound value owner owners c.take.new.self (with_taken taken from b) given boxed) (sym at)
-          (sound_more c.loop-note.part c.take.new.self puts.same long c.in_ok-take.ensures.stays puts.joins value owner owners from taken given boxed (take k items) m apart
+          (sound_more c.loop-note.part c.take.new.self puts.same long c.in_ok-take.ensures.stays puts.joins value owner owners from taken given boxed (take k items) m apart c.take.ensures.fresh
           (c.in_ok-take.ensures.added value) c.in_ok-take.ensures.hears (c.loop-note.invariant.sound value owner owners from taken given boxed apart s));
     }
 

@@ -13,5 +13,5 @@ returns-clause-sound c = either_way c.spread_one.result (λ some value taken sen
     let (q, sources, notes, spreads, sends) = c.spread_one.ensures.spread some in
     sound_spread c.ranks_tell_boards_apart.ensures
     (λ p x r is quiet. (c.moves_keep_boards.ensures.board p r x 0 is quiet, (let kept = c.moves_keep_boards.ensures.stones p r x 0 is quiet in omega (arith, kept))))
-    value _ _ _ _ taken sent q sources notes spreads sends c.spread_one.ensures.same.0 c.spread_one.ensures.same.1 s)
+    value _ _ _ _ taken sent q sources notes spreads sends c.spread_one.ensures.same.0 c.spread_one.ensures.same.1 c.spread_one.ensures.fresh s)
     (λ none value taken sent s. rw (c.spread_one.ensures.none none, c.spread_one.ensures.kept none) s)
