@@ -1,5 +1,5 @@
 -- One part that has the whole level.
-use Rattle.std.proofs.Common.{◌≡◌, ℕ, ◌≤◌, List, [], ◌∷◌, length, ℤ, All, subst, arith}
+use Rattle.std.proofs.Common.{◌≡◌, ℕ, ◌≤◌, List, [], ◌∷◌, ℤ, All, subst, arith}
 use Rattle.std.proofs.lemmas.List.Elements.{All-cons, All-nil}
 use Rattle.awari_block.specs.Part.{Part, IsClosed}
 use Rattle.awari_owner.specs.Level.{AreHeard, AreTold, AreWhole, DistancesFit}

@@ -1,11 +1,13 @@
 //! A level built by several owners, each in a thread of its own.
 
-ghost use Rattle.std.specs.Prelude.{◌≡◌, ◌≤◌, ◌<◌, ◌+◌, ◌↔◌, ◌++◌, ◌∷◌, [], ℕ, ℤ, List, IfOk, IfErr, Err, length};
+ghost use Rattle.std.specs.Prelude.{◌≡◌, ◌≤◌, ◌<◌, ◌+◌, ◌↔◌, ◌++◌, ◌∷◌, [], ℕ, ℤ, List, IfOk, IfErr, Err, length, vec_len};
 ghost use Rattle.awari_play.specs.Least.{IsPlannedLowest};
 ghost use Rattle.awari_table.specs.Images.{table_of};
 ghost use Rattle.awari_table.specs.Shelves.{Consistent, IsShelf};
 ghost use Rattle.awari_table.specs.declared.TheConstants.{HIGHEST_LEVEL};
 ghost use Rattle.awari_theory.specs.Truth.{TellsTruth};
+ghost use Rattle.awari_lines.specs.Lines.{HaveRoom};
+ghost use Rattle.awari_phase.specs.Owners.{all_ends};
 ghost use Rattle.awari_phase.specs.PhaseFault.{IsWant};
 ghost use Rattle.awari_phase.specs.declared.faults.PhaseFault.{PhaseFault};
 ghost use Rattle.awari_build.specs.BuildFault.{IsOfPhase};
@@ -21,7 +23,7 @@ use awari_phase::{
 use awari_plan::finish_parallel;
 use awari_rank::size;
 use awari_table::{HIGHEST_LEVEL, Level, Shelf};
-use std::alloc::Global;
+use std::alloc::{AllocError, Global};
 use std::sync::Wait;
 use std::thread::Threads;
 
@@ -135,10 +137,28 @@ fn settled_owners<R: Threads + Wait + Sync, G: Gate + Sync, P: Progress>(
     ensures closed { IfOk result (λ owners. AreAt (table_of shelf.now).value (length shelf.now) 1 owners.items) }
     ensures phase { IfErr result IsOfPhase }
 {
-    let mut owners = scanned_owners(rt, alloc, shelf, pace.owners, pace.room as u16)?;
+    let mut owners = begun_owners(rt, alloc, shelf, pace)?;
     for _gain in 0..shelf.levels() {
         owners = closed_gain(rt, owners, gate, pace.sweeps, progress)?;
     }
+    Ok(owners)
+}
+
+/// As many owners of the shelf's next level as `pace` says, on lines with room for as much, before
+/// any gain is open.
+fn begun_owners<R: Threads + Sync>(
+    rt: &R,
+    alloc: Global,
+    shelf: &Shelf,
+    pace: Pace,
+) -> Result<Vec<Owner>, AllocError>
+    requires low { length shelf.now ≤ HIGHEST_LEVEL }
+    requires owners { HasOwners pace }
+    requires pace { IsPaced pace }
+    ensures begun { IfOk result (λ owners. AreAt (table_of shelf.now).value (length shelf.now) (length shelf.now + 1) owners.items) }
+    ensures pace { IfOk result (λ owners. (vec_len owners ≡ pace.owners) × HaveRoom pace.room (all_ends owners.items)) }
+{
+    let owners = scanned_owners(rt, alloc, shelf, pace.owners, pace.room as u16)?;
     Ok(owners)
 }
 
@@ -164,7 +184,8 @@ fn closed_gain<R: Threads + Wait + Sync, G: Gate + Sync, P: Progress>(
 
 /// Why a level is not built, if the rounds of a gain were refused.
 fn of_phase(fault: PhaseFault) -> BuildFault
-    ensures { IsWant fault → IsOfPhase result }
+    ensures wanting { IsWant fault → IsOfPhase result }
+    ensures started { fault ≡ PhaseFault.NotStarted → result ≡ BuildFault.Phase fault }
 {
     match fault {
         PhaseFault::Memory => BuildFault::Memory,

@@ -4,19 +4,7 @@ use Rattle.awari_build.specs.Owned.{AreAt}
 use Rattle.awari_build.proofs.owned.settled_owners.Goals as goal
 
 pub loop-gain-init : goal.loop-gain-init
-loop-gain-init g c =
-    let scanned = c.in_ok-owners.ensures in
-    let count = scanned.count in
-    let long = c.in_ok-owners.owners.ok.0 in (
-      length c.args.shelf.now + 1,
-      omega arith,
-      omega arith,
-      record {
-        finished = scanned.finished;
-        idle = scanned.idle;
-        gain = λ i d low. scanned.gain i d (omega (arith, low, count, long));
-      },
-    )
+loop-gain-init g c = (length c.args.shelf.now + 1, omega arith, omega arith, c.in_ok-owners.ensures.begun)
 
 pub loop-gain-preserved : goal.loop-gain-preserved
 loop-gain-preserved g c =
