@@ -92,20 +92,20 @@ take_does old i j batch rest p q high at first hears =
 
 -- ---- one event more
 
-pub runs_taken : (old mid new : Core) (events : List Event) (taken refused : ℕ) (event : Event) → Runs old events mid taken refused → IsEnabled mid event → Does mid new event
+pub runs_taken : (old mid new : Core) (events : List Event) (taken refused : ℕ) (event : Event) → Runs old events mid taken refused → IsEnabled mid event → Does mid new event → Sound new
     → Runs old (events ++ event ∷ []) new (taken + 1) refused
-runs_taken old mid new [] taken refused event (same, none, none') enabled does =
-    inl (new, 0, subst (λ (c : Core). IsEnabled c event) same enabled, subst (λ (c : Core). Does c new event) same does, (refl, refl, none'), ap (λ n. n + 1) none)
-runs_taken old mid new (first ∷ events) taken refused event (inl (next, more, ready, effect, runs, one)) enabled does =
-    inl (next, more + 1, ready, effect, runs_taken next mid new events more refused event runs enabled does, ap (λ n. n + 1) one)
-runs_taken old mid new (first ∷ events) taken refused event (inr (fault, more, is, runs, one)) enabled does =
-    inr (fault, more, is, runs_taken old mid new events taken more event runs enabled does, one)
+runs_taken old mid new [] taken refused event (same, none, none') enabled does last =
+    inl (new, 0, subst (λ (c : Core). IsEnabled c event) same enabled, subst (λ (c : Core). Does c new event) same does, last, (refl, refl, none'), ap (λ n. n + 1) none)
+runs_taken old mid new (first ∷ events) taken refused event (inl (next, more, ready, effect, sound, runs, one)) enabled does last =
+    inl (next, more + 1, ready, effect, sound, runs_taken next mid new events more refused event runs enabled does last, ap (λ n. n + 1) one)
+runs_taken old mid new (first ∷ events) taken refused event (inr (fault, more, is, runs, one)) enabled does last =
+    inr (fault, more, is, runs_taken old mid new events taken more event runs enabled does last, one)
 
 pub runs_refused : (old mid : Core) (events : List Event) (taken refused : ℕ) (event : Event) (why : CoreFault) → Runs old events mid taken refused → IsFaultOf mid event why
     → Runs old (events ++ event ∷ []) mid taken (refused + 1)
 runs_refused old mid [] taken refused event why (same, none, none') is =
     inr (why, 0, subst (λ (c : Core). IsFaultOf c event why) same is, (same, none, refl), ap (λ n. n + 1) none')
-runs_refused old mid (first ∷ events) taken refused event why (inl (next, more, ready, effect, runs, one)) is =
-    inl (next, more, ready, effect, runs_refused next mid events more refused event why runs is, one)
+runs_refused old mid (first ∷ events) taken refused event why (inl (next, more, ready, effect, sound, runs, one)) is =
+    inl (next, more, ready, effect, sound, runs_refused next mid events more refused event why runs is, one)
 runs_refused old mid (first ∷ events) taken refused event why (inr (fault, more, was, runs, one)) is =
     inr (fault, more + 1, was, runs_refused old mid events taken more event why runs is, ap (λ n. n + 1) one)

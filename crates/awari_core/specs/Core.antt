@@ -266,9 +266,9 @@ IsFaultOf core (Spread i) Memory = IsEnabled core (Spread i) × (1 < length core
 IsFaultOf core event fault = ⊥
 
 -- A core takes these events one after the other, passing over those that are refused, and then is the last core: so many were
--- taken, and so many refused.
+-- taken, and so many refused. Each core on the way is sound.
 abbrev pub Runs : Core → List Event → Core → ℕ → ℕ → Type 0
 Runs old [] new taken refused = (new ≡ old) × (taken ≡ 0) × (refused ≡ 0)
 Runs old (event ∷ events) new taken refused =
-    ((next : Core) × (more : ℕ) × IsEnabled old event × Does old next event × Runs next events new more refused × (taken ≡ more + 1))
+    ((next : Core) × (more : ℕ) × IsEnabled old event × Does old next event × Sound next × Runs next events new more refused × (taken ≡ more + 1))
     ⊎ ((fault : CoreFault) × (more : ℕ) × IsFaultOf old event fault × Runs old events new taken more × (refused ≡ more + 1))

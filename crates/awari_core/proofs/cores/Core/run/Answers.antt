@@ -25,7 +25,7 @@ loop-event-preserved c =
         sound = w.in-Ok.ensures.sound;
         leads = more c.args.self.now c.step.new.self c.args.events.now c.loop-event.event-index (c.loop-event.ran.taken + 1) c.loop-event.ran.refused c.match-step.ran (search rules) w.ran-is
             (runs_taken c.args.self.now c.loop-event.self c.step.new.self (take c.loop-event.event-index c.args.events.now) c.loop-event.ran.taken c.loop-event.ran.refused event c.loop-event.invariant.leads
-            w.in-Ok.ensures.enabled w.in-Ok.ensures.done);
+            w.in-Ok.ensures.enabled w.in-Ok.ensures.done w.in-Ok.ensures.sound);
       }
       | in-Err w ↦ record {
         counted = (let is = ap (λ (r : Ran). r.taken + r.refused) w.ran-is in omega (arith, counted, is));
