@@ -1,12 +1,12 @@
 -- Why a round is refused: the faults' numbers, what is printed of them, and which is told.
-use Rattle.std.specs.Prelude.{◌≡◌, ℕ, ◌<◌, List, ◌++◌, Some, None, codes, length, slice_index_or}
+use Rattle.std.specs.Prelude.{◌≡◌, ◌⊎◌, ℕ, ◌<◌, List, ◌++◌, Some, None, codes, length, slice_index_or}
 use Rattle.std.specs.Fmt.{decimal}
 use Rattle.awari_owner.specs.OwnerFault.{fault_text as owner_fault_text}
 use Rattle.awari_owner.specs.declared.faults.OwnerFault.{OwnerFault}
 use Rattle.awari_owner.specs.declared.faults.OwnerFault.TheVariants as owner_fault
 use Rattle.awari_phase.specs.declared.owners.Owner.{Owner}
 use Rattle.awari_phase.specs.declared.faults.PhaseFault.{PhaseFault}
-use Rattle.awari_phase.specs.declared.faults.PhaseFault.TheVariants.{NotStarted, Memory, BadNote}
+use Rattle.awari_phase.specs.declared.faults.PhaseFault.TheVariants.{NotStarted, Memory, BadNote, Stopped}
 use Rattle.awari_phase.specs.Owners.{AllGrown}
 use Rattle.awari_phase.specs.Stops.{HaveWorked}
 
@@ -15,12 +15,14 @@ abbrev pub number_of : PhaseFault → ℕ
 number_of NotStarted = 40
 number_of Memory = 41
 number_of (BadNote owner fault) = 42
+number_of Stopped = 43
 
 -- what is printed of each: its number, its name, its owner, and the fault inside it
 abbrev pub fault_text : PhaseFault → List ℕ
 fault_text NotStarted = codes "40 NotStarted"
 fault_text Memory = codes "41 Memory"
 fault_text (BadNote owner fault) = codes "42 BadNote owner " ++ decimal owner ++ codes ": " ++ owner_fault_text fault
+fault_text Stopped = codes "43 Stopped"
 
 -- how a round tells the fault of an owner
 abbrev pub fault_of : ℕ → OwnerFault → PhaseFault
@@ -48,6 +50,11 @@ abbrev pub IsWant : PhaseFault → Type 0
 IsWant NotStarted = Unit {0}
 IsWant Memory = Unit {0}
 IsWant (BadNote owner fault) = ⊥
+IsWant Stopped = ⊥
+
+-- the level was not wanted any more, for which this holds
+abbrev pub IsStop : Type 0 → PhaseFault → Type 0
+IsStop stops fault = (fault ≡ Stopped) × stops
 
 -- Why a round of these owners is refused: a thread was wanting, or memory, or the owners came back from their work, each up to its
 -- fault if it had one, and this is the fault of the first that had one.
@@ -55,6 +62,7 @@ abbrev pub IsRefusal : List Owner → PhaseFault → Type 0
 IsRefusal owners NotStarted = Unit {0}
 IsRefusal owners Memory = Unit {0}
 IsRefusal owners (BadNote owner fault) = (back : List Owner) × HaveWorked owners back × IsFirstFault back (BadNote owner fault)
+IsRefusal owners Stopped = ⊥
 
 -- Why rounds that began with these owners are refused: they had come to some owners, and the round of those was refused so.
 abbrev pub IsPhaseRefusal : List Owner → PhaseFault → Type 0

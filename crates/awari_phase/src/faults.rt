@@ -17,10 +17,12 @@ pub enum PhaseFault {
     Memory,
     /// 42: an owner was sent a note that it refuses, or could not spread a board.
     BadNote { owner: u8, fault: OwnerFault },
+    /// 43: the level was not wanted any more.
+    Stopped,
 }
 
 impl PhaseFault {
-    /// The number of this refusal, 40 to 42.
+    /// The number of this refusal, 40 to 43.
     pub fn number(self) -> u8
         ensures { result ≡ number_of self }
     {
@@ -28,6 +30,7 @@ impl PhaseFault {
             PhaseFault::NotStarted => 40,
             PhaseFault::Memory => 41,
             PhaseFault::BadNote { .. } => 42,
+            PhaseFault::Stopped => 43,
         }
     }
 }
@@ -43,6 +46,7 @@ impl fmt::Display for PhaseFault {
             PhaseFault::NotStarted => write!(f, "40 NotStarted"),
             PhaseFault::Memory => write!(f, "41 Memory"),
             PhaseFault::BadNote { owner, fault } => write!(f, "42 BadNote owner {owner}: {fault}"),
+            PhaseFault::Stopped => write!(f, "43 Stopped"),
         }
     }
 }

@@ -1,10 +1,10 @@
 //! Rounds, until a gain is closed.
 
-ghost use Rattle.std.specs.Prelude.{◌≡◌, ◌<◌, ◌≤◌, ℕ, ℤ, All, List, IsTrue, IsNone, IfSome, IfOk, IfErr, length, slice_index_or, vec_len, []};
+ghost use Rattle.std.specs.Prelude.{◌≡◌, ◌⊎◌, ◌<◌, ◌≤◌, ℕ, ℤ, All, List, IsTrue, IsNone, IfSome, IfOk, IfErr, length, slice_index_or, vec_len, []};
 ghost use Rattle.awari_lines.specs.Lines.{IsGrid};
 ghost use Rattle.awari_block.specs.Blocks.{due_dist};
 ghost use Rattle.awari_phase.specs.Owners.{AllGrown, AreFinished, AreIdle, AreReceived, AreSent, AreTogether, Kept, all_ends};
-ghost use Rattle.awari_phase.specs.PhaseFault.{IsPhaseRefusal, IsRefusal, IsWant};
+ghost use Rattle.awari_phase.specs.PhaseFault.{IsPhaseRefusal, IsRefusal, IsStop, IsWant};
 ghost use Rattle.awari_phase.specs.declared.owners.Owner.{Owner as AnOwner};
 ghost use Rattle.awari_phase.specs.declared.phases.Standing.{Standing};
 ghost use Rattle.awari_table.specs.declared.TheConstants.{HIGHEST_LEVEL};
@@ -63,7 +63,7 @@ pub fn gain_phase<R: Threads + Wait + Sync, G: Gate + Sync>(
 }
 
 /// Does what `gain_phase` does, and after each round tells `progress` which gain is open and how many
-/// boards are settled.
+/// boards are settled. It is refused as 43 if the level is then not wanted any more.
 pub fn gain_phase_with_progress<R: Threads + Wait + Sync, G: Gate + Sync, P: Progress>(
     rt: &R,
     owners: Vec<Owner>,
@@ -78,13 +78,16 @@ pub fn gain_phase_with_progress<R: Threads + Wait + Sync, G: Gate + Sync, P: Pro
     ensures sent { IfOk result (λ all. AreSent all.items) }
     ensures received { IfOk result (λ all. AreReceived all.items) }
     ensures finished { IfOk result (λ all. (value : List ℕ → ℤ) (n : ℕ) → AreFinished value n owners.items → AreFinished value n all.items) }
-    ensures refused { IfErr result (IsPhaseRefusal owners.items) }
-    ensures wanting { IfErr result (λ fault. (value : List ℕ → ℤ) (n : ℕ) → n ≤ HIGHEST_LEVEL → AreTogether value n owners.items → IsWant fault) }
+    ensures refused { IfErr result (λ fault. IsPhaseRefusal owners.items fault ⊎ IsStop P.stops fault) }
+    ensures wanting { IfErr result (λ fault. (value : List ℕ → ℤ) (n : ℕ) → n ≤ HIGHEST_LEVEL → AreTogether value n owners.items → IsWant fault ⊎ IsStop P.stops fault) }
 {
     let mut all = next_round(rt, owners, gate, sweeps, false)?;
     let mut in_turn = false;
     for _ in rt.forever() {
         tell(progress, all.as_slice());
+        if !progress.is_wanted() {
+            return Err(PhaseFault::Stopped);
+        }
         let Some(next) = look_ahead(all.as_mut_slice(), in_turn) else {
             return Ok(all);
         };

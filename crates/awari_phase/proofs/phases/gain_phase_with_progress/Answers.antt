@@ -1,4 +1,4 @@
-use Rattle.std.proofs.Common.{◌≡◌, length, refl, ap, arith}
+use Rattle.std.proofs.Common.{◌≡◌, length, refl, ap, arith, inl}
 use Rattle.std.proofs.lemmas.Result.{err_from_is_err_and}
 use Rattle.awari_phase.specs.Owners.{AllGrown}
 use Rattle.awari_phase.proofs.Gaining.{all_grown_round, all_grown_trans, finished_grown}
@@ -44,15 +44,20 @@ loop-preserved g c =
       together = λ value n t. c.in_ok-all-2.ensures.together value n (rw back (c.look_ahead.ensures.together value n (rw c.as_mut_slice.ensures.value (c.loop.invariant.together value n t))));
     }
 
+pub returns-in_err-all-clause-wanting : goal.returns-in_err-all-clause-wanting
+returns-in_err-all-clause-wanting g c =
+    let p = err_from_is_err_and c.from_residual.result c.from_residual.ensures.1 in
+    rw (p.1, p.2) (λ value n small t. inl (c.in_err-all.ensures.wanting value n small t))
+
 pub returns-in_err-all-2-clause-wanting : goal.returns-in_err-all-2-clause-wanting
 returns-in_err-all-2-clause-wanting g c =
     let p = err_from_is_err_and c.from_residual-in_err-all-2.result c.from_residual-in_err-all-2.ensures.1 in
     let back = written_back c.loop.all.items c.as_mut_slice.result.now c.look_ahead.new.owners c.loop.all.len c.loop.all.ok.0 c.as_mut_slice.ensures.value c.look_ahead.auto.owners in
-    rw (p.1, p.2) (λ value n small t. c.in_err-all-2.ensures.wanting value n small (rw back (c.look_ahead.ensures.together value n (rw c.as_mut_slice.ensures.value (c.loop.invariant.together value n t)))))
+    rw (p.1, p.2) (λ value n small t. inl (c.in_err-all-2.ensures.wanting value n small (rw back (c.look_ahead.ensures.together value n (rw c.as_mut_slice.ensures.value (c.loop.invariant.together value n t))))))
 
 pub returns-in_err-all-2-clause-refused : goal.returns-in_err-all-2-clause-refused
 returns-in_err-all-2-clause-refused g c =
     let p = err_from_is_err_and c.from_residual-in_err-all-2.result c.from_residual-in_err-all-2.ensures.1 in
     let back = written_back c.loop.all.items c.as_mut_slice.result.now c.look_ahead.new.owners c.loop.all.len c.loop.all.ok.0 c.as_mut_slice.ensures.value c.look_ahead.auto.owners in
     let looked : AllGrown c.loop.all.items c.look_ahead.new.owners = rw c.as_mut_slice.ensures.value at c.look_ahead.ensures.grown in
-    rw (p.1, p.2) (c.look_ahead.new.owners, all_grown_trans c.args.owners.items c.loop.all.items c.look_ahead.new.owners c.loop.invariant.grown looked, rw back at c.in_err-all-2.ensures.refused)
+    rw (p.1, p.2) (inl (c.look_ahead.new.owners, all_grown_trans c.args.owners.items c.loop.all.items c.look_ahead.new.owners c.loop.invariant.grown looked, rw back at c.in_err-all-2.ensures.refused))
