@@ -1,3 +1,4 @@
 pub mod JudgeLaws
 pub mod FolderLaws
 pub mod TextLaws
+pub mod PrintLaws

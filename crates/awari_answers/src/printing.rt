@@ -3,12 +3,28 @@
 ghost use Rattle.std.specs.Prelude.{◌≡◌, ◌≤◌, ◌++◌, ◌∷◌, [], ◌↔◌, true, IfSome};
 ghost use Rattle.std.specs.Io.KnownBytes.{Appends};
 
-use std::fmt;
-use std::fmt::Display;
+use arrayvec::ArrayString;
+use std::fmt::{self, Display, Write as _};
 use std::io::Write;
 
-/// Writes the lines and a line feed, and flushes. True if the writer took them.
+/// How many bytes of lines are written at once.
+const ROOM: usize = 4096;
+
+/// Writes the lines and a line feed, and flushes. True if the writer took them. Up to 4096 bytes go to
+/// the writer in one call, so that no line of another process comes between them. It takes no memory.
 pub fn print<W: Write, T: Display>(writer: &mut W, lines: &T) -> bool
+    ensures { result ≡ true → IfSome (T.output lines.now) (λ text. Appends (W.contents writer.old) (W.contents writer.new) (text ++ 10 ∷ [])) }
+{
+    let mut text = ArrayString::<ROOM>::new();
+    match writeln!(text, "{lines}") {
+        Ok(()) => print_bytes(writer, text.as_bytes()),
+        Err(_) => print_in_pieces(writer, lines),
+    }
+}
+
+/// Writes lines for which there is no room at once, and a line feed, and flushes. True if the writer
+/// took them.
+fn print_in_pieces<W: Write, T: Display>(writer: &mut W, lines: &T) -> bool
     ensures { result ≡ true → IfSome (T.output lines.now) (λ text. Appends (W.contents writer.old) (W.contents writer.new) (text ++ 10 ∷ [])) }
 {
     match writeln!(writer, "{lines}") {
