@@ -37,7 +37,7 @@ pub fn build_alone(alloc: Global, shelf: &Shelf) -> Result<Level, BuildFault>
 }
 
 /// Does what `build_alone` does, and tells `progress` how far it is: when the level begins, at each
-/// gain and distance how many boards are settled, and when the plans begin.
+/// gain and distance how many boards are settled, and when the entries are begun.
 pub fn build_alone_with_progress<P: Progress>(
     alloc: Global,
     shelf: &Shelf,

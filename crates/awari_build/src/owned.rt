@@ -64,7 +64,7 @@ pub fn build_level<R: Threads + Wait + Sync, G: Gate + Sync>(
 }
 
 /// Does what `build_level` does, and tells `progress` how far it is: when the level begins, after
-/// each round which gain is open and how many boards are settled, and when the plans begin.
+/// each round which gain is open and how many boards are settled, and when the entries are begun.
 pub fn build_level_with_progress<R: Threads + Wait + Sync, G: Gate + Sync, P: Progress>(
     rt: &R,
     alloc: Global,

@@ -6,6 +6,7 @@ use Rattle.awari_table.proofs.ShelfLemmas.{IsLevel-consistent, IsShelf-push}
 use Rattle.awari_theory.proofs.Truths.{TellsTruth-shelf}
 use Rattle.awari_owner.specs.Level.{AreHeard, AreWhole}
 use Rattle.awari_block.specs.Part.{Part, IsClosed}
+use Rattle.awari_plan.specs.Least.{IsPlannedLowest}
 use Rattle.awari_build.proofs.Whole.{whole_blocks, whole_closed, whole_heard}
 use Rattle.awari_build.proofs.alone.level_of.Goals as goal
 
@@ -27,3 +28,13 @@ returns-clause-consistent c = subst (Consistent c.args.shelf.now) (sym c.new.ens
 
 pub returns-clause-meaning : goal.returns-clause-meaning
 returns-clause-meaning c = TellsTruth-shelf _ (IsShelf-push c.args.shelf.now c.new.result c.requires.shelf (returns-clause-consistent c))
+
+-- and its plans are the lowest
+planned : (c : goal.In_ok-image) → IsPlannedLowest c.args.shelf.now c.in_ok-image.image
+planned c =
+    c.in_ok-image.ensures.planned
+    (subst (All IsClosed) (sym c.in_ok-parts.ensures) (whole_closed c.args.part c.requires.closed))
+    (subst (λ (parts : List Part). AreHeard (table_of c.args.shelf.now).value parts) (sym c.in_ok-parts.ensures) (whole_heard (table_of c.args.shelf.now).value c.args.part c.requires.sound))
+
+pub returns-clause-planned : goal.returns-clause-planned
+returns-clause-planned c = subst (IsPlannedLowest c.args.shelf.now) (sym c.new.ensures) (planned c.before)

@@ -6,6 +6,7 @@ use Rattle.awari_table.proofs.ShelfLemmas.{IsLevel-consistent, IsShelf-push}
 use Rattle.awari_theory.proofs.Truths.{TellsTruth-shelf}
 use Rattle.awari_owner.specs.Level.{AreHeard, AreWhole}
 use Rattle.awari_block.specs.Part.{Part, IsClosed}
+use Rattle.awari_plan.specs.Least.{IsPlannedLowest}
 use Rattle.awari_build.proofs.owned.level_of.Given as given
 use Rattle.awari_build.proofs.owned.level_of.Goals as goal
 
@@ -37,3 +38,16 @@ returns-clause-consistent g c = subst (Consistent c.args.shelf.now) (sym c.new.e
 
 pub returns-clause-meaning : goal.returns-clause-meaning
 returns-clause-meaning g c = TellsTruth-shelf _ (IsShelf-push c.args.shelf.now c.new.result c.requires.shelf (returns-clause-consistent g c))
+
+-- and its plans are the lowest
+planned : (g : given.Over) (c : goal.In_ok-image g) → IsPlannedLowest c.args.shelf.now c.in_ok-image.image
+planned g c =
+    let at = c.requires.closed in
+    let heard = (c.finished_owners_are_right.ensures.heard (table_of c.args.shelf.now).value (length c.args.shelf.now) c.args.owners.items at.finished).1 in
+    let closed = c.finished_owners_are_right.ensures.closed c.args.owners.items at.idle at.gain in
+    c.in_ok-image.ensures.planned
+    (subst (All IsClosed) (sym c.in_ok-parts.ensures) closed)
+    (subst (λ (parts : List Part). AreHeard (table_of c.args.shelf.now).value parts) (sym c.in_ok-parts.ensures) heard)
+
+pub returns-clause-planned : goal.returns-clause-planned
+returns-clause-planned g c = subst (IsPlannedLowest c.args.shelf.now) (sym c.new.ensures) (planned g c.before)
