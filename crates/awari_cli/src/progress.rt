@@ -7,8 +7,8 @@ use std::time::{Clock, Duration, Instant};
 /// How many milliseconds lie between two lines of one gain, at least.
 const MILLISECONDS_BETWEEN: u128 = 250;
 
-/// Tells on a stream how far a build is: at each gain, when the plans begin, and between these at
-/// most four times a second. A line that cannot be written is left out. If the clock gives no time,
+/// Tells on a stream how far a build is: at each gain, when the entries are begun, and between these
+/// at most four times a second. A line that cannot be written is left out. If the clock gives no time,
 /// there is a line at each gain alone, and its time is 0.
 #[derive(Drop)]
 pub struct ProgressLines<'a, C, E> {
