@@ -25,6 +25,10 @@ name_and_fault (Phase fault) = codes "Phase: " ++ phase_fault_text fault
 abbrev pub fault_text : BuildFault → List ℕ
 fault_text fault = decimal (number_of fault) ++ codes " " ++ name_and_fault fault
 
+-- the level was not wanted any more, for which this holds
+abbrev pub IsStopped : Type 0 → BuildFault → Type 0
+IsStopped stops fault = (fault ≡ Phase phase_fault.Stopped) × stops
+
 -- want of memory, or of a thread
 abbrev pub IsOfPhase : BuildFault → Type 0
 IsOfPhase Memory = Unit {0}

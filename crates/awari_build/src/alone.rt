@@ -1,8 +1,9 @@
 //! A level built by one part, in one thread.
 
-ghost use Rattle.std.specs.Prelude.{◌≡◌, ◌≤◌, ◌<◌, ◌+◌, ◌⊎◌, ◌↔◌, ◌++◌, ◌∷◌, [], ℕ, ℤ, List, length, IfOk, IfErr, Err, Some};
+ghost use Rattle.std.specs.Prelude.{◌≡◌, ◌≤◌, ◌<◌, ◌+◌, ◌⊎◌, ◌↔◌, ◌++◌, ◌∷◌, [], ℕ, ℤ, List, length, IfOk, IfErr, OnOk, Err, Some};
 ghost use Rattle.awari_block.specs.Part.{IsLeastDue, unspread, IsClosed};
 ghost use Rattle.awari_owner.specs.Scan.{IsWhole};
+ghost use Rattle.awari_build.specs.BuildFault.{IsStopped};
 ghost use Rattle.awari_build.specs.Sound.{IsSound};
 ghost use Rattle.awari_play.specs.Least.{IsPlannedLowest};
 ghost use Rattle.awari_table.specs.Images.{table_of};
@@ -10,7 +11,7 @@ ghost use Rattle.awari_table.specs.Shelves.{Consistent, IsShelf};
 ghost use Rattle.awari_table.specs.declared.TheConstants.{HIGHEST_LEVEL};
 ghost use Rattle.awari_theory.specs.Truth.{TellsTruth};
 
-use crate::faults::BuildFault;
+use crate::faults::{BuildFault, expect_wanted};
 use awari_block::ClosedPart;
 use awari_owner::{Outboxes, Part, distances_fit};
 use awari_phase::{Progress, Silent};
@@ -37,7 +38,8 @@ pub fn build_alone(alloc: Global, shelf: &Shelf) -> Result<Level, BuildFault>
 }
 
 /// Does what `build_alone` does, and tells `progress` how far it is: when the level begins, at each
-/// gain and distance how many boards are settled, and when the entries are begun.
+/// gain and distance how many boards are settled, and when the entries are begun. It asks at each of these
+/// whether the level is still wanted, and is refused as 52 `Phase` with 43 `Stopped` if it is not.
 pub fn build_alone_with_progress<P: Progress>(
     alloc: Global,
     shelf: &Shelf,
@@ -49,7 +51,7 @@ pub fn build_alone_with_progress<P: Progress>(
     // Its plans are the lowest, so there is one level that it may be.
     ensures planned { IfOk result (IsPlannedLowest shelf.now) }
     ensures too_high { (result ≡ Err BuildFault.TooHigh) ↔ (HIGHEST_LEVEL < length shelf.now) }
-    ensures fault { IfErr result (λ fault. (fault ≡ BuildFault.TooHigh) ⊎ (fault ≡ BuildFault.Memory)) }
+    ensures fault { IfErr result (λ fault. (fault ≡ BuildFault.TooHigh) ⊎ ((fault ≡ BuildFault.Memory) ⊎ IsStopped P.stops fault)) }
 {
     if shelf.levels() > HIGHEST_LEVEL {
         return Err(BuildFault::TooHigh);
@@ -57,6 +59,7 @@ pub fn build_alone_with_progress<P: Progress>(
     let number = shelf.levels();
     progress.begin(usize::from(number), size(number) as usize);
     let part = settled_part(alloc, shelf, progress)?;
+    expect_wanted(progress)?;
     progress.plan();
     level_of(alloc, shelf, part)
 }
@@ -98,8 +101,9 @@ fn settled_part<P: Progress>(
     ensures whole { IfOk result (λ part. IsWhole part × (part.level ≡ length shelf.now)) }
     ensures closed { IfOk result IsClosed }
     ensures sound { IfOk result (IsSound (table_of shelf.now).value) }
-    ensures memory { IfErr result (λ fault. fault ≡ BuildFault.Memory) }
+    ensures refused { IfErr result (λ fault. (fault ≡ BuildFault.Memory) ⊎ IsStopped P.stops fault) }
 {
+    expect_wanted(progress)?;
     let Ok(mut part) = Part::scan(alloc, shelf, 1, 0) else {
         return Err(BuildFault::Memory);
     };
@@ -107,39 +111,49 @@ fn settled_part<P: Progress>(
     let mut spread: usize = 0;
     while part.gain() > 1 {
         part.open_gain(part.gain() - 1);
-        progress.settled(usize::from(part.gain()), spread);
-        spread = spread_all(&mut part, &mut outboxes, spread, progress);
+        tell(&part, spread, progress)?;
+        spread = spread_all(&mut part, &mut outboxes, spread, progress)?;
     }
     Ok(part)
 }
 
+/// Tells `progress` which gain is open and how many boards were spread, and asks it whether the level
+/// is still wanted.
+fn tell<P: Progress>(part: &Part, spread: usize, progress: &mut P) -> Result<(), BuildFault>
+    ensures { IfErr result (IsStopped P.stops) }
+{
+    progress.settled(usize::from(part.gain()), spread);
+    expect_wanted(progress)
+}
+
 /// Spreads all boards that are settled at the open gain, the nearest first. `before` counts the
 /// boards that were spread before, and the result those that are now. `progress` hears of each new
-/// distance.
+/// distance, and may stop there.
 fn spread_all<P: Progress>(
     part: &mut Part,
     outboxes: &mut Outboxes,
     before: usize,
     progress: &mut P,
-) -> usize
+) -> Result<usize, BuildFault>
     requires whole { IsWhole part.old }
     requires alone { (outboxes.old.owner ≡ 0) × (length outboxes.old.queues ≡ 1) }
     requires low { part.old.level ≤ HIGHEST_LEVEL }
     requires sound { (value : List ℕ → ℤ) × IsSound value part.old }
     ensures whole { IsWhole part.new × (part.new.level ≡ part.old.level) × (part.new.gain ≡ part.old.gain) }
-    ensures idle { part.new.fresh ≡ [] }
+    ensures idle { OnOk result (part.new.fresh ≡ []) }
     ensures alone { (outboxes.new.owner ≡ 0) × (length outboxes.new.queues ≡ 1) }
     ensures sound { (value : List ℕ → ℤ) → IsSound value part.old → IsSound value part.new }
+    ensures stopped { IfErr result (IsStopped P.stops) }
 {
     let mut spread = before;
     while let Some(dist) = part.due() {
         if part.wave() < dist {
-            progress.settled(usize::from(part.gain()), spread);
+            tell(part, spread, progress)?;
         }
         spread_nearest(part, outboxes, dist);
         spread = spread.saturating_add(1);
     }
-    spread
+    Ok(spread)
 }
 
 /// Spreads the first fresh board, which is of this distance.

@@ -1,10 +1,10 @@
 //! Why a level is not built.
 
-ghost use Rattle.std.specs.Prelude.{◌≡◌};
-ghost use Rattle.awari_build.specs.BuildFault.{number_of};
+ghost use Rattle.std.specs.Prelude.{◌≡◌, IfErr};
+ghost use Rattle.awari_build.specs.BuildFault.{IsStopped, number_of};
 ghost use Rattle.awari_build.specs.declared.faults.BuildFault.TheVariants.{Memory};
 
-use awari_phase::PhaseFault;
+use awari_phase::{PhaseFault, Progress};
 use std::alloc::AllocError;
 use std::fmt;
 use thiserror::Error;
@@ -22,7 +22,7 @@ pub enum BuildFault {
     TooHigh,
     /// 53: there was no room.
     Memory,
-    /// 52: the owners could not work.
+    /// 52: the owners could not work, or the level was not wanted any more.
     Phase { fault: PhaseFault },
 }
 
@@ -65,4 +65,16 @@ impl From<AllocError> for BuildFault {
     fn from(_error: AllocError) -> Self {
         BuildFault::Memory
     }
+}
+
+/// Refuses a level that is not wanted any more.
+pub(crate) fn expect_wanted<P: Progress>(progress: &mut P) -> Result<(), BuildFault>
+    ensures { IfErr result (IsStopped P.stops) }
+{
+    if progress.is_wanted() {
+        return Ok(());
+    }
+    Err(BuildFault::Phase {
+        fault: PhaseFault::Stopped,
+    })
 }

@@ -1,6 +1,6 @@
 //! A level built by several owners, each in a thread of its own.
 
-ghost use Rattle.std.specs.Prelude.{◌≡◌, ◌≤◌, ◌<◌, ◌+◌, ◌↔◌, ◌++◌, ◌∷◌, [], ℕ, ℤ, List, IfOk, IfErr, Err, length, vec_len};
+ghost use Rattle.std.specs.Prelude.{◌≡◌, ◌⊎◌, ◌≤◌, ◌<◌, ◌+◌, ◌↔◌, ◌++◌, ◌∷◌, [], ℕ, ℤ, List, IfOk, IfErr, Err, length, vec_len};
 ghost use Rattle.awari_play.specs.Least.{IsPlannedLowest};
 ghost use Rattle.awari_table.specs.Images.{table_of};
 ghost use Rattle.awari_table.specs.Shelves.{Consistent, IsShelf};
@@ -8,13 +8,13 @@ ghost use Rattle.awari_table.specs.declared.TheConstants.{HIGHEST_LEVEL};
 ghost use Rattle.awari_theory.specs.Truth.{TellsTruth};
 ghost use Rattle.awari_lines.specs.Lines.{HaveRoom};
 ghost use Rattle.awari_phase.specs.Owners.{all_ends};
-ghost use Rattle.awari_phase.specs.PhaseFault.{IsWant};
+ghost use Rattle.awari_phase.specs.PhaseFault.{IsStop, IsWant};
 ghost use Rattle.awari_phase.specs.declared.faults.PhaseFault.{PhaseFault};
-ghost use Rattle.awari_build.specs.BuildFault.{IsOfPhase};
+ghost use Rattle.awari_build.specs.BuildFault.{IsOfPhase, IsStopped};
 ghost use Rattle.awari_build.specs.Owned.{AreAt};
 ghost use Rattle.awari_block.specs.Paces.{HasOwners, IsPaced};
 
-use crate::faults::BuildFault;
+use crate::faults::{BuildFault, expect_wanted};
 use awari_block::{MOST_OWNERS, MOST_ROOM, MOST_SWEEPS, Pace};
 use awari_phase::{
     Gate, Owner, PhaseFault, Progress, Silent, closed_parts, finished_owners_are_right,
@@ -64,7 +64,9 @@ pub fn build_level<R: Threads + Wait + Sync, G: Gate + Sync>(
 }
 
 /// Does what `build_level` does, and tells `progress` how far it is: when the level begins, after
-/// each round which gain is open and how many boards are settled, and when the entries are begun.
+/// each round which gain is open and how many boards are settled, and when the entries are begun. It asks
+/// before it scans the level and after each round whether the level is still wanted, and is refused
+/// as 52 `Phase` with 43 `Stopped` if it is not.
 pub fn build_level_with_progress<R: Threads + Wait + Sync, G: Gate + Sync, P: Progress>(
     rt: &R,
     alloc: Global,
@@ -83,7 +85,7 @@ pub fn build_level_with_progress<R: Threads + Wait + Sync, G: Gate + Sync, P: Pr
     ensures too_high { (result ≡ Err BuildFault.TooHigh) ↔ (HasOwners pace × IsPaced pace × (HIGHEST_LEVEL < length shelf.now)) }
 
     // No owner refuses a note that another one sent.
-    ensures phase { (fault : PhaseFault) → result ≡ Err (BuildFault.Phase fault) → fault ≡ PhaseFault.NotStarted }
+    ensures phase { (fault : PhaseFault) → result ≡ Err (BuildFault.Phase fault) → (fault ≡ PhaseFault.NotStarted) ⊎ IsStop P.stops fault }
 {
     if !(1..=MOST_OWNERS).contains(&pace.owners) {
         return Err(BuildFault::Owners);
@@ -135,8 +137,9 @@ fn settled_owners<R: Threads + Wait + Sync, G: Gate + Sync, P: Progress>(
     requires owners { HasOwners pace }
     requires pace { IsPaced pace }
     ensures closed { IfOk result (λ owners. AreAt (table_of shelf.now).value (length shelf.now) 1 owners.items) }
-    ensures phase { IfErr result IsOfPhase }
+    ensures phase { IfErr result (λ fault. IsOfPhase fault ⊎ IsStopped P.stops fault) }
 {
+    expect_wanted(progress)?;
     let mut owners = begun_owners(rt, alloc, shelf, pace)?;
     for _gain in 0..shelf.levels() {
         owners = closed_gain(rt, owners, gate, pace.sweeps, progress)?;
@@ -173,7 +176,7 @@ fn closed_gain<R: Threads + Wait + Sync, G: Gate + Sync, P: Progress>(
     requires sweeps { (1 ≤ sweeps) × (sweeps ≤ 1000) }
     requires rest { (value : List ℕ → ℤ) × (n : ℕ) × (gain : ℕ) × (2 ≤ gain) × AreAt value n gain owners.items × (gain ≤ n + 1) × (n ≤ HIGHEST_LEVEL) }
     ensures closed { IfOk result (λ all. (value : List ℕ → ℤ) (n gain : ℕ) → AreAt value n (gain + 1) owners.items → AreAt value n gain all.items) }
-    ensures phase { IfErr result IsOfPhase }
+    ensures phase { IfErr result (λ fault. IsOfPhase fault ⊎ IsStopped P.stops fault) }
 {
     open_gain(rt, owners.as_mut_slice());
     match gain_phase_with_progress(rt, owners, gate, sweeps, progress) {
@@ -186,6 +189,7 @@ fn closed_gain<R: Threads + Wait + Sync, G: Gate + Sync, P: Progress>(
 fn of_phase(fault: PhaseFault) -> BuildFault
     ensures wanting { IsWant fault → IsOfPhase result }
     ensures started { fault ≡ PhaseFault.NotStarted → result ≡ BuildFault.Phase fault }
+    ensures stopped { fault ≡ PhaseFault.Stopped → result ≡ BuildFault.Phase PhaseFault.Stopped }
 {
     match fault {
         PhaseFault::Memory => BuildFault::Memory,

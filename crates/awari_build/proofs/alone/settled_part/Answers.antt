@@ -3,14 +3,14 @@ use Rattle.awari_table.specs.Images.{table_of}
 use Rattle.awari_build.proofs.Stepping.{sound_opened}
 use Rattle.awari_build.proofs.alone.settled_part.Goals as goal
 
-pub spread_all-spread-requires-clause-sound : goal.spread_all-spread-requires-clause-sound
-spread_all-spread-requires-clause-sound g c =
+pub spread_all-requires-clause-sound : goal.spread_all-requires-clause-sound
+spread_all-requires-clause-sound g c =
     ((table_of c.args.shelf.now).value, sound_opened _ _ _ c.open_gain.ensures.opened c.open_gain.ensures.hears c.loop-part.invariant.sound)
 
 pub loop-part-preserved : goal.loop-part-preserved
 loop-part-preserved g c =
     let before = c.loop-part.invariant in
-    let spread = c.spread_all-spread.ensures in
+    let spread = c.in_ok-spread.ensures in
     record {
       whole = spread.whole.0;
       level = spread.whole.1 ∙ c.open_gain.ensures.same.0 ∙ before.level;

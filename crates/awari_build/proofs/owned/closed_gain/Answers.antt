@@ -1,4 +1,4 @@
-use Rattle.std.proofs.Common.{length, ap, sym, subst, ◌∙◌}
+use Rattle.std.proofs.Common.{length, ap, sym, subst, ◌∙◌, inl, inr}
 use Rattle.awari_owner.proofs.Lists.{written}
 use Rattle.awari_lines.specs.Lines.{IsGrid}
 use Rattle.awari_phase.specs.Owners.{AreFinished, AreTogether, all_ends}
@@ -22,6 +22,8 @@ pub returns-in-Err-clause-phase : goal.returns-in-Err-clause-phase
 returns-in-Err-clause-phase g c =
     let same = written c.open_gain.new.owners c.args.owners.items c.args.owners.len (c.open_gain.auto.owners ∙ ap length c.as_mut_slice.ensures.value ∙ sym c.args.owners.ok.0) (sym c.args.owners.ok.0) in
     let rest = c.requires.rest in
-    c.of_phase.ensures.wanting
-    (c.in-Err.ensures.wanting rest.0 rest.1 rest.6
-    (subst (AreTogether rest.0 rest.1) (sym same) (opened_together rest.0 rest.1 rest.2 c.args.owners.items c.as_mut_slice.result.now c.open_gain.new.owners c.as_mut_slice.ensures.value c.open_gain.auto.owners c.open_gain.ensures.finished (λ i d h. (c.open_gain.ensures.each i d h).gain) rest.4 rest.5)))
+    elim (c.in-Err.ensures.wanting rest.0 rest.1 rest.6
+    (subst (AreTogether rest.0 rest.1) (sym same) (opened_together rest.0 rest.1 rest.2 c.args.owners.items c.as_mut_slice.result.now c.open_gain.new.owners c.as_mut_slice.ensures.value c.open_gain.auto.owners c.open_gain.ensures.finished (λ i d h. (c.open_gain.ensures.each i d h).gain) rest.4 rest.5))) [
+      | inl want ↦ inl (c.of_phase.ensures.wanting want)
+      | inr stop ↦ inr (c.of_phase.ensures.stopped stop.0, stop.1)
+    ]
