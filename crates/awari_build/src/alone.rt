@@ -38,8 +38,9 @@ pub fn build_alone(alloc: Global, shelf: &Shelf) -> Result<Level, BuildFault>
 }
 
 /// Does what `build_alone` does, and tells `progress` how far it is: when the level begins, at each
-/// gain and distance how many boards are settled, and when the entries are begun. It asks at each of these
-/// whether the level is still wanted, and is refused as 52 `Phase` with 43 `Stopped` if it is not.
+/// gain and distance how many boards are settled, and when the entries are begun. It asks at each of
+/// these whether the level is still wanted, and is refused as 52 `Phase` with 43 `Stopped` if it is
+/// not.
 pub fn build_alone_with_progress<P: Progress>(
     alloc: Global,
     shelf: &Shelf,

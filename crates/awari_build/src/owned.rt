@@ -64,9 +64,9 @@ pub fn build_level<R: Threads + Wait + Sync, G: Gate + Sync>(
 }
 
 /// Does what `build_level` does, and tells `progress` how far it is: when the level begins, after
-/// each round which gain is open and how many boards are settled, and when the entries are begun. It asks
-/// before it scans the level and after each round whether the level is still wanted, and is refused
-/// as 52 `Phase` with 43 `Stopped` if it is not.
+/// each round which gain is open and how many boards are settled, and when the entries are begun. It
+/// asks before it scans the level and after each round whether the level is still wanted, and is
+/// refused as 52 `Phase` with 43 `Stopped` if it is not.
 pub fn build_level_with_progress<R: Threads + Wait + Sync, G: Gate + Sync, P: Progress>(
     rt: &R,
     alloc: Global,
