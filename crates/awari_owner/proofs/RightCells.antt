@@ -1,9 +1,7 @@
 -- A board at which all notes were heard keeps the rules of an image, at gain 1.
-use Rattle.std.proofs.Common.{◌≡◌, ℕ, ◌+◌, ◌<◌, ◌≤◌, ◌==◌, ◌⊎◌, inl, inr, is_some, List, ℤ, pos, neg_ℤ, ◌≤ℤ◌, ◌<ℤ◌, Option, Some, None, refl, sym, ap, subst, ◌∙◌, arith}
+use Rattle.std.proofs.Common.{◌≡◌, ℕ, ◌<◌, ◌≤◌, ◌⊎◌, inl, inr, is_some, List, ℤ, pos, neg_ℤ, ◌≤ℤ◌, ◌<ℤ◌, Option, Some, None, refl, sym, ap, subst, ◌∙◌, arith}
 use Rattle.std.proofs.lemmas.Bool.{false≢true}
-use Rattle.awari_board.specs.Rules.{IsMove, IsEnded}
 use Rattle.awari_table.specs.Certificate.{plies}
-use Rattle.awari_block.specs.Notes.{IsQuietMove, Has, gain_by}
 use Rattle.awari_block.specs.Plain as plain
 use Rattle.awari_block.specs.Plain.{left_of, IsPlain}
 use Rattle.awari_block.specs.Tally.{Status, Ended, Open, Settled, Cell, IsStatus}

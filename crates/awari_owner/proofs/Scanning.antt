@@ -1,17 +1,17 @@
 -- A board of which no note was heard is open before any gain is.
-use Rattle.std.proofs.Common.{◌≡◌, ℕ, zero, suc, ◌+◌, ◌<◌, ◌≤◌, ◌==◌, ◌⊎◌, inl, inr, Bool, true, false, not, ◌&&◌, cond, if◌then◌else◌, is_some, All, List, [], ◌∷◌, ◌++◌, ◌-◌, ◌≢◌, length, get_or, length-append, subst₂, sum, take, count_by, ℤ, Option, Some, None, pos, neg_ℤ, ◌-ℤ◌, ◌<ℤ◌, ◌≤ℤ◌, refl, sym, ap, subst, ◌∙◌, arith, eqb-true}
+use Rattle.std.proofs.Common.{◌≡◌, ℕ, zero, suc, ◌+◌, ◌<◌, ◌≤◌, ◌==◌, ◌⊎◌, inl, inr, Bool, true, false, not, ◌&&◌, if◌then◌else◌, is_some, All, List, [], ◌∷◌, ◌++◌, ◌-◌, ◌≢◌, length, get_or, length-append, subst₂, sum, take, count_by, ℤ, Option, Some, None, pos, neg_ℤ, ◌-ℤ◌, ◌<ℤ◌, ◌≤ℤ◌, refl, sym, ap, subst, ◌∙◌, arith, eqb-true}
 use Rattle.std.proofs.lemmas.Bool.Decides.{nat_tests}
 use Rattle.std.proofs.lemmas.Int.{ints}
 use Rattle.std.proofs.lemmas.List.{get_or_append_left, get_or_default}
 use Rattle.std.proofs.Math.Seq.{get_or-append_seam}
-use Rattle.awari_board.specs.Rules.{IsBoard, IsEnd, IsEnded, IsLegal, IsMove, captured, next_board, own_stones}
+use Rattle.awari_board.specs.Rules.{IsBoard, IsEnded, IsLegal, IsMove, captured, next_board}
 use Rattle.awari_board.specs.Tests.{is_legal}
 use Rattle.awari_board.proofs.Legal.{legal_is}
 use Rattle.awari_block.specs.Pits.{pits}
 use Rattle.awari_block.specs.Plain as plain
 use Rattle.awari_block.specs.Plain.{is_left, left_of, Captures, IsBest, Knows, IsPlain}
 use Rattle.awari_block.specs.Tally.{IsStatus, IsTally}
-use Rattle.awari_block.specs.Cells.{IsWithin, IsEither, Fits, FitsBy, view_of, status_of, status_by, is_settled}
+use Rattle.awari_block.specs.Cells.{IsWithin, Fits, FitsBy, view_of, status_of, status_by, is_settled}
 use Rattle.awari_block.specs.declared.cells.Cell.{Cell}
 use Rattle.awari_block.specs.declared.cells.Mark.{Mark}
 use Rattle.awari_block.specs.declared.cells.Mark.TheVariants.{Ended, Quiet, Capturing, Noted, Settled}

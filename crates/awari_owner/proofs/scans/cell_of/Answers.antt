@@ -1,8 +1,7 @@
-use Rattle.std.proofs.Common.{◌≡◌, ◌≤◌, ℕ, ℤ, Some, SFits, w8, ap, ◌∙◌, subst, sym, rules, arith}
+use Rattle.std.proofs.Common.{ℕ, ℤ, SFits, w8, ap, ◌∙◌, subst, sym, rules, arith}
 use Rattle.std.proofs.lemmas.Int.{to_z-of_z}
 use Rattle.awari_block.specs.Tally as tally
-use Rattle.awari_block.specs.Cells.{IsEither, IsWithin, Fits}
-use Rattle.awari_block.specs.declared.places.Place.{Place}
+use Rattle.awari_block.specs.Cells.{IsEither, IsWithin}
 use Rattle.awari_owner.proofs.Looks.{scanned_capturing, scanned_quiet, scanned_ended}
 use Rattle.awari_owner.proofs.scans.cell_of.Goals as goal
 

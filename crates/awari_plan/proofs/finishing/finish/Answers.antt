@@ -1,4 +1,4 @@
-use Rattle.std.proofs.Common.{◌∙◌, ap, length, subst}
+use Rattle.std.proofs.Common.{◌∙◌, ap, subst}
 use Rattle.awari_rank.specs.Rank.{size_of}
 use Rattle.awari_plan.proofs.Closing.{finished_consistent}
 use Rattle.awari_plan.proofs.Whole.{entered_finished, finished_lowest}
