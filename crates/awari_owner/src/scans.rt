@@ -31,8 +31,8 @@ struct ScannedBoard {
     leaving: u8,
 }
 
-/// The pits of the quiet moves and of the best captures, what these gain in stones, if one is legal, and
-/// which quiet moves lead out of the block.
+/// The pits of the quiet moves and of the best captures, what these captures gain in stones, if one
+/// is legal, and which quiet moves lead out of the block.
 #[derive(Clone, Copy)]
 struct Outlook {
     quiet: u8,
