@@ -2,6 +2,7 @@
 
 use crate::expect::{expect, expect_equal};
 use awari_lines::{Ends, grid, settle};
+use awari_owner::Batch;
 use std::alloc::Global;
 use std::process::Abort;
 use std::test::Fail;
@@ -43,4 +44,25 @@ fn expect_three(rt: &impl Abort, alloc: Global) -> Result<(), Fail> {
 fn owners_get_their_ends(rt: HostRuntime) -> Result<(), Fail> {
     expect_one(&rt, rt.alloc())?;
     expect_three(&rt, rt.alloc())
+}
+
+/// What the first of two owners sends is there for the second at once, and then there is room again at
+/// once. For that each has to look at the other's end of the line.
+fn expect_passed(rt: &impl Abort, one: &mut Ends, other: &mut Ends) {
+    assert!(rt; one.owner() == 0 && one.owners() == 2);
+    assert!(rt; other.owner() == 1 && other.owners() == 2);
+    expect(rt, "sent", one.push(1, Batch::new()).is_ok());
+    expect(rt, "full", one.push(1, Batch::new()).is_err());
+    expect(rt, "taken", other.pop(0).is_some());
+    expect(rt, "empty", other.pop(0).is_none());
+}
+
+#[test]
+fn lines_are_looked_at(rt: HostRuntime) -> Result<(), Fail> {
+    let mut all = grid(rt.alloc(), 2, 1)?;
+    assert!(rt; all.len() == 2);
+    let (front, back) = all.as_mut_slice().split_at_mut(1);
+    expect_passed(&rt, &mut front[0], &mut back[0]);
+    expect_passed(&rt, &mut front[0], &mut back[0]);
+    Ok(())
 }

@@ -10,6 +10,8 @@ mod built;
 #[cfg(test)]
 mod cores;
 #[cfg(test)]
+mod counts;
+#[cfg(test)]
 mod drawing;
 #[cfg(test)]
 mod examples;
@@ -35,5 +37,7 @@ mod rounds;
 mod schedules;
 #[cfg(test)]
 mod shelves;
+#[cfg(test)]
+mod sweeps;
 #[cfg(test)]
 mod wrong_builds;

@@ -1,0 +1,56 @@
+//! Levels counted: how many boards are won, even and lost, and the limit, as two other programs, which
+//! share nothing, have counted them.
+
+use crate::expect::expect_equal;
+use crate::shelves::levels_below;
+use awari_build::{Pace, build_alone, build_level};
+use awari_phase::Open;
+use awari_table::{Level, Shelf};
+use std::process::Abort;
+use std::sync::Arc;
+use std::test::Fail;
+
+/// Boards won, even and lost, and the limit, of levels 0 to 13.
+const COUNTS: [(usize, usize, usize, u32); 14] = [
+    (0, 1, 0, 0),
+    (5, 0, 7, 1),
+    (24, 13, 41, 9),
+    (121, 64, 179, 28),
+    (577, 143, 645, 38),
+    (2161, 0, 2207, 60),
+    (5707, 1545, 5124, 64),
+    (14944, 4483, 12397, 63),
+    (37806, 8333, 29443, 73),
+    (85273, 20449, 62238, 97),
+    (157790, 93737, 101189, 87),
+    (371898, 93142, 240392, 127),
+    (714572, 197753, 439753, 184),
+    (1365150, 311700, 819294, 124),
+];
+
+fn expect_counts(rt: &impl Abort, level: &Level, counts: (usize, usize, usize, u32)) {
+    let won = level.entries().iter().filter(|e| e.value > 0).count();
+    let even = level.entries().iter().filter(|e| e.value == 0).count();
+    let lost = level.entries().iter().filter(|e| e.value < 0).count();
+    let found = (won, even, lost, level.limit());
+    expect_equal(rt, level.number(), found, counts);
+}
+
+#[test]
+fn one_part_builds_levels_0_to_13(rt: HostRuntime) -> Result<(), Fail> {
+    let mut shelf = Shelf::empty();
+    for counts in &COUNTS {
+        let level = build_alone(rt.alloc(), &shelf)?;
+        expect_counts(&rt, &level, *counts);
+        shelf.push(Arc::new(rt.alloc(), level)?);
+    }
+    Ok(())
+}
+
+#[test]
+fn three_owners_build_level_7(rt: HostRuntime) -> Result<(), Fail> {
+    let shelf = levels_below(rt.alloc(), 7)?;
+    let level = build_level(&rt, rt.alloc(), &shelf, Pace::usual(3), &Open)?;
+    expect_counts(&rt, &level, COUNTS[7]);
+    Ok(())
+}
