@@ -38,6 +38,8 @@ mod schedules;
 #[cfg(test)]
 mod shelves;
 #[cfg(test)]
+mod stops;
+#[cfg(test)]
 mod sweeps;
 #[cfg(test)]
 mod wrong_builds;
