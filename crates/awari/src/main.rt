@@ -2,8 +2,12 @@
 #![tactic(auto)]
 
 use awari_cli::run;
+use std::env::Env;
 use std::process::ExitCode;
-use std::{env, io};
+use std::{env, io, str};
+
+/// More bytes than Linux lets a word have.
+const WORD_ROOM: usize = 1 << 17;
 
 fn main(rt: HostRuntime) -> ExitCode {
     match words(rt) {
@@ -17,7 +21,10 @@ fn main(rt: HostRuntime) -> ExitCode {
         )),
         Err(error) => {
             // There is nowhere to say that this could not be written.
-            let _ = eprintln!(rt; "error: {error}");
+            let _ = match bad_word(rt) {
+                Some(number) => eprintln!(rt; "error: word {number} is not UTF-8"),
+                None => eprintln!(rt; "error: {error}"),
+            };
             ExitCode::from(2)
         }
     }
@@ -26,4 +33,16 @@ fn main(rt: HostRuntime) -> ExitCode {
 /// The program's words, of which the first is its own name.
 fn words(rt: HostRuntime) -> io::Result<Vec<String>> {
     Ok(env::args(&rt)?.collect(rt.alloc())?)
+}
+
+/// Which word is the first that is not UTF-8. The first one behind the program's name has number 1.
+fn bad_word(rt: HostRuntime) -> Option<usize> {
+    let mut room = vec![in rt.alloc(); 0u8; WORD_ROOM].ok()?;
+    for number in 0..usize::MAX {
+        let count = rt.arg(number, &mut room).ok()?;
+        if str::from_utf8(&room[..count]).is_err() {
+            return Some(number);
+        }
+    }
+    None
 }
