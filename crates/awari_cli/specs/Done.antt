@@ -8,7 +8,7 @@ use Rattle.awari_answers.specs.Judgement.{PrintsJudgement}
 use Rattle.awari_answers.specs.Lines.{PrintsLine}
 use Rattle.awari_cli.specs.Migrating.{PrintsMigrated}
 use Rattle.awari_answers.specs.Playing.{PrintsMove}
-use Rattle.awari_cli.specs.Serving.{PrintsService, HasLevelsTo}
+use Rattle.awari_cli.specs.Serving.{PrintsService}
 use Rattle.awari_answers.specs.Texts.{PrintsText}
 use Rattle.awari_answers.specs.Worths.{PrintsWorths}
 use Rattle.awari_words.specs.declared.requests.Request.{Request}
@@ -28,4 +28,4 @@ PrintsFor (Migrate from to) input before after = PrintsMigrated nothing_known no
 PrintsFor (Ask folder board) input before after = PrintsEntry nothing_known board.now before after
 PrintsFor (Moves folder board) input before after = PrintsWorths nothing_known board.now before after
 PrintsFor (Line folder board) input before after = PrintsLine nothing_known board.now before after
-PrintsFor (Serve folder top owners) input before after = PrintsService nothing_known input before after × HasLevelsTo top
+PrintsFor (Serve folder top owners) input before after = PrintsService nothing_known input before after

@@ -1,12 +1,14 @@
 -- The command `serve`: what is answered.
 use Rattle.std.specs.Prelude.{◌<◌, ℕ, List, length, Option}
 use Rattle.awari_build.specs.BuildFault.{fault_text as build_fault_text}
+use Rattle.awari_build.specs.declared.faults.BuildFault.TheVariants as build_fault
 use Rattle.awari_desk.specs.DeskFault.{fault_text as desk_fault_text}
 use Rattle.awari_desk.specs.ServeFault.{fault_text as serve_fault_text}
 use Rattle.awari_desk.specs.Service.{IsInput, HasServed}
 use Rattle.awari_folder.specs.Contents.{IsStoredIn}
 use Rattle.awari_folder.specs.FolderFault.{fault_text as folder_fault_text}
 use Rattle.awari_phase.specs.PhaseFault.{fault_text as phase_fault_text}
+use Rattle.awari_phase.specs.declared.faults.PhaseFault.TheVariants as phase_fault
 use Rattle.awari_table.specs.Shelves.{IsShelf}
 use Rattle.awari_table.specs.declared.images.Image.{Image}
 use Rattle.awari_cli.specs.declared.serving.ServingFault.{ServingFault}
@@ -23,6 +25,10 @@ PrintsService stands input before after = (images : List Image) × (digest : Lis
 -- Right levels up to `top` at least are there. No definition says that there are any: a shelf of them shows it, which is built.
 abbrev pub HasLevelsTo : ℕ → Type 0
 HasLevelsTo top = (book : List Image) × IsShelf book × (top < length book)
+
+-- why a level is not built that nobody can ask for
+abbrev pub nobody_asks : ServingFault
+nobody_asks = Build (build_fault.Phase phase_fault.Stopped)
 
 -- the fault inside it
 abbrev pub serving_fault_text : ServingFault → List ℕ

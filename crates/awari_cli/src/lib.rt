@@ -10,7 +10,7 @@
 //!         folder: &mut MemoryFolder,
 //!         top: u8,
 //!         progress: &mut impl Progress,
-//!         output: &mut Vec<u8>,
+//!         output: &mut impl Write,
 //!     ) -> u8 {
 //!         let mut builder = Builder {
 //!             rt,
@@ -23,6 +23,7 @@
 #![tactic(auto)]
 
 mod building;
+mod lasting;
 mod laws;
 mod migrating;
 mod progress;

@@ -1,5 +1,6 @@
 //! How far a build is, told on a stream.
 
+use awari_answers::print;
 use awari_phase::Progress;
 use std::io::Write;
 use std::time::{Clock, Duration, Instant};
@@ -57,6 +58,8 @@ fn between(earlier: Option<Instant>, later: Option<Instant>) -> Duration {
 }
 
 impl<C: Clock, E: Write> Progress for ProgressLines<'_, C, E> {
+    ghost stops = { ⊥ };
+
     fn begin(&mut self, level: usize, boards: usize) {
         self.level = level;
         self.boards = boards;
@@ -73,9 +76,11 @@ impl<C: Clock, E: Write> Progress for ProgressLines<'_, C, E> {
         let (seconds, tenths) = self.time_gone(now);
         let (level, all) = (self.level, self.boards);
         // There is nowhere to say that this could not be written.
-        let _ = writeln!(
+        print(
             self.errors,
-            "level {level} gain {gain} settled {boards} of {all} seconds {seconds}.{tenths}",
+            &format_args!(
+                "level {level} gain {gain} settled {boards} of {all} seconds {seconds}.{tenths}"
+            ),
         );
     }
 
@@ -85,9 +90,9 @@ impl<C: Clock, E: Write> Progress for ProgressLines<'_, C, E> {
         let (seconds, tenths) = self.time_gone(now);
         let (level, all) = (self.level, self.boards);
         // There is nowhere to say that this could not be written.
-        let _ = writeln!(
+        print(
             self.errors,
-            "level {level} plans of {all} seconds {seconds}.{tenths}",
+            &format_args!("level {level} plans of {all} seconds {seconds}.{tenths}"),
         );
     }
 }

@@ -185,7 +185,7 @@ fn folder_to_read<'a, T: Files, E: Write>(
     let found = fs::metadata(files, Path::new(folder));
     if matches!(found, Err(error) if error.kind() == ErrorKind::NotFound) {
         // There is nowhere to say that this could not be written.
-        let _ = writeln!(errors, "no such folder: {folder}");
+        print(errors, &format_args!("no such folder: {folder}"));
     }
     host_folder(files, alloc, folder)
 }

@@ -1,15 +1,17 @@
 //! The command `serve`: a reader of the levels in a folder that is served while a thread builds those
 //! above them.
 
-ghost use Rattle.std.specs.Prelude.{◌≡◌, ◌≤◌, ◌<◌, ◌+◌, [], length, IfOk, OnOk};
+ghost use Rattle.std.specs.Prelude.{◌≡◌, ◌≤◌, ◌<◌, ◌+◌, ◌↔◌, [], length, Ok, Err, IsOk, IfOk, OnOk};
 ghost use Rattle.awari_desk.specs.Desks.{book_of};
 ghost use Rattle.awari_desk.specs.declared.faults.DeskFault.TheVariants as desk_fault;
 ghost use Rattle.awari_table.specs.Shelves.{Consistent, IsShelf};
-ghost use Rattle.awari_cli.specs.Serving.{PrintsService, HasLevelsTo, IsServed};
+ghost use Rattle.awari_cli.specs.Serving.{PrintsService, HasLevelsTo, IsServed, nobody_asks};
+ghost use Rattle.awari_cli.specs.declared.serving.ServingFault.{ServingFault as AServingFault};
 ghost use Rattle.awari_cli.specs.declared.serving.ServingFault.TheVariants as serving_fault;
 
+use crate::lasting::{WhileServed, lasting_service};
 use awari_answers::refuse;
-use awari_build::{BuildFault, Pace, build_alone, build_level};
+use awari_build::{BuildFault, Pace, build_alone_with_progress, build_level_with_progress};
 use awari_desk::{DeskFault, Publisher, Reader, ServeFault, desk, serve};
 use awari_folder::{Folder, FolderFault, load_parallel};
 use awari_phase::{Open, PhaseFault};
@@ -105,10 +107,32 @@ impl fmt::Display for ServingFault {
     }
 }
 
+/// How the building beside a service has ended.
+#[derive(Clone, Copy)]
+enum Grown {
+    /// The levels up to the top are published.
+    ToTop,
+    /// The service had ended, and so no further level was wanted.
+    Stopped,
+}
+
+/// What builds levels beside a service: its threads and memory, how many owners it has, and whether
+/// the levels are wanted.
+#[derive(Drop)]
+struct Grower<T> {
+    rt: T,
+    alloc: Global,
+    owners: u8,
+    wanted: WhileServed,
+}
+
 /// Answers the lines of the reader by the levels of the folder, and by the levels above them up to
 /// `top`, which a thread builds and publishes meanwhile. It has `owners` owners, or builds by one
 /// part if that is 0. Nothing is saved. A refusal is printed after the answers, unless these could
 /// not be written.
+///
+/// Once nobody can ask any more, the thread stops at the next gain, distance or round, and that is no
+/// refusal. So nothing is promised of the levels above the folder's but that each answer is right.
 pub fn run_serve<
     T: Threads + Wait + Sync + Send + Clone + Drop + 'static,
     F: Folder,
@@ -119,12 +143,9 @@ pub fn run_serve<
 
     // What was written is a service by right levels, of which the first are those of the folder.
     ensures served { result ≡ 0 → PrintsService (F.stands folder.old) (R.remaining reader.old) (W.contents writer.old) (W.contents writer.new) }
-
-    // The levels up to `top` were built, unless the folder had them.
-    ensures grown { result ≡ 0 → HasLevelsTo top }
 {
     match serve_beside(rt, folder, alloc, top, owners, reader, writer) {
-        Ok(()) => 0,
+        Ok(Grown::ToTop | Grown::Stopped) => 0,
         Err(
             ServingFault::Serve {
                 fault: ServeFault::Write,
@@ -134,8 +155,8 @@ pub fn run_serve<
     }
 }
 
-/// Serves while a thread builds, and joins it. The refusal of the service comes before that of the
-/// thread.
+/// Serves while a thread builds, has that stop when the service has ended, and joins it. The refusal
+/// of the service comes before that of the thread.
 fn serve_beside<
     T: Threads + Wait + Sync + Send + Clone + Drop + 'static,
     F: Folder,
@@ -149,26 +170,51 @@ fn serve_beside<
     owners: u8,
     reader: &mut R,
     writer: &mut W,
-) -> Result<(), ServingFault>
+) -> Result<Grown, ServingFault>
     ensures served { OnOk result (PrintsService (F.stands folder.old) (R.remaining reader.old) (W.contents writer.old) (W.contents writer.new)) }
-    ensures grown { OnOk result (HasLevelsTo top) }
+    ensures grown { IfOk result (λ end. end ≡ Grown.ToTop → HasLevelsTo top) }
 {
     let stored = load_parallel(rt, alloc, folder)?;
     let (publisher, known) = published(rt.clone()?, alloc, &stored.shelf)?;
-    let own = rt.clone()?;
-    let Ok(builder) = thread::spawn_with(rt, GrowsTo(top), move || {
-        grow(own, alloc, publisher, top, owners)
-    }) else {
+    let (service, wanted) = lasting_service(alloc)?;
+    let grower = Grower {
+        rt: rt.clone()?,
+        alloc,
+        owners,
+        wanted,
+    };
+    let Ok(builder) = thread::spawn_with(rt, GrowsTo(top), move || grow(grower, publisher, top))
+    else {
         return Err(ServingFault::Start {
             fault: PhaseFault::NotStarted,
         });
     };
     let served = serve_lines(known, reader, writer);
+    drop(service);
     let (publisher, grown) = builder.join(rt);
     publisher.close();
     served?;
-    grown?;
-    Ok(())
+    let end = ended(grown)?;
+    Ok(end)
+}
+
+/// How the building has ended, which is no refusal if nobody wanted the level.
+fn ended(grown: Result<(), ServingFault>) -> Result<Grown, ServingFault>
+    ensures to_top { (result ≡ Ok Grown.ToTop) ↔ IsOk grown }
+    ensures stopped { (result ≡ Ok Grown.Stopped) ↔ (grown ≡ Err nobody_asks) }
+    ensures refused { (fault : AServingFault) → result ≡ Err fault → grown ≡ Err fault }
+{
+    match grown {
+        Ok(()) => Ok(Grown::ToTop),
+        Err(
+            ServingFault::Build {
+                fault: BuildFault::Phase {
+                    fault: PhaseFault::Stopped,
+                },
+            },
+        ) => Ok(Grown::Stopped),
+        Err(fault) => Err(fault),
+    }
 }
 
 /// The promise of the thread that builds: unless it is refused, it has published right levels up to
@@ -239,18 +285,17 @@ fn served_by<R: Read, W: Write>(
     (output.into_inner(), served)
 }
 
-/// Builds the levels above the book up to `top`, and publishes each.
+/// Builds the levels above the book up to `top`, and publishes each. It is refused as 52 with 43 once
+/// the levels are not wanted any more.
 fn grow<T: Threads + Wait + Sync + Drop>(
-    rt: T,
-    alloc: Global,
+    mut grower: Grower<T>,
     mut publisher: Publisher<T>,
     top: u8,
-    owners: u8,
 ) -> (Publisher<T>, Result<(), ServingFault>)
     ensures { OnOk result.1 (IsShelf (book_of result.0.pages) × (top < length (book_of result.0.pages))) }
 {
     'level: while publisher.pages.book().levels() <= top {
-        if let Err(fault) = grow_by_one(&rt, alloc, &mut publisher, owners) {
+        if let Err(fault) = grow_by_one(&mut grower, &mut publisher) {
             return (publisher, Err(fault));
         }
     }
@@ -259,32 +304,30 @@ fn grow<T: Threads + Wait + Sync + Drop>(
 
 /// Builds the level above the book, and publishes it.
 fn grow_by_one<T: Threads + Wait + Sync + Drop>(
-    rt: &T,
-    alloc: Global,
+    grower: &mut Grower<T>,
     publisher: &mut Publisher<T>,
-    owners: u8,
 ) -> Result<(), ServingFault>
     ensures { OnOk result (length (book_of publisher.new.pages) ≡ length (book_of publisher.old.pages) + 1) }
 {
-    let level = next_level(rt, alloc, publisher.pages.book(), owners)?;
-    let level = Arc::new(alloc, level)?;
+    let level = next_level(grower, publisher.pages.book())?;
+    let level = Arc::new(grower.alloc, level)?;
     publisher.publish(level)?;
     Ok(())
 }
 
-/// The level above the book, built by `owners` owners, or by one part if that is 0.
+/// The level above the book, built by the owners, or by one part if there are none.
 fn next_level<T: Threads + Wait + Sync>(
-    rt: &T,
-    alloc: Global,
+    grower: &mut Grower<T>,
     book: &Shelf,
-    owners: u8,
 ) -> Result<Level, BuildFault>
     ensures { IfOk result (λ level. Consistent book.now level) }
 {
-    let level = if owners == 0 {
-        build_alone(alloc, book)?
+    let wanted = &mut grower.wanted;
+    let level = if grower.owners == 0 {
+        build_alone_with_progress(grower.alloc, book, wanted)?
     } else {
-        build_level(rt, alloc, book, Pace::usual(owners), &Open)?
+        let pace = Pace::usual(grower.owners);
+        build_level_with_progress(&grower.rt, grower.alloc, book, pace, &Open, wanted)?
     };
     Ok(level)
 }

@@ -46,7 +46,7 @@ pub(crate) fn has_draft(folder: &MemoryFolder) -> bool {
 pub(crate) fn build(
     rt: &(impl AllocGlobal + Threads + Wait + Sync),
     folder: &mut MemoryFolder,
-    output: &mut Vec<u8>,
+    output: &mut impl Write,
 ) -> u8 {
     build_to(rt, folder, 1, &mut Silent, output)
 }
@@ -57,7 +57,7 @@ fn build_to(
     folder: &mut MemoryFolder,
     top: u8,
     progress: &mut impl Progress,
-    output: &mut Vec<u8>,
+    output: &mut impl Write,
 ) -> u8 {
     let mut builder = Builder {
         rt,
@@ -105,7 +105,7 @@ pub(crate) fn lined(
     rt: &(impl AllocGlobal + Threads + Wait + Sync),
     folder: &mut MemoryFolder,
     board: &str,
-    output: &mut Vec<u8>,
+    output: &mut impl Write,
 ) -> u8 {
     run_line(rt, folder, rt.alloc(), board, output)
 }

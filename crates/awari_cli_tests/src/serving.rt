@@ -1,8 +1,9 @@
-//! The command `serve` beside its builder, and the flushes behind what is answered and printed.
+//! The command `serve` beside its builder, and how what is answered and printed comes to its stream.
 
 use crate::commands::Broken;
 use crate::expect::expect_equal;
-use crate::plain::{build, memory_folder, served, texted, verified, weighed};
+use crate::plain::{build, lined, memory_folder, served, texted, verified, weighed};
+use awari_folder::MemoryFolder;
 use std::alloc::Global;
 use std::cell::Cell;
 use std::io::{self, ErrorKind, Read, Write};
@@ -10,14 +11,21 @@ use std::process::Abort;
 use std::sync::Wait;
 use std::thread::Threads;
 
-const ASK_CYCLE: &[u8] = b"ask 1,0,0,0,0,0/1,0,0,0,0,0\n";
+/// A line that asks for a board, and the answer to it.
+type Asked = (&'static [u8], &'static [u8]);
 
-/// How often a reader asks before it gives up. A level of two stones is built within a few asks.
+const CYCLE: Asked = (b"ask 1,0,0,0,0,0/1,0,0,0,0,0\n", b"0 0 0\n");
+
+/// The player to move has no stone, so the play has ended.
+const ENDED: Asked = (b"ask 0,0,0,0,0,0/5,0,0,0,0,0\n", b"-5 - 0\n");
+
+/// How often a reader asks before it gives up. A level of a few stones is built within fewer asks.
 const MOST_ASKS: u32 = 1_000_000;
 
-/// Asks for a board of level 2 until it is answered.
+/// Asks for a board until it is answered.
 #[derive(Drop)]
 struct Asking<'a> {
+    line: &'static [u8],
     answered: &'a Cell<bool>,
     asks: u32,
 }
@@ -28,7 +36,7 @@ impl Read for Asking<'_> {
             return Ok(0);
         }
         self.asks = self.asks.saturating_add(1);
-        let mut line = ASK_CYCLE;
+        let mut line = self.line;
         line.read(buf)
     }
 }
@@ -36,12 +44,13 @@ impl Read for Asking<'_> {
 /// Sees when the board is answered.
 #[derive(Drop)]
 struct Watching<'a> {
+    answer: &'static [u8],
     answered: &'a Cell<bool>,
 }
 
 impl Write for Watching<'_> {
     fn write(&mut self, buf: &[u8]) -> io::Result<usize> {
-        if buf == b"0 0 0\n".as_slice() {
+        if buf == self.answer {
             self.answered.set(true);
         }
         Ok(buf.len())
@@ -52,19 +61,63 @@ impl Write for Watching<'_> {
     }
 }
 
-#[test]
-fn a_reader_sees_the_level_that_is_built(rt: HostRuntime) {
+/// Serves an empty folder until the board is answered, while levels up to this one are built by so
+/// many owners.
+fn expect_answered(
+    rt: &(impl Abort + AllocGlobal + Threads + Wait + Sync + Send + Clone + Drop + 'static),
+    (line, answer): Asked,
+    building: (u8, u8),
+) {
     let answered = Cell::new(false);
     let mut input = Asking {
+        line,
         answered: &answered,
         asks: 0,
     };
     let mut output = Watching {
+        answer,
         answered: &answered,
     };
     let mut folder = memory_folder(rt.alloc());
-    let status = served(&rt, &mut folder, (2, 3), &mut input, &mut output);
-    expect_equal(&rt, "status", (status, answered.get()), (0, true));
+    let status = served(rt, &mut folder, building, &mut input, &mut output);
+    expect_equal(rt, building, (status, answered.get()), (0, true));
+}
+
+/// A board of level TOP is answered, so all levels up to it are built.
+#[test]
+fn a_reader_sees_the_level_that_is_built(rt: HostRuntime) {
+    expect_answered(&rt, CYCLE, (2, 3));
+    expect_answered(&rt, CYCLE, (2, 0));
+    expect_answered(&rt, ENDED, (5, 2));
+}
+
+/// A level that nobody builds while the tests run.
+const FAR: u8 = 20;
+
+/// The input ends once level 5 is answered, and the levels above it are left.
+#[test]
+fn a_builder_stops_when_the_service_has_ended(rt: HostRuntime) {
+    expect_answered(&rt, ENDED, (FAR, 0));
+    expect_answered(&rt, ENDED, (FAR, 3));
+}
+
+/// Serves an empty folder with levels to be built far up, and is told to quit at once.
+fn expect_quit(
+    rt: &(impl Abort + AllocGlobal + Threads + Wait + Sync + Send + Clone + Drop + 'static),
+    owners: u8,
+) {
+    let mut input: &[u8] = b"quit\n";
+    let mut output = Vec::new(rt.alloc());
+    let mut folder = memory_folder(rt.alloc());
+    let status = served(rt, &mut folder, (FAR, owners), &mut input, &mut output);
+    expect_equal(rt, "status", status, 0);
+    expect_equal(rt, "printed", output.as_slice(), b"bye\n");
+}
+
+#[test]
+fn a_builder_stops_after_quit(rt: HostRuntime) {
+    expect_quit(&rt, 0);
+    expect_quit(&rt, 3);
 }
 
 /// Owners that no builder takes, so that the thread is refused.
@@ -127,16 +180,20 @@ fn nothing_is_printed_after_a_write_that_failed(rt: HostRuntime) {
     expect_equal(&rt, "status and writes", (status, output.writes), (1, 1));
 }
 
-/// Counts the flushes that pass bytes on.
+/// Counts the writes of bytes, and the flushes that pass them on.
 #[derive(Drop)]
 struct Passing {
+    writes: u32,
     flushes: u32,
     is_held: bool,
 }
 
 impl Write for Passing {
     fn write(&mut self, buf: &[u8]) -> io::Result<usize> {
-        self.is_held |= !buf.is_empty();
+        if !buf.is_empty() {
+            self.writes = self.writes.saturating_add(1);
+            self.is_held = true;
+        }
         Ok(buf.len())
     }
 
@@ -153,15 +210,17 @@ impl Passing {
     /// A stream to which nothing came yet.
     fn new() -> Passing {
         Passing {
+            writes: 0,
             flushes: 0,
             is_held: false,
         }
     }
 }
 
-/// So many flushes came, the last one behind all bytes.
-fn expect_passed(rt: &impl Abort, case: &str, output: &Passing, flushes: u32) {
-    expect_equal(rt, case, (output.flushes, output.is_held), (flushes, false));
+/// So many lines came, or all lines of an answer as one, each by one write and one flush behind it.
+fn expect_passed(rt: &impl Abort, case: &str, output: &Passing, lines: u32) {
+    let found = (output.writes, output.flushes, output.is_held);
+    expect_equal(rt, case, found, (lines, lines, false));
 }
 
 /// Each answer of a service is passed on.
@@ -181,25 +240,44 @@ fn each_answer_is_passed_on(rt: HostRuntime) {
     expect_answers_passed(&rt, rt.alloc());
 }
 
-/// Each line of a command is passed on, or all lines of an answer at once.
+const BOARD: &str = "0,0,0,0,0,1/0,0,0,0,0,0";
+
+/// Each line of `build`, `verify` and of a refusal is passed on.
 fn expect_lines_passed(
     rt: &(impl Abort + AllocGlobal + Threads + Wait + Sync + Send + Clone + Drop + 'static),
-    alloc: Global,
+    folder: &mut MemoryFolder,
 ) {
-    let mut folder = memory_folder(alloc);
-    let _status = build(rt, &mut folder, &mut Vec::new(alloc));
     let mut output = Passing::new();
-    let _status = verified(rt, &mut folder, &mut output);
+    let _status = build(rt, folder, &mut output);
+    expect_passed(rt, "build", &output, 2);
+    let mut output = Passing::new();
+    let _status = verified(rt, folder, &mut output);
     expect_passed(rt, "verify", &output, 3);
     let mut output = Passing::new();
-    let _status = texted(rt, &mut folder, &mut output);
-    expect_passed(rt, "text", &output, 1);
+    let _status = lined(rt, folder, "1", &mut output);
+    expect_passed(rt, "a refusal", &output, 1);
+}
+
+/// All lines of one answer are passed on at once. A text is written in more than one piece, each of
+/// whole lines.
+fn expect_answers_whole(
+    rt: &(impl Abort + AllocGlobal + Threads + Wait + Sync + Send + Clone + Drop + 'static),
+    folder: &mut MemoryFolder,
+) {
     let mut output = Passing::new();
-    let _status = weighed(rt, &mut folder, "0,0,0,0,0,1/0,0,0,0,0,0", &mut output);
+    let _status = weighed(rt, folder, BOARD, &mut output);
     expect_passed(rt, "moves", &output, 1);
+    let mut output = Passing::new();
+    let _status = lined(rt, folder, BOARD, &mut output);
+    expect_passed(rt, "line", &output, 1);
+    let mut output = Passing::new();
+    let _status = texted(rt, folder, &mut output);
+    expect_equal(rt, "text", (output.flushes, output.is_held), (1, false));
 }
 
 #[test]
 fn each_printed_line_is_passed_on(rt: HostRuntime) {
-    expect_lines_passed(&rt, rt.alloc());
+    let mut folder = memory_folder(rt.alloc());
+    expect_lines_passed(&rt, &mut folder);
+    expect_answers_whole(&rt, &mut folder);
 }

@@ -1,7 +1,13 @@
-use Rattle.std.proofs.Common.{subst}
+use Rattle.std.proofs.Common.{Result, Ok, Err, OnOk, IsOk, ap, subst}
+use Rattle.std.proofs.lemmas.Bool.{false≢true}
 use Rattle.awari_desk.specs.Desks.{book_of}
 use Rattle.awari_cli.specs.Serving.{IsServed}
 use Rattle.awari_cli.proofs.serving.serve_beside.Goals as goal
+
+-- what is promised of a result that is ok
+promised : {T E : Type 0} (K : Type 0) (r : Result T E) → IsOk r → OnOk r K → K
+promised K (Ok x) ok kept = kept
+promised K (Err e) ok kept = absurd (false≢true ok)
 
 pub returns-clause-served : goal.returns-clause-served
 returns-clause-served g c = (
@@ -14,6 +20,7 @@ returns-clause-served g c = (
 )
 
 pub returns-clause-grown : goal.returns-clause-grown
-returns-clause-grown g c =
-    let (shelf, top) = rw (c.in_ok-grown.was, c.in-Ok.ensures.ok) at c.join-publisher.ensures in
-    (book_of c.join-publisher.result.0.pages, shelf, top)
+returns-clause-grown g c = λ top.
+    let kept = rw (c.in-Ok.ensures.ok) at c.join-publisher.ensures in
+    let (shelf, high) = promised _ c.join-publisher.result.1 (c.in_ok-end.ensures.to_top.0 (ap Ok top)) kept in
+    (book_of c.join-publisher.result.0.pages, shelf, high)
