@@ -204,6 +204,8 @@ struct FirstRounds<'a> {
 }
 
 impl Progress for FirstRounds<'_> {
+    ghost stops = { ⊥ };
+
     fn begin(&mut self, _level: usize, _boards: usize) {}
 
     fn settled(&mut self, _gain: usize, _boards: usize) {
