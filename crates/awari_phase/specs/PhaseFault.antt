@@ -1,5 +1,5 @@
 -- Why a round is refused: the faults' numbers, what is printed of them, and which is told.
-use Rattle.std.specs.Prelude.{◌≡◌, ◌⊎◌, ℕ, ◌<◌, List, ◌++◌, Some, None, codes, length, slice_index_or}
+use Rattle.std.specs.Prelude.{◌≡◌, ℕ, ◌<◌, List, ◌++◌, Some, None, codes, length, slice_index_or}
 use Rattle.std.specs.Fmt.{decimal}
 use Rattle.awari_owner.specs.OwnerFault.{fault_text as owner_fault_text}
 use Rattle.awari_owner.specs.declared.faults.OwnerFault.{OwnerFault}
