@@ -1,5 +1,5 @@
 -- The two halves of a number, and the sums to the right of each pit.
-use Rattle.std.proofs.Common.{◌≡◌, ℕ, zero, suc, ◌+◌, ◌*◌, ◌/◌, ◌%◌, ◌^◌, ◌<◌, List, [], ◌∷◌, length, sum, get_or, take, drop, refl, sym, ◌∙◌, ap, arith, length-append, length-drop}
+use Rattle.std.proofs.Common.{◌≡◌, ℕ, zero, suc, ◌+◌, ◌*◌, ◌/◌, ◌%◌, ◌^◌, ◌<◌, List, [], ◌∷◌, length, sum, get_or, take, drop, ◌++◌, ◌-◌, ◌≤◌, refl, sym, ◌∙◌, ap, arith, length-append, length-drop}
 use Rattle.std.proofs.lemmas.List.{length-take-le, take-append-drop}
 use Rattle.std.proofs.lemmas.List.Sums.{sum_by-take-drop}
 use Rattle.awari_board.specs.Rules.{turned}
@@ -51,6 +51,25 @@ turned_is n is =
       long = h.long;
       few = omega (arith, sum-turned (pits_of n), is.few);
       number = omega (arith, h.high, h.low, h.low_fits, h.high_fits, h.turns);
+    }
+
+-- the own pits of one and the other pits of another
+pub joined_is : (n m : ℕ) → IsPacking n → IsPacking m → sum (take 6 (pits_of n) ++ drop 6 (pits_of m)) ≤ 24 → IsPackOf (n - n % 1073741824 + m % 1073741824) (take 6 (pits_of n) ++ drop 6 (pits_of m))
+joined_is n m is other few =
+    let h = halves n is in
+    let k = halves m other in
+    let long = long-pits_of n in
+    let long' = long-pits_of m in
+    let front : length (take 6 (pits_of n)) ≡ 6 = length-take-le 6 (pits_of n) (omega arith) in
+    let back : length (drop 6 (pits_of m)) ≡ 6 = omega (arith, length-drop 6 (pits_of m)) in
+    let at_low = ap (λ j. 2 ^ (5 * j)) back in
+    let whole : packed (take 6 (pits_of n) ++ drop 6 (pits_of m)) ≡ packed (take 6 (pits_of n)) * 1073741824 + packed (drop 6 (pits_of m))
+    = packed-append (take 6 (pits_of n)) (drop 6 (pits_of m)) ∙ ap (λ j. packed (take 6 (pits_of n)) * j + packed (drop 6 (pits_of m))) at_low
+    in
+    record {
+      long = omega (arith, front, back, length-append (take 6 (pits_of n)) (drop 6 (pits_of m)));
+      few = few;
+      number = omega (arith, whole, h.high, k.low);
     }
 
 -- ---- the sums to the right

@@ -1,6 +1,6 @@
 //! Positions in one number, and the moves from them.
 
-ghost use Rattle.std.specs.Prelude.{◌≡◌, ◌≢◌, ℕ, ◌+◌, ◌-◌, ◌<◌, ◌≤◌, ◌↔◌, IsTrue, IfSome, IsNone, List, sum, slice_index, slice_set};
+ghost use Rattle.std.specs.Prelude.{◌≡◌, ◌≢◌, ℕ, ◌+◌, ◌-◌, ◌<◌, ◌≤◌, ◌↔◌, IsTrue, IfSome, IsNone, ◌++◌, List, sum, take, drop, slice_index, slice_set};
 ghost use Rattle.awari_board.specs.Rules.{IsBoard, IsLegal, IsMove, captured_stones, turned};
 ghost use Rattle.awari_rank.specs.Rank.{rank_of, size_of};
 
@@ -8,7 +8,7 @@ use crate::captures::{capture, other_stones};
 use crate::ranks::rank;
 use crate::scattering::last_of;
 use crate::successors::{REST, next};
-use crate::words::{packed_to, pit, right_sums, sow, turned, with_stone_moved};
+use crate::words::{joined, packed_to, pit, right_sums, sow, turned, with_stone_moved};
 use awari_board::{Board, SIDE};
 use awari_rank::unrank;
 use std::marker::Model;
@@ -146,6 +146,19 @@ impl PackedBoard {
     {
         PackedBoard {
             bits: turned(self.bits),
+        }
+    }
+
+    /// The position with the mover's pits of this one and the opponent's pits of another. Condition:
+    /// these hold at most 24 stones together.
+    #[inline(always)]
+    pub fn joined(&self, other: &PackedBoard) -> PackedBoard
+        requires { sum (take 6 self.now ++ drop 6 other.now) ≤ 24 }
+        ensures joined { result ≡ take 6 self.now ++ drop 6 other.now }
+        ensures board { IsBoard result }
+    {
+        PackedBoard {
+            bits: joined(self.bits, other.bits),
         }
     }
 

@@ -1,6 +1,6 @@
 //! The number of a board.
 
-ghost use Rattle.std.specs.Prelude.{◌≡◌, ◌≢◌, ℕ, ◌+◌, ◌-◌, ◌<◌, ◌≤◌, slice_index, slice_set, sum, drop};
+ghost use Rattle.std.specs.Prelude.{◌≡◌, ◌≢◌, ℕ, ◌+◌, ◌-◌, ◌<◌, ◌≤◌, ◌++◌, slice_index, slice_set, sum, take, drop};
 ghost use Rattle.awari_board.specs.Rules.{sown, turned};
 ghost use Rattle.awari_packed.specs.Packed.{IsPacking, IsPackOf, pits_of};
 
@@ -64,6 +64,16 @@ pub fn turned(bits: u64) -> u64
     ensures { IsPackOf result (turned (pits_of bits)) }
 {
     ((bits % HALF) << 30) + (bits >> 30)
+}
+
+/// The number with pits 0 to 5 of `bits` and pits 6 to 11 of `other`.
+#[inline(always)]
+pub fn joined(bits: u64, other: u64) -> u64
+    requires packing { IsPacking bits × IsPacking other }
+    requires few { sum (take 6 (pits_of bits) ++ drop 6 (pits_of other)) ≤ 24 }
+    ensures { IsPackOf result (take 6 (pits_of bits) ++ drop 6 (pits_of other)) }
+{
+    bits - bits % HALF + other % HALF
 }
 
 /// The number that has in each pit the sum of the stones from that pit on.

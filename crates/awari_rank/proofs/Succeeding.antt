@@ -10,7 +10,7 @@ use Rattle.awari_rank.proofs.Counting.{total-zero, total-add-one, ways-suc, fewe
 use Rattle.awari_rank.proofs.Ranking.{larger, rank_of-larger, sum-cons}
 
 -- what comes before two lists of as many stones adds as many larger ones to both
-larger-append : (p t s : List ℕ) → length t ≡ length s → sum t ≡ sum s → larger (p ++ t) + larger s ≡ larger (p ++ s) + larger t
+pub larger-append : (p t s : List ℕ) → length t ≡ length s → sum t ≡ sum s → larger (p ++ t) + larger s ≡ larger (p ++ s) + larger t
 larger-append [] t s long stones = omega arith
 larger-append (x ∷ p) t s long stones =
     let all_long : length (p ++ t) ≡ length (p ++ s) = omega (arith, length-append p t, length-append p s) in
@@ -32,13 +32,13 @@ larger-none (x ∷ t) none =
     omega (arith, larger-none t rest, total-zero (ways (length t)), ap (fewer (length t)) rest)
 
 -- the first of the lists of k numbers with the sum w
-record IsFirst (k w : ℕ) (t : List ℕ) : Type 0 where
-  long : length t ≡ k
-  stones : sum t ≡ w
-  first : larger t + 1 ≡ ways k w
+pub record IsFirst (k w : ℕ) (t : List ℕ) : Type 0 where
+  pub long : length t ≡ k
+  pub stones : sum t ≡ w
+  pub first : larger t + 1 ≡ ways k w
 
 -- all stones in the last pit
-first_set : (t : List ℕ) (n w : ℕ) → n + 1 ≡ length t → sum t ≡ 0 → IsFirst (n + 1) w (set t n w)
+pub first_set : (t : List ℕ) (n w : ℕ) → n + 1 ≡ length t → sum t ≡ 0 → IsFirst (n + 1) w (set t n w)
 first_set [] n w long none = absurd (omega arith)
 first_set (x ∷ []) zero w long none = record {
   long = refl;
