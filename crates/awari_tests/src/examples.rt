@@ -3,8 +3,9 @@
 use crate::expect::expect_equal;
 use awari_board::{Board, Moved};
 use awari_game::Game;
+use awari_index::Index;
 use awari_packed::PackedBoard;
-use awari_rank::size;
+use awari_rank::{size, unrank};
 use std::test::Fail;
 
 #[test]
@@ -21,6 +22,16 @@ fn packed_boards_move_as_boards_do(rt: HostRuntime) {
             }
         }
     }
+}
+
+#[test]
+fn an_index_has_each_board_of_three_stones(rt: HostRuntime) -> Result<(), Fail> {
+    let index = Index::of(rt.alloc(), 3)?;
+    for rank in 0..size(3) {
+        let board = index.board(rank).board();
+        expect_equal(&rt, rank, board, unrank(3, rank));
+    }
+    Ok(())
 }
 
 #[test]
