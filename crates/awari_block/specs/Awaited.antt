@@ -1,4 +1,4 @@
--- Which gains the boards of a block await. Private functions alone go by this: no public contract does.
+-- Which gains the boards of a block await.
 use Rattle.std.specs.Prelude.{◌≡◌, ℕ, ◌+◌, ◌/◌, ◌<◌, ℤ, List, length, slice_index_or}
 use Rattle.std.specs.Int.{bit_at}
 use Rattle.awari_block.specs.declared.awaited.TheConstants.{WIDTH}

@@ -50,7 +50,7 @@ pub struct Cell {
 impl Cell {
     /// Whether the board is settled.
     #[inline(always)]
-    pub(crate) fn is_settled(&self) -> bool
+    pub fn is_settled(&self) -> bool
         ensures { result ≡ is_settled self.now.mark }
     {
         self.mark == Mark::Settled
@@ -84,7 +84,7 @@ impl Cell {
     /// won one leaves one quiet move less that might do better. The last of them settles the board,
     /// unless a capture does better.
     #[inline(always)]
-    pub(crate) fn hear(&mut self, place: Place, pit: u8, kind: Kind) -> bool
+    pub fn hear(&mut self, place: Place, pit: u8, kind: Kind) -> bool
         requires pit { pit < 6 }
         requires low { place.level ≤ 24 }
         requires gain { place.gain ≤ place.level }
@@ -207,7 +207,7 @@ impl Cell {
 
     /// The gain whose opening may settle the board, in a level of so many stones: that of its end, or
     /// what its best capture gains or loses. None if the board is settled, or has neither.
-    pub(crate) fn awaited_gain(&self, level: u8) -> Option<u8>
+    pub fn awaited_gain(&self, level: u8) -> Option<u8>
         requires low { level ≤ 24 }
         requires fits { FitsBy self.now.mark level (level + 1) self.now.score self.now.dist }
         ensures few { IfSome result (λ t. t ≤ 24) }
@@ -228,7 +228,7 @@ impl Cell {
     /// The cell once the gain of the place is opened. An end settles the board at the greatest gain.
     /// A capture does so at the gain that it wins, or at the gain that it loses if each quiet move
     /// has a Won note.
-    pub(crate) fn with_gain(self, place: Place) -> Cell
+    pub fn with_gain(self, place: Place) -> Cell
         requires low { place.level ≤ 24 }
         requires gain { place.gain ≤ place.level }
         requires opened { place.wave ≡ 0 }

@@ -1,7 +1,7 @@
 //! What is kept of a part once its gains are all closed.
 
-ghost use Rattle.std.specs.Prelude.{◌≡◌, ◌+◌, length};
-ghost use Rattle.awari_block.specs.Part.{InBlock, stored_at, IsClosed};
+ghost use Rattle.std.specs.Prelude.{◌≡◌, ◌+◌, ◌^◌, ◌<◌, [], length, vec_len};
+ghost use Rattle.awari_block.specs.Part.{InBlock, stored_at, IsClosed, part_of};
 
 use crate::cells::Cell;
 use crate::places::Place;
@@ -29,6 +29,16 @@ impl Model for ClosedPart {
 }
 
 impl ClosedPart {
+    /// The part at this place with these cells, if no board of them is fresh. Conditions: gain 1 is
+    /// open, and the ranks fit in 32 bits.
+    pub fn new(place: Place, cells: Vec<Cell>) -> ClosedPart
+        requires last { place.gain ≡ 1 }
+        requires short { place.start + vec_len cells < 2 ^ 32 }
+        ensures { result ≡ part_of place cells.items [] }
+    {
+        ClosedPart { place, cells }
+    }
+
     /// What is known of the board of this rank. Condition: the board is in the block.
     pub fn cell(&self, rank: u32) -> Cell
         requires { InBlock self.now rank }

@@ -41,5 +41,7 @@ pub use laws::{
 pub use outboxes::Outboxes;
 pub use parts::Part;
 pub use queues::{Batch, MOST_NOTES};
+pub use scans::scanned_cells;
+pub use targets::{MOST_PREDECESSORS, Target, find_all};
 // What a batch holds is named with it.
 pub use awari_block::{Kind, Note};

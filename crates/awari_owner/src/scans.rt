@@ -1,19 +1,19 @@
 //! What is known of a board before it hears any note: its quiet moves, which of them leave the block,
 //! and what its best captures gain by the shelf.
 
-ghost use Rattle.std.specs.Prelude.{◌≡◌, ◌<◌, ◌≤◌, ◌+◌, ℕ, ℤ, pos, ◌-ℤ◌, ◌-◌, List, None, IfOk, length, sum};
+ghost use Rattle.std.specs.Prelude.{◌≡◌, ◌<◌, ◌≤◌, ◌+◌, ℕ, ℤ, pos, ◌-ℤ◌, ◌-◌, List, None, IfOk, length, sum, vec_len};
 ghost use Rattle.awari_board.specs.Rules.{IsBoard, IsEnd, IsEnded, IsMove};
 ghost use Rattle.awari_table.specs.Images.{table_of};
 ghost use Rattle.awari_table.specs.declared.TheConstants.{HIGHEST_LEVEL};
 ghost use Rattle.awari_block.specs.Cells.{IsWithin};
 ghost use Rattle.awari_block.specs.Steps.{greater_of, pits_after};
 ghost use Rattle.awari_block.specs.Leaving.{AreLeavingBelow, IsBlockOf};
-ghost use Rattle.awari_owner.specs.Scan.{CanScan, IsOutlook, IsPiece, IsRanged, IsScanned, IsScannedBlock};
+ghost use Rattle.awari_owner.specs.Scan.{AreScanned, CanScan, IsOutlook, IsPiece, IsRanged, IsScanned, IsScannedBlock};
 
 use awari_block::{Block, Cell};
 use awari_packed::{PackedBoard, PackedMove};
 use awari_rank::ranks_tell_boards_apart;
-use awari_table::Shelf;
+use awari_table::{Shelf, shelves_are_certificates};
 use std::alloc::{AllocError, Global};
 
 /// What a scan finds of a block: the cell of each board, and the pits whose quiet moves lead out of
@@ -57,6 +57,22 @@ pub fn scanned_block(alloc: Global, shelf: &Shelf, block: Block) -> Result<Scann
         found.leaving.as_mut_slice(),
     );
     Ok(found)
+}
+
+/// The cells of the boards of a block of the shelf's next level, none of which has heard a note. No
+/// gain is open. It takes memory for nine bytes a board of the block, and is refused only if that
+/// runs out. Conditions: the shelf has at most `HIGHEST_LEVEL` levels, and the block lies within the
+/// level.
+pub fn scanned_cells(alloc: Global, shelf: &Shelf, block: Block) -> Result<Vec<Cell>, AllocError>
+    requires low { length shelf.now ≤ HIGHEST_LEVEL }
+    requires block { IsBlockOf (length shelf.now) block }
+    ensures size { IfOk result (λ cells. block.start + vec_len cells ≡ block.end) }
+    ensures scanned { IfOk result (λ cells. AreScanned (table_of shelf.now).value (length shelf.now) block.start block.end cells.items) }
+{
+    shelves_are_certificates();
+    let _level = shelf.levels();
+    let found = scanned_block(alloc, shelf, block)?;
+    Ok(found.cells)
 }
 
 /// A block with no board scanned yet, and the memory for its cells and bits.
