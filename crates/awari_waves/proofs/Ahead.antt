@@ -1,0 +1,90 @@
+-- What is known of boards whose cells are read ahead of their notes.
+use Rattle.std.proofs.Common.{◌≡◌, ◌≢◌, ℕ, ◌+◌, ◌-◌, ◌/◌, ◌<◌, ◌≤◌, ◌==◌, Bool, true, false, All, List, drop, length, slice_range, get_or, set, refl, sym, ap, subst, ◌∙◌, arith, eqb-true, get_or-set_same, get_or-set_other}
+use Rattle.std.proofs.lemmas.Bool.Decides.{nat_tests}
+use Rattle.std.proofs.lemmas.List.{get_or_default}
+use Rattle.std.proofs.lemmas.List.Elements.{All-drop}
+use Rattle.std.proofs.lemmas.List.Folds.{drop_split}
+use Rattle.awari_block.specs.Blocks.{no_cell}
+use Rattle.awari_block.specs.Boards.{CanPut, Settles, place_of}
+use Rattle.awari_block.specs.Cells.{is_settled}
+use Rattle.awari_block.specs.Part.{InBlock, Part, stored_at}
+use Rattle.awari_block.specs.declared.cells.Cell.{Cell}
+use Rattle.awari_block.specs.declared.notes.Kind.{Kind}
+use Rattle.awari_waves.specs.Ahead.{TellSettled}
+use Rattle.awari_waves.specs.declared.segments.Segment.TheInside.{Inside}
+use Rattle.awari_waves.specs.Waves.{IsCodeFor, Tells}
+use Rattle.awari_waves.proofs.Heard.{stored}
+use Rattle.awari_waves.proofs.Joining.{All-append_first, seen}
+use Rattle.awari_waves.proofs.Telling.{code_still, row_tells, tells_append}
+
+-- the cell at an index is that of a board
+pub stored_read : (a : Inside) (part : Part) (index : ℕ) (new : Cell) → seen a ≡ part → CanPut part (part.start + index) new
+    → stored_at part (part.start + index) ≡ get_or a.cells.items index (stored_at part (part.start + index))
+stored_read a part index new view can =
+    ap (λ (o : Part). stored_at o (part.start + index)) (sym view)
+    ∙ ap (λ i. get_or a.cells.items i no_cell) at
+    ∙ get_or_default a.cells.items index no_cell (stored_at part (part.start + index)) high
+  where
+    start : a.place.start ≡ part.start
+    start = ap (λ (o : Part). o.start) view
+
+    at : part.start + index - a.place.start ≡ index
+    at = omega (arith, start)
+
+    high : index < length a.cells.items
+    high = let inside = can.held.1 in let size = ap (λ (o : Part). length o.cells) view in omega (arith, inside, size)
+
+-- the cell that is read says whether the board is settled
+pub settled_read : (a : Inside) (part : Part) (rank : ℕ) (old : Cell) (b : Bool) → seen a ≡ part → InBlock part rank → old ≡ get_or a.cells.items (rank - a.place.start) old → b ≡ is_settled old.mark
+    → b ≡ true → is_settled (stored_at part rank).mark ≡ true
+settled_read a part rank old b view held read is told = ap (λ (c : Cell). is_settled c.mark) (stored a part rank old old view held read) ∙ sym is ∙ told
+
+-- a board that was settled is settled still
+pub settled_still : (old now : Part) (rank : ℕ) → Settles old now → InBlock old rank → is_settled (stored_at old rank).mark ≡ true → is_settled (stored_at now rank).mark ≡ true
+settled_still old now rank settles inside settled =
+    subst (λ s. is_settled (get_or now.cells (rank - s) no_cell).mark ≡ true) (sym settles.same.start) (ap is_settled (settles.stays rank inside.0 settled).0 ∙ settled)
+
+-- of the first k codes it is told
+pub record TellsBelow (part : Part) (codes : List ℕ) (settled : List Bool) (k : ℕ) : Type 0 where
+  pub each : (j : ℕ) → j < k → get_or settled j false ≡ true → is_settled (stored_at part (get_or codes j 0 / 8)).mark ≡ true
+
+pub TellsBelow-none : (part : Part) (codes : List ℕ) (settled : List Bool) → TellsBelow part codes settled 0
+TellsBelow-none part codes settled = record { each = λ j less. absurd (omega (arith, less)) }
+
+pub TellsBelow-more : (part : Part) (codes : List ℕ) (settled : List Bool) (k : ℕ) (b : Bool) → k < length settled → TellsBelow part codes settled k
+    → (b ≡ true → is_settled (stored_at part (get_or codes k 0 / 8)).mark ≡ true) → TellsBelow part codes (set settled k b) (k + 1)
+TellsBelow-more part codes settled k b inside below is = record { each = λ j less told. at j less told (j == k) refl }
+  where
+    differ : (x y : ℕ) → (x == y) ≡ false → x ≢ y
+    differ x y e = grind (arith, nat_tests)
+
+    here : get_or (set settled k b) k false ≡ b
+    here = rw get_or-set_same refl
+
+    there : (j : ℕ) → j ≢ k → get_or (set settled k b) j false ≡ get_or settled j false
+    there j ne = rw get_or-set_other refl
+
+    at : (j : ℕ) → j < k + 1 → get_or (set settled k b) j false ≡ true → (t : Bool) → (j == k) ≡ t → is_settled (stored_at part (get_or codes j 0 / 8)).mark ≡ true
+    at j less told true e =
+        let same = eqb-true j k e in
+        subst (λ n. is_settled (stored_at part (get_or codes n 0 / 8)).mark ≡ true) (sym same) (is (sym here ∙ subst (λ n. get_or (set settled k b) n false ≡ true) same told))
+    at j less told false e = let ne = differ j k e in below.each j (omega (arith, less, ne)) (sym (there j ne) ∙ told)
+
+pub TellsBelow-end : (part : Part) (codes : List ℕ) (settled : List Bool) (k : ℕ) → length codes ≤ k → TellsBelow part codes settled k → TellSettled part codes settled
+TellsBelow-end part codes settled k all below = λ j less told. below.each j (omega (arith, all, less)) told
+
+-- ---- the notes come in batches
+
+-- those of a batch are for boards of the segment
+pub batch_codes : (old now : Part) (codes : List ℕ) (start end : ℕ) → Settles old now → All (IsCodeFor old) codes → start ≤ end → All (IsCodeFor now) (slice_range codes start end)
+batch_codes old now codes start end settles all order k d inside =
+    code_still old now _ settles
+    (All-append_first (IsCodeFor old) (slice_range codes start end) (drop end codes) (subst (All (IsCodeFor old)) (drop_split codes start end order) (All-drop (IsCodeFor old) start codes all)) k d inside)
+
+-- and then those behind it
+pub batch_tells : (old now next new : Part) (kind : Kind) (codes : List ℕ) (start end : ℕ) → Settles old now → start ≤ end → Tells (place_of now) kind (slice_range codes start end) now next
+    → Tells (place_of old) kind (drop end codes) next new → Tells (place_of old) kind (drop start codes) now new
+batch_tells old now next new kind codes start end settles order one rest =
+    subst (λ (cs : List ℕ). Tells (place_of old) kind cs now new) (sym (drop_split codes start end order))
+    (tells_append (place_of old) kind (slice_range codes start end) (drop end codes) now next new
+    (row_tells old now next kind (slice_range codes start end) (slice_range codes start end) settles.same refl one) rest)

@@ -1,0 +1,422 @@
+-- A chunk of fresh boards is spread.
+use Rattle.std.proofs.Common.{◌^◌, ◌≡◌, ℕ, ◌+◌, ◌-◌, ◌/◌, ◌%◌, ◌<◌, ◌≤◌, ◌==◌, ◌⊎◌, inl, inr, Bool, true, false, List, [], ◌∷◌, ◌++◌, length, get_or, map, sum, All, ℤ, pos, neg_ℤ, ◌<ℤ◌, Some, refl, sym, ap, subst, subst₂, ◌∙◌, arith, eqb-true}
+use Rattle.std.proofs.lemmas.Int.{ints}
+use Rattle.std.proofs.lemmas.List.{get_or-map, length-map}
+use Rattle.std.proofs.lemmas.Bool.Decides.{nat_tests}
+use Rattle.awari_board.specs.Rules.{IsBoard, next_board}
+use Rattle.awari_rank.specs.Rank.{rank_of, size_of}
+use Rattle.awari_rank.proofs.Ranking.{rank_of-below}
+use Rattle.awari_block.specs.Notes.{IsQuietMove, Has, IsNoteOf, gain_by}
+use Rattle.awari_block.specs.Blocks.{Due, times_due}
+use Rattle.awari_block.specs.Part.{Part, InBlock, IsTallied, notes_for, settled_at}
+use Rattle.awari_block.specs.Boards.{place_of}
+use Rattle.awari_block.specs.declared.notes.Kind.{Kind}
+use Rattle.awari_block.specs.declared.notes.Kind.TheVariants.{Won, Lost}
+use Rattle.awari_block.specs.declared.notes.Note.{Note}
+use Rattle.awari_block.specs.declared.places.Place.{Place}
+use Rattle.awari_block.proofs.BlockLemmas.{one_if, times_due-cons}
+use Rattle.awari_owner.specs.Spread.{Hears, HearsTruth, IsSpread, Source}
+use Rattle.awari_owner.specs.Level.{AreHeard, no_part, part_at}
+use Rattle.awari_owner.proofs.Spreading.{IsInjective}
+use Rattle.awari_owner.proofs.Hearing.{spread_before, spread_stays}
+use Rattle.awari_waves.specs.Lists.{AreDistinct, In}
+use Rattle.awari_waves.specs.Waves.{AreNew, AreSourcesOf, CanHear, HearsFrom, TellsBoth, IsCodeFor, IsGrid, IsPending, IsQuietCode, SettlesAll, code_by, code_of, codes_to, heard_by, is_noted, note_by, value_by, with_pending}
+use Rattle.awari_waves.proofs.Sources.{Keeps, all_in, codes_distinct, codes_in, distinct_apart, distinct_first, distinct_second, in_codes, in_either, in_first, in_map, in_or_not, in_second, map_append, source_all, source_from, sources_distinct}
+use Rattle.awari_waves.proofs.Laying.{sources_both}
+use Rattle.awari_waves.proofs.Noting.{heard_had, heard_new, heard_note, heard_old, new_all, noted_heard}
+
+-- ---- pending boards
+
+pub pend_zero : (w : ℕ) (ranks : List ℕ) (fresh : List Due) (r : ℕ) → times_due (map (λ x. (w, x)) ranks ++ fresh) r ≡ 0 → (In ranks r → ⊥) × (times_due fresh r ≡ 0)
+pend_zero w [] fresh r none = ((λ h. h), none)
+pend_zero w (x ∷ ranks) fresh r none =
+    let cons = times_due-cons (w, x) (map (λ y. (w, y)) ranks ++ fresh) r in
+    let rest = pend_zero w ranks fresh r (omega (arith, cons, none)) in
+    ((λ h. elim h [ inl same ↦ absurd (let one = here x r (sym same) in omega (arith, cons, none, one)) | inr has ↦ rest.0 has ]), rest.1)
+  where
+    here : (a b : ℕ) → a ≡ b → one_if (a == b) ≡ 1
+    here a b e = grind (arith, nat_tests)
+
+pub pend_none : (w : ℕ) (ranks : List ℕ) (fresh : List Due) (r : ℕ) → (In ranks r → ⊥) → times_due fresh r ≡ 0 → times_due (map (λ x. (w, x)) ranks ++ fresh) r ≡ 0
+pend_none w [] fresh r apart none = none
+pend_none w (x ∷ ranks) fresh r apart none =
+    let cons = times_due-cons (w, x) (map (λ y. (w, y)) ranks ++ fresh) r in
+    let rest = pend_none w ranks fresh r (λ h. apart (inr h)) none in
+    let zero_here = other x r (λ e. apart (inl (sym e))) in
+    omega (arith, cons, rest, zero_here)
+  where
+    other : (a b : ℕ) → (a ≡ b → ⊥) → one_if (a == b) ≡ 0
+    other a b ne = by (a == b) refl
+      where
+        by : (c : Bool) → (a == b) ≡ c → one_if c ≡ 0
+        by true e = absurd (ne (eqb-true a b e))
+        by false e = refl
+
+-- ---- the note of a code
+
+note_is : (place at : Place) (kind : Kind) (p q : List ℕ) (x c : ℕ) → at.level ≡ place.level → at.gain ≡ place.gain → at.wave ≡ place.wave → 1 ≤ place.gain → sum p ≡ place.level
+    → c / 8 ≡ rank_of p → c % 8 ≡ x → IsQuietMove p x q → IsNoteOf q (value_by kind place.gain) place.wave p x (note_by at kind c)
+note_is place at kind p q x c level gain wave one stones rank pit quiet = record {
+  quiet = quiet;
+  level = level ∙ sym stones;
+  target = rank;
+  pit = pit;
+  kind = kinds kind;
+  gain = ap (gain_by kind) gain ∙ gains kind;
+  same_dist = wave;
+}
+  where
+    kinds : (k : Kind) → ((k ≡ Won) × (pos 0 <ℤ value_by k place.gain)) ⊎ ((k ≡ Lost) × (value_by k place.gain <ℤ pos 0))
+    kinds Won = inl (refl, omega (arith, ints, one))
+    kinds Lost = inr (refl, omega (arith, ints, one))
+
+    gains : (k : Kind) → gain_by k place.gain ≡ neg_ℤ (value_by k place.gain)
+    gains Won = refl
+    gains Lost = omega (arith, ints)
+
+pairs : (a b : ℤ × ℕ) → Some a ≡ Some b → (a.0 ≡ b.0) × (a.1 ≡ b.1)
+pairs a b same = let both : a ≡ b = cc in (ap (λ (c : ℤ × ℕ). c.0) both, ap (λ (c : ℤ × ℕ). c.1) both)
+
+-- a quiet move leads to one board
+one_board : (p q r : List ℕ) (x : ℕ) → IsQuietMove p x q → IsQuietMove p x r → q ≡ r
+one_board p q r x a b = a.leaves ∙ sym b.leaves
+
+pub part_of_map : (f : Part → Part) (parts : List Part) (i : ℕ) (d : Part) → i < length parts → get_or (map f parts) i d ≡ f (part_at parts i)
+part_of_map f parts i d h = get_or-map f parts i no_part d h
+
+module _ (place : Place) (span : ℕ) (old : List Part) (injective : IsInjective) (keeps : Keeps) (boards : (p q : List ℕ) (x : ℕ) → IsBoard p → IsQuietMove p x q → IsBoard q)
+    (one : 1 ≤ place.gain) (grid : IsGrid place span old) where
+  -- the boards of one kind, and their sources
+  module _ (kind : Kind) (ranks : List ℕ) (sources : List Source) (pending : (r : ℕ) → In ranks r → IsPending place span old kind r) (found : AreSourcesOf place.level ranks sources) where
+    -- such a board, in its block
+    pub chunk_spread : (i r : ℕ) → i < length old → InBlock (part_at old i) r → In ranks r → IsSpread (part_at old i) r (value_by kind place.gain) place.wave
+    chunk_spread i r few inside listed =
+        let at = grid.only i r few inside in
+        let is = pending r listed in
+        (subst (λ b. settled_at (part_at old b) r ≡ Some (value_by kind place.gain, place.wave)) at is.settled, subst (λ b. times_due (part_at old b).fresh r ≡ 0) at is.taken)
+
+    -- a code for a block is a note of one of these boards
+    pub code_true : (j c : ℕ) (p q : List ℕ) (x : ℕ) → j < length old → In (codes_to span j sources) c → IsBoard p → sum p ≡ place.level → c / 8 ≡ rank_of p → c % 8 ≡ x → IsQuietMove p x q
+        → In ranks (rank_of q) × IsNoteOf q (value_by kind place.gain) place.wave p x (note_by (place_of (part_at old j)) kind c)
+    code_true j c p q x few has board stones rank pit quiet =
+        let m = in_codes span j sources c has in
+        let y : Source = m.0 in
+        let from = source_from place.level ranks sources y keeps found m.1 in
+        let own = from.quiet.legal.own in
+        let code = m.2 in
+        let same_board : y.0 ≡ p = injective y.0 p from.from board (from.sum_from ∙ sym stones) (omega (arith, code, rank, own)) in
+        let same_pit : y.1 ≡ x = omega (arith, code, pit, own) in
+        let to : from.q ≡ q = from.quiet.leaves ∙ ap (next_board y.0) same_pit ∙ ap (λ b. next_board b x) same_board ∙ sym quiet.leaves in (
+          subst (λ (b : List ℕ). In ranks (rank_of b)) to from.listed,
+          note_is place (place_of (part_at old j)) kind p q x c (grid.level j few) (grid.gain j few) (grid.wave j few) one stones rank pit quiet,
+        )
+
+    -- and of each move to them there is one
+    pub code_all : (j : ℕ) (p q : List ℕ) (x : ℕ) → j < length old → IsBoard p → sum p ≡ place.level → InBlock (part_at old j) (rank_of p) → IsQuietMove p x q → In ranks (rank_of q)
+        → In (codes_to span j sources) (code_by (rank_of p) x) × IsNoteOf q (value_by kind place.gain) place.wave p x (note_by (place_of (part_at old j)) kind (code_by (rank_of p) x))
+    code_all j p q x few board stones inside quiet listed =
+        let own = quiet.legal.own in
+        let keep = keeps p q x board quiet in (
+          codes_in span j sources (p, x) (source_all place.level ranks sources p q x injective found listed (boards p q x board quiet) (omega (arith, keep, stones)) board quiet) (grid.only j (rank_of p) few inside),
+          note_is place (place_of (part_at old j)) kind p q x (code_by (rank_of p) x) (grid.level j few) (grid.gain j few) (grid.wave j few) one stones (omega (arith, own)) (omega (arith, own)) quiet,
+        )
+
+    -- a code is of a quiet move
+    pub code_quiet : (j c : ℕ) → In (codes_to span j sources) c → IsQuietCode place.level c
+    code_quiet j c has =
+        let m = in_codes span j sources c has in
+        let y : Source = m.0 in
+        let from = source_from place.level ranks sources y keeps found m.1 in
+        let own = from.quiet.legal.own in
+        let code = m.2 in
+        let pit : y.1 ≡ c % 8 = omega (arith, code, own) in
+        (y.0, from.q, from.from, from.sum_from, (let e : rank_of y.0 ≡ c / 8 = omega (arith, code, own) in e), subst (λ x. IsQuietMove y.0 x from.q) pit from.quiet)
+
+    -- for a board of its block
+    pub code_fits : (j c : ℕ) → In (codes_to span j sources) c → IsCodeFor (part_at old j) c
+    code_fits j c has =
+        let m = in_codes span j sources c has in
+        let y : Source = m.0 in
+        let from = source_from place.level ranks sources y keeps found m.1 in
+        let own = from.quiet.legal.own in
+        let code = m.2 in
+        let mine = grid.home (rank_of y.0) (let below = rank_of-below y.0 from.from.pits in let size = ap size_of from.sum_from in omega (arith, below, size)) in
+        let rank : rank_of y.0 ≡ c / 8 = omega (arith, code, own) in
+        (subst₂ (λ b r. InBlock (part_at old b) r) m.3 rank mine.1, omega (arith, code, own))
+
+    pub codes_fit : (j : ℕ) (codes : List ℕ) → codes ≡ codes_to span j sources → All (IsCodeFor (part_at old j)) codes
+    codes_fit j codes is = all_in (IsCodeFor (part_at old j)) codes (λ c h. code_fits j c (subst (λ (l : List ℕ). In l c) is h))
+
+    -- that was not heard before, since the board was not spread
+    pub code_unheard : (value : List ℕ → ℤ) (j c : ℕ) (others : List ℕ) (notes : List Note) → j < length old → In (codes_to span j sources) c
+        → ((r : ℕ) → In ranks r → In others r)
+        → ((i : ℕ) → i < length old → HearsTruth (with_pending others (part_at old i)) (with_pending others (part_at old j)) notes) → is_noted notes c ≡ false
+    code_unheard value j c others notes few has among truth = by (is_noted notes c) refl
+      where
+        by : (b : Bool) → is_noted notes c ≡ b → b ≡ false
+        by false e = refl
+        by true e = absurd (
+            let m = in_codes span j sources c has in
+            let y : Source = m.0 in
+            let from = source_from place.level ranks sources y keeps found m.1 in
+            let own = from.quiet.legal.own in
+            let code = m.2 in
+            let rank : c / 8 ≡ rank_of y.0 = omega (arith, code, own) in
+            let pit : c % 8 ≡ y.1 = omega (arith, code, own) in
+            let note = heard_note (notes_for (c / 8) notes) (c % 8) e in
+            let at = pending (rank_of from.q) from.listed in
+            let home = grid.home (rank_of from.q) at.inside in
+            let mine = grid.home (rank_of y.0) (let below = rank_of-below y.0 from.from.pits in let size = ap size_of from.sum_from in omega (arith, below, size)) in
+            let inside : InBlock (part_at old j) (rank_of y.0) = subst (λ b. InBlock (part_at old b) (rank_of y.0)) m.3 mine.1 in
+            let told = truth (rank_of from.q / span) home.0 y.0 y.1 from.q from.from (from.sum_from ∙ sym (grid.level j few)) inside home.1 from.quiet
+            note.0 (subst (λ r. Has (notes_for r notes) note.0) rank note.1) (note.2 ∙ pit) in
+            (pend_zero (part_at old (rank_of from.q / span)).wave others (part_at old (rank_of from.q / span)).fresh (rank_of from.q) told.2.1).0 (among (rank_of from.q) from.listed))
+
+  -- the blocks can hear what was found of both kinds
+  pub can_hear : (lost won : List ℕ) (xs ys : List Source) (lost_notes won_notes : ℕ → List ℕ) → ((r : ℕ) → In lost r → IsPending place span old Lost r) → ((r : ℕ) → In won r → IsPending place span old Won r)
+      → AreSourcesOf place.level lost xs → AreSourcesOf place.level won ys → ((j : ℕ) → lost_notes j ≡ codes_to span j xs) → ((j : ℕ) → won_notes j ≡ codes_to span j ys)
+      → place.gain ≤ place.level → place.wave < 2 ^ 32 - 1 → length old < 2 ^ 64 → CanHear 0 lost_notes won_notes old
+  can_hear lost won xs ys lost_notes won_notes pend_lost pend_won found_lost found_won at_lost at_won inward near few = record {
+    numbers = omega (arith, few);
+    of_lost = λ i h. codes_fit Lost lost xs pend_lost found_lost i (lost_notes (0 + i)) (at_lost (0 + i) ∙ ap (λ n. codes_to span n xs) (start i));
+    of_won = λ i h. codes_fit Won won ys pend_won found_won i (won_notes (0 + i)) (at_won (0 + i) ∙ ap (λ n. codes_to span n ys) (start i));
+    ready = λ i h.
+        let level = grid.level i h in
+        let gain = grid.gain i h in
+        let wave = grid.wave i h in
+        (omega (arith, level, gain, inward), omega (arith, wave, near));
+  }
+    where
+      start : (i : ℕ) → 0 + i ≡ i
+      start i = omega arith
+
+  -- the lost boards of a chunk and the won ones, whose notes each block heard
+  module _ (lost won rest : List ℕ) (xs ys : List Source) (lost_notes won_notes : ℕ → List ℕ) (new : List Part)
+      (pend_lost : (r : ℕ) → In lost r → IsPending place span old Lost r) (pend_won : (r : ℕ) → In won r → IsPending place span old Won r)
+      (found_lost : AreSourcesOf place.level lost xs) (found_won : AreSourcesOf place.level won ys)
+      (at_lost : (j : ℕ) → lost_notes j ≡ codes_to span j xs) (at_won : (j : ℕ) → won_notes j ≡ codes_to span j ys)
+      (hears : HearsFrom 0 lost_notes won_notes old new) (distinct : AreDistinct ((lost ++ won) ++ rest)) where
+    abbrev everyone : List ℕ
+    everyone = (lost ++ won) ++ rest
+
+    abbrev with_lost : ℕ → List Note → List Note
+    with_lost j notes = heard_by (place_of (part_at old j)) Lost (lost_notes j) notes
+
+    abbrev with_both : ℕ → List Note → List Note
+    with_both j notes = heard_by (place_of (part_at old j)) Won (won_notes j) (with_lost j notes)
+
+    distinct_codes : AreDistinct (map code_of xs ++ map code_of ys)
+    distinct_codes =
+        subst AreDistinct (map_append xs ys)
+        (sources_distinct place.level (lost ++ won) (xs ++ ys) injective keeps (distinct_first (lost ++ won) rest distinct) (sources_both place.level lost won xs ys found_lost found_won))
+
+    lost_listed : (j c : ℕ) → In (lost_notes j) c → In (codes_to span j xs) c
+    lost_listed j c h = subst (λ (l : List ℕ). In l c) (at_lost j) h
+
+    won_listed : (j c : ℕ) → In (won_notes j) c → In (codes_to span j ys) c
+    won_listed j c h = subst (λ (l : List ℕ). In l c) (at_won j) h
+
+    listed_lost : (r : ℕ) → In lost r → In everyone r
+    listed_lost r h = in_first (lost ++ won) rest r (in_first lost won r h)
+
+    listed_won : (r : ℕ) → In won r → In everyone r
+    listed_won r h = in_first (lost ++ won) rest r (in_second lost won r h)
+
+    abbrev IsTrueTo : ℕ → List Note → Type 0
+    IsTrueTo j notes = (i : ℕ) → i < length old → HearsTruth (with_pending everyone (part_at old i)) (with_pending everyone (part_at old j)) notes
+
+    -- what is heard of both kinds is new
+    lost_new : (value : List ℕ → ℤ) (j : ℕ) (notes : List Note) → j < length old → IsTrueTo j notes → AreNew (part_at old j).level (lost_notes j) notes
+    lost_new value j notes few truth =
+        subst (λ n. AreNew n (lost_notes j) notes) (sym (grid.level j few))
+        (new_all place.level (lost_notes j) notes
+        (λ c h. (code_quiet Lost lost xs pend_lost found_lost j c (lost_listed j c h), code_unheard Lost lost xs pend_lost found_lost value j c everyone notes few (lost_listed j c h) listed_lost truth))
+        (subst AreDistinct (sym (at_lost j)) (codes_distinct span j xs (distinct_first (map code_of xs) (map code_of ys) distinct_codes))))
+
+    won_new : (value : List ℕ → ℤ) (j : ℕ) (notes : List Note) → j < length old → IsTrueTo j notes → AreNew (part_at old j).level (won_notes j) (with_lost j notes)
+    won_new value j notes few truth =
+        subst (λ n. AreNew n (won_notes j) (with_lost j notes)) (sym (grid.level j few))
+        (new_all place.level (won_notes j) (with_lost j notes)
+        (λ c h. (
+          code_quiet Won won ys pend_won found_won j c (won_listed j c h),
+          noted_heard (place_of (part_at old j)) Lost (lost_notes j) notes c (apart c h) (code_unheard Won won ys pend_won found_won value j c everyone notes few (won_listed j c h) listed_won truth),
+        ))
+        (subst AreDistinct (sym (at_won j)) (codes_distinct span j ys (distinct_second (map code_of xs) (map code_of ys) distinct_codes))))
+      where
+        apart : (c : ℕ) → In (won_notes j) c → In (lost_notes j) c → ⊥
+        apart c h k =
+            let a = in_codes span j xs c (lost_listed j c k) in
+            let b = in_codes span j ys c (won_listed j c h) in
+            distinct_apart (map code_of xs) (map code_of ys) c distinct_codes (subst (In (map code_of xs)) (sym a.2) (in_map xs a.0 a.1)) (subst (In (map code_of ys)) (sym b.2) (in_map ys b.0 b.1))
+
+    told_block : (value : List ℕ → ℤ) (j : ℕ) (notes : List Note) → j < length old → IsTrueTo j notes → IsTallied value (part_at old j) notes → IsTallied value (part_at new j) (with_both j notes)
+    told_block value j notes few truth tallied =
+        let start : 0 + j ≡ j = omega arith in
+        let tells : TellsBoth (place_of (part_at old j)) (lost_notes j) (won_notes j) (part_at old j) (part_at new j) =
+        subst (λ n. TellsBoth (place_of (part_at old j)) (lost_notes n) (won_notes n) (part_at old j) (part_at new j)) start (hears.tells j few) in
+        tells value notes (lost_new value j notes few truth) (won_new value j notes few truth) tallied
+
+    -- ---- what is spread now
+
+    inside_old : (i r : ℕ) → i < length old → InBlock (part_at new i) r → InBlock (part_at old i) r
+    inside_old i r few inside =
+        let s = hears.settles i few in
+        let a = inside.0 in
+        let b = inside.1 in
+        (omega (arith, a, s.same.start), omega (arith, b, s.size, s.same.start))
+
+    spread_now : (i r : ℕ) (v : ℤ) (d : ℕ) → i < length old → InBlock (part_at old i) r → (In rest r → ⊥) → IsSpread (part_at old i) r v d → IsSpread (with_pending rest (part_at new i)) r v d
+    spread_now i r v d few inside apart spread =
+        let s = hears.settles i few in
+        let now = spread_stays (part_at old i) (part_at new i) s.same.start s.stays s.joins r v d inside.0 spread in
+        (now.0, pend_none (part_at new i).wave rest (part_at new i).fresh r apart now.1)
+
+    spread_then : (i r : ℕ) (v : ℤ) (d : ℕ) → i < length old → InBlock (part_at old i) r → IsSpread (with_pending rest (part_at new i)) r v d → (In rest r → ⊥) × IsSpread (part_at old i) r v d
+    spread_then i r v d few inside spread =
+        let s = hears.settles i few in
+        let none = pend_zero (part_at new i).wave rest (part_at new i).fresh r spread.1 in
+        (none.0, spread_before (part_at old i) (part_at new i) s.same.start s.stays s.joins r v d inside.0 (spread.0, none.1))
+
+    spread_still : (i r : ℕ) (v : ℤ) (d : ℕ) → i < length old → InBlock (part_at old i) r → IsSpread (with_pending everyone (part_at old i)) r v d → IsSpread (with_pending rest (part_at new i)) r v d
+    spread_still i r v d few inside spread =
+        let none = pend_zero (part_at old i).wave everyone (part_at old i).fresh r spread.1 in
+        spread_now i r v d few inside (λ h. none.0 (in_second (lost ++ won) rest r h)) (spread.0, none.1)
+
+    -- a note of a code is true
+    from_code : (kind : Kind) (ranks : List ℕ) (sources : List Source) → ((r : ℕ) → In ranks r → IsPending place span old kind r) → AreSourcesOf place.level ranks sources → ((r : ℕ) → In ranks r → In (lost ++ won) r)
+        → (i j c : ℕ) (p q : List ℕ) (x : ℕ) (m : Note) → i < length old → j < length old → IsBoard p → sum p ≡ place.level → InBlock (part_at old i) (rank_of q) → IsQuietMove p x q → In (codes_to span j sources) c
+        → c / 8 ≡ rank_of p → m ≡ note_by (place_of (part_at old j)) kind c → m.pit ≡ x
+        → (v : ℤ) × (d : ℕ) × IsSpread (with_pending rest (part_at new i)) (rank_of q) v d × IsNoteOf q v d p x m
+    from_code kind ranks sources pending found among i j c p q x m few few' board stones in_q quiet has rank is pit =
+        let real = code_true kind ranks sources pending found j c p q x few' has board stones rank (ap (λ (n : Note). n.pit) (sym is) ∙ pit) quiet in (
+          value_by kind place.gain,
+          place.wave,
+          spread_now i (rank_of q) (value_by kind place.gain) place.wave few in_q (distinct_apart (lost ++ won) rest (rank_of q) distinct (among (rank_of q) real.0))
+              (chunk_spread kind ranks sources pending found i (rank_of q) few in_q real.0),
+          subst (IsNoteOf q (value_by kind place.gain) place.wave p x) (sym is) real.1,
+        )
+
+    -- and each is there
+    via_code : (kind : Kind) (ranks : List ℕ) (sources : List Source) → ((r : ℕ) → In ranks r → IsPending place span old kind r) → AreSourcesOf place.level ranks sources
+        → (i j : ℕ) (p q : List ℕ) (x : ℕ) (v : ℤ) (d : ℕ) → i < length old → j < length old → IsBoard p → sum p ≡ place.level → InBlock (part_at old j) (rank_of p) → InBlock (part_at old i) (rank_of q) → IsQuietMove p x q
+        → IsSpread (part_at old i) (rank_of q) v d → In ranks (rank_of q)
+        → (c : ℕ) × In (codes_to span j sources) c × (c / 8 ≡ rank_of p) × IsNoteOf q v d p x (note_by (place_of (part_at old j)) kind c)
+    via_code kind ranks sources pending found i j p q x v d few few' board stones in_p in_q quiet spread listed =
+        let all = code_all kind ranks sources pending found j p q x few' board stones in_p quiet listed in
+        let here = chunk_spread kind ranks sources pending found i (rank_of q) few in_q listed in
+        let same = pairs (value_by kind place.gain, place.wave) (v, d) (sym here.0 ∙ spread.0) in
+        let own = quiet.legal.own in (
+          code_by (rank_of p) x,
+          all.0,
+          (let e : code_by (rank_of p) x / 8 ≡ rank_of p = omega (arith, own) in e),
+          subst₂ (λ (u : ℤ) (e : ℕ). IsNoteOf q u e p x (note_by (place_of (part_at old j)) kind (code_by (rank_of p) x))) same.0 same.1 all.1,
+        )
+
+    hears_pair : (i j : ℕ) (notes : List Note) → i < length old → j < length old → Hears (with_pending everyone (part_at old i)) (with_pending everyone (part_at old j)) notes
+        → Hears (with_pending rest (part_at new i)) (with_pending rest (part_at new j)) (with_both j notes)
+    hears_pair i j notes few few' own = record {
+      true_notes = λ p x q board stones in_p in_q quiet m has pit.
+          let in_p' = inside_old j (rank_of p) few' in_p in
+          let in_q' = inside_old i (rank_of q) few in_q in
+          let level = stones ∙ (hears.settles j few').same.level in
+          elim (heard_had (place_of (part_at old j)) Won (won_notes j) (with_lost j notes) (rank_of p) m has) [
+            | inl earlier ↦ elim (heard_had (place_of (part_at old j)) Lost (lost_notes j) notes (rank_of p) m earlier) [
+              | inl before ↦ (
+                  let told = own.true_notes p x q board level in_p' in_q' quiet m before pit in
+                  (told.0, told.1, spread_still i (rank_of q) told.0 told.1 few in_q' told.2, told.3))
+              | inr l ↦ from_code Lost lost xs pend_lost found_lost (λ r h. in_first lost won r h) i j l.0 p q x m few few' board (level ∙ grid.level j few') in_q' quiet (lost_listed j l.0 l.1) l.2 l.3 pit
+            ]
+            | inr w ↦ from_code Won won ys pend_won found_won (λ r h. in_second lost won r h) i j w.0 p q x m few few' board (level ∙ grid.level j few') in_q' quiet (won_listed j w.0 w.1) w.2 w.3 pit
+          ];
+      all_notes = λ p x q v d board stones in_p in_q quiet spread.
+          let in_p' = inside_old j (rank_of p) few' in_p in
+          let in_q' = inside_old i (rank_of q) few in_q in
+          let level = stones ∙ (hears.settles j few').same.level in
+          let then = spread_then i (rank_of q) v d few in_q' spread in
+          elim (in_or_not lost (rank_of q)) [
+            | inl l ↦ (
+                let told = via_code Lost lost xs pend_lost found_lost i j p q x v d few few' board (level ∙ grid.level j few') in_p' in_q' quiet then.1 l in
+                let listed : In (lost_notes j) told.0 = subst (λ (l : List ℕ). In l told.0) (sym (at_lost j)) told.1 in (
+                  note_by (place_of (part_at old j)) Lost told.0,
+                  heard_old (place_of (part_at old j)) Won (won_notes j) (with_lost j notes) (rank_of p) (note_by (place_of (part_at old j)) Lost told.0)
+                      (subst (λ r. Has (notes_for r (with_lost j notes)) (note_by (place_of (part_at old j)) Lost told.0)) told.2
+                      (heard_new (place_of (part_at old j)) Lost (lost_notes j) notes told.0 listed)),
+                  told.3,
+                ))
+            | inr not_lost ↦ elim (in_or_not won (rank_of q)) [
+              | inl w ↦ (
+                  let told = via_code Won won ys pend_won found_won i j p q x v d few few' board (level ∙ grid.level j few') in_p' in_q' quiet then.1 w in
+                  let listed : In (won_notes j) told.0 = subst (λ (l : List ℕ). In l told.0) (sym (at_won j)) told.1 in (
+                    note_by (place_of (part_at old j)) Won told.0,
+                    subst (λ r. Has (notes_for r (with_both j notes)) (note_by (place_of (part_at old j)) Won told.0)) told.2
+                        (heard_new (place_of (part_at old j)) Won (won_notes j) (with_lost j notes) told.0 listed),
+                    told.3,
+                  ))
+              | inr not_won ↦ (
+                  let told = own.all_notes p x q v d board level in_p' in_q' quiet (
+                    then.1.0,
+                    pend_none (part_at old i).wave everyone (part_at old i).fresh (rank_of q)
+                        (λ h. elim (in_either (lost ++ won) rest (rank_of q) h) [
+                          | inl both ↦ elim (in_either lost won (rank_of q) both) [ inl l ↦ not_lost l | inr w ↦ not_won w ]
+                          | inr r ↦ then.0 r
+                        ]) then.1.1,
+                  ) in (
+                    told.0,
+                    heard_old (place_of (part_at old j)) Won (won_notes j) (with_lost j notes) (rank_of p) told.0
+                        (heard_old (place_of (part_at old j)) Lost (lost_notes j) notes (rank_of p) told.0 told.1),
+                    told.2,
+                  ))
+            ]
+          ];
+    }
+
+    -- ---- all blocks
+
+    pub chunk_heard : (value : List ℕ → ℤ) → AreHeard value (map (with_pending everyone) old) → AreHeard value (map (with_pending rest) new)
+    chunk_heard value told j d h =
+        let many = hears.blocks in
+        let few : j < length old = omega (arith, h, length-map new (with_pending rest), many) in
+        let before = told j no_part (omega (arith, few, length-map old (with_pending everyone))) in
+        let notes : List Note = before.0 in
+        let here : get_or (map (with_pending everyone) old) j no_part ≡ with_pending everyone (part_at old j) = part_of_map (with_pending everyone) old j no_part few in
+        let pair : (i : ℕ) → i < length old → Hears (with_pending everyone (part_at old i)) (with_pending everyone (part_at old j)) notes =
+        (λ i k. subst₂ (λ s (p : Part). Hears s p notes) (part_of_map (with_pending everyone) old i no_part k) here (before.2 i no_part (omega (arith, k, length-map old (with_pending everyone))))) in
+        let tallied : IsTallied value (part_at old j) notes = subst (λ (p : Part). IsTallied value p notes) here before.1 in
+        let there : with_pending rest (part_at new j) ≡ get_or (map (with_pending rest) new) j d = sym (part_of_map (with_pending rest) new j d (omega (arith, few, many))) in (
+          with_both j notes,
+          subst (λ (p : Part). IsTallied value p (with_both j notes)) there (told_block value j notes few (λ i k. (pair i k).true_notes) tallied),
+          λ i e k.
+              let low : i < length old = omega (arith, k, length-map new (with_pending rest), many) in
+              subst₂ (λ s (p : Part). Hears s p (with_both j notes)) (sym (part_of_map (with_pending rest) new i e (omega (arith, low, many)))) there (hears_pair i j notes low few (pair i low)),
+        )
+
+-- the blocks are the same
+pub settles_all : (lost won : ℕ → List ℕ) (old new : List Part) → HearsFrom 0 lost won old new → SettlesAll old new
+settles_all lost won old new hears = record { blocks = hears.blocks; settles = hears.settles; passed = hears.passed }
+
+pub grid_still : (place : Place) (span : ℕ) (old new : List Part) → IsGrid place span old → SettlesAll old new → IsGrid place span new
+grid_still place span old new grid all = record {
+  level = λ i h. (all.settles i (few i h)).same.level ∙ grid.level i (few i h);
+  gain = λ i h. (all.settles i (few i h)).same.gain ∙ grid.gain i (few i h);
+  wave = λ i h. (all.settles i (few i h)).same.wave ∙ grid.wave i (few i h);
+  within = λ i h.
+      let s = all.settles i (few i h) in
+      let w = grid.within i (few i h) in
+      omega (arith, w, s.same.start, s.size);
+  home = λ rank h.
+      let at = grid.home rank h in
+      let s = all.settles (rank / span) at.0 in
+      let many = all.blocks in
+      let a = at.0 in
+      let b = at.1.0 in
+      let d = at.1.1 in
+      ((omega (arith, a, many)), (omega (arith, b, s.same.start), omega (arith, d, s.same.start, s.size)));
+  only = λ i rank h inside.
+      let s = all.settles i (few i h) in
+      let a = inside.0 in
+      let b = inside.1 in
+      grid.only i rank (few i h) (omega (arith, a, s.same.start), omega (arith, b, s.same.start, s.size));
+}
+  where
+    few : (i : ℕ) → i < length new → i < length old
+    few i h = let many = all.blocks in omega (arith, h, many)

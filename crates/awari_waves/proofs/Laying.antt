@@ -1,0 +1,172 @@
+-- What is laid for the blocks.
+use Rattle.std.proofs.Common.{◌≡◌, ◌≢◌, ℕ, ◌+◌, ◌*◌, ◌/◌, ◌<◌, ◌≤◌, ◌==◌, Bool, true, false, cond, List, [], ◌∷◌, ◌++◌, length, get_or, take, drop, map, filter, sum, refl, sym, ap, subst, ◌∙◌, arith, append_assoc, append-nil, length-append, eqb-true, ◌^◌}
+use Rattle.std.proofs.lemmas.Bool.Decides.{nat_tests}
+use Rattle.std.proofs.lemmas.List.{length_push, take-append-drop}
+use Rattle.awari_board.specs.Rules.{IsBoard}
+use Rattle.awari_rank.specs.Rank.{rank_of, size_of}
+use Rattle.awari_rank.proofs.Ranking.{rank_of-below}
+use Rattle.awari_block.specs.Notes.{IsQuietMove}
+use Rattle.awari_unmove.specs.Predecessors.{IsPredecessors}
+use Rattle.awari_unmove.proofs.Walking.{IsQuiet-next}
+use Rattle.awari_owner.specs.Found.{Lists}
+use Rattle.awari_owner.specs.Spread.{Source}
+use Rattle.awari_owner.specs.declared.targets.Target.{Target}
+use Rattle.awari_owner.proofs.Finding.{Lists-at}
+use Rattle.awari_owner.proofs.Telling.{IsNext}
+use Rattle.awari_waves.specs.Lists.{In, list_at, rows_at, with_put}
+use Rattle.awari_waves.specs.Waves.{AreSourcesOf, CanFind, Finds, FindsFor, Puts, code_of, codes_to}
+use Rattle.awari_waves.proofs.Sources.{all_in, each_in, in_first, in_second}
+use Rattle.awari_waves.proofs.ListLemmas.{with_put-at, with_put-other}
+
+pub codes_to-append : (span to : ℕ) (xs ys : List Source) → codes_to span to (xs ++ ys) ≡ codes_to span to xs ++ codes_to span to ys
+codes_to-append span to [] ys = refl
+codes_to-append span to (x ∷ xs) ys = at (rank_of x.0 / span == to) (codes_to-append span to xs ys)
+  where
+    at : (b : Bool) → codes_to span to (xs ++ ys) ≡ codes_to span to xs ++ codes_to span to ys
+        → map code_of (cond b (x ∷ filter (λ y. rank_of y.0 / span == to) (xs ++ ys)) (filter (λ y. rank_of y.0 / span == to) (xs ++ ys)))
+        ≡ map code_of (cond b (x ∷ filter (λ y. rank_of y.0 / span == to) xs) (filter (λ y. rank_of y.0 / span == to) xs)) ++ codes_to span to ys
+    at true is = ap (λ l. code_of x ∷ l) is
+    at false is = is
+
+pub puts_none : (span : ℕ) (lists : List (List ℕ)) → Puts span [] lists lists
+puts_none span lists to = sym (append-nil (list_at lists to))
+
+pub puts_both : (span : ℕ) (xs ys : List Source) (a b c : List (List ℕ)) → Puts span xs a b → Puts span ys b c → Puts span (xs ++ ys) a c
+puts_both span xs ys a b c one two to =
+    two to ∙ ap (λ l. l ++ codes_to span to ys) (one to) ∙ append_assoc (list_at a to) (codes_to span to xs) (codes_to span to ys)
+    ∙ ap (λ l. list_at a to ++ l) (sym (codes_to-append span to xs ys))
+
+-- one that is put goes to the list of its block
+pub puts_one : (span : ℕ) (y : Source) (old new : List (List ℕ)) → new ≡ with_put old (rank_of y.0 / span) (code_of y) → Puts span (y ∷ []) old new
+puts_one span y old new is to = ap (λ ls. list_at ls to) is ∙ at (rank_of y.0 / span == to) refl
+  where
+    differ : (a b : ℕ) → (a == b) ≡ false → b ≢ a
+    differ a b e = grind (arith, nat_tests)
+
+    at : (b : Bool) → (rank_of y.0 / span == to) ≡ b
+        → list_at (with_put old (rank_of y.0 / span) (code_of y)) to ≡ list_at old to ++ map code_of (cond (rank_of y.0 / span == to) (y ∷ []) [])
+    at true e =
+        subst (λ (b : Bool). list_at (with_put old (rank_of y.0 / span) (code_of y)) to ≡ list_at old to ++ map code_of (cond b (y ∷ []) [])) (sym e)
+        (subst (λ (t : ℕ). list_at (with_put old (rank_of y.0 / span) (code_of y)) t ≡ list_at old t ++ code_of y ∷ []) (eqb-true (rank_of y.0 / span) to e)
+        (with_put-at old (rank_of y.0 / span) (code_of y)))
+    at false e =
+        subst (λ (b : Bool). list_at (with_put old (rank_of y.0 / span) (code_of y)) to ≡ list_at old to ++ map code_of (cond b (y ∷ []) [])) (sym e)
+        (with_put-other old (rank_of y.0 / span) (code_of y) to (differ (rank_of y.0 / span) to e) ∙ sym (append-nil (list_at old to)))
+
+-- ---- the boards of one rank after another
+
+pub sources_both : (level : ℕ) (rs ss : List ℕ) (xs ys : List Source) → AreSourcesOf level rs xs → AreSourcesOf level ss ys → AreSourcesOf level (rs ++ ss) (xs ++ ys)
+sources_both level [] ss xs ys none other = subst (λ (l : List Source). AreSourcesOf level ss (l ++ ys)) (sym none) other
+sources_both level (r ∷ rs) ss xs ys (q, own, others, board, stones, rank, are, rest, is) other =
+    (q, own, others ++ ys, board, stones, rank, are, sources_both level rs ss others ys rest other, ap (λ l. l ++ ys) is ∙ append_assoc own others ys)
+
+pub finds_none : (level span : ℕ) (lists : List (List ℕ)) → Finds level span [] lists lists
+finds_none level span lists = ([], refl, puts_none span lists)
+
+pub finds_both : (level span : ℕ) (rs ss : List ℕ) (a b c : List (List ℕ)) → Finds level span rs a b → Finds level span ss b c → Finds level span (rs ++ ss) a c
+finds_both level span rs ss a b c one two =
+    (one.0 ++ two.0, sources_both level rs ss one.0 two.0 one.1 two.1, puts_both span one.0 two.0 a b c one.2 two.2)
+
+-- ---- the predecessors of one board
+
+-- Of the n predecessors of q that are listed, the notes of the first k are laid.
+pub record IsLaying (span : ℕ) (old now : List (List ℕ)) (q : List ℕ) (targets : List Target) (n k : ℕ) : Type 0 where
+  pub seen : List Source
+  pub left : List Source
+  pub many : length seen ≡ k
+  pub predecessors : IsPredecessors q (seen ++ left)
+  pub listed : Lists targets n (seen ++ left)
+  pub laid : Puts span seen old now
+
+pub IsLaying-none : (span : ℕ) (old : List (List ℕ)) (q : List ℕ) (targets : List Target) (n : ℕ) → ((sources : List Source) × IsPredecessors q sources × Lists targets n sources)
+    → IsLaying span old old q targets n 0
+IsLaying-none span old q targets n found = record { seen = []; left = found.0; many = refl; predecessors = found.1; listed = found.2; laid = puts_none span old }
+
+split_left : (seen left : List Source) → length seen < length (seen ++ left) → (y : Source) × (more : List Source) × (left ≡ y ∷ more)
+split_left seen [] less = (let none = ap length (append-nil seen) in absurd (omega (arith, less, none)))
+split_left seen (y ∷ more) less = (y, more, refl)
+
+pub IsLaying-next : (span level : ℕ) (old now : List (List ℕ)) (q : List ℕ) (targets : List Target) (n k : ℕ) (d : Target)
+    → ((p : List ℕ) (x : ℕ) → IsBoard p → IsQuietMove p x q → sum q + 0 ≡ sum p) → sum q ≡ level
+    → (laying : IsLaying span old now q targets n k) → k < n → IsNext q level laying.seen laying.left (get_or targets k d)
+IsLaying-next span level old now q targets n k d keeps stones laying less =
+    let many = laying.many in
+    let all = laying.listed.many in
+    let next = split_left laying.seen laying.left (omega (arith, many, all, less)) in
+    let quiet = IsQuiet-next q laying.seen laying.left next.1 next.0 laying.predecessors next.2 in
+    record {
+      y = next.0;
+      more = next.1;
+      splits = next.2;
+      at = Lists-at targets n laying.seen laying.left next.1 next.0 d laying.listed next.2 (omega (arith, many, less)) ∙ ap (λ i. get_or targets i d) many;
+      source = (quiet.board, sym (keeps next.0.0 next.0.1 quiet.board quiet.move) ∙ (let same : sum q + 0 ≡ level = omega (arith, stones) in same), (q, quiet.move));
+    }
+
+-- its rank and pit fit a code
+pub next_fits : (level : ℕ) (q : List ℕ) (seen left : List Source) (t : Target) → size_of level ≤ 2 ^ 29 → IsNext q level seen left t → (t.rank < 2 ^ 29) × (t.pit < 6)
+next_fits level q seen left t few next =
+    subst (λ (u : Target). (u.rank < 2 ^ 29) × (u.pit < 6)) next.at
+    ((let below = rank_of-below next.y.0 next.source.0.pits in let size = ap size_of next.source.1 in omega (arith, below, size, few)), next.source.2.1.legal.own)
+
+pub IsLaying-more : (span level : ℕ) (old now new : List (List ℕ)) (q : List ℕ) (targets : List Target) (n k : ℕ) (t : Target) → (laying : IsLaying span old now q targets n k)
+    → IsNext q level laying.seen laying.left t → new ≡ with_put now (t.rank / span) (t.rank * 8 + t.pit) → IsLaying span old new q targets n (k + 1)
+IsLaying-more span level old now new q targets n k t laying next is =
+    let all : laying.seen ++ laying.left ≡ (laying.seen ++ next.y ∷ []) ++ next.more = ap (λ l. laying.seen ++ l) next.splits ∙ sym (append_assoc laying.seen (next.y ∷ []) next.more) in
+    record {
+      seen = laying.seen ++ next.y ∷ [];
+      left = next.more;
+      many = length_push laying.seen next.y ∙ (let is = laying.many in omega (arith, is));
+      predecessors = subst (IsPredecessors q) all laying.predecessors;
+      listed = subst (Lists targets n) all laying.listed;
+      laid = puts_both span laying.seen (next.y ∷ []) old now new laying.laid
+          (puts_one span next.y now new (is ∙ ap (λ (u : Target). with_put now (u.rank / span) (u.rank * 8 + u.pit)) (sym next.at)));
+    }
+
+pub IsLaying-end : (span level rank : ℕ) (old now : List (List ℕ)) (q : List ℕ) (targets : List Target) (n k : ℕ) → IsBoard q → sum q ≡ level → rank_of q ≡ rank
+    → IsLaying span old now q targets n k → n ≤ k → Finds level span (rank ∷ []) old now
+IsLaying-end span level rank old now q targets n k board stones at laying end =
+    let none = nothing_left laying.seen laying.left (let many = laying.many in let all = laying.listed.many in omega (arith, many, all, end)) in
+    let all : laying.seen ++ laying.left ≡ laying.seen = ap (λ l. laying.seen ++ l) none ∙ append-nil laying.seen in
+    (laying.seen, (q, laying.seen, [], board, stones, at, subst (IsPredecessors q) all laying.predecessors, refl, sym (append-nil laying.seen)), laying.laid)
+  where
+    nothing_left : (seen left : List Source) → length (seen ++ left) ≤ length seen → left ≡ []
+    nothing_left seen [] less = refl
+    nothing_left seen (y ∷ more) less = (let long = length-append seen (y ∷ more) in absurd (omega (arith, long, less)))
+
+-- ---- several rows
+
+rows_append : (a b : List (List (List ℕ))) (to : ℕ) → rows_at (a ++ b) to ≡ rows_at a to ++ rows_at b to
+rows_append [] b to = refl
+rows_append (row ∷ a) b to = ap (λ l. list_at row to ++ l) (rows_append a b to) ∙ sym (append_assoc (list_at row to) (rows_at a to) (rows_at b to))
+
+pub finds_pieces : (level span : ℕ) (ranks low high : List ℕ) (a b : List (List (List ℕ))) → ranks ≡ low ++ high → FindsFor level span low (rows_at a) → FindsFor level span high (rows_at b)
+    → FindsFor level span ranks (rows_at (a ++ b))
+finds_pieces level span ranks low high a b is one two = (
+  one.0 ++ two.0,
+  subst (λ (rs : List ℕ). AreSourcesOf level rs (one.0 ++ two.0)) (sym is) (sources_both level low high one.0 two.0 one.1 two.1),
+  λ to. rows_append a b to ∙ ap (λ l. l ++ rows_at b to) (one.2 to) ∙ ap (λ l. codes_to span to one.0 ++ l) (two.2 to) ∙ sym (codes_to-append span to one.0 two.0),
+)
+
+pub can_find : (level span : ℕ) (ranks part : List ℕ) (rows few : ℕ) → ((x : ℕ) → In part x → In ranks x) → 1 ≤ few → CanFind level span ranks rows → CanFind level span part few
+can_find level span ranks part rows few among some can = record {
+  low = can.low;
+  inside = all_in (λ rank. rank < size_of level) part (λ x h. each_in (λ rank. rank < size_of level) ranks can.inside x (among x h));
+  few = can.few;
+  blocks = can.blocks;
+  some = some;
+}
+
+halves : (ranks low high : List ℕ) (half : ℕ) → low ≡ take half ranks → high ≡ drop half ranks → ranks ≡ low ++ high
+halves ranks low high half front back = sym (ap (λ l. l ++ high) front ∙ ap (λ l. take half ranks ++ l) back ∙ take-append-drop half ranks)
+
+pub can_first : (level span : ℕ) (ranks low : List ℕ) (half rows few : ℕ) → low ≡ take half ranks → 1 ≤ few → CanFind level span ranks rows → CanFind level span low few
+can_first level span ranks low half rows few is =
+    can_find level span ranks low rows few (λ x h. subst (λ (l : List ℕ). In l x) (sym (halves ranks low (drop half ranks) half is refl)) (in_first low (drop half ranks) x h))
+
+pub can_second : (level span : ℕ) (ranks high : List ℕ) (half rows few : ℕ) → high ≡ drop half ranks → 1 ≤ few → CanFind level span ranks rows → CanFind level span high few
+can_second level span ranks high half rows few is =
+    can_find level span ranks high rows few (λ x h. subst (λ (l : List ℕ). In l x) (sym (halves ranks (take half ranks) high half refl is)) (in_second (take half ranks) high x h))
+
+pub finds_halves : (level span : ℕ) (ranks low high : List ℕ) (half : ℕ) (a b : List (List (List ℕ))) → low ≡ take half ranks → high ≡ drop half ranks → FindsFor level span low (rows_at a) → FindsFor level span high (rows_at b)
+    → FindsFor level span ranks (rows_at (a ++ b))
+finds_halves level span ranks low high half a b front back = finds_pieces level span ranks low high a b (halves ranks low high half front back)

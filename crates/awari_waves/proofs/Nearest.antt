@@ -1,0 +1,158 @@
+-- Which distance is due: of two lists of boards, and of the segments one after the other.
+use Rattle.std.proofs.Common.{◌≡◌, ℕ, ℤ, zero, suc, ◌+◌, ◌<◌, ◌≤◌, ◌++◌, min, Bool, true, false, nat_le, ◌==◌, ◌≢◌, eqb-true, All, IfNone, IfSome, List, [], ◌∷◌, length, get_or, map, Option, None, Some, refl, sym, subst, subst₂, ◌∙◌, arith}
+use Rattle.std.proofs.lemmas.Bool.Decides.{nat_tests}
+use Rattle.std.proofs.lemmas.List.{get_or_default}
+use Rattle.std.proofs.lemmas.List.Elements.{All-append, All-nil}
+use Rattle.awari_block.specs.Blocks.{Due, due_dist}
+use Rattle.awari_block.specs.Part.{InBlock, IsFreshIn, Part, settled_at}
+use Rattle.awari_block.proofs.Freshness.{fresh_of_block}
+use Rattle.awari_owner.specs.Level.{no_part, part_at}
+use Rattle.awari_waves.specs.Each.{AreFrom, AreIdle, HasDue, lesser}
+use Rattle.awari_waves.specs.Lists.{dues_from, dues_of, list_at}
+use Rattle.awari_waves.specs.SegmentFields.{IsSegment}
+use Rattle.awari_waves.specs.declared.segments.Segment.TheInside.{Inside}
+use Rattle.awari_waves.proofs.Joining.{All-append_first, All-append_second, seen}
+
+-- Nothing is due if there is no number. What there is, is the least, and some board has it.
+pub record IsNearest (Empty : Type 0) (Far Has : ℕ → Type 0) (o : Option ℕ) : Type 0 where
+  pub none : IfNone o Empty
+  pub least : IfSome o Far
+  pub some : IfSome o Has
+
+-- so far and nearer
+pub record Sinks (Empty : Type 0) (Far : ℕ → Type 0) : Type 0 where
+  pub free : Empty → (n : ℕ) → Far n
+  pub nearer : (m n : ℕ) → m ≤ n → Far n → Far m
+
+pub nearest_both : (E F E' : Type 0) (P Q P' Has : ℕ → Type 0) (a b : Option ℕ) → Sinks E P → Sinks F Q → (E → F → E') → ((n : ℕ) → P n → Q n → P' n) → IsNearest E P Has a → IsNearest F Q Has b
+    → IsNearest E' P' Has (lesser a b)
+nearest_both E F E' P Q P' Has None None one two none far first second = record { none = none first.none second.none; least = tt; some = tt }
+nearest_both E F E' P Q P' Has None (Some b) one two none far first second = record { none = tt; least = far b (one.free first.none b) second.least; some = second.some }
+nearest_both E F E' P Q P' Has (Some a) None one two none far first second = record { none = tt; least = far a first.least (two.free second.none a); some = first.some }
+nearest_both E F E' P Q P' Has (Some a) (Some b) one two none far first second = record {
+  none = tt;
+  least = far (min a b) (one.nearer (min a b) a (omega arith) first.least) (two.nearer (min a b) b (omega arith) second.least);
+  some = by (nat_le a b) refl;
+}
+  where
+    up : (m n : ℕ) → nat_le m n ≡ true → m ≤ n
+    up m n e = grind (arith, nat_tests)
+
+    down : (m n : ℕ) → nat_le m n ≡ false → n < m
+    down m n e = grind (arith, nat_tests)
+
+    by : (t : Bool) → nat_le a b ≡ t → Has (min a b)
+    by true e = let less = up a b e in subst Has (let is : a ≡ min a b = omega (arith, less) in is) first.some
+    by false e = let more = down a b e in subst Has (let is : b ≡ min a b = omega (arith, more) in is) second.some
+
+-- ---- in lists
+
+-- no board of these is nearer
+abbrev pub AreFar : List Due → ℕ → Type 0
+AreFar fresh n = All (λ f. n ≤ due_dist f) fresh
+
+pub far_sinks : (fresh : List Due) → Sinks (fresh ≡ []) (AreFar fresh)
+far_sinks fresh = record {
+  free = λ none n. subst (λ fs. AreFar fs n) (sym none) (All-nil (λ f. n ≤ due_dist f));
+  nearer = λ m n less all k d few. (let h = all k d few in omega (arith, h, less));
+}
+
+-- what holds of all boards holds of one of the list at its distance
+pub of_list : (P : Due → Type 0) (ls : List (List ℕ)) (d n k value : ℕ) (rest : List ℕ) → n ≡ d + k → All P (dues_from d ls) → list_at ls k ≡ value ∷ rest → P (n, value)
+of_list P [] d n k value rest is all has = absurd (cc)
+of_list P (l ∷ ls) d n zero value rest is all has =
+    let first : (l ≡ value ∷ rest) = has in
+    let at : d ≡ n = omega (arith, is) in
+    subst (λ m. P (m, value)) at (head l first all)
+  where
+    head : (l : List ℕ) → l ≡ value ∷ rest → All P (map (λ r. (d, r)) l ++ dues_from (suc d) ls) → P (d, value)
+    head l first all = subst (λ (xs : List ℕ). All P (map (λ r. (d, r)) xs ++ dues_from (suc d) ls)) first all 0 (0, 0) (omega arith)
+of_list P (l ∷ ls) d n (suc k) value rest is all has = of_list P ls (suc d) n k value rest (omega (arith, is)) (All-append_second P (map (λ r. (d, r)) l) (dues_from (suc d) ls) all) has
+
+-- some board of the part has this distance, and it is not nearer than the first number
+abbrev pub HasAt : ℕ → Part → ℕ → Type 0
+HasAt from part n = (from ≤ n) × ((rank : ℕ) × (v : ℤ) × InBlock part rank × (settled_at part rank ≡ Some (v, n)))
+
+pub list_nearest : (part : Part) (from : ℕ) (ls : List (List ℕ)) (o : Option ℕ) → All (IsFreshIn part) (dues_of ls) → IfNone o (dues_of ls ≡ []) → IfSome o (λ n. (from ≤ n) × AreFar (dues_of ls) n)
+    → IfSome o (λ n. (value : ℕ) × (rest : List ℕ) × (list_at ls n ≡ value ∷ rest)) → IsNearest (dues_of ls ≡ []) (AreFar (dues_of ls)) (HasAt from part) o
+list_nearest part from ls None fresh none least some = record { none = none; least = tt; some = tt }
+list_nearest part from ls (Some n) fresh none least some =
+    let in_part = of_list (IsFreshIn part) ls 0 n n some.0 some.1 (omega arith) fresh some.2 in
+    record { none = tt; least = least.1; some = (least.0, (some.0, in_part.0, in_part.1, in_part.3)) }
+
+-- and of both kinds of boards of a segment
+pub segment_nearest : (a : Inside) (from : ℕ) (x y : Option ℕ) → IsSegment a → IfNone x (dues_of a.lost ≡ []) → IfSome x (λ n. (from ≤ n) × AreFar (dues_of a.lost) n)
+    → IfSome x (λ n. (value : ℕ) × (rest : List ℕ) × (list_at a.lost n ≡ value ∷ rest)) → IfNone y (dues_of a.won ≡ []) → IfSome y (λ n. (from ≤ n) × AreFar (dues_of a.won) n)
+    → IfSome y (λ n. (value : ℕ) × (rest : List ℕ) × (list_at a.won n ≡ value ∷ rest))
+    → (part : Part) → seen a ≡ part → (o : Option ℕ) → o ≡ lesser x y → IsNearest (part.fresh ≡ []) (AreFar part.fresh) (HasAt from part) o
+segment_nearest a from x y sound none_lost least_lost some_lost none_won least_won some_won part view o is =
+    subst₂ (λ (p : Part) n. IsNearest (p.fresh ≡ []) (AreFar p.fresh) (HasAt from p) n) view (sym is)
+    (nearest_both (dues_of a.lost ≡ []) (dues_of a.won ≡ []) (dues_of a.lost ++ dues_of a.won ≡ []) (AreFar (dues_of a.lost)) (AreFar (dues_of a.won)) (AreFar (dues_of a.lost ++ dues_of a.won)) (HasAt from (seen a)) x y
+    (far_sinks (dues_of a.lost)) (far_sinks (dues_of a.won)) (no_more (dues_of a.lost) (dues_of a.won))
+    (λ n. All-append (λ (f : Due). n ≤ due_dist f) (dues_of a.lost) (dues_of a.won))
+    (list_nearest (seen a) from a.lost x (All-append_first (IsFreshIn (seen a)) (dues_of a.lost) (dues_of a.won) boards) none_lost least_lost some_lost)
+    (list_nearest (seen a) from a.won y (All-append_second (IsFreshIn (seen a)) (dues_of a.lost) (dues_of a.won) boards) none_won least_won some_won))
+  where
+    boards : All (IsFreshIn (seen a)) (dues_of a.lost ++ dues_of a.won)
+    boards = let are = fresh_of_block a.place a.cells.items (dues_of a.lost ++ dues_of a.won) sound.block in are.boards
+
+    no_more : (xs ys : List Due) → xs ≡ [] → ys ≡ [] → xs ++ ys ≡ []
+    no_more xs ys first second = subst₂ (λ (us vs : List Due). us ++ vs ≡ []) (sym first) (sym second) refl
+
+-- ---- segments one after the other
+
+-- of the first k parts
+abbrev pub AreIdleBelow : List Part → ℕ → Type 0
+AreIdleBelow parts k = (i : ℕ) → i < k → (part_at parts i).fresh ≡ []
+
+abbrev pub AreFarBelow : List Part → ℕ → ℕ → Type 0
+AreFarBelow parts k n = (i : ℕ) → i < k → AreFar (part_at parts i).fresh n
+
+-- some board of these parts has this distance, and it is not nearer than the first number
+abbrev pub HasIn : ℕ → List Part → ℕ → Type 0
+HasIn from parts n = (from ≤ n) × HasDue n parts
+
+pub record IsDueBelow (from : ℕ) (parts : List Part) (k : ℕ) (o : Option ℕ) : Type 0 where
+  pub nearest : IsNearest (AreIdleBelow parts k) (AreFarBelow parts k) (HasIn from parts) o
+
+pub IsDueBelow-none : (from : ℕ) (parts : List Part) → IsDueBelow from parts 0 None
+IsDueBelow-none from parts = record { nearest = record { none = λ i less. absurd (omega arith); least = tt; some = tt } }
+
+below_sinks : (parts : List Part) (k : ℕ) → Sinks (AreIdleBelow parts k) (AreFarBelow parts k)
+below_sinks parts k = record {
+  free = λ idle n i less. (far_sinks (part_at parts i).fresh).free (idle i less) n;
+  nearer = λ m n less far i low. (far_sinks (part_at parts i).fresh).nearer m n less (far i low);
+}
+
+-- a part more
+pub IsDueBelow-more : (from : ℕ) (parts : List Part) (k : ℕ) (part : Part) (x y o : Option ℕ) → k < length parts → part ≡ part_at parts k → o ≡ lesser x y → IsDueBelow from parts k x → IfNone y (part.fresh ≡ []) → IfSome y (AreFar part.fresh)
+    → IfSome y (HasAt from part) → IsDueBelow from parts (k + 1) o
+IsDueBelow-more from parts k part x y o inside read is below none least some = record {
+  nearest = subst (IsNearest (AreIdleBelow parts (k + 1)) (AreFarBelow parts (k + 1)) (HasIn from parts)) (sym is)
+      (nearest_both (AreIdleBelow parts k) (part.fresh ≡ []) (AreIdleBelow parts (k + 1)) (AreFarBelow parts k) (AreFar part.fresh) (AreFarBelow parts (k + 1)) (HasIn from parts) x y
+      (below_sinks parts k) (far_sinks part.fresh)
+      (λ idle none i less. all (λ p. p.fresh ≡ []) idle none i less)
+      (λ n far near i less. all (λ p. AreFar p.fresh n) far near i less)
+      below.nearest (record { none = none; least = least; some = has y some }));
+}
+  where
+    differ : (m n : ℕ) → (m == n) ≡ false → m ≢ n
+    differ m n e = grind (arith, nat_tests)
+
+    all : (P : Part → Type 0) → ((i : ℕ) → i < k → P (part_at parts i)) → P part → (i : ℕ) → i < k + 1 → P (part_at parts i)
+    all P before last i less = by (i == k) refl
+      where
+        by : (b : Bool) → (i == k) ≡ b → P (part_at parts i)
+        by true e = subst (λ n. P (part_at parts n)) (sym (eqb-true i k e)) (subst P read last)
+        by false e = let ne = differ i k e in before i (omega (arith, less, ne))
+
+    has : (y : Option ℕ) → IfSome y (HasAt from part) → IfSome y (HasIn from parts)
+    has None h = tt
+    has (Some n) h = (h.0, (k, h.1.0, h.1.1, inside, subst (λ (p : Part). InBlock p h.1.0) read h.1.2, subst (λ (p : Part). settled_at p h.1.0 ≡ Some (h.1.1, n)) read h.1.3))
+
+pub IsDueBelow-end : (from : ℕ) (parts : List Part) (k : ℕ) (o : Option ℕ) → length parts ≤ k → IsDueBelow from parts k o → IsNearest (AreIdle parts) (λ n. AreFrom n parts) (HasIn from parts) o
+IsDueBelow-end from parts k None end below = record { none = λ i few. below.nearest.none i (omega (arith, few, end)); least = tt; some = tt }
+IsDueBelow-end from parts k (Some n) end below = record { none = tt; least = λ i few. below.nearest.least i (omega (arith, few, end)); some = below.nearest.some }
+
+pub read_part : (parts : List Part) (k : ℕ) (part : Part) → k < length parts → part ≡ get_or parts k part → part ≡ part_at parts k
+read_part parts k part inside read = read ∙ get_or_default parts k part no_part inside

@@ -1,0 +1,117 @@
+-- The notes of a list of codes are heard, one after the other.
+use Rattle.std.proofs.Common.{◌≡◌, ◌==◌, inl, inr, Bool, true, not, ap, cond, ◌||◌, eqb-true, ℕ, ◌/◌, ◌%◌, ◌<◌, ◌≤◌, ℤ, false, List, [], ◌∷◌, ◌++◌, length, get_or, All, zero, suc, refl, sym, subst, subst₂, ◌∙◌, arith}
+use Rattle.awari_rank.specs.Rank.{rank_of}
+use Rattle.awari_block.specs.Notes.{IsQuietMove, is_heard_at}
+use Rattle.awari_block.specs.Tally.{has_pit}
+use Rattle.awari_block.specs.Part.{Part, InBlock, IsTallied, SameLevel, notes_for, stored_at}
+use Rattle.awari_block.specs.Boards.{HearsNote, Settles, place_of}
+use Rattle.awari_block.specs.declared.notes.Kind.{Kind}
+use Rattle.awari_block.specs.declared.notes.Kind.TheVariants.{Lost, Won}
+use Rattle.awari_block.specs.declared.notes.Note.{Note}
+use Rattle.awari_block.specs.declared.places.Place.{Place}
+use Rattle.awari_owner.proofs.Spreading.{IsInjective}
+use Rattle.awari_owner.proofs.PlannedTallies.{unheard_told}
+use Rattle.awari_owner.proofs.Taking.{IsTakeable, added_heard}
+use Rattle.awari_waves.proofs.Sources.{all_in, each_in, in_first, in_second}
+use Rattle.awari_waves.specs.Lists.{In, list_at, rows_at}
+use Rattle.awari_waves.specs.Waves.{AreNew, IsCodeFor, IsQuietCode, Tells, TellsBoth, heard_by, is_noted, note_by}
+
+pub code_still : (old now : Part) (code : ℕ) → Settles old now → IsCodeFor old code → IsCodeFor now code
+code_still old now code settles is =
+    let a = is.0.0 in
+    let b = is.0.1 in
+    let size = settles.size in
+    ((omega (arith, a, settles.same.start), omega (arith, b, size, settles.same.start)), is.1)
+
+-- one note is heard
+pub heard_one : (place : Place) (now new : Part) (kind : Kind) (code : ℕ) → IsInjective → now.level ≡ place.level → now.gain ≡ place.gain → now.wave ≡ place.wave → 1 ≤ now.gain
+    → SameLevel now new → HearsNote now new (code / 8) (code % 8) kind → IsCodeFor now code
+    → (value : List ℕ → ℤ) (notes : List Note) → IsQuietCode place.level code → is_noted notes code ≡ false → IsTallied value now notes → IsTallied value new (note_by place kind code ∷ notes)
+heard_one place now new kind code injective level gain wave one same hears is value notes (p, q, board, stones, at, quiet) unheard tallied =
+    added_heard value notes now new (note_by place kind code) one due silent same hears tallied
+  where
+    inside : InBlock now (rank_of p)
+    inside = subst (InBlock now) (sym at) is.0
+
+    silent : has_pit (stored_at now (code / 8)).left (code % 8) ≡ true
+    silent = subst (λ r. has_pit (stored_at now r).left (code % 8) ≡ true) at
+        (unheard_told value _ p (notes_for (rank_of p) notes) now.gain now.wave (tallied p board (stones ∙ sym level) inside) (code % 8) q quiet
+        ∙ ap not (subst (λ r. is_heard_at (notes_for r notes) (code % 8) ≡ false) (sym at) unheard))
+
+    due : IsTakeable now (note_by place kind code)
+    due = record {
+      gain = sym gain;
+      dist = sym wave;
+      held = is.0;
+      own = is.1;
+      quiet = λ b board' stones' at'. subst (λ (r : List ℕ). (s : List ℕ) × IsQuietMove r (code % 8) s) (injective p b board board' (stones ∙ sym level ∙ sym stones') (at ∙ sym at')) (q, quiet);
+    }
+
+-- a note of another move leaves the others new
+pub noted_other : (place : Place) (kind : Kind) (code c : ℕ) (notes : List Note) → (c ≡ code → ⊥) → is_noted notes c ≡ false → is_noted (note_by place kind code ∷ notes) c ≡ false
+noted_other place kind code c notes apart none = board (code / 8 == c / 8) refl
+  where
+    same : (x y : ℕ) → (x == y) ≡ true → x ≡ y
+    same x y e = eqb-true x y e
+
+    pit : code / 8 ≡ c / 8 → (b : Bool) → (code % 8 == c % 8) ≡ b → (b || is_noted notes c) ≡ false
+    pit ranks false e = none
+    pit ranks true e = let pits = same (code % 8) (c % 8) e in absurd (apart (omega (arith, ranks, pits)))
+
+    board : (b : Bool) → (code / 8 == c / 8) ≡ b → is_heard_at (cond b (note_by place kind code ∷ notes_for (c / 8) notes) (notes_for (c / 8) notes)) (c % 8) ≡ false
+    board false e = none
+    board true e = pit (same (code / 8) (c / 8) e) (code % 8 == c % 8) refl
+
+new_still : (place : Place) (kind : Kind) (level code : ℕ) (codes : List ℕ) (notes : List Note) → (In codes code → ⊥) → AreNew level codes notes → AreNew level codes (note_by place kind code ∷ notes)
+new_still place kind level code [] notes apart are = tt
+new_still place kind level code (c ∷ codes) notes apart (quiet, unheard, once, rest) =
+    (quiet, noted_other place kind code c notes (λ e. apart (inl (sym e))) unheard, once, new_still place kind level code codes notes (λ has. apart (inr has)) rest)
+
+-- and then those behind it
+pub tells_one : (place : Place) (now new last : Part) (kind : Kind) (code : ℕ) (codes : List ℕ) → IsInjective → now.level ≡ place.level → now.gain ≡ place.gain → now.wave ≡ place.wave → 1 ≤ now.gain
+    → SameLevel now new → HearsNote now new (code / 8) (code % 8) kind → IsCodeFor now code
+    → Tells place kind codes new last → Tells place kind (code ∷ codes) now last
+tells_one place now new last kind code codes injective level gain wave one same hears is rest value notes are tallied =
+    rest value (note_by place kind code ∷ notes) (new_still place kind place.level code codes notes are.2 are.3) (heard_one place now new kind code injective level gain wave one same hears is value notes are.0 are.1 tallied)
+
+-- ---- both kinds
+
+pub place_still : (old new : Part) → SameLevel old new → place_of new ≡ place_of old
+place_still old new same = λ i. record { level = same.level i; gain = same.gain i; wave = same.wave i; start = same.start i }
+
+pub tells_both : (old now new : Part) (lost won : List ℕ) → SameLevel old now → Tells (place_of old) Lost lost old now → Tells (place_of now) Won won now new → TellsBoth (place_of old) lost won old new
+tells_both old now new lost won same one two value notes are_lost are_won tallied =
+    subst (λ (p : Place). Tells p Won won now new) (place_still old now same) two value (heard_by (place_of old) Lost lost notes) are_won (one value notes are_lost tallied)
+
+-- ---- one list of codes and then another
+
+heard_append : (place : Place) (kind : Kind) (a b : List ℕ) (notes : List Note) → heard_by place kind (a ++ b) notes ≡ heard_by place kind b (heard_by place kind a notes)
+heard_append place kind [] b notes = refl
+heard_append place kind (c ∷ a) b notes = heard_append place kind a b (note_by place kind c ∷ notes)
+
+new_first : (level : ℕ) (a b : List ℕ) (notes : List Note) → AreNew level (a ++ b) notes → AreNew level a notes
+new_first level [] b notes are = tt
+new_first level (c ∷ a) b notes (quiet, unheard, once, rest) = (quiet, unheard, (λ has. once (in_first a b c has)), new_first level a b notes rest)
+
+new_second : (place : Place) (kind : Kind) (level : ℕ) (a b : List ℕ) (notes : List Note) → AreNew level (a ++ b) notes → AreNew level b (heard_by place kind a notes)
+new_second place kind level [] b notes are = are
+new_second place kind level (c ∷ a) b notes are = new_second place kind level a b (note_by place kind c ∷ notes) (new_still place kind level c (a ++ b) notes are.2 are.3)
+
+pub tells_append : (place : Place) (kind : Kind) (a b : List ℕ) (old now new : Part) → Tells place kind a old now → Tells place kind b now new → Tells place kind (a ++ b) old new
+tells_append place kind a b old now new one two value notes are tallied =
+    subst (IsTallied value new) (sym (heard_append place kind a b notes))
+    (two value (heard_by place kind a notes) (new_second place kind place.level a b notes are) (one value notes (new_first place.level a b notes are) tallied))
+
+-- the codes of one of several rows
+row_in : (rows : List (List (List ℕ))) (k at : ℕ) (d : List (List ℕ)) (c : ℕ) → k < length rows → In (list_at (get_or rows k d) at) c → In (rows_at rows at) c
+row_in [] k at d c h has = absurd (omega arith)
+row_in (row ∷ rows) zero at d c h has = in_first (list_at row at) (rows_at rows at) c has
+row_in (row ∷ rows) (suc k) at d c h has = in_second (list_at row at) (rows_at rows at) c (row_in rows k at d c (omega arith) has)
+
+pub row_codes : (old now : Part) (rows : List (List (List ℕ))) (k at : ℕ) (d : List (List ℕ)) (codes : List ℕ) → Settles old now → All (IsCodeFor old) (rows_at rows at) → k < length rows
+    → codes ≡ list_at (get_or rows k d) at → All (IsCodeFor now) codes
+row_codes old now rows k at d codes settles all h is =
+    all_in (IsCodeFor now) codes (λ c has. code_still old now c settles (each_in (IsCodeFor old) (rows_at rows at) all c (row_in rows k at d c h (subst (λ (l : List ℕ). In l c) is has))))
+
+pub row_tells : (old now new : Part) (kind : Kind) (codes codes' : List ℕ) → SameLevel old now → codes ≡ codes' → Tells (place_of now) kind codes now new → Tells (place_of old) kind codes' now new
+row_tells old now new kind codes codes' same is tells = subst₂ (λ (p : Place) (cs : List ℕ). Tells p kind cs now new) (place_still old now same) is tells

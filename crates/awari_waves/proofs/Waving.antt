@@ -1,0 +1,466 @@
+-- Fresh boards are moved from a segment into a chunk.
+use Rattle.std.proofs.Common.{◌^◌, ◌≡◌, ◌≢◌, ℕ, ◌+◌, ◌/◌, ◌<◌, ◌≤◌, ◌==◌, ◌⊎◌, inl, inr, Bool, true, false, List, [], ◌∷◌, ◌++◌, length, get_or, set, map, All, ℤ, pos, neg_ℤ, Some, refl, sym, ap, subst, subst₂, ◌∙◌, arith, eqb-true, append-nil, length-set, get_or-set_same, get_or-set_other}
+use Rattle.std.proofs.lemmas.Int.{ints}
+use Rattle.std.proofs.lemmas.List.Sorted.{All-permutation, IsPermutation-sym}
+use Rattle.awari_waves.proofs.Joining.{All-append_second}
+use Rattle.std.proofs.lemmas.Bool.Decides.{nat_tests}
+use Rattle.std.proofs.lemmas.List.{get_or_default, length-map}
+use Rattle.awari_rank.specs.Rank.{rank_of, size_of}
+use Rattle.awari_block.specs.Blocks.{Due, due_dist, due_rank, times_due}
+use Rattle.awari_block.specs.Part.{Part, AreFresh, InBlock, IsTallied, settled_at}
+use Rattle.awari_block.specs.declared.notes.Kind.{Kind}
+use Rattle.awari_block.specs.declared.notes.Kind.TheVariants.{Won, Lost}
+use Rattle.awari_block.specs.declared.notes.Note.{Note}
+use Rattle.awari_block.specs.declared.places.Place.{Place}
+use Rattle.awari_block.proofs.BlockLemmas.{one_if, times_due-cons, times_due-permuted}
+use Rattle.awari_owner.specs.Spread.{Hears, IsSpread}
+use Rattle.awari_owner.specs.Level.{AreHeard, no_part, part_at}
+use Rattle.awari_waves.specs.Lists.{AreDistinct, In}
+use Rattle.awari_waves.specs.Fronts.{IsFront}
+use Rattle.awari_waves.specs.declared.chunks.Front.{Front}
+use Rattle.awari_waves.specs.Waves.{GivesFresh, IsGrid, IsPassed, IsPending, IsWaving, SettlesAll, SpreadsChunk, value_by, with_pending}
+use Rattle.awari_waves.proofs.Sources.{all_in, each_in, distinct_apart, distinct_both, distinct_first, distinct_second, in_either, in_first, in_second}
+use Rattle.awari_waves.proofs.Chunked.{part_of_map, pend_none, pend_zero}
+
+-- ---- what was heard stays so, where the same boards are spread
+
+pair : (P P' : List ℕ) (a b : Part) (F G : List Due) (notes : List Note)
+    → ((r : ℕ) (v : ℤ) (d : ℕ) → InBlock a r → IsSpread (with_pending P a) r v d → IsSpread (with_pending P' (record a { fresh = F })) r v d)
+    → ((r : ℕ) (v : ℤ) (d : ℕ) → InBlock a r → IsSpread (with_pending P' (record a { fresh = F })) r v d → IsSpread (with_pending P a) r v d)
+    → Hears (with_pending P a) (with_pending P b) notes → Hears (with_pending P' (record a { fresh = F })) (with_pending P' (record b { fresh = G })) notes
+pair P P' a b F G notes forth back own = record {
+  true_notes = λ p x q board stones in_p in_q quiet m has pit.
+      let told = own.true_notes p x q board stones in_p in_q quiet m has pit in (told.0, told.1, forth (rank_of q) told.0 told.1 in_q told.2, told.3);
+  all_notes = λ p x q v d board stones in_p in_q quiet spread. own.all_notes p x q v d board stones in_p in_q quiet (back (rank_of q) v d in_q spread);
+}
+
+-- all but the fresh boards is the same
+abbrev pub SameBut : Part → Part → Type 0
+SameBut old new = new ≡ record old { fresh = new.fresh }
+
+pub reheard : (value : List ℕ → ℤ) (P P' : List ℕ) (old new : List Part) → length new ≡ length old → ((i : ℕ) → i < length old → SameBut (part_at old i) (part_at new i))
+    → ((i r : ℕ) (v : ℤ) (d : ℕ) → i < length old → InBlock (part_at old i) r → IsSpread (with_pending P (part_at old i)) r v d → IsSpread (with_pending P' (part_at new i)) r v d)
+    → ((i r : ℕ) (v : ℤ) (d : ℕ) → i < length old → InBlock (part_at old i) r → IsSpread (with_pending P' (part_at new i)) r v d → IsSpread (with_pending P (part_at old i)) r v d)
+    → AreHeard value (map (with_pending P) old) → AreHeard value (map (with_pending P') new)
+reheard value P P' old new many same forth back told j d h =
+    let few : j < length old = omega (arith, h, length-map new (with_pending P'), many) in
+    let before = told j no_part (omega (arith, few, length-map old (with_pending P))) in
+    let notes : List Note = before.0 in
+    let here : get_or (map (with_pending P) old) j no_part ≡ with_pending P (part_at old j) = part_of_map (with_pending P) old j no_part few in
+    let there : (i : ℕ) (e : Part) → i < length old → with_pending P' (record (part_at old i) { fresh = (part_at new i).fresh }) ≡ get_or (map (with_pending P') new) i e =
+    (λ i e k. ap (with_pending P') (sym (same i k)) ∙ sym (part_of_map (with_pending P') new i e (omega (arith, k, many)))) in (
+      notes,
+      subst (λ (p : Part). IsTallied value p notes) (there j d few) (subst (λ (p : Part). IsTallied value p notes) here before.1),
+      λ i e k.
+          let low : i < length old = omega (arith, k, length-map new (with_pending P'), many) in
+          subst₂ (λ s (p : Part). Hears s p notes) (there i e low) (there j d few)
+          (pair P P' (part_at old i) (part_at old j) (part_at new i).fresh (part_at new j).fresh notes
+          (λ r v f inside spread. subst (λ (p : Part). IsSpread (with_pending P' p) r v f) (same i low) (forth i r v f low inside spread))
+          (λ r v f inside spread. back i r v f low inside (subst (λ (p : Part). IsSpread (with_pending P' p) r v f) (sym (same i low)) spread))
+          (subst₂ (λ s (p : Part). Hears s p notes) (part_of_map (with_pending P) old i no_part low) here (before.2 i no_part (omega (arith, low, length-map old (with_pending P)))))),
+    )
+
+-- ---- counts
+
+given_once : (w : ℕ) (given : List ℕ) (F : List Due) (r : ℕ) → In given r → 1 + times_due F r ≤ times_due (map (λ x. (w, x)) given ++ F) r
+given_once w [] F r h = elim h [ ]
+given_once w (x ∷ given) F r (inl same) =
+    let cons = times_due-cons (w, x) (map (λ y. (w, y)) given ++ F) r in
+    let one = here x r (sym same) in
+    let least = rest w given F r in
+    omega (arith, cons, one, least)
+  where
+    here : (a b : ℕ) → a ≡ b → one_if (a == b) ≡ 1
+    here a b e = grind (arith, nat_tests)
+
+    rest : (w : ℕ) (given : List ℕ) (F : List Due) (r : ℕ) → times_due F r ≤ times_due (map (λ x. (w, x)) given ++ F) r
+    rest w [] F r = omega arith
+    rest w (x ∷ given) F r = let cons = times_due-cons (w, x) (map (λ y. (w, y)) given ++ F) r in let more = rest w given F r in omega (arith, cons, more)
+given_once w (x ∷ given) F r (inr later) =
+    let cons = times_due-cons (w, x) (map (λ y. (w, y)) given ++ F) r in
+    let more = given_once w given F r later in
+    omega (arith, cons, more)
+
+given_distinct : (w : ℕ) (given : List ℕ) (F : List Due) → ((r : ℕ) → times_due (map (λ x. (w, x)) given ++ F) r ≤ 1) → AreDistinct given
+given_distinct w [] F few = tt
+given_distinct w (x ∷ given) F few = (
+  λ has.
+      let cons = times_due-cons (w, x) (map (λ y. (w, y)) given ++ F) x in
+      let one = here x in
+      let more = given_once w given F x has in
+      let most = few x in
+      omega (arith, cons, one, more, most),
+  given_distinct w given F (λ r. let cons = times_due-cons (w, x) (map (λ y. (w, y)) given ++ F) r in let most = few r in omega (arith, cons, most)),
+)
+  where
+    here : (a : ℕ) → one_if (a == a) ≡ 1
+    here a = grind (arith, nat_tests)
+
+-- ---- a segment gives boards of one kind
+
+module _ (place : Place) (span : ℕ) (now : List Part) (k : ℕ) (kind : Kind) (new : Part) (given : List ℕ) (few : k < length now) (grid : IsGrid place span now) (gives : GivesFresh kind (part_at now k) new given)
+    (once : (r : ℕ) → times_due (part_at now k).fresh r ≤ 1) where
+  abbrev now' : List Part
+  now' = set now k new
+
+  differ : (a b : ℕ) → (a == b) ≡ false → a ≢ b
+  differ a b e = grind (arith, nat_tests)
+
+  here : part_at now' k ≡ new
+  here = rw get_or-set_same refl
+
+  there : (i : ℕ) → i ≢ k → part_at now' i ≡ part_at now i
+  there i ne = rw get_or-set_other refl
+
+  pub given_same : (i : ℕ) → i < length now → SameBut (part_at now i) (part_at now' i)
+  given_same i h = by (i == k) refl
+    where
+      by : (b : Bool) → (i == k) ≡ b → SameBut (part_at now i) (part_at now' i)
+      by true e = subst (λ n. SameBut (part_at now n) (part_at now' n)) (sym (eqb-true i k e)) (subst (SameBut (part_at now k)) (sym here) gives.rest)
+      by false e = subst (SameBut (part_at now i)) (sym (there i (differ i k e))) refl
+
+  pub given_grid : IsGrid place span now'
+  given_grid = record {
+    level = λ i h. ap (λ (p : Part). p.level) (given_same i (low i h)) ∙ grid.level i (low i h);
+    gain = λ i h. ap (λ (p : Part). p.gain) (given_same i (low i h)) ∙ grid.gain i (low i h);
+    wave = λ i h. ap (λ (p : Part). p.wave) (given_same i (low i h)) ∙ grid.wave i (low i h);
+    within = λ i h. subst (λ (p : Part). p.start + length p.cells ≤ size_of place.level) (sym (given_same i (low i h))) (grid.within i (low i h));
+    home = λ rank h. let at = grid.home rank h in (let a = at.0 in (omega (arith, a, length-set now k new)), subst (λ (p : Part). InBlock p rank) (sym (given_same (rank / span) at.0)) at.1);
+    only = λ i rank h inside. grid.only i rank (low i h) (subst (λ (p : Part). InBlock p rank) (given_same i (low i h)) inside);
+  }
+    where
+      low : (i : ℕ) → i < length now' → i < length now
+      low i h = omega (arith, h, length-set now k new)
+
+  count : (r : ℕ) → times_due (part_at now k).fresh r ≡ times_due (map (λ x. ((part_at now k).wave, x)) given ++ new.fresh) r
+  count r = times_due-permuted (map (λ x. ((part_at now k).wave, x)) given ++ new.fresh) (part_at now k).fresh r gives.moved
+
+  -- each is a board of the segment, and fresh no longer
+  given_at : (r : ℕ) → In given r → InBlock (part_at now k) r × (settled_at (part_at now k) r ≡ Some (value_by kind (part_at now k).gain, (part_at now k).wave))
+  given_at r h = each_in (λ r. InBlock (part_at now k) r × (settled_at (part_at now k) r ≡ Some (value_by kind (part_at now k).gain, (part_at now k).wave))) given gives.valued r h
+
+  given_home : (r : ℕ) → In given r → r / span ≡ k
+  given_home r h = grid.only k r few (given_at r h).0
+
+  given_left : (r : ℕ) → In given r → times_due new.fresh r ≡ 0
+  given_left r h = let one = given_once (part_at now k).wave given new.fresh r h in let c = count r in let most = once r in omega (arith, one, c, most)
+
+  pub given_pending : (r : ℕ) → In given r → IsPending place span now' kind r
+  given_pending r h =
+      let at = given_at r h in
+      let home = given_home r h in
+      record {
+        inside = let low = at.0.0 in let high = at.0.1 in let w = grid.within k few in omega (arith, low, high, w);
+        settled = subst (λ n. settled_at (part_at now' n) r ≡ Some (value_by kind place.gain, place.wave)) (sym home)
+            (subst (λ (p : Part). settled_at p r ≡ Some (value_by kind place.gain, place.wave)) (sym (given_same k few))
+            (at.1 ∙ (λ i. Some (value_by kind (grid.gain k few i), grid.wave k few i))));
+        taken = subst (λ n. times_due (part_at now' n).fresh r ≡ 0) (sym home) (subst (λ (p : Part). times_due p.fresh r ≡ 0) (sym here) (given_left r h));
+      }
+
+  -- and the others are as they were
+  pub still_pending : (other : Kind) (r : ℕ) → IsPending place span now other r → IsPending place span now' other r
+  still_pending other r is = record {
+    inside = is.inside;
+    settled = subst (λ (p : Part). settled_at p r ≡ Some (value_by other place.gain, place.wave)) (sym (given_same (r / span) (grid.home r is.inside).0)) is.settled;
+    taken = by (r / span == k) refl;
+  }
+    where
+      by : (b : Bool) → (r / span == k) ≡ b → times_due (part_at now' (r / span)).fresh r ≡ 0
+      by true e =
+          let same : r / span ≡ k = eqb-true (r / span) k e in
+          let was = subst (λ n. times_due (part_at now n).fresh r ≡ 0) same is.taken in
+          let none = pend_zero (part_at now k).wave given new.fresh r (sym (count r) ∙ was) in
+          subst (λ n. times_due (part_at now' n).fresh r ≡ 0) (sym same) (subst (λ (p : Part). times_due p.fresh r ≡ 0) (sym here) none.1)
+      by false e = subst (λ (p : Part). times_due p.fresh r ≡ 0) (sym (there (r / span) (differ (r / span) k e))) is.taken
+
+  pub given_apart : (other : Kind) (r : ℕ) → IsPending place span now other r → In given r → ⊥
+  given_apart other r is h =
+      let was = subst (λ n. times_due (part_at now n).fresh r ≡ 0) (given_home r h) is.taken in
+      let one = given_once (part_at now k).wave given new.fresh r h in
+      let c = count r in
+      omega (arith, was, one, c)
+
+  pub distinct_given : AreDistinct given
+  distinct_given = given_distinct (part_at now k).wave given new.fresh (λ r. let c = count r in let most = once r in omega (arith, c, most))
+
+  -- no other board becomes spread
+  pub given_heard : (value : List ℕ → ℤ) (P P' : List ℕ) → ((r : ℕ) → In P' r → In P r ⊎ In given r) → ((r : ℕ) → In P r → In P' r) → ((r : ℕ) → In given r → In P' r)
+      → AreHeard value (map (with_pending P) now) → AreHeard value (map (with_pending P') now')
+  given_heard value P P' split first second = reheard value P P' now now' (length-set now k new) given_same forth back
+    where
+      forth : (i r : ℕ) (v : ℤ) (d : ℕ) → i < length now → InBlock (part_at now i) r → IsSpread (with_pending P (part_at now i)) r v d → IsSpread (with_pending P' (part_at now' i)) r v d
+      forth i r v d h inside spread = (
+        subst (λ (p : Part). settled_at p r ≡ Some (v, d)) (sym (given_same i h)) spread.0,
+        pend_none (part_at now' i).wave P' (part_at now' i).fresh r out (by (i == k) refl),
+      )
+        where
+          was : (In P r → ⊥) × (times_due (part_at now i).fresh r ≡ 0)
+          was = pend_zero (part_at now i).wave P (part_at now i).fresh r spread.1
+
+          none_given : In given r → ⊥
+          none_given g =
+              let same : i ≡ k = sym (grid.only i r h inside) ∙ given_home r g in
+              let zero_now = subst (λ n. times_due (part_at now n).fresh r ≡ 0) same was.1 in
+              let one = given_once (part_at now k).wave given new.fresh r g in
+              let c = count r in
+              omega (arith, zero_now, one, c)
+
+          out : In P' r → ⊥
+          out g = elim (split r g) [ inl p ↦ was.0 p | inr q ↦ none_given q ]
+
+          by : (b : Bool) → (i == k) ≡ b → times_due (part_at now' i).fresh r ≡ 0
+          by true e =
+              let same : i ≡ k = eqb-true i k e in
+              let zero_now = subst (λ n. times_due (part_at now n).fresh r ≡ 0) same was.1 in
+              subst (λ n. times_due (part_at now' n).fresh r ≡ 0) (sym same)
+              (subst (λ (p : Part). times_due p.fresh r ≡ 0) (sym here) (pend_zero (part_at now k).wave given new.fresh r (sym (count r) ∙ zero_now)).1)
+          by false e = subst (λ (p : Part). times_due p.fresh r ≡ 0) (sym (there i (differ i k e))) was.1
+
+      back : (i r : ℕ) (v : ℤ) (d : ℕ) → i < length now → InBlock (part_at now i) r → IsSpread (with_pending P' (part_at now' i)) r v d → IsSpread (with_pending P (part_at now i)) r v d
+      back i r v d h inside spread = (
+        subst (λ (p : Part). settled_at p r ≡ Some (v, d)) (given_same i h) spread.0,
+        pend_none (part_at now i).wave P (part_at now i).fresh r (λ p. is.0 (first r p)) (by (i == k) refl),
+      )
+        where
+          is : (In P' r → ⊥) × (times_due (part_at now' i).fresh r ≡ 0)
+          is = pend_zero (part_at now' i).wave P' (part_at now' i).fresh r spread.1
+
+          by : (b : Bool) → (i == k) ≡ b → times_due (part_at now i).fresh r ≡ 0
+          by true e =
+              let same : i ≡ k = eqb-true i k e in
+              let zero_new = subst (λ (p : Part). times_due p.fresh r ≡ 0) here (subst (λ n. times_due (part_at now' n).fresh r ≡ 0) same is.1) in
+              subst (λ n. times_due (part_at now n).fresh r ≡ 0) (sym same)
+              (count r ∙ pend_none (part_at now k).wave given new.fresh r (λ g. is.0 (second r g)) zero_new)
+          by false e = subst (λ (p : Part). times_due p.fresh r ≡ 0) (there i (differ i k e)) is.1
+
+-- ---- a wave
+
+map_none : (parts : List Part) → map (with_pending []) parts ≡ parts
+map_none [] = refl
+map_none (p ∷ parts) = ap (λ ps. p ∷ ps) (map_none parts)
+
+pub waving_none : (place : Place) (span : ℕ) (old : List Part) (lost won : List ℕ) → lost ≡ [] → won ≡ [] → IsGrid place span old → IsWaving place span 0 old old lost won
+waving_none place span old lost won no_lost no_won grid =
+    subst₂ (λ (l w : List ℕ). IsWaving place span 0 old old l w) (sym no_lost) (sym no_won) (record {
+      blocks = refl;
+      grid = grid;
+      of_lost = λ k d h. absurd (omega arith);
+      of_won = λ k d h. absurd (omega arith);
+      apart = tt;
+      same = λ i h. record { level = refl; start = refl; size = refl };
+      passed = λ i less. absurd (omega arith);
+      heard = λ value told. subst (AreHeard value) (sym (map_none old)) told;
+    })
+
+pub waving_end : (place : Place) (span n : ℕ) (old now : List Part) (lost won : List ℕ) → lost ≡ [] → won ≡ [] → IsWaving place span n old now lost won → (value : List ℕ → ℤ) → AreHeard value old → AreHeard value now
+waving_end place span n old now lost won no_lost no_won waving value told =
+    subst (AreHeard value) (map_none now) (subst₂ (λ (l w : List ℕ). AreHeard value (map (with_pending (l ++ w)) now)) no_lost no_won (waving.heard value told))
+
+pub waving_spread : (place : Place) (span n : ℕ) (old now new : List Part) (lost won lost' won' : List ℕ) → lost' ≡ [] → won' ≡ [] → SpreadsChunk lost won now new → SettlesAll now new → IsGrid place span new
+    → IsWaving place span n old now lost won → IsWaving place span n old new lost' won'
+waving_spread place span n old now new lost won lost' won' no_lost no_won spreads all grid waving =
+    subst₂ (λ (l w : List ℕ). IsWaving place span n old new l w) (sym no_lost) (sym no_won) (record {
+      blocks = all.blocks ∙ waving.blocks;
+      grid = grid;
+      of_lost = λ k d h. absurd (omega arith);
+      of_won = λ k d h. absurd (omega arith);
+      apart = tt;
+      same = λ i h.
+          let was = waving.same i h in
+          let many = waving.blocks in
+          let next = all.settles i (omega (arith, h, many)) in
+          record { level = next.same.level ∙ was.level; start = next.same.start ∙ was.start; size = next.size ∙ was.size };
+      passed = λ i less few.
+          let many = all.blocks in
+          let low : i < length now = omega (arith, few, many) in
+          all.passed i low (waving.passed i less low);
+      heard = λ value told.
+          spreads value [] (subst AreDistinct (sym (append-nil (lost ++ won))) waving.apart)
+          (subst (λ (l : List ℕ). AreHeard value (map (with_pending l) now)) (sym (append-nil (lost ++ won))) (waving.heard value told));
+    })
+
+pub waving_lost : (place : Place) (span n : ℕ) (old now : List Part) (lost won : List ℕ) (k : ℕ) (d new : Part) (given lost' : List ℕ) → k < length now → n ≤ k → lost' ≡ lost ++ given
+    → GivesFresh Lost (get_or now k d) new given → AreFresh (get_or now k d) → IsWaving place span n old now lost won → IsWaving place span n old (set now k new) lost' won
+waving_lost place span n old now lost won k d new given lost' few done is gives' fresh' waving =
+    subst (λ (l : List ℕ). IsWaving place span n old (set now k new) l won) (sym is) (record {
+      blocks = length-set now k new ∙ waving.blocks;
+      grid = given_grid place span now k Lost new given few waving.grid gives once;
+      of_lost = all_in (IsPending place span (set now k new) Lost) (lost ++ given) (λ r h. elim (in_either lost given r h) [
+        | inl before ↦ still_pending place span now k Lost new given few waving.grid gives once Lost r (each_in (IsPending place span now Lost) lost waving.of_lost r before)
+        | inr more ↦ given_pending place span now k Lost new given few waving.grid gives once r more
+      ]);
+      of_won = all_in (IsPending place span (set now k new) Won) won (λ r h. still_pending place span now k Lost new given few waving.grid gives once Won r (each_in (IsPending place span now Won) won waving.of_won r h));
+      apart = distinct_both (lost ++ given) won
+          (distinct_both lost given (distinct_first lost won waving.apart) (distinct_given place span now k Lost new given few waving.grid gives once) (λ r h g. apart_lost r h g))
+          (distinct_second lost won waving.apart)
+          (λ r h w. elim (in_either lost given r h) [ inl before ↦ distinct_apart lost won r waving.apart before w | inr more ↦ apart_won r w more ]);
+      same = λ i h.
+          let was = waving.same i h in
+          let many = waving.blocks in
+          let next : SameBut (part_at now i) (part_at (set now k new) i) = given_same place span now k Lost new given few waving.grid gives once i (omega (arith, h, many)) in
+          record {
+            level = ap (λ (p : Part). p.level) next ∙ was.level;
+            start = ap (λ (p : Part). p.start) next ∙ was.start;
+            size = ap (λ (p : Part). length p.cells) next ∙ was.size;
+          };
+      passed = λ i less inside.
+          let ne : i ≢ k = omega (arith, less, done) in
+          subst IsPassed (sym (let there : part_at (set now k new) i ≡ part_at now i = rw get_or-set_other refl in there)) (waving.passed i less (omega (arith, inside, length-set now k new)));
+      heard = λ value told.
+          given_heard place span now k Lost new given few waving.grid gives once value (lost ++ won) ((lost ++ given) ++ won)
+          (λ r h. elim (in_either (lost ++ given) won r h) [
+            | inl some ↦ elim (in_either lost given r some) [ inl before ↦ inl (in_first lost won r before) | inr more ↦ inr more ]
+            | inr w ↦ inl (in_second lost won r w)
+          ])
+          (λ r h. elim (in_either lost won r h) [ inl before ↦ in_first (lost ++ given) won r (in_first lost given r before) | inr w ↦ in_second (lost ++ given) won r w ])
+          (λ r h. in_first (lost ++ given) won r (in_second lost given r h))
+          (waving.heard value told);
+    })
+  where
+    same : get_or now k d ≡ part_at now k
+    same = get_or_default now k d no_part few
+
+    gives : GivesFresh Lost (part_at now k) new given
+    gives = subst (λ (p : Part). GivesFresh Lost p new given) same gives'
+
+    once : (r : ℕ) → times_due (part_at now k).fresh r ≤ 1
+    once = (subst AreFresh same fresh').once
+
+    apart_lost : (r : ℕ) → In lost r → In given r → ⊥
+    apart_lost r h g = given_apart place span now k Lost new given few waving.grid gives once Lost r (each_in (IsPending place span now Lost) lost waving.of_lost r h) g
+
+    apart_won : (r : ℕ) → In won r → In given r → ⊥
+    apart_won r h g = given_apart place span now k Lost new given few waving.grid gives once Won r (each_in (IsPending place span now Won) won waving.of_won r h) g
+
+pub waving_won : (place : Place) (span n : ℕ) (old now : List Part) (lost won : List ℕ) (k : ℕ) (d new : Part) (given won' : List ℕ) → k < length now → n ≤ k → won' ≡ won ++ given
+    → GivesFresh Won (get_or now k d) new given → AreFresh (get_or now k d) → IsWaving place span n old now lost won → IsWaving place span n old (set now k new) lost won'
+waving_won place span n old now lost won k d new given won' few done is gives' fresh' waving =
+    subst (λ (w : List ℕ). IsWaving place span n old (set now k new) lost w) (sym is) (record {
+      blocks = length-set now k new ∙ waving.blocks;
+      grid = given_grid place span now k Won new given few waving.grid gives once;
+      of_lost = all_in (IsPending place span (set now k new) Lost) lost (λ r h. still_pending place span now k Won new given few waving.grid gives once Lost r (each_in (IsPending place span now Lost) lost waving.of_lost r h));
+      of_won = all_in (IsPending place span (set now k new) Won) (won ++ given) (λ r h. elim (in_either won given r h) [
+        | inl before ↦ still_pending place span now k Won new given few waving.grid gives once Won r (each_in (IsPending place span now Won) won waving.of_won r before)
+        | inr more ↦ given_pending place span now k Won new given few waving.grid gives once r more
+      ]);
+      apart = distinct_both lost (won ++ given) (distinct_first lost won waving.apart)
+          (distinct_both won given (distinct_second lost won waving.apart) (distinct_given place span now k Won new given few waving.grid gives once) (λ r h g. apart_won r h g))
+          (λ r l h. elim (in_either won given r h) [ inl before ↦ distinct_apart lost won r waving.apart l before | inr more ↦ apart_lost r l more ]);
+      same = λ i h.
+          let was = waving.same i h in
+          let many = waving.blocks in
+          let next : SameBut (part_at now i) (part_at (set now k new) i) = given_same place span now k Won new given few waving.grid gives once i (omega (arith, h, many)) in
+          record {
+            level = ap (λ (p : Part). p.level) next ∙ was.level;
+            start = ap (λ (p : Part). p.start) next ∙ was.start;
+            size = ap (λ (p : Part). length p.cells) next ∙ was.size;
+          };
+      passed = λ i less inside.
+          let ne : i ≢ k = omega (arith, less, done) in
+          subst IsPassed (sym (let there : part_at (set now k new) i ≡ part_at now i = rw get_or-set_other refl in there)) (waving.passed i less (omega (arith, inside, length-set now k new)));
+      heard = λ value told.
+          given_heard place span now k Won new given few waving.grid gives once value (lost ++ won) (lost ++ (won ++ given))
+          (λ r h. elim (in_either lost (won ++ given) r h) [
+            | inl l ↦ inl (in_first lost won r l)
+            | inr some ↦ elim (in_either won given r some) [ inl before ↦ inl (in_second lost won r before) | inr more ↦ inr more ]
+          ])
+          (λ r h. elim (in_either lost won r h) [ inl l ↦ in_first lost (won ++ given) r l | inr w ↦ in_second lost (won ++ given) r (in_first won given r w) ])
+          (λ r h. in_second lost (won ++ given) r (in_second won given r h))
+          (waving.heard value told);
+    })
+  where
+    same : get_or now k d ≡ part_at now k
+    same = get_or_default now k d no_part few
+
+    gives : GivesFresh Won (part_at now k) new given
+    gives = subst (λ (p : Part). GivesFresh Won p new given) same gives'
+
+    once : (r : ℕ) → times_due (part_at now k).fresh r ≤ 1
+    once = (subst AreFresh same fresh').once
+
+    apart_lost : (r : ℕ) → In lost r → In given r → ⊥
+    apart_lost r h g = given_apart place span now k Won new given few waving.grid gives once Lost r (each_in (IsPending place span now Lost) lost waving.of_lost r h) g
+
+    apart_won : (r : ℕ) → In won r → In given r → ⊥
+    apart_won r h g = given_apart place span now k Won new given few waving.grid gives once Won r (each_in (IsPending place span now Won) won waving.of_won r h) g
+
+-- once it gave both, the fresh boards of a segment are farther
+passed_by : (old mid new : Part) (lost won : List ℕ) → 1 ≤ old.gain → GivesFresh Lost old mid lost → AreFresh mid → GivesFresh Won mid new won → IsPassed new
+passed_by old mid new lost won one first fresh second j d h =
+    let f : Due = get_or new.fresh j d in
+    let kept : All (λ (f : Due). (mid.wave ≤ due_dist f) × (due_dist f ≡ old.wave → settled_at old (due_rank f) ≡ Some (value_by Won old.gain, old.wave))) new.fresh =
+    All-append_second (λ (f : Due). (mid.wave ≤ due_dist f) × (due_dist f ≡ old.wave → settled_at old (due_rank f) ≡ Some (value_by Won old.gain, old.wave))) (map (λ r. (mid.wave, r)) won) new.fresh
+    (All-permutation (λ (f : Due). (mid.wave ≤ due_dist f) × (due_dist f ≡ old.wave → settled_at old (due_rank f) ≡ Some (value_by Won old.gain, old.wave))) mid.fresh (map (λ r. (mid.wave, r)) won ++ new.fresh) (IsPermutation-sym _ _ second.moved) (λ i e k. ((fresh.boards i e k).4, first.left i e k))) in
+    let near = (kept j d h).0 in
+    let wave : mid.wave ≡ old.wave = ap (λ (p : Part). p.wave) first.rest in
+    let wave' : new.wave ≡ mid.wave = ap (λ (p : Part). p.wave) second.rest in
+    let gain : mid.gain ≡ old.gain = ap (λ (p : Part). p.gain) first.rest in
+    let apart : due_dist f ≡ mid.wave → ⊥ = (λ e.
+    let a = second.left j d h e in
+    let b = (kept j d h).1 (e ∙ wave) in
+    let c = subst (λ (p : Part). settled_at p (due_rank f) ≡ Some (value_by Won old.gain, old.wave)) (sym first.rest) b in
+    let same = values (value_by Lost mid.gain, mid.wave) (value_by Won old.gain, old.wave) (sym a ∙ c) in
+    clash old.gain mid.gain one gain same) in
+    omega (arith, near, wave', apart)
+  where
+    values : (a b : ℤ × ℕ) → Some a ≡ Some b → a.0 ≡ b.0
+    values a b same = let both : a ≡ b = cc in ap (λ (c : ℤ × ℕ). c.0) both
+
+    clash : (g m : ℕ) → 1 ≤ g → m ≡ g → neg_ℤ (pos m) ≡ pos g → ⊥
+    clash g m one is same = omega (arith, ints, one, is, same)
+
+pub waving_both : (place : Place) (span k : ℕ) (old now : List Part) (lost won : List ℕ) (d e mid new : Part) (given more lost' won' : List ℕ) → k < length now → lost' ≡ lost ++ given → won' ≡ won ++ more
+    → 1 ≤ (get_or now k d).gain → GivesFresh Lost (get_or now k d) mid given → AreFresh (get_or now k d)
+    → GivesFresh Won (get_or (set now k mid) k e) new more → AreFresh (get_or (set now k mid) k e)
+    → IsWaving place span k old now lost won → IsWaving place span (k + 1) old (set (set now k mid) k new) lost' won'
+waving_both place span k old now lost won d e mid new given more lost' won' few is_lost is_won one gives fresh gives' fresh' waving = record {
+  blocks = last.blocks;
+  grid = last.grid;
+  of_lost = last.of_lost;
+  of_won = last.of_won;
+  apart = last.apart;
+  same = last.same;
+  passed = λ i less inside. by i less inside (i == k) refl;
+  heard = last.heard;
+}
+  where
+    low : k < length (set now k mid)
+    low = omega (arith, few, length-set now k mid)
+
+    last : IsWaving place span k old (set (set now k mid) k new) lost' won'
+    last =
+        waving_won place span k old (set now k mid) lost' won k e new more won' low (omega arith) is_won gives' fresh'
+        (waving_lost place span k old now lost won k d mid given lost' few (omega arith) is_lost gives fresh waving)
+
+    read : get_or (set now k mid) k e ≡ mid
+    read = rw get_or-set_same refl
+
+    here : part_at (set (set now k mid) k new) k ≡ new
+    here = let h = low in rw get_or-set_same refl
+
+    by : (i : ℕ) → i < k + 1 → i < length (set (set now k mid) k new) → (b : Bool) → (i == k) ≡ b → IsPassed (part_at (set (set now k mid) k new) i)
+    by i less inside true eq =
+        subst (λ j. IsPassed (part_at (set (set now k mid) k new) j)) (sym (eqb-true i k eq))
+        (subst IsPassed (sym here)
+        (passed_by (get_or now k d) mid new given more one gives (subst AreFresh read fresh') (subst (λ (p : Part). GivesFresh Won p new more) read gives')))
+    by i less inside false eq = let ne = differs i k eq in last.passed i (omega (arith, less, ne)) inside
+      where
+        differs : (a b : ℕ) → (a == b) ≡ false → a ≢ b
+        differs a b e = grind (arith, nat_tests)
+
+pub all_passed : (place : Place) (span k : ℕ) (old now : List Part) (lost won : List ℕ) → length now ≤ k → IsWaving place span k old now lost won → All IsPassed now
+all_passed place span k old now lost won end waving i d h =
+    subst IsPassed (sym (get_or_default now i d no_part h)) (waving.passed i (omega (arith, h, end)) h)
+
+-- what stands at the start stands while the wave is spread
+pub front_still : (front : Front) (old now : List Part) (k : ℕ) (lost won : List ℕ) → IsFront front old → IsWaving front.place (2 ^ front.log) k old now lost won → IsFront front now
+front_still front old now k lost won is waving = record {
+  low = is.low;
+  few = is.few;
+  opened = is.opened;
+  inward = is.inward;
+  near = is.near;
+  blocks = is.blocks;
+  numbers = let many = waving.blocks in let n = is.numbers in omega (arith, many, n);
+  grid = waving.grid;
+}

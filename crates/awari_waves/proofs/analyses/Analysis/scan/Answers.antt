@@ -1,0 +1,26 @@
+use Rattle.std.proofs.Common.{◌*◌, ◌%◌, ◌^◌, ◌≡◌, ◌+◌, ◌≤◌, length, refl, sym, subst, arith}
+use Rattle.std.proofs.lemmas.Nat.{pow_below}
+use Rattle.awari_owner.specs.Level.{AreWhole}
+use Rattle.awari_waves.specs.Waves.{IsGrid}
+use Rattle.awari_waves.proofs.Cutting.{level_few}
+use Rattle.awari_waves.proofs.analyses.Analysis.scan.Goals as goal
+
+pub invariant_of-result : goal.invariant_of-result
+invariant_of-result g c =
+    let number = c.levels-level.ensures.levels in
+    let low : c.levels-level.result ≤ 24 = omega (arith, number, c.requires.low) in
+    let numbers = c.in_ok-segments.ensures.numbers.1 in
+    let short = pow_below c.log_of-log.result 32 c.log_of-log.ensures in
+    let span : 1 * 2 ^ c.log_of-log.result % 4294967296 ≡ 2 ^ c.log_of-log.result = omega (arith, short) in
+    record {
+      low = low;
+      few = level_few c.levels-level.result low;
+      opened = omega arith;
+      inward = omega arith;
+      some = c.log_of-log.ensures;
+      numbers = numbers;
+      grid = subst (λ n. IsGrid (record { level = n; gain = n + 1; wave = 0; start = 0 }) (2 ^ c.log_of-log.result) c.in_ok-segments.segments.items) (sym number)
+          (subst (λ s. IsGrid (record { level = length c.args.shelf.now; gain = length c.args.shelf.now + 1; wave = 0; start = 0 }) s c.in_ok-segments.segments.items) span c.in_ok-segments.ensures.grid);
+      whole = subst (λ n. AreWhole n c.in_ok-segments.segments.items) (sym number) c.in_ok-segments.ensures.whole;
+      room = c.in_ok-room.ensures _ refl;
+    }

@@ -1,0 +1,11 @@
+use Rattle.std.proofs.Common.{length}
+use Rattle.awari_waves.proofs.chunks.+searches.Given as goal
+
+abbrev pub decreases-join_mut+arg2 : goal.decreases-join_mut+arg2
+decreases-join_mut+arg2 g l = length l.low.now
+
+abbrev pub decreases-join_mut+arg3 : goal.decreases-join_mut+arg3
+decreases-join_mut+arg3 g l = length l.high.now
+
+abbrev pub decreases-find_pieces : goal.decreases-find_pieces
+decreases-find_pieces g l = length l.rows.now

@@ -1,0 +1,26 @@
+use Rattle.std.proofs.Common.{sym, subst}
+use Rattle.awari_block.specs.Part.{Part}
+use Rattle.awari_waves.proofs.Nearest.{AreFar, IsDueBelow-none, IsDueBelow-more, IsDueBelow-end, read_part}
+use Rattle.awari_waves.proofs.dues.due_of.Goals as goal
+
+pub loop-segment-init : goal.loop-segment-init
+loop-segment-init c = IsDueBelow-none c.args.from c.args.segments.now
+
+pub due-requires : goal.due-requires
+due-requires c =
+    let read = read_part c.args.segments.now c.loop-segment.segment-index c.segment-item.result c.loop-segment-test.true c.segment-item.is in
+    record { far = subst (λ (p : Part). AreFar p.fresh c.args.from) (sym read) (c.requires.far c.loop-segment.segment-index c.loop-segment-test.true) }
+
+pub loop-segment-preserved : goal.loop-segment-preserved
+loop-segment-preserved c =
+    let read = read_part c.args.segments.now c.loop-segment.segment-index c.segment-item.result c.loop-segment-test.true c.segment-item.is in
+    IsDueBelow-more c.args.from c.args.segments.now c.loop-segment.segment-index c.segment-item.result c.loop-segment.least c.due.result c.nearer-least.result c.loop-segment-test.true read c.nearer-least.ensures c.loop-segment.invariant c.due.ensures.none c.due.ensures.least c.due.ensures.some
+
+pub returns-clause-none : goal.returns-clause-none
+returns-clause-none c = let done = IsDueBelow-end c.args.from c.args.segments.now c.loop-segment.segment-index c.loop-segment.least c.loop-segment-test.false c.loop-segment.invariant in done.none
+
+pub returns-clause-least : goal.returns-clause-least
+returns-clause-least c = let done = IsDueBelow-end c.args.from c.args.segments.now c.loop-segment.segment-index c.loop-segment.least c.loop-segment-test.false c.loop-segment.invariant in done.least
+
+pub returns-clause-some : goal.returns-clause-some
+returns-clause-some c = let done = IsDueBelow-end c.args.from c.args.segments.now c.loop-segment.segment-index c.loop-segment.least c.loop-segment-test.false c.loop-segment.invariant in done.some

@@ -1,0 +1,13 @@
+use Rattle.std.proofs.Common.{rules}
+use Rattle.awari_waves.proofs.Awaiting.{filled_all, filled_more, filled_none}
+use Rattle.awari_waves.proofs.segments.awaited.Goals as goal
+
+pub loop-index-init : goal.loop-index-init
+loop-index-init c = filled_none c.args.level c.args.cells.now _ (search rules)
+
+pub loop-index-preserved : goal.loop-index-preserved
+loop-index-preserved c =
+    filled_more c.args.level c.loop-index.index _ _ c.args.cells.now c.loop-index.awaits.items c.awaited_gain.result c.loop-index-test.true c.awaited_gain.ensures.only c.unwrap_or.ensures c.loop-index.invariant
+
+pub returns : goal.returns
+returns c = filled_all c.args.level c.loop-index.index c.args.cells.now _ c.loop-index-test.false c.loop-index.invariant

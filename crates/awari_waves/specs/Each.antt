@@ -1,0 +1,65 @@
+-- What holds of each of the blocks of a level.
+use Rattle.std.specs.Prelude.{◌≡◌, ℕ, ◌+◌, ◌<◌, ◌≤◌, true, false, List, [], length, min, Option, None, Some, All, ℤ}
+use Rattle.awari_block.specs.Blocks.{due_dist}
+use Rattle.awari_block.specs.Cells.{is_settled}
+use Rattle.awari_block.specs.Part.{Part, InBlock, settled_at, stored_at}
+use Rattle.awari_block.specs.declared.cells.Cell.{Cell}
+use Rattle.awari_block.specs.Boards.{OpensCells, Settles}
+use Rattle.awari_owner.specs.Level.{part_at}
+
+-- of each of these parts and the one that takes its place this holds
+pub record Each (P : Part → Part → Type 0) (old new : List Part) : Type 0 where
+  pub blocks : length new ≡ length old
+  pub each : (i : ℕ) → i < length old → P (part_at old i) (part_at new i)
+
+-- no board of these parts is fresh
+abbrev pub AreIdle : List Part → Type 0
+AreIdle parts = (i : ℕ) → i < length parts → (part_at parts i).fresh ≡ []
+
+-- no fresh board of these parts is nearer than this
+abbrev pub AreFrom : ℕ → List Part → Type 0
+AreFrom dist parts = (i : ℕ) → i < length parts → All (λ f. dist ≤ due_dist f) (part_at parts i).fresh
+
+-- some board of these parts is settled with this distance
+abbrev pub HasDue : ℕ → List Part → Type 0
+HasDue dist parts = (i : ℕ) × (rank : ℕ) × (v : ℤ) × (i < length parts) × InBlock (part_at parts i) rank × (settled_at (part_at parts i) rank ≡ Some (v, dist))
+
+-- ---- a gain is opened
+
+-- this gain can be opened in all these parts
+pub record CanOpen (gain : ℕ) (parts : List Part) : Type 0 where
+  pub positive : 1 ≤ gain
+  pub next : (i : ℕ) → i < length parts → (part_at parts i).gain ≡ gain + 1
+  pub idle : AreIdle parts
+
+-- the part with this gain open
+abbrev pub at_gain : ℕ → Part → Part
+at_gain gain part = record part { gain = gain; wave = 0 }
+
+-- this gain is opened in the part: its boards that an end or a capture settles at that gain are settled
+pub record OpensGain (gain : ℕ) (old new : Part) : Type 0 where
+  pub settles : Settles (at_gain gain old) new
+  pub cells : OpensCells (at_gain gain old) new 0 (length old.cells)
+
+-- ---- a distance is opened
+
+-- this distance can be opened in all these parts
+pub record CanOpenWave (dist : ℕ) (parts : List Part) : Type 0 where
+  pub farther : (i : ℕ) → i < length parts → (part_at parts i).wave < dist
+  pub nearest : AreFrom dist parts
+
+-- this distance is opened in the part
+abbrev pub OpensWave : ℕ → Part → Part → Type 0
+OpensWave dist old new = new ≡ record old { wave = dist }
+
+-- where this cell newly settles the board of this rank, it is farther than the open distance
+abbrev pub IsFarther : Part → ℕ → Cell → Type 0
+IsFarther part rank cell = is_settled (stored_at part rank).mark ≡ false → is_settled cell.mark ≡ true → part.wave < cell.dist
+
+-- ---- which distance is due
+
+-- the lesser of two numbers, if there is one
+abbrev pub lesser : Option ℕ → Option ℕ → Option ℕ
+lesser None other = other
+lesser (Some a) None = Some a
+lesser (Some a) (Some b) = Some (min a b)

@@ -1,0 +1,31 @@
+-- What stands while a wave is spread.
+use Rattle.std.specs.Prelude.{◌≡◌, ◌-◌, ◌^◌, ◌<◌, ◌≤◌, List, length, All}
+use Rattle.awari_rank.specs.Rank.{size_of}
+use Rattle.awari_block.specs.Part.{Part}
+use Rattle.awari_block.specs.declared.notes.Kind.TheVariants.{Lost, Won}
+use Rattle.awari_waves.specs.Waves.{IsGrid, IsPending}
+use Rattle.awari_waves.specs.declared.chunks.Front.{Front}
+use Rattle.awari_waves.specs.declared.chunks.Chunk.{Chunk}
+use Rattle.awari_waves.specs.declared.chunks.Room.{Room}
+
+-- these parts are the blocks of a level, each with 2 ^ log boards and the last with fewer, and all stand at this place
+pub record IsFront (front : Front) (parts : List Part) : Type 0 where
+  pub low : front.place.level ≤ 24
+  pub few : size_of front.place.level ≤ 2 ^ 29
+  pub opened : 1 ≤ front.place.gain
+  pub inward : front.place.gain ≤ front.place.level
+  pub near : front.place.wave < 2 ^ 32 - 1
+  pub blocks : front.log < 32
+  pub numbers : length parts < 2 ^ 32
+  pub grid : IsGrid front.place (2 ^ front.log) parts
+
+-- the index is that of the level, and there is a row for the notes of each kind
+pub record IsRoom (front : Front) (room : Room) : Type 0 where
+  pub index : room.index ≡ front.place.level
+  pub lost : 1 ≤ length room.rows.lost.items
+  pub won : 1 ≤ length room.rows.won.items
+
+-- the boards of the chunk were taken from the fresh ones and are not spread yet
+pub record ArePending (front : Front) (parts : List Part) (chunk : Chunk) : Type 0 where
+  pub lost : All (IsPending front.place (2 ^ front.log) parts Lost) chunk.lost.items
+  pub won : All (IsPending front.place (2 ^ front.log) parts Won) chunk.won.items

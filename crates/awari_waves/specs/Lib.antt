@@ -1,0 +1,9 @@
+pub mod Lists
+pub mod Waves
+pub mod SegmentFields
+pub mod Each
+pub mod Scanned
+pub mod Analyses
+pub mod AnalysisFields
+pub mod Fronts
+pub mod Ahead

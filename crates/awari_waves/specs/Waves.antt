@@ -1,0 +1,195 @@
+-- What the blocks of a level are told of a chunk of its fresh boards. Nothing is on its way before it or after it.
+use Rattle.std.specs.Prelude.{◌≡◌, Bool, ℕ, ◌+◌, ◌*◌, ◌/◌, ◌%◌, ◌==◌, ◌-◌, ◌^◌, min, ◌<◌, ◌≤◌, false, List, [], ◌∷◌, ◌++◌, length, map, filter, sum, ℤ, pos, neg_ℤ, Some, All}
+use Rattle.std.specs.List.Sorted.{IsPermutation}
+use Rattle.awari_board.specs.Rules.{IsBoard}
+use Rattle.awari_rank.specs.Rank.{rank_of, size_of}
+use Rattle.awari_unmove.specs.Predecessors.{IsPredecessors}
+use Rattle.awari_block.specs.Notes.{IsQuietMove, is_heard_at}
+use Rattle.awari_block.specs.Blocks.{due_dist, due_rank, times_due}
+use Rattle.awari_block.specs.Part.{Part, InBlock, IsTallied, notes_for, settled_at}
+use Rattle.awari_block.specs.Boards.{Settles, place_of}
+use Rattle.awari_block.specs.declared.notes.Kind.{Kind}
+use Rattle.awari_block.specs.declared.notes.Kind.TheVariants.{Won, Lost}
+use Rattle.awari_block.specs.declared.notes.Note.{Note}
+use Rattle.awari_block.specs.declared.places.Place.{Place}
+use Rattle.awari_owner.specs.Spread.{SameBlock, Source}
+use Rattle.awari_owner.specs.Level.{AreHeard, part_at}
+use Rattle.awari_waves.specs.Lists.{AreDistinct, In, list_at}
+
+-- a note in four bytes: the rank of the board that it is for, and the pit of its move
+abbrev pub code_by : ℕ → ℕ → ℕ
+code_by rank pit = rank * 8 + pit
+
+abbrev pub code_of : Source → ℕ
+code_of y = code_by (rank_of y.0) y.1
+
+-- the note of this code at the open gain and distance
+abbrev pub note_by : Place → Kind → ℕ → Note
+note_by place kind code = record { level = place.level; target = code / 8; pit = code % 8; kind = kind; gain = place.gain; dist = place.wave }
+
+-- whether a note of this board and pit is among these
+abbrev pub is_noted : List Note → ℕ → Bool
+is_noted notes code = is_heard_at (notes_for (code / 8) notes) (code % 8)
+
+-- and once the notes of these codes came in, one after the other
+abbrev pub heard_by : Place → Kind → List ℕ → List Note → List Note
+heard_by place kind [] notes = notes
+heard_by place kind (code ∷ codes) notes = heard_by place kind codes (note_by place kind code ∷ notes)
+
+-- it is of a quiet move of a board of the level
+abbrev pub IsQuietCode : ℕ → ℕ → Type 0
+IsQuietCode level code = (p : List ℕ) × (q : List ℕ) × IsBoard p × (sum p ≡ level) × (rank_of p ≡ code / 8) × IsQuietMove p (code % 8) q
+
+-- of quiet moves, and none was heard: neither in these notes nor earlier among these
+abbrev pub AreNew : ℕ → List ℕ → List Note → Type 0
+AreNew level [] notes = Unit {0}
+AreNew level (code ∷ codes) notes = IsQuietCode level code × (is_noted notes code ≡ false) × (In codes code → ⊥) × AreNew level codes notes
+
+-- the board of this code is in the block, and the pit is its mover's
+abbrev pub IsCodeFor : Part → ℕ → Type 0
+IsCodeFor part code = InBlock part (code / 8) × (code % 8 < 6)
+
+-- between these two the notes of these codes were heard
+abbrev pub Tells : Place → Kind → List ℕ → Part → Part → Type 0
+Tells place kind codes old new =
+    (value : List ℕ → ℤ) (notes : List Note) → AreNew place.level codes notes → IsTallied value old notes → IsTallied value new (heard_by place kind codes notes)
+
+-- a gain is open, and the open distance is not the greatest that can be stored
+abbrev pub IsReady : Part → Type 0
+IsReady part = (part.gain ≤ part.level) × (part.wave < 2 ^ 32 - 1)
+
+-- all fresh boards are farther than the open distance
+abbrev pub IsPassed : Part → Type 0
+IsPassed part = All (λ f. part.wave < due_dist f) part.fresh
+
+-- and stay so
+abbrev pub StaysPassed : Part → Part → Type 0
+StaysPassed old new = IsPassed old → IsPassed new
+
+-- ---- what is found
+
+-- the boards of these ranks, in turn, have these predecessors: each all of its own, each once
+abbrev pub AreSourcesOf : ℕ → List ℕ → List Source → Type 0
+AreSourcesOf level [] sources = sources ≡ []
+AreSourcesOf level (rank ∷ ranks) sources =
+    (q : List ℕ) × (own : List Source) × (others : List Source) × IsBoard q × (sum q ≡ level) × (rank_of q ≡ rank) × IsPredecessors q own × AreSourcesOf level ranks others
+    × (sources ≡ own ++ others)
+
+-- the codes of those that are for this block
+abbrev pub codes_to : ℕ → ℕ → List Source → List ℕ
+codes_to span to sources = map code_of (filter (λ y. rank_of y.0 / span == to) sources)
+
+-- one note to each predecessor of the boards of these ranks, for each block in its list, and no others
+abbrev pub FindsFor : ℕ → ℕ → List ℕ → (ℕ → List ℕ) → Type 0
+FindsFor level span ranks lists = (sources : List Source) × AreSourcesOf level ranks sources × ((to : ℕ) → lists to ≡ codes_to span to sources)
+
+-- for each block its notes are put behind its list
+abbrev pub Puts : ℕ → List Source → List (List ℕ) → List (List ℕ) → Type 0
+Puts span sources old new = (to : ℕ) → list_at new to ≡ list_at old to ++ codes_to span to sources
+
+-- one note to each predecessor of the boards of these ranks, in the list of its block, and no others
+abbrev pub Finds : ℕ → ℕ → List ℕ → List (List ℕ) → List (List ℕ) → Type 0
+Finds level span ranks old new = (sources : List Source) × AreSourcesOf level ranks sources × Puts span sources old new
+
+-- what a search needs, for so many rows
+pub record CanFind (level span : ℕ) (ranks : List ℕ) (rows : ℕ) : Type 0 where
+  pub low : level ≤ 24
+  pub inside : All (λ rank. rank < size_of level) ranks
+  pub few : size_of level ≤ 2 ^ 29
+  pub blocks : 0 < span
+  pub some : 1 ≤ rows
+
+-- ---- what is heard
+
+-- between these two a block heard its notes: those of lost boards, and then those of won ones
+abbrev pub TellsBoth : Place → List ℕ → List ℕ → Part → Part → Type 0
+TellsBoth place lost won old new =
+    (value : List ℕ → ℤ) (notes : List Note) → AreNew place.level lost notes → AreNew place.level won (heard_by place Lost lost notes)
+    → IsTallied value old notes → IsTallied value new (heard_by place Won won (heard_by place Lost lost notes))
+
+-- what blocks need to hear theirs, the first of them being block `first`
+pub record CanHear (first : ℕ) (lost won : ℕ → List ℕ) (parts : List Part) : Type 0 where
+  pub numbers : first + length parts < 2 ^ 64
+  pub of_lost : (i : ℕ) → i < length parts → All (IsCodeFor (part_at parts i)) (lost (first + i))
+  pub of_won : (i : ℕ) → i < length parts → All (IsCodeFor (part_at parts i)) (won (first + i))
+  pub ready : (i : ℕ) → i < length parts → IsReady (part_at parts i)
+
+-- and so did each block, the first of them being block `first`
+pub record HearsFrom (first : ℕ) (lost won : ℕ → List ℕ) (old new : List Part) : Type 0 where
+  pub blocks : length new ≡ length old
+  pub settles : (i : ℕ) → i < length old → Settles (part_at old i) (part_at new i)
+  pub passed : (i : ℕ) → i < length old → StaysPassed (part_at old i) (part_at new i)
+  pub tells : (i : ℕ) → i < length old → TellsBoth (place_of (part_at old i)) (lost (first + i)) (won (first + i)) (part_at old i) (part_at new i)
+
+-- ---- a chunk
+
+-- the value of a board whose notes are of this kind
+abbrev pub value_by : Kind → ℕ → ℤ
+value_by Won gain = pos gain
+value_by Lost gain = neg_ℤ (pos gain)
+
+-- Blocks of `span` boards: the board of each rank is in the block that its rank tells, and in no other.
+pub record IsGrid (place : Place) (span : ℕ) (parts : List Part) : Type 0 where
+  pub level : (i : ℕ) → i < length parts → (part_at parts i).level ≡ place.level
+  pub gain : (i : ℕ) → i < length parts → (part_at parts i).gain ≡ place.gain
+  pub wave : (i : ℕ) → i < length parts → (part_at parts i).wave ≡ place.wave
+  pub within : (i : ℕ) → i < length parts → (part_at parts i).start + length (part_at parts i).cells ≤ size_of place.level
+  pub home : (rank : ℕ) → rank < size_of place.level → (rank / span < length parts) × InBlock (part_at parts (rank / span)) rank
+  pub only : (i rank : ℕ) → i < length parts → InBlock (part_at parts i) rank → rank / span ≡ i
+
+-- The boards of the level, `span` in each block and fewer in the last.
+pub record AreSpans (place : Place) (span : ℕ) (parts : List Part) : Type 0 where
+  pub level : (i : ℕ) → i < length parts → (part_at parts i).level ≡ place.level
+  pub gain : (i : ℕ) → i < length parts → (part_at parts i).gain ≡ place.gain
+  pub wave : (i : ℕ) → i < length parts → (part_at parts i).wave ≡ place.wave
+  pub start : (i : ℕ) → i < length parts → (part_at parts i).start ≡ i * span
+  pub end : (i : ℕ) → i < length parts → (part_at parts i).start + length (part_at parts i).cells ≡ min ((i + 1) * span) (size_of place.level)
+  pub all : size_of place.level ≤ length parts * span
+
+-- a board that was taken from the fresh ones and is not spread yet: settled at the open gain and distance
+pub record IsPending (place : Place) (span : ℕ) (parts : List Part) (kind : Kind) (rank : ℕ) : Type 0 where
+  pub inside : rank < size_of place.level
+  pub settled : settled_at (part_at parts (rank / span)) rank ≡ Some (value_by kind place.gain, place.wave)
+  pub taken : times_due (part_at parts (rank / span)).fresh rank ≡ 0
+
+-- such boards count as fresh
+abbrev pub with_pending : List ℕ → Part → Part
+with_pending ranks part = record part { fresh = map (λ rank. (part.wave, rank)) ranks ++ part.fresh }
+
+-- All that was heard is what spread boards say, and all that these say was heard, also once these lost and won boards are spread.
+abbrev pub SpreadsChunk : List ℕ → List ℕ → List Part → List Part → Type 0
+SpreadsChunk lost won old new =
+    (value : List ℕ → ℤ) (rest : List ℕ) → AreDistinct ((lost ++ won) ++ rest)
+    → AreHeard value (map (with_pending ((lost ++ won) ++ rest)) old) → AreHeard value (map (with_pending rest) new)
+
+-- ---- a wave
+
+-- the other kind
+abbrev pub other : Kind → Kind
+other Won = Lost
+other Lost = Won
+
+-- The part gives these fresh boards away, all of the open distance and of this kind, and is else as it was.
+pub record GivesFresh (kind : Kind) (old new : Part) (given : List ℕ) : Type 0 where
+  pub rest : new ≡ record old { fresh = new.fresh }
+  pub moved : IsPermutation (map (λ rank. (old.wave, rank)) given ++ new.fresh) old.fresh
+  pub valued : All (λ rank. InBlock old rank × (settled_at old rank ≡ Some (value_by kind old.gain, old.wave))) given
+  pub left : All (λ f. due_dist f ≡ old.wave → settled_at old (due_rank f) ≡ Some (value_by (other kind) old.gain, old.wave)) new.fresh
+
+-- each part is settled further
+pub record SettlesAll (old new : List Part) : Type 0 where
+  pub blocks : length new ≡ length old
+  pub settles : (i : ℕ) → i < length old → Settles (part_at old i) (part_at new i)
+  pub passed : (i : ℕ) → i < length old → StaysPassed (part_at old i) (part_at new i)
+
+-- A wave while it is spread: of the first k blocks no fresh board of the open distance is left. These boards were taken from
+-- the fresh ones and are not spread yet, and count as fresh.
+pub record IsWaving (place : Place) (span k : ℕ) (old now : List Part) (lost won : List ℕ) : Type 0 where
+  pub blocks : length now ≡ length old
+  pub grid : IsGrid place span now
+  pub of_lost : All (IsPending place span now Lost) lost
+  pub of_won : All (IsPending place span now Won) won
+  pub apart : AreDistinct (lost ++ won)
+  pub same : (i : ℕ) → i < length old → SameBlock (part_at old i) (part_at now i)
+  pub passed : (i : ℕ) → i < k → i < length now → IsPassed (part_at now i)
+  pub heard : (value : List ℕ → ℤ) → AreHeard value old → AreHeard value (map (with_pending (lost ++ won)) now)

@@ -1,0 +1,326 @@
+//! The analysis of a level as one value.
+
+ghost use Rattle.std.specs.Prelude.{◌≡◌, ℕ, ℤ, ◌+◌, ◌-◌, ◌^◌, ◌<◌, ◌≤◌, List, All, IfNone, IfOk, IfSome, length, vec_len};
+ghost use Rattle.awari_rank.specs.Rank.{size_of};
+ghost use Rattle.awari_block.specs.Part.{IsClosed};
+ghost use Rattle.awari_table.specs.Images.{table_of};
+ghost use Rattle.awari_table.specs.declared.TheConstants.{HIGHEST_LEVEL};
+ghost use Rattle.awari_owner.specs.Level.{AreHeard, AreWhole};
+ghost use Rattle.awari_waves.specs.Each.{AreFrom, AreIdle, HasDue};
+ghost use Rattle.awari_waves.specs.Fronts.{IsRoom};
+ghost use Rattle.awari_waves.specs.declared.chunks.Front.{Front as FrontView};
+
+use crate::chunks::{Chunk, Front, Room, Rows};
+use crate::dues::{due_of, fresh_at};
+use crate::lists::Lists;
+use crate::openings::{open_gains, open_waves};
+use crate::scanning::scanned_segments;
+use crate::segments::Segment;
+use crate::waves::spread_wave;
+use awari_block::{ClosedPart, Place};
+use awari_index::Index;
+use awari_rank::size;
+use awari_table::Shelf;
+use std::alloc::{AllocError, Global};
+use std::marker::Model;
+use std::thread::Threads;
+
+/// The most threads that share the work.
+const PIECES: usize = 64;
+
+/// A level that is being built: all its boards in segments of one length, the last one shorter, and
+/// the room to spread them in.
+#[derive(Drop)]
+pub struct Analysis {
+    front: Front,
+    /// How many boards were spread.
+    spread: usize,
+    segments: Vec<Segment>,
+    room: Room,
+}
+
+impl Model for Analysis {
+    ghost use Rattle.awari_waves.specs.Analyses.{AnalysisView};
+    ghost use Rattle.awari_waves.specs.AnalysisFields.{IsAnalysis};
+
+    ghost Value = { AnalysisView };
+
+    ghost view = { λ a. record { level = a.front.place.level; gain = a.front.place.gain; wave = a.front.place.wave; parts = a.segments.items } };
+
+    ghost invariant = { IsAnalysis };
+}
+
+impl Analysis {
+    /// The shelf's next level with no gain open, to be built by so many threads. Condition: the shelf
+    /// has at most `HIGHEST_LEVEL` levels. Refused only if memory runs out.
+    pub fn scan<R: Threads + Sync>(
+        rt: &R,
+        alloc: Global,
+        shelf: &Shelf,
+        threads: usize,
+    ) -> Result<Analysis, AllocError>
+        requires low { length shelf.now ≤ HIGHEST_LEVEL }
+        ensures level { IfOk result (λ all. all.level ≡ length shelf.now) }
+        ensures gain { IfOk result (λ all. all.gain ≡ length shelf.now + 1) }
+        ensures idle { IfOk result (λ all. AreIdle all.parts) }
+        ensures heard { IfOk result (λ all. AreHeard (table_of shelf.now).value all.parts) }
+    {
+        let level = shelf.levels();
+        let log = log_of(size(level));
+        let segments = scanned_segments(rt, alloc, shelf, 1 << log, threads)?;
+        let room = room_for(alloc, level, threads)?;
+        let place = Place {
+            level,
+            gain: level + 1,
+            wave: 0,
+            start: 0,
+        };
+        let front = Front {
+            place,
+            log,
+            pieces: pieces_of(threads),
+        };
+        Ok(Analysis {
+            front,
+            spread: 0,
+            segments,
+            room,
+        })
+    }
+
+    /// The stones on the boards of the level.
+    pub fn level(&self) -> u8
+        ensures { result ≡ self.now.level }
+    {
+        self.front.place.level
+    }
+
+    /// The open gain in stones, one more than the level if none was opened yet.
+    pub fn gain(&self) -> u8
+        ensures gain { result ≡ self.now.gain }
+        ensures range { (1 ≤ self.now.gain) × (self.now.gain ≤ self.now.level + 1) }
+    {
+        self.front.place.gain
+    }
+
+    /// The open distance in plies.
+    pub fn wave(&self) -> u32
+        ensures { result ≡ self.now.wave }
+    {
+        self.front.place.wave
+    }
+
+    /// How many boards were spread, for a report of how far the level is.
+    pub fn boards_spread(&self) -> usize {
+        self.spread
+    }
+
+    /// The least distance of a fresh board, none if no board is fresh. Condition: no fresh board is
+    /// nearer than `from`.
+    pub fn due(&self, from: u32) -> Option<u32>
+        requires far { AreFrom from self.now.parts }
+        ensures none { IfNone result (AreIdle self.now.parts) }
+        ensures least { IfSome result (λ dist. AreFrom dist self.now.parts) }
+        ensures some { IfSome result (λ dist. (from ≤ dist) × HasDue dist self.now.parts) }
+        ensures whole { AreWhole self.now.level self.now.parts }
+        ensures low { self.now.level ≤ 24 }
+    {
+        due_of(self.segments.as_slice(), from)
+    }
+
+    /// Opens the next smaller gain. The boards that an end or a capture settles at that gain are
+    /// settled, and so become fresh. Conditions: a greater gain than 1 is open, or none, and no board
+    /// is fresh. Refused if memory for the fresh boards runs out; then the level is lost.
+    pub fn open_gain<R: Threads + Sync>(self, rt: &R) -> Result<Analysis, AllocError>
+        requires more { 2 ≤ self.gain }
+        requires idle { AreIdle self.parts }
+        ensures level { IfOk result (λ after. after.level ≡ self.level) }
+        ensures gain { IfOk result (λ after. after.gain + 1 ≡ self.gain) }
+        ensures wave { IfOk result (λ after. after.wave ≡ 0) }
+        ensures heard { IfOk result (λ after. (value : List ℕ → ℤ) → AreHeard value self.parts → AreHeard value after.parts) }
+    {
+        let Analysis {
+            front,
+            spread,
+            mut segments,
+            room,
+        } = self;
+        let gain = front.place.gain - 1;
+        open_gains(rt, front.pieces, gain, segments.as_mut_slice())?;
+        let place = Place {
+            gain,
+            wave: 0,
+            ..front.place
+        };
+        let front = Front { place, ..front };
+        Ok(Analysis {
+            front,
+            spread,
+            segments,
+            room,
+        })
+    }
+
+    /// Spreads all fresh boards of this distance, which is opened first if a smaller one is open.
+    /// Conditions: a gain is open, the open distance is not greater, no fresh board is nearer, and the
+    /// distance is below the greatest u32. Refused if memory runs out; then the level is lost.
+    pub fn spread<R: Threads + Sync>(self, rt: &R, dist: u32) -> Result<Analysis, AllocError>
+        requires opened { self.gain ≤ self.level }
+        requires timely { self.wave ≤ dist }
+        requires near { dist < 2 ^ 32 - 1 }
+        requires far { AreFrom dist self.parts }
+        ensures level { IfOk result (λ after. after.level ≡ self.level) }
+        ensures gain { IfOk result (λ after. after.gain ≡ self.gain) }
+        ensures wave { IfOk result (λ after. after.wave ≡ dist) }
+        ensures heard { IfOk result (λ after. (value : List ℕ → ℤ) → AreHeard value self.parts → AreHeard value after.parts) }
+        ensures farther { IfOk result (λ after. AreFrom (dist + 1) after.parts) }
+    {
+        let opened = self.at_distance(dist);
+        let after = opened.spread_open(rt)?;
+        Ok(after)
+    }
+
+    /// Spreads all fresh boards of the open distance.
+    fn spread_open<R: Threads + Sync>(self, rt: &R) -> Result<Analysis, AllocError>
+        requires opened { self.gain ≤ self.level }
+        requires near { self.wave < 2 ^ 32 - 1 }
+        ensures level { IfOk result (λ after. after.level ≡ self.level) }
+        ensures gain { IfOk result (λ after. after.gain ≡ self.gain) }
+        ensures wave { IfOk result (λ after. after.wave ≡ self.wave) }
+        ensures heard { IfOk result (λ after. (value : List ℕ → ℤ) → AreHeard value self.parts → AreHeard value after.parts) }
+        ensures farther { IfOk result (λ after. AreFrom (self.wave + 1) after.parts) }
+    {
+        let Analysis {
+            front,
+            spread,
+            mut segments,
+            mut room,
+        } = self;
+        let spread = spread.saturating_add(fresh_at(segments.as_slice(), front.place.wave));
+        spread_wave(rt, front, &mut room, segments.as_mut_slice())?;
+        Ok(Analysis {
+            front,
+            spread,
+            segments,
+            room,
+        })
+    }
+
+    /// With this distance open.
+    fn at_distance(self, dist: u32) -> Analysis
+        requires timely { self.wave ≤ dist }
+        requires far { AreFrom dist self.parts }
+        ensures level { result.level ≡ self.level }
+        ensures gain { result.gain ≡ self.gain }
+        ensures wave { result.wave ≡ dist }
+        ensures heard { (value : List ℕ → ℤ) → AreHeard value self.parts → AreHeard value result.parts }
+    {
+        if dist <= self.front.place.wave {
+            return self;
+        }
+        let Analysis {
+            front,
+            spread,
+            mut segments,
+            room,
+        } = self;
+        open_waves(dist, segments.as_mut_slice());
+        let place = Place {
+            wave: dist,
+            ..front.place
+        };
+        let front = Front { place, ..front };
+        Analysis {
+            front,
+            spread,
+            segments,
+            room,
+        }
+    }
+
+    /// What is kept of the level once all gains are closed. Conditions: gain 1 is open, and no board is
+    /// fresh. It takes memory for the list, and is refused only if that runs out.
+    pub fn close(self, alloc: Global) -> Result<Vec<ClosedPart>, AllocError>
+        requires last { self.gain ≡ 1 }
+        requires idle { AreIdle self.parts }
+        ensures parts { IfOk result (λ parts. parts.items ≡ self.parts) }
+        ensures closed { IfOk result (λ parts. All IsClosed parts.items) }
+        ensures whole { IfOk result (λ parts. AreWhole self.level parts.items) }
+    {
+        let Analysis {
+            front: _,
+            spread: _,
+            segments,
+            room: _,
+        } = self;
+        let parts = closed_all(alloc, segments)?;
+        Ok(parts)
+    }
+}
+
+/// These segments, each closed.
+fn closed_all(alloc: Global, segments: Vec<Segment>) -> Result<Vec<ClosedPart>, AllocError>
+    requires { All IsClosed segments.items }
+    ensures { IfOk result (λ parts. parts.items ≡ segments.items) }
+{
+    let mut parts = Vec::with_capacity(alloc, segments.len())?;
+    for segment in segments {
+        parts.push(segment.close())?;
+    }
+    Ok(parts)
+}
+
+/// The power of two that a segment has of boards, if a level has so many: few enough to share them
+/// out among threads, and enough that a list for each segment costs little.
+fn log_of(boards: u32) -> u32
+    ensures { result < 32 }
+{
+    (boards / 48).max(1).ilog2().clamp(12, 16)
+}
+
+/// In how many pieces the segments open a gain.
+fn pieces_of(threads: usize) -> usize {
+    if threads <= 1 {
+        1
+    } else {
+        threads.min(PIECES) * 2
+    }
+}
+
+/// How many rows of notes are found side by side.
+fn rows_of(threads: usize) -> usize
+    ensures { 1 ≤ result }
+{
+    threads.clamp(1, PIECES)
+}
+
+/// Room to spread the boards of this level, for so many threads.
+fn room_for(alloc: Global, level: u8, threads: usize) -> Result<Room, AllocError>
+    requires { level ≤ 24 }
+    ensures { IfOk result (λ room. (front : FrontView) → front.place.level ≡ level → IsRoom front room) }
+{
+    let index = Index::of(alloc, level)?;
+    let count = rows_of(threads);
+    let lost = rows(alloc, count)?;
+    let won = rows(alloc, count)?;
+    let chunk = Chunk {
+        lost: Vec::new(alloc),
+        won: Vec::new(alloc),
+    };
+    Ok(Room {
+        index,
+        chunk,
+        rows: Rows { lost, won },
+    })
+}
+
+/// So many rows with no note yet.
+fn rows(alloc: Global, count: usize) -> Result<Vec<Lists>, AllocError>
+    ensures { IfOk result (λ rows. vec_len rows ≡ count) }
+{
+    let mut rows = Vec::with_capacity(alloc, count)?;
+    for _row in 0..count {
+        rows.push(Lists::new(alloc))?;
+    }
+    Ok(rows)
+}

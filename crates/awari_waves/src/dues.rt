@@ -1,0 +1,41 @@
+//! Which distance is due: the least of a fresh board.
+
+ghost use Rattle.std.specs.Prelude.{◌≡◌, ◌≤◌, IfNone, IfSome, length};
+ghost use Rattle.awari_waves.specs.Each.{AreFrom, AreIdle, HasDue, lesser};
+
+use crate::segments::Segment;
+
+/// The least distance of a fresh board of these segments, none if no board is fresh. Condition: no
+/// fresh board is nearer than `from`.
+pub fn due_of(segments: &[Segment], from: u32) -> Option<u32>
+    requires far { AreFrom from segments.now }
+    ensures none { IfNone result (AreIdle segments.now) }
+    ensures least { IfSome result (λ dist. AreFrom dist segments.now) }
+    ensures some { IfSome result (λ dist. (from ≤ dist) × HasDue dist segments.now) }
+{
+    let mut least = None;
+    for segment in segments {
+        least = nearer(least, segment.due(from));
+    }
+    least
+}
+
+/// How many fresh boards of these segments have this distance.
+pub fn fresh_at(segments: &[Segment], dist: u32) -> usize {
+    let mut boards: usize = 0;
+    for segment in segments {
+        boards = boards.saturating_add(segment.fresh_at(dist));
+    }
+    boards
+}
+
+/// The lesser of two distances, if there is one.
+pub(crate) fn nearer(one: Option<u32>, other: Option<u32>) -> Option<u32>
+    ensures { result ≡ lesser one other }
+{
+    match (one, other) {
+        (Some(a), Some(b)) => Some(a.min(b)),
+        (Some(a), None) => Some(a),
+        (None, b) => b,
+    }
+}

@@ -1,0 +1,71 @@
+//! The notes that the boards of a chunk give, laid into a list for each block. No cell is read or written.
+
+ghost use Rattle.std.specs.Prelude.{◌≡◌, ℕ, ◌+◌, ◌*◌, ◌/◌, ◌^◌, ◌<◌, ◌≤◌, ◌∷◌, [], List, All, OnOk, length, sum};
+ghost use Rattle.awari_board.specs.Rules.{IsBoard};
+ghost use Rattle.awari_rank.specs.Rank.{rank_of, size_of};
+ghost use Rattle.awari_waves.specs.Lists.{with_put};
+ghost use Rattle.awari_waves.specs.Waves.{Finds, code_by};
+
+use crate::lists::Lists;
+use awari_board::moves_keep_boards;
+use awari_index::Index;
+use awari_owner::{Target, find_all};
+use awari_packed::PackedBoard;
+use std::alloc::AllocError;
+
+/// Lays the notes for the predecessors of these boards into the list of each block, if a block has 2
+/// to the power `log` of boards. What is found of one board goes through `targets`. Refused only if
+/// memory runs out.
+pub fn find(
+    index: &Index,
+    log: u32,
+    ranks: &[u32],
+    targets: &mut [Target],
+    lists: &mut Lists,
+) -> Result<(), AllocError>
+    requires ranks { All (λ rank. rank < size_of index.now) ranks.now }
+    requires few { size_of index.now ≤ 2 ^ 29 }
+    requires log { log < 32 }
+    requires places { 288 ≤ length targets.old }
+    ensures found { OnOk result (Finds index.now (2 ^ log) ranks.now lists.old lists.new) }
+    ensures targets { length targets.new ≡ length targets.old }
+{
+    for rank in ranks {
+        let board = index.board(*rank);
+        find_of(log, &board, targets, lists)?;
+    }
+    Ok(())
+}
+
+/// Lays the notes for the predecessors of this board.
+fn find_of(
+    log: u32,
+    board: &PackedBoard,
+    targets: &mut [Target],
+    lists: &mut Lists,
+) -> Result<(), AllocError>
+    requires board { IsBoard board.now }
+    requires few { size_of (sum board.now) ≤ 2 ^ 29 }
+    requires log { log < 32 }
+    requires places { 288 ≤ length targets.old }
+    ensures found { OnOk result (Finds (sum board.now) (2 ^ log) (rank_of board.now ∷ []) lists.old lists.new) }
+    ensures targets { length targets.new ≡ length targets.old }
+{
+    moves_keep_boards();
+    let count = find_all(board, targets);
+    for k in 0..count {
+        lay(log, targets[k], lists)?;
+    }
+    Ok(())
+}
+
+/// Lays the note for this board and pit.
+#[inline(always)]
+fn lay(log: u32, target: Target, lists: &mut Lists) -> Result<(), AllocError>
+    requires log { log < 32 }
+    requires rank { target.rank < 2 ^ 29 }
+    requires pit { target.pit < 6 }
+    ensures { OnOk result (lists.new ≡ with_put lists.old (target.rank / 2 ^ log) (code_by target.rank target.pit)) }
+{
+    lists.put(target.rank >> log, target.rank * 8 + u32::from(target.pit))
+}

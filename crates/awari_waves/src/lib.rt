@@ -1,0 +1,33 @@
+//! A level that is built in segments, which threads scan, open and spread side by side.
+//!
+//! An [`Analysis`] is a level in work. Its boards are cut into segments of one length, and the fresh
+//! boards of a distance are spread a chunk after the other. The notes of a chunk are found first: each
+//! thread lays those of some boards into a row of its own, a list for each segment. Then they are
+//! heard, each segment by one thread. `specs/Waves.antt` says what the segments are told of a chunk;
+//! nothing is on its way before it or after it. The calls take memory for the segments, nine bytes a
+//! board, for fresh boards and for notes. They are refused only if that runs out; then the level is
+//! lost.
+//!
+//! Level 0, of which no gain is opened, in `crates/awari_owner_tests/src/examples.rt`:
+//!
+//!     fn level_0_needs_no_gain(rt: HostRuntime) -> Result<(), Fail> {
+//!         let analysis = Analysis::scan(&rt, rt.alloc(), &Shelf::empty(), 1)?;
+//!         let standing = (analysis.gain(), analysis.due(0));
+//!         expect_equal(&rt, "gain and due", standing, (1, None));
+//!         let parts = analysis.close(rt.alloc())?;
+//!         expect_equal(&rt, "blocks", parts.len(), 1);
+//!         Ok(())
+//!     }
+#![tactic(auto)]
+
+mod analyses;
+mod chunks;
+mod dues;
+mod finding;
+mod lists;
+mod openings;
+mod scanning;
+mod segments;
+mod waves;
+
+pub use analyses::Analysis;

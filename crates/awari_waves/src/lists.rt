@@ -1,0 +1,113 @@
+//! Numbers in lists by a number: the fresh boards of a block by distance, the notes of a task by block.
+
+ghost use Rattle.std.specs.Prelude.{◌≡◌, ℕ, ◌+◌, ◌++◌, ◌^◌, ◌<◌, ◌≤◌, [], ◌∷◌, All, IfNone, IfSome, List, OnOk, OnErr, length};
+ghost use Rattle.awari_block.specs.Blocks.{due_dist};
+ghost use Rattle.awari_waves.specs.Lists.{dues_of, list_at, with_put, without};
+
+use std::alloc::{AllocError, Global};
+use std::marker::Model;
+
+/// A list for each number from 0 on, empty ones behind the last that is kept.
+#[derive(Drop)]
+pub struct Lists {
+    lists: Vec<Vec<u32>>,
+    alloc: Global,
+}
+
+impl Model for Lists {
+    ghost use Rattle.std.specs.Prelude.{ℕ, List, length, ◌≤◌, ◌^◌};
+    ghost use Rattle.awari_waves.specs.Lists.{lists_of};
+
+    ghost Value = { List (List ℕ) };
+
+    ghost view = { λ l. lists_of l.lists.items };
+
+    // a number below that of the lists fits a u32
+    ghost invariant = { λ l. length l.lists.items ≤ 2 ^ 32 };
+}
+
+impl Lists {
+    /// No list yet.
+    pub fn new(alloc: Global) -> Lists
+        ensures { result ≡ [] }
+    {
+        Lists {
+            lists: Vec::new(alloc),
+            alloc,
+        }
+    }
+
+    /// The list at this number.
+    pub fn list(&self, at: usize) -> &[u32]
+        ensures { result.now ≡ list_at self.now at }
+    {
+        if at < self.lists.len() {
+            return self.lists[at].as_slice();
+        }
+        &[]
+    }
+
+    /// The least number from `from` on whose list is not empty, none if there is none. Condition: no
+    /// list below `from` has anything.
+    pub fn first_from(&self, from: u32) -> Option<u32>
+        requires empty { All (λ f. from ≤ due_dist f) (dues_of self.now) }
+        ensures none { IfNone result (dues_of self.now ≡ []) }
+        ensures least { IfSome result (λ at. (from ≤ at) × All (λ f. at ≤ due_dist f) (dues_of self.now)) }
+        ensures some { IfSome result (λ at. (value : ℕ) × (rest : List ℕ) × (list_at self.now at ≡ value ∷ rest)) }
+    {
+        for at in from as usize..self.lists.len() {
+            if !self.lists[at].is_empty() {
+                return Some(at as u32);
+            }
+        }
+        None
+    }
+
+    /// Puts one behind the list at this number. Where it is refused the lists hold what they held.
+    #[inline(always)]
+    pub fn put(&mut self, at: u32, value: u32) -> Result<(), AllocError>
+        ensures put { OnOk result (self.new ≡ with_put self.old at value) }
+        ensures refused { OnErr result (dues_of self.new ≡ dues_of self.old) }
+    {
+        self.reach(at)?;
+        self.lists[at as usize].push(value)?;
+        Ok(())
+    }
+
+    /// Moves the list at this number behind others. Refused where there is no room for them there, and then
+    /// nothing changes.
+    pub fn give(&mut self, at: u32, to: &mut Vec<u32>) -> Result<(), AllocError>
+        ensures given { OnOk result (to.new.items ≡ to.old.items ++ list_at self.old at) }
+        ensures left { OnOk result (self.new ≡ without self.old at) }
+        ensures refused { OnErr result (self.new ≡ self.old) }
+    {
+        let at = at as usize;
+        if at < self.lists.len() {
+            to.extend_from_slice(self.lists[at].as_slice())?;
+            self.lists[at].clear();
+        }
+        Ok(())
+    }
+
+    /// Empties all lists. They keep their memory.
+    pub fn clear(&mut self)
+        ensures { (at : ℕ) → list_at self.new at ≡ [] }
+    {
+        for k in 0..self.lists.len() {
+            self.lists[k].clear();
+        }
+    }
+
+    /// Makes lists up to this number.
+    #[inline(always)]
+    fn reach(&mut self, at: u32) -> Result<(), AllocError>
+        ensures reached { OnOk result (at < length self.new) }
+        ensures dues { dues_of self.new ≡ dues_of self.old }
+        ensures same { OnOk result ((v : ℕ) → with_put self.new at v ≡ with_put self.old at v) }
+    {
+        for _more in self.lists.len()..at as usize + 1 {
+            self.lists.push(Vec::new(self.alloc))?;
+        }
+        Ok(())
+    }
+}

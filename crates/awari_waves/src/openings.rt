@@ -1,0 +1,65 @@
+//! A gain is opened in all segments, several side by side, and a distance.
+
+ghost use Rattle.std.specs.Prelude.{OnOk, length};
+ghost use Rattle.std.specs.Thread.{IsSync};
+ghost use Rattle.awari_waves.specs.Each.{CanOpen, CanOpenWave, Each, OpensGain, OpensWave};
+
+use crate::segments::Segment;
+use rayon::join_mut;
+use std::alloc::AllocError;
+use std::thread::Threads;
+
+/// Opens the next smaller gain in all segments, in so many pieces side by side. Refused if memory for
+/// the fresh boards runs out; then the level is lost.
+#[cycle(openings)]
+pub fn open_gains<R: Threads + Sync>(
+    rt: &R,
+    pieces: usize,
+    gain: u8,
+    segments: &mut [Segment],
+) -> Result<(), AllocError>
+    requires can { CanOpen gain segments.old }
+    ensures opened { OnOk result (Each (OpensGain gain) segments.old segments.new) }
+{
+    if pieces < 2 {
+        return open_all(gain, segments);
+    }
+    let pieces = pieces / 2;
+    let half = segments.len() / 2;
+    let (low, high) = segments.split_at_mut(half);
+    let (low_done, high_done) = join_mut(
+        rt,
+        &mut ||
+            requires { IsSync R.row × CanOpen gain low.now }
+            ensures { OnOk result (Each (OpensGain gain) low.entry.now low.exit.now) }
+        { open_gains(rt, pieces, gain, low) },
+        &mut ||
+            requires { IsSync R.row × CanOpen gain high.now }
+            ensures { OnOk result (Each (OpensGain gain) high.entry.now high.exit.now) }
+        { open_gains(rt, pieces, gain, high) },
+    );
+    low_done?;
+    high_done?;
+    Ok(())
+}
+
+/// Opens the next smaller gain in one segment after the other.
+fn open_all(gain: u8, segments: &mut [Segment]) -> Result<(), AllocError>
+    requires can { CanOpen gain segments.old }
+    ensures opened { OnOk result (Each (OpensGain gain) segments.old segments.new) }
+{
+    for k in 0..segments.len() {
+        segments[k].open_gain(gain)?;
+    }
+    Ok(())
+}
+
+/// Opens a greater distance in all segments. Condition: no fresh board has a smaller one.
+pub fn open_waves(dist: u32, segments: &mut [Segment])
+    requires can { CanOpenWave dist segments.old }
+    ensures opened { Each (OpensWave dist) segments.old segments.new }
+{
+    for k in 0..segments.len() {
+        segments[k].open_wave(dist);
+    }
+}

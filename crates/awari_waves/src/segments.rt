@@ -1,0 +1,370 @@
+//! A block of the boards of a level, and which of them are fresh, in lists by distance.
+
+ghost use Rattle.std.specs.Prelude.{◌≡◌, ℕ, ℤ, ◌+◌, ◌-◌, ◌/◌, ◌%◌, ◌^◌, ◌<◌, ◌≤◌, ◌++◌, IsTrue, List, [], true, All, IfNone, IfOk, IfSome, OnOk, Some, length, slice_set, vec_len};
+ghost use Rattle.awari_block.specs.Part.{Part as PartView, AreFresh, InBlock, IsClosed, settled_at, stored_at};
+ghost use Rattle.awari_rank.specs.Rank.{size_of};
+ghost use Rattle.awari_block.specs.Blocks.{due_dist};
+ghost use Rattle.awari_block.specs.Cells.{FitsBy, is_settled};
+ghost use Rattle.awari_block.specs.Boards.{CanPut, HearsNote, OpensCells, Settles, place_of};
+ghost use Rattle.awari_waves.specs.Ahead.{TellSettled};
+ghost use Rattle.awari_waves.specs.Each.{IsFarther, OpensGain};
+ghost use Rattle.awari_waves.specs.Lists.{rows_at};
+ghost use Rattle.awari_waves.specs.SegmentFields.{TellAwaited};
+ghost use Rattle.awari_waves.specs.Waves.{GivesFresh, IsCodeFor, IsReady, StaysPassed, Tells, TellsBoth};
+
+use crate::chunks::Rows;
+use crate::dues::nearer;
+use crate::lists::Lists;
+use awari_block::{Cell, ClosedPart, Kind, Place};
+use awari_rank::ranks_tell_boards_apart;
+use std::alloc::{AllocError, Global};
+use std::marker::Model;
+
+/// What a board awaits if no opening settles it. No gain is so great.
+const NO_GAIN: u8 = 255;
+
+/// How many notes are heard at a time, their cells being read ahead. Processors wait for fewer reads
+/// than this at a time.
+const AHEAD: usize = 64;
+
+/// The boards of a level from one rank up to, not including, another: a cell for each, the gain whose
+/// opening may settle it, and the ranks of those that are settled and not spread yet, the lost and the
+/// won ones, by distance.
+///
+/// What a board awaits is noted once, before any gain is open. The opening of a gain goes over these
+/// bytes, and reads the cells of the few boards that may await it.
+#[derive(Drop)]
+pub struct Segment {
+    place: Place,
+    cells: Vec<Cell>,
+    awaits: Vec<u8>,
+    lost: Lists,
+    won: Lists,
+}
+
+impl Model for Segment {
+    ghost use Rattle.std.specs.Prelude.{◌++◌};
+    ghost use Rattle.awari_block.specs.Part.{Part as PartView, part_of};
+    ghost use Rattle.awari_waves.specs.Lists.{dues_of};
+    ghost use Rattle.awari_waves.specs.SegmentFields.{IsSegment};
+
+    ghost Value = { PartView };
+
+    ghost view = { λ a. part_of a.place a.cells.items (dues_of a.lost ++ dues_of a.won) };
+
+    ghost invariant = { IsSegment };
+}
+
+impl Segment {
+    /// The boards of a level from this rank on, with no gain open and none of them fresh. It takes a byte
+    /// a board, and is refused only if memory runs out.
+    pub fn unopened(
+        alloc: Global,
+        level: u8,
+        start: u32,
+        cells: Vec<Cell>,
+    ) -> Result<Segment, AllocError>
+        requires low { level ≤ 24 }
+        requires short { start + vec_len cells < 2 ^ 32 }
+        requires within { start + vec_len cells ≤ size_of level }
+        requires fit { All (λ c. FitsBy c.mark level (level + 1) c.score c.dist) cells.items }
+        ensures { IfOk result (λ segment. segment ≡ record { level = level; gain = level + 1; wave = 0; start = start; cells = cells.items; fresh = [] }) }
+    {
+        let awaits = awaited(alloc, level, cells.as_slice())?;
+        Ok(Segment {
+            place: Place {
+                level,
+                gain: level + 1,
+                wave: 0,
+                start,
+            },
+            cells,
+            awaits,
+            lost: Lists::new(alloc),
+            won: Lists::new(alloc),
+        })
+    }
+
+    /// Opens a greater distance. It needs no fresh board to have a smaller one.
+    pub fn open_wave(&mut self, dist: u32)
+        requires farther { self.old.wave < dist }
+        requires nearest { All (λ f. dist ≤ due_dist f) self.old.fresh }
+        ensures wave { self.new ≡ record self.old { wave = dist } }
+    {
+        self.place = Place {
+            wave: dist,
+            ..self.place
+        };
+    }
+
+    /// Opens the next smaller gain. The boards that an end or a capture settles at that gain are
+    /// settled, and so become fresh. Conditions: the gain is at least 1, and no board is fresh. Refused
+    /// if memory for the fresh boards runs out; then the level is lost.
+    pub fn open_gain(&mut self, gain: u8) -> Result<(), AllocError>
+        requires idle { self.old.fresh ≡ [] }
+        requires next { gain + 1 ≡ self.old.gain }
+        requires positive { 1 ≤ gain }
+        ensures { OnOk result (OpensGain gain self.old self.new) }
+    {
+        self.place = Place {
+            gain,
+            wave: 0,
+            ..self.place
+        };
+        self.open_cells()
+    }
+
+    /// Opens the gain of the place in each cell, in order of rank.
+    fn open_cells(&mut self) -> Result<(), AllocError>
+        requires gain { self.old.gain ≤ self.old.level }
+        requires opened { self.old.wave ≡ 0 }
+        ensures settles { OnOk result (Settles self.old self.new) }
+        ensures opens { OnOk result (OpensCells self.old self.new 0 (length self.old.cells)) }
+    {
+        for index in 0..self.awaits.len() {
+            let place = self.place;
+            // Most boards await another gain or none, and their cells are not read.
+            if self.awaits[index] != place.gain {
+                continue;
+            }
+            let opened = self.cells[index].with_gain(place);
+            self.put(index, opened)?;
+        }
+        Ok(())
+    }
+
+    /// The least distance of a fresh board, none if no board is fresh. Condition: no fresh board is
+    /// nearer than `from`.
+    pub fn due(&self, from: u32) -> Option<u32>
+        requires far { All (λ f. from ≤ due_dist f) self.now.fresh }
+        ensures none { IfNone result (self.now.fresh ≡ []) }
+        ensures least { IfSome result (λ dist. All (λ f. dist ≤ due_dist f) self.now.fresh) }
+        ensures some { IfSome result (λ dist. (from ≤ dist) × ((rank : ℕ) × (v : ℤ) × InBlock self.now rank × (settled_at self.now rank ≡ Some (v, dist)))) }
+    {
+        nearer(self.lost.first_from(from), self.won.first_from(from))
+    }
+
+    /// How many fresh boards have this distance.
+    pub fn fresh_at(&self, dist: u32) -> usize {
+        let lost = self.lost.list(dist as usize).len();
+        lost.saturating_add(self.won.list(dist as usize).len())
+    }
+
+    /// What is kept once all gains are closed. Conditions: gain 1 is open, and no board is fresh.
+    pub fn close(self) -> ClosedPart
+        requires { IsClosed self }
+        ensures { result ≡ self }
+    {
+        ClosedPart::new(self.place, self.cells)
+    }
+
+    /// Moves the fresh boards of the open distance that are lost, or those that are won, behind others: those
+    /// whose notes are of this kind. Refused where there is no room for them there, and then nothing changes.
+    pub fn give(&mut self, kind: Kind, to: &mut Vec<u32>) -> Result<(), AllocError>
+        ensures given { OnOk result ((given : List ℕ) × (to.new.items ≡ to.old.items ++ given) × GivesFresh kind self.old self.new given) }
+        ensures fresh { AreFresh self.old }
+        ensures opened { 1 ≤ self.old.gain }
+    {
+        let wave = self.place.wave;
+        match kind {
+            Kind::Lost => {
+                self.lost.give(wave, to)?;
+                Ok(())
+            }
+            Kind::Won => {
+                self.won.give(wave, to)?;
+                Ok(())
+            }
+        }
+    }
+
+    /// Hears the notes of these codes, all of boards of the segment, of one kind, and of the open gain and
+    /// distance. Boards that they settle join the fresh ones. Refused where there was no room for those; then
+    /// the level is lost.
+    fn hear(&mut self, kind: Kind, codes: &[u32]) -> Result<(), AllocError>
+        requires codes { All (IsCodeFor self.old) codes.now }
+        requires opened { self.old.gain ≤ self.old.level }
+        requires near { self.old.wave < 2 ^ 32 - 1 }
+        ensures settles { OnOk result (Settles self.old self.new) }
+        ensures passed { OnOk result (StaysPassed self.old self.new) }
+        ensures tells { OnOk result (Tells (place_of self.old) kind codes.now self.old self.new) }
+    {
+        let mut start: usize = 0;
+        while start < codes.len() {
+            let end = codes.len().min(start + AHEAD);
+            self.hear_batch(kind, &codes[start..end])?;
+            start = end;
+        }
+        Ok(())
+    }
+
+    /// Hears a few of them. The cells of all their boards are read before the first is heard: a cell is
+    /// seldom in the cache, and so the waits for memory overlap.
+    fn hear_batch(&mut self, kind: Kind, codes: &[u32]) -> Result<(), AllocError>
+        requires few { length codes.now ≤ AHEAD }
+        requires codes { All (IsCodeFor self.old) codes.now }
+        requires opened { self.old.gain ≤ self.old.level }
+        requires near { self.old.wave < 2 ^ 32 - 1 }
+        ensures settles { OnOk result (Settles self.old self.new) }
+        ensures passed { OnOk result (StaysPassed self.old self.new) }
+        ensures tells { OnOk result (Tells (place_of self.old) kind codes.now self.old self.new) }
+    {
+        ranks_tell_boards_apart();
+        let settled = self.settled_among(codes);
+        for k in 0..codes.len() {
+            self.hear_next(kind, codes[k], settled[k])?;
+        }
+        Ok(())
+    }
+
+    /// For each of these notes whether its board is settled. It only reads and has no branch, so the
+    /// next cell is asked for while the last is still on its way.
+    #[inline(always)]
+    fn settled_among(&self, codes: &[u32]) -> [bool; AHEAD]
+        requires few { length codes.now ≤ AHEAD }
+        requires codes { All (IsCodeFor self.now) codes.now }
+        ensures { TellSettled self.now codes.now result }
+    {
+        let mut settled = [false; AHEAD];
+        for k in 0..codes.len() {
+            let index = (codes[k] / 8 - self.place.start) as usize;
+            settled[k] = self.cells[index].is_settled();
+        }
+        settled
+    }
+
+    /// Hears the notes that these rows have for it, by its number among the segments: those of lost
+    /// boards, and then those of won ones. Refused if memory for the boards that they settle runs out;
+    /// then the level is lost.
+    pub fn hear_rows(&mut self, number: usize, rows: &Rows) -> Result<(), AllocError>
+        requires lost { All (IsCodeFor self.old) (rows_at rows.now.lost.items number) }
+        requires won { All (IsCodeFor self.old) (rows_at rows.now.won.items number) }
+        requires ready { IsReady self.old }
+        ensures settles { OnOk result (Settles self.old self.new) }
+        ensures passed { OnOk result (StaysPassed self.old self.new) }
+        ensures tells { OnOk result (TellsBoth (place_of self.old) (rows_at rows.now.lost.items number) (rows_at rows.now.won.items number) self.old self.new) }
+    {
+        self.hear_kind(number, Kind::Lost, rows.lost.as_slice())?;
+        self.hear_kind(number, Kind::Won, rows.won.as_slice())?;
+        Ok(())
+    }
+
+    /// Hears those of one kind.
+    fn hear_kind(&mut self, number: usize, kind: Kind, rows: &[Lists]) -> Result<(), AllocError>
+        requires codes { All (IsCodeFor self.old) (rows_at rows.now number) }
+        requires ready { IsReady self.old }
+        ensures settles { OnOk result (Settles self.old self.new) }
+        ensures passed { OnOk result (StaysPassed self.old self.new) }
+        ensures tells { OnOk result (Tells (place_of self.old) kind (rows_at rows.now number) self.old self.new) }
+    {
+        for row in rows {
+            self.hear(kind, row.list(number))?;
+        }
+        Ok(())
+    }
+
+    /// Replaces the cell at this index. A board that this settles becomes fresh. Refused if memory for
+    /// that runs out; then the level is lost.
+    #[inline(always)]
+    fn put(&mut self, index: usize, cell: Cell) -> Result<(), AllocError>
+        requires { CanPut self.old (self.old.start + index) cell }
+        ensures settles { OnOk result (Settles self.old self.new) }
+        ensures cells { OnOk result (self.new.cells ≡ slice_set self.old.cells index cell) }
+        ensures passed { OnOk result (IsFarther self.old (self.old.start + index) cell → StaysPassed self.old self.new) }
+    {
+        let was_settled = self.cells[index].is_settled();
+        self.cells[index] = cell;
+        if !cell.is_settled() || was_settled {
+            return Ok(());
+        }
+        let rank = self.place.start + index as u32;
+        if cell.score < 0 {
+            self.lost.put(cell.dist, rank)?;
+            return Ok(());
+        }
+        self.won.put(cell.dist, rank)?;
+        Ok(())
+    }
+
+    /// Hears the note of this code, of a board that may be known to be settled.
+    #[inline(always)]
+    fn hear_next(&mut self, kind: Kind, code: u32, settled: bool) -> Result<(), AllocError>
+        requires code { IsCodeFor self.old code }
+        requires settled { IsTrue settled → is_settled (stored_at self.old (code / 8)).mark ≡ true }
+        requires opened { self.old.gain ≤ self.old.level }
+        requires near { self.old.wave < 2 ^ 32 - 1 }
+        ensures range { 1 ≤ self.old.gain }
+        ensures settles { OnOk result (Settles self.old self.new) }
+        ensures passed { OnOk result (StaysPassed self.old self.new) }
+        ensures hears { OnOk result (HearsNote self.old self.new (code / 8) (code % 8) kind) }
+    {
+        if settled {
+            self.hear_settled(kind, code);
+            return Ok(());
+        }
+        self.hear_one(kind, code)?;
+        Ok(())
+    }
+
+    /// Hears the note of this code, of a board that is settled: it joins no fresh ones.
+    #[inline(always)]
+    fn hear_settled(&mut self, kind: Kind, code: u32)
+        requires code { IsCodeFor self.old code }
+        requires settled { is_settled (stored_at self.old (code / 8)).mark ≡ true }
+        requires opened { self.old.gain ≤ self.old.level }
+        requires near { self.old.wave < 2 ^ 32 - 1 }
+        ensures range { 1 ≤ self.old.gain }
+        ensures settles { Settles self.old self.new }
+        ensures passed { StaysPassed self.old self.new }
+        ensures hears { HearsNote self.old self.new (code / 8) (code % 8) kind }
+    {
+        let index = (code / 8 - self.place.start) as usize;
+        let mut cell = self.cells[index];
+        cell.hear(self.place, (code % 8) as u8, kind);
+        self.put_settled(index, cell);
+    }
+
+    /// Replaces the cell at this index, of a board that is settled.
+    #[inline(always)]
+    fn put_settled(&mut self, index: usize, cell: Cell)
+        requires can { CanPut self.old (self.old.start + index) cell }
+        requires settled { is_settled (stored_at self.old (self.old.start + index)).mark ≡ true }
+        ensures settles { Settles self.old self.new }
+        ensures cells { self.new.cells ≡ slice_set self.old.cells index cell }
+        ensures passed { StaysPassed self.old self.new }
+    {
+        self.cells[index] = cell;
+    }
+
+    /// Hears the note of this code.
+    #[inline(always)]
+    fn hear_one(&mut self, kind: Kind, code: u32) -> Result<(), AllocError>
+        requires code { IsCodeFor self.old code }
+        requires opened { self.old.gain ≤ self.old.level }
+        requires near { self.old.wave < 2 ^ 32 - 1 }
+        ensures range { 1 ≤ self.old.gain }
+        ensures settles { OnOk result (Settles self.old self.new) }
+        ensures passed { OnOk result (StaysPassed self.old self.new) }
+        ensures hears { OnOk result (HearsNote self.old self.new (code / 8) (code % 8) kind) }
+    {
+        let index = (code / 8 - self.place.start) as usize;
+        let mut cell = self.cells[index];
+        cell.hear(self.place, (code % 8) as u8, kind);
+        self.put(index, cell)?;
+        Ok(())
+    }
+}
+
+/// For each of these boards of a level the gain whose opening may settle it, with no gain open. It takes a
+/// byte a board, and is refused only if memory runs out.
+fn awaited(alloc: Global, level: u8, cells: &[Cell]) -> Result<Vec<u8>, AllocError>
+    requires low { level ≤ 24 }
+    requires fit { All (λ c. FitsBy c.mark level (level + 1) c.score c.dist) cells.now }
+    ensures { IfOk result (λ awaits. TellAwaited level cells.now awaits.items) }
+{
+    let mut awaits = vec![in alloc; NO_GAIN; cells.len()]?;
+    for index in 0..cells.len() {
+        awaits[index] = cells[index].awaited_gain(level).unwrap_or(NO_GAIN);
+    }
+    Ok(awaits)
+}
