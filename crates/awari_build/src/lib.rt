@@ -1,8 +1,9 @@
-//! The next level of a shelf, built whole, by one part or by several owners in threads.
+//! The next level of a shelf, built whole: by one part, in segments that threads share, or by several
+//! owners in threads.
 //!
 //! The level is proved right, and to be the one with the lowest plans, so nothing verifies it when the
-//! program runs. [`build_alone`] always returns. Nothing proves that [`build_level`] does: its contract
-//! says what holds if it returns.
+//! program runs. [`build_alone`] and [`build_together`] always return. Nothing proves that
+//! [`build_level`] does: its contract says what holds if it returns.
 //!
 //! A shelf of as many levels as are asked for, each built on those below it, in
 //! `crates/awari_owner_tests/src/shelves.rt`:
@@ -20,8 +21,10 @@
 mod alone;
 mod faults;
 mod owned;
+mod together;
 
 pub use alone::{build_alone, build_alone_with_progress};
 pub use awari_block::{MOST_OWNERS, MOST_ROOM, MOST_SWEEPS, Pace};
 pub use faults::BuildFault;
 pub use owned::{build_level, build_level_with_progress};
+pub use together::{build_together, build_together_with_progress};

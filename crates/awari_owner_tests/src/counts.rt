@@ -3,12 +3,14 @@
 
 use crate::expect::expect_equal;
 use crate::shelves::levels_below;
-use awari_build::{Pace, build_alone, build_level};
+use awari_build::{Pace, build_alone, build_level, build_together};
 use awari_phase::Open;
 use awari_table::{Level, Shelf};
+use std::alloc::Global;
 use std::process::Abort;
 use std::sync::Arc;
 use std::test::Fail;
+use std::thread::Threads;
 
 /// Boards won, even and lost, and the limit, of levels 0 to 13.
 const COUNTS: [(usize, usize, usize, u32); 14] = [
@@ -45,6 +47,31 @@ fn one_part_builds_levels_0_to_13(rt: HostRuntime) -> Result<(), Fail> {
         shelf.push(Arc::new(rt.alloc(), level)?);
     }
     Ok(())
+}
+
+/// Levels 0 to 8, each built by so many threads together. Level 8 has 18 segments.
+fn expect_built_together(
+    rt: &(impl Abort + Threads + Sync),
+    alloc: Global,
+    threads: usize,
+) -> Result<(), Fail> {
+    let mut shelf = Shelf::empty();
+    for counts in &COUNTS[..9] {
+        let level = build_together(rt, alloc, &shelf, threads)?;
+        expect_counts(rt, &level, *counts);
+        shelf.push(Arc::new(alloc, level)?);
+    }
+    Ok(())
+}
+
+#[test]
+fn one_thread_builds_levels_0_to_8(rt: HostRuntime) -> Result<(), Fail> {
+    expect_built_together(&rt, rt.alloc(), 1)
+}
+
+#[test]
+fn three_threads_build_levels_0_to_8_together(rt: HostRuntime) -> Result<(), Fail> {
+    expect_built_together(&rt, rt.alloc(), 3)
 }
 
 #[test]

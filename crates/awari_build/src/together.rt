@@ -1,0 +1,202 @@
+//! A level built in segments, which threads scan, open and spread side by side.
+
+ghost use Rattle.std.specs.Prelude.{◌≡◌, ◌≤◌, ◌<◌, ◌+◌, ◌-◌, ◌^◌, ◌⊎◌, ◌↔◌, ◌++◌, ◌∷◌, [], ℕ, ℤ, List, All, length, IfOk, IfErr, Err};
+ghost use Rattle.awari_block.specs.Part.{IsClosed};
+ghost use Rattle.awari_build.specs.BuildFault.{IsStopped};
+ghost use Rattle.awari_owner.specs.Level.{AreHeard, AreWhole};
+ghost use Rattle.awari_play.specs.Least.{IsPlannedLowest};
+ghost use Rattle.awari_table.specs.Images.{table_of};
+ghost use Rattle.awari_table.specs.Shelves.{Consistent, IsShelf};
+ghost use Rattle.awari_table.specs.declared.TheConstants.{HIGHEST_LEVEL};
+ghost use Rattle.awari_theory.specs.Truth.{TellsTruth};
+ghost use Rattle.awari_waves.specs.Each.{AreFrom, AreIdle, HasDue};
+
+use crate::faults::{BuildFault, expect_wanted};
+use awari_block::ClosedPart;
+use awari_owner::{distances_fit, one_part_hears_all};
+use awari_phase::{Progress, Silent};
+use awari_plan::{finish_closed, finish_parallel};
+use awari_rank::size;
+use awari_table::{HIGHEST_LEVEL, Image, Level, Shelf};
+use awari_waves::Analysis;
+use std::alloc::{AllocError, Global};
+use std::thread::Threads;
+
+/// The shelf's next level, built by so many threads at most. It always returns. Refused as 51
+/// `TooHigh` if the shelf has all levels, and as 53 `Memory` if memory runs out. It takes memory for
+/// nine bytes a board, for the boards that are settled and not spread yet and their notes, and for
+/// the entries.
+///
+/// The level is proved right, so nothing verifies it when the program runs.
+pub fn build_together<R: Threads + Sync>(
+    rt: &R,
+    alloc: Global,
+    shelf: &Shelf,
+    threads: usize,
+) -> Result<Level, BuildFault>
+    ensures consistent { IfOk result (λ level. Consistent shelf.now level) }
+    ensures meaning { IfOk result (λ level. TellsTruth (shelf.now ++ level ∷ [])) }
+
+    // Its plans are the lowest, so there is one level that it may be, that of `build_alone`.
+    ensures planned { IfOk result (IsPlannedLowest shelf.now) }
+    ensures too_high { (result ≡ Err BuildFault.TooHigh) ↔ (HIGHEST_LEVEL < length shelf.now) }
+    ensures fault { IfErr result (λ fault. (fault ≡ BuildFault.TooHigh) ⊎ (fault ≡ BuildFault.Memory)) }
+{
+    build_together_with_progress(rt, alloc, shelf, threads, &mut Silent)
+}
+
+/// Does what `build_together` does, and tells `progress` how far it is: when the level begins, at each
+/// gain and distance how many boards are settled, and when the entries are begun. It asks at each of
+/// these whether the level is still wanted, and is refused as 52 `Phase` with 43 `Stopped` if it is
+/// not.
+pub fn build_together_with_progress<R: Threads + Sync, P: Progress>(
+    rt: &R,
+    alloc: Global,
+    shelf: &Shelf,
+    threads: usize,
+    progress: &mut P,
+) -> Result<Level, BuildFault>
+    ensures consistent { IfOk result (λ level. Consistent shelf.now level) }
+    ensures meaning { IfOk result (λ level. TellsTruth (shelf.now ++ level ∷ [])) }
+
+    // Its plans are the lowest, so there is one level that it may be, that of `build_alone`.
+    ensures planned { IfOk result (IsPlannedLowest shelf.now) }
+    ensures too_high { (result ≡ Err BuildFault.TooHigh) ↔ (HIGHEST_LEVEL < length shelf.now) }
+    ensures fault { IfErr result (λ fault. (fault ≡ BuildFault.TooHigh) ⊎ ((fault ≡ BuildFault.Memory) ⊎ IsStopped P.stops fault)) }
+{
+    if shelf.levels() > HIGHEST_LEVEL {
+        return Err(BuildFault::TooHigh);
+    }
+    let number = shelf.levels();
+    progress.begin(usize::from(number), size(number) as usize);
+    let analysis = settled_level(rt, alloc, shelf, threads, progress)?;
+    expect_wanted(progress)?;
+    progress.plan();
+    level_of(rt, alloc, shelf, threads, analysis)
+}
+
+/// The level of an analysis whose gains are all closed.
+fn level_of<R: Threads + Sync>(
+    rt: &R,
+    alloc: Global,
+    shelf: &Shelf,
+    threads: usize,
+    analysis: Analysis,
+) -> Result<Level, BuildFault>
+    requires shelf { IsShelf shelf.now }
+    requires low { length shelf.now ≤ HIGHEST_LEVEL }
+    requires level { analysis.level ≡ length shelf.now }
+    requires closed { (analysis.gain ≡ 1) × AreIdle analysis.parts }
+    requires heard { AreHeard (table_of shelf.now).value analysis.parts }
+    ensures consistent { IfOk result (λ level. Consistent shelf.now level) }
+    ensures meaning { IfOk result (λ level. TellsTruth (shelf.now ++ level ∷ [])) }
+    ensures planned { IfOk result (IsPlannedLowest shelf.now) }
+    ensures memory { IfErr result (λ fault. fault ≡ BuildFault.Memory) }
+{
+    let parts = analysis.close(alloc)?;
+    let image = finished(rt, alloc, shelf, threads, parts)?;
+    Ok(Level::new(image))
+}
+
+/// The image of closed parts, made by one thread or by as many as there are processors.
+fn finished<R: Threads + Sync>(
+    rt: &R,
+    alloc: Global,
+    shelf: &Shelf,
+    threads: usize,
+    parts: Vec<ClosedPart>,
+) -> Result<Image, AllocError>
+    requires low { length shelf.now ≤ HIGHEST_LEVEL }
+    requires whole { AreWhole (length shelf.now) parts.items }
+    ensures planned { All IsClosed parts.items → AreHeard (table_of shelf.now).value parts.items → IfOk result (IsPlannedLowest shelf.now) }
+    ensures consistent { All IsClosed parts.items → AreHeard (table_of shelf.now).value parts.items → IfOk result (Consistent shelf.now) }
+{
+    if threads < 2 {
+        return finish_closed(alloc, shelf, parts);
+    }
+    finish_parallel(rt, alloc, shelf, parts)
+}
+
+/// The shelf's next level, with all gains closed.
+fn settled_level<R: Threads + Sync, P: Progress>(
+    rt: &R,
+    alloc: Global,
+    shelf: &Shelf,
+    threads: usize,
+    progress: &mut P,
+) -> Result<Analysis, BuildFault>
+    requires low { length shelf.now ≤ HIGHEST_LEVEL }
+    ensures level { IfOk result (λ all. all.level ≡ length shelf.now) }
+    ensures closed { IfOk result (λ all. (all.gain ≡ 1) × AreIdle all.parts) }
+    ensures heard { IfOk result (λ all. AreHeard (table_of shelf.now).value all.parts) }
+    ensures refused { IfErr result (λ fault. (fault ≡ BuildFault.Memory) ⊎ IsStopped P.stops fault) }
+{
+    expect_wanted(progress)?;
+    let mut analysis = Analysis::scan(rt, alloc, shelf, threads)?;
+    while analysis.gain() > 1 {
+        let opened = analysis.open_gain(rt)?;
+        tell(&opened, progress)?;
+        analysis = spread_all(rt, opened, progress)?;
+    }
+    Ok(analysis)
+}
+
+/// Tells `progress` which gain is open and how many boards were spread, and asks it whether the level
+/// is still wanted.
+fn tell<P: Progress>(analysis: &Analysis, progress: &mut P) -> Result<(), BuildFault>
+    ensures { IfErr result (IsStopped P.stops) }
+{
+    progress.settled(usize::from(analysis.gain()), analysis.boards_spread());
+    expect_wanted(progress)
+}
+
+/// Spreads all boards that are settled at the open gain, the nearest first. `progress` hears of each
+/// greater distance, and may stop there.
+fn spread_all<R: Threads + Sync, P: Progress>(
+    rt: &R,
+    mut analysis: Analysis,
+    progress: &mut P,
+) -> Result<Analysis, BuildFault>
+    requires opened { analysis.gain ≤ analysis.level }
+    requires begun { analysis.wave ≡ 0 }
+    requires heard { (value : List ℕ → ℤ) × AreHeard value analysis.parts }
+    ensures same { IfOk result (λ all. (all.level ≡ analysis.level) × (all.gain ≡ analysis.gain)) }
+    ensures idle { IfOk result (λ all. AreIdle all.parts) }
+    ensures heard { IfOk result (λ all. (value : List ℕ → ℤ) → AreHeard value analysis.parts → AreHeard value all.parts) }
+    ensures refused { IfErr result (λ fault. (fault ≡ BuildFault.Memory) ⊎ IsStopped P.stops fault) }
+{
+    let mut from: u32 = 0;
+    while let Some(dist) = analysis.due(from) {
+        if analysis.wave() < dist {
+            tell(&analysis, progress)?;
+        }
+        analysis = spread_nearest(rt, analysis, dist)?;
+        from = dist + 1;
+    }
+    Ok(analysis)
+}
+
+/// Spreads the boards of this distance, the least of a fresh board.
+fn spread_nearest<R: Threads + Sync>(
+    rt: &R,
+    analysis: Analysis,
+    dist: u32,
+) -> Result<Analysis, AllocError>
+    requires opened { analysis.gain ≤ analysis.level }
+    requires timely { analysis.wave ≤ dist }
+    requires far { AreFrom dist analysis.parts }
+    requires due { HasDue dist analysis.parts }
+    requires whole { AreWhole analysis.level analysis.parts × (analysis.level ≤ 24) }
+    requires heard { (value : List ℕ → ℤ) × AreHeard value analysis.parts }
+    ensures near { dist < 2 ^ 32 - 1 }
+    ensures same { IfOk result (λ all. (all.level ≡ analysis.level) × (all.gain ≡ analysis.gain)) }
+    ensures wave { IfOk result (λ all. all.wave ≡ dist) }
+    ensures heard { IfOk result (λ all. (value : List ℕ → ℤ) → AreHeard value analysis.parts → AreHeard value all.parts) }
+    ensures farther { IfOk result (λ all. AreFrom (dist + 1) all.parts) }
+{
+    // Ghost: these bound dist + 1.
+    distances_fit();
+    one_part_hears_all();
+    let after = analysis.spread(rt, dist)?;
+    Ok(after)
+}
