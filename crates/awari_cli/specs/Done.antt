@@ -21,7 +21,7 @@ abbrev pub PrintsFor : Request → Option (List ℕ) → Option (List ℕ) → O
 PrintsFor Check input before after = PrintsYes input before after
 PrintsFor (Move board pit) input before after = PrintsMove board.now pit before after
 PrintsFor (Judge board limit moves) input before after = PrintsJudgement board.now limit moves.now before after
-PrintsFor (Build top folder pace progress) input before after = PrintsBuild folder top before after
+PrintsFor (Build top folder threads pace progress) input before after = PrintsBuild folder top before after
 PrintsFor (Verify folder) input before after = PrintsFolder nothing_known before after
 PrintsFor (Text folder level) input before after = PrintsText nothing_known level before after
 PrintsFor (Migrate from to) input before after = PrintsMigrated nothing_known nothing_known nothing_known before after

@@ -13,7 +13,7 @@ ghost use Rattle.awari_cli.specs.Building.{IsToldOf, KeepsLevels, LeavesFiles, P
 ghost use Rattle.awari_cli.specs.declared.building.BuildingFault.TheVariants as building_fault;
 
 use awari_answers::{Refused, print, refuse};
-use awari_build::{BuildFault, Pace, build_alone_with_progress, build_level_with_progress};
+use awari_build::{BuildFault, Pace, build_level_with_progress, build_together_with_progress};
 use awari_folder::{Folder, FolderFault, load_parallel, save_or_keep};
 use awari_phase::{Open, Progress};
 use awari_play::lowest_plans_stay;
@@ -30,6 +30,8 @@ use std::thread::Threads;
 pub struct Builder<'a, T, P> {
     pub rt: &'a T,
     pub alloc: Global,
+    /// How many threads build a level together if it has no owners.
+    pub threads: usize,
     pub pace: Pace,
     pub progress: &'a mut P,
 }
@@ -277,7 +279,7 @@ fn save_next<T: Threads + Wait + Sync, P: Progress, F: Folder>(
 }
 
 /// The level above the shelf, in the `Arc` that a shelf holds. It is built by the owners of the pace,
-/// or by one part if there are none.
+/// or by all threads together if there are none.
 fn built_level<T: Threads + Wait + Sync, P: Progress>(
     builder: &mut Builder<'_, T, P>,
     shelf: &Shelf,
@@ -287,7 +289,7 @@ fn built_level<T: Threads + Wait + Sync, P: Progress>(
 {
     let progress = &mut *builder.progress;
     let level = if builder.pace.owners == 0 {
-        build_alone_with_progress(builder.alloc, shelf, progress)?
+        build_together_with_progress(builder.rt, builder.alloc, shelf, builder.threads, progress)?
     } else {
         build_level_with_progress(
             builder.rt,

@@ -15,7 +15,8 @@
 //!         let mut builder = Builder {
 //!             rt,
 //!             alloc: rt.alloc(),
-//!             pace: ALONE,
+//!             threads: 2,
+//!             pace: OWNERLESS,
 //!             progress,
 //!         };
 //!         run_build_in(&mut builder, folder, top, output)

@@ -1,6 +1,6 @@
 //! The commands of the program, over its words and its streams.
 
-ghost use Rattle.std.specs.Prelude.{◌≡◌, ◌≢◌, ◌≤◌, [], Some, map};
+ghost use Rattle.std.specs.Prelude.{◌≡◌, ◌≢◌, ◌≤◌, [], Some, map, ℕ};
 ghost use Rattle.std.specs.Io.KnownBytes.{Keeps};
 ghost use Rattle.awari_check.specs.Answer.{PrintsYes};
 ghost use Rattle.awari_cli.specs.Building.{PrintsBuild};
@@ -27,6 +27,7 @@ use awari_folder::HostFolder;
 use awari_phase::{Progress, Silent};
 use awari_table::Counted;
 use awari_words::{Request, request_of};
+use rayon::current_num_threads;
 use std::alloc::Global;
 use std::convert::AsStr;
 use std::fs::{self, File};
@@ -98,17 +99,19 @@ fn run_request<
         Request::Build {
             top,
             folder,
+            threads,
             pace,
             progress: false,
-        } => run_build_by(rt, alloc, top, folder, pace, &mut Silent, writer),
+        } => run_build_by(rt, alloc, top, folder, threads, pace, &mut Silent, writer),
         Request::Build {
             top,
             folder,
+            threads,
             pace,
             progress: true,
         } => {
             let mut lines = ProgressLines::new(rt, errors);
-            run_build_by(rt, alloc, top, folder, pace, &mut lines, writer)
+            run_build_by(rt, alloc, top, folder, threads, pace, &mut lines, writer)
         }
         Request::Verify { folder } => {
             let mut folder = folder_to_read(rt, alloc, folder, errors);
@@ -146,12 +149,23 @@ fn run_request<
     }
 }
 
+/// How many threads build together: as many as were asked for, or else one for each processor.
+fn threads_of(rt: &impl Threads, asked: Option<u8>) -> usize
+    ensures { (n : ℕ) → asked ≡ Some n → result ≡ n }
+{
+    match asked {
+        Some(threads) => usize::from(threads),
+        None => current_num_threads(rt),
+    }
+}
+
 /// Builds the levels up to `top`, in this folder if there is one.
 fn run_build_by<T: Files<File = File> + Threads + Wait + Sync, P: Progress, W: Write>(
     rt: &T,
     alloc: Global,
     top: u8,
     folder: Option<&str>,
+    threads: Option<u8>,
     pace: Pace,
     progress: &mut P,
     writer: &mut W,
@@ -162,6 +176,7 @@ fn run_build_by<T: Files<File = File> + Threads + Wait + Sync, P: Progress, W: W
     let mut builder = Builder {
         rt,
         alloc,
+        threads: threads_of(rt, threads),
         pace,
         progress,
     };

@@ -11,12 +11,13 @@ ghost use Rattle.awari_cli.specs.declared.serving.ServingFault.TheVariants as se
 
 use crate::lasting::{WhileServed, lasting_service};
 use awari_answers::refuse;
-use awari_build::{BuildFault, Pace, build_alone_with_progress, build_level_with_progress};
+use awari_build::{BuildFault, Pace, build_level_with_progress, build_together_with_progress};
 use awari_desk::{DeskFault, Publisher, Reader, ServeFault, desk, serve};
 use awari_folder::{Folder, FolderFault, load_parallel};
 use awari_phase::{Open, PhaseFault};
 use awari_table::{Counted, Level, Shelf};
 use core::mem::replace_with;
+use rayon::current_num_threads;
 use std::alloc::{AllocError, AllocFailed, Global};
 use std::io::{Read, Write};
 use std::sync::{Arc, Wait};
@@ -127,9 +128,9 @@ struct Grower<T> {
 }
 
 /// Answers the lines of the reader by the levels of the folder, and by the levels above them up to
-/// `top`, which a thread builds and publishes meanwhile. It has `owners` owners, or builds by one
-/// part if that is 0. Nothing is saved. A refusal is printed after the answers, unless these could
-/// not be written.
+/// `top`, which a thread builds and publishes meanwhile. It has `owners` owners, or builds by all
+/// processors together if that is 0. Nothing is saved. A refusal is printed after the answers, unless
+/// these could not be written.
 ///
 /// Once nobody can ask any more, the thread stops at the next gain, distance or round, and that is no
 /// refusal. So nothing is promised of the levels above the folder's but that each answer is right.
@@ -315,7 +316,7 @@ fn grow_by_one<T: Threads + Wait + Sync + Drop>(
     Ok(())
 }
 
-/// The level above the book, built by the owners, or by one part if there are none.
+/// The level above the book, built by the owners, or by all processors together if there are none.
 fn next_level<T: Threads + Wait + Sync>(
     grower: &mut Grower<T>,
     book: &Shelf,
@@ -324,7 +325,8 @@ fn next_level<T: Threads + Wait + Sync>(
 {
     let wanted = &mut grower.wanted;
     let level = if grower.owners == 0 {
-        build_alone_with_progress(grower.alloc, book, wanted)?
+        let threads = current_num_threads(&grower.rt);
+        build_together_with_progress(&grower.rt, grower.alloc, book, threads, wanted)?
     } else {
         let pace = Pace::usual(grower.owners);
         build_level_with_progress(&grower.rt, grower.alloc, book, pace, &Open, wanted)?

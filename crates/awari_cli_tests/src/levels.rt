@@ -1,6 +1,7 @@
 //! The commands `build`, `verify`, `ask` and `line`.
 
 use crate::commands::{Line, NOWHERE, expect_lines, expect_run};
+use crate::migrations::LEVELS_0_TO_6;
 use std::alloc::Global;
 use std::fs::File;
 use std::process::Abort;
@@ -103,8 +104,22 @@ fn levels_are_built_by_owners(rt: HostRuntime) {
     expect_lines(&rt, rt.alloc(), &OWNERS);
 }
 
-/// Options of a pace, and a number that each doesn't take.
-const NO_PACES: [Line; 6] = [
+/// Builds by threads together: by one, by three, and by one for each processor.
+const TOGETHER: [Line; 3] = [
+    (&["awari", "build", "6", "--threads", "1"], LEVELS_0_TO_6, 0),
+    (&["awari", "build", "6", "--threads", "3"], LEVELS_0_TO_6, 0),
+    (&["awari", "build", "6"], LEVELS_0_TO_6, 0),
+];
+
+#[test]
+fn levels_are_built_by_threads_together(rt: HostRuntime) {
+    expect_lines(&rt, rt.alloc(), &TOGETHER);
+}
+
+/// Options with numbers, and a number that each doesn't take.
+const NO_PACES: [Line; 8] = [
+    (&["awari", "build", "2", "--threads", "0"], "", 2),
+    (&["awari", "build", "2", "--threads", "65"], "", 2),
     (&["awari", "build", "2", "--owners", "17"], "", 2),
     (&["awari", "build", "2", "--owners", "x"], "", 2),
     (&["awari", "build", "2", "--room", "0"], "", 2),

@@ -46,7 +46,7 @@ fn expect_same(
     Ok(())
 }
 
-const LEVELS_0_TO_6: &str = "\
+pub(crate) const LEVELS_0_TO_6: &str = "\
 level 0 boards 1 won 0 even 1 lost 0 limit 0
 level 1 boards 12 won 5 even 0 lost 7 limit 1
 level 2 boards 78 won 24 even 13 lost 41 limit 9

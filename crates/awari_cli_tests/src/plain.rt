@@ -15,8 +15,8 @@ use std::sync::Wait;
 use std::thread::Threads;
 use std::time::Clock;
 
-/// A build by one part.
-const ALONE: Pace = Pace {
+/// A build without owners.
+const OWNERLESS: Pace = Pace {
     owners: 0,
     room: 64,
     sweeps: 1000,
@@ -42,7 +42,7 @@ pub(crate) fn has_draft(folder: &MemoryFolder) -> bool {
     folder.has_draft()
 }
 
-/// Builds up to level 1 in the folder by one part, and gives the status.
+/// Builds up to level 1 in the folder without owners, and gives the status.
 pub(crate) fn build(
     rt: &(impl AllocGlobal + Threads + Wait + Sync),
     folder: &mut MemoryFolder,
@@ -51,7 +51,7 @@ pub(crate) fn build(
     build_to(rt, folder, 1, &mut Silent, output)
 }
 
-/// Builds up to this level in the folder by one part, and gives the status.
+/// Builds up to this level in the folder by two threads together, and gives the status.
 fn build_to(
     rt: &(impl AllocGlobal + Threads + Wait + Sync),
     folder: &mut MemoryFolder,
@@ -62,13 +62,14 @@ fn build_to(
     let mut builder = Builder {
         rt,
         alloc: rt.alloc(),
-        pace: ALONE,
+        threads: 2,
+        pace: OWNERLESS,
         progress,
     };
     run_build_in(&mut builder, folder, top, output)
 }
 
-/// Builds up to this level by one part, tells on this stream how far it is, and gives the status.
+/// Builds up to this level without owners, tells on this stream how far it is, and gives the status.
 pub(crate) fn build_telling(
     rt: &(impl AllocGlobal + Threads + Wait + Sync),
     clock: &impl Clock,

@@ -78,7 +78,7 @@ level 2 gain 1 settled 65 of 78 seconds 1.5
 level 2 plans of 78 seconds 1.6
 ";
 
-/// Builds by one part, and compares what is told by this clock.
+/// Builds without owners, and compares what is told by this clock.
 fn expect_told(
     rt: &(impl Abort + AllocGlobal + Threads + Wait + Sync),
     clock: &impl Clock,
@@ -125,12 +125,12 @@ fn tells(
     !errors.is_empty()
 }
 
-/// The lines on the output are the same, by one part and by owners.
+/// The lines on the output are the same, without owners and by them.
 #[test]
 fn progress_is_told_where_it_is_asked_for(rt: HostRuntime) {
     expect(&rt, "silent", !tells(&rt, &["awari", "build", "2"]));
     let words = ["awari", "build", "2", "--progress"];
-    expect(&rt, "one part", tells(&rt, words.as_slice()));
+    expect(&rt, "no owners", tells(&rt, words.as_slice()));
     let words = ["awari", "build", "--progress", "2", "--owners", "2"];
     expect(&rt, "two owners", tells(&rt, words.as_slice()));
 }

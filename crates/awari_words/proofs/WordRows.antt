@@ -33,6 +33,15 @@ pub progress_row : named (codes "awari" ∷ codes "build" ∷ codes "12" ∷ cod
 unfolding clap_on_literals
 progress_row = refl
 
+pub threads_row : named (codes "awari" ∷ codes "build" ∷ codes "--threads" ∷ codes "3" ∷ codes "12" ∷ [])
+    ≡ Some (
+      codes "build",
+      (codes "threads", codes "3" ∷ []) ∷ (codes "TOP", codes "12" ∷ []) ∷ (codes "progress", codes "false" ∷ []) ∷ (codes "owners", codes "0" ∷ [])
+          ∷ (codes "room", codes "64" ∷ []) ∷ (codes "sweeps", codes "1000" ∷ []) ∷ [],
+    )
+unfolding clap_on_literals
+threads_row = refl
+
 pub hyphen_row : named (codes "awari" ∷ codes "verify" ∷ codes "--" ∷ codes "-levels" ∷ [])
     ≡ Some (codes "verify", (codes "FOLDER", codes "-levels" ∷ []) ∷ [])
 unfolding clap_on_literals
@@ -57,3 +66,15 @@ high_row = refl
 pub highest_row : fault_of awari_commands (codes "awari" ∷ codes "build" ∷ codes "24" ∷ []) ≡ []
 unfolding clap_on_literals
 highest_row = refl
+
+pub no_threads_row : fault_of awari_commands (codes "awari" ∷ codes "build" ∷ codes "12" ∷ codes "--threads" ∷ codes "0" ∷ []) ≡ ValueValidation ∷ []
+unfolding clap_on_literals
+no_threads_row = refl
+
+pub many_threads_row : fault_of awari_commands (codes "awari" ∷ codes "build" ∷ codes "12" ∷ codes "--threads" ∷ codes "65" ∷ []) ≡ ValueValidation ∷ []
+unfolding clap_on_literals
+many_threads_row = refl
+
+pub most_threads_row : fault_of awari_commands (codes "awari" ∷ codes "build" ∷ codes "12" ∷ codes "--threads" ∷ codes "64" ∷ []) ≡ []
+unfolding clap_on_literals
+most_threads_row = refl

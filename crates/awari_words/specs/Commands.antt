@@ -52,13 +52,17 @@ move_command = command (codes "move") (board ∷ number (codes "PIT") (Signed (p
 abbrev pub judge_command : Shape
 judge_command = command (codes "judge") (board ∷ number (codes "LIMIT") (Signed (pos 0) (pos 4294967295)) ∷ new_rule (codes "MOVES") ∷ [])
 
+-- how many threads build a level without owners
+abbrev pub threads : Rule
+threads = record (option (codes "threads")) { parser = Some (Unsigned 1 64) }
+
 -- up to 16 owners, 1 to 256 batches a line, 1 to 1000 sweeps a round
 abbrev pub pace : List Rule
 pace = number_option (codes "owners") (Unsigned 0 16) (codes "0") ∷ number_option (codes "room") (Unsigned 1 256) (codes "64")
     ∷ number_option (codes "sweeps") (Unsigned 1 1000) (codes "1000") ∷ []
 
 abbrev pub build_command : Shape
-build_command = command (codes "build") (top ∷ option (codes "folder") ∷ flag (codes "progress") ∷ pace)
+build_command = command (codes "build") (top ∷ option (codes "folder") ∷ flag (codes "progress") ∷ threads ∷ pace)
 
 abbrev pub verify_command : Shape
 verify_command = command (codes "verify") (folder ∷ [])

@@ -27,6 +27,7 @@ ghost use Rattle.awari_words.specs.Commands.{
   play_commands,
   serve_command,
   text_command,
+  threads,
   top,
   verify_command,
   word,
@@ -42,6 +43,9 @@ use awari_table::HIGHEST_LEVEL;
 use clap::builder::ValueParser;
 use clap::{Arg, ArgAction, Command, value_parser};
 use std::alloc::{AllocError, Global};
+
+/// The most threads that may be asked for.
+const MOST_THREADS: u64 = 64;
 
 /// The program with all its commands.
 pub(crate) fn commands<'a>(alloc: Global) -> Result<Command<'a>, AllocError>
@@ -197,6 +201,7 @@ fn build_command<'a>(alloc: Global) -> Result<Command<'a>, AllocError>
     let command = with_word(command, top(alloc));
     let command = with_word(command, start_folder(alloc));
     let command = with_word(command, progress(alloc));
+    let command = with_word(command, threads(alloc));
     with_pace(alloc, command)
 }
 
@@ -227,6 +232,16 @@ fn progress<'a>(alloc: Global) -> Arg<'a>
         .help("Tell on the error stream how far a level is")
 }
 
+fn threads<'a>(alloc: Global) -> Arg<'a>
+    ensures { IsArg result threads }
+{
+    Arg::new(alloc, "threads")
+        .long("threads")
+        .value_name("N")
+        .value_parser(ValueParser::unsigned(1, MOST_THREADS))
+        .help("Threads that build a level without owners, 1 to 64")
+}
+
 /// The command with the options of a pace.
 fn with_pace<'a>(
     alloc: Global,
@@ -247,7 +262,7 @@ fn owners<'a>(alloc: Global) -> Arg<'a>
         .value_name("W")
         .value_parser(ValueParser::unsigned(0, u64::from(MOST_OWNERS)))
         .default_value("0")
-        .help("How many threads share a level, 0 to 16")
+        .help("Owners, 0 to 16; 0: all threads together")
 }
 
 fn room<'a>(alloc: Global) -> Arg<'a>
@@ -410,7 +425,7 @@ fn served_owners<'a>(alloc: Global) -> Arg<'a>
     Arg::new(alloc, "OWNERS")
         .required(true)
         .value_parser(ValueParser::unsigned(0, u64::from(MOST_OWNERS)))
-        .help("How many threads share a level, 0 to 16; with 0 one part has it")
+        .help("Owners of a level, 0 to 16; with 0 all threads build it together")
 }
 
 fn folder<'a>(alloc: Global) -> Arg<'a>

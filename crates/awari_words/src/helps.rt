@@ -56,11 +56,10 @@ It prints a line for each level that it builds, the lowest first:
 
     level L boards S won A even B lost C limit K
 
-S boards, of which the mover wins A, holds B even and loses C; K is the greatest
-distance. A folder's levels are verified first, and no file there is replaced.
-One builder at a time may save there. W, R and S change no level, only how soon
-it comes. The status is 0, or 1 for a refusal; the lines before it stand.
-docs/MANUAL.md says what to do then, and how much memory and time a level takes.";
+Of S boards the mover wins A, holds B even and loses C; K is the greatest
+distance. A folder's levels are verified first, and no file is replaced. One
+builder at a time may save there. N, W, R and S change no level. Without N each
+processor has a thread. The status is 0, or 1 for a refusal; see docs/MANUAL.md.";
 
 pub const VERIFY_HELP: &str = "\
 It prints a line for each level, in order, and one for them all:

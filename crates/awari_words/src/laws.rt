@@ -37,15 +37,26 @@ pub fn worked_words()
               ∷ (codes "room", codes "64" ∷ []) ∷ (codes "sweeps", codes "1000" ∷ []) ∷ [],
         ) }
 
+    // An option that has no default is not there if it isn't given.
+    ensures threads { named (codes "awari" ∷ codes "build" ∷ codes "--threads" ∷ codes "3" ∷ codes "12" ∷ [])
+        ≡ Some (
+          codes "build",
+          (codes "threads", codes "3" ∷ []) ∷ (codes "TOP", codes "12" ∷ []) ∷ (codes "progress", codes "false" ∷ []) ∷ (codes "owners", codes "0" ∷ [])
+              ∷ (codes "room", codes "64" ∷ []) ∷ (codes "sweeps", codes "1000" ∷ []) ∷ [],
+        ) }
+
     // Behind `--` a word may begin with a hyphen.
     ensures hyphen { named (codes "awari" ∷ codes "verify" ∷ codes "--" ∷ codes "-levels" ∷ [])
         ≡ Some (codes "verify", (codes "FOLDER", codes "-levels" ∷ []) ∷ []) }
 
-    // No command, a word that is none, for either of two reasons, a word too few, and a level above
-    // the highest.
+    // No command, a word that is none, for either of two reasons, a word too few, a level above the
+    // highest, and threads out of range.
     ensures nothing { fault_of awari_commands (codes "awari" ∷ []) ≡ DisplayHelpOnMissingArgumentOrSubcommand ∷ [] }
     ensures unknown { fault_of awari_commands (codes "awari" ∷ codes "solve" ∷ []) ≡ UnknownArgument ∷ InvalidSubcommand ∷ [] }
     ensures missing { fault_of awari_commands (codes "awari" ∷ codes "ask" ∷ codes "levels" ∷ []) ≡ MissingRequiredArgument ∷ [] }
     ensures high { fault_of awari_commands (codes "awari" ∷ codes "build" ∷ codes "25" ∷ []) ≡ ValueValidation ∷ [] }
     ensures highest { fault_of awari_commands (codes "awari" ∷ codes "build" ∷ codes "24" ∷ []) ≡ [] }
+    ensures no_threads { fault_of awari_commands (codes "awari" ∷ codes "build" ∷ codes "12" ∷ codes "--threads" ∷ codes "0" ∷ []) ≡ ValueValidation ∷ [] }
+    ensures many_threads { fault_of awari_commands (codes "awari" ∷ codes "build" ∷ codes "12" ∷ codes "--threads" ∷ codes "65" ∷ []) ≡ ValueValidation ∷ [] }
+    ensures most_threads { fault_of awari_commands (codes "awari" ∷ codes "build" ∷ codes "12" ∷ codes "--threads" ∷ codes "64" ∷ []) ≡ [] }
 {}

@@ -41,11 +41,12 @@ pub enum Request<'a> {
         limit: u32,
         moves: &'a str,
     },
-    /// `build TOP [--folder FOLDER] [--progress] [--owners W] [--room R] [--sweeps S]`: the levels up to
-    /// this one.
+    /// `build TOP [--folder FOLDER] [--progress] [--threads N] [--owners W] [--room R] [--sweeps S]`: the
+    /// levels up to this one.
     Build {
         top: u8,
         folder: Option<&'a str>,
+        threads: Option<u8>,
         pace: Pace,
         progress: bool,
     },
@@ -159,6 +160,7 @@ fn build_request<'a>(given: &ArgMatches<'a>) -> Option<Request<'a>>
     Some(Request::Build {
         top: byte(given, "TOP")?,
         folder: text(given, "folder"),
+        threads: byte(given, "threads"),
         pace: pace_of(given)?,
         progress: flag(given, "progress"),
     })
