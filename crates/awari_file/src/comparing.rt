@@ -1,19 +1,22 @@
 //! What a reader has, beside the file of a level.
 
-ghost use Rattle.std.specs.Prelude.{◌≡◌, ◌↔◌, ◌≤◌, ◌++◌, ℕ, List, [], length, All, IfErr, IfOk, IfSome, IsSome, IsTrue, Ok, OnErr, OnSome, Some, true};
+ghost use Rattle.std.specs.Prelude.{◌≡◌, ◌↔◌, ◌≤◌, ◌+◌, ◌++◌, ℕ, List, [], length, take, drop, All, IfErr, IfOk, IfSome, IsSome, IsTrue, Ok, OnErr, OnSome, Some, true};
 ghost use Rattle.std.specs.List.{flat_map};
 ghost use Rattle.sha2.specs.Sha256.{sha256};
 ghost use Rattle.sha2.specs.Hashers.{Holds256};
 ghost use Rattle.awari_table.specs.Counted.{inner_of, faults_of, Grew};
 ghost use Rattle.awari_table.specs.Spelling.{FitsNumbers};
 ghost use Rattle.awari_file.specs.FileText.{HasFile, entry_text, body_text, file_text};
+ghost use Rattle.awari_rank.specs.Rank.{size_of};
+ghost use Rattle.awari_file.specs.declared.sizes.TheConstants.{BUFFERED};
 ghost use Rattle.awari_file.specs.Source.{Meets};
 
 use crate::faults::FileFault;
 use crate::sizes::{BUFFER_LEN, BUFFERED};
 use crate::source::fill;
-use crate::writing::{header_of, spell};
-use awari_table::{Counted, Entry, Level};
+use crate::writing::{header_of, spell_run};
+use awari_rank::size;
+use awari_table::{Counted, Level};
 use sha2::{Digest, Sha256};
 use std::io::Read;
 
@@ -54,31 +57,57 @@ fn is_at_end<R: Read>(reader: &mut Counted<R>) -> Result<bool, FileFault>
     }
 }
 
-/// Whether the reader has these entries next. They are hashed as far as it has them.
-fn has_entries<R: Read>(
+/// Whether the reader has so many entries of a level next, from this rank on. They fit the buffer, and
+/// are hashed if it has them.
+fn has_run<R: Read>(
     reader: &mut Counted<R>,
     hasher: &mut Sha256,
-    entries: &[Entry],
+    level: &Level,
+    from: u32,
+    count: u32,
 ) -> Result<bool, FileFault>
+    requires within { from + count ≤ size_of level.now.level }
+    requires few { count ≤ BUFFERED }
     ensures met { (left : List ℕ) → R.remaining (inner_of reader.old) ≡ Some left
-        → IfOk result (λ met. Meets met left (R.remaining (inner_of reader.new)) (flat_map entry_text entries.now)) }
-    ensures holds { result ≡ Ok true → (m : List ℕ) → Holds256 hasher.old m → Holds256 hasher.new (m ++ flat_map entry_text entries.now) }
-    ensures fit { result ≡ Ok true → All FitsNumbers entries.now }
+        → IfOk result (λ met. Meets met left (R.remaining (inner_of reader.new)) (flat_map entry_text (take count (drop from level.now.entries)))) }
+    ensures holds { result ≡ Ok true → (m : List ℕ) → Holds256 hasher.old m → Holds256 hasher.new (m ++ flat_map entry_text (take count (drop from level.now.entries))) }
+    ensures fit { All FitsNumbers (take count (drop from level.now.entries)) }
     ensures fault { IfErr result (λ fault. fault ≡ FileFault.Read) }
     ensures grew { OnErr result (Grew (faults_of reader.old) (faults_of reader.new)) }
     ensures faults { faults_of reader.old ≤ faults_of reader.new }
 {
     let mut buf = [0u8; BUFFER_LEN];
-    let mut rest = entries;
-    while !rest.is_empty() {
-        let (front, after) = rest.split_at(rest.len().min(BUFFERED as usize));
-        let len = spell(front, &mut buf);
-        let bytes = &buf[..len];
-        if !has_next(reader, bytes)? {
+    let len = spell_run(level, from, count, &mut buf);
+    let bytes = &buf[..len];
+    if !has_next(reader, bytes)? {
+        return Ok(false);
+    }
+    hasher.update(bytes);
+    Ok(true)
+}
+
+/// Whether the reader has the entries of a level next. They are hashed as far as it has them.
+fn has_entries<R: Read>(
+    reader: &mut Counted<R>,
+    hasher: &mut Sha256,
+    level: &Level,
+) -> Result<bool, FileFault>
+    ensures met { (left : List ℕ) → R.remaining (inner_of reader.old) ≡ Some left
+        → IfOk result (λ met. Meets met left (R.remaining (inner_of reader.new)) (flat_map entry_text level.now.entries)) }
+    ensures holds { result ≡ Ok true → (m : List ℕ) → Holds256 hasher.old m → Holds256 hasher.new (m ++ flat_map entry_text level.now.entries) }
+    ensures fit { result ≡ Ok true → All FitsNumbers level.now.entries }
+    ensures fault { IfErr result (λ fault. fault ≡ FileFault.Read) }
+    ensures grew { OnErr result (Grew (faults_of reader.old) (faults_of reader.new)) }
+    ensures faults { faults_of reader.old ≤ faults_of reader.new }
+{
+    let boards = size(level.number());
+    let mut from: u32 = 0;
+    while from < boards {
+        let count = (boards - from).min(BUFFERED);
+        if !has_run(reader, hasher, level, from, count)? {
             return Ok(false);
         }
-        hasher.update(bytes);
-        rest = after;
+        from += count;
     }
     Ok(true)
 }
@@ -107,7 +136,7 @@ pub fn compare_level<R: Read>(
         return Ok(None);
     }
     hasher.update(&header);
-    if !has_entries(reader, &mut hasher, level.entries())? {
+    if !has_entries(reader, &mut hasher, level)? {
         return Ok(None);
     }
     let digest = hasher.finalize();

@@ -1,7 +1,6 @@
 //! Reading the file of a level.
 
-ghost use Rattle.std.specs.Prelude.{◌≡◌, ◌≢◌, ◌≤◌, ◌+◌, min, List, ℕ, IfOk, OnOk, IsOk, IfSome, Some, Ok, Err, vec_len};
-ghost use Rattle.std.specs.Vec.{vec_capacity};
+ghost use Rattle.std.specs.Prelude.{◌≡◌, ◌≢◌, ◌≤◌, ◌+◌, min, List, ℕ, IfOk, OnOk, IsOk, IfSome, Some, Ok, Err};
 ghost use Rattle.awari_table.specs.declared.TheConstants.{HIGHEST_LEVEL};
 ghost use Rattle.awari_table.specs.Counted.{inner_of, faults_of, Grew};
 ghost use Rattle.awari_table.specs.declared.images.Image.{Image};
@@ -18,9 +17,9 @@ use crate::fields::{digest_at, entry_at, header_of};
 use crate::sizes::{BUFFER_LEN, BUFFERED, END_LEN, ENTRY_LEN, HEADER_LEN};
 use crate::source::fill;
 use awari_rank::size;
-use awari_table::{Counted, Entries, Entry, Image};
+use awari_table::{Counted, Entries, Image};
 use sha2::{Digest, Sha256};
-use std::alloc::Global;
+use std::alloc::{AllocError, Global};
 use std::io::Read;
 
 /// All of the header is asked for at once, and its fields are judged in order on what came. So a
@@ -47,25 +46,27 @@ fn read_header<R: Read>(reader: &mut Counted<R>, hasher: &mut Sha256) -> Result<
     Ok(header)
 }
 
-/// Puts as many entries as the bytes have behind those that are there, for which there is room.
+/// Puts as many entries as the bytes have behind those that are there.
 fn push_entries(
-    entries: &mut Vec<Entry>,
+    alloc: Global,
+    entries: &mut Entries,
     count: u32,
     bytes: &[u8],
     short: FileFault,
-) -> Result<(), FileFault>
-    requires { vec_len entries.old + count ≤ vec_capacity entries.old }
-    ensures added { Adds entries.old.items entries.new.items result (entries_at count short bytes.now) }
-    ensures len { OnOk result (vec_len entries.new ≡ vec_len entries.old + count) }
-    ensures capacity { vec_capacity entries.new ≡ vec_capacity entries.old }
+) -> Result<Result<(), FileFault>, AllocError>
+    ensures { IfOk result (λ added. Adds entries.old entries.new added (entries_at count short bytes.now)) }
 {
     let mut rest = bytes;
     for _ in 0..count {
-        let (entry, after) = entry_at(rest, short)?;
-        entries.push_reserved(entry);
-        rest = after;
+        match entry_at(rest, short) {
+            Ok((entry, after)) => {
+                entries.push(alloc, entry)?;
+                rest = after;
+            }
+            Err(fault) => return Ok(Err(fault)),
+        }
     }
-    Ok(())
+    Ok(Ok(()))
 }
 
 /// Judges as many entries as the bytes have, and keeps none.
@@ -80,37 +81,42 @@ fn judge_entries(count: u32, bytes: &[u8], short: FileFault) -> Result<(), FileF
     Ok(())
 }
 
-/// Puts as many entries as the bytes have behind those that are there. If there is no room for them
-/// and all that are left, it is taken once they are known to be right.
+/// Puts as many entries as the bytes have behind those that are there. Room for them and all that are
+/// left is taken before the first of all, once these are known to be right. More is taken at the first
+/// entry that three bytes do not hold.
 fn add_entries(
-    entries: &mut Vec<Entry>,
+    alloc: Global,
+    entries: &mut Entries,
     count: u32,
     left: u32,
     bytes: &[u8],
     short: FileFault,
 ) -> Result<(), FileFault>
-    requires { count ≤ left }
-    ensures added { AddsOrLacks entries.old.items entries.new.items result (entries_at count short bytes.now) }
+    ensures added { AddsOrLacks entries.old entries.new result (entries_at count short bytes.now) }
 {
-    if entries.capacity() - entries.len() < left as usize {
+    if entries.is_empty() {
         judge_entries(count, bytes, short)?;
-        entries.reserve_exact(left as usize)?;
+        *entries = Entries::with_capacity(alloc, left as usize)?;
     }
-    push_entries(entries, count, bytes, short)
+    let Ok(added) = push_entries(alloc, entries, count, bytes, short) else {
+        judge_entries(count, bytes, short)?;
+        return Err(FileFault::Memory);
+    };
+    added
 }
 
 /// So many entries of those that are left, and nothing behind them. They fit the buffer.
 fn read_some<R: Read>(
+    alloc: Global,
     reader: &mut Counted<R>,
     hasher: &mut Sha256,
-    entries: &mut Vec<Entry>,
+    entries: &mut Entries,
     count: u32,
     left: u32,
 ) -> Result<(), FileFault>
     requires few { count ≤ BUFFERED }
-    requires within { count ≤ left }
     ensures parsed { (whole left : List ℕ) → IsAt whole left (R.remaining (inner_of reader.old)) hasher.old
-        → AddsAt entries.old.items entries.new.items count whole left (R.remaining (inner_of reader.new)) hasher.new result }
+        → AddsAt entries.old entries.new count whole left (R.remaining (inner_of reader.new)) hasher.new result }
     ensures stops { (whole left : List ℕ) → IsAt whole left (R.remaining (inner_of reader.old)) hasher.old
         → result ≡ Err FileFault.Read → StopsIn (Unfinished (entries_at count)) left (R.remaining (inner_of reader.new)) }
     ensures whole { (whole left : List ℕ) (fault : FileFault) → IsAt whole left (R.remaining (inner_of reader.old)) hasher.old
@@ -125,20 +131,21 @@ fn read_some<R: Read>(
     let mut buf = [0u8; BUFFER_LEN];
     let came = fill(reader, &mut buf, count as usize * ENTRY_LEN);
     let bytes = &buf[..came.count];
-    add_entries(entries, count, left, bytes, came.short)?;
+    add_entries(alloc, entries, count, left, bytes, came.short)?;
     hasher.update(bytes);
     Ok(())
 }
 
 /// Reads no further than the last entry: what comes then is judged by the digest of all before it.
 fn read_entries<R: Read>(
+    alloc: Global,
     reader: &mut Counted<R>,
     hasher: &mut Sha256,
-    entries: &mut Vec<Entry>,
+    entries: &mut Entries,
     count: u32,
 ) -> Result<(), FileFault>
     ensures parsed { (whole left : List ℕ) → IsAt whole left (R.remaining (inner_of reader.old)) hasher.old
-        → AddsAt entries.old.items entries.new.items count whole left (R.remaining (inner_of reader.new)) hasher.new result }
+        → AddsAt entries.old entries.new count whole left (R.remaining (inner_of reader.new)) hasher.new result }
     ensures stops { (whole left : List ℕ) → IsAt whole left (R.remaining (inner_of reader.old)) hasher.old
         → result ≡ Err FileFault.Read → StopsIn (Unfinished (entries_at count)) left (R.remaining (inner_of reader.new)) }
     ensures whole { (whole left : List ℕ) (fault : FileFault) → IsAt whole left (R.remaining (inner_of reader.old)) hasher.old
@@ -155,7 +162,7 @@ fn read_entries<R: Read>(
     let mut left = count;
     while left > 0 {
         let some = left.min(BUFFERED);
-        read_some(reader, hasher, entries, some, left)?;
+        read_some(alloc, reader, hasher, entries, some, left)?;
         left -= some;
     }
     Ok(())
@@ -206,8 +213,8 @@ fn read_all<R: Read>(alloc: Global, reader: &mut Counted<R>) -> Result<Loaded, F
     let mut hasher = Sha256::new();
     let header = read_header(reader, &mut hasher)?;
     let count = size(header.level);
-    let mut entries = Vec::new(alloc);
-    read_entries(reader, &mut hasher, &mut entries, count)?;
+    let mut entries = Entries::new(alloc);
+    read_entries(alloc, reader, &mut hasher, &mut entries, count)?;
     let digest = read_end(reader, hasher)?;
     let below = header.below;
     Ok(Loaded {
@@ -215,7 +222,7 @@ fn read_all<R: Read>(alloc: Global, reader: &mut Counted<R>) -> Result<Loaded, F
         image: Image {
             level: header.level,
             limit: header.limit,
-            entries: Entries::from(entries),
+            entries,
         },
         below,
         digest,

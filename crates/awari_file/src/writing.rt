@@ -1,8 +1,9 @@
 //! Writing the file of a level.
 
-ghost use Rattle.std.specs.Prelude.{◌≡◌, ◌≤◌, length, take, All, IfErr, OnOk, OnErr, IfOk};
+ghost use Rattle.std.specs.Prelude.{◌≡◌, ◌≤◌, ◌+◌, length, take, drop, All, IfErr, OnOk, OnErr, IfOk};
 ghost use Rattle.std.specs.List.{flat_map};
 ghost use Rattle.std.specs.Io.KnownBytes.{Appends};
+ghost use Rattle.awari_rank.specs.Rank.{size_of};
 ghost use Rattle.sha2.specs.Sha256.{sha256};
 ghost use Rattle.awari_table.specs.declared.TheConstants.{HIGHEST_LEVEL};
 ghost use Rattle.awari_table.specs.Counted.{inner_of, faults_of, Grew};
@@ -68,7 +69,7 @@ fn put<W: Write>(
 }
 
 /// Spells entries that fit the buffer, and gives how many bytes of it they take.
-pub(crate) fn spell(entries: &[Entry], buf: &mut [u8; 4080]) -> usize
+fn spell(entries: &[Entry], buf: &mut [u8; 4080]) -> usize
     requires { length entries.now ≤ BUFFERED }
     ensures len { result ≤ 4080 }
     ensures text { take result buf.new ≡ flat_map entry_text entries.now }
@@ -83,21 +84,39 @@ pub(crate) fn spell(entries: &[Entry], buf: &mut [u8; 4080]) -> usize
     len
 }
 
-/// Writes entries that fit the buffer.
-fn put_some<W: Write>(
+/// Spells so many entries of a level, from this rank on, and gives how many bytes of the buffer they
+/// take. They fit it.
+pub(crate) fn spell_run(level: &Level, from: u32, count: u32, buf: &mut [u8; 4080]) -> usize
+    requires within { from + count ≤ size_of level.now.level }
+    requires few { count ≤ BUFFERED }
+    ensures len { result ≤ 4080 }
+    ensures text { take result buf.new ≡ flat_map entry_text (take count (drop from level.now.entries)) }
+    ensures fit { All FitsNumbers (take count (drop from level.now.entries)) }
+{
+    let mut entries = [Entry::NONE; BUFFERED as usize];
+    let run = &mut entries[..count as usize];
+    level.copy_run(from, run);
+    spell(run, buf)
+}
+
+/// Writes so many entries of a level, from this rank on. They fit the buffer.
+fn put_run<W: Write>(
     writer: &mut Counted<W>,
     hasher: &mut Sha256,
-    entries: &[Entry],
+    level: &Level,
+    from: u32,
+    count: u32,
 ) -> Result<(), FileFault>
-    requires { length entries.now ≤ BUFFERED }
-    ensures ok { OnOk result (Puts (W.contents (inner_of writer.old)) (W.contents (inner_of writer.new)) hasher.old hasher.new (flat_map entry_text entries.now)) }
-    ensures fit { All FitsNumbers entries.now }
+    requires within { from + count ≤ size_of level.now.level }
+    requires few { count ≤ BUFFERED }
+    ensures ok { OnOk result (Puts (W.contents (inner_of writer.old)) (W.contents (inner_of writer.new)) hasher.old hasher.new (flat_map entry_text (take count (drop from level.now.entries)))) }
+    ensures fit { All FitsNumbers (take count (drop from level.now.entries)) }
     ensures err { OnErr result (Grew (faults_of writer.old) (faults_of writer.new)) }
     ensures write { IfErr result (λ e. e ≡ FileFault.Write) }
     ensures faults { faults_of writer.old ≤ faults_of writer.new }
 {
     let mut buf = [0u8; BUFFER_LEN];
-    let len = spell(entries, &mut buf);
+    let len = spell_run(level, from, count, &mut buf);
     put(writer, hasher, &buf[..len])
 }
 
@@ -105,19 +124,20 @@ fn put_some<W: Write>(
 fn put_entries<W: Write>(
     writer: &mut Counted<W>,
     hasher: &mut Sha256,
-    entries: &[Entry],
+    level: &Level,
 ) -> Result<(), FileFault>
-    ensures ok { OnOk result (Puts (W.contents (inner_of writer.old)) (W.contents (inner_of writer.new)) hasher.old hasher.new (flat_map entry_text entries.now)) }
-    ensures fit { OnOk result (All FitsNumbers entries.now) }
+    ensures ok { OnOk result (Puts (W.contents (inner_of writer.old)) (W.contents (inner_of writer.new)) hasher.old hasher.new (flat_map entry_text level.now.entries)) }
+    ensures fit { OnOk result (All FitsNumbers level.now.entries) }
     ensures err { OnErr result (Grew (faults_of writer.old) (faults_of writer.new)) }
     ensures write { IfErr result (λ e. e ≡ FileFault.Write) }
     ensures faults { faults_of writer.old ≤ faults_of writer.new }
 {
-    let mut rest = entries;
-    while !rest.is_empty() {
-        let (front, after) = rest.split_at(rest.len().min(BUFFERED as usize));
-        put_some(writer, hasher, front)?;
-        rest = after;
+    let boards = size(level.number());
+    let mut from = 0u32;
+    while from < boards {
+        let count = (boards - from).min(BUFFERED);
+        put_run(writer, hasher, level, from, count)?;
+        from += count;
     }
     Ok(())
 }
@@ -143,7 +163,7 @@ pub fn write_level<W: Write>(
     let mut hasher = Sha256::new();
     let header = header_of(level.number(), level.limit(), &below);
     put(writer, &mut hasher, &header)?;
-    put_entries(writer, &mut hasher, level.entries())?;
+    put_entries(writer, &mut hasher, level)?;
     let digest = hasher.finalize();
     match writer.write_all(&digest) {
         Ok(()) => Ok(digest),

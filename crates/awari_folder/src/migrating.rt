@@ -18,7 +18,7 @@ use awari_file::{FileFault, Loaded, OLD_VERSION, read_image};
 use awari_play::least;
 use awari_table::{Counted, HIGHEST_LEVEL, Image, Level, Shelf};
 use awari_verify::{VerifyFault, verify, verify_old};
-use std::alloc::Global;
+use std::alloc::{AllocError, Global};
 use std::io::Read;
 use std::sync::Arc;
 
@@ -172,7 +172,7 @@ fn read_migrated<R: Read>(
         ..
     } = loaded;
     let before = image.limit;
-    match migrated_over(shelf, version, image) {
+    match migrated_over(alloc, shelf, version, image)? {
         Ok(migrated) => {
             let after = migrated.limit();
             Ok(MigratedLevel {
@@ -186,15 +186,24 @@ fn read_migrated<R: Read>(
 }
 
 /// The level that an image becomes over the shelf, if it is right by the rules of its version.
-fn migrated_over(shelf: &Shelf, version: u16, image: Image) -> Result<Level, VerifyFault>
-    ensures ok { IfOk result (IsMigratedImage version shelf.now image) }
-    ensures fault { IfErr result (IsDueBy (rules_of version) shelf.now image) }
+fn migrated_over(
+    alloc: Global,
+    shelf: &Shelf,
+    version: u16,
+    image: Image,
+) -> Result<Result<Level, VerifyFault>, AllocError>
+    ensures ok { IfOk result (λ judged. IfOk judged (IsMigratedImage version shelf.now image)) }
+    ensures fault { IfOk result (λ judged. IfErr judged (IsDueBy (rules_of version) shelf.now image)) }
 {
     if version != OLD_VERSION {
-        return verify(shelf, image);
+        return Ok(verify(shelf, image));
     }
-    verify_old(shelf, &image)?;
-    Ok(Level::new(least(shelf, image)))
+    match verify_old(shelf, &image) {
+        Ok(()) => {}
+        Err(fault) => return Ok(Err(fault)),
+    }
+    let least = least(alloc, shelf, image)?;
+    Ok(Ok(Level::new(least)))
 }
 
 /// Saves a level into a folder that has no file of it yet.

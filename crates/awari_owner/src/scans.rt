@@ -240,8 +240,7 @@ fn gain_of(shelf: &Shelf, moved: &PackedMove) -> i8
     ensures within { IsWithin (length shelf.now) result }
 {
     let stones = shelf.levels() - moved.captured;
-    let entry = shelf.entry_below(&moved.board, stones);
-    moved.captured as i8 - entry.value
+    moved.captured as i8 - shelf.value_below(&moved.board, stones)
 }
 
 /// The cell of a board with this outlook. The board is ended if it has no quiet move and no capture.

@@ -1,22 +1,21 @@
 //! The image of a level, of what its parts have settled.
 
-ghost use Rattle.std.specs.Prelude.{◌≡◌, ◌≤◌, All, IfOk, OnOk, length};
-ghost use Rattle.awari_rank.specs.Rank.{size_of};
+ghost use Rattle.std.specs.Prelude.{◌≡◌, ◌≤◌, [], All, IfOk, OnOk, length};
 ghost use Rattle.awari_table.specs.Images.{table_of};
 ghost use Rattle.awari_table.specs.Shelves.{Consistent};
 ghost use Rattle.awari_owner.specs.Level.{AreHeard, AreWhole};
 ghost use Rattle.awari_block.specs.Part.{IsClosed};
 ghost use Rattle.awari_block.specs.Cells.{view_of};
 ghost use Rattle.awari_block.specs.Pits.{IsLowestIn};
-ghost use Rattle.awari_plan.specs.Finished.{HasAllSettled, HasSettled, IsFinished};
-ghost use Rattle.awari_plan.specs.Filling.{IsImageOf, PushesBlock};
+ghost use Rattle.awari_plan.specs.Finished.{HasSettled, IsFinished};
+ghost use Rattle.awari_plan.specs.Filling.{IsImageOf, PushesBlock, PutsBlocks};
 ghost use Rattle.awari_play.specs.Least.{IsPlannedLowest};
 ghost use Rattle.awari_table.specs.declared.TheConstants.{HIGHEST_LEVEL};
 
 use awari_block::{Cell, ClosedPart, Mark};
 use awari_owner::Part;
 use awari_rank::size;
-use awari_table::{Entries, Entry, Image, Shelf, greatest_dist};
+use awari_table::{Entries, Entry, Image, Shelf};
 use std::alloc::{AllocError, Global};
 
 /// The image of the shelf's next level, once the parts have closed all gains. A settled board has its
@@ -26,8 +25,8 @@ use std::alloc::{AllocError, Global};
 /// that is positive, captures or leads to a smaller distance.
 ///
 /// Conditions: the shelf has at most `HIGHEST_LEVEL` levels, and the parts are all blocks of its next
-/// level in order, with no fresh board and gain 1 open. It takes memory for the entries, and is
-/// refused only if that runs out.
+/// level in order, with no fresh board and gain 1 open. It takes memory for three bytes a board, or
+/// eight if a distance is above 8191, and is refused only if that runs out.
 pub fn finish(alloc: Global, shelf: &Shelf, parts: &[Part]) -> Result<Image, AllocError>
     requires low { length shelf.now ≤ HIGHEST_LEVEL }
     requires whole { AreWhole (length shelf.now) parts.now }
@@ -41,8 +40,9 @@ pub fn finish(alloc: Global, shelf: &Shelf, parts: &[Part]) -> Result<Image, All
     Ok(image)
 }
 
-/// Answers what [`finish`] does, for parts that are given up. Each is closed, as its type says. At
-/// most sixteen bytes a board are allocated at a time: eight of a cell and eight of an entry.
+/// Answers what [`finish`] does, for parts that are given up. Each is closed, as its type says. A part
+/// is dropped once its entries are made, so at most eleven bytes a board are held: eight of a cell and
+/// three of an entry.
 pub fn finish_closed(
     alloc: Global,
     shelf: &Shelf,
@@ -54,70 +54,72 @@ pub fn finish_closed(
     ensures planned { All IsClosed parts.items → AreHeard (table_of shelf.now).value parts.items → IfOk result (IsPlannedLowest shelf.now) }
     ensures consistent { All IsClosed parts.items → AreHeard (table_of shelf.now).value parts.items → IfOk result (Consistent shelf.now) }
 {
-    let entries = closed_entries(alloc, shelf.levels(), parts.as_slice())?;
+    let entries = closed_entries(alloc, shelf.levels(), parts)?;
     let image = image_of(shelf.levels(), entries);
     Ok(image)
 }
 
 /// The image of this level that has these entries.
-pub fn image_of(level: u8, entries: Vec<Entry>) -> Image
-    ensures { IsImageOf level entries.items result }
+pub fn image_of(level: u8, entries: Entries) -> Image
+    ensures { IsImageOf level entries result }
 {
     Image {
         level,
-        limit: greatest_dist(entries.as_slice()),
-        entries: Entries::from(entries),
+        limit: entries.greatest_dist(),
+        entries,
     }
 }
 
 /// The entries of the level.
-fn settled_entries(alloc: Global, level: u8, parts: &[Part]) -> Result<Vec<Entry>, AllocError>
+fn settled_entries(alloc: Global, level: u8, parts: &[Part]) -> Result<Entries, AllocError>
     requires low { level ≤ 24 }
-    requires whole { AreWhole level parts.now }
-    ensures sized { IfOk result (λ entries. length entries.items ≡ size_of level) }
-    ensures settled { IfOk result (λ entries. HasAllSettled parts.now entries.items) }
+    ensures { IfOk result (PutsBlocks parts.now []) }
 {
-    let mut entries = Vec::with_capacity(alloc, size(level) as usize)?;
+    let mut entries = Entries::with_capacity(alloc, size(level) as usize)?;
     for part in parts {
-        push_block(&mut entries, part)?;
+        push_block(alloc, &mut entries, part)?;
     }
     Ok(entries)
 }
 
-/// Puts the entries of a block after those of the blocks before it.
-fn push_block(entries: &mut Vec<Entry>, part: &Part) -> Result<(), AllocError>
-    requires next { part.now.start ≡ length entries.old.items }
-    ensures pushed { OnOk result (PushesBlock part.now entries.old.items entries.new.items (length part.now.cells)) }
+/// Puts the entries of a block behind those that are there.
+fn push_block(alloc: Global, entries: &mut Entries, part: &Part) -> Result<(), AllocError>
+    ensures { OnOk result (PushesBlock part.now entries.old entries.new (length part.now.cells)) }
 {
     let (start, end) = part.block();
     for rank in start..end {
-        entries.push(entry_of(part.cell(rank)))?;
+        entries.push(alloc, entry_of(part.cell(rank)))?;
     }
     Ok(())
 }
 
-/// The entries of the level, of closed parts.
-fn closed_entries(alloc: Global, level: u8, parts: &[ClosedPart]) -> Result<Vec<Entry>, AllocError>
+/// The entries of the level, of closed parts, each of which is dropped before the next is begun.
+fn closed_entries(
+    alloc: Global,
+    level: u8,
+    parts: Vec<ClosedPart>,
+) -> Result<Entries, AllocError>
     requires low { level ≤ 24 }
-    requires whole { AreWhole level parts.now }
-    ensures sized { IfOk result (λ entries. length entries.items ≡ size_of level) }
-    ensures settled { IfOk result (λ entries. HasAllSettled parts.now entries.items) }
+    ensures { IfOk result (PutsBlocks parts.items []) }
 {
-    let mut entries = Vec::with_capacity(alloc, size(level) as usize)?;
+    let mut entries = Entries::with_capacity(alloc, size(level) as usize)?;
     for part in parts {
-        push_closed_block(&mut entries, part)?;
+        push_closed_block(alloc, &mut entries, &part)?;
     }
     Ok(entries)
 }
 
-/// Puts the entries of a closed block after those of the blocks before it.
-fn push_closed_block(entries: &mut Vec<Entry>, part: &ClosedPart) -> Result<(), AllocError>
-    requires next { part.now.start ≡ length entries.old.items }
-    ensures pushed { OnOk result (PushesBlock part.now entries.old.items entries.new.items (length part.now.cells)) }
+/// Puts the entries of a closed block behind those that are there.
+pub fn push_closed_block(
+    alloc: Global,
+    entries: &mut Entries,
+    part: &ClosedPart,
+) -> Result<(), AllocError>
+    ensures { OnOk result (PushesBlock part.now entries.old entries.new (length part.now.cells)) }
 {
     let (start, end) = part.block();
     for rank in start..end {
-        entries.push(entry_of(part.cell(rank)))?;
+        entries.push(alloc, entry_of(part.cell(rank)))?;
     }
     Ok(())
 }

@@ -35,11 +35,11 @@ sign_cases v = grind (arith, ints)
 
 module _ (t : Table) (p : List ℕ) where
   -- a pit has one move
-  one_move : (x c : ℕ) (q : List ℕ) (s : Reached) → Reaches t p x (Some s) → IsMove p x c q → (plies c (t.dist q) ≡ plies s.captured s.entry.dist) × ((pos c -ℤ t.value q) ≡ (pos s.captured -ℤ s.entry.value))
+  one_move : (x c : ℕ) (q : List ℕ) (s : Reached) → Reaches t p x (Some s) → IsMove p x c q → (plies c (t.dist q) ≡ s.plies) × ((pos c -ℤ t.value q) ≡ (pos s.captured -ℤ s.value))
   one_move x c q s (r, move, v, d) other =
       let same : c ≡ s.captured = other.captures ∙ sym move.captures in
       let there : q ≡ r = other.leaves ∙ sym move.leaves in (
-        ap (λ n. plies n (t.dist q)) same ∙ ap (plies s.captured) (ap t.dist there ∙ sym d),
+        ap (λ n. plies n (t.dist q)) same ∙ ap (λ b. plies s.captured (t.dist b)) there ∙ sym d,
         ap (λ n. pos n -ℤ t.value q) same ∙ ap (λ z. pos s.captured -ℤ z) (ap t.value there ∙ sym v),
       )
 
@@ -68,9 +68,9 @@ module _ (t : Table) (p : List ℕ) where
           let one = one_move pit c q s step (subst (λ y. IsMove p y c q) here move) in
           omega (arith, one.0, is)
     ];
-    is = elim (either_max far (plies s.captured s.entry.dist)) [
+    is = elim (either_max far s.plies) [
       | inl old ↦ subst (λ n. (n ≡ 0) ⊎ MovesIn t p n) (sym (is ∙ old)) h.is
-      | inr new ↦ let (q, move, v, d) = step in inr (pit, s.captured, q, move, ap (plies s.captured) (sym d) ∙ sym (is ∙ new))
+      | inr new ↦ let (q, move, v, d) = step in inr (pit, s.captured, q, move, sym d ∙ sym (is ∙ new))
     ];
   }
 
@@ -102,11 +102,11 @@ module _ (t : Table) (p : List ℕ) where
           let one = one_move pit c q s step (subst (λ y. IsMove p y c q) here move) in
           omega (arith, one.0, is)
     ];
-    is = elim (either_min near (plies s.captured s.entry.dist)) [
+    is = elim (either_min near s.plies) [
       | inl old ↦ subst (λ n. (n ≡ t.dist p) ⊎ GainsIn t p n) (sym (is ∙ old)) h.is
       | inr new ↦
           let (q, move, v, d) = step in
-          inr (pit, s.captured, q, move, ap (λ z. pos s.captured -ℤ z) (sym v) ∙ gains ∙ own, ap (plies s.captured) (sym d) ∙ sym (is ∙ new))
+          inr (pit, s.captured, q, move, ap (λ z. pos s.captured -ℤ z) (sym v) ∙ gains ∙ own, sym d ∙ sym (is ∙ new))
     ];
   }
   nearest-more pit value near (Some s) k own h step (inr (other, is)) = record {

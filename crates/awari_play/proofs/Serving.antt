@@ -1,38 +1,51 @@
 -- Which pit serves as a plan.
-use Rattle.std.proofs.Common.{◌≡◌, ℕ, ◌+◌, ◌<◌, ◌⊎◌, ◌↔◌, Bool, false, IsTrue, List, refl, sym, ap, ◌∙◌, subst, arith, inl, inr}
+use Rattle.std.proofs.Common.{◌≡◌, ℕ, zero, suc, ◌+◌, ◌<◌, ◌≤◌, ◌⊎◌, ◌↔◌, Bool, false, IsTrue, List, refl, sym, ap, ◌∙◌, subst, arith, inl, inr}
 use Rattle.std.proofs.lemmas.Bool.{cases_lt}
 use Rattle.std.specs.Prelude.{pos, ◌-ℤ◌, ◌<ℤ◌, Option, Some, None, IfSome}
 use Rattle.awari_board.specs.Rules.{IsEnded, IsLegal, IsMove}
-use Rattle.awari_table.specs.Certificate.{Table}
+use Rattle.awari_table.specs.Certificate.{Table, plies}
 use Rattle.awari_table.specs.declared.images.Entry.{Entry}
+use Rattle.awari_table.specs.declared.rules.Reached.{Reached}
 use Rattle.awari_play.specs.Plan.{Serves, IsLowest}
 use Rattle.awari_play.specs.Planning.{Gains}
 
+-- a move that takes so many plies leads to a smaller distance, or captures
+near_by : (c k d e : ℕ) → k ≡ plies c d → ((0 < c) ⊎ (k ≤ e)) ↔ ((0 < c) ⊎ (d < e))
+near_by zero k d e is = (
+  λ near. elim near [ inl some ↦ inl some | inr few ↦ inr (omega (arith, is, few)) ],
+  λ near. elim near [ inl some ↦ inl some | inr less ↦ inr (omega (arith, is, less)) ],
+)
+near_by (suc c) k d e is = (λ near. inl (omega arith), λ near. inl (omega arith))
+
 -- a pit has one move, so that it serves where that move does
-pub serves_by : (t : Table) (p : List ℕ) (x c : ℕ) (q : List ℕ) (own reached : Entry) (b : Bool) → IsMove p x c q
-    → own.value ≡ t.value p → own.dist ≡ t.dist p → reached.value ≡ t.value q → reached.dist ≡ t.dist q → (IsTrue b ↔ Gains own c reached) → IsTrue b ↔ Serves t p x
-serves_by t p x c q own reached b move own_value own_dist its_value its_dist is = (to, from)
+pub serves_by : (t : Table) (p : List ℕ) (x : ℕ) (q : List ℕ) (own : Entry) (m : Reached) (b : Bool) → IsMove p x m.captured q
+    → own.value ≡ t.value p → own.dist ≡ t.dist p → m.value ≡ t.value q → m.plies ≡ plies m.captured (t.dist q) → (IsTrue b ↔ Gains own m) → IsTrue b ↔ Serves t p x
+serves_by t p x q own m b move own_value own_dist its_value its_plies is = (to, from)
   where
+    near : ((0 < m.captured) ⊎ (m.plies ≤ own.dist)) ↔ ((0 < m.captured) ⊎ (t.dist q < own.dist))
+    near = near_by m.captured m.plies (t.dist q) own.dist its_plies
+
     to : IsTrue b → Serves t p x
     to sure =
         let gains = is.0 sure in (
-          c,
+          m.captured,
           q,
           move,
-          ap (λ v. pos c -ℤ v) (sym its_value) ∙ gains.0 ∙ own_value,
-          λ won. subst (λ d. (0 < c) ⊎ (t.dist q < d)) own_dist (subst (λ d. (0 < c) ⊎ (d < own.dist)) its_dist (gains.1 (subst (λ v. pos 0 <ℤ v) (sym own_value) won))),
+          ap (λ v. pos m.captured -ℤ v) (sym its_value) ∙ gains.0 ∙ own_value,
+          λ won. subst (λ d. (0 < m.captured) ⊎ (t.dist q < d)) own_dist (near.0 (gains.1 (subst (λ v. pos 0 <ℤ v) (sym own_value) won))),
         )
 
     from : Serves t p x → IsTrue b
     from (d, r, other, gains, falls) =
-        let same : d ≡ c = other.captures ∙ sym move.captures in
+        let same : d ≡ m.captured = other.captures ∙ sym move.captures in
         let there : r ≡ q = other.leaves ∙ sym move.leaves in
         is.1 (
-          ap (λ v. pos c -ℤ v) (its_value ∙ ap t.value (sym there)) ∙ ap (λ n. pos n -ℤ t.value r) (sym same) ∙ gains ∙ sym own_value,
+          ap (λ v. pos m.captured -ℤ v) (its_value ∙ ap t.value (sym there)) ∙ ap (λ n. pos n -ℤ t.value r) (sym same) ∙ gains ∙ sym own_value,
           λ won.
-              subst (λ n. (0 < n) ⊎ (reached.dist < own.dist)) same
-              (subst (λ m. (0 < d) ⊎ (m < own.dist)) (ap t.dist there ∙ sym its_dist)
-              (subst (λ m. (0 < d) ⊎ (t.dist r < m)) (sym own_dist) (falls (subst (λ v. pos 0 <ℤ v) own_value won)))),
+              near.1
+              (subst (λ n. (0 < n) ⊎ (t.dist q < own.dist)) same
+              (subst (λ (a : List ℕ). (0 < d) ⊎ (t.dist a < own.dist)) there
+              (subst (λ e. (0 < d) ⊎ (t.dist r < e)) (sym own_dist) (falls (subst (λ v. pos 0 <ℤ v) own_value won))))),
         )
 
 -- no pit below this one serves

@@ -7,7 +7,7 @@ use Rattle.awari_table.specs.Certificate.{Table, GainsIn, GainsNoSooner, MovesIn
 use Rattle.awari_table.specs.declared.images.Entry.{Entry}
 use Rattle.awari_table.specs.declared.images.Image.{Image}
 use Rattle.awari_table.specs.Images.{table_of, no_entry}
-use Rattle.awari_table.specs.Reached.{gain_of, plies_of}
+use Rattle.awari_table.specs.Reached.{gain_of}
 use Rattle.awari_table.specs.declared.rules.Reached.{Reached}
 use Rattle.awari_play.specs.Planning.{with_top}
 
@@ -52,12 +52,12 @@ AreBelow shelf entries = (p : List ℕ) → IsBoard p → sum p ≡ length shelf
 -- the most plies so far, and those of one more move
 abbrev pub farther_by : ℕ → Option Reached → ℕ
 farther_by far None = far
-farther_by far (Some m) = max far (plies_of m)
+farther_by far (Some m) = max far m.plies
 
 -- the fewest plies so far of a move that gains the value, and those of one more move, if it gains it
 abbrev pub IsNearerBy : ℤ → ℕ → Option Reached → ℕ → Type 0
 IsNearerBy value near None k = k ≡ near
-IsNearerBy value near (Some m) k = ((gain_of m ≡ value) × (k ≡ min near (plies_of m))) ⊎ ((gain_of m ≢ value) × (k ≡ near))
+IsNearerBy value near (Some m) k = ((gain_of m ≡ value) × (k ≡ min near m.plies)) ⊎ ((gain_of m ≢ value) × (k ≡ near))
 
 -- the entry with a smaller distance, or none where its own is not above this
 abbrev pub IsLowered : Entry → ℕ → Option Entry → Type 0

@@ -1,20 +1,21 @@
 -- The plans of a level that stands on top of a shelf, set board by board, by the values and distances of its entries.
-use Rattle.std.specs.Prelude.{◌≡◌, ℕ, ◌<◌, List, [], ◌∷◌, ◌++◌, length, sum, slice_index_or, ◌⊎◌, pos, ◌-ℤ◌, ◌<ℤ◌}
+use Rattle.std.specs.Prelude.{◌≡◌, ℕ, ◌<◌, ◌≤◌, List, [], ◌∷◌, ◌++◌, length, sum, slice_index_or, ◌⊎◌, pos, ◌<ℤ◌}
 use Rattle.awari_board.specs.Rules.{IsBoard}
 use Rattle.awari_rank.specs.Rank.{rank_of, size_of}
 use Rattle.awari_table.specs.declared.images.Entry.{Entry}
 use Rattle.awari_table.specs.declared.images.Image.{Image}
 use Rattle.awari_table.specs.Images.{table_of, greatest_dist, no_entry}
+use Rattle.awari_table.specs.Reached.{gain_of}
+use Rattle.awari_table.specs.declared.rules.Reached.{Reached}
 use Rattle.awari_play.specs.Plan.{IsLowest}
 
 -- the levels of the shelf, and on top of them one with these entries
 abbrev pub with_top : List Image → List Entry → List Image
 with_top shelf entries = shelf ++ record { level = length shelf; limit = 0; entries = entries } ∷ []
 
--- A move with c captured stones to the board of an entry gains the value of the board's own entry; and where that is positive,
--- it captures or leads to a smaller distance.
-abbrev pub Gains : Entry → ℕ → Entry → Type 0
-Gains own c reached = ((pos c -ℤ reached.value) ≡ own.value) × (pos 0 <ℤ own.value → (0 < c) ⊎ (reached.dist < own.dist))
+-- A move gains the value of the board's own entry; and where that is positive, it captures or leads to a smaller distance.
+abbrev pub Gains : Entry → Reached → Type 0
+Gains own m = (gain_of m ≡ own.value) × (pos 0 <ℤ own.value → (0 < m.captured) ⊎ (m.plies ≤ own.dist))
 
 -- as many entries, and of each rank the same value and distance; plans may differ
 pub record SameSettled (old new : List Entry) : Type 0 where

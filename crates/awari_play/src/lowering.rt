@@ -1,6 +1,6 @@
 //! The least distances of a level, found by lowering greater ones.
 
-ghost use Rattle.std.specs.Prelude.{◌≡◌, ◌≤◌, ◌<◌, length, sum};
+ghost use Rattle.std.specs.Prelude.{◌≡◌, ◌≤◌, ◌<◌, IfOk, length, sum};
 ghost use Rattle.awari_rank.specs.Rank.{size_of};
 ghost use Rattle.awari_table.specs.Images.{entry_of, table_of};
 ghost use Rattle.awari_table.specs.Shelves.{Consistent, ConsistentBy};
@@ -9,30 +9,31 @@ ghost use Rattle.awari_table.specs.Reached.{Reaches};
 ghost use Rattle.awari_play.specs.Lowering.{IsNearest, IsFarthest, IsByMoves, AreAbove, AreBelow, AreBelowTo, IsNearerBy, farther_by, IsLowered, Lowers, LowersBoard, Fell};
 ghost use Rattle.awari_play.specs.Planning.{with_top};
 
-use crate::plans::{entry_after, set_lowest_plans};
+use crate::plans::{reached_by, set_lowest_plans};
 use awari_board::SIDE;
 use awari_packed::PackedBoard;
 use awari_rank::size;
 use awari_table::{Distances, Entries, Entry, Image, Reached, Shelf, greatest_dist};
+use std::alloc::{AllocError, Global};
 
 /// The image with the same values, the least distances, the lowest plans that these make, and the
 /// greatest distance as its limit. Condition: the image is consistent by the older rules, which ask
-/// that distances fall. It takes no memory.
-pub fn least(shelf: &Shelf, image: Image) -> Image
+/// that distances fall. It takes memory for eight bytes a board, and is refused only if that runs out.
+pub fn least(alloc: Global, shelf: &Shelf, image: Image) -> Result<Image, AllocError>
     requires { ConsistentBy Distances.Falling shelf.now image }
-    ensures consistent { Consistent shelf.now result }
-    ensures nearer { NoFarther image.entries result.entries }
-    ensures planned { IsPlannedLowest shelf.now result }
+    ensures consistent { IfOk result (Consistent shelf.now) }
+    ensures nearer { IfOk result (λ least. NoFarther image.entries least.entries) }
+    ensures planned { IfOk result (IsPlannedLowest shelf.now) }
 {
     let Image { level, entries, .. } = image;
-    let mut entries = entries.into_vec();
+    let mut entries = entries.into_vec(alloc)?;
     lower(shelf, &mut entries);
     set_lowest_plans(shelf, &mut entries);
-    Image {
+    Ok(Image {
         level,
         limit: greatest_dist(entries.as_slice()),
         entries: Entries::from(entries),
-    }
+    })
 }
 
 /// Lowers distances until each is what its board's moves give. After k passes no distance of at most k
@@ -170,7 +171,7 @@ fn nearer(own: Entry, nearest: u64, reached: Option<Reached>) -> u64
         return nearest;
     };
     if reached.gain() == i16::from(own.value) {
-        return nearest.min(reached.plies());
+        return nearest.min(reached.plies);
     }
     nearest
 }
@@ -180,7 +181,7 @@ fn farther(farthest: u64, reached: Option<Reached>) -> u64
     ensures { result ≡ farther_by farthest reached }
 {
     match reached {
-        Some(reached) => farthest.max(reached.plies()),
+        Some(reached) => farthest.max(reached.plies),
         None => farthest,
     }
 }
@@ -195,9 +196,5 @@ fn reached(shelf: &Shelf, entries: &[Entry], board: &PackedBoard, pit: u8) -> Op
     if !board.legal(pit) {
         return None;
     }
-    let moved = board.play(pit);
-    Some(Reached {
-        captured: moved.captured,
-        entry: entry_after(shelf, entries, &moved),
-    })
+    Some(reached_by(shelf, entries, &board.play(pit)))
 }

@@ -2,13 +2,14 @@
 
 ghost use Rattle.std.specs.Prelude.{◌≡◌, ◌<◌, ◌≤◌, ◌+◌, ◌↔◌, IsTrue, length, sum};
 ghost use Rattle.awari_rank.specs.Rank.{rank_of, size_of};
+ghost use Rattle.awari_table.specs.Certificate.{plies};
 ghost use Rattle.awari_table.specs.Images.{entry_of, table_of};
 ghost use Rattle.awari_play.specs.Plan.{IsLowest, Serves};
 ghost use Rattle.awari_play.specs.Planning.{Gains, ArePlannedBelow, SameSettled, with_top};
 
 use awari_packed::{PackedBoard, PackedMove};
 use awari_rank::size;
-use awari_table::{Entry, Shelf};
+use awari_table::{Entry, Reached, Shelf};
 
 /// Gives each board of the level above the shelf its lowest plan, that is, the lowest pit that
 /// serves. A pit serves if its move gains the board's value and, if that is positive, captures or
@@ -86,37 +87,35 @@ fn serves(shelf: &Shelf, entries: &[Entry], board: &PackedBoard, own: Entry, pit
     if !board.legal(pit) {
         return false;
     }
-    let moved = board.play(pit);
-    let reached = entry_after(shelf, entries, &moved);
-    gains(own, moved.captured, reached)
+    gains(own, reached_by(shelf, entries, &board.play(pit)))
 }
 
-/// Whether a move with so many captured stones gains the value of the board's own entry and, if that
-/// is positive, captures or leads to a smaller distance.
+/// Whether a move gains the value of the board's own entry and, if that is positive, captures or leads
+/// to a smaller distance.
 #[inline(always)]
-fn gains(own: Entry, captured: u8, reached: Entry) -> bool
-    ensures { IsTrue result ↔ Gains own captured reached }
+fn gains(own: Entry, reached: Reached) -> bool
+    ensures { IsTrue result ↔ Gains own reached }
 {
-    if i16::from(captured) - i16::from(reached.value) != i16::from(own.value) {
+    if reached.gain() != i16::from(own.value) {
         return false;
     }
-    if own.value <= 0 {
-        return true;
-    }
-    captured > 0 || reached.dist < own.dist
+    own.value <= 0 || reached.captured > 0 || reached.plies <= u64::from(own.dist)
 }
 
-/// The entry of the board that a move leaves: the level's after a quiet move, and the shelf's after
-/// a capture.
+/// The move as it was played. What a quiet move leads to, the level's entries say. Behind a capture the
+/// shelf says it, and only the value is read there.
 #[inline(always)]
-pub(crate) fn entry_after(shelf: &Shelf, entries: &[Entry], moved: &PackedMove) -> Entry
+pub(crate) fn reached_by(shelf: &Shelf, entries: &[Entry], moved: &PackedMove) -> Reached
     requires sized { length entries.now ≡ size_of (length shelf.now) }
     requires stones { sum moved.now.board + moved.now.captured ≡ length shelf.now }
     requires low { length shelf.now ≤ 24 }
-    ensures { result ≡ entry_of (with_top shelf.now entries.now) moved.now.board }
+    ensures captured { result.captured ≡ moved.now.captured }
+    ensures value { result.value ≡ (entry_of (with_top shelf.now entries.now) moved.now.board).value }
+    ensures plies { result.plies ≡ plies moved.now.captured (entry_of (with_top shelf.now entries.now) moved.now.board).dist }
 {
-    if moved.captured == 0 {
-        return entries[moved.board.rank() as usize];
+    let captured = moved.captured;
+    if captured == 0 {
+        return Reached::of(captured, entries[moved.board.rank() as usize]);
     }
-    shelf.entry_below(&moved.board, shelf.levels() - moved.captured)
+    Reached::by_capture(captured, shelf.value_below(&moved.board, shelf.levels() - captured))
 }

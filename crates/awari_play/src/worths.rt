@@ -3,7 +3,7 @@
 ghost use Rattle.std.specs.Prelude.{◌≡◌, ◌≢◌, ◌<◌, ◌↔◌, ℕ, All, Contains, IsOk, IfOk, IfErr, length, map, pos, sum};
 ghost use Rattle.std.specs.List.Sorted.{IsStrictlyIncreasing};
 ghost use Rattle.awari_board.specs.Rules.{IsLegal};
-ghost use Rattle.awari_table.specs.Reached.{gain_of, plies_of};
+ghost use Rattle.awari_table.specs.Reached.{gain_of};
 ghost use Rattle.awari_table.specs.Images.{table_of};
 ghost use Rattle.awari_play.specs.MoveWorth.{IsMoveWorth, IsWorthOf, pit_of};
 
@@ -70,8 +70,7 @@ fn worth_of(shelf: &Shelf, board: &Board, pit: u8) -> MoveWorth
     let Ok(entry) = shelf.entry(&moved.board) else {
         unreachable!()
     };
-    let captured = moved.captured;
-    worth_by(pit, Reached { captured, entry })
+    worth_by(pit, Reached::of(moved.captured, entry))
 }
 
 /// What a move of this pit is worth that captures and leads to this.
@@ -80,12 +79,12 @@ fn worth_by(pit: u8, reached: Reached) -> MoveWorth
     ensures captured { result.captured ≡ reached.captured }
     ensures gain { result.value ≡ gain_of reached }
     ensures even { result.value ≡ pos 0 → result.plies ≡ 0 }
-    ensures uneven { result.value ≢ pos 0 → result.plies ≡ plies_of reached }
+    ensures uneven { result.value ≢ pos 0 → result.plies ≡ reached.plies }
 {
     let value = reached.gain();
     let plies = match value {
         0 => 0,
-        _ => reached.plies(),
+        _ => reached.plies,
     };
     MoveWorth {
         pit,

@@ -1,4 +1,6 @@
 pub mod ShelfLemmas
+pub mod ColumnLemmas
+pub mod RunLemmas
 pub mod CertificateLemmas
 pub mod CountLemmas
 pub mod EntryLemmas

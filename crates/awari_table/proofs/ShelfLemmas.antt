@@ -1,5 +1,5 @@
 -- Shelves with a level more.
-use Rattle.std.proofs.Common.{◌≡◌, ℕ, ◌+◌, ◌<◌, ◌≤◌, ◌∙◌, List, [], ◌∷◌, ◌++◌, All, length, take, get_or, map, Option, Some, IsSome, subst, sum, max, slice_get, arith, rules, length-append, below_more}
+use Rattle.std.proofs.Common.{◌≡◌, ℕ, ℤ, ◌+◌, ◌<◌, ◌≤◌, ◌∙◌, List, [], ◌∷◌, ◌++◌, All, length, take, get_or, map, Option, Some, IsSome, subst, sum, max, slice_get, arith, rules, length-append, below_more}
 use Rattle.std.proofs.lemmas.List.{take-append-le, take_more, map-append, length-take, take-take, get_or-take, get_or_default}
 use Rattle.std.proofs.lemmas.List.Elements.{All-push}
 use Rattle.std.proofs.lemmas.List.Sums.{fold_more}
@@ -59,6 +59,11 @@ pub entry_of-read : (levels : List Image) (p : List ℕ) (image : Image) (e : En
 unfolding entry_of
 entry_of-read levels p image e found read =
     rw (get_or_from_slice_get levels (sum p) image no_image found, get_or_from_slice_get image.entries (rank_of p) e no_entry read)
+
+-- and so is its value
+pub value_of-read : (levels : List Image) (p : List ℕ) (image : Image) (v : ℤ) → slice_get levels (sum p) ≡ Some image → v ≡ (get_or image.entries (rank_of p) no_entry).value → v ≡ (entry_of levels p).value
+unfolding entry_of
+value_of-read levels p image v found read = rw (get_or_from_slice_get levels (sum p) image no_image found) read
 
 -- a front with a level more
 pub take-read : {X : Type 0} (xs : List X) (i : ℕ) (x : X) → slice_get xs i ≡ Some x → take (i + 1) xs ≡ take i xs ++ x ∷ []

@@ -1,17 +1,19 @@
 -- Entries that are spelled one after another.
-use Rattle.std.proofs.Common.{◌≡◌, ◌<◌, ◌+◌, ℕ, List, [], ◌∷◌, ◌++◌, length, get_or, Option, Some, slice_get, arith, suc, sym, ap, subst, ◌∙◌, append_assoc, append-nil, take, drop, take-append-drop}
+use Rattle.std.proofs.Common.{◌≡◌, ◌<◌, ◌+◌, ◌^◌, refl, All, ℕ, List, [], ◌∷◌, ◌++◌, length, get_or, Option, Some, slice_get, arith, suc, sym, ap, subst, ◌∙◌, append_assoc, append-nil, take, drop, take-append-drop}
 use Rattle.std.specs.Io.KnownBytes.{Appends}
-use Rattle.std.specs.List.{flat_map}
+use Rattle.std.specs.List.{flat_map, AllByRecursion}
+use Rattle.std.proofs.lemmas.Int.{ints}
 use Rattle.std.proofs.KnownBytes.{Appends-trans}
+use Rattle.std.proofs.Math.Seq.{take-add}
 use Rattle.std.proofs.lemmas.List.{take_more}
 use Rattle.std.proofs.lemmas.List.Concat.{flat_map-append}
 use Rattle.std.proofs.lemmas.Option.{get_or_from_slice_get, slice_get_within}
 use Rattle.awari_table.specs.declared.images.Entry.{Entry}
 use Rattle.awari_table.specs.declared.images.Image.{Image}
-use Rattle.awari_table.specs.Images.{no_image}
+use Rattle.awari_table.specs.Images.{no_image, HasOwnPlan, IsLevel}
 use Rattle.awari_table.specs.Shelves.{IsShelf}
 use Rattle.awari_table.proofs.ShelfLemmas.{take-read}
-use Rattle.awari_table.specs.Spelling.{entry_line, block, table_text, IsImage, AreImages}
+use Rattle.awari_table.specs.Spelling.{entry_line, block, table_text, FitsNumbers, IsEntry, IsImage, AreImages}
 
 -- one entry more
 pub spelled_more : (entries : List Entry) (i : ℕ) (none : Entry) (before after : List ℕ) → i < length entries → before ≡ flat_map entry_line (take i entries)
@@ -24,10 +26,11 @@ spelled_more entries i none before after inside spelled more =
 pub more_lines : (a b c : Option (List ℕ)) (done front : List Entry) → Appends a b (flat_map entry_line done) → Appends b c (flat_map entry_line front) → Appends a c (flat_map entry_line (done ++ front))
 more_lines a b c done front p q = subst (Appends a c) (sym (flat_map-append entry_line done front)) (Appends-trans a b c (flat_map entry_line done) (flat_map entry_line front) p q)
 
-pub moves_front : (all done rest front after : List Entry) (n : ℕ) → all ≡ done ++ rest → front ≡ take n rest → after ≡ drop n rest → all ≡ (done ++ front) ++ after
-moves_front all done rest front after n split f a =
-    let rest_is : rest ≡ front ++ after = sym (take-append-drop n rest) ∙ ap (λ (l : List Entry). l ++ drop n rest) (sym f) ∙ ap (λ (l : List Entry). front ++ l) (sym a) in
-    split ∙ ap (λ (l : List Entry). done ++ l) rest_is ∙ sym (append_assoc done front after)
+-- a run more of the entries
+pub more_run : (a b c : Option (List ℕ)) (entries : List Entry) (from count : ℕ) → Appends a b (flat_map entry_line (take from entries)) → Appends b c (flat_map entry_line (take count (drop from entries)))
+    → Appends a c (flat_map entry_line (take (from + count) entries))
+more_run a b c entries from count p q =
+    subst (λ (es : List Entry). Appends a c (flat_map entry_line es)) (sym (take-add from count entries)) (more_lines a b c (take from entries) (take count (drop from entries)) p q)
 
 pub AreImages-push : (level : ℕ) (images : List Image) (image : Image) → AreImages level images → IsImage (level + length images) image → AreImages level (images ++ image ∷ [])
 AreImages-push level [] image fits last = let same : level + 0 ≡ level = omega arith in (rw same at last, tt)
@@ -58,3 +61,25 @@ texts_more shelf n image before middle after is found fits wrote below written =
 
     text : table_text (take (n + 1) shelf) ≡ table_text (take n shelf) ++ block image
     text = ap table_text more ∙ flat_map-append block (take n shelf) (image ∷ []) ∙ ap (λ t. table_text (take n shelf) ++ t) (append-nil (block image))
+
+entries_fit : (es : List Entry) → All HasOwnPlan es → All FitsNumbers es → AllByRecursion IsEntry es
+entries_fit [] own fit = tt
+entries_fit (e ∷ es) own fit = (
+  is_entry e (own 0 e (omega arith)) (fit 0 e (omega arith)),
+  entries_fit es (λ k d h. own (suc k) d (omega (arith, h))) (λ k d h. fit (suc k) d (omega (arith, h))),
+)
+  where
+    is_entry : (e : Entry) → HasOwnPlan e → FitsNumbers e → IsEntry e
+    is_entry e own fit =
+        let value = fit.value in
+        record { low = grind (arith, ints); high = grind (arith, ints); plan = own; dist = fit.dist }
+
+-- a level whose numbers fit their bytes is an image
+pub image_fits : (image : Image) → IsLevel image → image.limit < 2 ^ 32 → All FitsNumbers image.entries → IsImage image.level image
+image_fits image is limit fit = record {
+  number = refl;
+  low = is.low;
+  limit = limit;
+  sized = is.sized;
+  entries = entries_fit image.entries is.plans fit;
+}

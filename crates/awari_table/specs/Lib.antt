@@ -1,6 +1,8 @@
 pub mod Certificate
 pub mod Reached
 pub mod Images
+pub mod Columns
+pub mod Forms
 pub mod Shelves
 pub mod Slots
 pub mod Spelling

@@ -7,12 +7,8 @@ use Rattle.awari_table.specs.declared.rules.Reached.{Reached}
 -- what the move from pit x captures and leads to, or none where it is not legal
 abbrev pub Reaches : Table → List ℕ → ℕ → Option Reached → Type 0
 Reaches t p x None = IsLegal p x → ⊥
-Reaches t p x (Some m) = (q : List ℕ) × IsMove p x m.captured q × (m.entry.value ≡ t.value q) × (m.entry.dist ≡ t.dist q)
+Reaches t p x (Some m) = (q : List ℕ) × IsMove p x m.captured q × (m.value ≡ t.value q) × (m.plies ≡ plies m.captured (t.dist q))
 
 -- what a move gains
 abbrev pub gain_of : Reached → ℤ
-gain_of m = pos m.captured -ℤ m.entry.value
-
--- how many plies a move takes
-abbrev pub plies_of : Reached → ℕ
-plies_of m = plies m.captured m.entry.dist
+gain_of m = pos m.captured -ℤ m.value

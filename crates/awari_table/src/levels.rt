@@ -1,11 +1,12 @@
 //! A level with an entry for each board of its stones.
 
-ghost use Rattle.std.specs.Prelude.{◌≡◌, ◌<◌, Some, slice_get};
+ghost use Rattle.std.specs.Prelude.{◌≡◌, ◌<◌, ◌≤◌, ◌+◌, IfOk, Some, length, take, drop, slice_get, slice_index_or};
 ghost use Rattle.awari_rank.specs.Rank.{size_of};
-ghost use Rattle.awari_table.specs.Images.{IsLevel, won_boards, even_boards, lost_boards};
+ghost use Rattle.awari_table.specs.Images.{IsLevel, no_entry, won_boards, even_boards, lost_boards};
 
 use crate::images::{Counts, Entry, Image};
 use awari_rank::size;
+use std::alloc::{AllocError, Global};
 use std::marker::Model;
 
 /// An image that has an entry for each board of its level, in which each plan is an own pit. A
@@ -53,15 +54,35 @@ impl Level {
         self.image.limit
     }
 
-    /// The entries of all boards of the level, in order of rank.
-    pub fn entries(&self) -> &[Entry]
-        ensures { result.now ≡ self.now.entries }
+    /// A vector of the entries. It takes memory for eight bytes a board.
+    pub fn to_vec(&self, alloc: Global) -> Result<Vec<Entry>, AllocError>
+        ensures { IfOk result (λ v. v.items ≡ self.now.entries) }
     {
-        self.image.entries.as_slice()
+        self.image.entries.to_vec(alloc)
+    }
+
+    /// Copies the entries from this rank on into `run`, as many as it holds. Condition: the level has
+    /// so many from there on. It takes no memory.
+    pub fn copy_run(&self, from: u32, run: &mut [Entry])
+        requires { from + length run.old ≤ size_of self.now.level }
+        ensures { run.new ≡ take (length run.old) (drop from self.now.entries) }
+    {
+        self.image.entries.copy_run(from as usize, run);
+    }
+
+    /// The value of the board of this rank. Condition: the rank is below the number of boards of the
+    /// level.
+    #[inline(always)]
+    pub fn value_at(&self, rank: u32) -> i8
+        requires { rank < size_of self.now.level }
+        ensures { result ≡ (slice_index_or self.now.entries rank no_entry).value }
+    {
+        self.image.entries.value(rank as usize)
     }
 
     /// The entry of the board of this rank. Condition: the rank is below the number of boards of the
     /// level.
+    #[inline(always)]
     pub fn entry_at(&self, rank: u32) -> Entry
         requires { rank < size_of self.now.level }
         ensures { slice_get self.now.entries rank ≡ Some result }
@@ -79,7 +100,7 @@ impl Level {
         let mut even = 0u32;
         let mut lost = 0u32;
         for rank in 0..size(self.number()) {
-            let value = self.entry_at(rank).value;
+            let value = self.value_at(rank);
             if value > 0 {
                 won += 1;
             } else if value == 0 {

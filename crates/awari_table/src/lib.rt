@@ -19,6 +19,7 @@
 #![tactic(auto)]
 
 mod blocks;
+mod columns;
 mod counted;
 mod faults;
 mod images;

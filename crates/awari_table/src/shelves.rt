@@ -161,4 +161,19 @@ impl Shelf {
         }
         self.level(stones).entry_at(board.rank())
     }
+
+    /// The value of a packed board. Condition: it has so many stones, fewer than there are levels. It
+    /// takes no memory. Neither plan nor distance is read.
+    #[inline(always)]
+    pub fn value_below(&self, board: &PackedBoard, stones: u8) -> i8
+        requires stones { sum board.now ≡ stones }
+        requires known { stones < length self.now }
+        ensures { result ≡ (entry_of self.now board.now).value }
+    {
+        // Only the count says that each level stands at its number.
+        if stones >= self.levels() {
+            unreachable!();
+        }
+        self.level(stones).value_at(board.rank())
+    }
 }

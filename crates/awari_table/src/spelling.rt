@@ -1,6 +1,7 @@
 //! The text of tables, written.
 
-ghost use Rattle.std.specs.Prelude.{◌≡◌, ◌≤◌, ◌+◌, ◌*◌, ◌++◌, All, length, OnOk, OnErr};
+ghost use Rattle.std.specs.Prelude.{◌≡◌, ◌≤◌, ◌+◌, ◌*◌, ◌++◌, All, length, take, drop, OnOk, OnErr};
+ghost use Rattle.awari_rank.specs.Rank.{size_of};
 ghost use Rattle.std.specs.Fmt.{decimal, signed_decimal};
 ghost use Rattle.std.specs.List.{flat_map};
 ghost use Rattle.std.specs.Io.KnownBytes.{Appends};
@@ -13,6 +14,7 @@ use crate::images::Entry;
 use crate::levels::Level;
 use crate::shelves::Shelf;
 use arrayvec::ArrayVec;
+use awari_rank::size;
 use std::io::{self, Write};
 
 /// Room for a line, in bytes. The longest line of an entry or a header has 27 bytes with its line
@@ -139,18 +141,39 @@ fn write_batch<W: Write>(entries: &[Entry], writer: &mut Counted<W>) -> io::Resu
     writer.write_all(lines.as_slice())
 }
 
-/// Writes the lines of entries, a batch at a time.
-fn write_entries<W: Write>(entries: &[Entry], writer: &mut Counted<W>) -> io::Result<()>
-    ensures ok { OnOk result (Appends (W.contents (inner_of writer.old)) (W.contents (inner_of writer.new)) (flat_map entry_line entries.now)) }
-    ensures fit { OnOk result (All FitsNumbers entries.now) }
+/// Writes the lines of so many entries of a level, from this rank on.
+fn write_run<W: Write>(
+    level: &Level,
+    from: u32,
+    count: u32,
+    writer: &mut Counted<W>,
+) -> io::Result<()>
+    requires within { from + count ≤ size_of level.now.level }
+    requires few { count ≤ BATCH }
+    ensures ok { OnOk result (Appends (W.contents (inner_of writer.old)) (W.contents (inner_of writer.new)) (flat_map entry_line (take count (drop from level.now.entries)))) }
+    ensures fit { All FitsNumbers (take count (drop from level.now.entries)) }
     ensures err { OnErr result (Grew (faults_of writer.old) (faults_of writer.new)) }
     ensures faults { faults_of writer.old ≤ faults_of writer.new }
 {
-    let mut rest = entries;
-    while !rest.is_empty() {
-        let (front, after) = rest.split_at(rest.len().min(BATCH));
-        write_batch(front, writer)?;
-        rest = after;
+    let mut batch = [Entry::NONE; BATCH];
+    let run = &mut batch[..count as usize];
+    level.copy_run(from, run);
+    write_batch(run, writer)
+}
+
+/// Writes the lines of a level's entries, a batch at a time.
+fn write_entries<W: Write>(level: &Level, writer: &mut Counted<W>) -> io::Result<()>
+    ensures ok { OnOk result (Appends (W.contents (inner_of writer.old)) (W.contents (inner_of writer.new)) (flat_map entry_line level.now.entries)) }
+    ensures fit { OnOk result (All FitsNumbers level.now.entries) }
+    ensures err { OnErr result (Grew (faults_of writer.old) (faults_of writer.new)) }
+    ensures faults { faults_of writer.old ≤ faults_of writer.new }
+{
+    let boards = size(level.number());
+    let mut from = 0u32;
+    while from < boards {
+        let count = (boards - from).min(BATCH as u32);
+        write_run(level, from, count, writer)?;
+        from += count;
     }
     Ok(())
 }
@@ -168,7 +191,7 @@ pub fn write_level_text<W: Write>(level: &Level, writer: &mut Counted<W>) -> io:
     ensures faults { faults_of writer.old ≤ faults_of writer.new }
 {
     writer.write_all(line_of_header(level.number(), level.limit()).as_slice())?;
-    write_entries(level.entries(), writer)
+    write_entries(level, writer)
 }
 
 /// Writes the text of the levels of a shelf. `check` of `awari_check` says yes to it. It takes no

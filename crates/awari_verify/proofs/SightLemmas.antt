@@ -1,5 +1,5 @@
 -- A rule at what is seen of a board is that rule of the table.
-use Rattle.std.proofs.Common.{◌≡◌, ◌↔◌, ◌⊎◌, ℕ, ◌<◌, ◌≤◌, List, length, get_or, Option, Some, None, IsSome, IsSomeAnd, IsNone, IfSome, All, Any, ℤ, pos, ◌-ℤ◌, ◌≤ℤ◌, ◌<ℤ◌, sym, refl, subst, inl, inr, ◌∙◌, arith}
+use Rattle.std.proofs.Common.{◌≡◌, ◌↔◌, ◌⊎◌, ℕ, zero, suc, ◌<◌, ◌≤◌, List, length, get_or, Option, Some, None, IsSome, IsSomeAnd, IsNone, IfSome, All, Any, ℤ, pos, ◌-ℤ◌, ◌≤ℤ◌, ◌<ℤ◌, sym, refl, subst, inl, inr, ◌∙◌, arith}
 use Rattle.std.proofs.lemmas.Bool.{false≢true, cases_lt}
 use Rattle.std.proofs.lemmas.List.{get_or_default, get_or_past}
 use Rattle.awari_board.specs.Rules.{IsLegal, IsMove, IsEnd}
@@ -7,7 +7,7 @@ use Rattle.awari_board.specs.Rules.{IsEnded}
 use Rattle.awari_table.specs.Certificate.{Table, InRange, EndIsRight, HasPlan, NoMoveGainsMore, PlanGains, plies, GainsIn, GainsNoSooner, MovesIn, MovesNoLater, DistancesFall, DistancesAreLeast, DistancesAre}
 use Rattle.awari_table.specs.declared.rules.Distances.{Distances}
 use Rattle.awari_table.specs.declared.rules.Distances.TheVariants.{Falling, Least}
-use Rattle.awari_table.specs.Reached.{Reaches, gain_of, plies_of}
+use Rattle.awari_table.specs.Reached.{Reaches, gain_of}
 use Rattle.awari_table.specs.declared.rules.Reached.{Reached}
 use Rattle.awari_verify.specs.declared.rules.Seen.{Seen}
 use Rattle.awari_verify.specs.Sights.{SeesEnd, Sees, move_at, IsNearer, KeepsRange, KeepsEnd, KeepsPlan, KeepsGain, KeepsPlanGain, KeepsFalling, GainsJustIn, KeepsWon, KeepsLost, KeepsLeast, KeepsDistance}
@@ -18,7 +18,7 @@ SeesMoves t p moves = (x : ℕ) → x < 6 → Reaches t p x (get_or moves x None
 
 -- what is asked of a reached board is what is asked of the move
 abbrev pub Says : Table → List ℕ → (Reached → Type 0) → (ℕ → ℕ → List ℕ → Type 0) → Type 0
-Says t p P Q = (x : ℕ) (m : Reached) (q : List ℕ) → m.entry.value ≡ t.value q → m.entry.dist ≡ t.dist q → P m ↔ Q x m.captured q
+Says t p P Q = (x : ℕ) (m : Reached) (q : List ℕ) → m.value ≡ t.value q → m.plies ≡ plies m.captured (t.dist q) → P m ↔ Q x m.captured q
 
 pub range-iff : (t : Table) (p : List ℕ) (s : Seen) → Sees t p s → KeepsRange s ↔ InRange t p
 range-iff t p s h = rw (← h.stones, ← h.value, ← h.plan) (λ k. k, λ k. k)
@@ -103,7 +103,14 @@ plan_gain-iff t p s h =
     rw (← h.value, ← h.plan) (planned_any t p (λ m. gain_of m ≡ s.entry.value) (λ x c q. (pos c -ℤ t.value q) ≡ s.entry.value) (λ x m q v d. rw v (λ k. k, λ k. k)) s.moves s.entry.plan h.six h.moves)
 
 nearer-says : (t : Table) (p : List ℕ) (dist : ℕ) → Says t p (λ m. IsNearer m dist) (λ x c q. (0 < c) ⊎ (t.dist q < dist))
-nearer-says t p dist x m q v d = rw d (λ k. k, λ k. k)
+nearer-says t p dist x m q v d = go m.captured d
+  where
+    go : (c : ℕ) → m.plies ≡ plies c (t.dist q) → ((0 < c) ⊎ (m.plies ≤ dist)) ↔ ((0 < c) ⊎ (t.dist q < dist))
+    go zero is = (
+      λ k. elim k [ inl some ↦ inl some | inr near ↦ inr (omega (arith, is, near)) ],
+      λ k. elim k [ inl some ↦ inl some | inr near ↦ inr (omega (arith, is, near)) ],
+    )
+    go (suc c) is = (λ k. inl (omega arith), λ k. inl (omega arith))
 
 winning_any : (t : Table) (p : List ℕ) (s : Seen) → Sees t p s → IfSome (move_at s.moves s.entry.plan) (λ m. IsNearer m s.entry.dist) ↔ ((x c : ℕ) (q : List ℕ) → s.entry.plan ≡ Some x → IsMove p x c q → (0 < c) ⊎ (t.dist q < s.entry.dist))
 winning_any t p s h =
@@ -161,19 +168,19 @@ moves_some t p P Q says moves six sees = (
 just-says : (t : Table) (p : List ℕ) (value : ℤ) (dist : ℕ) → Says t p (GainsJustIn value dist) (λ x c q. ((pos c -ℤ t.value q) ≡ value) × (plies c (t.dist q) ≡ dist))
 just-says t p value dist x m q v d = rw (v, d) (λ k. k, λ k. k)
 
-sooner-says : (t : Table) (p : List ℕ) (value : ℤ) (dist : ℕ) → Says t p (λ m. gain_of m ≡ value → dist ≤ plies_of m) (λ x c q. (pos c -ℤ t.value q) ≡ value → dist ≤ plies c (t.dist q))
+sooner-says : (t : Table) (p : List ℕ) (value : ℤ) (dist : ℕ) → Says t p (λ m. gain_of m ≡ value → dist ≤ m.plies) (λ x c q. (pos c -ℤ t.value q) ≡ value → dist ≤ plies c (t.dist q))
 sooner-says t p value dist x m q v d = rw (v, d) (λ k. k, λ k. k)
 
-takes-says : (t : Table) (p : List ℕ) (dist : ℕ) → Says t p (λ m. plies_of m ≡ dist) (λ x c q. plies c (t.dist q) ≡ dist)
+takes-says : (t : Table) (p : List ℕ) (dist : ℕ) → Says t p (λ m. m.plies ≡ dist) (λ x c q. plies c (t.dist q) ≡ dist)
 takes-says t p dist x m q v d = rw d (λ k. k, λ k. k)
 
-later-says : (t : Table) (p : List ℕ) (dist : ℕ) → Says t p (λ m. plies_of m ≤ dist) (λ x c q. plies c (t.dist q) ≤ dist)
+later-says : (t : Table) (p : List ℕ) (dist : ℕ) → Says t p (λ m. m.plies ≤ dist) (λ x c q. plies c (t.dist q) ≤ dist)
 later-says t p dist x m q v d = rw d (λ k. k, λ k. k)
 
 won_any : (t : Table) (p : List ℕ) (s : Seen) → Sees t p s → KeepsWon s ↔ ((IsEnded p → ⊥) → pos 0 <ℤ t.value p → GainsIn t p (t.dist p) × GainsNoSooner t p (t.dist p))
 won_any t p s h =
     let some = moves_some t p (GainsJustIn s.entry.value s.entry.dist) _ (just-says t p s.entry.value s.entry.dist) s.moves h.six h.moves in
-    let all = moves_any t p (λ m. gain_of m ≡ s.entry.value → s.entry.dist ≤ plies_of m) _ (sooner-says t p s.entry.value s.entry.dist) s.moves h.six h.moves in
+    let all = moves_any t p (λ m. gain_of m ≡ s.entry.value → s.entry.dist ≤ m.plies) _ (sooner-says t p s.entry.value s.entry.dist) s.moves h.six h.moves in
     rw (← h.value, ← h.dist) (
       λ k more up. let both = k (none_from_open p s.end h.at_end more) up in let (x, c, q, move, just) = some.0 both.0 in ((x, c, q, move, just.0, just.1), all.0 both.1),
       λ k none up. let both = k (open_from_none p s.end h.at_end none) up in let (x, c, q, move, gain, takes) = both.0 in (some.1 (x, c, q, move, (gain, takes)), all.1 both.1),
@@ -181,8 +188,8 @@ won_any t p s h =
 
 lost_any : (t : Table) (p : List ℕ) (s : Seen) → Sees t p s → KeepsLost s ↔ ((IsEnded p → ⊥) → t.value p <ℤ pos 0 → MovesIn t p (t.dist p) × MovesNoLater t p (t.dist p))
 lost_any t p s h =
-    let some = moves_some t p (λ m. plies_of m ≡ s.entry.dist) _ (takes-says t p s.entry.dist) s.moves h.six h.moves in
-    let all = moves_any t p (λ m. plies_of m ≤ s.entry.dist) _ (later-says t p s.entry.dist) s.moves h.six h.moves in
+    let some = moves_some t p (λ m. m.plies ≡ s.entry.dist) _ (takes-says t p s.entry.dist) s.moves h.six h.moves in
+    let all = moves_any t p (λ m. m.plies ≤ s.entry.dist) _ (later-says t p s.entry.dist) s.moves h.six h.moves in
     rw (← h.value, ← h.dist) (
       λ k more down. let both = k (none_from_open p s.end h.at_end more) down in (some.0 both.0, all.0 both.1),
       λ k none down. let both = k (open_from_none p s.end h.at_end none) down in (some.1 both.0, all.1 both.1),

@@ -2,7 +2,7 @@
 use Rattle.std.specs.Prelude.{◌≡◌, ◌≢◌, ℕ, ◌<◌, ◌≤◌, ◌⊎◌, List, length, sum, ℤ, pos, neg_ℤ, ◌≤ℤ◌, ◌<ℤ◌, Option, Some, None, IfSome, IsSome, IsSomeAnd, IsNone, All, Any, slice_index_or}
 use Rattle.awari_board.specs.Rules.{IsEnd, IsEnded}
 use Rattle.awari_table.specs.Certificate.{Table}
-use Rattle.awari_table.specs.Reached.{Reaches, gain_of, plies_of}
+use Rattle.awari_table.specs.Reached.{Reaches, gain_of}
 use Rattle.awari_table.specs.declared.rules.Reached.{Reached}
 use Rattle.awari_table.specs.declared.rules.Distances.{Distances}
 use Rattle.awari_table.specs.declared.rules.Distances.TheVariants.{Falling, Least}
@@ -39,7 +39,7 @@ planned_of s = move_at s.moves s.entry.plan
 
 -- a move that captures or leads to a smaller distance
 abbrev pub IsNearer : Reached → ℕ → Type 0
-IsNearer m dist = (0 < m.captured) ⊎ (m.entry.dist < dist)
+IsNearer m dist = (0 < m.captured) ⊎ (m.plies ≤ dist)
 
 abbrev pub KeepsPlan : Seen → Type 0
 KeepsPlan s = IsNone s.end → IsSome (planned_of s)
@@ -67,17 +67,17 @@ KeepsFalling s = KeepsEven s × KeepsUneven s × KeepsWinning s × KeepsLosing s
 
 -- a move that gains the value in so many plies
 abbrev pub GainsJustIn : ℤ → ℕ → Reached → Type 0
-GainsJustIn value dist m = (gain_of m ≡ value) × (plies_of m ≡ dist)
+GainsJustIn value dist m = (gain_of m ≡ value) × (m.plies ≡ dist)
 
 abbrev pub KeepsWon : Seen → Type 0
 KeepsWon s =
     IsNone s.end → pos 0 <ℤ s.entry.value
-    → Any (λ o. IsSomeAnd o (GainsJustIn s.entry.value s.entry.dist)) s.moves × All (λ o. IfSome o (λ m. gain_of m ≡ s.entry.value → s.entry.dist ≤ plies_of m)) s.moves
+    → Any (λ o. IsSomeAnd o (GainsJustIn s.entry.value s.entry.dist)) s.moves × All (λ o. IfSome o (λ m. gain_of m ≡ s.entry.value → s.entry.dist ≤ m.plies)) s.moves
 
 abbrev pub KeepsLost : Seen → Type 0
 KeepsLost s =
     IsNone s.end → s.entry.value <ℤ pos 0
-    → Any (λ o. IsSomeAnd o (λ m. plies_of m ≡ s.entry.dist)) s.moves × All (λ o. IfSome o (λ m. plies_of m ≤ s.entry.dist)) s.moves
+    → Any (λ o. IsSomeAnd o (λ m. m.plies ≡ s.entry.dist)) s.moves × All (λ o. IfSome o (λ m. m.plies ≤ s.entry.dist)) s.moves
 
 abbrev pub KeepsLeast : Seen → Type 0
 KeepsLeast s = KeepsEven s × KeepsWon s × KeepsLost s × KeepsWinning s

@@ -14,7 +14,7 @@ ghost use Rattle.awari_verify.specs.declared.search.Refusal.{Refusal as ARefusal
 use crate::rules::Rule;
 use crate::search::{Refusal, refusal_between};
 use crate::verdicts::{VerifyFault, boards_of};
-use awari_table::{Distances, Image, Level, Shelf, greatest_dist};
+use awari_table::{Distances, Image, Level, Shelf};
 use rayon::prelude::*;
 use std::alloc::{AllocError, Global};
 use std::thread::Threads;
@@ -63,7 +63,7 @@ fn fault_in_pieces<R: Threads + Sync>(
     };
     match first_refusal(rt, alloc, shelf, image, boards)? {
         Some(Refusal { rank, rule }) => Ok(Some(VerifyFault::Refused { rank, rule })),
-        None if image.limit != greatest_dist(image.entries.as_slice()) => {
+        None if image.limit != image.entries.greatest_dist() => {
             Ok(Some(VerifyFault::Refused {
                 rank: 0,
                 rule: Rule::V7,

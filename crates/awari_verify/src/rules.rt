@@ -2,7 +2,7 @@
 
 ghost use Rattle.std.specs.Prelude.{◌≡◌, ◌≤◌, ◌↔◌, ℕ, List, IsTrue, IfSome, IsSomeAnd, All, Any, MatchOption};
 ghost use Rattle.awari_table.specs.Certificate.{Table, IsRightBy};
-ghost use Rattle.awari_table.specs.Reached.{gain_of, plies_of};
+ghost use Rattle.awari_table.specs.Reached.{gain_of};
 ghost use Rattle.awari_verify.specs.Sights.{Sees, planned_of, IsNearer, KeepsRange, KeepsEnd, KeepsPlan, KeepsGain, KeepsPlanGain, KeepsEven, KeepsUneven, KeepsWinning, KeepsLosing, KeepsFalling, GainsJustIn, KeepsWon, KeepsLost, KeepsLeast, KeepsDistance};
 ghost use Rattle.awari_verify.specs.FirstFailure.{BreaksFirst};
 
@@ -231,7 +231,7 @@ fn some_gains_in(seen: &Seen) -> bool
     seen.moves.iter().any(|reached| match reached {
         Some(reached) => {
             reached.gain() == i16::from(seen.entry.value)
-                && reached.plies() == u64::from(seen.entry.dist)
+                && reached.plies == u64::from(seen.entry.dist)
         }
         None => false,
     })
@@ -239,12 +239,12 @@ fn some_gains_in(seen: &Seen) -> bool
 
 /// Whether each move that gains the value takes at least as many plies as the distance.
 fn none_gains_sooner(seen: &Seen) -> bool
-    ensures { IsTrue result ↔ All (λ o. IfSome o (λ m. gain_of m ≡ seen.now.entry.value → seen.now.entry.dist ≤ plies_of m)) seen.now.moves }
+    ensures { IsTrue result ↔ All (λ o. IfSome o (λ m. gain_of m ≡ seen.now.entry.value → seen.now.entry.dist ≤ m.plies)) seen.now.moves }
 {
     seen.moves.iter().all(|reached| match reached {
         Some(reached) => {
             reached.gain() != i16::from(seen.entry.value)
-                || u64::from(seen.entry.dist) <= reached.plies()
+                || u64::from(seen.entry.dist) <= reached.plies
         }
         None => true,
     })
@@ -261,20 +261,20 @@ fn keeps_lost(seen: &Seen) -> bool
 
 /// Whether a move takes as many plies as the distance.
 fn some_takes(seen: &Seen) -> bool
-    ensures { IsTrue result ↔ Any (λ o. IsSomeAnd o (λ m. plies_of m ≡ seen.now.entry.dist)) seen.now.moves }
+    ensures { IsTrue result ↔ Any (λ o. IsSomeAnd o (λ m. m.plies ≡ seen.now.entry.dist)) seen.now.moves }
 {
     seen.moves.iter().any(|reached| match reached {
-        Some(reached) => reached.plies() == u64::from(seen.entry.dist),
+        Some(reached) => reached.plies == u64::from(seen.entry.dist),
         None => false,
     })
 }
 
 /// Whether each move takes at most as many plies as the distance.
 fn none_takes_longer(seen: &Seen) -> bool
-    ensures { IsTrue result ↔ All (λ o. IfSome o (λ m. plies_of m ≤ seen.now.entry.dist)) seen.now.moves }
+    ensures { IsTrue result ↔ All (λ o. IfSome o (λ m. m.plies ≤ seen.now.entry.dist)) seen.now.moves }
 {
     seen.moves.iter().all(|reached| match reached {
-        Some(reached) => reached.plies() <= u64::from(seen.entry.dist),
+        Some(reached) => reached.plies <= u64::from(seen.entry.dist),
         None => true,
     })
 }
@@ -293,5 +293,5 @@ fn planned(seen: &Seen) -> Option<Reached>
 fn is_nearer(reached: &Reached, dist: u32) -> bool
     ensures { IsTrue result ↔ IsNearer reached.now dist }
 {
-    reached.captured > 0 || reached.entry.dist < dist
+    reached.captured > 0 || reached.plies <= u64::from(dist)
 }

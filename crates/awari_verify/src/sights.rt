@@ -3,6 +3,7 @@
 ghost use Rattle.std.specs.Prelude.{◌≡◌, ◌<◌, ◌↔◌, ℕ, ◌+◌, [], ◌∷◌, ◌++◌, None, IsSome, sum, slice_index_or};
 ghost use Rattle.awari_board.specs.Rules.{IsLegal};
 ghost use Rattle.awari_rank.specs.Rank.{size_of, rank_of};
+ghost use Rattle.awari_table.specs.Certificate.{plies};
 ghost use Rattle.awari_table.specs.Images.{entry_of, table_of};
 ghost use Rattle.awari_verify.specs.VerifyFault.{IsShaped};
 ghost use Rattle.awari_table.specs.Reached.{Reaches};
@@ -11,7 +12,7 @@ ghost use Rattle.awari_verify.specs.Sights.{Sees, SeesEnd};
 use crate::rules::Seen;
 use awari_board::SIDE;
 use awari_packed::{PackedBoard, PackedMove};
-use awari_table::{Distances, Entry, Image, Reached, Shelf};
+use awari_table::{Distances, Image, Reached, Shelf};
 
 /// Fills `seen` with what the image says of the board of this rank, and with what image and shelf say
 /// of the boards that its moves lead to. Each is looked up once.
@@ -41,24 +42,23 @@ fn reached(shelf: &Shelf, image: &Image, board: &PackedBoard, pit: u8) -> Option
     if !board.legal(pit) {
         return None;
     }
-    let moved = board.play(pit);
-    Some(Reached {
-        captured: moved.captured,
-        entry: entry_after(shelf, image, &moved),
-    })
+    Some(reached_by(shelf, image, &board.play(pit)))
 }
 
-/// The entry of the board that a move leaves: it is the image's after a quiet move, and the shelf's
-/// after a capture.
-fn entry_after(shelf: &Shelf, image: &Image, moved: &PackedMove) -> Entry
+/// The move as it was played. What a quiet move leads to, the image says. Behind a capture the shelf
+/// says it, and only the value is read there.
+fn reached_by(shelf: &Shelf, image: &Image, moved: &PackedMove) -> Reached
     requires shaped { IsShaped Distances.Least shelf.now image.now }
     requires stones { sum moved.now.board + moved.now.captured ≡ image.now.level }
-    ensures { result ≡ entry_of (shelf.now ++ image.now ∷ []) moved.now.board }
+    ensures captured { result.captured ≡ moved.now.captured }
+    ensures value { result.value ≡ (entry_of (shelf.now ++ image.now ∷ []) moved.now.board).value }
+    ensures plies { result.plies ≡ plies moved.now.captured (entry_of (shelf.now ++ image.now ∷ []) moved.now.board).dist }
 {
-    if moved.captured == 0 {
-        return image.entries.at(moved.board.rank() as usize);
+    let captured = moved.captured;
+    if captured == 0 {
+        return Reached::of(captured, image.entries.at(moved.board.rank() as usize));
     }
-    shelf.entry_below(&moved.board, image.level - moved.captured)
+    Reached::by_capture(captured, shelf.value_below(&moved.board, image.level - captured))
 }
 
 /// The gain of the board's end, if none of its moves is legal.

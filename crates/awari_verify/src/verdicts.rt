@@ -12,7 +12,7 @@ use crate::rules::Rule;
 use crate::search::{Refusal, refusal_between};
 use awari_rank::size;
 use awari_table::{
-    Distances, HIGHEST_FALLING_LEVEL, HIGHEST_LEVEL, Image, Level, Shelf, greatest_dist,
+    Distances, HIGHEST_FALLING_LEVEL, HIGHEST_LEVEL, Image, Level, Shelf,
 };
 use std::alloc::AllocError;
 use std::fmt;
@@ -138,7 +138,7 @@ fn fault_by(asked: Distances, shelf: &Shelf, image: &Image) -> Option<VerifyFaul
     };
     match refusal_between(asked, shelf, image, 0, boards) {
         Some(Refusal { rank, rule }) => Some(VerifyFault::Refused { rank, rule }),
-        None if image.limit != greatest_dist(image.entries.as_slice()) => {
+        None if image.limit != image.entries.greatest_dist() => {
             Some(VerifyFault::Refused {
                 rank: 0,
                 rule: Rule::V7,

@@ -41,12 +41,12 @@ returns-in_err-digest-clause-exact g c =
 
 pub returns-clause-exact : goal.returns-clause-exact
 returns-clause-exact g c =
-    known_gives _ (loaded_of c.in_ok-header.header c.from.result c.in_ok-digest.digest)
+    known_gives _ (loaded_of c.in_ok-header.header c.read_entries.new.entries c.in_ok-digest.digest)
     (λ xs known.
     let start = start_at xs _ c.new-hasher.result c.new-hasher.ensures known in
     let (rest, at, header) = c.in_ok-header.ensures.parsed xs xs start in
     let (new, left, items, at2, entries) = c.in_ok-read_entries.ensures.parsed xs rest at in
-    let same : new ≡ c.from.result = sym (items ∙ ap (λ (l : List Entry). l ++ new) c.new-entries.ensures.items) ∙ sym c.from.ensures in
+    let same : new ≡ c.read_entries.new.entries = sym (items ∙ ap (λ (l : List Entry). l ++ new) c.new-entries.ensures) in
     all_ok xs c.in_ok-header.header rest c.size-count.result new left at2.done c.in_ok-digest.digest c.size-count.ensures.boards header entries at2.parts
     (c.in_ok-digest.ensures.parsed left at2.done at2.known_is at2.holds) ∙ ap (λ (es : List Entry). Ok (loaded_of c.in_ok-header.header es c.in_ok-digest.digest)) same)
 

@@ -16,7 +16,7 @@ pub loop-left-init : goal.loop-left-init
 loop-left-init g c = record {
   within = omega arith;
   faults = refl;
-  read = λ whole left here. ([], left, [], sym (append-nil c.args.entries.now.items), here, refl, λ more. with_front-nil (entries_at c.args.count Truncated more), nothing_yet c.args.count Truncated left);
+  read = λ whole left here. ([], left, [], sym (append-nil c.args.entries.now), here, refl, λ more. with_front-nil (entries_at c.args.count Truncated more), nothing_yet c.args.count Truncated left);
 }
 
 pub returns-in_err-read_some-clause-parsed : goal.returns-in_err-read_some-clause-parsed
@@ -85,7 +85,7 @@ loop-left-preserved g c =
             new ++ more,
             after,
             taken ++ t.front,
-            items2 ∙ ap (λ (l : List Entry). l ++ more) items ∙ append_assoc c.args.entries.now.items new more,
+            items2 ∙ ap (λ (l : List Entry). l ++ more) items ∙ append_assoc c.args.entries.now new more,
             at2,
             parts ∙ ap (λ (l : List ℕ). taken ++ l) t.parts ∙ sym (append_assoc taken t.front after),
             λ behind. some_go_on new more c.loop-left.left a Truncated (t.front ++ behind) behind (entries_at c.args.count Truncated (taken ++ (t.front ++ behind))) le (t.again behind) (so_far (t.front ++ behind))

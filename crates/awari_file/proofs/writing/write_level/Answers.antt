@@ -18,8 +18,7 @@ returns-in-Ok-clause-written g c =
     let below = c.args.below in
     let header : c.header_of-header.result ≡ header_text 2 image.level image.limit below =
     c.header_of-header.ensures ∙ ap (λ (n : ℕ). header_text 2 n c.limit.result below) c.number.ensures.number ∙ ap (λ (n : ℕ). header_text 2 image.level n below) c.limit.ensures in
-    let entries : flat_map entry_text c.entries.result.now ≡ flat_map entry_text image.entries = ap (λ (es : List Entry). flat_map entry_text es) c.entries.ensures in
-    let all = Puts-then _ _ _ _ _ _ _ _ (Puts-same _ _ _ _ _ _ header c.in_ok-put.ensures.ok) (Puts-same _ _ _ _ _ _ entries c.in_ok-put_entries.ensures.ok) in
+    let all = Puts-then _ _ _ _ _ _ _ _ (Puts-same _ _ _ _ _ _ header c.in_ok-put.ensures.ok) c.in_ok-put_entries.ensures.ok in
     let digest : c.finalize-digest.result ≡ sha256 (body_text 2 image below) = c.finalize-digest.ensures (body_text 2 image below) (all.holds [] c.new-hasher.ensures) in
     let first = g.W.Write.contents (inner_of c.args.writer.now) in
     let last = g.W.Write.contents (inner_of c.write_all.new.self) in
@@ -31,9 +30,8 @@ returns-in-Ok-clause-digest g c =
     let below = c.args.below in
     let header : c.header_of-header.result ≡ header_text 2 image.level image.limit below =
     c.header_of-header.ensures ∙ ap (λ (n : ℕ). header_text 2 n c.limit.result below) c.number.ensures.number ∙ ap (λ (n : ℕ). header_text 2 image.level n below) c.limit.ensures in
-    let entries : flat_map entry_text c.entries.result.now ≡ flat_map entry_text image.entries = ap (λ (es : List Entry). flat_map entry_text es) c.entries.ensures in
-    let all = Puts-then _ _ _ _ _ _ _ _ (Puts-same _ _ _ _ _ _ header c.in_ok-put.ensures.ok) (Puts-same _ _ _ _ _ _ entries c.in_ok-put_entries.ensures.ok) in
+    let all = Puts-then _ _ _ _ _ _ _ _ (Puts-same _ _ _ _ _ _ header c.in_ok-put.ensures.ok) c.in_ok-put_entries.ensures.ok in
     c.finalize-digest.ensures (body_text 2 image below) (all.holds [] c.new-hasher.ensures)
 
 pub returns-in-Ok-clause-has : goal.returns-in-Ok-clause-has
-returns-in-Ok-clause-has g c = has_file c.args.level.now c.args.below c.number.ensures.level (subst (All FitsNumbers) c.entries.ensures c.in_ok-put_entries.ensures.fit) (omega arith) (omega arith) (λ i. (elem_Fits w8 w8 c.args.below c.well_formed.1.0.0 i c.well_formed.1.0.1.1 tt).fits)
+returns-in-Ok-clause-has g c = has_file c.args.level.now c.args.below c.number.ensures.level c.in_ok-put_entries.ensures.fit (omega arith) (omega arith) (λ i. (elem_Fits w8 w8 c.args.below c.well_formed.1.0.0 i c.well_formed.1.0.1.1 tt).fits)

@@ -136,3 +136,14 @@ returns-in_err-digest-clause-whole g c = λ others to.
     let right = subst (λ o. IfSome o (λ m. Consistent c.loop.shelf m.level)) c.in-Some.is c.in_ok-next.ensures.right in
     let level : put.level ≡ c.loop.counter = ap (λ (image : Image). image.level) same ∙ right.next ∙ i.levels in
     leaves-more others (g.G.Folder.stands c.loop.to) _ _ _ put c.loop.digest (i.to_rest others to put.level (omega (arith, level))) (i.whole others to) c.store.ensures.crash
+
+pub returns-in_err-digest-clause-named : goal.returns-in_err-digest-clause-named
+returns-in_err-digest-clause-named g c =
+    let i = c.loop.invariant in
+    let p = err_from_is_err_and c.from_residual-in_err-digest.result c.from_residual-in_err-digest.ensures.1 in
+    let next = c.in-Some.next in
+    let put = c.deref.result.now in
+    let same : put ≡ next.level = search rules in
+    let right = subst (λ o. IfSome o (λ m. Consistent c.loop.shelf m.level)) c.in-Some.is c.in_ok-next.ensures.right in
+    let level : put.level ≡ c.loop.counter = ap (λ (image : Image). image.level) same ∙ right.next ∙ i.levels in
+    rw (p.1, p.2) (record { level = put.level; low = omega (arith, level); named = c.in_err-digest.ensures.named })

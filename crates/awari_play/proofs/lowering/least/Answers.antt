@@ -10,20 +10,20 @@ use Rattle.awari_play.proofs.Lowerings.{above_image, least_consistent}
 use Rattle.awari_play.proofs.lowering.least.Goals as goal
 
 pub lower-requires-clause-above : goal.lower-requires-clause-above
-lower-requires-clause-above c = subst (AreAbove c.args.shelf.now) (sym c.into_vec-entries.ensures) (above_image c.args.shelf.now c.args.image c.requires)
+lower-requires-clause-above c = subst (AreAbove c.args.shelf.now) (sym c.in_ok-entries.ensures) (above_image c.args.shelf.now c.args.image c.requires)
 
 pub returns-clause-planned : goal.returns-clause-planned
 returns-clause-planned c =
     (next_image c.args.shelf.now _ c.lower.new.entries.items
-    (c.lower.ensures.nearer.size ∙ ap (λ (es : List Entry). length es) c.into_vec-entries.ensures ∙ c.requires.sized ∙ ap size_of c.requires.next)
+    (c.lower.ensures.nearer.size ∙ ap (λ (es : List Entry). length es) c.in_ok-entries.ensures ∙ c.requires.sized ∙ ap size_of c.requires.next)
     (planned _ _ _ _ c.requires.next c.from.ensures (c.greatest_dist.ensures ∙ ap greatest_dist c.as_slice.ensures.value) c.set_lowest_plans.ensures.same c.set_lowest_plans.ensures.planned)).planned
 
 pub returns-clause-consistent : goal.returns-clause-consistent
 returns-clause-consistent c =
     let done =
     next_image c.args.shelf.now _ c.lower.new.entries.items
-    (c.lower.ensures.nearer.size ∙ ap (λ (es : List Entry). length es) c.into_vec-entries.ensures ∙ c.requires.sized ∙ ap size_of c.requires.next)
+    (c.lower.ensures.nearer.size ∙ ap (λ (es : List Entry). length es) c.in_ok-entries.ensures ∙ c.requires.sized ∙ ap size_of c.requires.next)
     (planned _ _ _ _ c.requires.next c.from.ensures (c.greatest_dist.ensures ∙ ap greatest_dist c.as_slice.ensures.value) c.set_lowest_plans.ensures.same c.set_lowest_plans.ensures.planned) in
     least_consistent c.args.shelf.now c.args.image _ c.lower.new.entries.items c.requires
-    (subst (λ (es : List Entry). NoFarther es c.lower.new.entries.items) c.into_vec-entries.ensures c.lower.ensures.nearer)
+    (subst (λ (es : List Entry). NoFarther es c.lower.new.entries.items) c.in_ok-entries.ensures c.lower.ensures.nearer)
     c.lower.ensures.above c.lower.ensures.below (subst (SameSettled c.lower.new.entries.items) (sym c.from.ensures) c.set_lowest_plans.ensures.same) done

@@ -1,6 +1,13 @@
-use Rattle.std.proofs.Common.{ap}
+use Rattle.std.proofs.Common.{◌∙◌, ap, sym, subst}
+use Rattle.awari_board.specs.Rules.{IsMove}
+use Rattle.awari_table.specs.Certificate.{plies}
+use Rattle.awari_table.specs.Images.{table_of}
+use Rattle.awari_play.specs.Planning.{with_top}
 use Rattle.awari_play.proofs.lowering.reached.Goals as goal
 
 pub returns : goal.returns
 returns c =
-    (c.play-moved.result.board, c.play-moved.ensures.moved, ap (λ e. e.value) c.entry_after.ensures, ap (λ e. e.dist) c.entry_after.ensures)
+    let reached = c.reached_by.ensures in
+    let next = c.play.result.board in
+    let t = table_of (with_top c.args.shelf.now c.args.entries.now) in
+    (next, subst (λ n. IsMove c.args.board.now c.args.pit n next) (sym reached.captured) c.play.ensures.moved, reached.value, reached.plies ∙ ap (λ n. plies n (t.dist next)) (sym reached.captured))

@@ -5,9 +5,9 @@ returns c = record {
   pit = c.worth_by.ensures.pit;
   worth = record {
     next = c.in-Ok.moved.board;
-    move = rw (c.worth_by.ensures.pit, c.worth_by.ensures.captured) c.in-Ok.ensures.moved;
-    gain = rw (c.worth_by.ensures.captured, ← c.in-Ok-entry.ensures.entry) c.worth_by.ensures.gain;
+    move = rw (c.worth_by.ensures.pit, c.worth_by.ensures.captured, c.of.ensures.captured) c.in-Ok.ensures.moved;
+    gain = rw (c.worth_by.ensures.captured, ← c.in-Ok-entry.ensures.entry, ← c.of.ensures.value) c.worth_by.ensures.gain;
     even = c.worth_by.ensures.even;
-    uneven = rw (c.worth_by.ensures.captured, ← c.in-Ok-entry.ensures.entry) c.worth_by.ensures.uneven;
+    uneven = rw (c.worth_by.ensures.captured, c.of.ensures.captured, ← c.in-Ok-entry.ensures.entry, ← c.of.ensures.plies) c.worth_by.ensures.uneven;
   };
 }

@@ -1,17 +1,16 @@
-use Rattle.std.proofs.Common.{◌++◌, arith}
+use Rattle.std.proofs.Common.{◌≡◌, ◌+◌, ◌++◌, All, List, subst, sym, take, drop, arith}
+use Rattle.std.proofs.Math.Seq.{take-add}
 use Rattle.std.proofs.lemmas.List.Elements.{All-append}
+use Rattle.awari_table.specs.declared.images.Entry.{Entry}
 use Rattle.awari_table.specs.Spelling.{FitsNumbers}
-use Rattle.awari_table.proofs.Spelled.{more_lines, moves_front}
+use Rattle.awari_table.proofs.Spelled.{more_run}
 use Rattle.awari_table.proofs.spelling.write_entries.Goals as goal
 
-pub loop-rest-preserved : goal.loop-rest-preserved
-loop-rest-preserved g c =
-    let (done, split, wrote, grown, fit) = c.loop-rest.invariant in
-    let front = c.split_at.result.0.now in
-    let after = c.split_at.result.1.now in (
-      done ++ front,
-      moves_front c.args.entries.now done c.loop-rest.rest.now front after c.min.result split c.split_at.ensures.front c.split_at.ensures.back,
-      more_lines _ _ _ done front wrote c.in_ok-write_batch.ensures.ok,
-      omega (arith, grown, c.write_batch.ensures.faults),
-      All-append FitsNumbers done front fit c.write_batch.ensures.fit,
-    )
+pub loop-from-preserved : goal.loop-from-preserved
+loop-from-preserved g c = record {
+  sized = c.loop-from.invariant.sized;
+  within = omega (arith, c.min-count.ensures, c.loop-from.invariant.within);
+  lines = more_run _ _ _ c.args.level.now.entries c.loop-from.from c.min-count.result c.loop-from.invariant.lines c.in_ok-write_run.ensures.ok;
+  faults = omega (arith, c.loop-from.invariant.faults, c.write_run.ensures.faults);
+  fit = subst (All FitsNumbers) (sym (take-add c.loop-from.from c.min-count.result c.args.level.now.entries)) (All-append FitsNumbers (take c.loop-from.from c.args.level.now.entries) _ c.loop-from.invariant.fit c.write_run.ensures.fit);
+}

@@ -1,15 +1,18 @@
-use Rattle.std.proofs.Common.{◌≡◌, ◌≤◌, ◌++◌, All, List, length}
+use Rattle.std.proofs.Common.{◌≡◌, ◌≤◌, ◌-◌, All, length, take}
 use Rattle.std.specs.Io.KnownBytes.{Appends}
 use Rattle.std.specs.List.{flat_map}
 use Rattle.awari_table.specs.Counted.{inner_of, faults_of}
-use Rattle.awari_table.specs.declared.images.Entry.{Entry}
 use Rattle.awari_table.specs.Spelling.{entry_line, FitsNumbers}
 use Rattle.awari_table.proofs.spelling.write_entries.Given as goal
 
-abbrev pub invariant-loop-rest : goal.invariant-loop-rest
-invariant-loop-rest g l = (done : List Entry) × (l.initial.rest ≡ done ++ l.rest)
-    × Appends (g.W.Write.contents (inner_of l.initial.writer)) (g.W.Write.contents (inner_of l.writer)) (flat_map entry_line done)
-    × (faults_of l.initial.writer ≤ faults_of l.writer) × All FitsNumbers done
+abbrev pub invariant-loop-from : goal.invariant-loop-from
+invariant-loop-from g l = record {
+  sized : length l.level.entries ≡ l.boards;
+  within : l.from ≤ l.boards;
+  lines : Appends (g.W.Write.contents (inner_of l.initial.writer)) (g.W.Write.contents (inner_of l.writer)) (flat_map entry_line (take l.from l.level.entries));
+  faults : faults_of l.initial.writer ≤ faults_of l.writer;
+  fit : All FitsNumbers (take l.from l.level.entries);
+}
 
-abbrev pub decreases-loop-rest : goal.decreases-loop-rest
-decreases-loop-rest g l = length l.rest
+abbrev pub decreases-loop-from : goal.decreases-loop-from
+decreases-loop-from g l = l.boards - l.from
