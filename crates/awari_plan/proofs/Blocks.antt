@@ -1,17 +1,16 @@
 -- The entries of blocks put one after another.
-use Rattle.std.proofs.Common.{◌≡◌, ℕ, ◌+◌, ◌-◌, ◌<◌, ◌≤◌, List, [], ◌∷◌, ◌++◌, length, get_or, sym, ap, ◌∙◌, subst, arith, sum, take, drop, zero, suc, add-one}
-use Rattle.std.proofs.Math.Seq.{drop-cons}
-use Rattle.std.proofs.lemmas.List.{take_more, take_all, drop_all}
+use Rattle.std.proofs.Common.{◌≡◌, ℕ, ◌+◌, ◌-◌, ◌<◌, ◌≤◌, List, [], ◌∷◌, ◌++◌, length, get_or, refl, sym, ap, ◌∙◌, subst, arith, sum, take, zero, suc, append_assoc, length-append}
+use Rattle.std.proofs.lemmas.List.{take_more, take_all, append-nil}
 use Rattle.awari_block.specs.Part.{Part, InBlock, cell_at}
 use Rattle.awari_table.specs.declared.images.Entry.{Entry}
 use Rattle.awari_table.specs.Images.{no_entry}
 use Rattle.awari_board.specs.Rules.{IsBoard}
-use Rattle.awari_rank.specs.Rank.{rank_of}
+use Rattle.awari_rank.specs.Rank.{rank_of, size_of}
 use Rattle.awari_owner.specs.Level.{AreBlocks, AreWhole, known_at, part_at}
 use Rattle.awari_block.specs.Tally.{Cell}
 use Rattle.awari_owner.proofs.Levels.{blocks_in_order, holds, known_there}
 use Rattle.awari_plan.specs.Finished.{HasSettled, HasAllSettled}
-use Rattle.awari_plan.specs.Filling.{PushesBlock, PutsBlock}
+use Rattle.awari_plan.specs.Filling.{PushesBlock, PutsBlocks}
 
 -- each of these blocks ends at a rank that is not above this
 abbrev pub AllBelow : List Part → ℕ → Type 0
@@ -48,62 +47,47 @@ block_settled part old now here pushed rank inside =
     subst (λ n. HasSettled (cell_at part n) (get_or now rank no_entry)) a
     (subst (λ n. HasSettled (cell_at part (part.start + k)) (get_or now n no_entry)) b (pushed.settled k inside.1))
 
--- the next of the parts, its block, and the parts after it
-next_is : (parts : List Part) (i : ℕ) (part : Part) → i < length parts → part ≡ get_or parts i part → drop i parts ≡ part ∷ drop (i + 1) parts
-next_is parts i part inside is = drop-cons parts i part inside ∙ ap (λ p. p ∷ drop (suc i) parts) (sym is) ∙ ap (λ n. part ∷ drop n parts) (sym (add-one i))
+-- blocks put one after another, and then others
+pub puts_then : (as bs : List Part) (old mid new : List Entry) → PutsBlocks as old mid → PutsBlocks bs mid new → PutsBlocks (as ++ bs) old new
+puts_then [] bs old mid new before more = subst (λ es. PutsBlocks bs es new) before more
+puts_then (part ∷ as) bs old mid new (next, one, rest) more = (next, one, puts_then as bs next mid new rest more)
 
-pub next_block : (level low high : ℕ) (parts : List Part) (i : ℕ) (part : Part) → AreBlocks level low high (drop i parts) → i < length parts → part ≡ get_or parts i part
-    → (part.start ≡ low) × AreBlocks level (low + length part.cells) high (drop (i + 1) parts)
-next_block level low high parts i part rest inside is =
-    let (here, after) = subst (AreBlocks level low high) (next_is parts i part inside is) rest in
-    (here.1, after)
-
--- the entries of the blocks below rank `low` are put, and those from there on are left
-pub record ArePut (level low high : ℕ) (parts : List Part) (i : ℕ) (entries : List Entry) : Type 0 where
-  pub rest : AreBlocks level low high (drop i parts)
-  pub below : AllBelow (take i parts) low
-  pub done : HasAllSettled (take i parts) entries
-
-pub put_none : (level high : ℕ) (parts : List Part) (entries : List Entry) → AreBlocks level 0 high parts → ArePut level 0 high parts 0 entries
-put_none level high parts entries blocks = record { rest = blocks; below = tt; done = tt }
-
-pub put_more : (level low high : ℕ) (parts : List Part) (i : ℕ) (part : Part) (old now : List Entry) → ArePut level low high parts i old → i < length parts → part ≡ get_or parts i part
-    → ((k : ℕ) → k < low → get_or now k no_entry ≡ get_or old k no_entry) → ((rank : ℕ) → InBlock part rank → HasSettled (cell_at part rank) (get_or now rank no_entry))
-    → ArePut level (low + length part.cells) high parts (i + 1) now
-put_more level low high parts i part old now before inside is kept settled =
-    let (here, after) = next_block level low high parts i part before.rest inside is in
-    let end = low + length part.cells in
+-- and then the next of the parts
+pub puts_more : (parts : List Part) (i : ℕ) (part : Part) (old mid new : List Entry) → i < length parts → part ≡ get_or parts i part → PutsBlocks (take i parts) old mid
+    → PushesBlock part mid new (length part.cells) → PutsBlocks (take (i + 1) parts) old new
+puts_more parts i part old mid new inside is before pushed =
     let more : take (i + 1) parts ≡ take i parts ++ part ∷ [] = take_more parts i part inside ∙ ap (λ p. take i parts ++ p ∷ []) (sym is) in
-    record {
-      rest = after;
-      below = subst (λ ps. AllBelow ps end) (sym more) (below_push (take i parts) part end (below_more (take i parts) low end (omega arith) before.below) (omega (arith, here)));
-      done = subst (λ ps. HasAllSettled ps now) (sym more) (settled_push (take i parts) part now (settled_more (take i parts) low old now before.below kept before.done) settled);
-    }
+    subst (λ ps. PutsBlocks ps old new) (sym more) (puts_then (take i parts) (part ∷ []) old mid new before (new, pushed, refl))
 
-pub put_all : (level low high : ℕ) (parts : List Part) (i : ℕ) (entries : List Entry) → ArePut level low high parts i entries → length parts ≤ i → (low ≡ high) × HasAllSettled parts entries
-put_all level low high parts i entries all past = (subst (AreBlocks level low high) (drop_all i parts past) all.rest, subst (λ ps. HasAllSettled ps entries) (take_all i parts past) all.done)
+pub puts_all : (parts : List Part) (i : ℕ) (old new : List Entry) → length parts ≤ i → PutsBlocks (take i parts) old new → PutsBlocks parts old new
+puts_all parts i old new past puts = subst (λ ps. PutsBlocks ps old new) (take_all parts i past) puts
 
--- the next block is put behind all others
-pub push_more : (level high : ℕ) (parts : List Part) (i : ℕ) (part : Part) (old now : List Entry) → ArePut level (length old) high parts i old → i < length parts → part ≡ get_or parts i part
-    → PushesBlock part old now (length part.cells) → ArePut level (length now) high parts (i + 1) now
-push_more level high parts i part old now before inside is pushed =
-    let (here, after) = next_block level (length old) high parts i part before.rest inside is in
-    subst (λ n. ArePut level n high parts (i + 1) now) (sym pushed.size)
-    (put_more level (length old) high parts i part old now before inside is pushed.before (block_settled part old now here pushed))
+-- entries that were made apart, and are put behind others
+pub pushed_behind : (part : Part) (old block new : List Entry) (count : ℕ) → PushesBlock part [] block count → new ≡ old ++ block → PushesBlock part old new count
+pushed_behind part old block new count made is = record {
+  size = ap (λ (es : List Entry). length es) is ∙ length-append old block ∙ ap (λ n. length old + n) made.size;
+  before = λ k below. ap (λ (es : List Entry). get_or es k no_entry) is ∙ get_or-append_left old block k no_entry below;
+  settled = λ k below.
+      subst (HasSettled (cell_at part (part.start + k))) (sym (ap (λ (es : List Entry). get_or es (length old + k) no_entry) is ∙ get_or-append_right old block k no_entry))
+      (made.settled k below);
+}
 
--- the next block lies among the entries, and is put at its ranks
-pub block_inside : (level low high : ℕ) (parts : List Part) (i : ℕ) (part : Part) (old : List Entry) → ArePut level low high parts i old → i < length parts → part ≡ get_or parts i part
-    → part.start + length part.cells ≤ high
-block_inside level low high parts i part old before inside is =
-    let (here, after) = next_block level low high parts i part before.rest inside is in
-    let order = blocks_in_order level (low + length part.cells) high (drop (i + 1) parts) after in
-    omega (arith, here, order)
+-- the blocks of a level that are put one after another have all that was settled
+put_from : (level low high : ℕ) (done parts : List Part) (old new : List Entry) → low ≡ length old → AllBelow done low → HasAllSettled done old → AreBlocks level low high parts → PutsBlocks parts old new
+    → (length new ≡ high) × HasAllSettled (done ++ parts) new
+put_from level low high done [] old new here below has blocks puts =
+    (ap (λ (es : List Entry). length es) puts ∙ sym here ∙ blocks, subst (λ ps. HasAllSettled ps new) (sym (append-nil done)) (subst (HasAllSettled done) (sym puts) has))
+put_from level low high done (part ∷ parts) old new here below has (at, blocks) (next, pushed, rest) =
+    let end = low + length part.cells in
+    let there : end ≡ length next = omega (arith, here, pushed.size) in
+    let kept = settled_more done low old next below (λ k lt. pushed.before k (omega (arith, here, lt))) has in
+    let more = settled_push done part next kept (block_settled part old next (at.1 ∙ here) pushed) in
+    let bound = below_push done part end (below_more done low end (omega arith) below) (omega (arith, at.1)) in
+    let (size, all) = put_from level end high (done ++ part ∷ []) parts next new there bound more blocks rest in
+    (size, subst (λ ps. HasAllSettled ps new) (append_assoc done (part ∷ []) parts) all)
 
-pub fill_more : (level low high : ℕ) (parts : List Part) (i : ℕ) (part : Part) (old now : List Entry) → ArePut level low high parts i old → i < length parts → part ≡ get_or parts i part
-    → PutsBlock part old now → ArePut level (low + length part.cells) high parts (i + 1) now
-fill_more level low high parts i part old now before inside is puts =
-    let (here, after) = next_block level low high parts i part before.rest inside is in
-    put_more level low high parts i part old now before inside is (λ k below. puts.others k (λ held. omega (arith, here, below, held.0))) puts.settled
+pub puts_whole : (level : ℕ) (parts : List Part) (entries : List Entry) → AreWhole level parts → PutsBlocks parts [] entries → (length entries ≡ size_of level) × HasAllSettled parts entries
+puts_whole level parts entries whole puts = put_from level 0 (size_of level) [] parts [] entries refl tt tt whole puts
 
 -- what one of the parts has settled
 pub settled_there : (parts : List Part) (entries : List Entry) → HasAllSettled parts entries → (i : ℕ) → i < length parts → (rank : ℕ) → InBlock (part_at parts i) rank

@@ -1,5 +1,6 @@
 use Rattle.std.proofs.Common.{◌∙◌, ap, subst}
 use Rattle.awari_rank.specs.Rank.{size_of}
+use Rattle.awari_plan.proofs.Blocks.{puts_whole}
 use Rattle.awari_plan.proofs.Closing.{finished_consistent}
 use Rattle.awari_plan.proofs.Whole.{entered_finished, finished_lowest}
 use Rattle.awari_plan.specs.Filling.{IsImageOf}
@@ -7,8 +8,8 @@ use Rattle.awari_plan.proofs.finishing.finish.Goals as goal
 
 pub returns-clause-finished : goal.returns-clause-finished
 returns-clause-finished c =
-    entered_finished _ _ _ _ (c.in_ok-entries.ensures.sized ∙ ap size_of c.levels.ensures.levels) c.in_ok-entries.ensures.settled
-    (subst (λ n. IsImageOf n c.in_ok-entries.entries.items c.image_of-image.result) c.levels-2.ensures.levels c.image_of-image.ensures)
+    let done = puts_whole _ _ _ c.requires.whole c.in_ok-entries.ensures in
+    entered_finished _ _ _ _ done.0 done.1 (subst (λ n. IsImageOf n c.in_ok-entries.entries c.image_of-image.result) c.levels-2.ensures.levels c.image_of-image.ensures)
 
 pub returns-clause-planned : goal.returns-clause-planned
 returns-clause-planned c = λ heard. finished_lowest _ _ _ c.requires.whole c.requires.closed heard (returns-clause-finished c)

@@ -3,4 +3,4 @@ use Rattle.awari_plan.specs.Filling.{PushesBlock}
 use Rattle.awari_plan.proofs.finishing.push_block.Given as goal
 
 abbrev pub invariant-loop-rank : goal.invariant-loop-rank
-invariant-loop-rank l = PushesBlock l.part l.fn.entries.items l.entries.items (l.rank - l.start)
+invariant-loop-rank l = PushesBlock l.part l.fn.entries l.entries (l.rank - l.start)
