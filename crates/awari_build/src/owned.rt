@@ -119,8 +119,9 @@ fn level_of<R: Threads + Sync>(
     ensures memory { IfErr result (λ fault. fault ≡ BuildFault.Memory) }
 {
     finished_owners_are_right();
+    let threads = owners.len();
     let parts = closed_parts(alloc, owners)?;
-    let image = finish_parallel(rt, alloc, shelf, parts)?;
+    let image = finish_parallel(rt, alloc, shelf, parts, threads)?;
     Ok(Level::new(image))
 }
 

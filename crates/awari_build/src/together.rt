@@ -98,7 +98,7 @@ fn level_of<R: Threads + Sync>(
     Ok(Level::new(image))
 }
 
-/// The image of closed parts, made by one thread or by as many as there are processors.
+/// The image of closed parts, made by so many threads.
 fn finished<R: Threads + Sync>(
     rt: &R,
     alloc: Global,
@@ -114,7 +114,7 @@ fn finished<R: Threads + Sync>(
     if threads < 2 {
         return finish_closed(alloc, shelf, parts);
     }
-    finish_parallel(rt, alloc, shelf, parts)
+    finish_parallel(rt, alloc, shelf, parts, threads)
 }
 
 /// The shelf's next level, with all gains closed.

@@ -1,16 +1,19 @@
 -- The entries of blocks put one after another.
-use Rattle.std.proofs.Common.{◌≡◌, ℕ, ◌+◌, ◌-◌, ◌<◌, ◌≤◌, List, [], ◌∷◌, ◌++◌, length, get_or, refl, sym, ap, ◌∙◌, subst, arith, sum, take, zero, suc, append_assoc, length-append}
-use Rattle.std.proofs.lemmas.List.{take_more, take_all, append-nil}
+use Rattle.std.proofs.Common.{◌≡◌, ℕ, ◌+◌, ◌-◌, ◌<◌, ◌≤◌, List, [], ◌∷◌, ◌++◌, ◌⊎◌, inl, inr, length, get_or, Result, Ok, refl, sym, ap, ◌∙◌, subst, arith, sum, take, zero, suc, append_assoc, length-append}
+use Rattle.std.proofs.lemmas.Bool.{cases_lt}
+use Rattle.std.specs.Prelude.{IfOk}
+use Rattle.std.specs.declared.alloc.AllocError.{AllocError}
+use Rattle.std.proofs.lemmas.List.{take_more, take_all, append-nil, get_or_append_left, get_or-append-add, get_or_push, get_or_default}
 use Rattle.awari_block.specs.Part.{Part, InBlock, cell_at}
 use Rattle.awari_table.specs.declared.images.Entry.{Entry}
 use Rattle.awari_table.specs.Images.{no_entry}
 use Rattle.awari_board.specs.Rules.{IsBoard}
 use Rattle.awari_rank.specs.Rank.{rank_of, size_of}
-use Rattle.awari_owner.specs.Level.{AreBlocks, AreWhole, known_at, part_at}
+use Rattle.awari_owner.specs.Level.{AreBlocks, AreWhole, known_at, no_part, part_at}
 use Rattle.awari_block.specs.Tally.{Cell}
-use Rattle.awari_owner.proofs.Levels.{blocks_in_order, holds, known_there}
+use Rattle.awari_owner.proofs.Levels.{holds, known_there}
 use Rattle.awari_plan.specs.Finished.{HasSettled, HasAllSettled}
-use Rattle.awari_plan.specs.Filling.{PushesBlock, PutsBlocks}
+use Rattle.awari_plan.specs.Filling.{AreMade, PushesBlock, PutsBlocks}
 
 -- each of these blocks ends at a rank that is not above this
 abbrev pub AllBelow : List Part → ℕ → Type 0
@@ -47,10 +50,34 @@ block_settled part old now here pushed rank inside =
     subst (λ n. HasSettled (cell_at part n) (get_or now rank no_entry)) a
     (subst (λ n. HasSettled (cell_at part (part.start + k)) (get_or now n no_entry)) b (pushed.settled k inside.1))
 
+-- the entry of one more board of the block
+pub push_one : (part : Part) (old now new : List Entry) (start rank : ℕ) (e : Entry) → start ≡ part.start → start ≤ rank → PushesBlock part old now (rank - start) → new ≡ now ++ e ∷ [] → HasSettled (cell_at part rank) e
+    → PushesBlock part old new (rank + 1 - start)
+push_one part old now new start rank e here order before is last =
+    let count = rank - start in
+    let more : rank + 1 - start ≡ count + 1 = omega (arith, order) in
+    let at : part.start + count ≡ rank = omega (arith, order, here) in
+    subst (PushesBlock part old new) (sym more)
+    (record {
+      size = ap (λ (es : List Entry). length es) is ∙ length-append now (e ∷ []) ∙ omega (arith, before.size);
+      before = λ k below. ap (λ (es : List Entry). get_or es k no_entry) is ∙ get_or_append_left now (e ∷ []) no_entry k (omega (arith, below, before.size)) ∙ before.before k below;
+      settled = λ k below. elim (cases_lt k count) [
+        | inl lt ↦
+            subst (HasSettled (cell_at part (part.start + k)))
+            (sym (ap (λ (es : List Entry). get_or es (length old + k) no_entry) is ∙ get_or_append_left now (e ∷ []) no_entry (length old + k) (omega (arith, lt, before.size)))) (before.settled k lt)
+        | inr ge ↦
+            let last_one : k ≡ count = omega (arith, ge, below) in
+            let there : part.start + k ≡ rank = omega (arith, last_one, at) in
+            subst (HasSettled (cell_at part (part.start + k)))
+            (sym (ap (λ (es : List Entry). get_or es (length old + k) no_entry) is ∙ get_or_push now e no_entry (length old + k) (omega (arith, last_one, before.size))))
+            (subst (λ n. HasSettled (cell_at part n) e) (sym there) last)
+      ];
+    })
+
 -- blocks put one after another, and then others
-pub puts_then : (as bs : List Part) (old mid new : List Entry) → PutsBlocks as old mid → PutsBlocks bs mid new → PutsBlocks (as ++ bs) old new
-puts_then [] bs old mid new before more = subst (λ es. PutsBlocks bs es new) before more
-puts_then (part ∷ as) bs old mid new (next, one, rest) more = (next, one, puts_then as bs next mid new rest more)
+pub puts_then : (front back : List Part) (old mid new : List Entry) → PutsBlocks front old mid → PutsBlocks back mid new → PutsBlocks (front ++ back) old new
+puts_then [] back old mid new before more = subst (λ es. PutsBlocks back es new) before more
+puts_then (part ∷ front) back old mid new (next, one, rest) more = (next, one, puts_then front back next mid new rest more)
 
 -- and then the next of the parts
 pub puts_more : (parts : List Part) (i : ℕ) (part : Part) (old mid new : List Entry) → i < length parts → part ≡ get_or parts i part → PutsBlocks (take i parts) old mid
@@ -60,17 +87,30 @@ puts_more parts i part old mid new inside is before pushed =
     subst (λ ps. PutsBlocks ps old new) (sym more) (puts_then (take i parts) (part ∷ []) old mid new before (new, pushed, refl))
 
 pub puts_all : (parts : List Part) (i : ℕ) (old new : List Entry) → length parts ≤ i → PutsBlocks (take i parts) old new → PutsBlocks parts old new
-puts_all parts i old new past puts = subst (λ ps. PutsBlocks ps old new) (take_all parts i past) puts
+puts_all parts i old new past puts = subst (λ ps. PutsBlocks ps old new) (take_all i parts past) puts
 
 -- entries that were made apart, and are put behind others
 pub pushed_behind : (part : Part) (old block new : List Entry) (count : ℕ) → PushesBlock part [] block count → new ≡ old ++ block → PushesBlock part old new count
-pushed_behind part old block new count made is = record {
-  size = ap (λ (es : List Entry). length es) is ∙ length-append old block ∙ ap (λ n. length old + n) made.size;
-  before = λ k below. ap (λ (es : List Entry). get_or es k no_entry) is ∙ get_or-append_left old block k no_entry below;
-  settled = λ k below.
-      subst (HasSettled (cell_at part (part.start + k))) (sym (ap (λ (es : List Entry). get_or es (length old + k) no_entry) is ∙ get_or-append_right old block k no_entry))
-      (made.settled k below);
-}
+pushed_behind part old block new count made is =
+    let empty : List Entry = [] in
+    let long : length block ≡ count = made.size ∙ omega arith in
+    record {
+      size = ap (λ (es : List Entry). length es) is ∙ length-append old block ∙ ap (λ n. length old + n) long;
+      before = λ k below. ap (λ (es : List Entry). get_or es k no_entry) is ∙ get_or_append_left old block no_entry k below;
+      settled = λ k below.
+          let same : length empty + k ≡ k = omega arith in
+          subst (HasSettled (cell_at part (part.start + k))) (sym (ap (λ (es : List Entry). get_or es (length old + k) no_entry) is ∙ get_or-append-add old block k no_entry))
+          (subst (λ n. HasSettled (cell_at part (part.start + k)) (get_or block n no_entry)) same (made.settled k below));
+    }
+
+pub joined_more : (parts : List Part) (made : List (Result (List Entry) AllocError)) (i : ℕ) (item : Result (List Entry) AllocError) (block old mid new : List Entry) → AreMade parts made → i < length made
+    → item ≡ get_or made i item → item ≡ Ok block → PutsBlocks (take i parts) old mid → new ≡ mid ++ block → PutsBlocks (take (i + 1) parts) old new
+joined_more parts made i item block old mid new (size, each) inside is right before joined =
+    let within : i < length parts = omega (arith, size, inside) in
+    let part = get_or parts i no_part in
+    let P : Result (List Entry) AllocError → Type 0 = λ r. IfOk r (λ es. PushesBlock part [] es (length part.cells)) in
+    let pushed : PushesBlock part [] block (length part.cells) = subst P (sym is ∙ right) (each i no_part item within) in
+    puts_more parts i part old mid new within (get_or_default parts i no_part part within) before (pushed_behind part mid block new (length part.cells) pushed joined)
 
 -- the blocks of a level that are put one after another have all that was settled
 put_from : (level low high : ℕ) (done parts : List Part) (old new : List Entry) → low ≡ length old → AllBelow done low → HasAllSettled done old → AreBlocks level low high parts → PutsBlocks parts old new
