@@ -4,6 +4,7 @@
 use crate::counting::Counted;
 use awari_build::build_alone;
 use awari_play::least;
+use awari_rank::size;
 use awari_table::{Entries, Image, Level, Shelf};
 use awari_verify::{verify, verify_old};
 use std::alloc::{AllocError, Global};
@@ -37,7 +38,7 @@ pub(crate) fn each_level(alloc: Global, work: Work, rounds: u32) -> io::Result<C
                 Work::Lower => is_lowered(alloc, &shelf, &level)?,
             };
             if went_well {
-                counted.add(level.entries().len() as u64);
+                counted.add(u64::from(size(level.number())));
             }
         }
         shelf.push(Arc::new(alloc, level)?);
@@ -57,12 +58,13 @@ fn is_lowered(alloc: Global, shelf: &Shelf, level: &Level) -> Result<bool, Alloc
     if verify_old(shelf, &farther).is_err() {
         return Ok(false);
     }
-    Ok(least(shelf, farther).entries.as_slice() == level.entries())
+    let nearer = least(alloc, shelf, farther)?;
+    Ok(nearer.entries.to_vec(alloc)? == level.to_vec(alloc)?)
 }
 
 /// A copy with each distance, and the limit, twice as great.
 fn doubled(alloc: Global, level: &Level) -> Result<Image, AllocError> {
-    let mut entries = level.entries().to_vec(alloc)?;
+    let mut entries = level.to_vec(alloc)?;
     for entry in entries.iter_mut() {
         entry.dist = entry.dist.saturating_mul(2);
     }
@@ -73,11 +75,16 @@ fn doubled(alloc: Global, level: &Level) -> Result<Image, AllocError> {
     })
 }
 
-/// A copy of what the level says.
+/// A copy of what the level says, as it lies when it is loaded.
 fn image_of(alloc: Global, level: &Level) -> Result<Image, AllocError> {
+    let boards = size(level.number());
+    let mut entries = Entries::with_capacity(alloc, boards as usize)?;
+    for rank in 0..boards {
+        entries.push(alloc, level.entry_at(rank))?;
+    }
     Ok(Image {
         level: level.number(),
         limit: level.limit(),
-        entries: Entries::from(level.entries().to_vec(alloc)?),
+        entries,
     })
 }

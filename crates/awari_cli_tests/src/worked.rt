@@ -4,7 +4,7 @@ use crate::commands::{expect_run, level_2_entry, next_board, push_entry};
 use crate::expect::expect_equal;
 use awari_board::Board;
 use awari_build::build_alone;
-use awari_rank::successor;
+use awari_rank::{size, successor};
 use awari_table::{HIGHEST_LEVEL, Level, Shelf};
 use std::alloc::{AllocError, Global};
 use std::fs::File;
@@ -60,8 +60,8 @@ fn push_block(
 ) -> Result<(), AllocError> {
     let (number, limit) = (level.number(), level.limit());
     text.push_str(format!(in alloc; "level {number} limit {limit}\n{first}\n")?.as_str())?;
-    for entry in level.entries().iter().skip(1) {
-        push_entry(alloc, text, *entry)?;
+    for rank in 1..size(level.number()) {
+        push_entry(alloc, text, level.entry_at(rank))?;
     }
     Ok(())
 }

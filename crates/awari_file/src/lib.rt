@@ -14,8 +14,8 @@
 //!         let digest = write_level(&level, [0; 32], &mut Counted::new(&mut file))?;
 //!         let loaded = read_image(rt.alloc(), &mut Counted::new(file.as_slice()))?;
 //!         expect_equal(&rt, "digest", loaded.digest, digest);
-//!         let entries = loaded.image.entries;
-//!         expect_equal(&rt, "entries", entries.as_slice(), level.entries());
+//!         let entries = loaded.image.entries.to_vec(rt.alloc())?;
+//!         expect_equal(&rt, "entries", entries, level.to_vec(rt.alloc())?);
 //!         Ok(())
 //!     }
 #![tactic(auto)]

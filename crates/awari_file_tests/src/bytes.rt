@@ -119,7 +119,8 @@ fn digests_are_read_again(rt: HostRuntime) -> Result<(), Fail> {
 fn expect_level(rt: &impl Abort, alloc: Global, level: &Level, file: &[u8]) -> Result<(), Fail> {
     let image = read_bytes(alloc, file)?.image;
     expect_equal(rt, "level and limit", (image.level, image.limit), (1, 1));
-    expect(rt, "entries", image.entries.as_slice() == level.entries());
+    let entries = image.entries.to_vec(alloc)?;
+    expect(rt, "entries", entries == level.to_vec(alloc)?);
     Ok(())
 }
 

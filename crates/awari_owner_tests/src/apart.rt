@@ -113,14 +113,11 @@ fn level_1() -> [Entry; 12] {
 }
 
 /// The image is that of level 1.
-fn expect_level_1(rt: &impl Abort, image: &Image) {
+fn expect_level_1(rt: &impl Abort, alloc: Global, image: &Image) -> Result<(), AllocError> {
     expect_equal(rt, "level and limit", (image.level, image.limit), (1, 1));
-    expect_equal(
-        rt,
-        "entries",
-        image.entries.as_slice(),
-        level_1().as_slice(),
-    );
+    let entries = image.entries.to_vec(alloc)?;
+    expect_equal(rt, "entries", entries.as_slice(), level_1().as_slice());
+    Ok(())
 }
 
 /// Nothing is on the lines, and the parts make level 1.
@@ -137,7 +134,7 @@ fn expect_finished(
     let Apart { parts, mut ends } = taken_apart(alloc, owners)?;
     expect(rt, "settled", settle(ends.as_mut_slice()));
     expect_closed(rt, &parts);
-    expect_level_1(rt, &finish(alloc, shelf, &parts)?);
+    expect_level_1(rt, alloc, &finish(alloc, shelf, &parts)?)?;
     Ok(())
 }
 

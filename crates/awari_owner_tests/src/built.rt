@@ -20,13 +20,13 @@ fn image_of(alloc: Global, level: &Level) -> Result<Image, AllocError> {
     Ok(Image {
         level: level.number(),
         limit: level.limit(),
-        entries: Entries::from(level.entries().to_vec(alloc)?),
+        entries: Entries::from(level.to_vec(alloc)?),
     })
 }
 
 /// A copy with each distance, and the limit, twice as great.
 fn doubled(alloc: Global, level: &Level) -> Result<Image, AllocError> {
-    let mut entries = level.entries().to_vec(alloc)?;
+    let mut entries = level.to_vec(alloc)?;
     for entry in entries.iter_mut() {
         entry.dist = entry.dist.saturating_mul(2);
     }
@@ -45,13 +45,21 @@ pub(crate) fn expect_verified(
     level: &Level,
 ) -> Result<(), Fail> {
     let verified = verify(shelf, image_of(alloc, level)?)?;
-    expect_equal(rt, level.number(), verified.entries(), level.entries());
+    let entries = verified.to_vec(alloc)?;
+    expect_equal(rt, level.number(), entries, level.to_vec(alloc)?);
     Ok(())
 }
 
-fn expect_image(rt: &impl Abort, image: &Image, level: &Level) {
+fn expect_image(
+    rt: &impl Abort,
+    alloc: Global,
+    image: &Image,
+    level: &Level,
+) -> Result<(), AllocError> {
     expect_equal(rt, image.level, image.limit, level.limit());
-    expect_equal(rt, image.level, image.entries.as_slice(), level.entries());
+    let entries = image.entries.to_vec(alloc)?;
+    expect_equal(rt, image.level, entries, level.to_vec(alloc)?);
+    Ok(())
 }
 
 /// Of the level's double, which keeps the old rules alone, `least` makes the same level again.
@@ -63,8 +71,8 @@ fn expect_lowered(
 ) -> Result<(), Fail> {
     let farther = doubled(alloc, level)?;
     verify_old(shelf, &farther)?;
-    let nearer = least(shelf, farther);
-    expect_image(rt, &nearer, level);
+    let nearer = least(alloc, shelf, farther)?;
+    expect_image(rt, alloc, &nearer, level)?;
     Ok(())
 }
 

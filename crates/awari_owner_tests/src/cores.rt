@@ -49,7 +49,8 @@ fn close_by(core: &mut Core, events: &[Event]) -> bool {
 fn is_level(alloc: Global, shelf: &Shelf, core: &Core) -> Result<bool, Fail> {
     let image = core.finish(alloc)?;
     let level = build_alone(alloc, shelf)?;
-    Ok(image.limit == level.limit() && image.entries.as_slice() == level.entries())
+    let entries = image.entries.to_vec(alloc)?;
+    Ok(image.limit == level.limit() && entries == level.to_vec(alloc)?)
 }
 
 /// The core, with all gains closed, gives the level that one part builds.

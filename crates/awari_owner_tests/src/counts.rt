@@ -5,7 +5,7 @@ use crate::expect::expect_equal;
 use crate::shelves::levels_below;
 use awari_build::{Pace, build_alone, build_level, build_together};
 use awari_phase::Open;
-use awari_table::{Level, Shelf};
+use awari_table::{Counts, Level, Shelf};
 use std::alloc::Global;
 use std::process::Abort;
 use std::sync::Arc;
@@ -13,7 +13,7 @@ use std::test::Fail;
 use std::thread::Threads;
 
 /// Boards won, even and lost, and the limit, of levels 0 to 13.
-const COUNTS: [(usize, usize, usize, u32); 14] = [
+const COUNTS: [(u32, u32, u32, u32); 14] = [
     (0, 1, 0, 0),
     (5, 0, 7, 1),
     (24, 13, 41, 9),
@@ -30,10 +30,8 @@ const COUNTS: [(usize, usize, usize, u32); 14] = [
     (1365150, 311700, 819294, 124),
 ];
 
-fn expect_counts(rt: &impl Abort, level: &Level, counts: (usize, usize, usize, u32)) {
-    let won = level.entries().iter().filter(|e| e.value > 0).count();
-    let even = level.entries().iter().filter(|e| e.value == 0).count();
-    let lost = level.entries().iter().filter(|e| e.value < 0).count();
+fn expect_counts(rt: &impl Abort, level: &Level, counts: (u32, u32, u32, u32)) {
+    let Counts { won, even, lost } = level.counts();
     let found = (won, even, lost, level.limit());
     expect_equal(rt, level.number(), found, counts);
 }

@@ -13,7 +13,7 @@ use std::thread::Threads;
 
 /// What the level says, with the value 7 at the boards of these ranks.
 fn with_value_7(alloc: Global, level: &Level, ranks: &[usize]) -> Result<Image, AllocError> {
-    let mut entries = level.entries().to_vec(alloc)?;
+    let mut entries = level.to_vec(alloc)?;
     for rank in ranks {
         if let Some(entry) = entries.get_mut(*rank) {
             entry.value = 7;

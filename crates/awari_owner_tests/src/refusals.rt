@@ -112,7 +112,8 @@ fn verified<R: Threads + Sync + Abort>(rt: &R, alloc: Global) -> Result<Level, F
 #[test]
 fn a_level_is_verified_in_pieces(rt: HostRuntime) -> Result<(), Fail> {
     let level = verified(&rt, rt.alloc())?;
-    expect_equal(&rt, "entries", level.entries(), [EMPTY_BOARD].as_slice());
+    let entries = level.to_vec(rt.alloc())?;
+    expect_equal(&rt, "entries", entries.as_slice(), [EMPTY_BOARD].as_slice());
     Ok(())
 }
 
@@ -293,7 +294,7 @@ fn built<R: Threads + Wait + Sync + Abort>(
 fn owners_build_level_2(rt: HostRuntime) -> Result<(), Fail> {
     let shelf = levels_below(rt.alloc(), 2)?;
     let level = built(&rt, rt.alloc(), &shelf)?;
-    let found = (level.limit(), level.entries().len());
+    let found = (level.limit(), level.to_vec(rt.alloc())?.len());
     expect_equal(&rt, "limit and entries", found, (9, 78));
     Ok(())
 }

@@ -15,7 +15,7 @@ use awari_phase::{
     scanned_owners, settle_owners,
 };
 use awari_table::{Level, Shelf};
-use std::alloc::Global;
+use std::alloc::{AllocError, Global};
 use std::process::Abort;
 use std::sync::atomic::{AtomicU64, Ordering};
 use std::sync::{Arc, Wait};
@@ -102,13 +102,21 @@ fn expect_built_alike<R: Threads + Wait + Sync + Abort>(
         sweeps,
     };
     let level = build_level(rt, alloc, shelf, pace, &Open)?;
-    expect_alike(rt, owners, &level, alone);
+    expect_alike(rt, alloc, owners, &level, alone)?;
     expect_verified(rt, alloc, shelf, &level)
 }
 
-fn expect_alike(rt: &impl Abort, owners: u8, level: &Level, alone: &Level) {
+fn expect_alike(
+    rt: &impl Abort,
+    alloc: Global,
+    owners: u8,
+    level: &Level,
+    alone: &Level,
+) -> Result<(), AllocError> {
     expect_equal(rt, owners, level.limit(), alone.limit());
-    expect_equal(rt, owners, level.entries(), alone.entries());
+    let entries = level.to_vec(alloc)?;
+    expect_equal(rt, owners, entries, alone.to_vec(alloc)?);
+    Ok(())
 }
 
 /// Paces of one, three and sixteen owners.

@@ -11,7 +11,7 @@ use crate::expect::expect_equal;
 use awari_build::build_alone;
 use awari_core::Core;
 use awari_table::{Image, Level, Shelf};
-use std::alloc::Global;
+use std::alloc::{AllocError, Global};
 use std::io;
 use std::sync::Arc;
 use std::test::Fail;
@@ -114,7 +114,8 @@ fn taken_by_chance(alloc: Global, task: &Task, numbers: &mut Numbers) -> io::Res
     let Ok(image) = core.finish(alloc) else {
         return Ok(None);
     };
-    Ok(says_the_same(&image, &task.level).then_some(taken))
+    let same = says_the_same(alloc, &image, &task.level)?;
+    Ok(same.then_some(taken))
 }
 
 /// Runs lists of events until all gains are closed, and counts how many events were taken; none if
@@ -148,8 +149,9 @@ fn opens_last(core: &mut Core) -> bool {
 }
 
 /// Whether the image says what the level does.
-fn says_the_same(image: &Image, level: &Level) -> bool {
-    image.limit == level.limit() && image.entries.as_slice() == level.entries()
+fn says_the_same(alloc: Global, image: &Image, level: &Level) -> Result<bool, AllocError> {
+    let entries = image.entries.to_vec(alloc)?;
+    Ok(image.limit == level.limit() && entries == level.to_vec(alloc)?)
 }
 
 #[test]
