@@ -94,11 +94,7 @@ fn push_block(alloc: Global, entries: &mut Entries, part: &Part) -> Result<(), A
 }
 
 /// The entries of the level, of closed parts, each of which is dropped before the next is begun.
-fn closed_entries(
-    alloc: Global,
-    level: u8,
-    parts: Vec<ClosedPart>,
-) -> Result<Entries, AllocError>
+fn closed_entries(alloc: Global, level: u8, parts: Vec<ClosedPart>) -> Result<Entries, AllocError>
     requires low { level ≤ 24 }
     ensures { IfOk result (PutsBlocks parts.items []) }
 {

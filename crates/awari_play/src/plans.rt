@@ -117,5 +117,8 @@ pub(crate) fn reached_by(shelf: &Shelf, entries: &[Entry], moved: &PackedMove) -
     if captured == 0 {
         return Reached::of(captured, entries[moved.board.rank() as usize]);
     }
-    Reached::by_capture(captured, shelf.value_below(&moved.board, shelf.levels() - captured))
+    Reached::by_capture(
+        captured,
+        shelf.value_below(&moved.board, shelf.levels() - captured),
+    )
 }

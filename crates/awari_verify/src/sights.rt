@@ -58,7 +58,10 @@ fn reached_by(shelf: &Shelf, image: &Image, moved: &PackedMove) -> Reached
     if captured == 0 {
         return Reached::of(captured, image.entries.at(moved.board.rank() as usize));
     }
-    Reached::by_capture(captured, shelf.value_below(&moved.board, image.level - captured))
+    Reached::by_capture(
+        captured,
+        shelf.value_below(&moved.board, image.level - captured),
+    )
 }
 
 /// The gain of the board's end, if none of its moves is legal.

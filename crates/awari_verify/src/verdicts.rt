@@ -11,9 +11,7 @@ ghost use Rattle.awari_verify.specs.declared.verdicts.VerifyFault.TheVariants.{M
 use crate::rules::Rule;
 use crate::search::{Refusal, refusal_between};
 use awari_rank::size;
-use awari_table::{
-    Distances, HIGHEST_FALLING_LEVEL, HIGHEST_LEVEL, Image, Level, Shelf,
-};
+use awari_table::{Distances, HIGHEST_FALLING_LEVEL, HIGHEST_LEVEL, Image, Level, Shelf};
 use std::alloc::AllocError;
 use std::fmt;
 use thiserror::Error;
