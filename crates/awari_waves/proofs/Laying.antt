@@ -1,5 +1,5 @@
 -- What is laid for the blocks.
-use Rattle.std.proofs.Common.{◌≡◌, ◌≢◌, ℕ, ◌+◌, ◌*◌, ◌/◌, ◌<◌, ◌≤◌, ◌==◌, Bool, true, false, cond, List, [], ◌∷◌, ◌++◌, length, get_or, take, drop, map, filter, sum, refl, sym, ap, subst, ◌∙◌, arith, append_assoc, append-nil, length-append, eqb-true, ◌^◌}
+use Rattle.std.proofs.Common.{◌≡◌, ◌≢◌, ℕ, zero, suc, ◌+◌, ◌*◌, ◌/◌, ◌<◌, ◌≤◌, ◌==◌, Bool, true, false, cond, List, [], ◌∷◌, ◌++◌, length, get_or, take, drop, map, filter, sum, refl, sym, ap, subst, ◌∙◌, arith, append_assoc, append-nil, length-append, eqb-true, ◌^◌}
 use Rattle.std.proofs.lemmas.Bool.Decides.{nat_tests}
 use Rattle.std.proofs.lemmas.List.{length_push, take-append-drop}
 use Rattle.awari_board.specs.Rules.{IsBoard}
@@ -13,7 +13,10 @@ use Rattle.awari_owner.specs.Spread.{Source}
 use Rattle.awari_owner.specs.declared.targets.Target.{Target}
 use Rattle.awari_owner.proofs.Finding.{Lists-at}
 use Rattle.awari_owner.proofs.Telling.{IsNext}
-use Rattle.awari_waves.specs.Lists.{In, list_at, rows_at, with_put}
+use Rattle.awari_block.specs.declared.notes.Kind.{Kind}
+use Rattle.awari_waves.specs.Lists.{In, list_at, with_put}
+use Rattle.awari_waves.specs.Rows.{lists_by, notes_at}
+use Rattle.awari_waves.specs.declared.lists.Row.{Row}
 use Rattle.awari_waves.specs.Waves.{AreSourcesOf, CanFind, Finds, FindsFor, Puts, code_of, codes_to}
 use Rattle.awari_waves.proofs.Sources.{all_in, each_in, in_first, in_second}
 use Rattle.awari_waves.proofs.ListLemmas.{with_put-at, with_put-other}
@@ -135,16 +138,20 @@ IsLaying-end span level rank old now q targets n k board stones at laying end =
 
 -- ---- several rows
 
-rows_append : (a b : List (List (List ℕ))) (to : ℕ) → rows_at (a ++ b) to ≡ rows_at a to ++ rows_at b to
-rows_append [] b to = refl
-rows_append (row ∷ a) b to = ap (λ l. list_at row to ++ l) (rows_append a b to) ∙ sym (append_assoc (list_at row to) (rows_at a to) (rows_at b to))
+notes_append : (kind : Kind) (a b : List Row) (to : ℕ) → notes_at kind (a ++ b) to ≡ notes_at kind a to ++ notes_at kind b to
+notes_append kind [] b to = refl
+notes_append kind (row ∷ a) b to = ap (λ l. list_at (lists_by kind row) to ++ l) (notes_append kind a b to) ∙ sym (append_assoc (list_at (lists_by kind row) to) (notes_at kind a to) (notes_at kind b to))
 
-pub finds_pieces : (level span : ℕ) (ranks low high : List ℕ) (a b : List (List (List ℕ))) → ranks ≡ low ++ high → FindsFor level span low (rows_at a) → FindsFor level span high (rows_at b)
-    → FindsFor level span ranks (rows_at (a ++ b))
-finds_pieces level span ranks low high a b is one two = (
+-- what one row has, as that of several
+pub finds_one : (level span : ℕ) (ranks : List ℕ) (kind : Kind) (row : Row) → FindsFor level span ranks (list_at (lists_by kind row)) → FindsFor level span ranks (notes_at kind (row ∷ []))
+finds_one level span ranks kind row one = (one.0, one.1, λ to. append-nil (list_at (lists_by kind row) to) ∙ one.2 to)
+
+pub finds_pieces : (level span : ℕ) (ranks low high : List ℕ) (kind : Kind) (a b : List Row) → ranks ≡ low ++ high → FindsFor level span low (notes_at kind a) → FindsFor level span high (notes_at kind b)
+    → FindsFor level span ranks (notes_at kind (a ++ b))
+finds_pieces level span ranks low high kind a b is one two = (
   one.0 ++ two.0,
   subst (λ (rs : List ℕ). AreSourcesOf level rs (one.0 ++ two.0)) (sym is) (sources_both level low high one.0 two.0 one.1 two.1),
-  λ to. rows_append a b to ∙ ap (λ l. l ++ rows_at b to) (one.2 to) ∙ ap (λ l. codes_to span to one.0 ++ l) (two.2 to) ∙ sym (codes_to-append span to one.0 two.0),
+  λ to. notes_append kind a b to ∙ ap (λ l. l ++ notes_at kind b to) (one.2 to) ∙ ap (λ l. codes_to span to one.0 ++ l) (two.2 to) ∙ sym (codes_to-append span to one.0 two.0),
 )
 
 pub can_find : (level span : ℕ) (ranks part : List ℕ) (rows few : ℕ) → ((x : ℕ) → In part x → In ranks x) → 1 ≤ few → CanFind level span ranks rows → CanFind level span part few
@@ -167,6 +174,16 @@ pub can_second : (level span : ℕ) (ranks high : List ℕ) (half rows few : ℕ
 can_second level span ranks high half rows few is =
     can_find level span ranks high rows few (λ x h. subst (λ (l : List ℕ). In l x) (sym (halves ranks (take half ranks) high half refl is)) (in_second (take half ranks) high x h))
 
-pub finds_halves : (level span : ℕ) (ranks low high : List ℕ) (half : ℕ) (a b : List (List (List ℕ))) → low ≡ take half ranks → high ≡ drop half ranks → FindsFor level span low (rows_at a) → FindsFor level span high (rows_at b)
-    → FindsFor level span ranks (rows_at (a ++ b))
-finds_halves level span ranks low high half a b front back = finds_pieces level span ranks low high a b (halves ranks low high half front back)
+pub finds_split : (level span : ℕ) (ranks low high : List ℕ) (half : ℕ) (kind : Kind) (a b : List Row) → low ≡ take half ranks → high ≡ drop half ranks → FindsFor level span low (notes_at kind a)
+    → FindsFor level span high (notes_at kind b) → FindsFor level span ranks (notes_at kind (a ++ b))
+finds_split level span ranks low high half kind a b front back = finds_pieces level span ranks low high kind a b (halves ranks low high half front back)
+
+-- and those that found are the first of all rows
+pub finds_taken : (level span n : ℕ) (ranks : List ℕ) (kind : Kind) (found idle : List Row) → length found ≡ n → FindsFor level span ranks (notes_at kind found) → FindsFor level span ranks (notes_at kind (take n (found ++ idle)))
+finds_taken level span n ranks kind found idle long finds = subst (λ (rows : List Row). FindsFor level span ranks (notes_at kind rows)) (sym (taken found n long)) finds
+  where
+    taken : (rows : List Row) (n : ℕ) → length rows ≡ n → take n (rows ++ idle) ≡ rows
+    taken [] zero is = refl
+    taken [] (suc n) is = absurd (omega (arith, is))
+    taken (row ∷ rows) zero is = absurd (omega (arith, is))
+    taken (row ∷ rows) (suc n) is = ap (λ l. row ∷ l) (taken rows n (omega (arith, is)))

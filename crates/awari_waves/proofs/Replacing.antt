@@ -1,7 +1,9 @@
 -- A cell is replaced by its index.
-use Rattle.std.proofs.Common.{◌≡◌, ◌≢◌, ℕ, ◌+◌, ◌-◌, ◌<◌, true, false, inl, inr, List, length, get_or, set, pos, ◌≤ℤ◌, sym, ap, subst, ◌∙◌, arith}
+use Rattle.std.proofs.Common.{◌≡◌, ◌≢◌, ℕ, ◌+◌, ◌-◌, ◌<◌, ◌≤◌, true, false, inl, inr, List, length, drop, get_or, set, pos, ◌≤ℤ◌, refl, sym, get_or-drop, length-drop, length-take, ap, subst, ◌∙◌, arith}
 use Rattle.std.proofs.lemmas.Int.{ints}
 use Rattle.std.proofs.lemmas.List.{get_or_default}
+use lib.Seq.{get_or-take}
+use Rattle.std.specs.List.{All, slice_range}
 use Rattle.std.specs.Vec.{with_item}
 use Rattle.awari_block.specs.Blocks.{cell_in, no_cell}
 use Rattle.awari_block.specs.Boards.{CanPut, OpensCells, Settles}
@@ -28,6 +30,24 @@ pub opened_other : (a : Inside) (part : Part) → seen a ≡ part → IsSegment 
 opened_other a part view sound index g inside byte other =
     still_one part index a.place.level a.place.gain (get_or a.cells.items index no_cell) (ap (λ (p : Part). get_or p.cells index no_cell) (sym view)) (ap (λ (p : Part). p.level) (sym view)) (ap (λ (p : Part). p.gain) (sym view))
     (awaited_still a.place.level index a.place.gain g a.cells.items a.awaits.items sound.awaited inside byte other)
+
+-- and all boards of a stretch of which none awaits it
+pub opened_none : (a : Inside) (part : Part) → seen a ≡ part → IsSegment a → (start end : ℕ) → end ≤ length part.cells → All (λ g. g ≢ a.place.gain) (slice_range a.awaits.items start end) → OpensCells part part start end
+opened_none a part view sound start end within others = record {
+  inside = λ k h from to.
+      let many = sound.awaited.boards in
+      let cells = ap (λ (p : Part). length p.cells) view in
+      let high : k < length a.cells.items = omega (arith, h, cells) in
+      let among : k < length a.awaits.items = omega (arith, high, many) in
+      let long = length-take (end - start) (drop start a.awaits.items) in
+      let left = length-drop start a.awaits.items in
+      let place : k - start < length (slice_range a.awaits.items start end) = omega (arith, long, left, among, from, to) in
+      let read : get_or (slice_range a.awaits.items start end) (k - start) 0 ≡ get_or a.awaits.items k 0 =
+      get_or-take (end - start) (drop start a.awaits.items) (k - start) 0 (omega (arith, from, to)) ∙ get_or-drop start a.awaits.items (k - start) 0 ∙ ap (λ i. get_or a.awaits.items i 0) (let e : start + (k - start) ≡ k = omega (arith, from) in e) in
+      let byte = get_or_default a.awaits.items k 0 (get_or a.awaits.items k 0) among in
+      (opened_other a part view sound k (get_or a.awaits.items k 0) high byte (λ is. others (k - start) 0 place (read ∙ is))).inside k h (omega arith) (omega arith);
+  outside = λ k out. refl;
+}
 
 -- what is read of one cell
 module _ (a : Inside) (part : Part) (view : seen a ≡ part) (index : ℕ) (old : Cell) (high : index < length a.cells.items) (read : old ≡ get_or a.cells.items index old) where

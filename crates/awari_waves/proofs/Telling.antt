@@ -13,7 +13,9 @@ use Rattle.awari_owner.proofs.Spreading.{IsInjective}
 use Rattle.awari_owner.proofs.PlannedTallies.{unheard_told}
 use Rattle.awari_owner.proofs.Taking.{IsTakeable, added_heard}
 use Rattle.awari_waves.proofs.Sources.{all_in, each_in, in_first, in_second}
-use Rattle.awari_waves.specs.Lists.{In, list_at, rows_at}
+use Rattle.awari_waves.specs.Lists.{In, list_at}
+use Rattle.awari_waves.specs.Rows.{lists_by, notes_at}
+use Rattle.awari_waves.specs.declared.lists.Row.{Row}
 use Rattle.awari_waves.specs.Waves.{AreNew, IsCodeFor, IsQuietCode, Tells, TellsBoth, heard_by, is_noted, note_by}
 
 pub code_still : (old now : Part) (code : ℕ) → Settles old now → IsCodeFor old code → IsCodeFor now code
@@ -103,15 +105,15 @@ tells_append place kind a b old now new one two value notes are tallied =
     (two value (heard_by place kind a notes) (new_second place kind place.level a b notes are) (one value notes (new_first place.level a b notes are) tallied))
 
 -- the codes of one of several rows
-row_in : (rows : List (List (List ℕ))) (k at : ℕ) (d : List (List ℕ)) (c : ℕ) → k < length rows → In (list_at (get_or rows k d) at) c → In (rows_at rows at) c
-row_in [] k at d c h has = absurd (omega arith)
-row_in (row ∷ rows) zero at d c h has = in_first (list_at row at) (rows_at rows at) c has
-row_in (row ∷ rows) (suc k) at d c h has = in_second (list_at row at) (rows_at rows at) c (row_in rows k at d c (omega arith) has)
+row_in : (kind : Kind) (rows : List Row) (k at : ℕ) (d : Row) (c : ℕ) → k < length rows → In (list_at (lists_by kind (get_or rows k d)) at) c → In (notes_at kind rows at) c
+row_in kind [] k at d c h has = absurd (omega arith)
+row_in kind (row ∷ rows) zero at d c h has = in_first (list_at (lists_by kind row) at) (notes_at kind rows at) c has
+row_in kind (row ∷ rows) (suc k) at d c h has = in_second (list_at (lists_by kind row) at) (notes_at kind rows at) c (row_in kind rows k at d c (omega arith) has)
 
-pub row_codes : (old now : Part) (rows : List (List (List ℕ))) (k at : ℕ) (d : List (List ℕ)) (codes : List ℕ) → Settles old now → All (IsCodeFor old) (rows_at rows at) → k < length rows
-    → codes ≡ list_at (get_or rows k d) at → All (IsCodeFor now) codes
-row_codes old now rows k at d codes settles all h is =
-    all_in (IsCodeFor now) codes (λ c has. code_still old now c settles (each_in (IsCodeFor old) (rows_at rows at) all c (row_in rows k at d c h (subst (λ (l : List ℕ). In l c) is has))))
+pub row_codes : (old now : Part) (kind : Kind) (rows : List Row) (k at : ℕ) (d : Row) (codes : List ℕ) → Settles old now → All (IsCodeFor old) (notes_at kind rows at) → k < length rows
+    → codes ≡ list_at (lists_by kind (get_or rows k d)) at → All (IsCodeFor now) codes
+row_codes old now kind rows k at d codes settles all h is =
+    all_in (IsCodeFor now) codes (λ c has. code_still old now c settles (each_in (IsCodeFor old) (notes_at kind rows at) all c (row_in kind rows k at d c h (subst (λ (l : List ℕ). In l c) is has))))
 
 pub row_tells : (old now new : Part) (kind : Kind) (codes codes' : List ℕ) → SameLevel old now → codes ≡ codes' → Tells (place_of now) kind codes now new → Tells (place_of old) kind codes' now new
 row_tells old now new kind codes codes' same is tells = subst₂ (λ (p : Place) (cs : List ℕ). Tells p kind cs now new) (place_still old now same) is tells

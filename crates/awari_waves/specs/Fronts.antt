@@ -19,11 +19,10 @@ pub record IsFront (front : Front) (parts : List Part) : Type 0 where
   pub numbers : length parts < 2 ^ 32
   pub grid : IsGrid front.place (2 ^ front.log) parts
 
--- the index is that of the level, and there is a row for the notes of each kind
+-- the index is that of the level, and there is a row
 pub record IsRoom (front : Front) (room : Room) : Type 0 where
   pub index : room.index ≡ front.place.level
-  pub lost : 1 ≤ length room.rows.lost.items
-  pub won : 1 ≤ length room.rows.won.items
+  pub some : 1 ≤ length room.rows.items
 
 -- the boards of the chunk were taken from the fresh ones and are not spread yet
 pub record ArePending (front : Front) (parts : List Part) (chunk : Chunk) : Type 0 where

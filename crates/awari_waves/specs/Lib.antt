@@ -1,4 +1,5 @@
 pub mod Lists
+pub mod Rows
 pub mod Waves
 pub mod SegmentFields
 pub mod Each

@@ -16,11 +16,6 @@ AreDistinct (x ∷ xs) = (In xs x → ⊥) × AreDistinct xs
 abbrev pub list_at : List (List ℕ) → ℕ → List ℕ
 list_at lists k = slice_index_or lists k []
 
--- and those of several rows at this number, one after the other
-abbrev pub rows_at : List (List (List ℕ)) → ℕ → List ℕ
-rows_at [] k = []
-rows_at (row ∷ rows) k = list_at row k ++ rows_at rows k
-
 -- with one more behind the list at this number
 abbrev pub with_put : List (List ℕ) → ℕ → ℕ → List (List ℕ)
 with_put [] zero v = (v ∷ []) ∷ []

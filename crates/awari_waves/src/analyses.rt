@@ -10,9 +10,9 @@ ghost use Rattle.awari_waves.specs.Each.{AreFrom, AreIdle, HasDue};
 ghost use Rattle.awari_waves.specs.Fronts.{IsRoom};
 ghost use Rattle.awari_waves.specs.declared.chunks.Front.{Front as FrontView};
 
-use crate::chunks::{Chunk, Front, Room, Rows};
+use crate::chunks::{Chunk, Front, Room};
 use crate::dues::{due_of, fresh_at};
-use crate::lists::Lists;
+use crate::lists::Row;
 use crate::openings::{open_gains, open_waves};
 use crate::scanning::scanned_segments;
 use crate::segments::Segment;
@@ -26,7 +26,7 @@ use std::marker::Model;
 use std::thread::Threads;
 
 /// The most threads that share the work.
-const PIECES: usize = 64;
+const MOST_THREADS: usize = 64;
 
 /// A level that is being built: all its boards in segments of one length, the last one shorter, and
 /// the room to spread them in.
@@ -67,6 +67,7 @@ impl Analysis {
     {
         let level = shelf.levels();
         let log = log_of(size(level));
+        let threads = threads_of(threads);
         let segments = scanned_segments(rt, alloc, shelf, 1 << log, threads)?;
         let room = room_for(alloc, level, threads)?;
         let place = Place {
@@ -75,11 +76,7 @@ impl Analysis {
             wave: 0,
             start: 0,
         };
-        let front = Front {
-            place,
-            log,
-            pieces: pieces_of(threads),
-        };
+        let front = Front { place, log };
         Ok(Analysis {
             front,
             spread: 0,
@@ -146,7 +143,7 @@ impl Analysis {
             room,
         } = self;
         let gain = front.place.gain - 1;
-        open_gains(rt, front.pieces, gain, segments.as_mut_slice())?;
+        open_gains(rt, room.rows.len(), gain, segments.as_mut_slice())?;
         let place = Place {
             gain,
             wave: 0,
@@ -278,49 +275,35 @@ fn log_of(boards: u32) -> u32
     (boards / 48).max(1).ilog2().clamp(12, 16)
 }
 
-/// In how many pieces the segments open a gain.
-fn pieces_of(threads: usize) -> usize {
-    if threads <= 1 {
-        1
-    } else {
-        threads.min(PIECES) * 2
-    }
-}
-
-/// How many rows of notes are found side by side.
-fn rows_of(threads: usize) -> usize
+/// How many threads share the work: as many as are wanted, if they are not too many.
+fn threads_of(threads: usize) -> u32
     ensures { 1 ≤ result }
 {
-    threads.clamp(1, PIECES)
+    threads.clamp(1, MOST_THREADS) as u32
 }
 
 /// Room to spread the boards of this level, for so many threads.
-fn room_for(alloc: Global, level: u8, threads: usize) -> Result<Room, AllocError>
-    requires { level ≤ 24 }
+fn room_for(alloc: Global, level: u8, threads: u32) -> Result<Room, AllocError>
+    requires level { level ≤ 24 }
+    requires some { 1 ≤ threads }
     ensures { IfOk result (λ room. (front : FrontView) → front.place.level ≡ level → IsRoom front room) }
 {
     let index = Index::of(alloc, level)?;
-    let count = rows_of(threads);
-    let lost = rows(alloc, count)?;
-    let won = rows(alloc, count)?;
+    let rows = rows(alloc, threads as usize)?;
     let chunk = Chunk {
         lost: Vec::new(alloc),
         won: Vec::new(alloc),
     };
-    Ok(Room {
-        index,
-        chunk,
-        rows: Rows { lost, won },
-    })
+    Ok(Room { index, chunk, rows })
 }
 
 /// So many rows with no note yet.
-fn rows(alloc: Global, count: usize) -> Result<Vec<Lists>, AllocError>
+fn rows(alloc: Global, count: usize) -> Result<Vec<Row>, AllocError>
     ensures { IfOk result (λ rows. vec_len rows ≡ count) }
 {
     let mut rows = Vec::with_capacity(alloc, count)?;
     for _row in 0..count {
-        rows.push(Lists::new(alloc))?;
+        rows.push(Row::new(alloc))?;
     }
     Ok(rows)
 }

@@ -1,14 +1,16 @@
 //! A chunk of fresh boards is spread: their notes are found, and then heard block by block.
 
-ghost use Rattle.std.specs.Prelude.{◌≡◌, ℕ, ◌+◌, ◌-◌, ◌^◌, ◌<◌, ◌≤◌, All, OnOk, length};
+ghost use Rattle.std.specs.Prelude.{◌≡◌, ℕ, ◌+◌, ◌-◌, ◌^◌, ◌<◌, ◌≤◌, All, OnOk, length, take};
 ghost use Rattle.std.specs.Thread.{IsSync};
+ghost use Rattle.awari_block.specs.declared.notes.Kind.TheVariants.{Lost, Won};
 ghost use Rattle.awari_owner.specs.Level.{part_at};
-ghost use Rattle.awari_waves.specs.Lists.{list_at, rows_at};
+ghost use Rattle.awari_waves.specs.Lists.{list_at};
+ghost use Rattle.awari_waves.specs.Rows.{notes_at};
 ghost use Rattle.awari_waves.specs.Fronts.{ArePending, IsFront, IsRoom};
 ghost use Rattle.awari_waves.specs.Waves.{CanFind, CanHear, FindsFor, HearsFrom, SettlesAll, SpreadsChunk};
 
 use crate::finding::find;
-use crate::lists::Lists;
+use crate::lists::{Lists, Row};
 use crate::segments::Segment;
 use awari_block::Place;
 use awari_board::moves_keep_boards;
@@ -19,17 +21,15 @@ use rayon::join_mut;
 use std::alloc::AllocError;
 use std::thread::Threads;
 
-/// Fewer boards than these are not worth a thread.
-const LEAST_CHUNK: usize = 2000;
+/// How many boards of a chunk are worth a thread.
+const BOARDS_A_THREAD: usize = 500;
 
-/// What is open in all segments of a level, how long they are, and in how many pieces they work side
-/// by side.
+/// What is open in all segments of a level, and how long they are.
 #[derive(Clone, Copy)]
 pub struct Front {
     pub place: Place,
     /// Each segment has 2 to this power of boards, the last one fewer.
     pub log: u32,
-    pub pieces: usize,
 }
 
 /// The ranks of boards that are spread at once, the lost and the won ones.
@@ -39,21 +39,21 @@ pub struct Chunk {
     pub won: Vec<u32>,
 }
 
-/// The notes that the boards of a chunk give, those of lost and those of won boards. Each row has a
-/// list for each segment.
-#[derive(Drop)]
-pub struct Rows {
-    pub lost: Vec<Lists>,
-    pub won: Vec<Lists>,
-}
-
-/// What a wave is spread with: the boards of the level by rank, and room for the boards of a chunk and
-/// for their notes.
+/// What a wave is spread with: the boards of the level by rank, room for the boards of a chunk, and a
+/// row for the notes that each thread finds.
 #[derive(Drop)]
 pub struct Room {
     pub index: Index,
     pub chunk: Chunk,
-    pub rows: Rows,
+    pub rows: Vec<Row>,
+}
+
+/// What a search goes by: the boards of the level by rank, and how many boards a segment has, as a
+/// power of two.
+#[derive(Clone, Copy)]
+struct Finder<'a> {
+    index: &'a Index,
+    log: u32,
 }
 
 /// Spreads the boards of the chunk, which are of the open gain and distance and were taken from the
@@ -76,164 +76,173 @@ pub fn spread_chunk<R: Threads + Sync>(
 {
     ranks_tell_boards_apart();
     moves_keep_boards();
-    find_chunk(rt, front, room)?;
-    let pieces = pieces_of(front, &room.chunk);
-    hear_pieces(rt, pieces, 0, &room.rows, segments)?;
+    let threads = threads_for(&room.chunk, room.rows.len());
+    let finder = Finder {
+        index: &room.index,
+        log: front.log,
+    };
+    find_chunk(rt, finder, &room.chunk, threads, room.rows.as_mut_slice())?;
+    let rows = &room.rows.as_slice()[..threads];
+    hear_in_threads(rt, threads, 0, rows, segments)?;
     Ok(())
 }
 
-/// In how many pieces a chunk is worked on: in one if it is not worth a thread.
-fn pieces_of(front: Front, chunk: &Chunk) -> usize {
-    if chunk.lost.len() < LEAST_CHUNK && chunk.won.len() < LEAST_CHUNK {
-        return 1;
-    }
-    front.pieces
-}
-
-/// Finds the notes of the chunk, those of lost and of won boards side by side.
-fn find_chunk<R: Threads + Sync>(rt: &R, front: Front, room: &mut Room) -> Result<(), AllocError>
-    requires room { IsRoom front room.old }
-    requires lost { CanFind front.place.level (2 ^ front.log) room.old.chunk.lost.items (length room.old.rows.lost.items) }
-    requires won { CanFind front.place.level (2 ^ front.log) room.old.chunk.won.items (length room.old.rows.won.items) }
-    requires log { front.log < 32 }
-    ensures lost { OnOk result (FindsFor front.place.level (2 ^ front.log) room.old.chunk.lost.items (rows_at room.new.rows.lost.items)) }
-    ensures won { OnOk result (FindsFor front.place.level (2 ^ front.log) room.old.chunk.won.items (rows_at room.new.rows.won.items)) }
-    ensures room { OnOk result (IsRoom front room.new) }
+/// How many threads the chunk is worth, of so many that there are.
+fn threads_for(chunk: &Chunk, threads: usize) -> usize
+    requires { 1 ≤ threads }
+    ensures { (1 ≤ result) × (result ≤ threads) }
 {
-    let log = front.log;
-    let index = &room.index;
-    let alone = pieces_of(front, &room.chunk) < 2;
-    let lost_ranks = room.chunk.lost.as_slice();
-    let won_ranks = room.chunk.won.as_slice();
-    let lost = room.rows.lost.as_mut_slice();
-    let won = room.rows.won.as_mut_slice();
-    if alone {
-        find_pieces(rt, index, log, lost_ranks, lost)?;
-        find_pieces(rt, index, log, won_ranks, won)?;
-        return Ok(());
-    }
-    let (lost_done, won_done) = join_mut(
-        rt,
-        &mut ||
-            requires { IsSync R.row × CanFind index.now (2 ^ log) lost_ranks.now (length lost.now) × (log < 32) }
-            ensures { OnOk result (FindsFor index.entry.now (2 ^ log) lost_ranks.entry.now (rows_at lost.exit.now)) }
-        { find_pieces(rt, index, log, lost_ranks, lost) },
-        &mut ||
-            requires { IsSync R.row × CanFind index.now (2 ^ log) won_ranks.now (length won.now) × (log < 32) }
-            ensures { OnOk result (FindsFor index.entry.now (2 ^ log) won_ranks.entry.now (rows_at won.exit.now)) }
-        { find_pieces(rt, index, log, won_ranks, won) },
-    );
-    lost_done?;
-    won_done?;
-    Ok(())
+    let boards = chunk.lost.len().saturating_add(chunk.won.len());
+    (boards / BOARDS_A_THREAD).clamp(1, threads)
 }
 
-/// Finds the notes of these boards, each row those of a piece of them.
-#[cycle(searches)]
-fn find_pieces<R: Threads + Sync>(
+/// Finds the notes of the chunk. So many of the rows have them.
+fn find_chunk<R: Threads + Sync>(
     rt: &R,
-    index: &Index,
-    log: u32,
-    ranks: &[u32],
-    rows: &mut [Lists],
+    finder: Finder<'_>,
+    chunk: &Chunk,
+    threads: usize,
+    rows: &mut [Row],
 ) -> Result<(), AllocError>
-    requires can { CanFind index.now (2 ^ log) ranks.now (length rows.old) }
-    requires log { log < 32 }
-    ensures found { OnOk result (FindsFor index.now (2 ^ log) ranks.now (rows_at rows.new)) }
+    requires lost { CanFind finder.index.now (2 ^ finder.log) chunk.now.lost.items threads }
+    requires won { CanFind finder.index.now (2 ^ finder.log) chunk.now.won.items threads }
+    requires log { finder.log < 32 }
+    requires threads { threads ≤ length rows.old }
+    ensures lost { OnOk result (FindsFor finder.entry.index.now (2 ^ finder.entry.log) chunk.now.lost.items (notes_at Lost (take threads rows.new))) }
+    ensures won { OnOk result (FindsFor finder.entry.index.now (2 ^ finder.entry.log) chunk.now.won.items (notes_at Won (take threads rows.new))) }
     ensures rows { length rows.new ≡ length rows.old }
 {
-    if rows.len() < 2 {
-        return find_row(index, log, ranks, &mut rows[0]);
+    let (found, _idle) = rows.split_at_mut(threads);
+    find_in_threads(
+        rt,
+        finder,
+        chunk.lost.as_slice(),
+        chunk.won.as_slice(),
+        found,
+    )?;
+    Ok(())
+}
+
+/// Finds the notes of these boards. Each row gets those of as many boards, by a thread of its own, and
+/// this thread finds the last one.
+#[cycle(searches)]
+fn find_in_threads<R: Threads + Sync>(
+    rt: &R,
+    finder: Finder<'_>,
+    lost: &[u32],
+    won: &[u32],
+    rows: &mut [Row],
+) -> Result<(), AllocError>
+    requires lost { CanFind finder.index.now (2 ^ finder.log) lost.now (length rows.old) }
+    requires won { CanFind finder.index.now (2 ^ finder.log) won.now (length rows.old) }
+    requires log { finder.log < 32 }
+    ensures lost { OnOk result (FindsFor finder.entry.index.now (2 ^ finder.entry.log) lost.now (notes_at Lost rows.new)) }
+    ensures won { OnOk result (FindsFor finder.entry.index.now (2 ^ finder.entry.log) won.now (notes_at Won rows.new)) }
+    ensures rows { length rows.new ≡ length rows.old }
+{
+    let count = rows.len();
+    if count < 2 {
+        return find_row(finder, lost, won, &mut rows[0]);
     }
-    let half = rows.len() / 2;
-    let (low_ranks, high_ranks) = ranks.split_at(ranks.len() / 2);
-    let (low, high) = rows.split_at_mut(half);
-    if ranks.len() < LEAST_CHUNK {
-        find_pieces(rt, index, log, low_ranks, low)?;
-        find_pieces(rt, index, log, high_ranks, high)?;
-        return Ok(());
-    }
-    let (low_done, high_done) = join_mut(
+    let (lost, lost_rest) = lost.split_at(lost.len() / count);
+    let (won, won_rest) = won.split_at(won.len() / count);
+    let (row, rest) = rows.split_at_mut(1);
+    let (done, rest_done) = join_mut(
         rt,
         &mut ||
-            requires { IsSync R.row × CanFind index.now (2 ^ log) low_ranks.now (length low.now) × (log < 32) }
-            ensures { OnOk result (FindsFor index.entry.now (2 ^ log) low_ranks.entry.now (rows_at low.exit.now)) }
-        { find_pieces(rt, index, log, low_ranks, low) },
+            requires { IsSync R.row × CanFind finder.index.now (2 ^ finder.log) lost.now (length row.now) × CanFind finder.index.now (2 ^ finder.log) won.now (length row.now) × (finder.log < 32) }
+            ensures { OnOk result (FindsFor finder.entry.index.now (2 ^ finder.entry.log) lost.entry.now (notes_at Lost row.exit.now) × FindsFor finder.entry.index.now (2 ^ finder.entry.log) won.entry.now (notes_at Won row.exit.now)) }
+        { find_in_threads(rt, finder, lost, won, row) },
         &mut ||
-            requires { IsSync R.row × CanFind index.now (2 ^ log) high_ranks.now (length high.now) × (log < 32) }
-            ensures { OnOk result (FindsFor index.entry.now (2 ^ log) high_ranks.entry.now (rows_at high.exit.now)) }
-        { find_pieces(rt, index, log, high_ranks, high) },
+            requires { IsSync R.row × CanFind finder.index.now (2 ^ finder.log) lost_rest.now (length rest.now) × CanFind finder.index.now (2 ^ finder.log) won_rest.now (length rest.now) × (finder.log < 32) }
+            ensures { OnOk result (FindsFor finder.entry.index.now (2 ^ finder.entry.log) lost_rest.entry.now (notes_at Lost rest.exit.now) × FindsFor finder.entry.index.now (2 ^ finder.entry.log) won_rest.entry.now (notes_at Won rest.exit.now)) }
+        { find_in_threads(rt, finder, lost_rest, won_rest, rest) },
     );
-    low_done?;
-    high_done?;
+    done?;
+    rest_done?;
     Ok(())
 }
 
-/// Finds the notes of these boards for one row, which is emptied first.
-fn find_row(index: &Index, log: u32, ranks: &[u32], row: &mut Lists) -> Result<(), AllocError>
-    requires can { CanFind index.now (2 ^ log) ranks.now 1 }
-    requires log { log < 32 }
-    ensures { OnOk result (FindsFor index.now (2 ^ log) ranks.now (list_at row.new)) }
+/// Finds the notes of these boards for one row.
+fn find_row(finder: Finder<'_>, lost: &[u32], won: &[u32], row: &mut Row) -> Result<(), AllocError>
+    requires lost { CanFind finder.index.now (2 ^ finder.log) lost.now 1 }
+    requires won { CanFind finder.index.now (2 ^ finder.log) won.now 1 }
+    requires log { finder.log < 32 }
+    ensures lost { OnOk result (FindsFor finder.entry.index.now (2 ^ finder.entry.log) lost.now (list_at row.new.lost)) }
+    ensures won { OnOk result (FindsFor finder.entry.index.now (2 ^ finder.entry.log) won.now (list_at row.new.won)) }
 {
-    row.clear();
-    let mut targets = [Target { rank: 0, pit: 0 }; MOST_PREDECESSORS];
-    find(index, log, ranks, &mut targets, row)?;
+    find_lists(finder, lost, &mut row.lost)?;
+    find_lists(finder, won, &mut row.won)?;
     Ok(())
 }
 
-/// The segments, the first of them segment `first`, hear what the rows have for them, in so many
-/// pieces.
+/// Finds the notes of these boards for the lists of a row, which are emptied first.
+fn find_lists(finder: Finder<'_>, ranks: &[u32], lists: &mut Lists) -> Result<(), AllocError>
+    requires can { CanFind finder.index.now (2 ^ finder.log) ranks.now 1 }
+    requires log { finder.log < 32 }
+    ensures { OnOk result (FindsFor finder.entry.index.now (2 ^ finder.entry.log) ranks.now (list_at lists.new)) }
+{
+    lists.clear();
+    let mut targets = [Target { rank: 0, pit: 0 }; MOST_PREDECESSORS];
+    find(finder.index, finder.log, ranks, &mut targets, lists)?;
+    Ok(())
+}
+
+/// The segments, the first of them segment `first`, hear what the rows have for them. So many threads
+/// share the notes, and this thread takes the last segments.
 #[cycle(hearings)]
-fn hear_pieces<R: Threads + Sync>(
+fn hear_in_threads<R: Threads + Sync>(
     rt: &R,
-    pieces: usize,
+    threads: usize,
     first: usize,
-    rows: &Rows,
+    rows: &[Row],
     segments: &mut [Segment],
 ) -> Result<(), AllocError>
-    requires can { CanHear first (rows_at rows.now.lost.items) (rows_at rows.now.won.items) segments.old }
-    ensures heard { OnOk result (HearsFrom first (rows_at rows.now.lost.items) (rows_at rows.now.won.items) segments.old segments.new) }
+    requires can { CanHear first (notes_at Lost rows.now) (notes_at Won rows.now) segments.old }
+    ensures heard { OnOk result (HearsFrom first (notes_at Lost rows.now) (notes_at Won rows.now) segments.old segments.new) }
 {
-    if pieces < 2 {
+    if threads < 2 {
         return hear_all(first, rows, segments);
     }
-    let pieces = pieces / 2;
-    let half = middle_of(rows, first, segments.len());
-    let middle = first + half;
-    let (low, high) = segments.split_at_mut(half);
+    let fewer = threads - 1;
+    let share = share_of(rows, first, segments.len(), threads);
+    let next = first + share;
+    let (low, high) = segments.split_at_mut(share);
     let (low_done, high_done) = join_mut(
         rt,
         &mut ||
-            requires { IsSync R.row × CanHear first (rows_at rows.now.lost.items) (rows_at rows.now.won.items) low.now }
-            ensures { OnOk result (HearsFrom first (rows_at rows.entry.now.lost.items) (rows_at rows.entry.now.won.items) low.entry.now low.exit.now) }
-        { hear_pieces(rt, pieces, first, rows, low) },
+            requires { IsSync R.row × CanHear first (notes_at Lost rows.now) (notes_at Won rows.now) low.now }
+            ensures { OnOk result (HearsFrom first (notes_at Lost rows.entry.now) (notes_at Won rows.entry.now) low.entry.now low.exit.now) }
+        { hear_in_threads(rt, 1, first, rows, low) },
         &mut ||
-            requires { IsSync R.row × CanHear middle (rows_at rows.now.lost.items) (rows_at rows.now.won.items) high.now }
-            ensures { OnOk result (HearsFrom middle (rows_at rows.entry.now.lost.items) (rows_at rows.entry.now.won.items) high.entry.now high.exit.now) }
-        { hear_pieces(rt, pieces, middle, rows, high) },
+            requires { IsSync R.row × CanHear next (notes_at Lost rows.now) (notes_at Won rows.now) high.now }
+            ensures { OnOk result (HearsFrom next (notes_at Lost rows.entry.now) (notes_at Won rows.entry.now) high.entry.now high.exit.now) }
+        { hear_in_threads(rt, fewer, next, rows, high) },
     );
     low_done?;
     high_done?;
     Ok(())
 }
 
-/// How many of so many segments, the first of them segment `first`, have about half of the notes.
-fn middle_of(rows: &Rows, first: usize, segments: usize) -> usize
+/// How many of so many segments, the first of them segment `first`, have the share of a thread in
+/// their notes.
+fn share_of(rows: &[Row], first: usize, segments: usize, threads: usize) -> usize
+    requires { 1 ≤ threads }
     ensures { result ≤ segments }
 {
-    let half = notes_before(rows, first, segments) / 2;
+    let share = notes_among(rows, first, segments) / threads;
     let mut notes: usize = 0;
     for k in 0..segments {
         notes = notes.saturating_add(notes_for(rows, first.saturating_add(k)));
-        if notes > half {
+        if notes > share {
             return k;
         }
     }
-    segments / 2
+    segments
 }
 
 /// How many notes the rows have for so many segments, the first of them segment `first`.
-fn notes_before(rows: &Rows, first: usize, segments: usize) -> usize {
+fn notes_among(rows: &[Row], first: usize, segments: usize) -> usize {
     let mut notes: usize = 0;
     for k in 0..segments {
         notes = notes.saturating_add(notes_for(rows, first.saturating_add(k)));
@@ -242,23 +251,23 @@ fn notes_before(rows: &Rows, first: usize, segments: usize) -> usize {
 }
 
 /// How many notes the rows have for the segment of this number.
-fn notes_for(rows: &Rows, number: usize) -> usize {
-    notes_in(rows.lost.as_slice(), number).saturating_add(notes_in(rows.won.as_slice(), number))
-}
-
-/// How many of them are of one kind.
-fn notes_in(rows: &[Lists], number: usize) -> usize {
+fn notes_for(rows: &[Row], number: usize) -> usize {
     let mut notes: usize = 0;
     for row in rows {
-        notes = notes.saturating_add(row.list(number).len());
+        let of_row = row
+            .lost
+            .list(number)
+            .len()
+            .saturating_add(row.won.list(number).len());
+        notes = notes.saturating_add(of_row);
     }
     notes
 }
 
 /// One segment after the other hears what the rows have for it.
-fn hear_all(first: usize, rows: &Rows, segments: &mut [Segment]) -> Result<(), AllocError>
-    requires can { CanHear first (rows_at rows.now.lost.items) (rows_at rows.now.won.items) segments.old }
-    ensures heard { OnOk result (HearsFrom first (rows_at rows.now.lost.items) (rows_at rows.now.won.items) segments.old segments.new) }
+fn hear_all(first: usize, rows: &[Row], segments: &mut [Segment]) -> Result<(), AllocError>
+    requires can { CanHear first (notes_at Lost rows.now) (notes_at Won rows.now) segments.old }
+    ensures heard { OnOk result (HearsFrom first (notes_at Lost rows.now) (notes_at Won rows.now) segments.old segments.new) }
 {
     for k in 0..segments.len() {
         segments[k].hear_rows(first + k, rows)?;

@@ -9,34 +9,34 @@ use rayon::join_mut;
 use std::alloc::AllocError;
 use std::thread::Threads;
 
-/// Opens the next smaller gain in all segments, in so many pieces side by side. Refused if memory for
-/// the fresh boards runs out; then the level is lost.
+/// Opens the next smaller gain in all segments, which so many threads share. This thread takes the last
+/// ones. Refused if memory for the fresh boards runs out; then the level is lost.
 #[cycle(openings)]
 pub fn open_gains<R: Threads + Sync>(
     rt: &R,
-    pieces: usize,
+    threads: usize,
     gain: u8,
     segments: &mut [Segment],
 ) -> Result<(), AllocError>
     requires can { CanOpen gain segments.old }
     ensures opened { OnOk result (Each (OpensGain gain) segments.old segments.new) }
 {
-    if pieces < 2 {
+    if threads < 2 {
         return open_all(gain, segments);
     }
-    let pieces = pieces / 2;
-    let half = segments.len() / 2;
-    let (low, high) = segments.split_at_mut(half);
+    let fewer = threads - 1;
+    let share = segments.len() / threads;
+    let (low, high) = segments.split_at_mut(share);
     let (low_done, high_done) = join_mut(
         rt,
         &mut ||
             requires { IsSync R.row × CanOpen gain low.now }
             ensures { OnOk result (Each (OpensGain gain) low.entry.now low.exit.now) }
-        { open_gains(rt, pieces, gain, low) },
+        { open_gains(rt, 1, gain, low) },
         &mut ||
             requires { IsSync R.row × CanOpen gain high.now }
             ensures { OnOk result (Each (OpensGain gain) high.entry.now high.exit.now) }
-        { open_gains(rt, pieces, gain, high) },
+        { open_gains(rt, fewer, gain, high) },
     );
     low_done?;
     high_done?;

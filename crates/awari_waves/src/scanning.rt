@@ -18,9 +18,6 @@ use awari_table::Shelf;
 use std::alloc::{AllocError, Global};
 use std::thread::{Threads, join};
 
-/// Among how many threads the scan is shared at most.
-const MOST_THREADS: usize = 64;
-
 /// Segments of a level by number, from number `first` on. Each has `span` boards, the last one of the
 /// level fewer.
 #[derive(Clone, Copy)]
@@ -31,18 +28,18 @@ struct Stretch {
 }
 
 /// The boards of the shelf's next level in order of rank, `span` in each segment and fewer in the last,
-/// with no gain open and none of them fresh. They are scanned by so many threads, and by this one alone
-/// if there are fewer than two. Conditions: the shelf has at most `HIGHEST_LEVEL` levels, and `span` is
-/// not 0. Refused only if memory runs out.
+/// with no gain open and none of them fresh. So many threads scan them, a segment each. Conditions: the
+/// shelf has at most `HIGHEST_LEVEL` levels, and neither `span` nor `threads` is 0. Refused only if
+/// memory runs out.
 pub fn scanned_segments<R: Threads + Sync>(
     rt: &R,
     alloc: Global,
     shelf: &Shelf,
     span: u32,
-    threads: usize,
+    threads: u32,
 ) -> Result<Vec<Segment>, AllocError>
     requires low { length shelf.now ≤ HIGHEST_LEVEL }
-    requires some { 0 < span }
+    requires some { (0 < span) × (1 ≤ threads) }
     ensures grid { IfOk result (λ segments. IsGrid (record { level = length shelf.now; gain = length shelf.now + 1; wave = 0; start = 0 }) span segments.items) }
     ensures whole { IfOk result (λ segments. AreWhole (length shelf.now) segments.items) }
     ensures idle { IfOk result (λ segments. AreIdle segments.items) }
@@ -50,11 +47,10 @@ pub fn scanned_segments<R: Threads + Sync>(
     ensures numbers { IfOk result (λ segments. (1 ≤ vec_len segments) × (vec_len segments < 2 ^ 32)) }
 {
     let number = segments_in(size(shelf.levels()), span);
-    let most = side_by_side(threads);
     let mut segments = Vec::new(alloc);
     let mut first: u32 = 0;
     while first < number {
-        let count = most.min(number - first);
+        let count = threads.min(number - first);
         let mut found = scan_stretch(rt, alloc, shelf, Stretch { span, first, count })?;
         segments.append(&mut found)?;
         first += count;
@@ -71,18 +67,7 @@ fn segments_in(boards: u32, span: u32) -> u32
     boards.div_ceil(span)
 }
 
-/// How many segments are scanned side by side: two a thread, since some take longer than others.
-fn side_by_side(threads: usize) -> u32
-    ensures { 1 ≤ result }
-{
-    if threads < 2 {
-        1
-    } else {
-        threads.min(MOST_THREADS) as u32 * 2
-    }
-}
-
-/// The segments of the stretch, each scanned by a thread. A stretch of one is scanned by this thread.
+/// The segments of the stretch, each scanned by a thread of its own, and the last one by this thread.
 #[cycle(stretches)]
 fn scan_stretch<R: Threads + Sync>(
     rt: &R,
@@ -96,14 +81,13 @@ fn scan_stretch<R: Threads + Sync>(
     if stretch.count < 2 {
         return scan_one(alloc, shelf, stretch);
     }
-    let half = stretch.count / 2;
     let low = Stretch {
-        count: half,
+        count: 1,
         ..stretch
     };
     let high = Stretch {
-        first: stretch.first + half,
-        count: stretch.count - half,
+        first: stretch.first + 1,
+        count: stretch.count - 1,
         ..stretch
     };
     let (low_done, high_done) = join(

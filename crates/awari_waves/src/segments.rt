@@ -1,6 +1,7 @@
 //! A block of the boards of a level, and which of them are fresh, in lists by distance.
 
-ghost use Rattle.std.specs.Prelude.{◌≡◌, ℕ, ℤ, ◌+◌, ◌-◌, ◌/◌, ◌%◌, ◌^◌, ◌<◌, ◌≤◌, ◌++◌, IsTrue, List, [], true, All, IfNone, IfOk, IfSome, OnOk, Some, length, slice_set, vec_len};
+ghost use Rattle.std.specs.Prelude.{◌≡◌, ℕ, ℤ, ◌+◌, ◌-◌, ◌/◌, ◌%◌, ◌^◌, ◌<◌, ◌≤◌, ◌++◌, IsTrue, List, [], true, false, ◌≢◌, All, IfNone, IfOk, IfSome, OnOk, Some, length, slice_set, vec_len};
+ghost use Rattle.awari_block.specs.declared.notes.Kind.TheVariants.{Lost, Won};
 ghost use Rattle.awari_block.specs.Part.{Part as PartView, AreFresh, InBlock, IsClosed, settled_at, stored_at};
 ghost use Rattle.awari_rank.specs.Rank.{size_of};
 ghost use Rattle.awari_block.specs.Blocks.{due_dist};
@@ -8,13 +9,12 @@ ghost use Rattle.awari_block.specs.Cells.{FitsBy, is_settled};
 ghost use Rattle.awari_block.specs.Boards.{CanPut, HearsNote, OpensCells, Settles, place_of};
 ghost use Rattle.awari_waves.specs.Ahead.{TellSettled};
 ghost use Rattle.awari_waves.specs.Each.{IsFarther, OpensGain};
-ghost use Rattle.awari_waves.specs.Lists.{rows_at};
+ghost use Rattle.awari_waves.specs.Rows.{notes_at};
 ghost use Rattle.awari_waves.specs.SegmentFields.{TellAwaited};
 ghost use Rattle.awari_waves.specs.Waves.{GivesFresh, IsCodeFor, IsReady, StaysPassed, Tells, TellsBoth};
 
-use crate::chunks::Rows;
 use crate::dues::nearer;
-use crate::lists::Lists;
+use crate::lists::{Lists, Row};
 use awari_block::{Cell, ClosedPart, Kind, Place};
 use awari_rank::ranks_tell_boards_apart;
 use std::alloc::{AllocError, Global};
@@ -22,6 +22,9 @@ use std::marker::Model;
 
 /// What a board awaits if no opening settles it. No gain is so great.
 const NO_GAIN: u8 = 255;
+
+/// How many boards are asked together whether one of them awaits a gain.
+const STRETCH: usize = 64;
 
 /// How many notes are heard at a time, their cells being read ahead. Processors wait for fewer reads
 /// than this at a time.
@@ -121,9 +124,31 @@ impl Segment {
         ensures settles { OnOk result (Settles self.old self.new) }
         ensures opens { OnOk result (OpensCells self.old self.new 0 (length self.old.cells)) }
     {
-        for index in 0..self.awaits.len() {
+        let boards = self.cells.len();
+        let mut start: usize = 0;
+        while start < boards {
+            let end = boards.min(start + STRETCH);
+            self.open_stretch(start, end)?;
+            start = end;
+        }
+        Ok(())
+    }
+
+    /// Opens it in the cells from one index up to, not including, another. Most boards await another gain
+    /// or none, and their cells are not read.
+    fn open_stretch(&mut self, start: usize, end: usize) -> Result<(), AllocError>
+        requires order { start ≤ end }
+        requires within { end ≤ length self.old.cells }
+        requires gain { self.old.gain ≤ self.old.level }
+        requires opened { self.old.wave ≡ 0 }
+        ensures settles { OnOk result (Settles self.old self.new) }
+        ensures opens { OnOk result (OpensCells self.old self.new start end) }
+    {
+        if !is_among(self.place.gain, &self.awaits[start..end]) {
+            return Ok(());
+        }
+        for index in start..end {
             let place = self.place;
-            // Most boards await another gain or none, and their cells are not read.
             if self.awaits[index] != place.gain {
                 continue;
             }
@@ -236,29 +261,29 @@ impl Segment {
     /// Hears the notes that these rows have for it, by its number among the segments: those of lost
     /// boards, and then those of won ones. Refused if memory for the boards that they settle runs out;
     /// then the level is lost.
-    pub fn hear_rows(&mut self, number: usize, rows: &Rows) -> Result<(), AllocError>
-        requires lost { All (IsCodeFor self.old) (rows_at rows.now.lost.items number) }
-        requires won { All (IsCodeFor self.old) (rows_at rows.now.won.items number) }
+    pub fn hear_rows(&mut self, number: usize, rows: &[Row]) -> Result<(), AllocError>
+        requires lost { All (IsCodeFor self.old) (notes_at Lost rows.now number) }
+        requires won { All (IsCodeFor self.old) (notes_at Won rows.now number) }
         requires ready { IsReady self.old }
         ensures settles { OnOk result (Settles self.old self.new) }
         ensures passed { OnOk result (StaysPassed self.old self.new) }
-        ensures tells { OnOk result (TellsBoth (place_of self.old) (rows_at rows.now.lost.items number) (rows_at rows.now.won.items number) self.old self.new) }
+        ensures tells { OnOk result (TellsBoth (place_of self.old) (notes_at Lost rows.now number) (notes_at Won rows.now number) self.old self.new) }
     {
-        self.hear_kind(number, Kind::Lost, rows.lost.as_slice())?;
-        self.hear_kind(number, Kind::Won, rows.won.as_slice())?;
+        self.hear_kind(number, Kind::Lost, rows)?;
+        self.hear_kind(number, Kind::Won, rows)?;
         Ok(())
     }
 
     /// Hears those of one kind.
-    fn hear_kind(&mut self, number: usize, kind: Kind, rows: &[Lists]) -> Result<(), AllocError>
-        requires codes { All (IsCodeFor self.old) (rows_at rows.now number) }
+    fn hear_kind(&mut self, number: usize, kind: Kind, rows: &[Row]) -> Result<(), AllocError>
+        requires codes { All (IsCodeFor self.old) (notes_at kind rows.now number) }
         requires ready { IsReady self.old }
         ensures settles { OnOk result (Settles self.old self.new) }
         ensures passed { OnOk result (StaysPassed self.old self.new) }
-        ensures tells { OnOk result (Tells (place_of self.old) kind (rows_at rows.now number) self.old self.new) }
+        ensures tells { OnOk result (Tells (place_of self.old) kind (notes_at kind rows.now number) self.old self.new) }
     {
         for row in rows {
-            self.hear(kind, row.list(number))?;
+            self.hear(kind, row.list(kind, number))?;
         }
         Ok(())
     }
@@ -367,4 +392,15 @@ fn awaited(alloc: Global, level: u8, cells: &[Cell]) -> Result<Vec<u8>, AllocErr
         awaits[index] = cells[index].awaited_gain(level).unwrap_or(NO_GAIN);
     }
     Ok(awaits)
+}
+
+/// Whether the gain is among these. There is no branch for a byte, so processors compare many at once.
+fn is_among(gain: u8, awaits: &[u8]) -> bool
+    ensures { (result ≡ false) → All (λ awaited. awaited ≢ gain) awaits.now }
+{
+    let mut found = false;
+    for awaited in awaits {
+        found |= *awaited == gain;
+    }
+    found
 }

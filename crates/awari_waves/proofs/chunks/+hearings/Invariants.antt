@@ -1,10 +1,10 @@
 use Rattle.awari_waves.proofs.chunks.+hearings.Given as goal
 
 abbrev pub decreases-join_mut+arg2 : goal.decreases-join_mut+arg2
-decreases-join_mut+arg2 g l = l.pieces
+decreases-join_mut+arg2 g l = 1
 
 abbrev pub decreases-join_mut+arg3 : goal.decreases-join_mut+arg3
-decreases-join_mut+arg3 g l = l.pieces
+decreases-join_mut+arg3 g l = l.fewer
 
-abbrev pub decreases-hear_pieces : goal.decreases-hear_pieces
-decreases-hear_pieces g l = l.pieces
+abbrev pub decreases-hear_in_threads : goal.decreases-hear_in_threads
+decreases-hear_in_threads g l = l.threads

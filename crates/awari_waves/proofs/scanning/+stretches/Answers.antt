@@ -9,7 +9,6 @@ returns g t c =
     let s = c.args.stretch in
     let value = (table_of c.args.shelf.now).value in
     let n = length c.args.shelf.now in
-    let half = s.count / 2 in
-    let front : AreScannedFrom value n s.span s.first half c.in_ok-all.all.items = search rules in
-    let back : AreScannedFrom value n s.span (s.first + half) (s.count - half) c.in_ok-rest.rest.items = search rules in
-    from_both value n s.span s.first half (s.count - half) s.count c.in_ok-all.all.items c.in_ok-rest.rest.items _ (omega arith) c.in_ok-append.ensures.items front back
+    let front : AreScannedFrom value n s.span s.first 1 c.in_ok-all.all.items = search rules in
+    let back : AreScannedFrom value n s.span (s.first + 1) (s.count - 1) c.in_ok-rest.rest.items = search rules in
+    from_both value n s.span s.first 1 (s.count - 1) s.count c.in_ok-all.all.items c.in_ok-rest.rest.items _ (omega arith) c.in_ok-append.ensures.items front back

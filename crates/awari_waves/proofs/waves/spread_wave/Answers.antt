@@ -6,7 +6,7 @@ use Rattle.awari_waves.proofs.waves.spread_wave.Goals as goal
 pub loop-k-init : goal.loop-k-init
 loop-k-init g c = record {
   waving = waving_none c.args.front.place (2 ^ c.args.front.log) c.args.segments.now _ _ c.clear.ensures.items c.clear-2.ensures.items c.requires.front.grid;
-  room = record { index = c.requires.room.index; lost = c.requires.room.lost; won = c.requires.room.won };
+  room = record { index = c.requires.room.index; some = c.requires.room.some };
 }
 
 pub spread_full-requires-clause-front : goal.spread_full-requires-clause-front

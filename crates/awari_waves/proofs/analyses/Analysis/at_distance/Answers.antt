@@ -27,7 +27,7 @@ invariant_of-result-2 c =
       numbers = before.numbers;
       grid = subst (IsGrid (record a.front.place { wave = c.args.dist }) (2 ^ a.front.log)) (sym items) (waved_grid a.front.place (2 ^ a.front.log) c.args.dist a.segments.items new before.grid opened);
       whole = subst (AreWhole a.front.place.level) (sym items) (whole_still a.front.place.level a.segments.items new (waved_same c.args.dist a.segments.items new opened) before.whole);
-      room = record { index = before.room.index; lost = before.room.lost; won = before.room.won };
+      room = record { index = before.room.index; some = before.room.some };
     }
 
 pub returns-clause-heard : goal.returns-clause-heard

@@ -25,7 +25,7 @@ invariant_of-result g c =
       numbers = before.numbers;
       grid = subst (IsGrid (record a.front.place { gain = a.front.place.gain - 1; wave = 0 }) (2 ^ a.front.log)) (sym items) (opened_grid a.front.place (2 ^ a.front.log) (a.front.place.gain - 1) a.segments.items new before.grid opened);
       whole = subst (AreWhole a.front.place.level) (sym items) (whole_still a.front.place.level a.segments.items new (opened_same (a.front.place.gain - 1) a.segments.items new opened) before.whole);
-      room = record { index = before.room.index; lost = before.room.lost; won = before.room.won };
+      room = record { index = before.room.index; some = before.room.some };
     }
 
 pub returns-clause-heard : goal.returns-clause-heard

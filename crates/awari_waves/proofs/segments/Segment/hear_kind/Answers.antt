@@ -1,7 +1,9 @@
 use Rattle.std.proofs.lemmas.List.{drop_all, drop_more}
 use Rattle.std.proofs.Common.{List, ℕ, ap, ◌∙◌, sym, subst}
 use Rattle.awari_block.specs.Boards.{place_of}
-use Rattle.awari_waves.specs.Lists.{list_at, rows_at}
+use Rattle.awari_waves.specs.Lists.{list_at}
+use Rattle.awari_waves.specs.Rows.{lists_by, notes_at}
+use Rattle.awari_waves.specs.declared.lists.Row.{Row}
 use Rattle.awari_waves.specs.Waves.{Tells}
 use Rattle.awari_block.proofs.Settling.{settles_none, settles_both}
 use Rattle.awari_waves.proofs.Telling.{row_codes, row_tells, tells_append}
@@ -12,8 +14,8 @@ loop-row-init c = record { settles = settles_none _; passed = λ passed. passed;
 
 pub hear-requires-clause-codes : goal.hear-requires-clause-codes
 hear-requires-clause-codes c =
-    row_codes _ _ c.args.rows.now c.loop-row.row-index c.args.number c.row-item.result c.list.result.now c.loop-row.invariant.settles c.requires.codes c.loop-row-test.true
-    (c.list.ensures ∙ ap (λ row. list_at row c.args.number) c.row-item.is)
+    row_codes _ _ c.args.kind c.args.rows.now c.loop-row.row-index c.args.number c.row-item.result c.list.result.now c.loop-row.invariant.settles c.requires.codes c.loop-row-test.true
+    (c.list.ensures ∙ ap (λ (row : Row). list_at (lists_by c.args.kind row) c.args.number) c.row-item.is)
 
 pub loop-row-preserved : goal.loop-row-preserved
 loop-row-preserved c = record {
@@ -21,14 +23,14 @@ loop-row-preserved c = record {
   passed = λ passed. c.in_ok-hear.ensures.passed (c.loop-row.invariant.passed passed);
   tells = λ new tells.
       c.loop-row.invariant.tells new
-      (subst (λ (rs : List (List (List ℕ))). Tells (place_of c.args.self.now) c.args.kind (rows_at rs c.args.number) c.loop-row.self new)
+      (subst (λ (rs : List Row). Tells (place_of c.args.self.now) c.args.kind (notes_at c.args.kind rs c.args.number) c.loop-row.self new)
       (sym (drop_more c.args.rows.now c.loop-row.row-index c.row-item.result c.loop-row-test.true))
       (tells_append (place_of c.args.self.now) c.args.kind _ _ c.loop-row.self c.hear.new.self new
-      (row_tells c.args.self.now c.loop-row.self c.hear.new.self c.args.kind _ _ c.loop-row.invariant.settles.same (c.list.ensures ∙ ap (λ row. list_at row c.args.number) c.row-item.is) c.in_ok-hear.ensures.tells)
+      (row_tells c.args.self.now c.loop-row.self c.hear.new.self c.args.kind _ _ c.loop-row.invariant.settles.same (c.list.ensures ∙ ap (λ (row : Row). list_at (lists_by c.args.kind row) c.args.number) c.row-item.is) c.in_ok-hear.ensures.tells)
       tells));
 }
 
 pub returns-clause-tells : goal.returns-clause-tells
 returns-clause-tells c =
     c.loop-row.invariant.tells c.loop-row.self
-    (subst (λ (rs : List (List (List ℕ))). Tells (place_of c.args.self.now) c.args.kind (rows_at rs c.args.number) c.loop-row.self c.loop-row.self) (sym (drop_all c.loop-row.row-index c.args.rows.now c.loop-row-test.false)) (λ value notes are tallied. tallied))
+    (subst (λ (rs : List Row). Tells (place_of c.args.self.now) c.args.kind (notes_at c.args.kind rs c.args.number) c.loop-row.self c.loop-row.self) (sym (drop_all c.loop-row.row-index c.args.rows.now c.loop-row-test.false)) (λ value notes are tallied. tallied))

@@ -1,7 +1,3 @@
-use Rattle.std.proofs.Common.{List, ℕ, subst₂}
-use Rattle.awari_block.specs.Boards.{place_of}
-use Rattle.awari_waves.specs.Lists.{rows_at}
-use Rattle.awari_waves.specs.Waves.{TellsBoth}
 use Rattle.awari_block.proofs.Settling.{settles_both}
 use Rattle.awari_waves.proofs.Telling.{tells_both}
 use Rattle.awari_waves.proofs.segments.Segment.hear_rows.Goals as goal
@@ -11,8 +7,7 @@ returns-clause-settles c = settles_both _ _ _ c.in_ok-hear_kind.ensures.settles 
 
 pub returns-clause-tells : goal.returns-clause-tells
 returns-clause-tells c =
-    subst₂ (λ (l w : List (List (List ℕ))). TellsBoth (place_of c.args.self.now) (rows_at l c.args.number) (rows_at w c.args.number) c.args.self.now c.hear_kind-2.new.self) c.as_slice.ensures.value c.as_slice-2.ensures.value (
-    tells_both c.args.self.now c.hear_kind.new.self c.hear_kind-2.new.self _ _ c.in_ok-hear_kind.ensures.settles.same c.in_ok-hear_kind.ensures.tells c.in_ok-hear_kind-2.ensures.tells)
+    tells_both c.args.self.now c.hear_kind.new.self c.hear_kind-2.new.self _ _ c.in_ok-hear_kind.ensures.settles.same c.in_ok-hear_kind.ensures.tells c.in_ok-hear_kind-2.ensures.tells
 
 pub returns-clause-passed : goal.returns-clause-passed
 returns-clause-passed c = λ passed. c.in_ok-hear_kind-2.ensures.passed (c.in_ok-hear_kind.ensures.passed passed)
