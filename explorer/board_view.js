@@ -1,0 +1,220 @@
+"use strict";
+// The board: twelve pits in two rows, each of them a button, and a line for each player.
+//
+// `shown` is what the page shows: { state, weighed, below, isEditing, isTaking }. `weighed` is null while the
+// entries are being read, and `below` is the side whose pits lie in the lower row.
+
+/** A grand slam and a capture, a value and a distance of a move, in words for a voice. */
+function wordsOfMove(move) {
+  const worth = move.fault || move.value === undefined ? "its worth is not known" : `worth ${Words.spoken(move.value)}`;
+  return [
+    move.captured ? `captures ${move.captured}` : move.isSlam ? "a grand slam, captures nothing" : "captures nothing",
+    worth,
+    ...(move.distance ? [`within ${Words.plies(move.distance)}`] : []),
+    ...(move.isPlan ? ["the plan"] : []),
+  ].join(", ");
+}
+
+class BoardView {
+  /** `hands` has what a hand does: press(pit), add(pit, stones) and set(pit, stones). */
+  constructor(box, players, hands) {
+    Object.assign(this, { players, hands });
+    this.shown = null;
+    /** The place to which the tabulator leads: the lower left one at first. */
+    this.focused = 6;
+    this.places = Array.from({ length: 12 }, (_, place) => this.makePit(place));
+    box.append(...this.places.slice(0, 6), Elements.element("div", { class: "middle" }), ...this.places.slice(6));
+    box.addEventListener("keydown", event => this.onKey(event));
+  }
+
+  makePit(place) {
+    const pit = Elements.element("button", { type: "button", class: `pit ${place < 6 ? "upper" : "lower"}` },
+      ...["number", "tag", "bowl", "count"].map(part => Elements.element("span", { class: part })));
+    pit.addEventListener("click", () => this.hands.press(this.pitAt(place)));
+    pit.addEventListener("contextmenu", event => this.onRightClick(event, place));
+    pit.addEventListener("focus", () => this.onFocus(place));
+    pit.addEventListener("blur", () => this.preview(null));
+    pit.addEventListener("pointerenter", event => event.pointerType === "mouse" && this.preview(this.pitAt(place)));
+    pit.addEventListener("pointerleave", () => this.preview(null));
+    return pit;
+  }
+
+  /** The pit in one of the twelve places, the upper row first, as the mover numbers it. */
+  pitAt(place) {
+    const fromBelow = place < 6 ? 11 - place : place - 6;
+    return this.shown.below === this.shown.state.mover ? fromBelow : (fromBelow + 6) % 12;
+  }
+
+  // ---- drawing ----
+
+  /** Draws the board. Stones are laid anew, and those that fell are marked, only if the state is a new one. */
+  draw(shown, isNewState) {
+    this.shown = shown;
+    this.places.forEach((element, place) => {
+      this.drawPit(element, this.pitAt(place));
+      if (isNewState) this.layStones(element, this.pitAt(place));
+    });
+    this.drawPlayers();
+    this.leadTabulator();
+  }
+
+  drawPit(element, pit) {
+    const { state: { board }, weighed, isEditing } = this.shown;
+    const canPlay = !isEditing && Rules.isLegal(board, pit);
+    const [number, tag, , count] = element.children;
+    number.textContent = pit;
+    count.textContent = board[pit];
+    tag.replaceChildren(...this.tagOf(pit));
+    element.dataset.pit = pit;
+    element.setAttribute("aria-label", this.labelOf(pit));
+    element.setAttribute("aria-disabled", String(!canPlay && !isEditing));
+    element.classList.toggle("open", canPlay || isEditing);
+    element.classList.toggle("plan", canPlay && weighed?.entry?.plan === pit);
+    element.classList.toggle("empty", board[pit] === 0);
+    element.classList.toggle("bare", tag.childElementCount === 0);
+  }
+
+  /** What the move from a pit is worth, as it stands on the board. */
+  tagOf(pit) {
+    const { weighed, isEditing } = this.shown;
+    const move = !isEditing && weighed?.moves.find(each => each.pit === pit);
+    if (!move) return [];
+    const takes = move.captured ? `takes ${move.captured}` : "";
+    if (move.fault) return takes ? [this.makeTag("even", "?", takes)] : [];
+    const kind = `${Words.kindOf(move.value)}${move.isPlan ? " plan" : ""}`;
+    return [this.makeTag(kind, Words.signed(move.value), takes || this.withinOf(move) || "even")];
+  }
+
+  makeTag(kind, value, ...below) {
+    return Elements.element("span", { class: kind }, Elements.element("b", {}, value), Elements.element("small", {}, ...below));
+  }
+
+  /** The distance. A narrow board has no room for the word behind it. */
+  withinOf({ distance }) {
+    if (!distance) return "";
+    const unit = Elements.element("span", { class: "wide" }, distance === 1 ? " ply" : " plies");
+    return Elements.element("span", {}, `in ${distance}`, unit);
+  }
+
+  labelOf(pit) {
+    const { state: { board, mover }, weighed, isEditing, isTaking } = this.shown;
+    const side = Words.SIDES[pit < 6 ? mover : 1 - mover];
+    const held = `${side}, pit ${pit}, ${Words.plural(board[pit], "stone")}`;
+    if (isEditing) return `${held}. ${isTaking ? "Take" : "Add"} a stone`;
+    if (pit > 5) return held;
+    const refused = Rules.refusalOf(board, pit);
+    if (refused) return `${held}. ${refused.message}`;
+    const move = weighed?.moves.find(each => each.pit === pit);
+    return `${held}. Play${move ? `: ${wordsOfMove(move)}` : ""}`;
+  }
+
+  layStones(element, pit) {
+    const { board, mover, move } = this.shown.state, bowl = element.children[2];
+    element.classList.remove("taken", "origin");
+    bowl.className = "bowl";
+    bowl.style.animationDelay = "";
+    // By a number that stays with the pit while the board is turned, so that its stones lie still.
+    bowl.replaceChildren(BoardView.drawStones(board[pit], (pit + 6 * mover) % 12));
+    if (move) this.markWhatFell(bowl, move, (pit + 6) % 12);
+  }
+
+  /** The pits of a move are numbered by its mover, who is the other side now. */
+  markWhatFell(bowl, move, pit) {
+    const fall = move.falls.indexOf(pit);
+    void bowl.offsetWidth; // else an animation that has run does not run again
+    if (move.taken.includes(pit)) {
+      bowl.classList.add("lost");
+    } else if (fall >= 0) {
+      bowl.classList.add("fell");
+      bowl.style.animationDelay = `${45 * fall}ms`;
+    }
+  }
+
+  /** Stones in a bowl, laid like the seeds of a sunflower. */
+  static drawStones(count, pit) {
+    const GOLDEN_ANGLE = 2.399963;
+    const radius = count <= 4 ? 15 : count <= 7 ? 13 : count <= 10 ? 11 : count <= 16 ? 9.5 : count <= 26 ? 7.6 : 6;
+    const reach = count === 1 ? 0 : Math.min(47 - radius, 1.02 * radius * Math.sqrt(count));
+    const stones = Array.from({ length: count }, (_, index) => {
+      const angle = index * GOLDEN_ANGLE + pit * 1.7;
+      const far = reach * Math.sqrt((index + (count < 4 ? 0.9 : 0.5)) / count);
+      return Elements.drawing("circle", {
+        cx: (50 + far * Math.cos(angle)).toFixed(1), cy: (51 + far * Math.sin(angle)).toFixed(1), r: radius,
+        fill: `url(#stone-${(index * 7 + pit) % 3})`, stroke: "#0005", "stroke-width": 0.8,
+      });
+    });
+    return Elements.drawing("svg", { viewBox: "0 0 100 100", "aria-hidden": "true" }, ...stones);
+  }
+
+  drawPlayers() {
+    const { state: { board, mover, captured }, below } = this.shown, isEnded = Rules.isEnded(board);
+    [1 - below, below].forEach((side, row) => {
+      const isMover = side === mover;
+      this.players[row].classList.toggle("moves", isMover && !isEnded);
+      this.players[row].replaceChildren(
+        Elements.element("span", { class: "dot" }),
+        Elements.element("span", { class: "name" }, Words.SIDES[side]),
+        Elements.element("span", { class: "turn" }, isMover && (isEnded ? "has no move" : "to move")),
+        Elements.element("span", { class: "captured" }, "captured ", Elements.element("b", {}, String(captured[side]))));
+    });
+  }
+
+  /** Shows where the stones of a pit would fall and what they would capture; of null, nothing. */
+  preview(pit) {
+    const { state: { board }, isEditing } = this.shown;
+    const canPlay = pit !== null && !isEditing && Rules.isLegal(board, pit);
+    const move = canPlay ? Rules.play(board, pit) : { pit: null, falls: [], taken: [] };
+    this.places.forEach((element, place) => {
+      const here = this.pitAt(place), times = move.falls.filter(fall => fall === here).length;
+      element.classList.toggle("taken", move.taken.includes(here));
+      element.classList.toggle("origin", move.pit === here);
+      element.querySelector(".plus")?.remove();
+      if (times) element.children[2].append(Elements.element("span", { class: "plus", "aria-hidden": "true" }, `+${times}`));
+    });
+  }
+
+  // ---- hands ----
+
+  /** The board is one stop of the tabulator. The arrow keys go from pit to pit. */
+  leadTabulator() {
+    this.places.forEach((pit, place) => { pit.tabIndex = place === this.focused ? 0 : -1; });
+  }
+
+  onFocus(place) {
+    this.focused = place;
+    this.leadTabulator();
+    this.preview(this.pitAt(place));
+  }
+
+  onRightClick(event, place) {
+    if (!this.shown.isEditing) return;
+    event.preventDefault();
+    this.hands.add(this.pitAt(place), -1);
+  }
+
+  onKey(event) {
+    if (event.ctrlKey || event.metaKey || event.altKey) return;
+    if (!this.goByArrow(event.key) && !this.editByKey(event.key)) return;
+    event.stopPropagation();
+    event.preventDefault();
+  }
+
+  goByArrow(key) {
+    const step = { ArrowLeft: -1, ArrowRight: 1, ArrowUp: -6, ArrowDown: 6 }[key];
+    if (step === undefined) return false;
+    const place = this.focused + step;
+    const staysInRow = Math.floor(place / 6) === Math.floor(this.focused / 6);
+    if (place >= 0 && place < 12 && (staysInRow || Math.abs(step) === 6)) this.places[place].focus();
+    return true;
+  }
+
+  editByKey(key) {
+    if (!this.shown.isEditing) return false;
+    const pit = this.pitAt(this.focused);
+    if (["+", "="].includes(key)) this.hands.add(pit, 1);
+    else if (["-", "Delete", "Backspace"].includes(key)) this.hands.add(pit, -1);
+    else if (/^[0-9]$/.test(key)) this.hands.set(pit, Number(key));
+    else return false;
+    return true;
+  }
+}

@@ -1,0 +1,30 @@
+"use strict";
+// Makes elements of the page. All text comes in as text, so no name of a file can pass for markup.
+
+const Elements = (() => {
+  const SVG = "http://www.w3.org/2000/svg";
+
+  const byId = id => document.getElementById(id);
+
+  /** An attribute that is false or null is left out, and so is such a child. */
+  function filled(node, attributes, children) {
+    for (const [name, value] of Object.entries(attributes))
+      if (value !== false && value !== null && value !== undefined) node.setAttribute(name, value);
+    node.append(...children.filter(child => child !== false && child !== null && child !== undefined && child !== ""));
+    return node;
+  }
+
+  const element = (name, attributes = {}, ...children) => filled(document.createElement(name), attributes, children);
+
+  const drawing = (name, attributes = {}, ...children) => filled(document.createElementNS(SVG, name), attributes, children);
+
+  const icon = name => drawing("svg", { "aria-hidden": "true" }, drawing("use", { href: `#icon-${name}` }));
+
+  function button(attributes, action, ...children) {
+    const made = element("button", { type: "button", ...attributes }, ...children);
+    made.addEventListener("click", action);
+    return made;
+  }
+
+  return { byId, element, drawing, icon, button };
+})();

@@ -1,0 +1,220 @@
+"use strict";
+// The levels of the folder, a button each, and a summary of one of them: its numbers, two pictures, its digest.
+
+class LevelsView {
+  /** `hands` has showBoard(board) and say(text). */
+  constructor({ card, buttons, summary }, hands) {
+    Object.assign(this, { card, buttons, summary, hands });
+    /** Levels up to this size are counted unasked, which takes less than half a second. */
+    this.countedUnasked = 32e6;
+    this.open(new Levels.Shelf());
+  }
+
+  /** Takes another folder. What was begun on the one before is stopped. */
+  open(shelf) {
+    for (const job of this.jobs ?? []) job.control.abort();
+    this.shelf = shelf;
+    this.jobs = new Set();
+    this.counts = new Map();
+    this.pictures = new Map();
+    this.digests = new Map();
+    this.chosen = null;
+    this.drawn = null;
+  }
+
+  // ---- which level ----
+
+  /** Shows the level of a board, unless one was chosen by hand. */
+  draw(stones) {
+    this.stones = stones;
+    if (this.number !== this.drawn) this.redraw();
+  }
+
+  /** A new board leads back to its own level. */
+  forget() { this.chosen = null; }
+
+  get number() { return this.chosen ?? Math.min(this.stones ?? 0, Levels.HIGHEST); }
+
+  redraw() {
+    const held = this.card.contains(document.activeElement) ? document.activeElement.id : "";
+    this.drawn = this.number;
+    this.buttons.replaceChildren(...this.shelf.slots.map((slot, number) => this.makeLevelButton(slot, number)));
+    this.summary.replaceChildren(...this.makeSummary(this.number));
+    if (held) Elements.byId(held)?.focus();
+    this.countUnasked(this.number);
+  }
+
+  redrawIfShown(number) { if (number === this.drawn) this.redraw(); }
+
+  makeLevelButton(slot, number) {
+    const isHashed = Boolean(this.digests.get(number)?.isRight);
+    const kind = slot?.level ? "here" : slot ? "wrong" : "missing";
+    const there = `there${isHashed ? ", its SHA-256 is right" : ""}`;
+    const text = slot?.level ? there : slot ? slot.fault.message : "missing";
+    const attributes = {
+      id: `level-${number}`, class: `${kind}${isHashed ? " hashed" : ""}`, title: text,
+      "aria-pressed": String(number === this.number), "aria-label": `Level ${number}: ${text}`,
+    };
+    const choose = () => {
+      this.chosen = number;
+      this.redraw();
+    };
+    return Elements.button(attributes, choose, String(number));
+  }
+
+  // ---- the summary ----
+
+  makeSummary(number) {
+    const { element } = Elements, level = this.shelf.level(number), fault = this.shelf.fault(number);
+    if (fault) return [element("p", { class: "status wrong" }, `${fault.message}.`)];
+    if (!level) return [this.makeMissing(number)];
+    const counts = this.counts.get(number);
+    return [
+      element("div", { class: "head" },
+        element("b", {}, `Level ${number}`),
+        element("span", { class: "soft small" }, `${level.file.name}, ${Words.bytes(level.file.size)}`)),
+      ...(counts?.level ? [this.makeBar(counts)] : []),
+      this.makeNumbers(level, counts),
+      ...this.makePictures(number, counts),
+      this.makeActions(level, counts),
+      ...this.makeRemarks(level, counts),
+    ];
+  }
+
+  makeMissing(number) {
+    const { element } = Elements, boards = Words.grouped(Rules.sizeOf(number));
+    return element("p", { class: "status" },
+      element("b", {}, Levels.nameOf(number)), " is not in the folder. ",
+      element("code", {}, `awari build ${number} --folder FOLDER`),
+      ` makes it: ${boards} ${number === 0 ? "board" : "boards"}, ${Words.bytes(Levels.fileSizeOf(number))}.`);
+  }
+
+  makeBar(counts) {
+    const parts = ["won", "even", "lost"];
+    const text = parts.map(part => `${Words.percent(counts[part], counts.level.boards)} ${part}`).join(", ");
+    return Elements.element("div", { class: "bar", role: "img", "aria-label": text },
+      ...parts.filter(part => counts[part] > 0).map(part => {
+        const piece = Elements.element("span", { class: part });
+        piece.style.flexGrow = counts[part];
+        return piece;
+      }));
+  }
+
+  makeNumbers(level, counts) {
+    const { element } = Elements, { grouped, percent, plies, plural } = Words;
+    const row = (id, name, ...value) => [element("dt", {}, ...name), element("dd", { id: `level-${id}` }, ...value)];
+    const part = (kind, name) => row(kind, [element("span", { class: `key ${kind}` }), `${name} for the mover`],
+      grouped(counts[kind]), " ", element("span", { class: "soft" }, `(${percent(counts[kind], level.boards)})`));
+    const parts = counts?.level ? [...part("won", "Won"), ...part("even", "Even"), ...part("lost", "Lost")] : [];
+    return element("dl", {},
+      ...row("boards", [`Boards with ${plural(level.number, "stone")}`], grouped(level.boards)),
+      ...parts,
+      ...row("limit", ["Greatest distance"], plies(level.limit)),
+      ...row("digest", ["Digest"], element("code", {}, level.digest)));
+  }
+
+  /** They are made once, so that the column that was chosen stays so. */
+  makePictures(number, counts) {
+    if (!counts?.level) return [];
+    if (!this.pictures.has(number)) {
+      const show = rank => this.hands.showBoard(Rules.boardAt(number, rank));
+      this.pictures.set(number, [Picture.ofValues(counts, show), Picture.ofDistances(counts, show)]);
+    }
+    return [Elements.element("div", { class: "pictures" }, ...this.pictures.get(number).map(picture => picture.figure))];
+  }
+
+  makeActions(level, counts) {
+    const { button, element } = Elements, { number } = level, isSingle = this.shelf.levels.length === 1;
+    const isBusy = what => [...this.jobs].some(job => job.number === number && job.what === what);
+    const show = () => this.hands.showBoard(Rules.boardAt(number, counts.firstOfGreatest));
+    return element("div", { class: "row actions" },
+      !counts && !isBusy("Counting") && button({ id: "count", class: "button" }, () => this.count(number), `Count the boards (${Words.bytes(level.file.size)})`),
+      counts?.level && button({ id: "farthest", class: "button" }, show, `Show a board of ${Words.plies(counts.greatest)}`),
+      !isBusy("Hashing") && button({ id: "check", class: "button" }, () => this.checkDigest(number), "Check SHA-256"),
+      !isSingle && this.jobs.size === 0 && button({ id: "check-all", class: "button" }, () => this.checkAll(), "Check all levels"));
+  }
+
+  makeRemarks(level, counts) {
+    const { element } = Elements, digest = this.digests.get(level.number), remarks = [];
+    if (counts?.fault) remarks.push(element("p", { class: "status wrong" }, `${counts.fault.message}.`));
+    if (counts?.level && counts.greatest !== level.limit)
+      remarks.push(element("p", { class: "status wrong" },
+        `The file gives ${level.limit} as its greatest distance, and an entry has ${counts.greatest} (rule V7).`));
+    for (const job of this.jobs) if (job.number === level.number) remarks.push(this.makeProgress(job));
+    if (digest) remarks.push(this.makeDigestRemark(level, digest));
+    return remarks;
+  }
+
+  makeDigestRemark(level, { isRight, found, written, fault }) {
+    const { element } = Elements, start = digest => `${digest.slice(0, 16)}…`;
+    const say = (kind, title, text) => element("p", { id: "checked", class: `status ${kind}` }, element("b", {}, title), text);
+    if (fault) return say("wrong", "SHA-256 is not known. ", `${fault.message}.`);
+    if (isRight) return say("good", "SHA-256 is right. ", `The file is whole and unchanged.${this.belowText(level.number)}`);
+    return say("wrong", "SHA-256 is wrong (66 Digest). ",
+      `The bytes have ${start(found)}, and the file says ${start(written)}: the file is damaged.`);
+  }
+
+  belowText(number) {
+    if (number === 0) return "";
+    const below = Levels.nameOf(number - 1);
+    return this.shelf.level(number - 1) ? ` It was built over the ${below} that is here.` : ` ${below}, over which it was built, is not here.`;
+  }
+
+  // ---- work on whole files ----
+
+  makeProgress(job) {
+    const { element, button } = Elements, text = `${job.what} ${Levels.nameOf(job.number)}`;
+    job.bar = element("progress", { max: "1", value: job.part, "aria-label": text });
+    const stop = () => {
+      job.control.abort();
+      this.hands.say(`${text}: stopped`);
+    };
+    return element("div", { class: "status job" },
+      element("span", {}, text), job.bar, button({ id: "stop", class: "button small-button" }, stop, "Stop"));
+  }
+
+  /** Does work that can be stopped. Null comes of it if it was, and a fault of what can't be read. */
+  async run(what, number, control, work) {
+    const job = { what, number, control, part: 0 };
+    const told = part => {
+      job.part = part;
+      if (job.bar) job.bar.value = part;
+    };
+    this.jobs.add(job);
+    this.redrawIfShown(number);
+    const found = await work(this.shelf.level(number), told, control.signal).catch(fault => ({ fault }));
+    this.jobs.delete(job);
+    return control.signal.aborted ? null : found;
+  }
+
+  countUnasked(number) {
+    const level = this.shelf.level(number), isBusy = [...this.jobs].some(job => job.number === number);
+    if (level && !this.counts.has(number) && !isBusy && level.file.size <= this.countedUnasked) this.count(number);
+  }
+
+  async count(number) {
+    const { shelf } = this;
+    const counts = await this.run("Counting", number, new AbortController(), Scans.count);
+    if (shelf !== this.shelf) return;
+    if (counts) this.counts.set(number, counts);
+    this.redrawIfShown(number);
+  }
+
+  async checkDigest(number, control = new AbortController()) {
+    const { shelf } = this;
+    this.digests.delete(number);
+    const digest = await this.run("Hashing", number, control, Scans.checkDigest);
+    if (shelf !== this.shelf) return;
+    if (digest) this.digests.set(number, digest);
+    if (digest) this.hands.say(`Level ${number}: ${digest.fault?.message ?? (digest.isRight ? "SHA-256 is right" : "SHA-256 is wrong")}`);
+    this.redraw();
+  }
+
+  async checkAll() {
+    const { shelf } = this, control = new AbortController();
+    for (const { number } of shelf.levels) {
+      if (shelf !== this.shelf || control.signal.aborted) return;
+      await this.checkDigest(number, control);
+    }
+  }
+}
