@@ -27,23 +27,26 @@ const Levels = (() => {
       return new Uint8Array(await file.slice(from, to).arrayBuffer());
     } catch (fault) {
       throw new Fault(68, "Read",
-        `${file.name} can’t be read: it changed or went away since it was chosen. Choose the folder again. ${fault.name}`);
+        `${file.name} can’t be read: it changed or went away since it was chosen. Choose it again. ${fault.name}`);
     }
   }
 
   // ---- a header ----
 
   const versionOf = head => head[4] << 8 | head[5];
+  const highestOf = head => HIGHEST_OF_VERSION[versionOf(head)];
   const countOf = head => new DataView(head.buffer).getBigUint64(8);
 
   /** The fields of a header in their order: its name, where it ends, and what is wrong with it, if anything. */
   const FIELDS = [
     ["magic", 4, (name, head) => hex(head.slice(0, 4)) !== MAGIC &&
-      new Fault(61, "Magic", `${name} is no file of a level: it begins with ${hex(head.slice(0, 4))}, and not with ${MAGIC}, “AWDB”`)],
+      new Fault(61, "Magic",
+        `${name} is no file of a level: it begins with ${hex(head.slice(0, 4))}, and not with ${MAGIC}, “AWDB”`)],
     ["version", 6, (name, head) => !(versionOf(head) in HIGHEST_OF_VERSION) &&
       new Fault(62, "Version", `${name} has version ${versionOf(head)}; known are 1 and 2`)],
-    ["level", 7, (name, head) => head[6] > HIGHEST_OF_VERSION[versionOf(head)] &&
-      new Fault(63, "LevelOutOfRange", `${name} says that it is level ${head[6]}, and version ${versionOf(head)} has levels to ${HIGHEST_OF_VERSION[versionOf(head)]}`)],
+    ["level", 7, (name, head) => head[6] > highestOf(head) &&
+      new Fault(63, "LevelOutOfRange",
+        `${name} says that it is level ${head[6]}, and version ${versionOf(head)} has levels to ${highestOf(head)}`)],
     ["zero byte", 8, (name, head) => head[7] !== 0 &&
       new Fault(62, "Version", `${name} has ${head[7]} for its zero byte`)],
     ["count", 16, (name, head) => countOf(head) !== BigInt(sizeOf(head[6])) &&
@@ -67,7 +70,8 @@ const Levels = (() => {
     if (file.size < due)
       return new Fault(60, "Truncated", `${file.name} is cut off: it has ${grouped(file.size)} bytes of ${grouped(due)}`);
     if (file.size > due)
-      return new Fault(67, "Trailing", `${file.name} is too long: it has ${grouped(file.size)} bytes, and level ${number} has ${grouped(due)}`);
+      return new Fault(67, "Trailing",
+        `${file.name} is too long: it has ${grouped(file.size)} bytes, and level ${number} has ${grouped(due)}`);
     return null;
   }
 
@@ -80,7 +84,8 @@ const Levels = (() => {
     const lengthFault = lengthFaultOf(file, number);
     if (lengthFault) throw lengthFault;
     if (versionOf(head) === 1)
-      throw new Fault(86, "Old", `${file.name} is of version 1, whose distances need not be the least; awari migrate FROM TO brings the folder over`);
+      throw new Fault(86, "Old",
+        `${file.name} is of version 1, whose distances need not be the least; awari migrate FROM TO brings the folder over`);
     return {
       number, file,
       boards: sizeOf(number),
@@ -182,7 +187,8 @@ const Levels = (() => {
         throw new Fault(59, "NotYet", `There are levels up to ${HIGHEST} stones, and this board has ${stones}`);
       if (this.fault(stones)) throw this.fault(stones);
       if (!this.level(stones))
-        throw new Fault(59, "NotYet", `${nameOf(stones)}, the level of the boards with ${plural(stones, "stone")}, is not there`);
+        throw new Fault(59, "NotYet",
+          `${nameOf(stones)}, the level of the boards with ${plural(stones, "stone")}, is not there`);
       return this.level(stones);
     }
   }

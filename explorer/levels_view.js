@@ -1,12 +1,13 @@
 "use strict";
 // The levels of the folder, a button each, and a summary of one of them: its numbers, two pictures, its digest.
 
+/** Levels up to this size are counted unasked, which takes less than half a second. */
+const COUNTED_UNASKED_BYTES = 32e6;
+
 class LevelsView {
   /** `hands` has showBoard(board) and say(text). */
   constructor({ card, buttons, summary }, hands) {
     Object.assign(this, { card, buttons, summary, hands });
-    /** Levels up to this size are counted unasked, which takes less than half a second. */
-    this.countedUnasked = 32e6;
     this.open(new Levels.Shelf());
   }
 
@@ -18,6 +19,8 @@ class LevelsView {
     this.counts = new Map();
     this.pictures = new Map();
     this.digests = new Map();
+    /** Levels whose count was stopped. They are counted again only if a hand asks for it. */
+    this.stopped = new Set();
     this.chosen = null;
     this.drawn = null;
   }
@@ -127,11 +130,13 @@ class LevelsView {
     const { button, element } = Elements, { number } = level, isSingle = this.shelf.levels.length === 1;
     const isBusy = what => [...this.jobs].some(job => job.number === number && job.what === what);
     const show = () => this.hands.showBoard(Rules.boardAt(number, counts.firstOfGreatest));
+    const action = (id, act, text) => button({ id, class: "button" }, act, text);
+    const countText = `Count the boards (${Words.bytes(level.file.size)})`;
     return element("div", { class: "row actions" },
-      !counts && !isBusy("Counting") && button({ id: "count", class: "button" }, () => this.count(number), `Count the boards (${Words.bytes(level.file.size)})`),
-      counts?.level && button({ id: "farthest", class: "button" }, show, `Show a board of ${Words.plies(counts.greatest)}`),
-      !isBusy("Hashing") && button({ id: "check", class: "button" }, () => this.checkDigest(number), "Check SHA-256"),
-      !isSingle && this.jobs.size === 0 && button({ id: "check-all", class: "button" }, () => this.checkAll(), "Check all levels"));
+      !counts && !isBusy("Counting") && action("count", () => this.count(number), countText),
+      counts?.level && action("farthest", show, `Show a board of ${Words.plies(counts.greatest)}`),
+      !isBusy("Hashing") && action("check", () => this.checkDigest(number), "Check SHA-256"),
+      !isSingle && this.jobs.size === 0 && action("check-all", () => this.checkAll(), "Check all levels"));
   }
 
   makeRemarks(level, counts) {
@@ -147,7 +152,8 @@ class LevelsView {
 
   makeDigestRemark(level, { isRight, found, written, fault }) {
     const { element } = Elements, start = digest => `${digest.slice(0, 16)}…`;
-    const say = (kind, title, text) => element("p", { id: "checked", class: `status ${kind}` }, element("b", {}, title), text);
+    const say = (kind, title, text) =>
+      element("p", { id: "checked", class: `status ${kind}` }, element("b", {}, title), text);
     if (fault) return say("wrong", "SHA-256 is not known. ", `${fault.message}.`);
     if (isRight) return say("good", "SHA-256 is right. ", `The file is whole and unchanged.${this.belowText(level.number)}`);
     return say("wrong", "SHA-256 is wrong (66 Digest). ",
@@ -157,7 +163,9 @@ class LevelsView {
   belowText(number) {
     if (number === 0) return "";
     const below = Levels.nameOf(number - 1);
-    return this.shelf.level(number - 1) ? ` It was built over the ${below} that is here.` : ` ${below}, over which it was built, is not here.`;
+    return this.shelf.level(number - 1)
+      ? ` It was built over the ${below} that is here.`
+      : ` ${below}, over which it was built, is not here.`;
   }
 
   // ---- work on whole files ----
@@ -189,7 +197,8 @@ class LevelsView {
 
   countUnasked(number) {
     const level = this.shelf.level(number), isBusy = [...this.jobs].some(job => job.number === number);
-    if (level && !this.counts.has(number) && !isBusy && level.file.size <= this.countedUnasked) this.count(number);
+    const isWanted = level && !this.counts.has(number) && !this.stopped.has(number);
+    if (isWanted && !isBusy && level.file.size <= COUNTED_UNASKED_BYTES) this.count(number);
   }
 
   async count(number) {
@@ -197,6 +206,7 @@ class LevelsView {
     const counts = await this.run("Counting", number, new AbortController(), Scans.count);
     if (shelf !== this.shelf) return;
     if (counts) this.counts.set(number, counts);
+    else this.stopped.add(number);
     this.redrawIfShown(number);
   }
 
@@ -205,8 +215,11 @@ class LevelsView {
     this.digests.delete(number);
     const digest = await this.run("Hashing", number, control, Scans.checkDigest);
     if (shelf !== this.shelf) return;
-    if (digest) this.digests.set(number, digest);
-    if (digest) this.hands.say(`Level ${number}: ${digest.fault?.message ?? (digest.isRight ? "SHA-256 is right" : "SHA-256 is wrong")}`);
+    if (digest) {
+      const told = digest.isRight ? "SHA-256 is right" : "SHA-256 is wrong";
+      this.digests.set(number, digest);
+      this.hands.say(`Level ${number}: ${digest.fault?.message ?? told}`);
+    }
     this.redraw();
   }
 

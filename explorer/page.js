@@ -10,9 +10,11 @@
 
   let shelf = new Levels.Shelf();
   const record = new Record(Rules.parse(FIRST_BOARD));
-  const shown = { state: record.now, record, weighed: null, line: null, below: 0, hasLevels: false, isEditing: false, isTaking: false };
-  /** Why the last choice of files was not opened, or null. */
-  let refusedChoice = null;
+  /** What the views draw; board_view.js and worth_view.js say what the parts are. */
+  const shown = {
+    record, state: record.now, weighed: null, line: null, below: 0,
+    hasLevels: false, isEditing: false, isTaking: false,
+  };
   let northIsBelow = false;
   /** What is read for a board counts only as long as that board is shown. */
   let turn = 0;
@@ -65,10 +67,9 @@
   }
 
   function drawControls() {
-    const hasPlan = shown.weighed?.entry != null && shown.weighed.entry.plan !== null;
     byId("undo").disabled = byId("start").disabled = record.isFirst;
     byId("redo").disabled = record.isLast;
-    byId("best").disabled = byId("auto").disabled = !hasPlan;
+    byId("best").disabled = byId("auto").disabled = planShown() === null;
   }
 
   function drawWorth() {
@@ -176,7 +177,8 @@
 
   function labelAuto(isPlaying) {
     byId("auto").setAttribute("aria-pressed", String(isPlaying));
-    byId("auto").replaceChildren(icon(isPlaying ? "pause" : "play"), element("span", {}, isPlaying ? "Pause" : "Play line"));
+    const [name, text] = isPlaying ? ["pause", "Pause"] : ["play", "Play line"];
+    byId("auto").replaceChildren(icon(name), element("span", {}, text));
   }
 
   // ---- setting up ----
@@ -184,8 +186,8 @@
   function setStones(pit, stones) {
     const board = [...shown.state.board];
     board[pit] = Math.max(0, stones);
-    if (Rules.stonesOf(board) > Rules.MOST_STONES) return refuse(`A board has at most ${Rules.MOST_STONES} stones`);
-    const told = `Pit ${pit}: ${plural(board[pit], "stone")}, ${Rules.stonesOf(board)} in all`;
+    const all = Rules.stonesOf(board), told = `Pit ${pit}: ${plural(board[pit], "stone")}, ${all} in all`;
+    if (all > Rules.MOST_STONES) return refuse(`A board has at most ${Rules.MOST_STONES} stones`);
     return setBoard(board).then(() => say(told));
   }
 
@@ -210,7 +212,8 @@
   function setWord(text) {
     try {
       const board = Rules.parse(text.trim());
-      setBoard(board, 0).then(() => say(`${plural(Rules.stonesOf(board), "stone")}. ${WorthView.spokenVerdict(shown)}`));
+      const stones = plural(Rules.stonesOf(board), "stone");
+      setBoard(board, 0).then(() => say(`${stones}. ${WorthView.spokenVerdict(shown)}`));
       return null;
     } catch (fault) {
       byId("word-fault").textContent = `${fault.message}.`;
@@ -246,44 +249,14 @@
 
   // ---- files ----
 
-  /** What is wrong with the folder, above everything else. */
-  function drawNotice() {
-    const parts = refusedChoice ? [strongLine("No levels were opened. ", refusedChoice)] : [...faultLines(), ...gapLines()];
-    byId("notice").hidden = parts.length === 0;
-    byId("notice").replaceChildren(...parts);
-  }
-
-  const strongLine = (strong, text) => element("p", {}, element("b", {}, strong), text);
-
-  /** Faults of one number are told once, with the other files that have it. */
-  function faultLines() {
-    const kinds = new Map();
-    for (const { number, fault } of shelf.faults)
-      kinds.set(fault.number, [...kinds.get(fault.number) ?? [], { number, fault }]);
-    if (kinds.size === 0) return [];
-    const lines = [...kinds.values()].map(([first, ...others]) => {
-      const rest = others.length ? `. So is ${others.map(({ number }) => Levels.nameOf(number)).join(", ")}` : "";
-      return element("li", {}, `${first.fault.message}${rest}.`);
-    });
-    const files = shelf.faults.length === 1 ? "A file is refused." : `${shelf.faults.length} files are refused.`;
-    return [strongLine(files, ""), element("ul", {}, ...lines)];
-  }
-
-  function gapLines() {
-    const { gaps } = shelf;
-    if (gaps.length === 0) return [];
-    return [strongLine("Missing: ",
-      `${gaps.map(Levels.nameOf).join(", ")}. Boards with so many stones have no worth here, and the program goes by none of the levels above.`)];
-  }
-
   async function openFiles({ files, name }) {
     stopPlaying();
     const opened = await Levels.Shelf.of(files).catch(fault => fault);
-    refusedChoice = whyNotOpened(opened, files, name);
-    if (!refusedChoice) takeShelf(opened, name);
-    drawNotice();
+    const refused = whyNotOpened(opened, files, name);
+    if (!refused) takeShelf(opened, name);
+    NoticeView.draw(byId("notice"), shelf, refused);
     await show();
-    say(refusedChoice ?? `${byId("folder-name").textContent}. ${WorthView.spokenVerdict(shown)}`);
+    say(refused ?? `${byId("folder-name").textContent}. ${WorthView.spokenVerdict(shown)}`);
     // how many choices were answered, for scripts that wait for one
     document.body.dataset.opened = Number(document.body.dataset.opened ?? 0) + 1;
   }
@@ -291,8 +264,8 @@
   function whyNotOpened(opened, files, name) {
     if (opened instanceof Error) return `${opened.message}.`;
     if (!opened.isEmpty) return null;
-    const none = files.length ? `Of ${plural(files.length, "file")} in ${name || "the choice"} none` : "The folder is empty: no file";
-    return `${none} is named level_00.awdb, level_01.awdb and so on.`;
+    const all = `Of ${plural(files.length, "file")} in ${name || "the choice"} none`;
+    return `${files.length ? all : "The folder is empty: no file"} is named level_00.awdb, level_01.awdb and so on.`;
   }
 
   function takeShelf(opened, name) {
@@ -300,8 +273,8 @@
     shelf = opened;
     shown.hasLevels = true;
     levelsView.open(shelf);
-    byId("folder-name").textContent =
-      `${name ? `${name}: ` : ""}${plural(shelf.levels.length, "level")}${top ? `, up to ${plural(top.number, "stone")}` : ""}`;
+    const title = name ? `${name}: ` : "", upTo = top ? `, up to ${plural(top.number, "stone")}` : "";
+    byId("folder-name").textContent = `${title}${plural(shelf.levels.length, "level")}${upTo}`;
     byId("pick-label").textContent = "Choose another";
     byId("pick-label").classList.remove("main-button");
   }

@@ -70,7 +70,9 @@ const WorthView = (() => {
 
   function makeMovesTable(shown, hands) {
     const { state: { board }, weighed } = shown;
-    const moves = weighed ? [...weighed.moves].sort(compareMoves) : Rules.legalPits(board).map(pit => Rules.play(board, pit));
+    const moves = weighed
+      ? [...weighed.moves].sort(compareMoves)
+      : Rules.legalPits(board).map(pit => Rules.play(board, pit));
     const heads = ["Move", "Captures", "Value", "Within"].map(text => element("th", { scope: "col" }, text));
     const planHead = element("th", { scope: "col" }, element("span", { class: "unseen" }, "Plan"));
     return element("table", { id: "moves" },
@@ -81,9 +83,12 @@ const WorthView = (() => {
 
   function makeMoveRow(move, hands) {
     const isKnown = move.value !== undefined && !move.fault;
-    const play = element("button", { type: "button", class: "button", "aria-label": `Play pit ${move.pit}, ${wordsOfMove(move)}` }, `Pit ${move.pit}`);
+    const label = `Play pit ${move.pit}, ${wordsOfMove(move)}`;
+    const play = element("button", { type: "button", class: "button", "aria-label": label }, `Pit ${move.pit}`);
     const slam = element("span", { title: "A grand slam: it would take all, and takes nothing" }, "0 (slam)");
-    const value = isKnown ? element("span", { class: `value ${kindOf(move.value)}` }, signed(move.value)) : element("span", { class: "soft" }, "?");
+    const value = isKnown
+      ? element("span", { class: `value ${kindOf(move.value)}` }, signed(move.value))
+      : element("span", { class: "soft" }, "?");
     const row = element("tr", { "data-pit": move.pit },
       element("td", {}, play),
       element("td", { class: "captures" }, move.isSlam ? slam : String(move.captured)),
@@ -126,9 +131,12 @@ const WorthView = (() => {
 
   function makePly({ pit, captured }, mover, label, action, attributes = {}) {
     const side = SIDES[mover], captures = captured ? `, captures ${captured}` : "";
-    return element("li", {}, button(
-      { ...attributes, class: `${side.toLowerCase()} ${attributes.class ?? ""}`, "aria-label": `${label}: ${side}, pit ${pit}${captures}` },
-      action, String(pit), captured > 0 && element("small", {}, `×${captured}`)));
+    const all = {
+      ...attributes,
+      class: `${side.toLowerCase()} ${attributes.class ?? ""}`,
+      "aria-label": `${label}: ${side}, pit ${pit}${captures}`,
+    };
+    return element("li", {}, button(all, action, String(pit), captured > 0 && element("small", {}, `×${captured}`)));
   }
 
   function drawLine(box, shown, hands) {

@@ -1,0 +1,37 @@
+"use strict";
+// What is wrong with the folder that was chosen, above everything else.
+
+const NoticeView = (() => {
+  const { element } = Elements;
+
+  const strongLine = (strong, text = "") => element("p", {}, element("b", {}, strong), text);
+
+  /** Faults of one number are told once, with the other files that have it. */
+  function faultLines({ faults }) {
+    if (faults.length === 0) return [];
+    const kinds = new Map();
+    for (const each of faults) kinds.set(each.fault.number, [...kinds.get(each.fault.number) ?? [], each]);
+    const title = faults.length === 1 ? "A file is refused." : `${faults.length} files are refused.`;
+    return [strongLine(title), element("ul", {}, ...[...kinds.values()].map(faultLine))];
+  }
+
+  function faultLine([first, ...others]) {
+    const names = others.map(({ number }) => Levels.nameOf(number)).join(", ");
+    return element("li", {}, `${first.fault.message}${names ? `. So is ${names}` : ""}.`);
+  }
+
+  function gapLines({ gaps }) {
+    if (gaps.length === 0) return [];
+    return [strongLine("Missing: ", `${gaps.map(Levels.nameOf).join(", ")}. Boards with so many stones have no worth here, `
+      + "and the program goes by none of the levels above.")];
+  }
+
+  /** `refused` says why the choice was not opened at all, and is null if it was. */
+  function draw(box, shelf, refused) {
+    const lines = refused ? [strongLine("No levels were opened. ", refused)] : [...faultLines(shelf), ...gapLines(shelf)];
+    box.hidden = lines.length === 0;
+    box.replaceChildren(...lines);
+  }
+
+  return { draw };
+})();
