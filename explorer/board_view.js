@@ -86,7 +86,9 @@ class BoardView {
   }
 
   makeTag(kind, value, ...below) {
-    return Elements.element("span", { class: kind }, Elements.element("b", {}, value), Elements.element("small", {}, ...below));
+    return Elements.element("span", { class: kind },
+      Elements.element("b", {}, value),
+      Elements.element("small", {}, ...below));
   }
 
   /** The distance. A narrow board has no room for the word behind it. */
@@ -149,13 +151,13 @@ class BoardView {
   drawPlayers() {
     const { state: { board, mover, captured }, below } = this.shown, isEnded = Rules.isEnded(board);
     [1 - below, below].forEach((side, row) => {
-      const isMover = side === mover;
+      const isMover = side === mover, stones = Elements.element("b", {}, String(captured[side]));
       this.players[row].classList.toggle("moves", isMover && !isEnded);
       this.players[row].replaceChildren(
         Elements.element("span", { class: "dot" }),
         Elements.element("span", { class: "name" }, Words.SIDES[side]),
         Elements.element("span", { class: "turn" }, isMover && (isEnded ? "has no move" : "to move")),
-        Elements.element("span", { class: "captured" }, "captured ", Elements.element("b", {}, String(captured[side]))));
+        Elements.element("span", { class: "captured" }, "captured ", stones));
     });
   }
 
@@ -169,9 +171,11 @@ class BoardView {
       element.classList.toggle("taken", move.taken.includes(here));
       element.classList.toggle("origin", move.pit === here);
       element.querySelector(".plus")?.remove();
-      if (times) element.children[2].append(Elements.element("span", { class: "plus", "aria-hidden": "true" }, `+${times}`));
+      if (times) element.children[2].append(this.makePlus(times));
     });
   }
+
+  makePlus(times) { return Elements.element("span", { class: "plus", "aria-hidden": "true" }, `+${times}`); }
 
   // ---- hands ----
 

@@ -6,17 +6,19 @@ const Elements = (() => {
 
   const byId = id => document.getElementById(id);
 
-  /** An attribute that is false or null is left out, and so is such a child. */
+  /** An attribute that is false, null or undefined is left out, and so is such a child. */
   function filled(node, attributes, children) {
-    for (const [name, value] of Object.entries(attributes))
-      if (value !== false && value !== null && value !== undefined) node.setAttribute(name, value);
-    node.append(...children.filter(child => child !== false && child !== null && child !== undefined && child !== ""));
+    const isGiven = it => it !== false && it !== null && it !== undefined;
+    for (const [name, value] of Object.entries(attributes)) if (isGiven(value)) node.setAttribute(name, value);
+    node.append(...children.filter(isGiven));
     return node;
   }
 
-  const element = (name, attributes = {}, ...children) => filled(document.createElement(name), attributes, children);
+  const element = (name, attributes = {}, ...children) =>
+    filled(document.createElement(name), attributes, children);
 
-  const drawing = (name, attributes = {}, ...children) => filled(document.createElementNS(SVG, name), attributes, children);
+  const drawing = (name, attributes = {}, ...children) =>
+    filled(document.createElementNS(SVG, name), attributes, children);
 
   const icon = name => drawing("svg", { "aria-hidden": "true" }, drawing("use", { href: `#icon-${name}` }));
 

@@ -68,7 +68,8 @@ const Levels = (() => {
   function lengthFaultOf(file, number) {
     const due = fileSizeOf(number);
     if (file.size < due)
-      return new Fault(60, "Truncated", `${file.name} is cut off: it has ${grouped(file.size)} bytes of ${grouped(due)}`);
+      return new Fault(60, "Truncated",
+        `${file.name} is cut off: it has ${grouped(file.size)} bytes of ${grouped(due)}`);
     if (file.size > due)
       return new Fault(67, "Trailing",
         `${file.name} is too long: it has ${grouped(file.size)} bytes, and level ${number} has ${grouped(due)}`);
@@ -85,7 +86,7 @@ const Levels = (() => {
     if (lengthFault) throw lengthFault;
     if (versionOf(head) === 1)
       throw new Fault(86, "Old",
-        `${file.name} is of version 1, whose distances need not be the least; awari migrate FROM TO brings the folder over`);
+        `${file.name} is of version 1, whose distances need not be the least; awari migrate FROM TO brings it over`);
     return {
       number, file,
       boards: sizeOf(number),
@@ -235,14 +236,18 @@ const Levels = (() => {
     return distance === Math.min(...gaining.map(move => move.plies)) && planComesNearer;
   }
 
-  /** The play from a board in which both sides follow the plans, as `awari line` prints it. */
+  /**
+   * The play from a board in which both sides follow the plans, as `awari line` prints it. It ends at the first
+   * repetition, since from there on the same plies come for ever. `repeats` is the ply to which that leads back.
+   */
   async function bestLine(shelf, board) {
     const { value } = await shelf.entry(board), limit = shelf.limit;
     const plies = [], met = new Map();
     let running = 0, side = 1, quiet = 0, repeats = null;
     while (!isEnded(board) && quiet <= limit) {
       const here = `${side} ${print(board)}`;
-      if (!repeats && met.has(here)) repeats = { from: met.get(here), to: plies.length };
+      repeats = met.get(here) ?? null;
+      if (repeats !== null) break;
       met.set(here, plies.length);
       const { plan } = await shelf.entry(board);
       if (plan === null)

@@ -123,7 +123,8 @@ class LevelsView {
       const show = rank => this.hands.showBoard(Rules.boardAt(number, rank));
       this.pictures.set(number, [Picture.ofValues(counts, show), Picture.ofDistances(counts, show)]);
     }
-    return [Elements.element("div", { class: "pictures" }, ...this.pictures.get(number).map(picture => picture.figure))];
+    const figures = this.pictures.get(number).map(picture => picture.figure);
+    return [Elements.element("div", { class: "pictures" }, ...figures)];
   }
 
   makeActions(level, counts) {
@@ -155,7 +156,8 @@ class LevelsView {
     const say = (kind, title, text) =>
       element("p", { id: "checked", class: `status ${kind}` }, element("b", {}, title), text);
     if (fault) return say("wrong", "SHA-256 is not known. ", `${fault.message}.`);
-    if (isRight) return say("good", "SHA-256 is right. ", `The file is whole and unchanged.${this.belowText(level.number)}`);
+    if (isRight)
+      return say("good", "SHA-256 is right. ", `The file is whole and unchanged.${this.belowText(level.number)}`);
     return say("wrong", "SHA-256 is wrong (66 Digest). ",
       `The bytes have ${start(found)}, and the file says ${start(written)}: the file is damaged.`);
   }

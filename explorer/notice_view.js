@@ -22,13 +22,16 @@ const NoticeView = (() => {
 
   function gapLines({ gaps }) {
     if (gaps.length === 0) return [];
-    return [strongLine("Missing: ", `${gaps.map(Levels.nameOf).join(", ")}. Boards with so many stones have no worth here, `
-      + "and the program goes by none of the levels above.")];
+    const names = gaps.map(Levels.nameOf).join(", ");
+    const meaning = "Boards with so many stones have no worth here, and the program goes by none of the levels above.";
+    return [strongLine("Missing: ", `${names}. ${meaning}`)];
   }
 
   /** `refused` says why the choice was not opened at all, and is null if it was. */
   function draw(box, shelf, refused) {
-    const lines = refused ? [strongLine("No levels were opened. ", refused)] : [...faultLines(shelf), ...gapLines(shelf)];
+    const lines = refused
+      ? [strongLine("No levels were opened. ", refused)]
+      : [...faultLines(shelf), ...gapLines(shelf)];
     box.hidden = lines.length === 0;
     box.replaceChildren(...lines);
   }

@@ -12,16 +12,19 @@ class Picture {
   constructor({ id, title, columns, ends, isLogarithmic, total, show }) {
     Object.assign(this, { columns, isLogarithmic, total, show });
     this.most = Math.max(1, ...columns.map(column => column.boards));
-    this.chosen = columns.findIndex(column => column.boards === this.most);
+    // A wrong file may have none of the values that its level can have.
+    this.chosen = Math.max(0, columns.findIndex(column => column.boards === this.most));
     this.bars = columns.map((column, index) => this.makeBar(column, index));
     this.plot = this.makePlot(title);
     this.readout = Elements.element("span", { class: "readout-text" });
     this.showButton = Elements.button({ class: "button small-button" }, () => this.showChosen(), "Show one");
+    const endTexts = ends.map(end => Elements.element("span", {}, end));
     this.figure = Elements.element("figure", { class: "picture", id },
       Elements.element("figcaption", {}, title),
       this.plot,
-      Elements.element("div", { class: "ends", "aria-hidden": "true" }, ...ends.map(end => Elements.element("span", {}, end))),
+      Elements.element("div", { class: "ends", "aria-hidden": "true" }, ...endTexts),
       Elements.element("p", { class: "readout" }, this.readout, this.showButton));
+    this.figure.style.setProperty("--gutter", `${this.gutterWidth()}rem`);
     this.tell(this.chosen);
   }
 
@@ -43,9 +46,10 @@ class Picture {
       class: "plot", role: "slider", tabindex: "0", "aria-label": title, "aria-valuemin": "0",
       "aria-valuemax": String(this.columns.length - 1),
     });
+    const drawn = { viewBox: "0 0 1000 100", preserveAspectRatio: "none", "aria-hidden": "true" };
     plot.append(
       ...this.gridNumbers().map(number => this.makeGridLine(number)),
-      Elements.drawing("svg", { viewBox: "0 0 1000 100", preserveAspectRatio: "none", "aria-hidden": "true" }, ...this.bars));
+      Elements.drawing("svg", drawn, ...this.bars));
     plot.addEventListener("keydown", event => this.onKey(event));
     plot.addEventListener("pointerdown", event => this.choose(this.columnAt(event)));
     plot.addEventListener("pointermove", event => {
@@ -56,11 +60,27 @@ class Picture {
     return plot;
   }
 
-  /** The numbers of boards at which a line is drawn: powers of ten, or the greatest number and its half. */
+  /** The numbers of boards at which a line is drawn: at most five of them. */
   gridNumbers() {
-    if (!this.isLogarithmic) return this.most > 1 ? [Math.round(this.most / 2), this.most] : [this.most];
-    const powers = Math.floor(Math.log10(this.most)), step = Math.max(1, Math.ceil(powers / 4));
-    return Array.from({ length: Math.floor(powers / step) }, (_, index) => 10 ** (step * (index + 1)));
+    const magnitude = Math.floor(Math.log10(this.most));
+    return this.isLogarithmic ? this.powersOfTen(magnitude) : this.roundNumbers(10 ** magnitude);
+  }
+
+  powersOfTen(magnitude) {
+    const step = Math.max(1, Math.ceil(magnitude / 4));
+    return Array.from({ length: Math.floor(magnitude / step) }, (_, index) => 10 ** (step * (index + 1)));
+  }
+
+  roundNumbers(power) {
+    const fits = each => Number.isInteger(each) && 2 * each <= this.most;
+    const step = [5 * power, 2 * power, power, power / 2].find(fits) ?? 1;
+    return Array.from({ length: Math.floor(this.most / step) }, (_, index) => step * (index + 1));
+  }
+
+  /** Room for the widest number of a line. A digit of that size is some .45rem wide. */
+  gutterWidth() {
+    const widest = Math.max(0, ...this.gridNumbers().map(number => Words.grouped(number).length));
+    return 0.45 * widest + 0.5;
   }
 
   makeGridLine(number) {
@@ -80,7 +100,8 @@ class Picture {
   onKey(event) {
     if (event.ctrlKey || event.metaKey || event.altKey) return;
     const steps = {
-      ArrowLeft: -1, ArrowDown: -1, ArrowRight: 1, ArrowUp: 1, PageDown: -10, PageUp: 10, Home: -Infinity, End: Infinity,
+      ArrowLeft: -1, ArrowDown: -1, ArrowRight: 1, ArrowUp: 1, PageDown: -10, PageUp: 10,
+      Home: -Infinity, End: Infinity,
     };
     if (event.key in steps) this.choose(this.within(this.chosen + steps[event.key]));
     else if (event.key === "Enter") this.showChosen();
@@ -120,13 +141,13 @@ class Picture {
     return new Picture({ id: "picture-values", title: "Boards by value", columns, ends, total: boards, show });
   }
 
-  /** Of a great limit several distances share a column, so that each is wide enough to be met. */
+  /** Of a great limit several distances share a column, so that each is wide enough to be met. 0 stays alone. */
   static ofDistances(counts, show) {
-    const MOST_COLUMNS = 100, all = counts.distances, together = Math.ceil(all.length / MOST_COLUMNS);
-    const columns = [];
-    for (let from = 0; from < all.length; from += together)
+    const MOST_COLUMNS = 100, all = counts.distances, last = all.length - 1;
+    const together = Math.max(1, Math.ceil(last / MOST_COLUMNS)), columns = [Picture.joinedColumn([all[0]])];
+    for (let from = 1; from <= last; from += together)
       columns.push(Picture.joinedColumn(all.slice(from, from + together)));
-    const last = all.length - 1, ends = last === 0 ? ["", "0", ""] : ["0", "", Words.plies(last)];
+    const ends = last === 0 ? ["", "0", ""] : ["0", "", Words.plies(last)];
     return new Picture({
       id: "picture-distances", title: "Boards by distance", columns, ends, isLogarithmic: true,
       total: counts.level.boards, show,

@@ -53,7 +53,7 @@ const Sha256 = (() => {
 
     mixSchedule() {
       const { hash, schedule } = this;
-      let [a, b, c, d, e, f, g, h] = hash;
+      let a = hash[0], b = hash[1], c = hash[2], d = hash[3], e = hash[4], f = hash[5], g = hash[6], h = hash[7];
       for (let t = 0; t < 64; t++) {
         const sum1 = (e >>> 6 | e << 26) ^ (e >>> 11 | e << 21) ^ (e >>> 25 | e << 7);
         const sum0 = (a >>> 2 | a << 30) ^ (a >>> 13 | a << 19) ^ (a >>> 22 | a << 10);

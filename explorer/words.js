@@ -16,7 +16,7 @@ const Words = (() => {
   /** The same for a voice, which may leave out a sign. */
   const spoken = value => value > 0 ? `plus ${value}` : value < 0 ? `minus ${-value}` : "0";
 
-  const percent = (part, whole) => `${(100 * part / whole).toFixed(1)} %`;
+  const percent = (part, whole) => `${(100 * part / whole).toFixed(1)}%`;
 
   function bytes(number) {
     if (number < 1e4) return `${grouped(number)} bytes`;

@@ -35,8 +35,8 @@ const WorthView = (() => {
 
   function verdictOfEnd(state) {
     const { board, mover, move } = state, stones = Rules.stonesOf(board), gain = Rules.endGain(board);
-    const keeper = SIDES[gain > 0 ? mover : 1 - mover], last = stones === 1 ? "the last stone" : `the last ${stones} stones`;
-    const keeps = stones === 0 ? "No stones are left" : `${keeper} keeps ${last}`;
+    const keeper = SIDES[gain > 0 ? mover : 1 - mover], last = stones === 1 ? "stone" : `${stones} stones`;
+    const keeps = stones === 0 ? "No stones are left" : `${keeper} keeps the last ${last}`;
     return ["Play has ended", move ? `${keeps}; ${endsAhead(leadOf(state) + gain, mover)}` : keeps];
   }
 
@@ -145,7 +145,7 @@ const WorthView = (() => {
     box.classList.toggle("waiting", !line && hasLevels);
     if (!line && hasLevels) return;
     if (!line || line.fault) return box.replaceChildren(element("p", { class: "small soft" }, whyNoLine(shown)));
-    const plyList = line.plies.slice(0, Math.min(line.repeats?.to ?? Infinity, MOST_PLIES_SHOWN));
+    const plyList = line.plies.slice(0, MOST_PLIES_SHOWN);
     const items = plyList.map((ply, index) => makePly(
       ply, (shown.state.mover + index) % 2, `Go to ply ${index + 1} of the line`,
       () => hands.follow(plyList.slice(0, index + 1))));
@@ -163,11 +163,10 @@ const WorthView = (() => {
   function outcomeText(line, shownPlies, mover) {
     const gains = line.outcome === 0 ? "neither side gains"
       : `${SIDES[line.outcome > 0 ? mover : 1 - mover]} gains ${Math.abs(line.outcome)}`;
-    const hidden = line.plies.length - shownPlies;
-    const more = hidden > 0 && !line.repeats ? ` (${plies(hidden)} more)` : "";
+    const hidden = line.plies.length - shownPlies, more = hidden > 0 ? ` (${plies(hidden)} more)` : "";
     if (line.ended && line.plies.length === 0) return `Play has ended: ${gains}.`;
     if (line.ended) return `Play ends after ${plies(line.plies.length)}${more}: ${gains}.`;
-    if (line.repeats) return `From ply ${line.repeats.from + 1} on the play repeats for ever: ${gains}.`;
+    if (line.repeats !== null) return `From ply ${line.repeats + 1} on the play repeats for ever${more}: ${gains}.`;
     return `No capture comes any more${more}: ${gains}.`;
   }
 

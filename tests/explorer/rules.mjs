@@ -6,7 +6,7 @@
 // for each section.
 import { execFileSync, spawnSync } from "node:child_process";
 import { createHash } from "node:crypto";
-import { mkdirSync, mkdtempSync, readFileSync, readdirSync, rmSync, writeFileSync } from "node:fs";
+import { copyFileSync, mkdirSync, mkdtempSync, readFileSync, readdirSync, rmSync, writeFileSync } from "node:fs";
 import { tmpdir } from "node:os";
 import { dirname, join } from "node:path";
 import { fileURLToPath } from "node:url";
@@ -33,7 +33,8 @@ function expect(what, found, wanted) {
     return;
   }
   failed += 1;
-  if (failed <= MOST_FAULTS_TOLD) console.log(`FAILED ${what}: ${JSON.stringify(found)}, not ${JSON.stringify(wanted)}`);
+  if (failed > MOST_FAULTS_TOLD) return;
+  console.log(`FAILED ${what}: ${JSON.stringify(found)}, and not ${JSON.stringify(wanted)}`);
 }
 
 async function section(name, test) {
@@ -76,7 +77,8 @@ function moved(board, pit) {
 await section("moves of 300 random boards of 0 to 48 stones beside `awari move`", () => {
   for (let turn = 0; turn < 300; turn++) {
     const board = boardForMoves(turn), word = Rules.print(board);
-    for (let pit = 0; pit < 7; pit++) expect(`${word} ${pit}`, caught(() => moved(board, pit)), run("move", word, String(pit)));
+    for (let pit = 0; pit < 7; pit++)
+      expect(`${word} ${pit}`, caught(() => moved(board, pit)), run("move", word, String(pit)));
   }
 });
 
@@ -93,11 +95,13 @@ await section("words that are no boards beside `awari move`", () => {
   }
 });
 
-await section(`every board of levels 0 to ${HIGHEST}: its rank, and rules V1 to V6 by the page's own moves`, async () => {
+await section(`every board of levels 0 to ${HIGHEST}: its rank, and V1 to V6 by the page's moves`, async () => {
   const views = [];
   const entryOf = board => Levels.entryAt(views[Rules.stonesOf(board)], Levels.placeOf(Rules.rankOf(board)));
-  const worths = board => Rules.legalPits(board).map(pit => Rules.play(board, pit)).map(move => Levels.worthOf(move, entryOf(move.next)));
-  const isRight = (board, rank) => Rules.rankOf(board) === rank && Levels.brokenRule(board, entryOf(board), worths(board)) === null;
+  const worthOf = move => Levels.worthOf(move, entryOf(move.next));
+  const worths = board => Rules.legalPits(board).map(pit => worthOf(Rules.play(board, pit)));
+  const isRight = (board, rank) =>
+    Rules.rankOf(board) === rank && Levels.brokenRule(board, entryOf(board), worths(board)) === null;
   for (const level of shelf.levels) {
     views.push(await viewOf(level));
     let wrong = 0;
@@ -123,7 +127,8 @@ await section("the text of levels 0 to 8 beside `awari text`", async () => {
 await section("moves of 5000 random boards beside `awari serve`", async () => {
   const boards = Array.from({ length: 5000 }, () => Rules.randomBoard(below(HIGHEST + 1)));
   const input = boards.map(board => `moves ${Rules.print(board)}\n`).join("");
-  const answers = execFileSync(awari, ["serve", folder, "0", "0"], { input, encoding: "utf8", maxBuffer: 1 << 28 }).split("\n\n");
+  const streams = { input, encoding: "utf8", maxBuffer: 1 << 28 };
+  const answers = execFileSync(awari, ["serve", folder, "0", "0"], streams).split("\n\n");
   const lineOf = ({ pit, captured, value, distance, isPlan }) =>
     `pit ${pit} captures ${captured} value ${value} distance ${distance}${isPlan ? " plan" : ""}`;
   for (const [index, board] of boards.entries()) {
@@ -133,12 +138,23 @@ await section("moves of 5000 random boards beside `awari serve`", async () => {
   }
 });
 
+/** A line as the program prints it, which goes on after a repetition for so many plies. */
+function textOfLine({ value, plies, repeats, outcome }, length) {
+  const pitAt = ply => plies[ply < plies.length ? ply : repeats + (ply - repeats) % (plies.length - repeats)].pit;
+  const pits = Array.from({ length: repeats === null ? plies.length : length }, (_, ply) => pitAt(ply));
+  return `value ${value}\n${["moves", ...pits].join(" ")}\noutcome ${outcome}`;
+}
+
 await section("60 best lines beside `awari line`", async () => {
   for (let turn = 0; turn < 60; turn++) {
-    const board = Rules.randomBoard(below(HIGHEST)), { value, plies, outcome } = await Levels.bestLine(shelf, board);
-    const moves = ["moves", ...plies.map(({ pit }) => pit)].join(" ");
-    expect(Rules.print(board), `value ${value}\n${moves}\noutcome ${outcome}`, run("line", folder, Rules.print(board)));
+    const board = Rules.randomBoard(below(HIGHEST)), said = run("line", folder, Rules.print(board));
+    const length = said.split("\n")[1].split(" ").length - 1;
+    expect(Rules.print(board), textOfLine(await Levels.bestLine(shelf, board), length), said);
   }
+  const endless = await Levels.Shelf.of(filesIn(folder));
+  endless.level(HIGHEST).limit = 2 ** 32 - 1;
+  const { repeats, outcome } = await Levels.bestLine(endless, Rules.parse("2,0,1,0,1,1/1,2,1,0,0,1"));
+  expect("a line ends whatever the limit", [repeats, outcome], [61, 0]);
 });
 
 await section("counts beside `awari build`, and the first boards of each value and distance", async () => {
@@ -148,10 +164,13 @@ await section("counts beside `awari build`, and the first boards of each value a
     const line = `level ${level.number} boards ${level.boards} won ${won} even ${even} lost ${lost} limit ${greatest}`;
     expect(`level ${level.number}`, line, built[level.number]);
     const sum = columns => columns.reduce((all, { boards }) => all + boards, 0);
-    expect(`columns of level ${level.number}`, [sum(counts.values), sum(counts.distances)], [level.boards, level.boards]);
+    const sums = [sum(counts.values), sum(counts.distances)];
+    expect(`columns of level ${level.number}`, sums, [level.boards, level.boards]);
     const entry = rank => Levels.entryAt(view, Levels.placeOf(rank));
-    for (const { value, boards, first } of counts.values) if (boards) expect(`first of ${value}`, entry(first).value, value);
-    for (const { distance, boards, first } of counts.distances) if (boards) expect(`first of ${distance}`, entry(first).distance, distance);
+    for (const { value, boards, first } of counts.values)
+      if (boards) expect(`first of value ${value}`, entry(first).value, value);
+    for (const { distance, boards, first } of counts.distances)
+      if (boards) expect(`first of distance ${distance}`, entry(first).distance, distance);
   }
 });
 
@@ -236,42 +255,58 @@ await section("wrong files beside `awari verify`", async () => {
   const read = number => readFileSync(join(folder, Levels.nameOf(number)));
   const good = read(2), lower = { "level_00.awdb": read(0), "level_01.awdb": read(1) };
   const cases = {
-    "a right one": good, "an empty one": good.subarray(0, 0), "half a magic": good.subarray(0, 3), "another magic": Buffer.from("AWDX"),
-    "an old magic": changed(good, 0, 66), "version 3": changed(good, 5, 3), "a byte that is not zero": changed(good, 7, 1),
-    "level 25": changed(good, 6, 25), "level 13 of version 1": changed(good, 5, 1, 13), "another count": changed(good, 15, 79),
-    "the count of another level": changed(good, 6, 3), "half a header": good.subarray(0, 40), "one byte less": good.subarray(0, 551),
-    "one byte more": Buffer.concat([good, Buffer.from("x")]), "version 1": hashed(changed(good, 5, 1)), "level 1": read(1), "level 3": read(3),
-    "another below": hashed(changed(good, 20, 1, 2, 3)), "a changed byte": changed(good, 60, 99), "a changed digest": changed(good, 551, 0),
+    "a right one": good,
+    "an empty one": good.subarray(0, 0),
+    "half a magic": good.subarray(0, 3),
+    "another magic": Buffer.from("AWDX"),
+    "a changed magic": changed(good, 0, 66),
+    "version 3": changed(good, 5, 3),
+    "a byte that is not zero": changed(good, 7, 1),
+    "level 25": changed(good, 6, 25),
+    "level 13 of version 1": changed(good, 5, 1, 13),
+    "another count": changed(good, 15, 79),
+    "the count of another level": changed(good, 6, 3),
+    "half a header": good.subarray(0, 40),
+    "one byte less": good.subarray(0, 551),
+    "one byte more": Buffer.concat([good, Buffer.from("x")]),
+    "version 1": hashed(changed(good, 5, 1)),
+    "level 1": read(1),
+    "level 3": read(3),
+    "another below": hashed(changed(good, 20, 1, 2, 3)),
+    "a changed byte": changed(good, 60, 99),
+    "a changed digest": changed(good, 551, 0),
   };
   for (const [what, bytes] of Object.entries(cases)) {
     const files = { ...lower, "level_02.awdb": bytes };
     expect(what, await numberOfPage(files), numberOfProgram(files));
   }
-  const level0 = hashed(changed(read(0), 20, 1));
-  expect("level 0 over another", await numberOfPage({ "level_00.awdb": level0 }), numberOfProgram({ "level_00.awdb": level0 }));
+  const files = { "level_00.awdb": hashed(changed(read(0), 20, 1)) };
+  expect("level 0 over another", await numberOfPage(files), numberOfProgram(files));
 });
 
 await section("folders with gaps and entries that are wrong", async () => {
   const read = number => readFileSync(join(folder, Levels.nameOf(number)));
   const good = read(2), openWith = bytes => Levels.Shelf.of(
     [0, 1].map(number => fileOf(read(number), Levels.nameOf(number))).concat(fileOf(bytes, "level_02.awdb")));
-  const apart = await Levels.Shelf.of([fileOf(good, "level_02.awdb"), fileOf(good, "notes.txt"), fileOf(good, "level_25.awdb")]);
+  const apart = await Levels.Shelf.of(["level_02.awdb", "notes.txt", "level_25.awdb"].map(name => fileOf(good, name)));
   expect("a gap", [apart.gaps, apart.levels.map(({ number }) => number)], [[0, 1], [2]]);
-  const two = await Levels.Shelf.of([fileOf(good, "level_02.awdb"), fileOf(good, "level_02.awdb")]).catch(fault => fault.message);
-  expect("two files of one name", /^Two files are named level_02.awdb/.test(two), true);
+  const twice = Levels.Shelf.of([1, 2].map(() => fileOf(good, "level_02.awdb")));
+  const told = await twice.catch(fault => fault.message);
+  expect("two files of one name", /^Two files are named level_02.awdb/.test(told), true);
   const form = await openWith(changed(good, ENTRIES + 1, 6));
   expect("a plan 6", (await Levels.weigh(form, Rules.boardAt(2, 0))).fault.number, 65);
-  const high = await Levels.weigh(shelf, Rules.boardAt(HIGHEST + 1, 0)), top = await Levels.weigh(shelf, Rules.boardAt(25, 0));
-  expect("levels that are not there", [high.fault.number, top.fault.number], [59, 59]);
+  for (const stones of [HIGHEST + 1, 25])
+    expect(`no level ${stones}`, (await Levels.weigh(shelf, Rules.boardAt(stones, 0))).fault.number, 59);
 });
 
 await section("the first wrong board of a changed level breaks the rule that `awari verify` names", async () => {
   const good = readFileSync(join(folder, "level_04.awdb"));
   for (let turn = 0; turn < 60; turn++) {
-    const rank = below(Rules.sizeOf(4)), [part, by] = [[0, below(9)], [0, 256 - below(5)], [1, below(6)], [5, below(40)]][turn % 4];
+    const rank = below(Rules.sizeOf(4));
+    const [part, by] = [[0, below(9)], [0, 256 - below(5)], [1, below(6)], [5, below(40)]][turn % 4];
     const bytes = hashed(changed(good, ENTRIES + 6 * rank + part, by)), place = join(made, `level-${turn}`);
     mkdirSync(place);
-    for (let number = 0; number < 4; number++) writeFileSync(join(place, Levels.nameOf(number)), readFileSync(join(folder, Levels.nameOf(number))));
+    for (const name of [0, 1, 2, 3].map(Levels.nameOf)) copyFileSync(join(folder, name), join(place, name));
     writeFileSync(join(place, "level_04.awdb"), bytes);
     const said = /22 Refused rank (\d+) rule (V[1-6])/.exec(run("verify", place));
     if (!said) continue;

@@ -1,0 +1,162 @@
+"""What is seen of the page, and what a voice reads out: contrast, names, the tabulator, widths, pictures."""
+import itertools
+import shutil
+import time
+
+from driven import FIRST, Page, check, end_section, until
+from files import copy_levels
+from selenium.webdriver.common.keys import Keys
+
+WIDTHS = [320, 360, 390, 560, 768, 1024, 1240]
+# Width, height, whether it is dark, and how many points a pixel has.
+LOOKS = {
+    "light": (1240, 900, False, 1),
+    "dark": (1240, 900, True, 1),
+    "phone": (390, 844, False, 2),
+    "phone_dark": (360, 740, True, 2),
+}
+
+
+# The contrast of each text with the colours behind it: those of a gradient, too, as the wood has.
+CONTRAST = """
+const parse = text => [...text.match(/[\\d.]+/g).map(Number), 1].slice(0, 4);
+const channel = part => (part /= 255) <= .03928 ? part / 12.92 : ((part + .055) / 1.055) ** 2.4;
+const light = ([red, green, blue]) => .2126 * channel(red) + .7152 * channel(green) + .0722 * channel(blue);
+const opaque = text => (text.match(/rgba?\\([^)]*\\)/g) ?? []).map(parse).filter(color => color[3] === 1);
+const behind = element => {
+  for (let at = element; at; at = at.parentElement) {
+    const style = getComputedStyle(at), found = [...opaque(style.backgroundImage), ...opaque(style.backgroundColor)];
+    if (found.length) return found;
+  }
+  return [];
+};
+const ratio = (one, other) => (Math.max(one, other) + .05) / (Math.min(one, other) + .05);
+const isText = element => [...element.childNodes].some(node => node.nodeType === 3 && node.textContent.trim());
+const isSeen = element => element.offsetParent && !element.closest('.unseen, [hidden], :disabled, noscript');
+const low = [];
+for (const element of document.querySelectorAll('body *')) {
+  if (!isText(element) || !isSeen(element)) continue;
+  let faint = 1;
+  for (let at = element; at; at = at.parentElement) faint *= getComputedStyle(at).opacity;
+  const ink = light(parse(getComputedStyle(element).color));
+  const least = Math.min(...behind(element).map(color => ratio(ink, light(color))));
+  const name = `${element.className} ${element.textContent.trim().slice(0, 20)}`;
+  if (least < 4.5 || faint < .99) low.push(`${name} ${least.toFixed(2)} ${faint}`);
+}
+return [...new Set(low)];
+"""
+
+
+def contrast(page, folder, made):
+    wrong = made / "contrast"
+    copy_levels(folder, wrong, 9)
+    (wrong / "level_03.awdb").write_bytes(b"GIF8")
+    page.js("document.getElementById('help').open = true")
+    for dark, there in itertools.product([False, True], [folder, wrong]):
+        page.look(1240, 900, dark)
+        page.open(there)
+        page.show("1,0,2,0,1,1/1,2,1,0,0,1")
+        for _ in range(3):
+            page.press("b")
+            page.click("#best" if page.at("#best").is_enabled() else "#turn")
+        page.click("#undo")
+        until(lambda: page.all("#picture-values") or page.all("#summary .status"))
+        check(f"contrast, {'dark' if dark else 'light'}, {there.name}", page.js(CONTRAST), [])
+    page.look(1240, 900)
+    page.open(folder)
+    end_section("contrast of every text, light and dark")
+
+
+def names(page):
+    page.click("#edit")
+    for element in page.all("button, input, [role]"):
+        if not page.js("return arguments[0].closest('[hidden]')", element) and element.get_attribute("role") != "alert":
+            check(f"name of {element.get_attribute('outerHTML')[:80]}", bool(element.accessible_name.strip()))
+    page.click("#edit")
+    ids = page.js("return [...document.querySelectorAll('[id]')].map(element => element.id)")
+    check("no name is given twice", len(ids), len(set(ids)))
+    end_section("names for a voice")
+
+
+def tabulator(page):
+    """The board and each picture are one stop, and nothing holds the focus."""
+    page.show(FIRST)
+    until(lambda: page.all("#picture-values"))
+    page.js("document.getElementById('help').open = true")
+    page.focus("#pick")
+    stops = []
+    while len(stops) < 200 and "keep-low" not in stops:
+        page.press(Keys.TAB)
+        stops.append(page.js("const at = document.activeElement; return at.id || at.className.split(' ')[0]"))
+    check("the board is one stop", stops.count("pit"), 1)
+    check("the pictures are two", stops.count("plot"), 2)
+    check("each level is one", sum(stop.startswith("level-") for stop in stops), 25)
+    page.js("document.getElementById('help').open = false")
+    end_section("the tabulator")
+
+
+SMALL = """return [...document.querySelectorAll('button, .plot')].filter(it => it.offsetParent)
+  .filter(it => it.offsetHeight < 32 || it.offsetWidth < 28).map(it => it.outerHTML.slice(0, 60))"""
+
+
+def widths(page):
+    for width in WIDTHS:
+        page.look(width, 800)
+        page.show("12,3,0,1,0,1/0,3,0,0,2,1" if width % 20 else "0,2,1,1,3,1/1,0,1,0,0,0")
+        until(lambda: page.all("#picture-values") or page.all("#summary .status"))
+        check(f"fits into {width}", page.js("return document.documentElement.scrollWidth <= innerWidth"))
+        check(f"large enough for fingers, {width}", page.js(SMALL), [])
+    page.look(1240, 900)
+    end_section(f"widths of {WIDTHS[0]} to {WIDTHS[-1]}")
+
+
+# ---- pictures of the page ----
+
+
+def make_wrong_folder(folder, made):
+    there = made / "levels_that_are_wrong"
+    shutil.copytree(folder, there)
+    (there / "level_03.awdb").unlink()
+    for level, change in [(5, lambda was: was[:20000]), (6, lambda was: b"GIF8" + was[4:])]:
+        path = there / f"level_{level:02}.awdb"
+        path.write_bytes(change(path.read_bytes()))
+    return there
+
+
+def take_pictures(folder, pictures, made):
+    for name, look in LOOKS.items():
+        with Page(*look) as page:
+            if name == "light":
+                page.picture(pictures / "start.png")
+            page.open(folder)
+            board = "0,3,0,0,0,2/1,2,1,0,0,1" if "dark" in name else "0,2,1,1,3,1/1,0,1,0,0,0"
+            take_board(page, pictures / f"{name}.png", board)
+            if name == "dark":
+                take_played(page, pictures)
+            if name == "phone":
+                page.click("#edit")
+                page.picture(pictures / "phone_setup.png")
+            if name == "light":
+                take_board(page, pictures / "light_many.png", "13,1,0,2,0,1/0,7,0,0,0,0")
+                page.open(make_wrong_folder(folder, made))
+                take_board(page, pictures / "light_wrong.png", "1,1,1,0,0,0/0,0,1,0,0,1")
+    end_section(f"pictures in {pictures}")
+
+
+def take_board(page, path, board):
+    page.show(board)
+    page.js("document.activeElement.blur()")
+    until(lambda: page.all("#picture-values") or page.all("#summary .status"))
+    time.sleep(0.3)
+    page.picture(path)
+
+
+def take_played(page, pictures):
+    page.click("#check-all")
+    until(lambda: len(page.all("#levels .hashed")) == len(page.all("#levels .here")))
+    for _ in range(9):
+        page.click("#best")
+    page.focus(".pit.plan")
+    page.js("document.getElementById('help').open = true")
+    time.sleep(0.3)
+    page.picture(pictures / "dark_played.png")
