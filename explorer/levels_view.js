@@ -39,12 +39,18 @@ class LevelsView {
   get number() { return this.chosen ?? Math.min(this.stones ?? 0, Levels.HIGHEST); }
 
   redraw() {
-    const held = this.card.contains(document.activeElement) ? document.activeElement.id : "";
+    const held = this.card.contains(document.activeElement) ? document.activeElement : null;
     this.drawn = this.number;
     this.buttons.replaceChildren(...this.shelf.slots.map((slot, number) => this.makeLevelButton(slot, number)));
     this.summary.replaceChildren(...this.makeSummary(this.number));
-    if (held) Elements.byId(held)?.focus();
+    this.giveFocusBack(held);
     this.countUnasked(this.number);
+  }
+
+  /** To what had it before: to itself if it is still there, or to what was made anew in its place. */
+  giveFocusBack(held) {
+    if (held?.isConnected) held.focus();
+    else if (held?.id) Elements.byId(held.id)?.focus();
   }
 
   redrawIfShown(number) { if (number === this.drawn) this.redraw(); }
@@ -157,7 +163,7 @@ class LevelsView {
       element("p", { id: "checked", class: `status ${kind}` }, element("b", {}, title), text);
     if (fault) return say("wrong", "SHA-256 is not known. ", `${fault.message}.`);
     if (isRight)
-      return say("good", "SHA-256 is right. ", `The file is whole and unchanged.${this.belowText(level.number)}`);
+      return say("good", "SHA-256 is right. ", `The file is whole, and no byte is damaged.${this.belowText(level.number)}`);
     return say("wrong", "SHA-256 is wrong (66 Digest). ",
       `The bytes have ${start(found)}, and the file says ${start(written)}: the file is damaged.`);
   }
@@ -180,7 +186,8 @@ class LevelsView {
       this.hands.say(`${text}: stopped`);
     };
     return element("div", { class: "status job" },
-      element("span", {}, text), job.bar, button({ id: "stop", class: "button small-button" }, stop, "Stop"));
+      element("span", {}, text), job.bar,
+      button({ id: `stop-${job.what.toLowerCase()}`, class: "button small-button" }, stop, "Stop"));
   }
 
   /** Does work that can be stopped. Null comes of it if it was, and a fault of what can't be read. */

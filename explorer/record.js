@@ -8,13 +8,13 @@ class Record {
   constructor(board) { this.startAt(board); }
 
   startAt(board) {
-    this.states = [Record.setUp(board, 0)];
+    this.states = [Record.stateOf(board, 0)];
     this.at = 0;
   }
 
-  static setUp(board, mover) { return { board, mover, captured: [0, 0], move: null }; }
+  static stateOf(board, mover) { return { board, mover, captured: [0, 0], move: null }; }
 
-  static afterMove(state, pit) {
+  static stateAfter(state, pit) {
     const move = Rules.play(state.board, pit), captured = [...state.captured];
     captured[state.mover] += move.captured;
     return { board: move.next, mover: 1 - state.mover, captured, move };
@@ -32,11 +32,11 @@ class Record {
     this.at += 1;
   }
 
-  play(pit) { this.add(Record.afterMove(this.now, pit)); }
+  play(pit) { this.add(Record.stateAfter(this.now, pit)); }
 
   setUp(board, mover) {
     const isShown = Rules.areSame(board, this.now.board) && mover === this.now.mover && !this.now.move;
-    if (!isShown) this.add(Record.setUp(board, mover));
+    if (!isShown) this.add(Record.stateOf(board, mover));
   }
 
   /** The state from which the play that is shown began. */

@@ -32,6 +32,8 @@ def boards_agree(page, awari, folder, count):
         answer = answer.rstrip("\n")
         check(f"moves {board}", page.moves(), answer)
         check(f"stones {board}", page.stones(), pits_of(board))
+        values = page.values()
+        check(f"the best first {board}", values, sorted(values, reverse=True))
         board_agrees(page, board, [line.split() for line in answer.splitlines() if line.startswith("pit")])
     end_section(f"{count} random boards beside `awari moves`")
 
@@ -105,6 +107,11 @@ def digests_agree(page, awari, folder):
     check("the level shown is", "SHA-256 is right" in page.text("#checked"))
     page.click("#level-10")
     check("the digest of all levels", page.text("#level-digest"), run(awari, "verify", folder).split()[-1])
+    until(lambda: page.all("#picture-values"))
+    page.focus("#picture-values .plot")
+    page.js("document.getElementById('check').click()")
+    until(lambda: not page.all("progress") and page.text("#checked"))
+    check("the focus stays where it was", page.js("return document.activeElement.className"), "plot")
     end_section("digests")
 
 

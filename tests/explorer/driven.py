@@ -198,6 +198,11 @@ class Page:
             lines.append(f"pit {pit} captures {captures.split()[0]} value {unsigned(value)} distance {distance}{mark}")
         return "\n".join(lines)
 
+    def values(self):
+        """The values of the table of moves, from the top down."""
+        return [unsigned(text) for text in self.js(
+            "return [...document.querySelectorAll('#moves td .value')].map(value => value.textContent)")]
+
     def tags(self):
         """What stands on the board at the mover's pits: the pit, the value, and whether it has the gold rim."""
         return self.js("""return [...document.querySelectorAll('.pit')].filter(pit => pit.querySelector('.tag > span'))

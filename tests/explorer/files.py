@@ -63,7 +63,7 @@ def large_level(page, made):
     check("its board is shown", page.text("#value"), "0")
     check("it is not counted unasked", page.all("#picture-values"), [])
     check("it says how much there is to read", page.text("#count"), "Count the boards (2.50 GB)")
-    for what in ["count", "check"]:
+    for what, stop in [("count", "#stop-counting"), ("check", "#stop-hashing")]:
         page.click(f"#{what}")
         is_going = until(lambda: 0 < float(page.js("return document.querySelector('progress')?.value ?? 0")) < 1)
         check(f"{what} says how far it is", is_going)
@@ -71,7 +71,7 @@ def large_level(page, made):
         page.show("2,2,2,2,2,2/2,2,2,2,2,1")
         page.show("2,2,2,2,2,2/2,2,2,2,2,2")
         check(f"the page answers during {what}, and not in {time.time() - began:.1f} s", time.time() - began < 5)
-        page.click("#stop")
+        page.click(stop)
         check(f"{what} can be stopped", until(lambda: not page.all("progress") and page.all(f"#{what}")))
         check(f"{what}: it is said", page.said().endswith("level_24.awdb: stopped"))
     end_section("a large level: opened at once, counted and hashed with a way to stop")

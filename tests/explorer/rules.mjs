@@ -209,6 +209,12 @@ await section("what was set up and played", () => {
   expect("the same board is no new state", [record.at, record.end], [0, 1]);
   record.play(0);
   expect("what was behind is gone", [record.states.length, record.isLast, record.start], [2, true, 0]);
+  const symmetric = Rules.parse("1,0,0,0,0,0/1,0,0,0,0,0");
+  record.startAt(symmetric);
+  record.add({ board: symmetric, mover: 1, captured: [0, 0], move: { captured: 0 } });
+  expect("the same board with the other to move", record.isRepeated, false);
+  record.add({ board: symmetric, mover: 0, captured: [0, 0], move: { captured: 0 } });
+  expect("the same board with the same to move", record.isRepeated, true);
   record.startAt(Rules.parse("0,0,0,0,0,1/0,0,0,0,0,1"));
   expect("a board that is new", record.isRepeated, false);
   for (let ply = 0; ply < 400 && !record.isRepeated; ply++) {
