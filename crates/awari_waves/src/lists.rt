@@ -9,6 +9,9 @@ use awari_block::Kind;
 use std::alloc::{AllocError, Global};
 use std::marker::Model;
 
+/// For how many numbers an emptied list keeps its memory.
+const KEPT: usize = 256;
+
 /// A list for each number from 0 on, empty ones behind the last that is kept.
 #[derive(Drop)]
 pub struct Lists {
@@ -76,8 +79,8 @@ impl Lists {
         Ok(())
     }
 
-    /// Moves the list at this number behind others. Refused where there is no room for them there, and then
-    /// nothing changes.
+    /// Moves the list at this number behind others, and gives its memory back if that is much. Refused if
+    /// there is no room for them there, and then nothing changes.
     pub fn give(&mut self, at: u32, to: &mut Vec<u32>) -> Result<(), AllocError>
         ensures given { OnOk result (to.new.items ≡ to.old.items ++ list_at self.old at) }
         ensures left { OnOk result (self.new ≡ without self.old at) }
@@ -86,7 +89,7 @@ impl Lists {
         let at = at as usize;
         if at < self.lists.len() {
             to.extend_from_slice(self.lists[at].as_slice())?;
-            self.lists[at].clear();
+            empty(self.alloc, &mut self.lists[at]);
         }
         Ok(())
     }
@@ -111,6 +114,18 @@ impl Lists {
             self.lists.push(Vec::new(self.alloc))?;
         }
         Ok(())
+    }
+}
+
+/// Empties a list. It gives its memory back unless that is little: a distance comes once a gain, and
+/// so its list stays empty for long.
+fn empty(alloc: Global, list: &mut Vec<u32>)
+    ensures { list.new.items ≡ [] }
+{
+    if list.capacity() > KEPT {
+        *list = Vec::new(alloc);
+    } else {
+        list.clear();
     }
 }
 

@@ -13,7 +13,7 @@ returns-in_ok-extend_from_slice-clause-given c =
 pub returns-in_ok-extend_from_slice-clause-left : goal.returns-in_ok-extend_from_slice-clause-left
 returns-in_ok-extend_from_slice-clause-left c =
     let high : c.args.at < length c.self.inside.lists.items = search rules in
-    without_one c.self.inside.lists.items c.args.at c.clear.new.self high c.clear.ensures.items ∙ ap (λ ls. without ls c.args.at) c.self.view_is
+    without_one c.self.inside.lists.items c.args.at c.empty.new.list high c.empty.ensures ∙ ap (λ ls. without ls c.args.at) c.self.view_is
 
 pub returns-else-at-len-clause-given : goal.returns-else-at-len-clause-given
 returns-else-at-len-clause-given c =
