@@ -1,5 +1,6 @@
 -- What is known of boards whose cells are read ahead of their notes.
-use Rattle.std.proofs.Common.{◌≡◌, ◌≢◌, ℕ, ◌+◌, ◌-◌, ◌/◌, ◌<◌, ◌≤◌, ◌==◌, Bool, true, false, All, List, drop, length, slice_range, get_or, set, refl, sym, ap, subst, ◌∙◌, arith, eqb-true, get_or-set_same, get_or-set_other}
+use Rattle.std.proofs.Common.{◌≡◌, ◌≢◌, ℕ, ◌+◌, ◌-◌, ◌/◌, ◌<◌, ◌≤◌, ◌==◌, Bool, true, false, inl, inr, All, List, drop, length, slice_range, get_or, set, refl, sym, ap, subst, ◌∙◌, arith, eqb-true, get_or-set_same, get_or-set_other}
+use Rattle.std.proofs.lemmas.Bool.{cases_eq}
 use Rattle.std.proofs.lemmas.Bool.Decides.{nat_tests}
 use Rattle.std.proofs.lemmas.List.{get_or_default}
 use Rattle.std.proofs.lemmas.List.Elements.{All-drop}
@@ -10,7 +11,7 @@ use Rattle.awari_block.specs.Cells.{is_settled}
 use Rattle.awari_block.specs.Part.{InBlock, Part, stored_at}
 use Rattle.awari_block.specs.declared.cells.Cell.{Cell}
 use Rattle.awari_block.specs.declared.notes.Kind.{Kind}
-use Rattle.awari_waves.specs.Ahead.{TellSettled}
+use Rattle.awari_waves.specs.Ahead.{IsBoardOf, TellSettled}
 use Rattle.awari_waves.specs.declared.segments.Segment.TheInside.{Inside}
 use Rattle.awari_waves.specs.Waves.{IsCodeFor, Tells}
 use Rattle.awari_waves.proofs.Heard.{stored}
@@ -88,3 +89,22 @@ batch_tells old now next new kind codes start end settles order one rest =
     subst (λ (cs : List ℕ). Tells (place_of old) kind cs now new) (sym (drop_split codes start end order))
     (tells_append (place_of old) kind (slice_range codes start end) (drop end codes) now next new
     (row_tells old now next kind (slice_range codes start end) (slice_range codes start end) settles.same refl one) rest)
+
+-- ---- boards are looked up ahead
+
+-- those of the first ranks stand there
+abbrev pub BoardsBelow : ℕ → List ℕ → List (List ℕ) → ℕ → Type 0
+BoardsBelow level ranks boards n = (k : ℕ) (d : List ℕ) → k < n → IsBoardOf level (get_or ranks k 0) (get_or boards k d)
+
+pub BoardsBelow-more : (level : ℕ) (ranks : List ℕ) (boards : List (List ℕ)) (n : ℕ) (board : List ℕ) → n < length boards → IsBoardOf level (get_or ranks n 0) board → BoardsBelow level ranks boards n
+    → BoardsBelow level ranks (set boards n board) (n + 1)
+BoardsBelow-more level ranks boards n board inside is before = λ k d below. elim (cases_eq k n) [
+  | inl same ↦
+      subst (λ j. IsBoardOf level (get_or ranks j 0) (get_or (set boards n board) j d)) (sym same) (subst (IsBoardOf level (get_or ranks n 0)) (sym (get_or-set_same boards n board d inside)) is)
+  | inr other ↦ subst (IsBoardOf level (get_or ranks k 0)) (sym (get_or-set_other boards n k board d other)) (before k d (omega (arith, below, other)))
+]
+
+-- the ranks of a batch are of the level
+pub batch_ranks : (size : ℕ) (ranks : List ℕ) (start end : ℕ) → All (λ rank. rank < size) ranks → start ≤ end → All (λ rank. rank < size) (slice_range ranks start end)
+batch_ranks size ranks start end all order =
+    All-append_first (λ rank. rank < size) (slice_range ranks start end) (drop end ranks) (subst (All (λ rank. rank < size)) (drop_split ranks start end order) (All-drop (λ rank. rank < size) start ranks all))

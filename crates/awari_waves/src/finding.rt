@@ -3,6 +3,7 @@
 ghost use Rattle.std.specs.Prelude.{◌≡◌, ℕ, ◌+◌, ◌*◌, ◌/◌, ◌^◌, ◌<◌, ◌≤◌, ◌∷◌, [], List, All, OnOk, length, sum};
 ghost use Rattle.awari_board.specs.Rules.{IsBoard};
 ghost use Rattle.awari_rank.specs.Rank.{rank_of, size_of};
+ghost use Rattle.awari_waves.specs.Ahead.{AreBoards};
 ghost use Rattle.awari_waves.specs.Lists.{with_put};
 ghost use Rattle.awari_waves.specs.Waves.{Finds, code_by};
 
@@ -12,6 +13,9 @@ use awari_index::Index;
 use awari_owner::{Target, find_all};
 use awari_packed::PackedBoard;
 use std::alloc::AllocError;
+
+/// How many boards are looked up at a time. Processors wait for fewer reads than this at a time.
+const AHEAD: usize = 32;
 
 /// Lays the notes for the predecessors of these boards into the list of each block, if a block has 2
 /// to the power `log` of boards. What is found of one board goes through `targets`. Refused only if
@@ -30,11 +34,52 @@ pub fn find(
     ensures found { OnOk result (Finds index.now (2 ^ log) ranks.now lists.old lists.new) }
     ensures targets { length targets.new ≡ length targets.old }
 {
-    for rank in ranks {
-        let board = index.board(*rank);
+    let mut start: usize = 0;
+    while start < ranks.len() {
+        let end = ranks.len().min(start + AHEAD);
+        find_batch(index, log, &ranks[start..end], targets, lists)?;
+        start = end;
+    }
+    Ok(())
+}
+
+/// Lays the notes for the predecessors of a few boards. All of them are looked up before the first is
+/// searched: what the index has of one is seldom in the cache, and so the waits for memory overlap.
+fn find_batch(
+    index: &Index,
+    log: u32,
+    ranks: &[u32],
+    targets: &mut [Target],
+    lists: &mut Lists,
+) -> Result<(), AllocError>
+    requires few { (1 ≤ length ranks.now) × (length ranks.now ≤ AHEAD) }
+    requires ranks { All (λ rank. rank < size_of index.now) ranks.now }
+    requires level { size_of index.now ≤ 2 ^ 29 }
+    requires log { log < 32 }
+    requires places { 288 ≤ length targets.old }
+    ensures found { OnOk result (Finds index.now (2 ^ log) ranks.now lists.old lists.new) }
+    ensures targets { length targets.new ≡ length targets.old }
+{
+    let boards = boards_of(index, ranks);
+    for k in 0..ranks.len() {
+        let board = boards[k];
         find_of(log, &board, targets, lists)?;
     }
     Ok(())
+}
+
+/// The boards of these ranks, and others behind them.
+#[inline(always)]
+fn boards_of(index: &Index, ranks: &[u32]) -> [PackedBoard; AHEAD]
+    requires few { (1 ≤ length ranks.now) × (length ranks.now ≤ AHEAD) }
+    requires ranks { All (λ rank. rank < size_of index.now) ranks.now }
+    ensures { AreBoards index.now ranks.now result }
+{
+    let mut boards = [index.board(ranks[0]); AHEAD];
+    for k in 0..ranks.len() {
+        boards[k] = index.board(ranks[k]);
+    }
+    boards
 }
 
 /// Lays the notes for the predecessors of this board.

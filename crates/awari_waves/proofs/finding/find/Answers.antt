@@ -1,16 +1,35 @@
-use Rattle.std.proofs.Common.{ℕ, List, [], ◌∷◌, ◌++◌, ◌^◌, take, ap, sym, subst, ◌∙◌}
-use Rattle.std.proofs.lemmas.List.{take_more}
-use Rattle.awari_rank.specs.Rank.{rank_of}
+use Rattle.std.proofs.Common.{◌∙◌, ◌^◌, List, ℕ, refl, sym, subst, arith}
+use Rattle.std.proofs.lemmas.List.{drop_all}
+use Rattle.std.proofs.lemmas.List.Folds.{drop_split}
+use Rattle.awari_rank.specs.Rank.{size_of}
 use Rattle.awari_waves.specs.Waves.{Finds}
-use Rattle.awari_waves.proofs.Laying.{finds_both}
+use Rattle.awari_waves.proofs.Ahead.{batch_ranks}
+use Rattle.awari_waves.proofs.Laying.{finds_both, finds_none}
 use Rattle.awari_waves.proofs.finding.find.Goals as goal
 
-pub loop-rank-preserved : goal.loop-rank-preserved
-loop-rank-preserved c = record {
-  places = c.in_ok-find_of.ensures.targets ∙ c.loop-rank.invariant.places;
-  found =
-      subst (λ (rs : List ℕ). Finds c.args.index.now (2 ^ c.args.log) rs c.args.lists.now c.find_of.new.lists)
-      (ap (λ r. take c.loop-rank.rank-index c.args.ranks.now ++ r ∷ []) c.board-board.ensures.rank ∙ sym (take_more c.args.ranks.now c.loop-rank.rank-index 0 c.loop-rank-test.true))
-      (finds_both c.args.index.now (2 ^ c.args.log) _ _ _ _ _ c.loop-rank.invariant.found
-      (subst (λ n. Finds n (2 ^ c.args.log) (rank_of c.board-board.result ∷ []) c.loop-rank.lists c.find_of.new.lists) c.board-board.ensures.stones c.in_ok-find_of.ensures.found));
-}
+pub loop-start-init : goal.loop-start-init
+loop-start-init c = record { places = refl; found = λ new finds. finds }
+
+pub find_batch-requires-clause-ranks : goal.find_batch-requires-clause-ranks
+find_batch-requires-clause-ranks c =
+    let test = c.loop-start-test.true in
+    let min = c.min-end.ensures in
+    batch_ranks (size_of c.args.index.now) c.args.ranks.now c.loop-start.start c.min-end.result c.requires.ranks (omega (arith, test, min))
+
+pub loop-start-preserved : goal.loop-start-preserved
+loop-start-preserved c =
+    let test = c.loop-start-test.true in
+    let min = c.min-end.ensures in
+    record {
+      places = c.in_ok-find_batch.ensures.targets ∙ c.loop-start.invariant.places;
+      found = λ new finds.
+          c.loop-start.invariant.found new
+          (subst (λ (rs : List ℕ). Finds c.args.index.now (2 ^ c.args.log) rs c.loop-start.lists new) (sym (drop_split c.args.ranks.now c.loop-start.start c.min-end.result (omega (arith, test, min))))
+          (finds_both c.args.index.now (2 ^ c.args.log) _ _ _ _ _ c.in_ok-find_batch.ensures.found finds));
+    }
+
+pub returns-clause-found : goal.returns-clause-found
+returns-clause-found c =
+    c.loop-start.invariant.found c.loop-start.lists
+    (subst (λ (rs : List ℕ). Finds c.args.index.now (2 ^ c.args.log) rs c.loop-start.lists c.loop-start.lists) (sym (drop_all c.loop-start.start c.args.ranks.now c.loop-start-test.false))
+    (finds_none c.args.index.now (2 ^ c.args.log) c.loop-start.lists))

@@ -1,9 +1,12 @@
-use Rattle.std.proofs.Common.{◌≡◌, ◌^◌, length, take}
+use Rattle.std.proofs.Common.{◌≡◌, ◌-◌, ◌^◌, ℕ, List, drop, length}
 use Rattle.awari_waves.specs.Waves.{Finds}
 use Rattle.awari_waves.proofs.finding.find.Given as goal
 
-abbrev pub invariant-loop-rank : goal.invariant-loop-rank
-invariant-loop-rank l = record {
+abbrev pub invariant-loop-start : goal.invariant-loop-start
+invariant-loop-start l = record {
   places : length l.targets ≡ length l.initial.targets;
-  found : Finds l.index (2 ^ l.log) (take l.rank-index l.ranks) l.initial.lists l.lists;
+  found : (new : List (List ℕ)) → Finds l.index (2 ^ l.log) (drop l.start l.ranks) l.lists new → Finds l.index (2 ^ l.log) l.ranks l.initial.lists new;
 }
+
+abbrev pub decreases-loop-start : goal.decreases-loop-start
+decreases-loop-start l = length l.ranks - l.start
