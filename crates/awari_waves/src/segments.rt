@@ -147,6 +147,9 @@ impl Segment {
         if !is_among(self.place.gain, &self.awaits[start..end]) {
             return Ok(());
         }
+        if are_settled(&self.cells[start..end]) {
+            return Ok(());
+        }
         for index in start..end {
             let place = self.place;
             if self.awaits[index] != place.gain {
@@ -403,4 +406,16 @@ fn is_among(gain: u8, awaits: &[u8]) -> bool
         found |= *awaited == gain;
     }
     found
+}
+
+/// Whether all these boards are settled. It only reads and has no branch, so one cell is asked for while
+/// another is still on its way.
+fn are_settled(cells: &[Cell]) -> bool
+    ensures { (result ≡ true) → All (λ cell. is_settled cell.mark ≡ true) cells.now }
+{
+    let mut settled = true;
+    for cell in cells {
+        settled &= cell.is_settled();
+    }
+    settled
 }

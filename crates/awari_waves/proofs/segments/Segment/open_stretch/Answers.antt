@@ -1,8 +1,10 @@
-use Rattle.std.proofs.Common.{◌<◌, ◌≢◌, List, ℕ, length, subst, rules, arith}
+use Rattle.std.proofs.Common.{◌≡◌, ◌<◌, ◌≢◌, true, List, ℕ, length, subst, rules, arith}
+use Rattle.awari_block.specs.Cells.{is_settled}
+use Rattle.awari_block.specs.declared.cells.Cell.{Cell}
 use Rattle.std.specs.List.{All, slice_range}
 use Rattle.awari_block.proofs.Opening.{opens_both}
 use Rattle.awari_block.proofs.Settling.{settles_both}
-use Rattle.awari_waves.proofs.Replacing.{can_put, opened_none, opened_other, opened_put}
+use Rattle.awari_waves.proofs.Replacing.{can_put, opened_none, opened_other, opened_put, opened_settled}
 use Rattle.awari_waves.proofs.segments.Segment.open_stretch.Goals as goal
 
 pub put-requires : goal.put-requires
@@ -33,3 +35,7 @@ loop-index-preserved-then-index-place c =
 pub returns-then-not-is_among-clause-opens : goal.returns-then-not-is_among-clause-opens
 returns-then-not-is_among-clause-opens c = opened_none c.self.inside c.args.self.now c.self.view_is c.self.invariant c.args.start c.args.end c.requires.within (
     subst (λ (bytes : List ℕ). All (λ g. g ≢ c.self.inside.place.gain) (slice_range bytes c.args.start c.args.end)) c.deref.ensures.value (c.is_among.ensures (search rules)))
+
+pub returns-then-are_settled-clause-opens : goal.returns-then-are_settled-clause-opens
+returns-then-are_settled-clause-opens c = opened_settled c.self.inside c.args.self.now c.self.view_is c.args.start c.args.end c.requires.within (
+    subst (λ (cells : List Cell). All (λ (cell : Cell). is_settled cell.mark ≡ true) (slice_range cells c.args.start c.args.end)) c.deref-2.ensures.value (c.are_settled.ensures (search rules)))
