@@ -233,7 +233,7 @@ impl Part {
     ///
     /// The outboxes are those of the part's owner. Predecessors in the block hear of the board at
     /// once. For each other predecessor a note goes to the outbox of its owner. They are told in the
-    /// order of [`PitUnmoves`](awari_unmove::PitUnmoves), by pits ascending, which is that of
+    /// order of [`PackedUnmoves`](awari_unmove::PackedUnmoves), by pits ascending, which is that of
     /// [`Unmoves`](awari_unmove::Unmoves).
     ///
     /// Refused as 32 `Far` if the distance is the greatest u32, and as 33 `Memory` if there is no

@@ -1,15 +1,15 @@
 //! The boards that are told of one that is spread. All of them are found before the first is told, so
 //! that the cells of several are on their way from memory at the same time.
 
-ghost use Rattle.std.specs.Prelude.{◌≡◌, ◌+◌, ◌<◌, ◌≤◌, ◌++◌, List, length};
-ghost use Rattle.awari_unmove.specs.Predecessors.{IsPredecessors, IsPredecessorsFrom};
+ghost use Rattle.std.specs.Prelude.{◌≡◌, ◌+◌, ◌≤◌, ◌++◌, List, length};
+ghost use Rattle.awari_unmove.specs.Predecessors.{IsPredecessors};
 ghost use Rattle.awari_owner.specs.Found.{Lists};
 ghost use Rattle.awari_owner.specs.Spread.{Source};
 
 use awari_packed::PackedBoard;
-use awari_unmove::PitUnmoves;
+use awari_unmove::{FarUnmoves, OwnUnmoves, PackedUnmoves};
 
-/// The most predecessors of a board: `PitUnmoves` promises at most 48 for each of six pits.
+/// The most predecessors of a board that callers have to reckon with: six pits of at most 48 stones.
 pub const MOST_PREDECESSORS: usize = 288;
 
 /// A predecessor of the board that is spread: its rank, and its pit whose move leads there.
@@ -27,28 +27,39 @@ pub fn find_all(board: &PackedBoard, targets: &mut [Target]) -> usize
     ensures few { result ≤ 288 }
     ensures same { length targets.new ≡ length targets.old }
 {
-    // One loop a pit, with the pit a constant, is faster than one loop over all of them.
-    let found = find_from(board, targets, 0, 0);
-    let found = find_from(board, targets, found, 1);
-    let found = find_from(board, targets, found, 2);
-    let found = find_from(board, targets, found, 3);
-    let found = find_from(board, targets, found, 4);
-    find_from(board, targets, found, 5)
+    let PackedUnmoves { own, far } = PackedUnmoves::of(board);
+    let found = find_own(own, targets);
+    find_far(far, targets, found)
 }
 
-/// Puts the predecessors whose quiet move is of `pit` behind the `found` first targets, and answers how
-/// many there are then.
+/// Puts these predecessors into the first targets, and answers how many there are.
 #[inline(always)]
-fn find_from(board: &PackedBoard, targets: &mut [Target], found: usize, pit: u8) -> usize
-    requires own { pit < 6 }
-    requires room { found + 48 ≤ length targets.old }
-    ensures found { (sources : List Source) × IsPredecessorsFrom board.now pit sources
-        × ((before : List Source) → Lists targets.old found before → Lists targets.new result (before ++ sources)) }
-    ensures few { result ≤ found + 48 }
+fn find_own(own: OwnUnmoves, targets: &mut [Target]) -> usize
+    requires room { length own ≤ length targets.old }
+    ensures found { Lists targets.new result own }
+    ensures same { length targets.new ≡ length targets.old }
+{
+    let mut count = 0;
+    for (source, origin) in own {
+        targets[count] = Target {
+            rank: source.rank(),
+            pit: origin,
+        };
+        count += 1;
+    }
+    count
+}
+
+/// Puts these predecessors behind the `found` first targets, and answers how many there are then.
+#[inline(always)]
+fn find_far(far: FarUnmoves, targets: &mut [Target], found: usize) -> usize
+    requires room { found + length far ≤ length targets.old }
+    ensures found { (before : List Source) → Lists targets.old found before → Lists targets.new result (before ++ far) }
+    ensures many { result ≡ found + length far }
     ensures same { length targets.new ≡ length targets.old }
 {
     let mut count = found;
-    for (source, origin) in PitUnmoves::of(board, pit) {
+    for (source, origin) in far {
         targets[count] = Target {
             rank: source.rank(),
             pit: origin,

@@ -6,11 +6,11 @@ use Rattle.awari_board.specs.Rules.{fallen, landing}
 use Rattle.awari_packed.specs.Packed.{packed}
 use Rattle.awari_packed.specs.declared.scattering.TheConstants.{SCATTERED, LAST}
 
-all_below : (ℕ → Bool) → ℕ → Bool
+unfoldable pub all_below : (ℕ → Bool) → ℕ → Bool
 all_below p zero = true
 all_below p (suc n) = p n && all_below p n
 
-below_all : (p : ℕ → Bool) (n : ℕ) → all_below p n ≡ true → (k : ℕ) → k < n → p k ≡ true
+pub below_all : (p : ℕ → Bool) (n : ℕ) → all_below p n ≡ true → (k : ℕ) → k < n → p k ≡ true
 unfolding all_below
 below_all p n h = (Decides-below_and p (λ k. p k ≡ true) (all_below p) (λ k. (λ e. e, λ e. e)) refl (λ _. refl) n).0 h
 

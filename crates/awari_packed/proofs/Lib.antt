@@ -6,5 +6,6 @@ pub mod Moving
 pub mod PairTables
 pub mod RankSums
 pub mod Taking
+pub mod TakingBack
 pub mod Whole
 pub mod Nexts

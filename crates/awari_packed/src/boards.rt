@@ -1,13 +1,15 @@
 //! Positions in one number, and the moves from them.
 
 ghost use Rattle.std.specs.Prelude.{◌≡◌, ◌≢◌, ℕ, ◌+◌, ◌-◌, ◌<◌, ◌≤◌, ◌↔◌, IsTrue, IfSome, IsNone, ◌++◌, List, sum, take, drop, slice_index, slice_set};
-ghost use Rattle.awari_board.specs.Rules.{IsBoard, IsLegal, IsMove, captured_stones, turned};
+ghost use Rattle.awari_board.specs.Rules.{IsBoard, IsLegal, IsMove, captured_stones, other_stones, turned};
 ghost use Rattle.awari_rank.specs.Rank.{rank_of, size_of};
+ghost use Rattle.awari_packed.specs.TakenBack.{taken_back};
 
 use crate::captures::{capture, other_stones};
 use crate::ranks::rank;
 use crate::scattering::last_of;
 use crate::successors::{REST, next};
+use crate::taking_back::taken_back;
 use crate::words::{joined, packed_to, pit, right_sums, sow, turned, with_stone_moved};
 use awari_board::{Board, SIDE};
 use awari_rank::unrank;
@@ -107,6 +109,14 @@ impl PackedBoard {
         pit(right_sums(self.bits), 0)
     }
 
+    /// The stones in the opponent's pits.
+    #[inline(always)]
+    pub fn other_stones(&self) -> u8
+        ensures { result ≡ other_stones self.now }
+    {
+        other_stones(self.bits)
+    }
+
     /// Whether the mover may play `pit`, which can be any number.
     #[inline(always)]
     pub fn legal(&self, pit: u8) -> bool
@@ -174,6 +184,20 @@ impl PackedBoard {
     {
         PackedBoard {
             bits: with_stone_moved(self.bits, from, to),
+        }
+    }
+
+    /// The position with a stone of each pit after `origin` up to `last` taken back into `origin`.
+    /// Conditions: `last` is below 6 and not before `origin`, and each of those pits holds stones.
+    #[inline(always)]
+    pub fn taken_back(&self, origin: u8, last: u8) -> PackedBoard
+        requires from { origin ≤ last }
+        requires own { last < 6 }
+        requires held { (i : ℕ) → origin < i → i ≤ last → 0 < slice_index self.now i }
+        ensures { result ≡ taken_back self.now origin (last - origin) }
+    {
+        PackedBoard {
+            bits: taken_back(self.bits, origin, last),
         }
     }
 

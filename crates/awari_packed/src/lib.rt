@@ -30,6 +30,7 @@ mod pairs;
 mod ranks;
 mod scattering;
 mod successors;
+mod taking_back;
 mod words;
 
 pub use boards::{PackedBoard, PackedMove};

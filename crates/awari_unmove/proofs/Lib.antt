@@ -5,3 +5,7 @@ pub mod Quiet
 pub mod Predecessors
 pub mod Undoing
 pub mod Walking
+pub mod Ends
+pub mod Sown
+pub mod OwnSide
+pub mod FarSide

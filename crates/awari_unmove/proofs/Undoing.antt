@@ -3,6 +3,7 @@ use Rattle.std.proofs.Common.{◌≡◌, ℕ, ◌+◌, ◌-◌, ◌<◌, ◌≤�
 use Rattle.std.proofs.lemmas.Bool.Decides.{nat_tests}
 use Rattle.std.proofs.lemmas.List.Sums.{get_or-le-sum_by}
 use Rattle.awari_board.specs.Rules.{IsLegal, landing, captured_stones}
+use Rattle.awari_board.proofs.Landing.{feeds_far}
 use Rattle.awari_unmove.specs.Undoing.{IsUnsowing, IsUndoing, IsUndoingFrom, TakesBack, unmove, unmoves_after, unmoves_from}
 use Rattle.awari_unmove.proofs.Unsowing.{fallen-own, IsUnsowing-stuck, IsUnsowing-moved, IsUnsowing-from_sown, bare-from_sown, held-from_IsUnsowing, sown-from_IsUnsowing, unsown-from_IsUnsowing}
 use Rattle.awari_unmove.proofs.Predecessors.{unmoves_after-some, unmoves_after-none, unmoves_after-end, unmoves_from-some, unmoves_from-none, unmoves_from-end}
@@ -92,9 +93,19 @@ IsUndoingFrom-next back pit stones last next left board now took there = record 
   size = now.size;
   few = now.few;
   own = now.own;
+  far = omega (arith, now.far);
   unsowing = took.unsowing;
   next = omega (arith, there);
 }
+
+-- what goes on to the other side is legal there
+pub legal-far : (back : List ℕ) (pit stones last : ℕ) (left board : List ℕ) → IsUndoingFrom back pit stones last left → TakesBack back pit stones (stones + 1) board → IsLegal board pit
+legal-far back pit stones last left board now took =
+    let own = now.own in
+    let far = now.far in
+    let held = held-from_IsUnsowing back pit (stones + 1) board (omega (arith, own)) took.unsowing took.empty in
+    let fed = feeds_far pit (stones + 1) own (omega (arith, far)) in
+    record { own = own; held = omega (arith, held); feeds = λ bare. (fed.0, fed.1, omega (arith, fed.2, held), fed.3) }
 
 stones-few : (back : List ℕ) (pit stones last : ℕ) (left board : List ℕ) → IsUndoingFrom back pit stones last left → TakesBack back pit stones (stones + 1) board → stones < 48
 stones-few back pit stones last left board now took =

@@ -1,5 +1,5 @@
 -- Stones of a sowing taken back.
-use Rattle.std.proofs.Common.{◌≡◌, ◌≢◌, ℕ, zero, suc, ◌+◌, ◌-◌, ◌<◌, ◌≤◌, List, length, get_or, set, sum, cond, eqb, refl, sym, ap, subst, ◌∙◌, add-one, arith}
+use Rattle.std.proofs.Common.{◌≡◌, ◌≢◌, ℕ, zero, suc, ◌+◌, ◌-◌, ◌<◌, ◌≤◌, Bool, true, false, List, length, get_or, set, sum, cond, eqb, refl, sym, ap, subst, ◌∙◌, add-one, arith}
 use Rattle.std.proofs.lemmas.Bool.{cases_eq}
 use Rattle.std.proofs.lemmas.Bool.Decides.{nat_tests}
 use Rattle.std.proofs.lemmas.Grind.{common_steps, elements}
@@ -19,13 +19,24 @@ fallen-own x (suc k) pit =
     ap (λ m. fallen x m x) (sym (add-one k)) ∙ fallen-more x k x ∙ grind (arith, nat_tests)
 
 -- more stones fall no less
-fallen-grows : (x k d i : ℕ) → fallen x k i ≤ fallen x (k + d) i
+pub fallen-grows : (x k d i : ℕ) → fallen x k i ≤ fallen x (k + d) i
 fallen-grows x k zero i = let e : k ≡ k + 0 = omega arith in subst (λ m. fallen x k i ≤ fallen x m i) e (omega arith)
 fallen-grows x k (suc d) i =
     let e : (k + d) + 1 ≡ k + suc d = omega arith in
     let more = fallen-more x (k + d) i in
     let before = fallen-grows x k d i in
     subst (λ m. fallen x k i ≤ fallen x m i) e (omega (arith, more, before))
+
+none_either : (b : Bool) → let none : ℕ = 0 in cond b none none ≡ none
+none_either true = refl
+none_either false = refl
+
+pub IsUnsowing-none : (back : List ℕ) (x : ℕ) → length back ≡ 12 → IsUnsowing back x 0 back
+IsUnsowing-none back x size = record {
+  size = size;
+  each = λ i in_board. ap (λ n. get_or back i 0 + n) (sym (none_either (eqb i x)));
+  stones = refl;
+}
 
 pub IsUnsowing-more : (back : List ℕ) (x k : ℕ) (left : List ℕ) (last : ℕ) → x < 12 → IsUnsowing back x k left → last ≡ landing x (k + 1) → 0 < get_or left last 0 → IsUnsowing back x (k + 1) (set (set left last (get_or left last 0 - 1)) x (get_or (set left last (get_or left last 0 - 1)) x 0 + 1))
 IsUnsowing-more back x k left last pit before there some =

@@ -1,2 +1,3 @@
 pub mod Predecessors
 pub mod Undoing
+pub mod Steps

@@ -54,10 +54,11 @@ pub record TakesBack (back : List ℕ) (x before after : ℕ) (left : List ℕ) 
   pub more : after ≡ before + 1
   pub unsowing : IsUnsowing back x after left
 
--- a search in pit `pit` alone that has taken `stones` stones back, the next of which had fallen into pit `last`
+-- a search in pit `pit` alone that has taken `stones` stones back, all of the own side and maybe more; the next had fallen into pit `last`
 pub record IsUndoingFrom (back : List ℕ) (pit stones last : ℕ) (left : List ℕ) : Type 0 where
   pub size : length back ≡ 12
   pub few : sum back ≤ 48
   pub own : pit < 6
+  pub far : 5 ≤ pit + stones
   pub unsowing : IsUnsowing back pit stones left
   pub next : last ≡ landing pit (stones + 1)

@@ -1,7 +1,7 @@
 //! Quiet moves backward: the boards and pits whose quiet move gives a board.
 //!
-//! [`Unmoves::of`] lists them, and `specs/Predecessors.antt` defines the list. [`PitUnmoves::of`] lists
-//! those from one pit, of packed boards, which is what the builder uses. Nothing in this crate takes
+//! [`Unmoves::of`] lists them, and `specs/Predecessors.antt` defines the list. [`PackedUnmoves::of`] lists
+//! those of a packed board in two parts, which is what the builder uses. Nothing in this crate takes
 //! memory.
 //!
 //! Twelve quiet moves of pit 0 lead to one board, in `crates/awari_tests/src/predecessors.rt`:
@@ -19,9 +19,14 @@
 //!     }
 #![tactic(auto)]
 
-mod from_pit;
+mod far;
+mod own;
+mod packed_unmoves;
 mod search;
+mod steps;
 mod unmoves;
 
-pub use from_pit::PitUnmoves;
+pub use far::FarUnmoves;
+pub use own::OwnUnmoves;
+pub use packed_unmoves::PackedUnmoves;
 pub use unmoves::Unmoves;
