@@ -1,11 +1,11 @@
 -- The runs of a level, one after the other.
-use Rattle.std.proofs.Common.{◌≡◌, ℕ, ◌+◌, ◌*◌, ◌-◌, ◌<◌, ◌≤◌, inl, inr, List, [], ◌∷◌, ◌++◌, length, map, get_or, sum, drop, Option, Some, None, IfNone, IfSome, refl, sym, ◌∙◌, ap, subst, subst₂, take, arith, length-append}
+use Rattle.std.proofs.Common.{◌≡◌, ℕ, ◌+◌, ◌*◌, ◌-◌, ◌<◌, ◌≤◌, inl, inr, min, List, [], ◌∷◌, ◌++◌, length, map, get_or, sum, drop, Option, Some, None, IfNone, IfSome, refl, sym, ◌∙◌, ap, subst, subst₂, take, arith, length-append}
 use Rattle.std.proofs.lemmas.Bool.{cases_lt}
 use Rattle.std.proofs.lemmas.List.{get_or_append_left, get_or-append_right, get_or_default, get_or-map, length-map}
 use Rattle.awari_board.specs.Rules.{IsBoard}
 use Rattle.awari_rank.specs.Rank.{rank_of, size_of}
 use Rattle.awari_rank.proofs.Ranking.{rank_fixes, rank_of-below}
-use Rattle.awari_index.specs.Runs.{AreAllTails, AreRuns, AreWindows, IsBoardAt, IsHead, fillings, first_of, no_run, none, starts_to}
+use Rattle.awari_index.specs.Runs.{AreAllTails, AreRuns, AreWindows, IsBoardAt, IsHead, IsStretch, board_in, fillings, first_of, no_run, none, starts_to}
 use Rattle.awari_index.specs.declared.runs.Run.{Run}
 use Rattle.awari_index.proofs.Halving.{few_rest, rank_none, run_board}
 use Rattle.awari_rank.proofs.Reaching.{size_of-positive}
@@ -155,6 +155,37 @@ board_found n rank starts boards run start d all of is =
       at = subst₂ (λ r s. IsBoardAt n r (take 6 run.board ++ drop 6 (get_or boards (s + (rank - run.start)) d))) rank_is (sym here)
           (run_board n run starts boards (rank - run.start) d of.head all inside);
     }
+
+-- a run's boards from a rank on, at most those below rank `end`
+pub stretch_found : (n rank end : ℕ) (starts : List ℕ) (boards tails : List (List ℕ)) (run : Run) → AreAllTails (n + 1) starts boards → IsOf n rank starts run → rank < end
+    → length tails ≡ min (end - rank) (fillings starts run.stones - (rank - run.start))
+    → ((j : ℕ) → j < length tails → board_in tails j ≡ board_in boards (get_or starts run.stones 0 + (rank - run.start) + j))
+    → IsStretch n rank run.board tails
+stretch_found n rank end starts boards tails run all of order count each =
+    let begun = of.begun in
+    let inside = of.inside in
+    record {
+      board = of.head.at.board;
+      stones = of.head.at.stones;
+      some = omega (arith, count, order, inside);
+      each = λ k h.
+          let at : run.start + (rank - run.start + k) ≡ rank + k = omega (arith, begun) in
+          let place : get_or starts run.stones 0 + (rank - run.start + k) ≡ get_or starts run.stones 0 + (rank - run.start) + k = omega arith in
+          subst₂ (λ (r : ℕ) (t : List ℕ). IsBoardAt n r (take 6 run.board ++ drop 6 t)) at (ap (board_in boards) place ∙ sym (each k h))
+          (run_board n run starts boards (rank - run.start + k) [] of.head all (omega (arith, h, count, inside)));
+    }
+
+-- and all that is read for them
+pub stretch_read : (n m rank end : ℕ) (starts : List ℕ) (boards tails : List (List ℕ)) (runs slice : List Run) (i : ℕ) (run : Run) → n ≡ m → slice ≡ runs → AreAllTails (n + 1) starts boards → AreRuns n starts runs (size_of n)
+    → i < length slice → (get_or slice i no_run).start ≤ rank → (i + 1 < length slice → rank < (get_or slice (i + 1) no_run).start) → rank < end → end ≤ size_of m → run ≡ get_or runs i run
+    → length tails ≡ min (end - rank) (fillings starts run.stones - (rank - run.start))
+    → ((j : ℕ) → j < length tails → board_in tails j ≡ board_in boards (get_or starts run.stones 0 + (rank - run.start) + j))
+    → IsStretch m rank run.board tails
+stretch_read n m rank end starts boards tails runs slice i run level same all are inside begun before order within is count each =
+    subst (λ k. IsStretch k rank run.board tails) level
+    (stretch_found n rank end starts boards tails run all
+    (run_read n starts runs i rank run are (subst (λ (rs : List Run). i < length rs) same inside) (subst (λ (rs : List Run). (get_or rs i no_run).start ≤ rank) same begun)
+    (subst (λ (rs : List Run). i + 1 < length rs → rank < (get_or rs (i + 1) no_run).start) same before) (omega (arith, order, within, ap size_of level)) is) order count each)
 
 -- ---- windows
 

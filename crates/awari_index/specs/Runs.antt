@@ -43,6 +43,11 @@ pub record AreAllTails (n : ℕ) (starts : List ℕ) (boards : List (List ℕ)) 
   pub long : length starts ≡ n + 1
   pub each : (k : ℕ) → k < n → AreTails k (slice_index_or starts k 0) (slice_index_or starts (k + 1) 0) boards
 
+-- where those of k stones begin and end, and that they are there
+pub record AreTailsAt (k : ℕ) (starts : List ℕ) (boards : List (List ℕ)) : Type 0 where
+  pub listed : k + 1 < length starts
+  pub tails : AreTails k (slice_index_or starts k 0) (slice_index_or starts (k + 1) 0) boards
+
 -- ---- runs
 
 -- the first board of a run of the level of n stones, and its rank
@@ -67,6 +72,16 @@ pub record AreRuns (n : ℕ) (starts : List ℕ) (runs : List Run) (end : ℕ) :
   pub head : (i : ℕ) → i < length runs → IsHead n (slice_index_or runs i no_run)
   pub next : (i : ℕ) → i < length runs
       → slice_index_or (starts_to runs end) (i + 1) 0 ≡ (slice_index_or runs i no_run).start + fillings starts (slice_index_or runs i no_run).stones
+
+-- ---- stretches
+
+-- Boards of n stones, one after the other in rank from rank r on: those that have the own pits of this head and the other pits of
+-- one of these tails.
+pub record IsStretch (n r : ℕ) (head : List ℕ) (tails : List (List ℕ)) : Type 0 where
+  pub board : IsBoard head
+  pub stones : sum head ≡ n
+  pub some : 0 < length tails
+  pub each : (k : ℕ) → k < length tails → IsBoardAt n (r + k) (take 6 head ++ drop 6 (board_in tails k))
 
 -- ---- windows
 

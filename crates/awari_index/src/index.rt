@@ -3,7 +3,7 @@
 ghost use Rattle.std.specs.Prelude.{◌≡◌, ◌<◌, ◌≤◌, ◌+◌, IfOk, length, sum, slice_index_or};
 ghost use Rattle.awari_board.specs.Rules.{IsBoard};
 ghost use Rattle.awari_rank.specs.Rank.{rank_of, size_of};
-ghost use Rattle.awari_index.specs.Runs.{AreWindows, no_run};
+ghost use Rattle.awari_index.specs.Runs.{AreWindows, IsStretch, no_run};
 
 use crate::runs::{Run, run_of, runs_of};
 use crate::tails::Tails;
@@ -36,6 +36,15 @@ impl Model for Index {
     ghost invariant = { IsIndex };
 }
 
+/// Boards of one run, one after the other in rank: each is the head joined with one of the tails.
+#[derive(Clone, Copy)]
+pub struct Stretch<'a> {
+    /// A board of the run. Its pits 0 to 5 are those of all boards of the stretch.
+    pub head: PackedBoard,
+    /// For each board of the stretch a board that has its pits 6 to 11, in order of rank.
+    pub tails: &'a [PackedBoard],
+}
+
 impl Index {
     /// The boards of this level. Condition: at most 24 stones. It is refused only if memory runs out.
     pub fn of(alloc: Global, level: u8) -> Result<Index, AllocError>
@@ -66,6 +75,24 @@ impl Index {
         let start = self.tails.starts[run.stones as usize];
         let tail = self.tails.boards[start + (rank - run.start) as usize];
         run.board.joined(&tail)
+    }
+
+    /// The boards of one run from rank `rank` on, up to the end of the run or to rank `end`, which is
+    /// not among them. Conditions: `rank` is below `end`, and `end` is at most the number of boards of
+    /// the level.
+    pub fn stretch(&self, rank: u32, end: u32) -> Stretch<'_>
+        requires order { rank < end }
+        requires within { end ≤ size_of self.now }
+        ensures boards { IsStretch self.now rank result.head result.tails.now }
+        ensures within { rank + length result.tails.now ≤ end }
+    {
+        let from = self.windows[(rank / WIDTH) as usize];
+        let run = self.runs[run_of(self.runs.as_slice(), from, rank)];
+        let place = (rank - run.start) as usize;
+        Stretch {
+            head: run.board,
+            tails: self.tails.from(run.stones, place, (end - rank) as usize),
+        }
     }
 }
 

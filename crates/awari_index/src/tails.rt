@@ -1,8 +1,8 @@
 //! The fillings of pits 6 to 11.
 
-ghost use Rattle.std.specs.Prelude.{◌≡◌, ℕ, ◌+◌, ◌<◌, ◌≤◌, ◌++◌, IfOk, OnOk};
+ghost use Rattle.std.specs.Prelude.{◌≡◌, ℕ, ◌+◌, ◌-◌, ◌<◌, ◌≤◌, ◌++◌, min, IfOk, OnOk, length, slice_index_or};
 ghost use Rattle.awari_rank.specs.Rank.{size_of};
-ghost use Rattle.awari_index.specs.Runs.{AreAllTails, IsBoardAt, PushesTails, last_of, none};
+ghost use Rattle.awari_index.specs.Runs.{AreAllTails, AreTailsAt, IsBoardAt, PushesTails, board_in, fillings, last_of, none};
 
 use awari_board::Board;
 use awari_packed::PackedBoard;
@@ -30,6 +30,18 @@ impl Tails {
             starts.push(boards.len())?;
         }
         Ok(Tails { boards, starts })
+    }
+
+    /// The fillings of so many stones from number `from` on, at most `most` of them.
+    pub fn from(&self, stones: u8, from: usize, most: usize) -> &[PackedBoard]
+        requires all { AreTailsAt stones self.now.starts.items self.now.boards.items }
+        requires from { from < fillings self.now.starts.items stones }
+        ensures count { length result.now ≡ min most (fillings self.now.starts.items stones - from) }
+        ensures each { (j : ℕ) → j < length result.now → board_in result.now j ≡ board_in self.now.boards.items (slice_index_or self.now.starts.items stones 0 + from + j) }
+    {
+        let low = self.starts[stones as usize] + from;
+        let left = self.starts[stones as usize + 1] - low;
+        &self.boards.as_slice()[low..low + most.min(left)]
     }
 }
 
