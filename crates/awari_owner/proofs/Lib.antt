@@ -14,6 +14,7 @@ pub mod Hearing
 pub mod LeavingMoves
 pub mod Scanning
 pub mod Looks
+pub mod RunMoves
 pub mod PieceLemmas
 pub mod Firsts
 pub mod Sending

@@ -1,5 +1,5 @@
 -- Sets of own pits.
-use Rattle.std.proofs.Common.{◌≡◌, ◌≢◌, ℕ, zero, suc, ◌-◌, ◌*◌, ◌^◌, ◌<◌, ◌≤◌, ◌==◌, Bool, true, false, not, ◌&&◌, ◌||◌, Some, None, max, refl, sym, ap, subst, ◌∙◌, arith, bit_and, bit_or, w8}
+use Rattle.std.proofs.Common.{◌≡◌, ◌≢◌, ℕ, zero, suc, ◌-◌, ◌*◌, ◌%◌, ◌^◌, ◌<◌, ◌≤◌, ◌==◌, Bool, true, false, not, ◌&&◌, ◌||◌, Some, None, max, refl, sym, ap, subst, ◌∙◌, arith, bit_and, bit_or, w8}
 use Rattle.std.proofs.lemmas.Bool.Decides.{nat_tests}
 use Rattle.std.proofs.lemmas.Nat.{and_assoc, and_le_l, and_or_self, and_or_apart, pow_apart, pow_pos}
 use Rattle.std.proofs.lemmas.Nat.Bits.{and_pow, bit_at_or, bit_at-lt, bit_at-zero, bit_at-trailing_zeros, same_from_bits_below}
@@ -47,6 +47,10 @@ has_pit-bit pits x = at (bit_at pits x) (2 ^ x) (bit_and pits (2 ^ x)) (and_pow 
         by : (n : ℕ) → 0 < n → not (n == 0) ≡ (suc zero == 1)
         by n some = grind (arith, nat_tests)
     at (suc (suc b)) k n e low some = absurd (omega (arith, low))
+
+-- the bit of a pit, as a byte
+pub small_bit : (x : ℕ) → x < 6 → (1 * 2 ^ x) % 256 ≡ 2 ^ x
+small_bit = below_six (λ x. (1 * 2 ^ x) % 256 ≡ 2 ^ x) refl refl refl refl refl refl
 
 -- no pits
 pub has_pit-none : (x : ℕ) → has_pit 0 x ≡ false

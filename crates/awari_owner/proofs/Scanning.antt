@@ -16,7 +16,7 @@ use Rattle.awari_block.specs.declared.cells.Cell.{Cell}
 use Rattle.awari_block.specs.declared.cells.Mark.{Mark}
 use Rattle.awari_block.specs.declared.cells.Mark.TheVariants.{Ended, Quiet, Capturing, Noted, Settled}
 use Rattle.awari_block.specs.declared.places.Place.{Place}
-use Rattle.awari_owner.specs.Scan.{IsRanged, IsBestBelow, IsCounted, IsScanned, AreScanned}
+use Rattle.awari_owner.specs.Scan.{IsRanged, IsBestBelow, IsCounted, IsScanned, AreScanned, AreScannedTo}
 use Rattle.awari_rank.specs.Rank.{rank_of}
 use Rattle.awari_block.specs.Blocks.{Due, due_rank, cell_in, no_cell, times_due, is_settled_in, IsDueAs, IsBlock}
 use Rattle.awari_block.specs.Part.{Part, InBlock, settled_by, settled_at}
@@ -248,6 +248,18 @@ module _ (value : List ℕ → ℤ) (n start : ℕ) where
     stones = stones ∙ before.stones;
     ranked = omega (arith, ranked, before.ranked);
     each = scanned-more rank cells c board injective before here;
+  }
+
+  -- ---- with no board at hand
+
+  pub scanned_to-none : (cells : List Cell) → length cells ≡ 0 → AreScannedTo value n start start cells
+  scanned_to-none cells none = record { len = omega (arith, none); each = λ p is stones low high. absurd (omega (arith, low, high)) }
+
+  pub scanned_to-more : (rank : ℕ) (cells : List Cell) (c : Cell) (board : List ℕ) → ((b d : List ℕ) → IsBoard b → IsBoard d → sum b ≡ sum d → rank_of b ≡ rank_of d → b ≡ d)
+      → IsBoard board → sum board ≡ n → rank_of board ≡ rank → IsScanned value board c → AreScannedTo value n start rank cells → AreScannedTo value n start (rank + 1) (cells ++ c ∷ [])
+  scanned_to-more rank cells c board injective is stones ranked here before = record {
+    len = (let long = before.len in let more = length-append cells (c ∷ []) in omega (arith, long, more));
+    each = scanned-more rank cells c board injective (record { len = before.len; next = is; stones = stones; ranked = ranked; each = before.each }) here;
   }
 
 -- ---- the block

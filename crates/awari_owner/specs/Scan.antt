@@ -1,6 +1,6 @@
 -- What a part is before any gain is open and any note is heard.
-use Rattle.std.specs.Prelude.{◌≡◌, ℕ, ◌+◌, ◌-◌, ◌^◌, ◌<◌, ◌≤◌, ◌==◌, ◌↔◌, if◌then◌else◌, true, false, List, [], length, sum, take, count_by, ℤ, pos, ◌-ℤ◌, ◌≤ℤ◌, Option, Some, None}
-use Rattle.awari_board.specs.Rules.{IsBoard, IsMove}
+use Rattle.std.specs.Prelude.{◌≡◌, ℕ, ◌+◌, ◌-◌, ◌^◌, ◌<◌, ◌≤◌, ◌==◌, ◌↔◌, ◌⊎◌, if◌then◌else◌, true, false, List, [], length, sum, take, count_by, ℤ, pos, ◌-ℤ◌, ◌≤ℤ◌, Option, Some, None}
+use Rattle.awari_board.specs.Rules.{IsBoard, IsLegal, IsMove}
 use Rattle.awari_rank.specs.Rank.{rank_of, size_of}
 use Rattle.awari_block.specs.Tally as tally
 use Rattle.awari_block.specs.Pits.{has_pit, pits}
@@ -73,6 +73,17 @@ pub record IsScanned (value : List ℕ → ℤ) (p : List ℕ) (c : Cell) : Type
 -- these are the cells of the boards of n stones from rank `start` up to, not including, rank `end`
 abbrev pub AreScanned : (List ℕ → ℤ) → ℕ → ℕ → ℕ → List Cell → Type 0
 AreScanned value n start end cells = (p : List ℕ) → IsBoard p → sum p ≡ n → start ≤ rank_of p → rank_of p < end → IsScanned value p (cell_in start cells (rank_of p))
+
+-- these are the cells of the boards of n stones from rank `start` up to, not including, this rank
+pub record AreScannedTo (value : List ℕ → ℤ) (n start rank : ℕ) (cells : List Cell) : Type 0 where
+  pub len : start + length cells ≡ rank
+  pub each : AreScanned value n start rank cells
+
+-- Of the pits below k these are the legal ones, and those of `near` are quiet moves.
+pub record AreMovesBelow (p : List ℕ) (k near far : ℕ) : Type 0 where
+  pub quiet : (x : ℕ) → has_pit near x ≡ true → (q : List ℕ) × IsQuietMove p x q
+  pub legal : (x : ℕ) → has_pit far x ≡ true → IsLegal p x
+  pub all : (x : ℕ) → x < k → IsLegal p x → (has_pit near x ≡ true) ⊎ (has_pit far x ≡ true)
 
 -- what is needed to scan so many boards of the block from rank `first` on, with as many bytes
 pub record CanScan (value : List ℕ → ℤ) (n : ℕ) (block : Block) (first boards bytes : ℕ) : Type 0 where

@@ -5,8 +5,8 @@
 //! tells the boards whose quiet moves lead to it that its mover won or lost that gain, which may settle
 //! those. Notes to other owners' boards go to the [`Outboxes`]. `specs/Level.antt` says what all parts
 //! together have heard, and `specs/Finish.antt` what is right in the end. Memory is taken by
-//! `Part::scan`, `Part::scan_parallel` and `Outboxes::new`, and by `Part::spread_one` if there is
-//! another owner.
+//! `scanned_cells`, `Part::scan`, `Part::scan_parallel` and `Outboxes::new`, and by `Part::spread_one`
+//! if there is another owner.
 //!
 //! The first gain of a part of level 1 is opened, and its nearest boards are due at distance 0, in
 //! `crates/awari_owner_tests/src/parts.rt`:
@@ -26,9 +26,11 @@
 mod faults;
 mod laws;
 mod outboxes;
+mod outlooks;
 mod parallel;
 mod parts;
 mod queues;
+mod runs;
 mod scans;
 mod spreads;
 mod targets;
@@ -41,7 +43,7 @@ pub use laws::{
 pub use outboxes::Outboxes;
 pub use parts::Part;
 pub use queues::{Batch, MOST_NOTES};
-pub use scans::scanned_cells;
+pub use runs::scanned_cells;
 pub use targets::{MOST_PREDECESSORS, Target, find_all};
 // What a batch holds is named with it.
 pub use awari_block::{Kind, Note};

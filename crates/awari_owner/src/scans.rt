@@ -1,19 +1,18 @@
-//! What is known of a board before it hears any note: its quiet moves, which of them leave the block,
-//! and what its best captures gain by the shelf.
+//! What is known of the boards of a block before they hear any note, board by board: their cells, and
+//! which quiet moves leave the block.
 
-ghost use Rattle.std.specs.Prelude.{◌≡◌, ◌<◌, ◌≤◌, ◌+◌, ℕ, ℤ, pos, ◌-ℤ◌, ◌-◌, List, None, IfOk, length, sum, vec_len};
-ghost use Rattle.awari_board.specs.Rules.{IsBoard, IsEnd, IsEnded, IsMove};
+ghost use Rattle.std.specs.Prelude.{◌≡◌, ◌<◌, ◌≤◌, ◌+◌, ℕ, ◌-◌, List, IfOk, length, sum};
+ghost use Rattle.awari_board.specs.Rules.{IsBoard, IsMove};
 ghost use Rattle.awari_table.specs.Images.{table_of};
 ghost use Rattle.awari_table.specs.declared.TheConstants.{HIGHEST_LEVEL};
-ghost use Rattle.awari_block.specs.Cells.{IsWithin};
-ghost use Rattle.awari_block.specs.Steps.{greater_of, pits_after};
 ghost use Rattle.awari_block.specs.Leaving.{AreLeavingBelow, IsBlockOf};
-ghost use Rattle.awari_owner.specs.Scan.{AreScanned, CanScan, IsOutlook, IsPiece, IsRanged, IsScanned, IsScannedBlock};
+ghost use Rattle.awari_owner.specs.Scan.{CanScan, IsOutlook, IsPiece, IsRanged, IsScanned, IsScannedBlock};
 
+use crate::outlooks::{Outlook, cell_of, see_capture, see_quiet};
 use awari_block::{Block, Cell};
-use awari_packed::{PackedBoard, PackedMove};
+use awari_packed::PackedBoard;
 use awari_rank::ranks_tell_boards_apart;
-use awari_table::{Shelf, shelves_are_certificates};
+use awari_table::Shelf;
 use std::alloc::{AllocError, Global};
 
 /// What a scan finds of a block: the cell of each board, and the pits whose quiet moves lead out of
@@ -31,13 +30,10 @@ struct ScannedBoard {
     leaving: u8,
 }
 
-/// The pits of the quiet moves and of the best captures, what these captures gain in stones, if one
-/// is legal, and which quiet moves lead out of the block.
+/// What is seen of one board, pit by pit: its outlook, and which quiet moves lead out of the block.
 #[derive(Clone, Copy)]
-struct Outlook {
-    quiet: u8,
-    plans: u8,
-    best: Option<i8>,
+struct Seen {
+    outlook: Outlook,
     leaving: u8,
 }
 
@@ -57,22 +53,6 @@ pub fn scanned_block(alloc: Global, shelf: &Shelf, block: Block) -> Result<Scann
         found.leaving.as_mut_slice(),
     );
     Ok(found)
-}
-
-/// The cells of the boards of a block of the shelf's next level, none of which has heard a note. No
-/// gain is open. It takes memory for nine bytes a board of the block, and is refused only if that
-/// runs out. Conditions: the shelf has at most `HIGHEST_LEVEL` levels, and the block lies within the
-/// level.
-pub fn scanned_cells(alloc: Global, shelf: &Shelf, block: Block) -> Result<Vec<Cell>, AllocError>
-    requires low { length shelf.now ≤ HIGHEST_LEVEL }
-    requires block { IsBlockOf (length shelf.now) block }
-    ensures size { IfOk result (λ cells. block.start + vec_len cells ≡ block.end) }
-    ensures scanned { IfOk result (λ cells. AreScanned (table_of shelf.now).value (length shelf.now) block.start block.end cells.items) }
-{
-    shelves_are_certificates();
-    let _level = shelf.levels();
-    let found = scanned_block(alloc, shelf, block)?;
-    Ok(found.cells)
 }
 
 /// A block with no board scanned yet, and the memory for its cells and bits.
@@ -124,10 +104,13 @@ fn scanned(shelf: &Shelf, block: Block, board: &PackedBoard) -> ScannedBoard
     ensures cell { IsScanned (table_of shelf.now).value board.now result.cell }
     ensures leaving { AreLeavingBelow block.start (block.end - block.start) board.now 6 result.leaving }
 {
-    let mut seen = Outlook {
+    let outlook = Outlook {
         quiet: 0,
         plans: 0,
         best: None,
+    };
+    let mut seen = Seen {
+        outlook,
         leaving: 0,
     };
     see_pit(&mut seen, shelf, block, board, 0);
@@ -137,23 +120,23 @@ fn scanned(shelf: &Shelf, block: Block, board: &PackedBoard) -> ScannedBoard
     see_pit(&mut seen, shelf, block, board, 4);
     see_pit(&mut seen, shelf, block, board, 5);
     ScannedBoard {
-        cell: cell_of(board, seen),
+        cell: cell_of(board, seen.outlook),
         leaving: seen.leaving,
     }
 }
 
-/// Adds one pit to the outlook, in place. If the outlook were handed on by value from pit to pit, it
-/// would be written anew each time.
+/// Adds one pit to what is seen, in place. If that were handed on by value from pit to pit, it would be
+/// written anew each time.
 #[inline(always)]
-fn see_pit(seen: &mut Outlook, shelf: &Shelf, block: Block, board: &PackedBoard, pit: u8)
+fn see_pit(seen: &mut Seen, shelf: &Shelf, block: Block, board: &PackedBoard, pit: u8)
     requires stones { sum board.now ≡ length shelf.now }
     requires low { length shelf.now ≤ HIGHEST_LEVEL }
     requires ranged { IsRanged (table_of shelf.now).value (length shelf.now) }
     requires block { IsBlockOf (length shelf.now) block }
     requires own { pit < 6 }
-    requires seen { IsOutlook (table_of shelf.now).value board.now pit seen.old.quiet seen.old.best seen.old.plans }
+    requires seen { IsOutlook (table_of shelf.now).value board.now pit seen.old.outlook.quiet seen.old.outlook.best seen.old.outlook.plans }
     requires leaving { AreLeavingBelow block.start (block.end - block.start) board.now pit seen.old.leaving }
-    ensures seen { IsOutlook (table_of shelf.now).value board.now (pit + 1) seen.new.quiet seen.new.best seen.new.plans }
+    ensures seen { IsOutlook (table_of shelf.now).value board.now (pit + 1) seen.new.outlook.quiet seen.new.outlook.best seen.new.outlook.plans }
     ensures leaving { AreLeavingBelow block.start (block.end - block.start) board.now (pit + 1) seen.new.leaving }
 {
     if !board.legal(pit) {
@@ -161,113 +144,28 @@ fn see_pit(seen: &mut Outlook, shelf: &Shelf, block: Block, board: &PackedBoard,
     }
     let moved = board.play(pit);
     if moved.captured == 0 {
-        see_quiet(seen, block, pit, &moved.board);
+        see_quiet(&mut seen.outlook, pit);
+        see_leaving(&mut seen.leaving, block, pit, &moved.board);
         return;
     }
-    see_capture(seen, shelf, pit, &moved);
+    // A capture leads out of no block.
+    see_capture(&mut seen.outlook, shelf, pit, &moved);
 }
 
-/// Puts one quiet move more into the outlook, from `pit` to this board.
+/// Puts a pit whose quiet move leads to this board among those whose moves leave the block, if this one
+/// does.
 #[inline(always)]
-fn see_quiet(seen: &mut Outlook, block: Block, pit: u8, next: &PackedBoard)
+fn see_leaving(leaving: &mut u8, block: Block, pit: u8, next: &PackedBoard)
     requires own { pit < 6 }
     requires board { IsBoard next.now }
     requires low { sum next.now ≤ 24 }
     requires block { IsBlockOf (sum next.now) block }
-    ensures seen { (value : List ℕ → ℤ) (p : List ℕ) → IsMove p pit 0 next.now
-        → IsOutlook value p pit seen.old.quiet seen.old.best seen.old.plans
-        → IsOutlook value p (pit + 1) seen.new.quiet seen.new.best seen.new.plans }
-    ensures leaving { (p : List ℕ) → IsMove p pit 0 next.now
-        → AreLeavingBelow block.start (block.end - block.start) p pit seen.old.leaving
-        → AreLeavingBelow block.start (block.end - block.start) p (pit + 1) seen.new.leaving }
+    ensures { (p : List ℕ) → IsMove p pit 0 next.now
+        → AreLeavingBelow block.start (block.end - block.start) p pit leaving.old
+        → AreLeavingBelow block.start (block.end - block.start) p (pit + 1) leaving.new }
 {
-    seen.quiet |= 1 << pit;
     if block.holds(next) {
         return;
     }
-    seen.leaving |= 1 << pit;
-}
-
-/// Puts one capture more into the outlook, which leads out of no block.
-#[inline(always)]
-fn see_capture(seen: &mut Outlook, shelf: &Shelf, pit: u8, moved: &PackedMove)
-    requires own { pit < 6 }
-    requires kept { sum moved.now.board + moved.now.captured ≡ length shelf.now }
-    requires board { IsBoard moved.now.board }
-    requires low { length shelf.now ≤ HIGHEST_LEVEL }
-    requires ranged { IsRanged (table_of shelf.now).value (length shelf.now) }
-    requires captures { 0 < moved.now.captured }
-    ensures seen { (p : List ℕ) → sum p ≡ length shelf.now → IsMove p pit moved.now.captured moved.now.board
-        → IsOutlook (table_of shelf.now).value p pit seen.old.quiet seen.old.best seen.old.plans
-        → IsOutlook (table_of shelf.now).value p (pit + 1) seen.new.quiet seen.new.best seen.new.plans }
-    ensures leaving { seen.new.leaving ≡ seen.old.leaving }
-{
-    let gain = gain_of(shelf, moved);
-    put_capture(seen, pit, gain);
-}
-
-/// Puts a capture from this pit, which gains this, into the outlook.
-#[inline(always)]
-fn put_capture(seen: &mut Outlook, pit: u8, gain: i8)
-    requires { pit < 6 }
-    ensures { seen.new ≡ record seen.old { best = greater_of seen.old.best gain; plans = pits_after seen.old.best seen.old.plans gain pit } }
-{
-    match seen.best {
-        Some(best) => {
-            if best < gain {
-                seen.best = Some(gain);
-                seen.plans = 1 << pit;
-            } else if best == gain {
-                seen.plans |= 1 << pit;
-            }
-        }
-        None => {
-            seen.best = Some(gain);
-            seen.plans = 1 << pit;
-        }
-    }
-}
-
-/// What a capture gains: the stones captured, less the value of the board that it leaves.
-#[inline(always)]
-fn gain_of(shelf: &Shelf, moved: &PackedMove) -> i8
-    requires kept { sum moved.now.board + moved.now.captured ≡ length shelf.now }
-    requires board { IsBoard moved.now.board }
-    requires low { length shelf.now ≤ HIGHEST_LEVEL }
-    requires ranged { IsRanged (table_of shelf.now).value (length shelf.now) }
-    requires captures { 0 < moved.now.captured }
-    ensures gain { result ≡ (pos moved.now.captured -ℤ (table_of shelf.now).value moved.now.board) }
-    ensures within { IsWithin (length shelf.now) result }
-{
-    let stones = shelf.levels() - moved.captured;
-    moved.captured as i8 - shelf.value_below(&moved.board, stones)
-}
-
-/// The cell of a board with this outlook. The board is ended if it has no quiet move and no capture.
-fn cell_of(board: &PackedBoard, seen: Outlook) -> Cell
-    requires ended { seen.quiet ≡ 0 → seen.best ≡ None → IsEnded board.now }
-    ensures { (value : List ℕ → ℤ) → IsBoard board.now → IsRanged value (sum board.now)
-        → IsOutlook value board.now 6 seen.quiet seen.best seen.plans → IsScanned value board.now result }
-{
-    match seen.best {
-        Some(best) => Cell::of_captures(seen.quiet, best, seen.plans),
-        None => {
-            if seen.quiet > 0 {
-                Cell::of_quiet(seen.quiet)
-            } else {
-                Cell::of_end(end_of(board))
-            }
-        }
-    }
-}
-
-/// What the mover gains if no move is legal.
-fn end_of(board: &PackedBoard) -> i8
-    requires { IsEnded board.now }
-    ensures { IsEnd board.now result }
-{
-    match board.board().end() {
-        Some(gain) => gain,
-        None => unreachable!(),
-    }
+    *leaving |= 1 << pit;
 }

@@ -14,7 +14,7 @@ see_pit-requires-clause-leaving c = leaving-none c.args.block.start (c.args.bloc
 pub cell_of-requires : goal.cell_of-requires
 cell_of-requires c = record {
   ended = λ none nothing.
-      looked-ended (table_of c.args.shelf.now).value c.args.board.now c.see_pit-6.new.seen.quiet c.see_pit-6.new.seen.best c.see_pit-6.new.seen.plans none nothing c.see_pit-6.ensures.seen;
+      looked-ended (table_of c.args.shelf.now).value c.args.board.now c.see_pit-6.new.seen.outlook.quiet c.see_pit-6.new.seen.outlook.best c.see_pit-6.new.seen.outlook.plans none nothing c.see_pit-6.ensures.seen;
 }
 
 pub returns-clause-cell : goal.returns-clause-cell

@@ -1,7 +1,7 @@
 use Rattle.std.proofs.Common.{SFits, w8, rules, subst, sym}
 use Rattle.std.proofs.lemmas.Int.{to_z-of_z}
 use Rattle.awari_board.specs.Rules.{IsEnd}
-use Rattle.awari_owner.proofs.scans.end_of.Goals as goal
+use Rattle.awari_owner.proofs.outlooks.end_of.Goals as goal
 
 pub returns : goal.returns
 returns c =

@@ -4,12 +4,12 @@ use Rattle.awari_block.specs.Steps.{greater_of, pits_after}
 use Rattle.awari_table.specs.Images.{table_of}
 use Rattle.awari_block.specs.Cells.{IsWithin}
 use Rattle.awari_owner.specs.Scan.{IsOutlook}
-use Rattle.awari_owner.specs.declared.scans.Outlook.{Outlook}
+use Rattle.awari_owner.specs.declared.outlooks.Outlook.{Outlook}
 use Rattle.awari_owner.proofs.Looks.{looked-captures}
-use Rattle.awari_owner.proofs.scans.see_capture.Goals as goal
+use Rattle.awari_owner.proofs.outlooks.see_capture.Goals as goal
 
-pub returns-clause-seen : goal.returns-clause-seen
-returns-clause-seen c = λ p stones move seen.
+pub returns : goal.returns
+returns c = λ p stones move seen.
     let fits : SFits w8 c.gain_of-gain.result = search rules in
     let put : ℤ → Outlook = λ z. record c.args.seen.now { best = greater_of c.args.seen.now.best z; plans = pits_after c.args.seen.now.best c.args.seen.now.plans z c.args.pit } in
     subst (λ (o : Outlook). IsOutlook (table_of c.args.shelf.now).value p (c.args.pit + 1) o.quiet o.best o.plans) (sym (c.put_capture.ensures ∙ ap put (to_z-of_z w8 c.gain_of-gain.result fits)))

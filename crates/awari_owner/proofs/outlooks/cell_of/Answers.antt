@@ -3,7 +3,7 @@ use Rattle.std.proofs.lemmas.Int.{to_z-of_z}
 use Rattle.awari_block.specs.Tally as tally
 use Rattle.awari_block.specs.Cells.{IsEither, IsWithin}
 use Rattle.awari_owner.proofs.Looks.{scanned_capturing, scanned_quiet, scanned_ended}
-use Rattle.awari_owner.proofs.scans.cell_of.Goals as goal
+use Rattle.awari_owner.proofs.outlooks.cell_of.Goals as goal
 
 abbrev capturing : ℕ → ℕ → ℤ → tally.Cell
 capturing quiet plans best = record { left = quiet; status = tally.Open (tally.ByCapture best) plans 0 }
