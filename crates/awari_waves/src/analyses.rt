@@ -14,7 +14,7 @@ use crate::chunks::{Chunk, Front, Room};
 use crate::dues::{due_of, fresh_at};
 use crate::lists::Row;
 use crate::openings::{open_gains, open_waves};
-use crate::scanning::scanned_segments;
+use crate::scanning::{Cut, scanned_segments};
 use crate::segments::Segment;
 use crate::waves::spread_wave;
 use awari_block::{ClosedPart, Place};
@@ -68,8 +68,13 @@ impl Analysis {
         let level = shelf.levels();
         let log = log_of(size(level));
         let threads = threads_of(threads);
-        let segments = scanned_segments(rt, alloc, shelf, 1 << log, threads)?;
-        let room = room_for(alloc, level, threads)?;
+        let index = Index::of(alloc, level)?;
+        let cut = Cut {
+            span: 1 << log,
+            threads,
+        };
+        let segments = scanned_segments(rt, alloc, shelf, &index, cut)?;
+        let room = room_for(alloc, index, threads)?;
         let place = Place {
             level,
             gain: level + 1,
@@ -282,13 +287,11 @@ fn threads_of(threads: usize) -> u32
     threads.clamp(1, MOST_THREADS) as u32
 }
 
-/// Room to spread the boards of this level, for so many threads.
-fn room_for(alloc: Global, level: u8, threads: u32) -> Result<Room, AllocError>
-    requires level { level ≤ 24 }
-    requires some { 1 ≤ threads }
-    ensures { IfOk result (λ room. (front : FrontView) → front.place.level ≡ level → IsRoom front room) }
+/// Room to spread the boards of the index's level, for so many threads.
+fn room_for(alloc: Global, index: Index, threads: u32) -> Result<Room, AllocError>
+    requires { 1 ≤ threads }
+    ensures { IfOk result (λ room. (front : FrontView) → front.place.level ≡ index → IsRoom front room) }
 {
-    let index = Index::of(alloc, level)?;
     let rows = rows(alloc, threads as usize)?;
     let chunk = Chunk {
         lost: Vec::new(alloc),

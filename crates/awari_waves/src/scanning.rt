@@ -1,6 +1,6 @@
 //! A level in blocks of one length, before any gain is open.
 
-ghost use Rattle.std.specs.Prelude.{ℕ, ◌+◌, ◌*◌, ◌^◌, ◌<◌, ◌≤◌, min, IfOk, length, vec_len};
+ghost use Rattle.std.specs.Prelude.{◌≡◌, ℕ, ◌+◌, ◌*◌, ◌^◌, ◌<◌, ◌≤◌, min, IfOk, length, vec_len};
 ghost use Rattle.std.specs.Thread.{IsSync};
 ghost use Rattle.awari_rank.specs.Rank.{size_of};
 ghost use Rattle.awari_table.specs.Images.{table_of};
@@ -11,12 +11,19 @@ ghost use Rattle.awari_waves.specs.Scanned.{AreScannedFrom, CanScanFrom, IsScann
 ghost use Rattle.awari_waves.specs.Waves.{IsGrid};
 
 use crate::segments::Segment;
-use awari_block::Block;
+use awari_index::Index;
 use awari_owner::scanned_cells;
 use awari_rank::size;
 use awari_table::Shelf;
 use std::alloc::{AllocError, Global};
 use std::thread::{Threads, join};
+
+/// How many boards a segment has, and how many threads scan one each.
+#[derive(Clone, Copy)]
+pub struct Cut {
+    pub span: u32,
+    pub threads: u32,
+}
 
 /// Segments of a level by number, from number `first` on. Each has `span` boards, the last one of the
 /// level fewer.
@@ -27,31 +34,33 @@ struct Stretch {
     count: u32,
 }
 
-/// The boards of the shelf's next level in order of rank, `span` in each segment and fewer in the last,
-/// with no gain open and none of them fresh. So many threads scan them, a segment each. Conditions: the
-/// shelf has at most `HIGHEST_LEVEL` levels, and neither `span` nor `threads` is 0. Refused only if
-/// memory runs out.
+/// The boards of the shelf's next level in order of rank, so many in each segment and fewer in the last,
+/// with no gain open and none of them fresh. Conditions: the shelf has at most `HIGHEST_LEVEL` levels,
+/// the index is that of its next level, and neither number of the cut is 0. Refused only if memory runs
+/// out.
 pub fn scanned_segments<R: Threads + Sync>(
     rt: &R,
     alloc: Global,
     shelf: &Shelf,
-    span: u32,
-    threads: u32,
+    index: &Index,
+    cut: Cut,
 ) -> Result<Vec<Segment>, AllocError>
     requires low { length shelf.now ≤ HIGHEST_LEVEL }
-    requires some { (0 < span) × (1 ≤ threads) }
-    ensures grid { IfOk result (λ segments. IsGrid (record { level = length shelf.now; gain = length shelf.now + 1; wave = 0; start = 0 }) span segments.items) }
+    requires level { index.now ≡ length shelf.now }
+    requires some { (0 < cut.span) × (1 ≤ cut.threads) }
+    ensures grid { IfOk result (λ segments. IsGrid (record { level = length shelf.now; gain = length shelf.now + 1; wave = 0; start = 0 }) cut.span segments.items) }
     ensures whole { IfOk result (λ segments. AreWhole (length shelf.now) segments.items) }
     ensures idle { IfOk result (λ segments. AreIdle segments.items) }
     ensures heard { IfOk result (λ segments. AreHeard (table_of shelf.now).value segments.items) }
     ensures numbers { IfOk result (λ segments. (1 ≤ vec_len segments) × (vec_len segments < 2 ^ 32)) }
 {
+    let Cut { span, threads } = cut;
     let number = segments_in(size(shelf.levels()), span);
     let mut segments = Vec::new(alloc);
     let mut first: u32 = 0;
     while first < number {
         let count = threads.min(number - first);
-        let mut found = scan_stretch(rt, alloc, shelf, Stretch { span, first, count })?;
+        let mut found = scan_stretch(rt, alloc, shelf, index, Stretch { span, first, count })?;
         segments.append(&mut found)?;
         first += count;
     }
@@ -73,13 +82,15 @@ fn scan_stretch<R: Threads + Sync>(
     rt: &R,
     alloc: Global,
     shelf: &Shelf,
+    index: &Index,
     stretch: Stretch,
 ) -> Result<Vec<Segment>, AllocError>
-    requires { CanScanFrom (length shelf.now) stretch.span stretch.first stretch.count }
+    requires can { CanScanFrom (length shelf.now) stretch.span stretch.first stretch.count }
+    requires level { index.now ≡ length shelf.now }
     ensures { IfOk result (λ segments. AreScannedFrom (table_of shelf.now).value (length shelf.now) stretch.span stretch.first stretch.count segments.items) }
 {
     if stretch.count < 2 {
-        return scan_one(alloc, shelf, stretch);
+        return scan_one(alloc, shelf, index, stretch);
     }
     let low = Stretch {
         count: 1,
@@ -93,13 +104,13 @@ fn scan_stretch<R: Threads + Sync>(
     let (low_done, high_done) = join(
         rt,
         || -> Result<Vec<Segment>, AllocError>
-            requires { IsSync R.row × CanScanFrom (length shelf.now) low.span low.first low.count }
+            requires { IsSync R.row × CanScanFrom (length shelf.now) low.span low.first low.count × (index.now ≡ length shelf.now) }
             ensures { IfOk result (λ segments. AreScannedFrom (table_of shelf.entry.now).value (length shelf.entry.now) low.span low.first low.count segments.items) }
-        { scan_stretch(rt, alloc, shelf, low) },
+        { scan_stretch(rt, alloc, shelf, index, low) },
         || -> Result<Vec<Segment>, AllocError>
-            requires { IsSync R.row × CanScanFrom (length shelf.now) high.span high.first high.count }
+            requires { IsSync R.row × CanScanFrom (length shelf.now) high.span high.first high.count × (index.now ≡ length shelf.now) }
             ensures { IfOk result (λ segments. AreScannedFrom (table_of shelf.entry.now).value (length shelf.entry.now) high.span high.first high.count segments.items) }
-        { scan_stretch(rt, alloc, shelf, high) },
+        { scan_stretch(rt, alloc, shelf, index, high) },
     );
     let mut all = low_done?;
     let mut rest = high_done?;
@@ -108,12 +119,18 @@ fn scan_stretch<R: Threads + Sync>(
 }
 
 /// The one segment of a stretch of one.
-fn scan_one(alloc: Global, shelf: &Shelf, stretch: Stretch) -> Result<Vec<Segment>, AllocError>
+fn scan_one(
+    alloc: Global,
+    shelf: &Shelf,
+    index: &Index,
+    stretch: Stretch,
+) -> Result<Vec<Segment>, AllocError>
     requires can { CanScanFrom (length shelf.now) stretch.span stretch.first stretch.count }
+    requires level { index.now ≡ length shelf.now }
     requires one { stretch.count < 2 }
     ensures { IfOk result (λ segments. AreScannedFrom (table_of shelf.now).value (length shelf.now) stretch.span stretch.first stretch.count segments.items) }
 {
-    let segment = numbered_segment(alloc, shelf, stretch.span, stretch.first)?;
+    let segment = numbered_segment(alloc, shelf, index, stretch.span, stretch.first)?;
     let mut segments = Vec::new(alloc);
     segments.push(segment)?;
     Ok(segments)
@@ -123,17 +140,19 @@ fn scan_one(alloc: Global, shelf: &Shelf, stretch: Stretch) -> Result<Vec<Segmen
 fn numbered_segment(
     alloc: Global,
     shelf: &Shelf,
+    index: &Index,
     span: u32,
     number: u32,
 ) -> Result<Segment, AllocError>
     requires low { length shelf.now ≤ HIGHEST_LEVEL }
+    requires level { index.now ≡ length shelf.now }
     requires begun { number * span < size_of (length shelf.now) }
     ensures { IfOk result (IsScannedPart (table_of shelf.now).value (length shelf.now) (number * span) (min ((number + 1) * span) (size_of (length shelf.now)))) }
 {
     let boards = size(shelf.levels());
     let start = number * span;
     let end = start + span.min(boards - start);
-    let segment = scanned_segment(alloc, shelf, start, end)?;
+    let segment = scanned_segment(alloc, shelf, index, start, end)?;
     Ok(segment)
 }
 
@@ -141,22 +160,18 @@ fn numbered_segment(
 fn scanned_segment(
     alloc: Global,
     shelf: &Shelf,
+    index: &Index,
     start: u32,
     end: u32,
 ) -> Result<Segment, AllocError>
     requires low { length shelf.now ≤ HIGHEST_LEVEL }
+    requires level { index.now ≡ length shelf.now }
     requires order { start ≤ end }
     requires within { end ≤ size_of (length shelf.now) }
     ensures { IfOk result (IsScannedPart (table_of shelf.now).value (length shelf.now) start end) }
 {
     let number = shelf.levels();
-    let boards = size(number);
-    let block = Block {
-        start,
-        end,
-        whole: start == 0 && end == boards,
-    };
-    let cells = scanned_cells(alloc, shelf, block)?;
+    let cells = scanned_cells(alloc, shelf, index, start, end)?;
     let segment = Segment::unopened(alloc, number, start, cells)?;
     Ok(segment)
 }

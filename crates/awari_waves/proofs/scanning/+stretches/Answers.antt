@@ -1,4 +1,4 @@
-use Rattle.std.proofs.Common.{rules, ◌+◌, ◌-◌, ◌/◌, length, arith}
+use Rattle.std.proofs.Common.{rules, ◌+◌, ◌-◌, length, arith}
 use Rattle.awari_table.specs.Images.{table_of}
 use Rattle.awari_waves.specs.Scanned.{AreScannedFrom}
 use Rattle.awari_waves.proofs.Stretches.{from_both}

@@ -11,7 +11,7 @@ pub loop-first-init : goal.loop-first-init
 loop-first-init g c =
     let value = (table_of c.args.shelf.now).value in
     let n = length c.args.shelf.now in
-    let span = c.args.span in
+    let span = c.args.cut.span in
     let empty = c.new-segments.ensures.items in
     let none : 0 ≡ min (0 * span) (size_of n) = (let z = zero-mul span in omega (arith, z)) in (
       subst (AreScannedTo value n span (min (0 * span) (size_of n))) (sym empty) (subst (λ k. AreScannedTo value n span k []) none (scanned-none value n span)),
@@ -27,7 +27,7 @@ scan_stretch-requires g c =
     let some : 1 ≤ c.min-count.result = search rules in
     let inside : c.loop-first.first + c.min-count.result ≤ c.segments_in-number.result = search rules in
     let few : c.loop-first.first + c.min-count.result < 2 ^ 32 = search (rules, inside) in
-    let can : CanScanFrom (length c.args.shelf.now) c.args.span c.loop-first.first c.min-count.result = record {
+    let can : CanScanFrom (length c.args.shelf.now) c.args.cut.span c.loop-first.first c.min-count.result = record {
       low = c.requires.low;
       some = some;
       few = few;
@@ -39,7 +39,7 @@ pub loop-first-preserved : goal.loop-first-preserved
 loop-first-preserved g c =
     let value = (table_of c.args.shelf.now).value in
     let n = length c.args.shelf.now in
-    let span = c.args.span in
+    let span = c.args.cut.span in
     let first = c.loop-first.first in
     let count = c.min-count.result in
     let boards : c.size.result ≡ size_of n = c.size.ensures.boards ∙ ap size_of c.levels.ensures.levels in
@@ -59,7 +59,7 @@ pub returns : goal.returns
 returns g c =
     let value = (table_of c.args.shelf.now).value in
     let n = length c.args.shelf.now in
-    let span = c.args.span in
+    let span = c.args.cut.span in
     let first = c.loop-first.first in
     let number = c.segments_in-number.result in
     let parts = c.loop-first.segments.items in
