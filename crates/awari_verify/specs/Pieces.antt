@@ -1,17 +1,62 @@
--- A level in pieces of 4096 boards, the last one shorter. Private functions alone go by this: no public contract does.
-use Rattle.std.specs.Prelude.{ℕ, ◌+◌, ◌*◌, min, Option, MatchOption}
+-- A level in pieces. Private functions alone go by this: no public contract does.
+use Rattle.std.specs.Prelude.{◌≡◌, ℕ, ◌+◌, ◌*◌, ◌/◌, ◌%◌, ◌<◌, ◌≤◌, List, [], ◌∷◌, ◌++◌, sum, take, drop, Option, Some, None, MatchOption}
+use Rattle.awari_board.specs.Rules.{IsBoard, own_stones}
+use Rattle.awari_rank.specs.Rank.{rank_of}
+use Rattle.awari_table.specs.declared.rules.Distances.{Distances}
 use Rattle.awari_table.specs.declared.rules.Distances.TheVariants.{Least}
-use Rattle.awari_table.specs.Certificate.{Table}
-use Rattle.awari_verify.specs.FirstFailure.{RightBetween, IsRefusal}
+use Rattle.awari_table.specs.Certificate.{Table, IsRightBy}
+use Rattle.awari_verify.specs.FirstFailure.{BreaksFirst}
+use Rattle.awari_verify.specs.declared.rules.Rule.{Rule}
+use Rattle.awari_verify.specs.declared.pieces.Nearest.{Nearest}
 use Rattle.awari_verify.specs.declared.search.Refusal.{Refusal}
 
--- the rank of the first board of the piece of this number, or the number of boards where there is none
-abbrev pub piece_start : ℕ → ℕ → ℕ
-piece_start boards piece = min (piece * 4096) boards
+-- the refusal for the nearest breach, none while none is known
+abbrev pub refusal_at : ℕ → Option Rule → Option Refusal
+refusal_at rank None = None
+refusal_at rank (Some rule) = Some (record { rank = rank; rule = rule })
 
--- the first refusal of the piece of this number
-abbrev pub IsFound : Table → ℕ → ℕ → ℕ → Option Refusal → Type 0
-IsFound t level boards piece found =
-    MatchOption found
-    (RightBetween Least t level (piece_start boards piece) (piece_start boards (piece + 1)))
-    (λ r. IsRefusal Least t level (piece_start boards piece) (piece_start boards (piece + 1)) r.rank r.rule)
+abbrev pub refusal_of : Nearest → Option Refusal
+refusal_of nearest = refusal_at nearest.rank nearest.rule
+
+-- the board whose pits 6 to 11 are those of p, or pits 0 to 5, with the other six empty; its rank numbers the ways to fill six pits
+abbrev pub none : List ℕ
+none = 0 ∷ 0 ∷ 0 ∷ 0 ∷ 0 ∷ 0 ∷ []
+
+abbrev pub other_filling : List ℕ → ℕ
+other_filling p = rank_of (none ++ drop 6 p)
+
+abbrev pub own_filling : List ℕ → ℕ
+own_filling p = rank_of (none ++ take 6 p)
+
+-- The number of a board's piece. There are 64 for each number of stones in pits 0 to 5, and a tile is 64 fillings of the others.
+abbrev pub piece_of : List ℕ → ℕ
+piece_of p = own_stones p * 64 + other_filling p / 64 % 64
+
+-- the board is of a run, of a tile
+abbrev pub InRun : ℕ → ℕ → List ℕ → Type 0
+InRun first count p = (first ≤ rank_of p) × (rank_of p < first + count)
+
+abbrev pub InTile : ℕ → ℕ → ℕ → List ℕ → Type 0
+InTile others first count p = (sum (drop 6 p) ≡ others) × (first ≤ other_filling p) × (other_filling p < first + count)
+
+-- a board of the level with this rank breaks this rule first
+pub record IsBreach (asked : Distances) (t : Table) (level rank : ℕ) (rule : Rule) : Type 0 where
+  pub board : List ℕ
+  pub is_board : IsBoard board
+  pub stones : sum board ≡ level
+  pub ranked : rank_of board ≡ rank
+  pub breaks : BreaksFirst asked t board rule
+
+-- the rank is the end while no breach is known, and else that of one before the end
+abbrev pub IsKnown : Distances → Table → ℕ → ℕ → Nearest → Type 0
+IsKnown asked t level end nearest = MatchOption nearest.rule (nearest.rank ≡ end) (λ rule. (nearest.rank < end) × IsBreach asked t level nearest.rank rule)
+
+-- the boards of the level that are in here were looked at: those before the nearest breach are right
+pub record Looks (asked : Distances) (t : Table) (level : ℕ) (In : List ℕ → Type 0) (old new : Nearest) : Type 0 where
+  pub nearer : new.rank ≤ old.rank
+  pub known : (end : ℕ) → IsKnown asked t level end old → IsKnown asked t level end new
+  pub right : (p : List ℕ) → IsBoard p → sum p ≡ level → In p → rank_of p < new.rank → IsRightBy asked t p
+
+-- what was found in the piece of this number by itself
+abbrev pub IsFound : Table → ℕ → ℕ → ℕ → Nearest → Type 0
+IsFound t level boards piece found = Looks Least t level (λ p. piece_of p ≡ piece) (record { rank = boards; rule = None }) found

@@ -24,6 +24,7 @@
 
 mod laws;
 mod parallel;
+mod pieces;
 mod rules;
 mod search;
 mod sights;

@@ -7,20 +7,22 @@ ghost use Rattle.awari_table.specs.Shelves.{Consistent};
 ghost use Rattle.awari_theory.specs.Truth.{TellsTruth};
 ghost use Rattle.awari_verify.specs.VerifyFault.{IsShaped, IsDue};
 ghost use Rattle.awari_verify.specs.FirstFailure.{RightBetween, IsRefusal};
-ghost use Rattle.awari_verify.specs.Pieces.{piece_start, IsFound};
+ghost use Rattle.awari_verify.specs.Pieces.{IsFound};
 ghost use Rattle.awari_verify.specs.declared.verdicts.VerifyFault.{VerifyFault};
-ghost use Rattle.awari_verify.specs.declared.search.Refusal.{Refusal as ARefusal};
+ghost use Rattle.awari_verify.specs.declared.pieces.Nearest.{Nearest as Breach};
+ghost use Rattle.awari_verify.specs.declared.pieces.TheConstants.{PARTS};
 
+use crate::pieces::{Nearest, first_refusal, look_in_piece, pieces_of};
 use crate::rules::Rule;
-use crate::search::{Refusal, refusal_between};
+use crate::search::Refusal;
 use crate::verdicts::{VerifyFault, boards_of};
 use awari_table::{Distances, Image, Level, Shelf};
 use rayon::prelude::*;
 use std::alloc::{AllocError, Global};
 use std::thread::Threads;
 
-/// How many boards are judged in one go. A level of fewer is judged by one thread.
-const PIECE: u64 = 4096;
+/// A level of fewer boards is judged by one thread, in a few milliseconds.
+const SHARED: u32 = 50000;
 
 /// Answers what [`verify`](crate::verify) does, with the boards shared among as many threads as there
 /// are processors. It takes memory for a result for each piece of the level. Want of it is 23
@@ -61,7 +63,7 @@ fn fault_in_pieces<R: Threads + Sync>(
         Ok(boards) => boards,
         Err(fault) => return Ok(Some(fault)),
     };
-    match first_refusal(rt, alloc, shelf, image, boards)? {
+    match first_in_pieces(rt, alloc, shelf, image, boards)? {
         Some(Refusal { rank, rule }) => Ok(Some(VerifyFault::Refused { rank, rule })),
         None if image.limit != image.entries.greatest_dist() => {
             Ok(Some(VerifyFault::Refused {
@@ -74,7 +76,7 @@ fn fault_in_pieces<R: Threads + Sync>(
 }
 
 /// The first refusal among all boards of the level.
-fn first_refusal<R: Threads + Sync>(
+fn first_in_pieces<R: Threads + Sync>(
     rt: &R,
     alloc: Global,
     shelf: &Shelf,
@@ -87,63 +89,49 @@ fn first_refusal<R: Threads + Sync>(
         (RightBetween Distances.Least (table_of (shelf.now ++ image.now ∷ [])) image.now.level 0 boards)
         (λ r. IsRefusal Distances.Least (table_of (shelf.now ++ image.now ∷ [])) image.now.level 0 boards r.rank r.rule)) }
 {
-    let pieces = found_in_pieces(rt, alloc, shelf, image, boards)?;
-    for found in &pieces {
-        if let Some(refusal) = found {
-            return Ok(Some(*refusal));
-        }
+    if boards < SHARED {
+        return Ok(first_refusal(Distances::Least, shelf, image, boards));
     }
-    Ok(None)
+    let pieces = found_in_pieces(rt, alloc, shelf, image, boards)?;
+    let mut nearest = Nearest::none(boards);
+    for found in &pieces {
+        nearest = nearest.or_nearer(*found);
+    }
+    Ok(nearest.refusal())
 }
 
-/// The first refusal of each piece of the level, in order.
+/// What is found in each piece of the level, in order.
 fn found_in_pieces<R: Threads + Sync>(
     rt: &R,
     alloc: Global,
     shelf: &Shelf,
     image: &Image,
     boards: u32,
-) -> Result<Vec<Option<Refusal>>, AllocError>
+) -> Result<Vec<Nearest>, AllocError>
     requires shaped { IsShaped Distances.Least shelf.now image.now }
     requires sized { boards ≡ size_of image.now.level }
-    ensures all { IfOk result (λ pieces. boards ≤ vec_len pieces * 4096) }
-    ensures each { IfOk result (λ pieces. (k : ℕ) (d : Option ARefusal) → k < vec_len pieces
+    ensures all { IfOk result (λ pieces. PARTS * (image.now.level + 1) ≡ vec_len pieces) }
+    ensures each { IfOk result (λ pieces. (k : ℕ) (d : Breach) → k < vec_len pieces
         → IsFound (table_of (shelf.now ++ image.now ∷ [])) image.now.level boards k (slice_index_or pieces.items k d)) }
 {
-    let pieces = (u64::from(boards) + (PIECE - 1)) / PIECE;
-    (0..pieces)
+    (0..u64::from(pieces_of(image.level)))
         .into_par_iter()
         .with_min_len(1)
         .map(
-            |piece: u64| -> Option<Refusal>
-                requires { IsShaped Distances.Least shelf.now image.now × (boards ≡ size_of image.now.level) × (piece < 2 ^ 32) }
+            |piece: u64| -> Nearest
+                requires { IsShaped Distances.Least shelf.now image.now × (boards ≡ size_of image.now.level) × (piece < PARTS * (image.now.level + 1)) }
                 ensures { IsFound (table_of (shelf.entry.now ++ image.entry.now ∷ [])) image.entry.now.level boards piece result }
-            { found_in_piece(shelf, image, boards, piece) },
+            { found_in_piece(shelf, image, boards, piece as u32) },
         )
         .collect(rt, alloc)
 }
 
-/// The first refusal of the piece of this number.
-fn found_in_piece(shelf: &Shelf, image: &Image, boards: u32, piece: u64) -> Option<Refusal>
+/// What is found in the piece of this number.
+fn found_in_piece(shelf: &Shelf, image: &Image, boards: u32, piece: u32) -> Nearest
     requires shaped { IsShaped Distances.Least shelf.now image.now }
     requires sized { boards ≡ size_of image.now.level }
-    requires piece { piece < 2 ^ 32 }
+    requires piece { piece < PARTS * (image.now.level + 1) }
     ensures { IsFound (table_of (shelf.now ++ image.now ∷ [])) image.now.level boards piece result }
 {
-    refusal_between(
-        Distances::Least,
-        shelf,
-        image,
-        start_of(boards, piece),
-        start_of(boards, piece + 1),
-    )
-}
-
-/// The rank of the first board of a piece, or the number of boards if there is none.
-fn start_of(boards: u32, piece: u64) -> u32
-    requires { piece ≤ 2 ^ 32 }
-    ensures start { result ≡ piece_start boards piece }
-    ensures within { result ≤ boards }
-{
-    (piece * PIECE).min(u64::from(boards)) as u32
+    look_in_piece(Distances::Least, shelf, image, piece, Nearest::none(boards))
 }

@@ -1,7 +1,8 @@
 //! The first board of a level that breaks a rule.
 
-ghost use Rattle.std.specs.Prelude.{◌≤◌, [], ◌∷◌, ◌++◌, MatchOption};
-ghost use Rattle.awari_rank.specs.Rank.{size_of};
+ghost use Rattle.std.specs.Prelude.{◌≤◌, [], ◌∷◌, ◌++◌, MatchOption, ◌≡◌, sum};
+ghost use Rattle.awari_board.specs.Rules.{IsBoard};
+ghost use Rattle.awari_rank.specs.Rank.{rank_of, size_of};
 ghost use Rattle.awari_table.specs.Images.{table_of};
 ghost use Rattle.awari_verify.specs.VerifyFault.{IsShaped};
 ghost use Rattle.awari_verify.specs.FirstFailure.{RightBetween, IsRefusal};
@@ -18,30 +19,26 @@ pub struct Refusal {
     pub rule: Rule,
 }
 
-/// The first refusal among the boards from rank `low` up to, not including, rank `high`.
-///
-/// Only the first board is found by its rank. Each further one is the successor of the one before,
-/// which takes far less time.
-pub fn refusal_between(
+/// The first refusal among the boards from this one on, up to, not including, rank `high`. Each board is
+/// the successor of the one before, which takes far less time than to find it by its rank.
+pub fn refusal_from(
     asked: Distances,
     shelf: &Shelf,
     image: &Image,
-    low: u32,
+    first: &PackedBoard,
     high: u32,
 ) -> Option<Refusal>
     requires shaped { IsShaped asked shelf.now image.now }
-    requires order { low ≤ high }
+    requires board { IsBoard first.now }
+    requires stones { sum first.now ≡ image.now.level }
     requires within { high ≤ size_of image.now.level }
     ensures { MatchOption result
-        (RightBetween asked (table_of (shelf.now ++ image.now ∷ [])) image.now.level low high)
-        (λ r. IsRefusal asked (table_of (shelf.now ++ image.now ∷ [])) image.now.level low high r.rank r.rule) }
+        (RightBetween asked (table_of (shelf.now ++ image.now ∷ [])) image.now.level (rank_of first.now) high)
+        (λ r. IsRefusal asked (table_of (shelf.now ++ image.now ∷ [])) image.now.level (rank_of first.now) high r.rank r.rule) }
 {
-    if low == high {
-        return None;
-    }
-    let mut board = PackedBoard::unrank(image.level, low);
+    let mut board = *first;
     let mut seen = Seen::nothing();
-    for rank in low..high {
+    for rank in first.rank()..high {
         see(shelf, image, &board, rank, &mut seen);
         if let Some(rule) = first_broken_rule(asked, &seen) {
             return Some(Refusal { rank, rule });

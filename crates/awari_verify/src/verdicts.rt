@@ -8,8 +8,9 @@ ghost use Rattle.awari_theory.specs.Truth.{TellsTruth};
 ghost use Rattle.awari_verify.specs.VerifyFault.{IsShaped, IsDue, IsDueBy};
 ghost use Rattle.awari_verify.specs.declared.verdicts.VerifyFault.TheVariants.{Memory};
 
+use crate::pieces::first_refusal;
 use crate::rules::Rule;
-use crate::search::{Refusal, refusal_between};
+use crate::search::Refusal;
 use awari_rank::size;
 use awari_table::{Distances, HIGHEST_FALLING_LEVEL, HIGHEST_LEVEL, Image, Level, Shelf};
 use std::alloc::AllocError;
@@ -134,7 +135,7 @@ fn fault_by(asked: Distances, shelf: &Shelf, image: &Image) -> Option<VerifyFaul
         Ok(boards) => boards,
         Err(fault) => return Some(fault),
     };
-    match refusal_between(asked, shelf, image, 0, boards) {
+    match first_refusal(asked, shelf, image, boards) {
         Some(Refusal { rank, rule }) => Some(VerifyFault::Refused { rank, rule }),
         None if image.limit != image.entries.greatest_dist() => {
             Some(VerifyFault::Refused {

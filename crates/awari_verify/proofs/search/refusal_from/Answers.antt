@@ -1,6 +1,6 @@
 use Rattle.std.proofs.Common.{refl, ◌∙◌, arith}
 use Rattle.awari_verify.proofs.LevelLemmas.{RightBetween-more, RightBetween-last}
-use Rattle.awari_verify.proofs.search.refusal_between.Goals as goal
+use Rattle.awari_verify.proofs.search.refusal_from.Goals as goal
 
 pub returns-in-None : goal.returns-in-None
 returns-in-None c =

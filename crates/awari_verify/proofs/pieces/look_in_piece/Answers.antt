@@ -1,0 +1,31 @@
+use Rattle.std.proofs.Common.{◌-◌, ◌/◌, ◌<◌, ◌++◌, ℕ, List, drop, refl, arith}
+use Rattle.awari_verify.specs.Pieces.{none, other_filling}
+use Rattle.awari_verify.proofs.LookLemmas.{Looks-some}
+use Rattle.awari_verify.proofs.PieceLemmas.{IsOfPiece, of_piece, piece_more}
+use Rattle.awari_verify.proofs.pieces.look_in_piece.Goals as goal
+
+pub loop-start-preserved : goal.loop-start-preserved
+loop-start-preserved c =
+    let before = c.loop-start.invariant in
+    let nearer = c.look_in_tile-found.ensures.nearer in
+    let within = before.within in
+    let place = before.place in
+    let step = c.from-start-in-loop-start.ensures in
+    let few : (p : List ℕ) → IsOfPiece c.args.piece (c.args.image.now.level - c.args.piece / 64) p → other_filling p < c.fillings-fillings.result
+    = λ p of. (c.fillings-fillings.ensures.first (none ++ drop 6 p) of.board of.level).1 refl
+    in
+    record {
+      looks = piece_more _ _ c.args.image.now.level c.args.piece c.fillings-fillings.result c.loop-start.start c.min.result c.from-start-in-loop-start.result c.unrank.result _ _ _ place c.unrank.ensures.stones c.unrank.ensures.rank
+          c.min.ensures step few before.looks c.look_in_tile-found.ensures;
+      within = omega (arith, nearer, within);
+      place = omega (arith, place, step);
+    }
+
+pub returns : goal.returns
+returns c =
+    Looks-some _ _ _ _ _ _ _ c.loop-start.invariant.looks (λ p board stones is.
+    let of = of_piece p c.args.image.now.level c.args.piece board stones is in
+    let some = (c.fillings-fillings.ensures.first (none ++ drop 6 p) of.board of.level).1 refl in
+    let end = c.loop-start-test.false in
+    let all = c.from.ensures in
+    (is, omega (arith, some, end, all)))
