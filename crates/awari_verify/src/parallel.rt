@@ -21,8 +21,8 @@ use rayon::prelude::*;
 use std::alloc::{AllocError, Global};
 use std::thread::Threads;
 
-/// A level of fewer boards is judged by one thread, in a few milliseconds.
-const SHARED: u32 = 50000;
+/// A level of fewer boards is judged by one thread.
+const SHARED: u32 = 4096;
 
 /// Answers what [`verify`](crate::verify) does, with the boards shared among as many threads as there
 /// are processors. It takes memory for a result for each piece of the level. Want of it is 23
