@@ -1,21 +1,23 @@
 -- The commands that ask the levels in a folder about one board.
-use Rattle.std.specs.Prelude.{◌≡◌, ℕ, List, Option}
+use Rattle.std.specs.Prelude.{◌≡◌, ℕ, List, Option, min, sum}
 use Rattle.awari_board.specs.BoardFault.{fault_text as board_fault_text}
 use Rattle.awari_board.specs.Rules.{IsBoard}
 use Rattle.awari_board.specs.Text.{text_of}
-use Rattle.awari_folder.specs.Contents.{IsStoredIn}
+use Rattle.awari_folder.specs.Contents.{IsStoredToIn}
 use Rattle.awari_folder.specs.FolderFault.{fault_text as folder_fault_text}
 use Rattle.awari_play.specs.LineFault.{fault_text as line_fault_text}
 use Rattle.awari_table.specs.NotYet.{fault_text as not_yet_text}
 use Rattle.awari_table.specs.Shelves.{IsShelf}
+use Rattle.awari_table.specs.declared.TheConstants.{HIGHEST_LEVEL}
 use Rattle.awari_table.specs.declared.images.Image.{Image}
 use Rattle.awari_answers.specs.declared.asked.NoAnswer.{NoAnswer}
 use Rattle.awari_answers.specs.declared.asked.NoAnswer.TheVariants.{Board, Folder, NotYet, Line}
 
--- The text spells this board, and these are right levels: those that the folder stores, where it is known what its names have.
+-- The text spells this board, and these are right levels: those up to the board's that the folder stores, where it is known what
+-- its names have.
 pub record IsAsked (stands : ℕ → Option (Option (List ℕ))) (text : List ℕ) (images : List Image) (board : List ℕ) : Type 0 where
   pub digest : List ℕ
-  pub stored : IsStoredIn stands images digest
+  pub stored : IsStoredToIn (min (sum board) HIGHEST_LEVEL) stands images digest
   pub right : IsShelf images
   pub whole : IsBoard board
   pub spelled : text ≡ text_of board

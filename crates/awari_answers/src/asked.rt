@@ -9,14 +9,14 @@ ghost use Rattle.awari_answers.specs.Asked.{IsAsked};
 ghost use Rattle.awari_answers.specs.declared.asked.NoAnswer.TheVariants as no_answer;
 
 use awari_board::{Board, BoardFault, one_board_fault_is_due};
-use awari_folder::{Folder, FolderFault, load_parallel};
+use awari_folder::{Folder, FolderFault, load_parallel_to};
 use awari_play::LineFault;
-use awari_table::{NotYet, Shelf};
+use awari_table::{HIGHEST_LEVEL, NotYet, Shelf};
 use std::alloc::Global;
 use std::fmt;
 use std::thread::Threads;
 
-/// A board, and the levels in a folder.
+/// A board, and the levels in a folder up to the board's.
 #[derive(Drop)]
 pub struct Asked {
     pub board: Board,
@@ -84,9 +84,9 @@ impl fmt::Display for NoAnswer {
     }
 }
 
-/// The board that `text` spells, and the levels in the folder. The text is read before the folder. If
-/// it is not a board, it is refused for that, whatever the folder holds. It takes the memory that
-/// `load_parallel` takes.
+/// The board that `text` spells, and the levels in the folder up to the board's. Files of higher levels
+/// are not read. The text is read before the folder. If it is not a board, it is refused for that,
+/// whatever the folder holds. It takes the memory that `load_parallel_to` takes.
 pub fn ask_folder<T: Threads + Sync, F: Folder>(
     rt: &T,
     folder: &mut F,
@@ -100,7 +100,8 @@ pub fn ask_folder<T: Threads + Sync, F: Folder>(
     // Ghost: a text has at most one fault.
     one_board_fault_is_due();
     let board = Board::parse(text)?;
-    let shelf = load_parallel(rt, alloc, folder)?.shelf;
+    let most = board.stones().min(HIGHEST_LEVEL);
+    let shelf = load_parallel_to(rt, alloc, folder, most)?.shelf;
     // For the proof: the levels are a shelf.
     let _levels = shelf.levels();
     Ok(Asked { board, shelf })

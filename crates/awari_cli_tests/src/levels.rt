@@ -273,7 +273,7 @@ fn a_folder_is_asked(rt: HostRuntime) -> io::Result<()> {
 const LINED: &str = "awari_cli_test_line";
 
 /// Boards, and what `line` prints of each with no levels, with levels 0 to 2, and with level 3 as well.
-const LINES: [Line; 13] = [
+const LINES: [Line; 14] = [
     (
         &["awari", "line", LINED, CYCLE],
         "refused 56 NotYet levels 0\n",
@@ -315,6 +315,12 @@ const LINES: [Line; 13] = [
         1,
     ),
     (&["awari", "build", "3", "--folder", LINED], LEVEL_3, 0),
+    // It goes by the limit of the levels up to its own, so it is no longer than before.
+    (
+        &["awari", "line", LINED, CYCLE],
+        "value 0\nmoves 0 0 1 1 2 2 3 3 4 4\noutcome 0\n",
+        0,
+    ),
     (
         &["awari", "line", LINED, WON],
         "value 2\nmoves 0 2 1 3 2 4 3 5\noutcome 2\n",
@@ -390,4 +396,48 @@ fn a_board_is_read_before_the_folder(rt: HostRuntime) -> io::Result<()> {
     fs::write(&rt, "awari_cli_test_order/level_00.awdb", b"AWDB")?;
     expect_lines(&rt, rt.alloc(), &READ_BEFORE);
     fs::remove_dir_all(&rt, ORDER)
+}
+
+const ABOVE: &str = "awari_cli_test_above";
+
+/// Questions about boards of two and of three stones in a folder whose file of level 3 is cut.
+const READ_UP_TO_THE_BOARD: [Line; 5] = [
+    (&["awari", "ask", ABOVE, CYCLE], "0 0 0\n", 0),
+    (
+        &["awari", "moves", ABOVE, CYCLE],
+        "pit 0 captures 0 value 0 distance 0 plan\n",
+        0,
+    ),
+    (
+        &["awari", "line", ABOVE, WON],
+        "value 2\nmoves 0 2 1 3 2 4 3 5\noutcome 2\n",
+        0,
+    ),
+    (
+        &["awari", "ask", ABOVE, CAPTURE],
+        "refused 81 File level 3: 60 Truncated\n",
+        1,
+    ),
+    (
+        &["awari", "verify", ABOVE],
+        "refused 81 File level 3: 60 Truncated\n",
+        1,
+    ),
+];
+
+#[test]
+fn files_above_the_board_are_not_read(rt: HostRuntime) -> io::Result<()> {
+    empty_folder(&rt, ABOVE)?;
+    expect_lines(
+        &rt,
+        rt.alloc(),
+        &[(
+            &["awari", "build", "2", "--folder", ABOVE],
+            LEVELS_0_TO_2,
+            0,
+        )],
+    );
+    fs::write(&rt, "awari_cli_test_above/level_03.awdb", b"AWDB")?;
+    expect_lines(&rt, rt.alloc(), &READ_UP_TO_THE_BOARD);
+    fs::remove_dir_all(&rt, ABOVE)
 }

@@ -1,5 +1,5 @@
 -- What stands under the names of a folder's levels, and what its calls do to that.
-use Rattle.std.specs.Prelude.{◌≡◌, ◌≢◌, ◌<◌, ◌⊎◌, ⊤, ℕ, zero, suc, List, [], length, replicate, Option, Some, None, IfSome, IsSomeAnd, IsNone, Result, Err}
+use Rattle.std.specs.Prelude.{◌≡◌, ◌≢◌, ◌<◌, ◌≤◌, ◌+◌, ◌⊎◌, ⊤, ℕ, zero, suc, List, [], length, replicate, Option, Some, None, IfSome, IsSomeAnd, IsNone, Result, Err}
 use Rattle.awari_table.specs.Counted.{Grew}
 use Rattle.awari_table.specs.declared.TheConstants.{HIGHEST_LEVEL}
 use Rattle.awari_table.specs.declared.images.Image.{Image}
@@ -90,14 +90,23 @@ HoldLevels names (suc n) shelf digest = (lower : List Image) × (below : List �
 abbrev pub Holds : (ℕ → Option (List ℕ)) → List Image → List ℕ → Type 0
 Holds names shelf digest = HoldLevels names (length shelf) shelf digest
 
--- The shelf has all levels up to the first whose file is not there, or the highest.
-pub record IsStored (names : ℕ → Option (List ℕ)) (shelf : List Image) (digest : List ℕ) : Type 0 where
+-- The shelf has all levels up to the first whose file is not there, or this one.
+pub record IsStoredTo (most : ℕ) (names : ℕ → Option (List ℕ)) (shelf : List Image) (digest : List ℕ) : Type 0 where
   pub levels : Holds names shelf digest
-  pub end : (names (length shelf) ≡ None) ⊎ (HIGHEST_LEVEL < length shelf)
+  pub few : length shelf ≤ most + 1
+  pub end : (names (length shelf) ≡ None) ⊎ (most < length shelf)
+
+-- The shelf has all levels up to the first whose file is not there, or the highest.
+abbrev pub IsStored : (ℕ → Option (List ℕ)) → List Image → List ℕ → Type 0
+IsStored names shelf digest = IsStoredTo HIGHEST_LEVEL names shelf digest
 
 -- Where it is known what has the names: that is the shelf stored under them.
 abbrev pub IsStoredIn : (ℕ → Option (Option (List ℕ))) → List Image → List ℕ → Type 0
 IsStoredIn stands shelf digest = (names : ℕ → Option (List ℕ)) → AreNames stands names → IsStored names shelf digest
+
+-- and that of its levels up to this one
+abbrev pub IsStoredToIn : ℕ → (ℕ → Option (Option (List ℕ))) → List Image → List ℕ → Type 0
+IsStoredToIn most stands shelf digest = (names : ℕ → Option (List ℕ)) → AreNames stands names → IsStoredTo most names shelf digest
 
 -- where it is known what has the names: the files of this shelf
 abbrev pub HoldsIn : (ℕ → Option (Option (List ℕ))) → List Image → List ℕ → Type 0
@@ -113,10 +122,15 @@ IsFaultAt names level shelf below (Open n) = n ≡ level
 IsFaultAt names level shelf below Memory = ⊤
 IsFaultAt names level shelf below fault = IsSomeAnd (names level) (λ bytes. IsFileFault shelf below bytes fault)
 
--- The files below some level are right, and that of this level has the fault.
-pub record IsFirstFault (names : ℕ → Option (List ℕ)) (fault : FolderFault) : Type 0 where
+-- The files below some level up to this one are right, and that of the level has the fault.
+pub record IsFaultTo (most : ℕ) (names : ℕ → Option (List ℕ)) (fault : FolderFault) : Type 0 where
   pub level : ℕ
+  pub low : level ≤ most
   pub shelf : List Image
   pub below : List ℕ
   pub right : HoldLevels names level shelf below
   pub here : IsFaultAt names level shelf below fault
+
+-- The same of a level up to the highest.
+abbrev pub IsFirstFault : (ℕ → Option (List ℕ)) → FolderFault → Type 0
+IsFirstFault names fault = IsFaultTo HIGHEST_LEVEL names fault

@@ -36,7 +36,7 @@ pub use faults::FolderFault;
 pub use host::{HostDraft, HostFolder};
 pub use keeping::save_or_keep;
 pub use laws::{folders_hold_one_shelf, stored_shelves_are_loaded};
-pub use loading::{Stored, load, load_parallel};
+pub use loading::{Stored, load, load_parallel, load_parallel_to};
 pub use memory::{MemoryDraft, MemoryFolder};
 pub use migrating::{Limits, Migrated, migrate};
 pub use saving::save;

@@ -1,12 +1,13 @@
 //! A shelf from the files in a folder.
 
-ghost use Rattle.std.specs.Prelude.{◌≡◌, ℕ, ◌+◌, List, Option, IfOk, IfErr, OnOk, IfSome, Err, length, MatchResult};
+ghost use Rattle.std.specs.Prelude.{◌≡◌, ℕ, ◌+◌, ◌≤◌, List, Option, IfOk, IfErr, OnOk, IfSome, Err, length, MatchResult};
 ghost use Rattle.awari_table.specs.Counted.{inner_of, faults_of, Grew};
+ghost use Rattle.awari_table.specs.declared.TheConstants.{HIGHEST_LEVEL};
 ghost use Rattle.awari_theory.specs.Truth.{TellsTruth};
 ghost use Rattle.awari_folder.specs.FolderFault.{Names, NamesLevel};
 ghost use Rattle.awari_folder.specs.NextFile.{IsNextFile, IsFileFault};
 ghost use Rattle.awari_folder.specs.Judges.{Judges};
-ghost use Rattle.awari_folder.specs.Contents.{Same, Stays, LeavesNoMore, LeavesStill, IsOfFile, OpenIfRefused, AreNames, IsStored, IsFirstFault};
+ghost use Rattle.awari_folder.specs.Contents.{Same, Stays, LeavesNoMore, LeavesStill, IsOfFile, OpenIfRefused, AreNames, IsStored, IsStoredTo, IsFirstFault, IsFaultTo};
 
 use crate::calls::{Folder, Refusal};
 use crate::faults::FolderFault;
@@ -61,6 +62,7 @@ pub fn load<F: Folder>(alloc: Global, folder: &mut F) -> Result<Stored, FolderFa
         &|shelf: &Shelf, image: Image| verify(shelf, image),
         alloc,
         folder,
+        HIGHEST_LEVEL,
     )
 }
 
@@ -92,15 +94,52 @@ pub fn load_parallel<T: Threads + Sync, F: Folder>(
         &|shelf: &Shelf, image: Image| verify_parallel(rt, alloc, shelf, image),
         alloc,
         folder,
+        HIGHEST_LEVEL,
     )
 }
 
-/// Loads the levels of a folder, each verified by this judge.
+/// Answers what [`load_parallel`] does, of the levels of at most `most` stones. Files of higher levels
+/// are not opened, so nothing is said of them. Condition: `most` is at most `HIGHEST_LEVEL`.
+pub fn load_parallel_to<T: Threads + Sync, F: Folder>(
+    rt: &T,
+    alloc: Global,
+    folder: &mut F,
+    most: u8,
+) -> Result<Stored, FolderFault>
+    requires low { most ≤ HIGHEST_LEVEL }
+    // What the shelf says of each of its boards is the truth: following its plans secures the value,
+    // soon, the value is what the board is worth, and the distance is the least.
+    ensures meaning { IfOk result (λ stored. TellsTruth stored.shelf) }
+    ensures named { IfErr result NamesLevel }
+    // If it is known what has the names: the levels up to the first that has no file, or the first
+    // fault.
+    ensures exact { (names : ℕ → Option (List ℕ)) → AreNames (F.stands folder.old) names
+        → MatchResult result (λ stored. IsStoredTo most names stored.shelf stored.digest) (IsFaultTo most names) }
+    // It is 82 if the folder refused to open a file, and only then.
+    ensures refused { OpenIfRefused result (F.refusals folder.old) (F.refusals folder.new) }
+    // Nothing is changed.
+    ensures stands { Same (F.stands folder.old) (F.stands folder.new) }
+    ensures crash { LeavesNoMore (F.may_leave folder.old) (F.may_leave folder.new) }
+    ensures still { LeavesStill (F.may_leave folder.old) (F.may_leave folder.new) }
+    ensures clear { Stays (F.is_clear folder.old) (F.is_clear folder.new) }
+    ensures stuck { F.stuck folder.new ≡ F.stuck folder.old }
+{
+    load_by(
+        &|shelf: &Shelf, image: Image| verify_parallel(rt, alloc, shelf, image),
+        alloc,
+        folder,
+        most,
+    )
+}
+
+/// Loads the levels of a folder up to this one, each verified by this judge.
 fn load_by<V: Fn(&Shelf, Image) -> Result<Level, VerifyFault>, F: Folder>(
     judge: &V,
     alloc: Global,
     folder: &mut F,
+    most: u8,
 ) -> Result<Stored, FolderFault>
+    requires low { most ≤ HIGHEST_LEVEL }
     requires callable { V.IsAlwaysCallable judge.now }
     requires judges { Judges (V.post judge.now) }
     // What the shelf says of each of its boards is the truth: following its plans secures the value,
@@ -110,7 +149,7 @@ fn load_by<V: Fn(&Shelf, Image) -> Result<Level, VerifyFault>, F: Folder>(
     // If it is known what has the names: the levels up to the first that has no file, or the first
     // fault.
     ensures exact { (names : ℕ → Option (List ℕ)) → AreNames (F.stands folder.old) names
-        → MatchResult result (λ stored. IsStored names stored.shelf stored.digest) (IsFirstFault names) }
+        → MatchResult result (λ stored. IsStoredTo most names stored.shelf stored.digest) (IsFaultTo most names) }
     // It is 82 if the folder refused to open a file, and only then.
     ensures refused { OpenIfRefused result (F.refusals folder.old) (F.refusals folder.new) }
     // Nothing is changed.
@@ -122,7 +161,7 @@ fn load_by<V: Fn(&Shelf, Image) -> Result<Level, VerifyFault>, F: Folder>(
 {
     let mut shelf = Shelf::empty();
     let mut digest = [0u8; 32];
-    for level in 0..=HIGHEST_LEVEL {
+    for level in 0..=most {
         match folder.open(level) {
             Ok(Some(file)) => {
                 digest = put_on(judge, alloc, &mut shelf, digest, &mut Counted::new(file))?;

@@ -1,10 +1,11 @@
-use Rattle.std.proofs.Common.{◌+◌, ap, length, refl, subst, ◌∙◌}
+use Rattle.std.proofs.Common.{◌+◌, ap, arith, inl, inr, length, refl, rules, subst, ◌∙◌}
 use Rattle.std.proofs.lemmas.Result.{err_from_is_err_and}
 use Rattle.awari_folder.proofs.Empty.{truth_of_empty}
-use Rattle.awari_folder.proofs.Opened.{of_name, not_open, next_level}
+use Rattle.awari_folder.proofs.Opened.{of_name, of_no_name, not_open, next_level, stored_to}
 use Rattle.awari_folder.specs.NextFile.{IsNextFile}
 use Rattle.awari_folder.specs.Contents.{Opens}
 use Rattle.awari_folder.proofs.loading.load_by.Goals as goal
+use Rattle.awari_folder.proofs.loading.load_by.Goals.{else-loop-level-test, then-loop-level-test+in-Ok-None, then-loop-level-test+in-Ok-Some+in_ok-digest-in-Ok-Some+else-level-most}
 
 pub loop-level-init : goal.loop-level-init
 loop-level-init g c = record {
@@ -43,3 +44,22 @@ loop-level-preserved g c =
       refused = c.in-Ok-Some.ensures.refused ∙ i.refused;
       stuck = e.stuck ∙ i.stuck;
     }
+
+pub returns-clause-exact : goal.returns-clause-exact
+returns-clause-exact g c = λ names are.
+    let i = c.loop-level.invariant in
+    elim c.loop-level-test.branch [
+      else-loop-level-test w ↦ rw (w.shelf-is, w.digest-is) (stored_to c.args.most names c.loop-level.level c.loop-level.shelf c.loop-level.digest i.levels (i.held names are)
+          (let end = c.loop-level.auto.level-end in omega (arith, end)) (inr (let end = w.loop-level-test.false in omega (arith, end))))
+      | then-loop-level-test+in-Ok-None w ↦ rw (w.shelf-is, w.digest-is) (stored_to c.args.most names c.loop-level.level c.loop-level.shelf c.loop-level.digest i.levels (i.held names are)
+          (let low = w.loop-level-test.true in omega (arith, low))
+          (inl (of_no_name g.F.File.Read.remaining (g.F.Folder.stands c.loop-level.folder c.loop-level.level) (names c.loop-level.level) (i.stands c.loop-level.level ∙ are c.loop-level.level) (subst (λ o. Opens g.F.File.Read.remaining (g.F.Folder.stands c.loop-level.folder c.loop-level.level) o) w.in-Ok-None.field-0-is w.in-Ok-None.ensures.opened))))
+      | then-loop-level-test+in-Ok-Some+in_ok-digest-in-Ok-Some+else-level-most w ↦ rw (w.shelf-is, w.digest-is) (stored_to c.args.most names (c.loop-level.level + 1) w.put_on.new.shelf w.in_ok-digest-in-Ok-Some.digest
+          (w.in_ok-digest-in-Ok-Some.ensures.levels ∙ ap (λ n. n + 1) i.levels)
+          (next_level names c.loop-level.level c.loop-level.shelf c.loop-level.digest w.put_on.new.shelf w.in_ok-digest-in-Ok-Some.digest (i.held names are)
+              (of_name g.F.File.Read.remaining _ _ _ w.in-Ok-Some.file (λ bytes. IsNextFile c.loop-level.shelf c.loop-level.digest bytes w.put_on.new.shelf w.in_ok-digest-in-Ok-Some.digest)
+              w.new.ensures.inner (i.stands c.loop-level.level ∙ are c.loop-level.level) (subst (λ o. Opens g.F.File.Read.remaining (g.F.Folder.stands c.loop-level.folder c.loop-level.level) o) w.in-Ok-Some.field-0-is w.in-Ok-Some.ensures.opened)
+              w.in_ok-digest-in-Ok-Some.ensures.ok))
+          (let low = w.loop-level-test.true in omega (arith, low))
+          (inr (search rules)))
+    ]
