@@ -1,5 +1,6 @@
 -- Which distance is due: of two lists of boards, and of the segments one after the other.
-use Rattle.std.proofs.Common.{◌≡◌, ℕ, ℤ, zero, suc, ◌+◌, ◌<◌, ◌≤◌, ◌++◌, min, Bool, true, false, nat_le, ◌==◌, ◌≢◌, eqb-true, All, IfNone, IfSome, List, [], ◌∷◌, length, get_or, map, Option, None, Some, refl, sym, subst, subst₂, ◌∙◌, arith}
+use Rattle.std.proofs.Common.{◌≡◌, ℕ, ℤ, zero, suc, ◌+◌, ◌<◌, ◌≤◌, ◌++◌, min, Bool, true, false, nat_le, ◌==◌, ◌≢◌, eqb-true, All, IfNone, IfSome, List, [], ◌∷◌, length, get_or, map, Option, None, Some, refl, sym, subst, subst₂, ap, ◌∙◌, true≢false, arith}
+use Rattle.std.specs.Option.{option_eq}
 use Rattle.std.proofs.lemmas.Bool.Decides.{nat_tests}
 use Rattle.std.proofs.lemmas.List.{get_or_default}
 use Rattle.std.proofs.lemmas.List.Elements.{All-append, All-nil}
@@ -124,6 +125,12 @@ below_sinks parts k = record {
   nearer = λ m n less far i low. (far_sinks (part_at parts i).fresh).nearer m n less (far i low);
 }
 
+-- what some board of one part has, some board of all has
+has_in : (from : ℕ) (parts : List Part) (k : ℕ) (part : Part) (o : Option ℕ) → k < length parts → part ≡ part_at parts k → IfSome o (HasAt from part) → IfSome o (HasIn from parts)
+has_in from parts k part None inside read h = tt
+has_in from parts k part (Some n) inside read h =
+    (h.0, (k, h.1.0, h.1.1, inside, subst (λ (p : Part). InBlock p h.1.0) read h.1.2, subst (λ (p : Part). settled_at p h.1.0 ≡ Some (h.1.1, n)) read h.1.3))
+
 -- a part more
 pub IsDueBelow-more : (from : ℕ) (parts : List Part) (k : ℕ) (part : Part) (x y o : Option ℕ) → k < length parts → part ≡ part_at parts k → o ≡ lesser x y → IsDueBelow from parts k x → IfNone y (part.fresh ≡ []) → IfSome y (AreFar part.fresh)
     → IfSome y (HasAt from part) → IsDueBelow from parts (k + 1) o
@@ -133,7 +140,7 @@ IsDueBelow-more from parts k part x y o inside read is below none least some = r
       (below_sinks parts k) (far_sinks part.fresh)
       (λ idle none i less. all (λ p. p.fresh ≡ []) idle none i less)
       (λ n far near i less. all (λ p. AreFar p.fresh n) far near i less)
-      below.nearest (record { none = none; least = least; some = has y some }));
+      below.nearest (record { none = none; least = least; some = has_in from parts k part y inside read some }));
 }
   where
     differ : (m n : ℕ) → (m == n) ≡ false → m ≢ n
@@ -146,13 +153,21 @@ IsDueBelow-more from parts k part x y o inside read is below none least some = r
         by true e = subst (λ n. P (part_at parts n)) (sym (eqb-true i k e)) (subst P read last)
         by false e = let ne = differ i k e in before i (omega (arith, less, ne))
 
-    has : (y : Option ℕ) → IfSome y (HasAt from part) → IfSome y (HasIn from parts)
-    has None h = tt
-    has (Some n) h = (h.0, (k, h.1.0, h.1.1, inside, subst (λ (p : Part). InBlock p h.1.0) read h.1.2, subst (λ (p : Part). settled_at p h.1.0 ≡ Some (h.1.1, n)) read h.1.3))
-
 pub IsDueBelow-end : (from : ℕ) (parts : List Part) (k : ℕ) (o : Option ℕ) → length parts ≤ k → IsDueBelow from parts k o → IsNearest (AreIdle parts) (λ n. AreFrom n parts) (HasIn from parts) o
 IsDueBelow-end from parts k None end below = record { none = λ i few. below.nearest.none i (omega (arith, few, end)); least = tt; some = tt }
 IsDueBelow-end from parts k (Some n) end below = record { none = tt; least = λ i few. below.nearest.least i (omega (arith, few, end)); some = below.nearest.some }
+
+-- an option that is found to be this number
+pub option_is : (o : Option ℕ) (n : ℕ) → true ≡ option_eq (λ a b. a == b) o (Some n) → o ≡ Some n
+option_is None n e = absurd (true≢false e)
+option_is (Some m) n e = ap Some (eqb-true m n (sym e))
+
+-- a part that has a board of the distance from which on they are sought
+pub IsNearest-at_once : (from : ℕ) (parts : List Part) (k : ℕ) (part : Part) (o : Option ℕ) → k < length parts → part ≡ part_at parts k → AreFrom from parts → o ≡ Some from → IfSome o (HasAt from part)
+    → IsNearest (AreIdle parts) (λ n. AreFrom n parts) (HasIn from parts) o
+IsNearest-at_once from parts k part o inside read far is has =
+    subst (IsNearest (AreIdle parts) (λ n. AreFrom n parts) (HasIn from parts)) (sym is)
+    (record { none = tt; least = far; some = has_in from parts k part (Some from) inside read (subst (λ (x : Option ℕ). IfSome x (HasAt from part)) is has) })
 
 pub read_part : (parts : List Part) (k : ℕ) (part : Part) → k < length parts → part ≡ get_or parts k part → part ≡ part_at parts k
 read_part parts k part inside read = read ∙ get_or_default parts k part no_part inside

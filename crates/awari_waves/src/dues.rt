@@ -15,7 +15,11 @@ pub fn due_of(segments: &[Segment], from: u32) -> Option<u32>
 {
     let mut least = None;
     for segment in segments {
-        least = nearer(least, segment.due(from));
+        let found = segment.due(from);
+        if found == Some(from) {
+            return found;
+        }
+        least = nearer(least, found);
     }
     least
 }
