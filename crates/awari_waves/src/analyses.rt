@@ -28,6 +28,9 @@ use std::thread::Threads;
 /// The most threads that share the work.
 const MOST_THREADS: usize = 64;
 
+/// A level of so many boards is cut into a few large segments: enough for four threads.
+const LARGE: u32 = 12 << 22;
+
 /// A level that is being built: all its boards in segments of one length, the last one shorter, and
 /// the room to spread them in.
 #[derive(Drop)]
@@ -274,9 +277,15 @@ fn closed_all(alloc: Global, segments: Vec<Segment>) -> Result<Vec<ClosedPart>, 
 
 /// The power of two that a segment has of boards, if a level has so many: few enough to share them
 /// out among threads, and enough that a list for each segment costs little.
+///
+/// A large level has segments of 32 MB of cells. The C library gives so large a piece back to the
+/// system once it is dropped, so entries need no more memory than cells did.
 fn log_of(boards: u32) -> u32
     ensures { result < 32 }
 {
+    if boards >= LARGE {
+        return 22;
+    }
     (boards / 48).max(1).ilog2().clamp(12, 16)
 }
 
