@@ -46,6 +46,17 @@ impl Board {
         Board { pits }
     }
 
+    /// The position with these stones. It is refused as 3 `TooMany` if they are more than 48.
+    pub fn of(pits: [u8; 12]) -> Result<Self, BoardFault>
+        ensures board { IfOk result (λ board. (board ≡ pits) × (sum pits ≤ 48)) }
+        ensures many { IfErr result (λ fault. (fault ≡ BoardFault.TooMany) × (48 < sum pits)) }
+    {
+        if total(&pits) <= 48 {
+            return Ok(Board::new(pits));
+        }
+        Err(BoardFault::TooMany)
+    }
+
     /// The position that `text` spells, in the form that [`Board::print`] gives. It is the stones of
     /// the twelve pits in decimal, with commas between them and a slash between the two sides.
     ///

@@ -1,6 +1,6 @@
 //! A shelf from the files in a folder.
 
-ghost use Rattle.std.specs.Prelude.{◌≡◌, ℕ, ◌+◌, ◌≤◌, List, Option, IfOk, IfErr, OnOk, IfSome, Err, length, MatchResult};
+ghost use Rattle.std.specs.Prelude.{◌≡◌, ℕ, ◌+◌, ◌≤◌, [], List, Option, IfOk, IfErr, OnOk, OnErr, replicate, IfSome, Err, length, MatchResult};
 ghost use Rattle.awari_table.specs.Counted.{inner_of, faults_of, Grew};
 ghost use Rattle.awari_table.specs.declared.TheConstants.{HIGHEST_LEVEL};
 ghost use Rattle.awari_theory.specs.Truth.{TellsTruth};
@@ -19,13 +19,49 @@ use std::io::Read;
 use std::sync::Arc;
 use std::thread::Threads;
 
-/// What a folder holds.
+/// What a folder holds, or files that are read one by one.
 #[derive(Drop)]
 pub struct Stored {
     /// The levels whose files are there, from level 0 on.
     pub shelf: Shelf,
     /// The digest of the last of the files, zeros for none.
     pub digest: [u8; 32],
+}
+
+impl Stored {
+    /// No level yet. It takes no memory.
+    pub fn empty() -> Stored
+        ensures shelf { result.shelf ≡ [] }
+        ensures digest { result.digest ≡ replicate 32 0 }
+    {
+        Stored {
+            shelf: Shelf::empty(),
+            digest: [0; 32],
+        }
+    }
+
+    /// Puts the next level on top, if these bytes are its file and the level is right over those below.
+    /// Otherwise it is refused as 81, 86, 80 or 83, or as 84 if memory runs out, and what is stored stays
+    /// as it is. It takes memory for three bytes a board, which the level keeps.
+    pub fn add(&mut self, alloc: Global, bytes: &[u8]) -> Result<(), FolderFault>
+        ensures ok { OnOk result (IsNextFile self.old.shelf self.old.digest bytes.now self.new.shelf self.new.digest) }
+        // What the shelf says of each of its boards is the truth: following its plans secures the value,
+        // soon, the value is what the board is worth, and the distance is the least.
+        ensures meaning { OnOk result (TellsTruth self.new.shelf) }
+        ensures fault { IfErr result (IsFileFault self.old.shelf self.old.digest bytes.now) }
+        ensures named { IfErr result (Names (length self.old.shelf)) }
+        ensures kept { OnErr result (self.new ≡ self.old) }
+    {
+        let digest = put_on(
+            &|shelf: &Shelf, image: Image| verify(shelf, image),
+            alloc,
+            &mut self.shelf,
+            self.digest,
+            &mut Counted::new(bytes),
+        )?;
+        self.digest = digest;
+        Ok(())
+    }
 }
 
 /// Loads the levels of a folder: the files `level_00.awdb`, `level_01.awdb` and so on, up to the
@@ -192,6 +228,7 @@ fn put_on<V: Fn(&Shelf, Image) -> Result<Level, VerifyFault>, R: Read>(
     ensures levels { OnOk result (length shelf.new ≡ length shelf.old + 1) }
     ensures named { IfErr result (Names (length shelf.old)) }
     ensures of_file { IfErr result IsOfFile }
+    ensures kept { OnErr result (shelf.new ≡ shelf.old) }
 {
     let level = shelf.levels();
     let loaded = match read_image(alloc, reader) {

@@ -32,4 +32,4 @@ pub use laws::{lowest_levels_are_one, lowest_plans_stay};
 pub use lines::{Line, LineFault, best_line};
 pub use lowering::least;
 pub use weighing::{MOVES_ROOM, MovesText, Weighed, text_of_line, weigh};
-pub use worths::{MoveWorth, move_worths};
+pub use worths::{MoveWorth, move_worths, worth_of};

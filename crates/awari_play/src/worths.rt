@@ -58,8 +58,9 @@ fn worths_of(shelf: &Shelf, board: &Board) -> ArrayVec<MoveWorth, 6>
     worths
 }
 
-/// What a legal pit is worth of a board whose level is on the shelf.
-fn worth_of(shelf: &Shelf, board: &Board, pit: u8) -> MoveWorth
+/// What a pit of a board is worth. Conditions: the board's level is on the shelf, and the pit is legal. It
+/// takes no memory.
+pub fn worth_of(shelf: &Shelf, board: &Board, pit: u8) -> MoveWorth
     requires known { sum board.now < length shelf.now }
     requires legal { IsLegal board.now pit }
     ensures { IsWorthOf (table_of shelf.now) board.now pit result }

@@ -49,7 +49,7 @@ pub returns-clause-exact : goal.returns-clause-exact
 returns-clause-exact g c = λ names are.
     let i = c.loop-level.invariant in
     elim c.loop-level-test.branch [
-      else-loop-level-test w ↦ rw (w.shelf-is, w.digest-is) (stored_to c.args.most names c.loop-level.level c.loop-level.shelf c.loop-level.digest i.levels (i.held names are)
+      | else-loop-level-test w ↦ rw (w.shelf-is, w.digest-is) (stored_to c.args.most names c.loop-level.level c.loop-level.shelf c.loop-level.digest i.levels (i.held names are)
           (let end = c.loop-level.auto.level-end in omega (arith, end)) (inr (let end = w.loop-level-test.false in omega (arith, end))))
       | then-loop-level-test+in-Ok-None w ↦ rw (w.shelf-is, w.digest-is) (stored_to c.args.most names c.loop-level.level c.loop-level.shelf c.loop-level.digest i.levels (i.held names are)
           (let low = w.loop-level-test.true in omega (arith, low))
@@ -57,9 +57,9 @@ returns-clause-exact g c = λ names are.
       | then-loop-level-test+in-Ok-Some+in_ok-digest-in-Ok-Some+else-level-most w ↦ rw (w.shelf-is, w.digest-is) (stored_to c.args.most names (c.loop-level.level + 1) w.put_on.new.shelf w.in_ok-digest-in-Ok-Some.digest
           (w.in_ok-digest-in-Ok-Some.ensures.levels ∙ ap (λ n. n + 1) i.levels)
           (next_level names c.loop-level.level c.loop-level.shelf c.loop-level.digest w.put_on.new.shelf w.in_ok-digest-in-Ok-Some.digest (i.held names are)
-              (of_name g.F.File.Read.remaining _ _ _ w.in-Ok-Some.file (λ bytes. IsNextFile c.loop-level.shelf c.loop-level.digest bytes w.put_on.new.shelf w.in_ok-digest-in-Ok-Some.digest)
-              w.new.ensures.inner (i.stands c.loop-level.level ∙ are c.loop-level.level) (subst (λ o. Opens g.F.File.Read.remaining (g.F.Folder.stands c.loop-level.folder c.loop-level.level) o) w.in-Ok-Some.field-0-is w.in-Ok-Some.ensures.opened)
-              w.in_ok-digest-in-Ok-Some.ensures.ok))
+          (of_name g.F.File.Read.remaining _ _ _ w.in-Ok-Some.file (λ bytes. IsNextFile c.loop-level.shelf c.loop-level.digest bytes w.put_on.new.shelf w.in_ok-digest-in-Ok-Some.digest)
+          w.new.ensures.inner (i.stands c.loop-level.level ∙ are c.loop-level.level) (subst (λ o. Opens g.F.File.Read.remaining (g.F.Folder.stands c.loop-level.folder c.loop-level.level) o) w.in-Ok-Some.field-0-is w.in-Ok-Some.ensures.opened)
+          w.in_ok-digest-in-Ok-Some.ensures.ok))
           (let low = w.loop-level-test.true in omega (arith, low))
           (inr (search rules)))
     ]

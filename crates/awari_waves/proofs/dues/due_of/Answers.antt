@@ -29,19 +29,19 @@ pub returns-then-eq-clause-none : goal.returns-then-eq-clause-none
 returns-then-eq-clause-none c =
     let read = read_part c.args.segments.now c.loop-segment.segment-index c.segment-item.result c.loop-segment-test.true c.segment-item.is in
     let near = IsNearest-at_once c.args.from c.args.segments.now c.loop-segment.segment-index c.segment-item.result c.due-found.result c.loop-segment-test.true read c.requires.far
-        (option_is c.due-found.result c.args.from (sym c.if-eq.true ∙ c.eq.ensures)) c.due-found.ensures.some in
+    (option_is c.due-found.result c.args.from (sym c.if-eq.true ∙ c.eq.ensures)) c.due-found.ensures.some in
     near.none
 
 pub returns-then-eq-clause-least : goal.returns-then-eq-clause-least
 returns-then-eq-clause-least c =
     let read = read_part c.args.segments.now c.loop-segment.segment-index c.segment-item.result c.loop-segment-test.true c.segment-item.is in
     let near = IsNearest-at_once c.args.from c.args.segments.now c.loop-segment.segment-index c.segment-item.result c.due-found.result c.loop-segment-test.true read c.requires.far
-        (option_is c.due-found.result c.args.from (sym c.if-eq.true ∙ c.eq.ensures)) c.due-found.ensures.some in
+    (option_is c.due-found.result c.args.from (sym c.if-eq.true ∙ c.eq.ensures)) c.due-found.ensures.some in
     near.least
 
 pub returns-then-eq-clause-some : goal.returns-then-eq-clause-some
 returns-then-eq-clause-some c =
     let read = read_part c.args.segments.now c.loop-segment.segment-index c.segment-item.result c.loop-segment-test.true c.segment-item.is in
     let near = IsNearest-at_once c.args.from c.args.segments.now c.loop-segment.segment-index c.segment-item.result c.due-found.result c.loop-segment-test.true read c.requires.far
-        (option_is c.due-found.result c.args.from (sym c.if-eq.true ∙ c.eq.ensures)) c.due-found.ensures.some in
+    (option_is c.due-found.result c.args.from (sym c.if-eq.true ∙ c.eq.ensures)) c.due-found.ensures.some in
     near.some
