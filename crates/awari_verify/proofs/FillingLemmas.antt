@@ -4,7 +4,7 @@ use Rattle.std.proofs.lemmas.Bool.{cases_lt, false≢true}
 use Rattle.std.proofs.lemmas.Bool.Decides.{nat_tests}
 use Rattle.std.proofs.lemmas.List.{length-take-le, take-append-drop}
 use Rattle.std.proofs.lemmas.List.Sums.{sum_by-append, sum_by-take-drop}
-use Rattle.std.proofs.Math.Seq.{take-append_seam, drop-append_seam}
+use Rattle.std.proofs.Math.Seq.{take-append_seam}
 use Rattle.std.specs.Ordering.{nat_cmp, is_lt, ordering_then}
 use Rattle.std.specs.Cmp.Lexicographic.{slice_cmp}
 use Rattle.std.specs.declared.cmp.Ordering.TheVariants.{Greater}
@@ -140,11 +140,7 @@ fillings_first k p long stones = (
 
 -- ---- boards joined from two fillings
 
--- what lies behind six pits
-behind : (front back : List ℕ) → length front ≡ 6 → drop 6 (front ++ back) ≡ back
-behind front back long = ap (λ (n : ℕ). drop n (front ++ back)) (sym long) ∙ drop-append_seam front back
-
-pub turned_front : (h : List ℕ) → length h ≡ 12 → take 6 (turned h) ≡ drop 6 h
+turned_front : (h : List ℕ) → length h ≡ 12 → take 6 (turned h) ≡ drop 6 h
 turned_front h long = ap (λ (n : ℕ). take n (turned h)) (sym (halved h long).back) ∙ take-append_seam (drop 6 h) (take 6 h)
 
 -- the filling of the own pits of a board, moved there
