@@ -10,11 +10,11 @@ use Rattle.awari_verify.specs.declared.pieces.Nearest.{Nearest}
 use Rattle.awari_verify.specs.declared.rules.Rule.{Rule}
 
 -- nothing was to be looked at
-pub Looks-none : (asked : Distances) (t : Table) (level : ℕ) (In : List ℕ → Type 0) (a : Nearest) → ((p : List ℕ) → In p → ⊥) → Looks asked t level In a a
+pub Looks-none : (asked : Distances) (t : Table) (level : ℕ) (In : List ℕ → Type 0) (a : Nearest) → ((p : List ℕ) → IsBoard p → sum p ≡ level → In p → ⊥) → Looks asked t level In a a
 Looks-none asked t level In a empty = record {
   nearer = omega arith;
   known = λ end k. k;
-  right = λ p board stones here lt. absurd (empty p here);
+  right = λ p board stones here lt. absurd (empty p board stones here);
 }
 
 -- fewer boards

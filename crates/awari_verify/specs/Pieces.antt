@@ -28,9 +28,14 @@ other_filling p = rank_of (none ++ drop 6 p)
 abbrev pub own_filling : List ℕ → ℕ
 own_filling p = rank_of (none ++ take 6 p)
 
--- The number of a board's piece. There are 64 for each number of stones in pits 0 to 5, and a tile is 64 fillings of the others.
+-- The number of a board's piece. A tile is 64 fillings of pits 6 to 11. Tiles are shared among 64 parts, and each part among 25
+-- pieces by the stones in pits 0 to 5. The parts are mixed, so that pieces beside each other have boards enough and not too many.
 abbrev pub piece_of : List ℕ → ℕ
-piece_of p = own_stones p * 64 + other_filling p / 64 % 64
+piece_of p = (other_filling p / 64 * 9 + own_stones p * 16) % 64 * 25 + own_stones p
+
+-- the part of a piece: the number of its first tile
+abbrev pub part_of : ℕ → ℕ
+part_of piece = (piece / 25 + piece % 25 * 48) * 57 % 64
 
 -- the board is of a run, of a tile
 abbrev pub InRun : ℕ → ℕ → List ℕ → Type 0

@@ -10,9 +10,9 @@ ghost use Rattle.awari_verify.specs.FirstFailure.{RightBetween, IsRefusal};
 ghost use Rattle.awari_verify.specs.Pieces.{IsFound};
 ghost use Rattle.awari_verify.specs.declared.verdicts.VerifyFault.{VerifyFault};
 ghost use Rattle.awari_verify.specs.declared.pieces.Nearest.{Nearest as Breach};
-ghost use Rattle.awari_verify.specs.declared.pieces.TheConstants.{PARTS};
+ghost use Rattle.awari_verify.specs.declared.pieces.TheConstants.{PIECES};
 
-use crate::pieces::{Nearest, first_refusal, look_in_piece, pieces_of};
+use crate::pieces::{Nearest, PIECES, first_refusal, look_in_piece};
 use crate::rules::Rule;
 use crate::search::Refusal;
 use crate::verdicts::{VerifyFault, boards_of};
@@ -110,16 +110,16 @@ fn found_in_pieces<R: Threads + Sync>(
 ) -> Result<Vec<Nearest>, AllocError>
     requires shaped { IsShaped Distances.Least shelf.now image.now }
     requires sized { boards ≡ size_of image.now.level }
-    ensures all { IfOk result (λ pieces. PARTS * (image.now.level + 1) ≡ vec_len pieces) }
+    ensures all { IfOk result (λ pieces. vec_len pieces ≡ PIECES) }
     ensures each { IfOk result (λ pieces. (k : ℕ) (d : Breach) → k < vec_len pieces
         → IsFound (table_of (shelf.now ++ image.now ∷ [])) image.now.level boards k (slice_index_or pieces.items k d)) }
 {
-    (0..u64::from(pieces_of(image.level)))
+    (0..u64::from(PIECES))
         .into_par_iter()
         .with_min_len(1)
         .map(
             |piece: u64| -> Nearest
-                requires { IsShaped Distances.Least shelf.now image.now × (boards ≡ size_of image.now.level) × (piece < PARTS * (image.now.level + 1)) }
+                requires { IsShaped Distances.Least shelf.now image.now × (boards ≡ size_of image.now.level) × (piece < PIECES) }
                 ensures { IsFound (table_of (shelf.entry.now ++ image.entry.now ∷ [])) image.entry.now.level boards piece result }
             { found_in_piece(shelf, image, boards, piece as u32) },
         )
@@ -130,7 +130,7 @@ fn found_in_pieces<R: Threads + Sync>(
 fn found_in_piece(shelf: &Shelf, image: &Image, boards: u32, piece: u32) -> Nearest
     requires shaped { IsShaped Distances.Least shelf.now image.now }
     requires sized { boards ≡ size_of image.now.level }
-    requires piece { piece < PARTS * (image.now.level + 1) }
+    requires piece { piece < PIECES }
     ensures { IsFound (table_of (shelf.now ++ image.now ∷ [])) image.now.level boards piece result }
 {
     look_in_piece(Distances::Least, shelf, image, piece, Nearest::none(boards))

@@ -23,8 +23,14 @@ use awari_table::{Distances, Image, Shelf};
 /// How many fillings of pits 6 to 11 a tile has.
 const TILE: u32 = 64;
 
-/// The boards with as many stones in pits 0 to 5 are shared among so many pieces.
-pub const PARTS: u32 = 64;
+/// The tiles are shared among so many parts.
+const PARTS: u32 = 64;
+
+/// Pits 0 to 5 have 0 to 24 stones. By how many they are, each part is cut into pieces.
+const OWN: u32 = 25;
+
+/// How many pieces a level has. Some have no boards.
+pub const PIECES: u32 = PARTS * OWN;
 
 /// The board of the smallest rank that is known to break a rule, and the first rule that it breaks.
 /// While none is known, the rank is the number of boards.
@@ -76,14 +82,6 @@ struct Run {
     count: u32,
 }
 
-/// How many pieces a level has. Some have no boards.
-pub fn pieces_of(level: u8) -> u32
-    requires { level ≤ 24 }
-    ensures { result ≡ PARTS * (level + 1) }
-{
-    PARTS * (u32::from(level) + 1)
-}
-
 /// The first refusal of a level, whose pieces are looked at one after the other.
 pub fn first_refusal(asked: Distances, shelf: &Shelf, image: &Image, boards: u32) -> Option<Refusal>
     requires shaped { IsShaped asked shelf.now image.now }
@@ -93,13 +91,16 @@ pub fn first_refusal(asked: Distances, shelf: &Shelf, image: &Image, boards: u32
         (λ r. IsRefusal asked (table_of (shelf.now ++ image.now ∷ [])) image.now.level 0 boards r.rank r.rule) }
 {
     let mut found = Nearest::none(boards);
-    for piece in 0..pieces_of(image.level) {
+    for piece in 0..PIECES {
         found = look_in_piece(asked, shelf, image, piece, found);
     }
     found.refusal()
 }
 
 /// Looks for a refusal among the boards of this piece. Those behind the nearest one known are left out.
+///
+/// Threads get pieces that lie beside each other. So the parts are mixed: without that, some threads
+/// would have far more boards than others.
 pub fn look_in_piece(
     asked: Distances,
     shelf: &Shelf,
@@ -108,14 +109,19 @@ pub fn look_in_piece(
     nearest: Nearest,
 ) -> Nearest
     requires shaped { IsShaped asked shelf.now image.now }
-    requires piece { piece < PARTS * (image.now.level + 1) }
+    requires piece { piece < PIECES }
     requires within { nearest.rank ≤ size_of image.now.level }
     ensures { Looks asked (table_of (shelf.now ++ image.now ∷ [])) image.now.level (λ p. piece_of p ≡ piece) nearest result }
 {
-    let stones = image.level - (piece / PARTS) as u8;
+    let own = piece % OWN;
+    if own as u8 > image.level {
+        return nearest;
+    }
+    let stones = image.level - own as u8;
+    let part = (piece / OWN + own * 48) * 57 % PARTS;
     let fillings = fillings(stones);
     let mut found = nearest;
-    let mut start = u64::from(piece % PARTS * TILE);
+    let mut start = u64::from(part * TILE);
     while start < u64::from(fillings) {
         let tile = Run {
             first: PackedBoard::unrank(stones, start as u32),

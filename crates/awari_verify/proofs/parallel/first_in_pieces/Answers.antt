@@ -7,13 +7,14 @@ use Rattle.awari_verify.specs.declared.pieces.Nearest.{Nearest}
 use Rattle.awari_verify.specs.declared.search.Refusal.{Refusal}
 use Rattle.awari_verify.proofs.LookLemmas.{Looks-none, Looks-both, Looks-all}
 use Rattle.awari_verify.proofs.PieceLemmas.{piece_before, piece_inside}
+use Rattle.awari_verify.proofs.TileLemmas.{highest_low}
 use Rattle.awari_verify.proofs.parallel.first_in_pieces.Goals as goal
 
 pub loop-found-init : goal.loop-found-init
 loop-found-init g c =
     let T = table_of (c.args.shelf.now ++ c.args.image.now ∷ []) in
     subst (λ (s : Nearest). Looks Least T c.args.image.now.level (λ p. piece_of p < 0) (record { rank = c.args.boards; rule = None }) s) (sym c.none-nearest.ensures)
-    (Looks-none _ _ _ _ _ (λ p before. omega (arith, before)))
+    (Looks-none _ _ _ _ _ (λ p board stones before. omega (arith, before)))
 
 pub loop-found-preserved : goal.loop-found-preserved
 loop-found-preserved g c =
@@ -32,7 +33,8 @@ returns g c =
     let T = table_of (c.args.shelf.now ++ c.args.image.now ∷ []) in
     subst (λ (found : Option Refusal). MatchOption found (RightBetween Least T c.args.image.now.level 0 c.args.boards) (λ r. IsRefusal Least T c.args.image.now.level 0 c.args.boards r.rank r.rule)) (sym c.refusal.ensures)
     (Looks-all _ _ _ _ _ _ c.loop-found.invariant (λ p board stones.
-    let inside = piece_inside p c.args.image.now.level stones in
+    let low = c.requires.shaped.low in
+    let inside = piece_inside p c.args.image.now.level (omega (arith, low, highest_low Least)) stones in
     let end = c.loop-found-test.false in
     let long = c.deref-found-items.ensures.len in
     let all = c.in_ok-pieces.ensures.all in

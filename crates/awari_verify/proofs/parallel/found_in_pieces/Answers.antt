@@ -1,4 +1,4 @@
-use Rattle.std.proofs.Common.{◌≡◌, ◌+◌, ◌-◌, ◌*◌, ◌<◌, ◌++◌, ◌∷◌, [], length, vec_len, subst, ap, ◌∙◌, arith}
+use Rattle.std.proofs.Common.{◌≡◌, ◌-◌, ◌<◌, ◌++◌, ◌∷◌, [], length, vec_len, subst, ap, ◌∙◌, arith}
 use Rattle.std.specs.List.{range_with_len, AllZip}
 use Rattle.rayon.specs.Numbers.{nat_range}
 use Rattle.rayon.proofs.ListFacts.{IfOk-then}
@@ -12,8 +12,7 @@ pub collect-requires-clause-ready : goal.collect-requires-clause-ready
 collect-requires-clause-ready g c κs within =
     let ends = c.into_par_iter.ensures in
     let from = c.from.ensures in
-    let all = c.pieces_of.ensures in
-    let inside = nat_range-All (λ i. i < 64 * (c.args.image.now.level + 1)) 0 c.from.result (λ i low high. omega (arith, from, all, high)) in
+    let inside = nat_range-All (λ i. i < 1600) 0 c.from.result (λ i low high. omega (arith, from, high)) in
     rw (c.map.ensures.base, c.map.ensures.f, c.with_min_len.ensures.base, ends.0, ends.1) (λ k d lt. ((c.requires.shaped, c.requires.sized, inside k d lt), λ y p. tt))
 
 pub returns-clause-all : goal.returns-clause-all
@@ -28,8 +27,7 @@ returns-clause-all g c =
     let long = length-numbered R 0 n h.0 (subst (λ l. AllZip R l h.0) places chain.2) in
     let same : vec_len v ≡ length h.0 = v.ok.0 ∙ ap length h.2 in
     let from = c.from.ensures in
-    let all = c.pieces_of.ensures in
-    omega (arith, long, same, from, all))
+    omega (arith, long, same, from))
 
 pub returns-clause-each : goal.returns-clause-each
 returns-clause-each g c =

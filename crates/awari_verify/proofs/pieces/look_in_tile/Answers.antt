@@ -7,7 +7,7 @@ use Rattle.awari_verify.proofs.pieces.look_in_tile.Goals as goal
 
 pub loop-done-init : goal.loop-done-init
 loop-done-init c = record {
-  looks = Looks-none _ _ _ _ _ (λ p here. let before = here.1 in omega (arith, before));
+  looks = Looks-none _ _ _ _ _ (λ p board stones here. let before = here.1 in omega (arith, before));
   within = c.requires.within;
   is_board = c.unrank-filling.ensures.board;
   stones = c.unrank-filling.ensures.stones;
