@@ -1,0 +1,4 @@
+pub mod Mapping
+pub mod Numbers
+pub mod Sixes
+pub mod Values

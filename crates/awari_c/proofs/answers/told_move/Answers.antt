@@ -1,0 +1,9 @@
+use Rattle.std.proofs.Common.{ap, rules}
+use Rattle.awari_c.specs.declared.answers.PlainMove.{PlainMove}
+use Rattle.awari_c.proofs.answers.told_move.Goals as goal
+
+pub returns : goal.returns
+returns c = record {
+  legal = (λ _. search rules, λ _. ap (λ (m : PlainMove). m.legal) c.told_worth.ensures);
+  worth = λ _. (c.worth_of.result, c.worth_of.ensures, c.told_worth.ensures);
+}

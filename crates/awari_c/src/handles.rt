@@ -1,0 +1,86 @@
+//! What a program holds from one call to the next.
+
+ghost use Rattle.std.specs.Prelude.{◌≡◌, true, false, Some, None, option_map};
+ghost use Rattle.awari_folder.specs.declared.loading.Stored.{Stored};
+ghost use Rattle.awari_c.specs.Owned.{stored_in};
+
+use crate::loose::Loose;
+use awari_folder::Stored;
+use std::alloc::Global;
+use std::marker::Model;
+use std::mem::replace;
+use std::ptr::null_mut;
+
+/// A stored on the heap while it is open, and nothing while it is closed. All zeros are a handle that is
+/// closed.
+#[repr(C)]
+#[derive(Drop)]
+pub struct Handle {
+    at: *mut u8,
+    is_open: bool,
+    pub ghost stored: { Stored },
+}
+
+impl Model for Handle {
+    ghost use Rattle.awari_folder.specs.declared.loading.Stored.{Stored};
+    ghost use Rattle.awari_c.specs.Owned.{owned};
+
+    ghost also_owns = { λ h. owned h.is_open h.at h.stored };
+}
+
+impl Handle {
+    ghost use Rattle.awari_c.specs.Owned.{stored_in};
+
+    /// The handle that holds no stored.
+    fn closed() -> Handle
+        ensures { result.is_open ≡ false }
+    {
+        Handle {
+            at: null_mut(),
+            is_open: false,
+        }
+    }
+
+    /// The handle that holds this stored.
+    fn holding(loose: Loose<Stored, Global>) -> Handle
+        ensures { (result.is_open ≡ true) × (result.stored ≡ loose.value) }
+    {
+        let Loose { at, alloc: _ } = loose;
+        Handle {
+            at: at as *mut u8,
+            is_open: true,
+        }
+    }
+
+    /// The stored that the handle holds, none while it is closed.
+    fn into_loose(self, alloc: Global) -> Option<Loose<Stored, Global>>
+        ensures { option_map (λ l. l.value) result ≡ stored_in self.is_open self.stored }
+    {
+        let Handle { at, is_open } = self;
+        if is_open {
+            let at = at as *mut Stored;
+            Some(Loose { at, alloc })
+        } else {
+            None
+        }
+    }
+}
+
+/// Takes the stored out of the handle, which is closed then.
+pub(crate) fn take(handle: &mut Handle, alloc: Global) -> Option<Box<Stored>>
+    ensures stored { option_map (λ b. b.value) result ≡ stored_in handle.old.is_open handle.old.stored }
+    ensures closed { handle.new.is_open ≡ false }
+{
+    let held = replace(handle, Handle::closed());
+    let loose = held.into_loose(alloc)?;
+    Some(loose.into_box())
+}
+
+/// Puts a stored into a handle. What the handle held before is left where it is, so the handle is to
+/// be closed.
+pub(crate) fn put(handle: &mut Handle, stored: Box<Stored>)
+    ensures open { handle.new.is_open ≡ true }
+    ensures stored { handle.new.stored ≡ stored.value }
+{
+    *handle = Handle::holding(Loose::of(stored));
+}
