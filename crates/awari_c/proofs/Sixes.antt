@@ -15,7 +15,7 @@ six P a b c d e f p q r s t u (suc (suc (suc (suc zero)))) x low = t
 six P a b c d e f p q r s t u (suc (suc (suc (suc (suc zero))))) x low = u
 six P a b c d e f p q r s t u (suc (suc (suc (suc (suc (suc i)))))) x low = absurd (omega (arith, low))
 
--- the levels of a stored that is held are its own
+-- the levels that are held are those of the handle
 abbrev levels_of : Option Stored → List Image
 levels_of (Some stored) = stored.shelf
 levels_of None = []

@@ -1,4 +1,4 @@
--- What a handle owns, and the stored that it holds.
+-- What a handle owns, and the levels that it holds.
 use Rattle.std.specs.Prelude.{Bool, true, false, ℕ, Option, Some, None, List, [], replicate}
 use base.Fml.{Fml, ftrue}
 use mir.Syntax.{Ty}
@@ -18,17 +18,17 @@ heap = record { memory = record { seal = tt } }
 abbrev pub block : Ty → Ptr → Fml
 block ty at = ghosts.dealloc_token heap ty at
 
--- While it is open, the stored at the pointer and the right to free its block.
+-- While it is open, the levels at the pointer and the right to free its block.
 abbrev pub owned : Bool → Ptr → Stored → Fml
 owned true at stored = box_owns block the_row at stored
 owned false at stored = ftrue
 
--- the stored of a handle that is open
+-- what is stored in a handle that is open
 abbrev pub stored_in : Bool → Stored → Option Stored
 stored_in true stored = Some stored
 stored_in false stored = None
 
--- the levels of that stored, none while there is no stored
+-- its levels, none while it is closed
 abbrev pub levels_in : Bool → Stored → List Image
 levels_in true stored = stored.shelf
 levels_in false stored = []

@@ -1,5 +1,5 @@
 -- What is told as numbers.
-use Rattle.std.specs.Prelude.{◌≡◌, ◌↔◌, ℕ, true, List}
+use Rattle.std.specs.Prelude.{◌≡◌, ◌↔◌, ℕ, true, false, List, pos}
 use Rattle.awari_board.specs.Rules.{IsLegal}
 use Rattle.awari_play.specs.MoveWorth.{IsWorthOf}
 use Rattle.awari_play.specs.declared.worths.MoveWorth.{MoveWorth}
@@ -72,7 +72,12 @@ pub record IsRefusal (levels : List Image) (below bytes : List ℕ) (number : �
 abbrev pub told_worth : MoveWorth → PlainMove
 told_worth w = record { legal = true; captured = w.captured; value = w.value; plies = w.plies }
 
+-- a pit that can't be played
+abbrev pub no_move : PlainMove
+no_move = record { legal = false; captured = 0; value = pos 0; plies = 0 }
+
 -- It is said to be legal exactly where it is, and then what it is worth.
 pub record TellsMove (t : Table) (board : List ℕ) (pit : ℕ) (m : PlainMove) : Type 0 where
   pub legal : (m.legal ≡ true) ↔ IsLegal board pit
   pub worth : m.legal ≡ true → (w : MoveWorth) × IsWorthOf t board pit w × (m ≡ told_worth w)
+  pub rest : m.legal ≡ false → m ≡ no_move

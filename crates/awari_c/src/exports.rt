@@ -197,7 +197,7 @@ pub extern "C" fn awari_share(from: &mut Handle, to: &mut Handle, alloc: Global)
     }
 }
 
-/// A stored with the same levels, none if memory runs out.
+/// The same levels once more, none if memory runs out.
 fn shared_levels(stored: &Stored, alloc: Global) -> Option<Box<Stored>>
     ensures { IfSome result (λ shared. shared.value ≡ stored.now) }
 {

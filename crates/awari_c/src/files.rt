@@ -12,13 +12,18 @@ use crate::answers::PlainEntry;
 use crate::exports::{MEMORY, NOT_YET, TOO_MANY};
 use awari_board::Board;
 use awari_file::{FileFault, OLD_VERSION, read_image};
-use awari_folder::FolderFault;
 use awari_rank::{rank, size};
 use awari_table::{Counted, HIGHEST_LEVEL};
 use std::alloc::Global;
 
 /// The bytes are not as many as those of the file: the number of `FileFault::Truncated`.
 const TRUNCATED: u8 = 60;
+
+/// The file is of version 1: the number of `FolderFault::Old`.
+const OLD: u8 = 86;
+
+/// The file does not name that digest: the number of `FolderFault::Below`.
+const BELOW: u8 = 80;
 
 /// How many bytes of a file come before its entries.
 const HEADER: usize = 52;
@@ -34,6 +39,9 @@ const ENTRY: usize = 6;
 pub extern "C" fn awari_probe_file(bytes: &[u8], pits: &[u8; 12], out: &mut PlainEntry) -> u8
     ensures entry { result ≡ 0 → (version : ℕ) (image : Image) (below : List ℕ) → HasFile version image below → image.level ≡ sum pits.now
         → bytes.now ≡ file_text version image below → out.new ≡ told_entry (entry_in image pits.now) }
+    ensures many { 48 < sum pits.now → result ≡ 3 }
+    ensures high { 24 < sum pits.now → sum pits.now ≤ 48 → result ≡ 59 }
+    ensures short { sum pits.now ≤ 24 → result ≢ 0 → result ≡ 60 }
     ensures sized { sum pits.now ≤ 24 → (result ≡ 0) ↔ (length bytes.now ≡ 84 + 6 * size_of (sum pits.now)) }
     ensures untouched { result ≢ 0 → out.new ≡ out.old }
 {
@@ -107,9 +115,3 @@ pub extern "C" fn awari_check_file(
     *digest = loaded.digest;
     0
 }
-
-/// The file is of version 1: the number of `FolderFault::Old`.
-const OLD: u8 = 86;
-
-/// The file does not name that digest: the number of `FolderFault::Below`.
-const BELOW: u8 = 80;

@@ -11,7 +11,7 @@ use std::marker::Model;
 use std::mem::replace;
 use std::ptr::null_mut;
 
-/// A stored on the heap while it is open, and nothing while it is closed. All zeros are a handle that is
+/// Levels on the heap while it is open, and nothing while it is closed. All zeros are a handle that is
 /// closed.
 #[repr(C)]
 #[derive(Drop)]
@@ -31,7 +31,7 @@ impl Model for Handle {
 impl Handle {
     ghost use Rattle.awari_c.specs.Owned.{stored_in};
 
-    /// The handle that holds no stored.
+    /// The handle that holds no levels.
     fn closed() -> Handle
         ensures { result.is_open ≡ false }
     {
@@ -41,7 +41,7 @@ impl Handle {
         }
     }
 
-    /// The handle that holds this stored.
+    /// The handle that holds these levels.
     fn holding(loose: Loose<Stored, Global>) -> Handle
         ensures { (result.is_open ≡ true) × (result.stored ≡ loose.value) }
     {
@@ -52,7 +52,7 @@ impl Handle {
         }
     }
 
-    /// The stored that the handle holds, none while it is closed.
+    /// The levels that the handle holds, none while it is closed.
     fn into_loose(self, alloc: Global) -> Option<Loose<Stored, Global>>
         ensures { option_map (λ l. l.value) result ≡ stored_in self.is_open self.stored }
     {
@@ -66,7 +66,7 @@ impl Handle {
     }
 }
 
-/// Takes the stored out of the handle, which is closed then.
+/// Takes the levels out of the handle, which is closed then.
 pub(crate) fn take(handle: &mut Handle, alloc: Global) -> Option<Box<Stored>>
     ensures stored { option_map (λ b. b.value) result ≡ stored_in handle.old.is_open handle.old.stored }
     ensures closed { handle.new.is_open ≡ false }
@@ -76,7 +76,7 @@ pub(crate) fn take(handle: &mut Handle, alloc: Global) -> Option<Box<Stored>>
     Some(loose.into_box())
 }
 
-/// Puts a stored into a handle. What the handle held before is left where it is, so the handle is to
+/// Puts levels into a handle. What the handle held before is left where it is, so the handle is to
 /// be closed.
 pub(crate) fn put(handle: &mut Handle, stored: Box<Stored>)
     ensures open { handle.new.is_open ≡ true }

@@ -1,4 +1,4 @@
--- `closed` makes the handle with no stored.
+-- `closed` makes the handle with no levels.
 use Rattle.std.proofs.Common.{◌≡◌, [], ◌∷◌, refl, lit<}
 use Rattle.std.specs.Prelude.{false}
 use mir.Val.{Val, vbool, vnull}
