@@ -1,8 +1,6 @@
 -- Steps over a reader: what a piece of its bytes gives is what all that it has left gives.
 use Rattle.std.proofs.Common.{◌≡◌, ℕ, zero, suc, ◌<◌, ◌≤◌, List, [], ◌∷◌, ◌++◌, length, Option, Some, None, Result, Ok, Err, refl, sym, ap, subst, ◌∙◌, ◌⊎◌, inl, inr, append_assoc}
 use Rattle.std.specs.Io.KnownBytes.{Consumes, IsAtEnd}
-use Rattle.sha2.specs.Hashers.{Holds256}
-use Rattle.sha2.specs.declared.Sha256.{Sha256}
 use Rattle.awari_file.specs.declared.faults.FileFault.{FileFault}
 use Rattle.awari_file.specs.declared.faults.FileFault.TheVariants as faults
 use Rattle.awari_file.specs.Reading.{Fails, IsOwn}
@@ -25,7 +23,7 @@ consumes_some None b xs front h c = absurd cc
 consumes_some (Some ys) None xs front h c = absurd c
 consumes_some (Some ys) (Some rest) xs front h c = (rest, refl, sym (some_is ys xs h) ∙ c)
 
-end_is : (b : Option (List ℕ)) (rest : List ℕ) → b ≡ Some rest → IsAtEnd b → rest ≡ []
+pub end_is : (b : Option (List ℕ)) (rest : List ℕ) → b ≡ Some rest → IsAtEnd b → rest ≡ []
 end_is None rest h e = absurd cc
 end_is (Some xs) rest h e = sym (some_is xs rest h) ∙ e
 
@@ -51,22 +49,21 @@ IsBytes-append [] ys p q = q
 IsBytes-append (x ∷ xs) ys p q = IsBytes-cons x (xs ++ ys) (p zero) (IsBytes-append xs ys (λ k. p (suc k)) q)
 
 -- a fault in the piece that came
-pub step_fails : (Y : Type 0) (n : ℕ) (f : Reader Y) → IsField Y n f → (s e : FileFault) (front whole left : List ℕ) (a b : Option (List ℕ)) (hasher : Sha256) (old new : ℕ)
-    → IsAt whole left a hasher → Consumes a b front → (length front < n → source.IsWhy s b old new) → f s front ≡ Err e → Fails e (f faults.Truncated left)
-step_fails Y n f is s e front whole left a b hasher old new here took why h =
+pub step_fails : (Y : Type 0) (n : ℕ) (f : Reader Y) → IsField Y n f → (s e : FileFault) (front whole left : List ℕ) (a b : Option (List ℕ)) (old new : ℕ)
+    → IsAt whole left a → Consumes a b front → (length front < n → source.IsWhy s b old new) → f s front ≡ Err e → Fails e (f faults.Truncated left)
+step_fails Y n f is s e front whole left a b old new here took why h =
     let (rest, b-is, parts) = consumes_some a b left front here.known_is took in
     rw parts (piece_fails Y n f is s e front rest (λ lt. why_is s b rest old new b-is (why lt)) h)
 
 -- a value in the piece that came
-pub step_gives : (Y : Type 0) (n : ℕ) (f : Reader Y) → IsField Y n f → (s : FileFault) (front whole left : List ℕ) (x : Y × List ℕ) (a b : Option (List ℕ)) (hasher after : Sha256)
-    → IsAt whole left a hasher → Consumes a b front → length front ≤ n → f s front ≡ Ok x → ((m : List ℕ) → Holds256 hasher m → Holds256 after (m ++ front)) → IsBytes front
-    → (rest : List ℕ) × IsAt whole rest b after × (f faults.Truncated left ≡ Ok (x.0, rest))
-step_gives Y n f is s front whole left x a b hasher after here took small h holds fits =
+pub step_gives : (Y : Type 0) (n : ℕ) (f : Reader Y) → IsField Y n f → (s : FileFault) (front whole left : List ℕ) (x : Y × List ℕ) (a b : Option (List ℕ))
+    → IsAt whole left a → Consumes a b front → length front ≤ n → f s front ≡ Ok x → IsBytes front
+    → (rest : List ℕ) × IsAt whole rest b × (f faults.Truncated left ≡ Ok (x.0, rest))
+step_gives Y n f is s front whole left x a b here took small h fits =
     let (rest, b-is, parts) = consumes_some a b left front here.known_is took in (
       rest,
       record {
         done = here.done ++ front;
-        holds = holds here.done here.holds;
         known_is = b-is;
         parts = here.parts ∙ ap (λ (t : List ℕ). here.done ++ t) parts ∙ sym (append_assoc here.done front rest);
         bytes = IsBytes-append here.done front here.bytes fits;
@@ -75,16 +72,16 @@ step_gives Y n f is s front whole left x a b hasher after here took small h hold
     )
 
 -- the reader's fault in the piece that came
-pub step_stops : (Y : Type 0) (n : ℕ) (f : Reader Y) → IsField Y n f → (s : FileFault) (front whole left : List ℕ) (a b : Option (List ℕ)) (hasher : Sha256)
-    → IsAt whole left a hasher → Consumes a b front → f s front ≡ Err faults.Read → StopsIn (Unfinished f) left b
-step_stops Y n f is s front whole left a b hasher here took h =
+pub step_stops : (Y : Type 0) (n : ℕ) (f : Reader Y) → IsField Y n f → (s : FileFault) (front whole left : List ℕ) (a b : Option (List ℕ))
+    → IsAt whole left a → Consumes a b front → f s front ≡ Err faults.Read → StopsIn (Unfinished f) left b
+step_stops Y n f is s front whole left a b here took h =
     let (rest, b-is, parts) = consumes_some a b left front here.known_is took in
     record { came = front; rest = rest; known_is = b-is; parts = parts; kind = read_stops Y n f is s front h }
 
 -- a fault of a field's own in the piece that came
-pub step_whole : (Y : Type 0) (n : ℕ) (f : Reader Y) → IsField Y n f → (s e : FileFault) (front whole left : List ℕ) (a b : Option (List ℕ)) (hasher : Sha256) (old new : ℕ)
-    → IsAt whole left a hasher → Consumes a b front → (length front < n → source.IsWhy s b old new) → IsOwn e → f s front ≡ Err e → StopsIn (HasFault e f) left b
-step_whole Y n f is s e front whole left a b hasher old new here took why own h =
+pub step_whole : (Y : Type 0) (n : ℕ) (f : Reader Y) → IsField Y n f → (s e : FileFault) (front whole left : List ℕ) (a b : Option (List ℕ)) (old new : ℕ)
+    → IsAt whole left a → Consumes a b front → (length front < n → source.IsWhy s b old new) → IsOwn e → f s front ≡ Err e → StopsIn (HasFault e f) left b
+step_whole Y n f is s e front whole left a b old new here took why own h =
     let (rest, b-is, parts) = consumes_some a b left front here.known_is took in
     record { came = front; rest = rest; known_is = b-is; parts = parts; kind = piece_own Y n f is s e front rest (λ lt. why_is s b rest old new b-is (why lt)) own h }
 
@@ -109,9 +106,9 @@ pub own_not_memory : (d : FileFault) → IsOwn d → d ≡ faults.Memory → ⊥
 own_not_memory d own is = subst IsOwn is own
 
 -- what is right in the piece that came is right in all that is left
-pub step_right : (Y : Type 0) (n : ℕ) (f : Reader Y) → IsField Y n f → (s : FileFault) (front whole left : List ℕ) (a b : Option (List ℕ)) (hasher : Sha256)
-    → IsAt whole left a hasher → Consumes a b front → length front ≤ n → IsOk (f s front) → IsOk (f faults.Truncated left)
-step_right Y n f is s front whole left a b hasher here took small right =
+pub step_right : (Y : Type 0) (n : ℕ) (f : Reader Y) → IsField Y n f → (s : FileFault) (front whole left : List ℕ) (a b : Option (List ℕ))
+    → IsAt whole left a → Consumes a b front → length front ≤ n → IsOk (f s front) → IsOk (f faults.Truncated left)
+step_right Y n f is s front whole left a b here took small right =
     let (rest, b-is, parts) = consumes_some a b left front here.known_is took in
     let (x, h) = value_of (f s front) right in
     ok_from (f faults.Truncated left) (x.0, rest) (ap (f faults.Truncated) parts ∙ piece_gives Y n f is s front rest x small h)

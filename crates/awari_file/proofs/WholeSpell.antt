@@ -1,10 +1,10 @@
 -- A file is spelled and read again.
-use Rattle.std.proofs.Common.{◌≡◌, ℕ, zero, suc, ◌+◌, ◌-◌, ◌^◌, ◌<◌, ◌≤◌, ◌⊎◌, ◌||◌, Bool, true, false, cond, eqb, leb, List, [], ◌∷◌, ◌++◌, length, take, Option, Some, None, Result, Ok, Err, refl, sym, ap, subst, ◌∙◌, append_assoc, arith, inl, inr}
-use Rattle.std.specs.Prelude.{IfSome, IfOk, OnOk, map}
+use Rattle.std.proofs.Common.{◌≡◌, ℕ, zero, suc, ◌+◌, ◌*◌, ◌^◌, ◌<◌, ◌≤◌, ◌⊎◌, ◌||◌, Bool, true, false, cond, eqb, leb, List, [], ◌∷◌, ◌++◌, length, Option, Some, None, Result, Ok, Err, refl, sym, ap, subst, ◌∙◌, append_assoc, arith, inl, inr}
+use Rattle.std.specs.Prelude.{IfSome, map}
 use Rattle.std.specs.List.{flat_map, range_with_len, AllByRecursion}
 use Rattle.std.specs.Int.{w8, w16, w32, w64, to_be_bytes}
 use Rattle.std.proofs.lemmas.Bool.{eqb-true, eq-eqb, leb-true, le-leb}
-use Rattle.std.proofs.lemmas.List.{append-nil, nil_from_length}
+use Rattle.std.proofs.lemmas.List.{append-nil}
 use Rattle.std.proofs.lemmas.Slice.Eq.{bytes_eq-Decides}
 use Rattle.std.specs.Str.{bytes_eq}
 use Rattle.sha2.specs.Sha256.{sha256}
@@ -18,14 +18,14 @@ use Rattle.awari_file.specs.declared.contents.Header.{Header}
 use Rattle.awari_file.specs.declared.contents.Loaded.{Loaded}
 use Rattle.awari_file.specs.declared.faults.FileFault.{FileFault}
 use Rattle.awari_file.specs.declared.faults.FileFault.TheVariants as faults
-use Rattle.awari_file.specs.FileText.{magic_number, header_text, entry_text, body_text, file_text, found_of, highest_in, HasFile, IsFileOf}
+use Rattle.awari_file.specs.FileText.{magic_number, header_text, entry_text, body_text, file_text, found_of, highest_in, HasFile}
 use Rattle.awari_file.specs.Reading.{◌>>=◌, field, number_if, any_number, as_they_are, is_version, digest_if, header_at, entries_at, end_at, file_in}
 use Rattle.awari_file.specs.Source.{Answers}
-use Rattle.awari_file.proofs.FieldLaws.{bind_ok, ok_is}
-use Rattle.awari_file.proofs.FileLaws.{below_on, limit_on, count_on, nought_on, level_on, version_on}
+use Rattle.awari_file.proofs.FieldLaws.{bind_ok, ok_is, took}
+use Rattle.awari_file.proofs.FileLaws.{header-is, entries-is, below_on, limit_on, count_on, nought_on, level_on, version_on}
 use Rattle.awari_file.proofs.SpellLaws.{IsBytes, Takes, Takes-then, Spells, field_again, field_takes, wide16, wide32, wide64, number-spells, any-spells, byte-spells, bytes-spell, test_ok}
 use Rattle.awari_file.proofs.EntryLaws.{entries_again, entries_take}
-use Rattle.awari_file.proofs.WholeLaws.{loaded_of, all_ok, before_is}
+use Rattle.awari_file.proofs.WholeLaws.{after_end, at_the_end, before_is}
 
 -- ---- the header
 
@@ -176,47 +176,40 @@ end_again body s =
     ap (λ (bytes : List ℕ). field 32 (digest_if (sha256 body)) s bytes >>= λ digest. cond (eqb (length digest.1) 0) (Ok digest.0) (Err faults.Trailing)) regrouped
     ∙ ap (λ (r : Result (List ℕ × List ℕ) FileFault). r >>= λ digest. cond (eqb (length digest.1) 0) (Ok digest.0) (Err faults.Trailing)) one
 
-end_take : (body : List ℕ) (s : FileFault) (bytes digest : List ℕ) → IsBytes bytes → end_at body s bytes ≡ Ok digest → (bytes ≡ digest) × (digest ≡ sha256 body)
-unfolding end_at
-end_take body s bytes digest fits e =
-    let a = bind_ok (field 32 (digest_if (sha256 body)) s bytes) (λ d. cond (eqb (length d.1) 0) (Ok d.0) (Err faults.Trailing)) digest e in
-    let t = field_takes (List ℕ) 32 (digest_if (sha256 body)) (λ bs. bs) (λ bs. bs ≡ sha256 body) (digest-spells (sha256 body) (length-sha256 body)) s bytes a.0 fits a.1 in
-    let k = test_ok (eqb (length a.0.1) 0) a.0.0 digest faults.Trailing a.2 in
-    let nothing : a.0.1 ≡ [] = nil_from_length a.0.1 (eqb-true _ _ k.0) in
-    (t.0.parts ∙ ap (λ (r : List ℕ). a.0.0 ++ r) nothing ∙ append-nil a.0.0 ∙ k.1, sym k.1 ∙ t.1)
-
 -- ---- all of it
 
-pub file_again : (version : ℕ) (image : Image) (below : List ℕ) → HasFile version image below → size_of image.level < 2 ^ 64 → file_in (file_text version image below) ≡ Ok (found_of version image below)
-file_again version image below has small =
+-- what follows the body of an image is its end
+pub file_on : (version : ℕ) (image : Image) (below tail : List ℕ) → HasFile version image below → size_of image.level < 2 ^ 64
+    → file_in (body_text version image below ++ tail) ≡ after_end (header_with version image.level image.limit below) image.entries (end_at (body_text version image below) faults.Truncated tail)
+file_on version image below tail has small =
     let body = body_text version image below in
     let h = header_with version image.level image.limit below in
     let fits : FitsHeader h = record { version = has.known; level = has.low; limit = has.limit; below = has.whole; bytes = has.bytes } in
     let es = flat_map entry_text image.entries in
-    let header : header_at faults.Truncated (file_text version image below) ≡ Ok (h, es ++ sha256 body) = ap (header_at faults.Truncated) (append_assoc (text_of h) es (sha256 body)) ∙ header_again h faults.Truncated (es ++ sha256 body) fits small in
-    all_ok (file_text version image below) h (es ++ sha256 body) (length image.entries) image.entries (sha256 body) body (sha256 body) has.sized header (entries_again image.entries faults.Truncated (sha256 body) has.entries) refl (end_again body faults.Truncated)
+    let header : header_at faults.Truncated (body ++ tail) ≡ Ok (h, es ++ tail) = ap (header_at faults.Truncated) (append_assoc (text_of h) es tail) ∙ header_again h faults.Truncated (es ++ tail) fits small in
+    at_the_end (body ++ tail) h (es ++ tail) (length image.entries) image.entries tail body has.sized header (entries_again image.entries faults.Truncated tail has.entries) refl
 
-abbrev after_header : List ℕ → Header → Result (List Entry × List ℕ) FileFault → Result Loaded FileFault
-after_header bytes h read = read >>= λ entries. end_at (take (length bytes - length entries.1) bytes) faults.Truncated entries.1 >>= λ digest. Ok (loaded_of h entries.0 digest)
+pub file_again : (version : ℕ) (image : Image) (below : List ℕ) → HasFile version image below → size_of image.level < 2 ^ 64 → file_in (file_text version image below) ≡ Ok (found_of version image below)
+file_again version image below has small =
+    let body = body_text version image below in
+    file_on version image below (sha256 body) has small ∙ ap (after_end (header_with version image.level image.limit below) image.entries) (end_again body faults.Truncated)
 
-pub file_take : (bytes : List ℕ) (x : Loaded) → IsBytes bytes → file_in bytes ≡ Ok x → IsFileOf bytes x
-unfolding file_in
-file_take bytes x fits e =
-    let a = bind_ok (header_at faults.Truncated bytes) (λ y. after_header bytes y.0 (entries_at (size_of y.0.level) faults.Truncated y.1)) x e in
-    let h = a.0.0 in
-    let b = bind_ok (entries_at (size_of h.level) faults.Truncated a.0.1) (λ y. end_at (take (length bytes - length y.1) bytes) faults.Truncated y.1 >>= λ digest. Ok (loaded_of h y.0 digest)) x a.2 in
-    let c = bind_ok (end_at (take (length bytes - length b.0.1) bytes) faults.Truncated b.0.1) (λ digest. Ok (loaded_of h b.0.0 digest)) x b.2 in
-    let th = header_take faults.Truncated bytes a.0 fits a.1 in
-    let te = entries_take (size_of h.level) faults.Truncated a.0.1 b.0 th.0.rest_fits b.1 in
-    let both = Takes-then bytes (text_of h) a.0.1 (flat_map entry_text b.0.0) b.0.1 th.0 te.0 in
-    let body = text_of h ++ flat_map entry_text b.0.0 in
-    let before : take (length bytes - length b.0.1) bytes ≡ body = before_is bytes body b.0.1 both.parts in
-    let tc = end_take body faults.Truncated b.0.1 c.0 te.0.rest_fits (ap (λ (d : List ℕ). end_at d faults.Truncated b.0.1) (sym before) ∙ c.1) in
-    subst (IsFileOf bytes) (ok_is (loaded_of h b.0.0 c.0) x c.2) (record {
-      has = record { known = th.1.version; low = th.1.level; limit = th.1.limit; whole = th.1.below; bytes = th.1.bytes; sized = te.1; entries = te.2 };
-      text = both.parts ∙ ap (λ (d : List ℕ). body ++ d) (tc.0 ∙ tc.1);
-      digest = tc.1;
-    })
+-- The bytes up to the last entry are the body of the image that was read.
+pub body_taken : (xs rest left done : List ℕ) (h : Header) (n : ℕ) (es : List Entry) → n ≡ size_of h.level → header_at faults.Truncated xs ≡ Ok (h, rest) → entries_at n faults.Truncated rest ≡ Ok (es, left)
+    → xs ≡ done ++ left → IsBytes done
+    → HasFile h.version (record { level = h.level; limit = h.limit; entries = es }) h.below × (done ≡ body_text h.version (record { level = h.level; limit = h.limit; entries = es }) h.below)
+body_taken xs rest left done h n es size header entries parts bytes =
+    let t = took Header 52 header_at header-is faults.Truncated faults.Truncated xs (h, rest) header in
+    let u = took (List Entry) (6 * n) (entries_at n) (entries-is n) faults.Truncated faults.Truncated rest (es, left) entries in
+    let cut : xs ≡ (t.front ++ u.front) ++ left = t.parts ∙ ap (λ (l : List ℕ). t.front ++ l) u.parts ∙ sym (append_assoc t.front u.front left) in
+    let same : done ≡ t.front ++ u.front = sym (before_is xs done left parts) ∙ before_is xs (t.front ++ u.front) left cut in
+    let header_there : header_at faults.Truncated done ≡ Ok (h, u.front) = ap (header_at faults.Truncated) same ∙ t.again u.front in
+    let entries_there : entries_at n faults.Truncated u.front ≡ Ok (es, []) = ap (entries_at n faults.Truncated) (sym (append-nil u.front)) ∙ u.again [] in
+    let th = header_take faults.Truncated done (h, u.front) bytes header_there in
+    let te = entries_take n faults.Truncated u.front (es, []) th.0.rest_fits entries_there in (
+      record { known = th.1.version; low = th.1.level; limit = th.1.limit; whole = th.1.below; bytes = th.1.bytes; sized = te.1 ∙ size; entries = te.2 },
+      th.0.parts ∙ ap (λ (l : List ℕ). text_of h ++ l) (te.0.parts ∙ append-nil (flat_map entry_text es)),
+    )
 
 -- ---- the sizes of the levels fit 8 bytes
 
@@ -231,20 +224,8 @@ all_at (suc n) a (suc i) small lt = subst (λ (m : ℕ). IsSmall (size_of m)) (o
 sizes_small : AllByRecursion IsSmall (map size_of (range_with_len 0 25))
 sizes_small = subst (AllByRecursion IsSmall) (sym sizes) (omega arith, (omega arith, (omega arith, (omega arith, (omega arith, (omega arith, (omega arith, (omega arith, (omega arith, (omega arith, (omega arith, (omega arith, (omega arith, (omega arith, (omega arith, (omega arith, (omega arith, (omega arith, (omega arith, (omega arith, (omega arith, (omega arith, (omega arith, (omega arith, (omega arith, tt)))))))))))))))))))))))))
 
-size_small : (n : ℕ) → n ≤ HIGHEST_LEVEL → size_of n < 2 ^ 64
+pub size_small : (n : ℕ) → n ≤ HIGHEST_LEVEL → size_of n < 2 ^ 64
 size_small n low = subst (λ (m : ℕ). IsSmall (size_of m)) (omega arith) (all_at 25 0 n sizes_small (omega (arith, low)))
-
-found_in : (bytes : List ℕ) (r : Result Loaded FileFault) → IsBytes bytes → Answers (λ (x : Loaded). x) r (file_in bytes) → IfOk r (λ x. IsFileOf bytes x)
-found_in bytes (Ok x) fits given = file_take bytes x fits given
-found_in bytes (Err e) fits given = tt
-
-found_ok : (bytes : List ℕ) (r : Result Loaded FileFault) → Answers (λ (x : Loaded). x) r (file_in bytes) → OnOk r (IsBytes bytes) → IfOk r (λ x. IsFileOf bytes x)
-found_ok bytes (Ok x) given fits = found_in bytes (Ok x) fits given
-found_ok bytes (Err e) given fits = tt
-
-pub is_found : (a : Option (List ℕ)) (r : Result Loaded FileFault) → IfSome a (λ bytes. Answers (λ (x : Loaded). x) r (file_in bytes)) → OnOk r (IfSome a IsBytes) → IfSome a (λ bytes. IfOk r (λ x. IsFileOf bytes x))
-is_found None r given fits = tt
-is_found (Some bytes) r given fits = found_ok bytes r given fits
 
 pub is_only : (a : Option (List ℕ)) (r : Result Loaded FileFault) → IfSome a (λ bytes. Answers (λ (x : Loaded). x) r (file_in bytes))
     → IfSome a (λ bytes. (version : ℕ) (image : Image) (below : List ℕ) → HasFile version image below → bytes ≡ file_text version image below → Answers (λ (x : Loaded). x) r (Ok (found_of version image below)))

@@ -1,4 +1,4 @@
--- What a reader has left, and what a hasher holds of what came before.
+-- What a reader has left, and what came before.
 use Rattle.std.specs.Prelude.{◌≡◌, ◌≢◌, ◌⊎◌, Bool, true, false, min, IsOk, ℕ, List, ◌++◌, Option, Some, Result, Ok, Err}
 use Rattle.std.specs.Io.KnownBytes.{Appends, IsAtEnd}
 use Rattle.sha2.specs.Hashers.{Holds256}
@@ -11,7 +11,7 @@ use Rattle.awari_file.specs.declared.faults.FileFault.{FileFault}
 use Rattle.awari_file.specs.declared.faults.FileFault.TheVariants as faults
 use Rattle.awari_table.specs.declared.images.Entry.{Entry}
 use Rattle.awari_file.specs.FileText.{IsBytes}
-use Rattle.awari_file.specs.Reading.{header_at, entries_at, end_at, file_in, Fails}
+use Rattle.awari_file.specs.Reading.{header_at, entries_at, file_in, Fails}
 
 -- Why fewer bytes came than were asked for: the input ended, or the reader answered a fault, which was counted.
 abbrev pub IsWhy : FileFault → Option (List ℕ) → ℕ → ℕ → Type 0
@@ -43,23 +43,17 @@ IsRefused e came = file_in came ≡ Err e
 abbrev pub IsSoundSoFar : List ℕ → Type 0
 IsSoundSoFar came = (file_in came ≡ Err faults.Truncated) ⊎ IsOk (file_in came)
 
--- the same of what came from its digest on
-abbrev pub IsSoundEnd : List ℕ → List ℕ → Type 0
-IsSoundEnd body came = (end_at body faults.Truncated came ≡ Err faults.Truncated) ⊎ IsOk (end_at body faults.Truncated came)
-
--- of the whole input left is what the reader has, and the hasher holds what stands before it
-pub record IsAt (whole left : List ℕ) (known : Option (List ℕ)) (hasher : Sha256) : Type 0 where
+-- of the whole input left is what the reader has, and done is what stands before it
+pub record IsAt (whole left : List ℕ) (known : Option (List ℕ)) : Type 0 where
   pub done : List ℕ
-  pub holds : Holds256 hasher done
   pub known_is : known ≡ Some left
   pub parts : whole ≡ done ++ left
   pub bytes : IsBytes done
 
--- A step that began where left was there: it read a field, and the reader and the hasher are behind it; or the field has
--- this fault.
-abbrev pub Advances : {X Y : Type 0} → (X → Y) → (FileFault → List ℕ → Result (Y × List ℕ) FileFault) → List ℕ → List ℕ → Option (List ℕ) → Sha256 → Result X FileFault → Type 0
-Advances view f whole left known hasher (Ok x) = (rest : List ℕ) × IsAt whole rest known hasher × (f faults.Truncated left ≡ Ok (view x, rest))
-Advances view f whole left known hasher (Err e) = Fails e (f faults.Truncated left)
+-- A step that began where left was there: it read a field, and the reader is behind it; or the field has this fault.
+abbrev pub Advances : {X Y : Type 0} → (X → Y) → (FileFault → List ℕ → Result (Y × List ℕ) FileFault) → List ℕ → List ℕ → Option (List ℕ) → Result X FileFault → Type 0
+Advances view f whole left known (Ok x) = (rest : List ℕ) × IsAt whole rest known × (f faults.Truncated left ≡ Ok (view x, rest))
+Advances view f whole left known (Err e) = Fails e (f faults.Truncated left)
 
 -- the answer is what reading gives, but for the faults of the reader and of memory
 abbrev pub Answers : {X Y : Type 0} → (X → Y) → Result X FileFault → Result Y FileFault → Type 0
@@ -83,9 +77,9 @@ AddsOrLacks old new (Ok x) read = (entries : List Entry) × (rest : List ℕ) ×
 AddsOrLacks old new (Err e) read = (read ≡ Err e) ⊎ ((e ≡ faults.Memory) × IsOk read)
 
 -- what is added over a reader
-abbrev pub AddsAt : {X : Type 0} → List Entry → List Entry → ℕ → List ℕ → List ℕ → Option (List ℕ) → Sha256 → Result X FileFault → Type 0
-AddsAt old new count whole left known hasher (Ok x) = (entries : List Entry) × (rest : List ℕ) × (new ≡ old ++ entries) × IsAt whole rest known hasher × (entries_at count faults.Truncated left ≡ Ok (entries, rest))
-AddsAt old new count whole left known hasher (Err e) = Fails e (entries_at count faults.Truncated left)
+abbrev pub AddsAt : {X : Type 0} → List Entry → List Entry → ℕ → List ℕ → List ℕ → Option (List ℕ) → Result X FileFault → Type 0
+AddsAt old new count whole left known (Ok x) = (entries : List Entry) × (rest : List ℕ) × (new ≡ old ++ entries) × IsAt whole rest known × (entries_at count faults.Truncated left ≡ Ok (entries, rest))
+AddsAt old new count whole left known (Err e) = Fails e (entries_at count faults.Truncated left)
 
 -- The header of the bytes is right, and so are the entries that are read at once, or all if there are fewer.
 abbrev pub BeginsRight : List ℕ → Type 0

@@ -12,6 +12,7 @@ ghost use Rattle.awari_file.specs.declared.sizes.TheConstants.{BUFFERED};
 ghost use Rattle.awari_file.specs.Source.{Meets};
 
 use crate::faults::FileFault;
+use crate::fields::VERSION;
 use crate::sizes::{BUFFER_LEN, BUFFERED};
 use crate::source::fill;
 use crate::writing::{header_of, spell_run};
@@ -131,7 +132,7 @@ pub fn compare_level<R: Read>(
     ensures grew { OnErr result (Grew (faults_of reader.old) (faults_of reader.new)) }
 {
     let mut hasher = Sha256::new();
-    let header = header_of(level.number(), level.limit(), &below);
+    let header = header_of(VERSION, level.number(), level.limit(), &below);
     if !has_next(reader, &header)? {
         return Ok(None);
     }

@@ -6,7 +6,7 @@ ghost use Rattle.std.specs.Int.{w8, w16, w32, w64};
 ghost use Rattle.awari_rank.specs.Rank.{size_of};
 ghost use Rattle.awari_table.specs.declared.TheConstants.{HIGHEST_LEVEL};
 ghost use Rattle.awari_file.specs.FileText.{magic_number, highest_in};
-ghost use Rattle.awari_file.specs.Reading.{Gives, field, number_if, any_number, as_they_are, digest_if, is_version, header_at, entry_of};
+ghost use Rattle.awari_file.specs.Reading.{Gives, field, number_if, any_number, as_they_are, is_version, header_at, entry_of};
 
 use crate::contents::Header;
 use crate::faults::FileFault;
@@ -117,7 +117,7 @@ fn limit_at(bytes: &[u8], short: FileFault) -> Result<(u32, &[u8]), FileFault>
 }
 
 /// 32 bytes, of which any may stand there.
-fn bytes_at(bytes: &[u8], short: FileFault) -> Result<([u8; 32], &[u8]), FileFault>
+pub(crate) fn bytes_at(bytes: &[u8], short: FileFault) -> Result<([u8; 32], &[u8]), FileFault>
     ensures { Gives (λ x. (x.0, x.1.now)) result (field 32 as_they_are short bytes.now) }
 {
     let Some((taken, rest)) = bytes.split_first_chunk::<32>() else {
@@ -168,19 +168,4 @@ pub(crate) fn entry_at(bytes: &[u8], short: FileFault) -> Result<(Entry, &[u8]),
         dist: u32::from_be_bytes([front[2], front[3], front[4], front[5]]),
     };
     Ok((entry, rest))
-}
-
-/// A digest, which has to be the one that was computed.
-pub(crate) fn digest_at<'b>(
-    bytes: &'b [u8],
-    short: FileFault,
-    computed: &[u8; 32],
-) -> Result<([u8; 32], &'b [u8]), FileFault>
-    ensures { Gives (λ x. (x.0, x.1.now)) result (field 32 (digest_if computed.now) short bytes.now) }
-{
-    let (digest, rest) = bytes_at(bytes, short)?;
-    if digest != *computed {
-        return Err(FileFault::Digest);
-    }
-    Ok((digest, rest))
 }

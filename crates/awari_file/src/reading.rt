@@ -1,35 +1,35 @@
 //! Reading the file of a level.
 
-ghost use Rattle.std.specs.Prelude.{◌≡◌, ◌≢◌, ◌≤◌, ◌+◌, min, List, ℕ, IfOk, OnOk, IsOk, IfSome, Some, Ok, Err};
+ghost use Rattle.std.specs.Prelude.{◌≡◌, ◌≢◌, ◌≤◌, ◌+◌, min, List, ℕ, IfErr, IfOk, MatchResult, OnOk, IsOk, IfSome, Some, Ok, Err};
 ghost use Rattle.awari_table.specs.declared.TheConstants.{HIGHEST_LEVEL};
 ghost use Rattle.awari_table.specs.Counted.{inner_of, faults_of, Grew};
 ghost use Rattle.awari_table.specs.declared.images.Image.{Image};
-ghost use Rattle.sha2.specs.Hashers.{Holds256};
 ghost use Rattle.awari_file.specs.declared.faults.FileFault.{FileFault};
 ghost use Rattle.awari_file.specs.declared.sizes.TheConstants.{BUFFERED};
-ghost use Rattle.awari_file.specs.FileText.{IsBytes, HasFile, IsFileOf, file_text, found_of};
-ghost use Rattle.awari_file.specs.Reading.{header_at, entries_at, end_at, file_in, IsOwn};
-ghost use Rattle.awari_file.specs.Source.{IsAt, StopsIn, Unfinished, HasFault, IsRefused, IsSoundEnd, IsSoundSoFar, Advances, Adds, AddsAt, AddsOrLacks, Answers, BeginsRight, Judges};
+ghost use Rattle.awari_file.specs.FileText.{HasFile, IsFileOf, file_text, found_of};
+ghost use Rattle.awari_file.specs.Reading.{header_at, entries_at, file_in, IsOwn};
+ghost use Rattle.awari_file.specs.Source.{IsAt, StopsIn, Unfinished, HasFault, IsRefused, IsSoundSoFar, Advances, Adds, AddsAt, AddsOrLacks, Answers, BeginsRight, Judges};
+ghost use Rattle.awari_file.specs.Sealing.{Ends, EndsEarly, IsUnsealed, Stops, Tells, TellsBehind, fault_behind};
 
 use crate::contents::{Header, Loaded};
 use crate::faults::FileFault;
-use crate::fields::{digest_at, entry_at, header_of};
+use crate::fields::{bytes_at, entry_at, header_of};
+use crate::sealing::{End, Unsealed};
 use crate::sizes::{BUFFER_LEN, BUFFERED, END_LEN, ENTRY_LEN, HEADER_LEN};
 use crate::source::fill;
 use awari_rank::size;
 use awari_table::{Counted, Entries, Image};
-use sha2::{Digest, Sha256};
 use std::alloc::{AllocError, Global};
 use std::io::Read;
 
 /// All of the header is asked for at once, and its fields are judged in order on what came. So a
 /// fault that the reader answered comes after the faults of the fields before it.
-fn read_header<R: Read>(reader: &mut Counted<R>, hasher: &mut Sha256) -> Result<Header, FileFault>
-    ensures parsed { (whole left : List ℕ) → IsAt whole left (R.remaining (inner_of reader.old)) hasher.old
-        → Advances (λ h. h) header_at whole left (R.remaining (inner_of reader.new)) hasher.new result }
-    ensures stops { (whole left : List ℕ) → IsAt whole left (R.remaining (inner_of reader.old)) hasher.old
+fn read_header<R: Read>(reader: &mut Counted<R>) -> Result<Header, FileFault>
+    ensures parsed { (whole left : List ℕ) → IsAt whole left (R.remaining (inner_of reader.old))
+        → Advances (λ h. h) header_at whole left (R.remaining (inner_of reader.new)) result }
+    ensures stops { (whole left : List ℕ) → IsAt whole left (R.remaining (inner_of reader.old))
         → result ≡ Err FileFault.Read → StopsIn (Unfinished header_at) left (R.remaining (inner_of reader.new)) }
-    ensures whole { (whole left : List ℕ) (fault : FileFault) → IsAt whole left (R.remaining (inner_of reader.old)) hasher.old
+    ensures whole { (whole left : List ℕ) (fault : FileFault) → IsAt whole left (R.remaining (inner_of reader.old))
         → IsOwn fault → result ≡ Err fault → StopsIn (HasFault fault header_at) left (R.remaining (inner_of reader.new)) }
     ensures low { IfOk result (λ h. h.level ≤ HIGHEST_LEVEL) }
     ensures clean { OnOk result (faults_of reader.new ≡ faults_of reader.old) }
@@ -42,7 +42,6 @@ fn read_header<R: Read>(reader: &mut Counted<R>, hasher: &mut Sha256) -> Result<
     let came = fill(reader, &mut buf, HEADER_LEN);
     let fields = &buf[..came.count];
     let (header, _) = header_of(fields, came.short)?;
-    hasher.update(fields);
     Ok(header)
 }
 
@@ -109,22 +108,21 @@ fn add_entries(
 fn read_some<R: Read>(
     alloc: Global,
     reader: &mut Counted<R>,
-    hasher: &mut Sha256,
     entries: &mut Entries,
     count: u32,
     left: u32,
 ) -> Result<(), FileFault>
     requires few { count ≤ BUFFERED }
-    ensures parsed { (whole left : List ℕ) → IsAt whole left (R.remaining (inner_of reader.old)) hasher.old
-        → AddsAt entries.old entries.new count whole left (R.remaining (inner_of reader.new)) hasher.new result }
-    ensures stops { (whole left : List ℕ) → IsAt whole left (R.remaining (inner_of reader.old)) hasher.old
+    ensures parsed { (whole left : List ℕ) → IsAt whole left (R.remaining (inner_of reader.old))
+        → AddsAt entries.old entries.new count whole left (R.remaining (inner_of reader.new)) result }
+    ensures stops { (whole left : List ℕ) → IsAt whole left (R.remaining (inner_of reader.old))
         → result ≡ Err FileFault.Read → StopsIn (Unfinished (entries_at count)) left (R.remaining (inner_of reader.new)) }
-    ensures whole { (whole left : List ℕ) (fault : FileFault) → IsAt whole left (R.remaining (inner_of reader.old)) hasher.old
+    ensures whole { (whole left : List ℕ) (fault : FileFault) → IsAt whole left (R.remaining (inner_of reader.old))
         → IsOwn fault → result ≡ Err fault → StopsIn (HasFault fault (entries_at count)) left (R.remaining (inner_of reader.new)) }
     ensures clean { OnOk result (faults_of reader.new ≡ faults_of reader.old) }
     ensures early { result ≡ Err FileFault.Truncated → faults_of reader.new ≡ faults_of reader.old }
     ensures read { result ≡ Err FileFault.Read → Grew (faults_of reader.old) (faults_of reader.new) }
-    ensures memory { (whole left : List ℕ) → IsAt whole left (R.remaining (inner_of reader.old)) hasher.old
+    ensures memory { (whole left : List ℕ) → IsAt whole left (R.remaining (inner_of reader.old))
         → result ≡ Err FileFault.Memory → IsOk (entries_at count FileFault.Truncated left) }
     ensures faults { faults_of reader.old ≤ faults_of reader.new }
 {
@@ -132,7 +130,6 @@ fn read_some<R: Read>(
     let came = fill(reader, &mut buf, count as usize * ENTRY_LEN);
     let bytes = &buf[..came.count];
     add_entries(alloc, entries, count, left, bytes, came.short)?;
-    hasher.update(bytes);
     Ok(())
 }
 
@@ -140,92 +137,96 @@ fn read_some<R: Read>(
 fn read_entries<R: Read>(
     alloc: Global,
     reader: &mut Counted<R>,
-    hasher: &mut Sha256,
     entries: &mut Entries,
     count: u32,
 ) -> Result<(), FileFault>
-    ensures parsed { (whole left : List ℕ) → IsAt whole left (R.remaining (inner_of reader.old)) hasher.old
-        → AddsAt entries.old entries.new count whole left (R.remaining (inner_of reader.new)) hasher.new result }
-    ensures stops { (whole left : List ℕ) → IsAt whole left (R.remaining (inner_of reader.old)) hasher.old
+    ensures parsed { (whole left : List ℕ) → IsAt whole left (R.remaining (inner_of reader.old))
+        → AddsAt entries.old entries.new count whole left (R.remaining (inner_of reader.new)) result }
+    ensures stops { (whole left : List ℕ) → IsAt whole left (R.remaining (inner_of reader.old))
         → result ≡ Err FileFault.Read → StopsIn (Unfinished (entries_at count)) left (R.remaining (inner_of reader.new)) }
-    ensures whole { (whole left : List ℕ) (fault : FileFault) → IsAt whole left (R.remaining (inner_of reader.old)) hasher.old
+    ensures whole { (whole left : List ℕ) (fault : FileFault) → IsAt whole left (R.remaining (inner_of reader.old))
         → IsOwn fault → result ≡ Err fault → StopsIn (HasFault fault (entries_at count)) left (R.remaining (inner_of reader.new)) }
     ensures clean { OnOk result (faults_of reader.new ≡ faults_of reader.old) }
     ensures early { result ≡ Err FileFault.Truncated → faults_of reader.new ≡ faults_of reader.old }
     ensures read { result ≡ Err FileFault.Read → Grew (faults_of reader.old) (faults_of reader.new) }
 
     // With 69, the entries that are read at once have come, and are right.
-    ensures memory { (whole left : List ℕ) → IsAt whole left (R.remaining (inner_of reader.old)) hasher.old
+    ensures memory { (whole left : List ℕ) → IsAt whole left (R.remaining (inner_of reader.old))
         → result ≡ Err FileFault.Memory → IsOk (entries_at (min count BUFFERED) FileFault.Truncated left) }
     ensures faults { faults_of reader.old ≤ faults_of reader.new }
 {
     let mut left = count;
     while left > 0 {
         let some = left.min(BUFFERED);
-        read_some(alloc, reader, hasher, entries, some, left)?;
+        read_some(alloc, reader, entries, some, left)?;
         left -= some;
     }
     Ok(())
 }
 
-/// The digest, which has to be that of what was read, and the end of the input behind it.
-fn read_end<R: Read>(reader: &mut Counted<R>, hasher: Sha256) -> Result<[u8; 32], FileFault>
-    ensures parsed { (left body : List ℕ) → R.remaining (inner_of reader.old) ≡ Some left → Holds256 hasher body
-        → Answers (λ d. d) result (end_at body FileFault.Truncated left) }
-    ensures stops { (left body : List ℕ) → R.remaining (inner_of reader.old) ≡ Some left → Holds256 hasher body
-        → result ≡ Err FileFault.Read → StopsIn (IsSoundEnd body) left (R.remaining (inner_of reader.new)) }
-    ensures whole { (left body : List ℕ) (fault : FileFault) → R.remaining (inner_of reader.old) ≡ Some left → Holds256 hasher body
-        → IsOwn fault → result ≡ Err fault → StopsIn (HasFault fault (end_at body)) left (R.remaining (inner_of reader.new)) }
-    ensures bytes { OnOk result (IfSome (R.remaining (inner_of reader.old)) IsBytes) }
-    ensures clean { OnOk result (faults_of reader.new ≡ faults_of reader.old) }
-    ensures early { result ≡ Err FileFault.Truncated → faults_of reader.new ≡ faults_of reader.old }
-    ensures read { result ≡ Err FileFault.Read → Grew (faults_of reader.old) (faults_of reader.new) }
-    ensures memory { result ≢ Err FileFault.Memory }
-    ensures faults { faults_of reader.old ≤ faults_of reader.new }
+/// The digest, and what comes behind it. Whether the digest is right is not asked.
+fn read_end<R: Read>(reader: &mut Counted<R>) -> Result<End, FileFault>
+    ensures ends { (left : List ℕ) → R.remaining (inner_of reader.old) ≡ Some left → IfOk result (λ end. Ends end.digest end.behind left (R.remaining (inner_of reader.new))) }
+    ensures short { (left : List ℕ) → R.remaining (inner_of reader.old) ≡ Some left → IfErr result (EndsEarly left (R.remaining (inner_of reader.new))) }
+    ensures counted { MatchResult result (λ end. TellsBehind end.behind (faults_of reader.old) (faults_of reader.new)) (λ fault. Tells fault (faults_of reader.old) (faults_of reader.new)) }
 {
-    let computed = hasher.finalize();
     let mut buf = [0u8; END_LEN];
     let came = fill(reader, &mut buf, END_LEN);
-    let (digest, rest) = digest_at(&buf[..came.count], came.short, &computed)?;
-    if !rest.is_empty() {
-        return Err(FileFault::Trailing);
+    let (digest, over) = bytes_at(&buf[..came.count], came.short)?;
+    Ok(End {
+        digest,
+        behind: behind(over, came.short),
+    })
+}
+
+/// What is wrong with what came behind a digest, if these bytes did, and no more for this reason.
+fn behind(over: &[u8], short: FileFault) -> Option<FileFault>
+    ensures { result ≡ fault_behind over.now short }
+{
+    if !over.is_empty() {
+        return Some(FileFault::Trailing);
     }
-    match came.short {
-        FileFault::Read => Err(FileFault::Read),
-        _ => Ok(digest),
+    match short {
+        FileFault::Read => Some(FileFault::Read),
+        _ => None,
     }
 }
 
-/// The file as reading from left to right has it.
-fn read_all<R: Read>(alloc: Global, reader: &mut Counted<R>) -> Result<Loaded, FileFault>
-    ensures exact { IfSome (R.remaining (inner_of reader.old)) (λ bytes. Answers (λ x. x) result (file_in bytes)) }
-    ensures bytes { OnOk result (IfSome (R.remaining (inner_of reader.old)) IsBytes) }
-    ensures clean { OnOk result (faults_of reader.new ≡ faults_of reader.old) }
-    ensures early { result ≡ Err FileFault.Truncated → faults_of reader.new ≡ faults_of reader.old }
-    ensures read { result ≡ Err FileFault.Read → Grew (faults_of reader.old) (faults_of reader.new) }
-    ensures in_order { result ≡ Err FileFault.Read
-        → IfSome (R.remaining (inner_of reader.old)) (λ bytes. StopsIn IsSoundSoFar bytes (R.remaining (inner_of reader.new))) }
-    ensures whole { (fault : FileFault) → IsOwn fault → result ≡ Err fault
-        → IfSome (R.remaining (inner_of reader.old)) (λ bytes. StopsIn (IsRefused fault) bytes (R.remaining (inner_of reader.new))) }
-    ensures memory { result ≡ Err FileFault.Memory
-        → IfSome (R.remaining (inner_of reader.old)) BeginsRight }
+/// Reads the file of a level as [`read_image`] does, but compares no digest: [`Unsealed::seal`] does,
+/// and then says what `read_image` would have said. So whoever verifies the level may let another
+/// thread compare the digest. It is refused as 60 to 65, 68 and 69, and takes the memory that
+/// `read_image` takes.
+pub fn read_unsealed<R: Read>(alloc: Global, reader: &mut Counted<R>) -> Result<Unsealed, FileFault>
+    // What was read is the file of what was found, but for its end.
+    ensures found { IfSome (R.remaining (inner_of reader.old)) (λ bytes. IfOk result (λ file. IsUnsealed file bytes (R.remaining (inner_of reader.new)))) }
+    // Otherwise it is the first fault, as `read_image` has it.
+    ensures fault { IfSome (R.remaining (inner_of reader.old)) (λ bytes. IfErr result (Stops bytes (R.remaining (inner_of reader.new)))) }
+    ensures low { IfOk result (λ file. file.loaded.image.level ≤ HIGHEST_LEVEL) }
+    // The reader answered a fault if the result names one, and only then.
+    ensures counted { MatchResult result (λ file. TellsBehind file.behind (faults_of reader.old) (faults_of reader.new)) (λ fault. Tells fault (faults_of reader.old) (faults_of reader.new)) }
 {
-    let mut hasher = Sha256::new();
-    let header = read_header(reader, &mut hasher)?;
-    let count = size(header.level);
-    let mut entries = Entries::new(alloc);
-    read_entries(alloc, reader, &mut hasher, &mut entries, count)?;
-    let digest = read_end(reader, hasher)?;
-    let below = header.below;
-    Ok(Loaded {
-        version: header.version,
-        image: Image {
-            level: header.level,
-            limit: header.limit,
-            entries,
-        },
+    let Header {
+        version,
+        level,
+        limit,
         below,
-        digest,
+    } = read_header(reader)?;
+    let mut entries = Entries::new(alloc);
+    read_entries(alloc, reader, &mut entries, size(level))?;
+    let End { digest, behind } = read_end(reader)?;
+    let image = Image {
+        level,
+        limit,
+        entries,
+    };
+    Ok(Unsealed {
+        loaded: Loaded {
+            version,
+            image,
+            below,
+            digest,
+        },
+        behind,
     })
 }
 
@@ -272,5 +273,7 @@ pub fn read_image<R: Read>(alloc: Global, reader: &mut Counted<R>) -> Result<Loa
     ensures memory { result ≡ Err FileFault.Memory
         → IfSome (R.remaining (inner_of reader.old)) BeginsRight }
 {
-    read_all(alloc, reader)
+    let file = read_unsealed(alloc, reader)?;
+    file.seal()?;
+    Ok(file.loaded)
 }

@@ -22,13 +22,13 @@ use sha2::{Digest, Sha256};
 use std::io::Write;
 
 /// What stands before the entries.
-pub(crate) fn header_of(level: u8, limit: u32, below: &[u8; 32]) -> [u8; 52]
+pub(crate) fn header_of(version: u16, level: u8, limit: u32, below: &[u8; 32]) -> [u8; 52]
     requires { level ≤ HIGHEST_LEVEL }
-    ensures { result ≡ header_text 2 level limit below.now }
+    ensures { result ≡ header_text version level limit below.now }
 {
     let mut header = [0u8; HEADER_LEN];
     BigEndian::write_u32(&mut header, MAGIC);
-    BigEndian::write_u16(&mut header[4..], VERSION);
+    BigEndian::write_u16(&mut header[4..], version);
     header[6] = level;
     BigEndian::write_u64(&mut header[8..], u64::from(size(level)));
     BigEndian::write_u32(&mut header[16..], limit);
@@ -69,7 +69,7 @@ fn put<W: Write>(
 }
 
 /// Spells entries that fit the buffer, and gives how many bytes of it they take.
-fn spell(entries: &[Entry], buf: &mut [u8; 4080]) -> usize
+pub(crate) fn spell(entries: &[Entry], buf: &mut [u8; 4080]) -> usize
     requires { length entries.now ≤ BUFFERED }
     ensures len { result ≤ 4080 }
     ensures text { take result buf.new ≡ flat_map entry_text entries.now }
@@ -161,7 +161,7 @@ pub fn write_level<W: Write>(
     ensures grew { OnErr result (Grew (faults_of writer.old) (faults_of writer.new)) }
 {
     let mut hasher = Sha256::new();
-    let header = header_of(level.number(), level.limit(), &below);
+    let header = header_of(VERSION, level.number(), level.limit(), &below);
     put(writer, &mut hasher, &header)?;
     put_entries(writer, &mut hasher, level)?;
     let digest = hasher.finalize();

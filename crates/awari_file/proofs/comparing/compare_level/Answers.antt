@@ -1,9 +1,7 @@
-use Rattle.std.proofs.Common.{◌≡◌, ◌∙◌, ◌++◌, ℕ, Bool, List, Ok, true, false, [], arith, w8, All, ap, refl, subst}
+use Rattle.std.proofs.Common.{◌≡◌, ◌∙◌, ◌++◌, ℕ, Bool, List, Ok, true, false, [], arith, w8, ap, refl, subst}
 use Rattle.std.specs.List.{flat_map}
 use Rattle.sha2.specs.Sha256.{sha256}
 use Rattle.sha2.specs.Hashers.{Holds256}
-use Rattle.awari_table.specs.Spelling.{FitsNumbers}
-use Rattle.awari_table.specs.declared.images.Entry.{Entry}
 use Rattle.awari_file.specs.FileText.{header_text, entry_text, body_text}
 use borrow.Author.Rules.{elem_Fits}
 use Rattle.awari_file.proofs.FitLaws.{has_file}

@@ -11,8 +11,8 @@ abbrev pub invariant-loop-left : goal.invariant-loop-left
 invariant-loop-left g l = record {
   within : l.left ≤ l.count;
   faults : faults_of l.reader ≡ faults_of l.initial.reader;
-  read : (whole left : List ℕ) → IsAt whole left (g.R.Read.remaining (inner_of l.initial.reader)) l.initial.hasher
-      → (new : List Entry) × (rest taken : List ℕ) × (l.entries ≡ l.initial.entries ++ new) × IsAt whole rest (g.R.Read.remaining (inner_of l.reader)) l.hasher
+  read : (whole left : List ℕ) → IsAt whole left (g.R.Read.remaining (inner_of l.initial.reader))
+      → (new : List Entry) × (rest taken : List ℕ) × (l.entries ≡ l.initial.entries ++ new) × IsAt whole rest (g.R.Read.remaining (inner_of l.reader))
       × (left ≡ taken ++ rest) × ((more : List ℕ) → with_front new (entries_at l.left Truncated more) ≡ entries_at l.count Truncated (taken ++ more))
       × (entries_at (l.count - l.left) Truncated left ≡ Ok (new, rest));
 }

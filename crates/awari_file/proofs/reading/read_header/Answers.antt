@@ -14,7 +14,7 @@ returns-in_err-header-clause-parsed g c = λ whole left here.
     let p = err_from_is_err_and c.from_residual.result c.from_residual.ensures.1 in
     let front = take c.fill-came.result.count c.fill-came.new.buf in
     let size = length-take c.fill-came.result.count c.fill-came.new.buf in
-    rw (p.1, p.2) (step_fails Header 52 header_at header-is c.fill-came.result.short c.in_err-header.field-0.0 front whole left _ _ c.args.hasher.now _ _ here c.fill-came.ensures.bytes
+    rw (p.1, p.2) (step_fails Header 52 header_at header-is c.fill-came.result.short c.in_err-header.field-0.0 front whole left _ _ _ _ here c.fill-came.ensures.bytes
     (λ lt. c.fill-came.ensures.why (omega (arith, size))) c.in_err-header.ensures.value)
 
 pub returns-in_err-header-clause-read : goal.returns-in_err-header-clause-read
@@ -35,15 +35,15 @@ pub returns-clause-parsed : goal.returns-clause-parsed
 returns-clause-parsed g c = λ whole left here.
     let front = take c.fill-came.result.count c.fill-came.new.buf in
     let size = length-take c.fill-came.result.count c.fill-came.new.buf in
-    step_gives Header 52 header_at header-is c.fill-came.result.short front whole left (c.in_ok-header.header, c.in_ok-header.field-0-1.now) _ _ c.args.hasher.now c.update.new.self here c.fill-came.ensures.bytes
-    (omega (arith, size)) c.in_ok-header.ensures.value c.update.ensures (IsBytes-take c.fill-came.result.count c.fill-came.new.buf c.fill-came.ensures.range)
+    step_gives Header 52 header_at header-is c.fill-came.result.short front whole left (c.in_ok-header.header, c.in_ok-header.field-0-1.now) _ _ here c.fill-came.ensures.bytes
+    (omega (arith, size)) c.in_ok-header.ensures.value (IsBytes-take c.fill-came.result.count c.fill-came.new.buf c.fill-came.ensures.range)
 
 pub returns-in_err-header-clause-stops : goal.returns-in_err-header-clause-stops
 returns-in_err-header-clause-stops g c = λ whole left here is.
     let p = err_from_is_err_and c.from_residual.result c.from_residual.ensures.1 in
     let front = take c.fill-came.result.count c.fill-came.new.buf in
     let same : c.in_err-header.field-0.0 ≡ faults.Read = sym p.2 ∙ fault_was c.from_residual.result p.0 faults.Read p.1 is in
-    step_stops Header 52 header_at header-is c.fill-came.result.short front whole left _ _ c.args.hasher.now here c.fill-came.ensures.bytes (c.in_err-header.ensures.value ∙ ap (λ (e : FileFault). Err e) same)
+    step_stops Header 52 header_at header-is c.fill-came.result.short front whole left _ _ here c.fill-came.ensures.bytes (c.in_err-header.ensures.value ∙ ap (λ (e : FileFault). Err e) same)
 
 pub returns-clause-clean : goal.returns-clause-clean
 returns-clause-clean g c =
@@ -65,5 +65,5 @@ returns-in_err-header-clause-whole g c = λ whole left e here own is.
     let front = take c.fill-came.result.count c.fill-came.new.buf in
     let size = length-take c.fill-came.result.count c.fill-came.new.buf in
     let same : c.in_err-header.field-0.0 ≡ e = sym p.2 ∙ fault_was c.from_residual.result p.0 e p.1 is in
-    step_whole Header 52 header_at header-is c.fill-came.result.short e front whole left _ _ c.args.hasher.now _ _ here c.fill-came.ensures.bytes
+    step_whole Header 52 header_at header-is c.fill-came.result.short e front whole left _ _ _ _ here c.fill-came.ensures.bytes
     (λ lt. c.fill-came.ensures.why (omega (arith, size))) own (c.in_err-header.ensures.value ∙ ap (λ (d : FileFault). Err d) same)

@@ -15,7 +15,7 @@ returns-in_err-add_entries-clause-parsed g c = λ whole left here.
     let n = c.args.count in
     let front = take c.fill-came.result.count c.fill-came.new.buf in
     let size = length-take c.fill-came.result.count c.fill-came.new.buf in
-    rw (p.1, p.2) (⊎_elim (λ h. step_fails (List Entry) (6 * n) (entries_at n) (entries-is n) c.fill-came.result.short c.in_err-add_entries.field-0.0 front whole left _ _ c.args.hasher.now _ _ here c.fill-came.ensures.bytes
+    rw (p.1, p.2) (⊎_elim (λ h. step_fails (List Entry) (6 * n) (entries_at n) (entries-is n) c.fill-came.result.short c.in_err-add_entries.field-0.0 front whole left _ _ _ _ here c.fill-came.ensures.bytes
     (λ lt. c.fill-came.ensures.why (omega (arith, size))) h) (λ h. subst (λ (e : FileFault). Fails e (entries_at n faults.Truncated left)) (sym h.0) tt) c.in_err-add_entries.ensures.added)
 
 pub returns-in_err-add_entries-clause-read : goal.returns-in_err-add_entries-clause-read
@@ -34,7 +34,7 @@ returns-in_err-add_entries-clause-memory g c = λ whole left here is.
     let size = length-take c.fill-came.result.count c.fill-came.new.buf in
     let same : c.in_err-add_entries.field-0.0 ≡ faults.Memory = sym p.2 ∙ fault_was c.from_residual.result p.0 faults.Memory p.1 is in
     ⊎_elim (λ h. absurd (c.fill-came.ensures.memory (memory_from_short (List Entry) (6 * n) (entries_at n) (entries-is n) c.fill-came.result.short front (h ∙ ap (λ (e : FileFault). Err e) same))))
-    (λ h. step_right (List Entry) (6 * n) (entries_at n) (entries-is n) c.fill-came.result.short front whole left _ _ c.args.hasher.now here c.fill-came.ensures.bytes (omega (arith, size)) h.1)
+    (λ h. step_right (List Entry) (6 * n) (entries_at n) (entries-is n) c.fill-came.result.short front whole left _ _ here c.fill-came.ensures.bytes (omega (arith, size)) h.1)
     c.in_err-add_entries.ensures.added
 
 pub returns-clause-parsed : goal.returns-clause-parsed
@@ -43,8 +43,8 @@ returns-clause-parsed g c = λ whole left here.
     let front = take c.fill-came.result.count c.fill-came.new.buf in
     let size = length-take c.fill-came.result.count c.fill-came.new.buf in
     let (new, over, items, read) = c.in_ok-add_entries.ensures.added in
-    let (rest, at, gives) = step_gives (List Entry) (6 * n) (entries_at n) (entries-is n) c.fill-came.result.short front whole left (new, over) _ _ c.args.hasher.now c.update.new.self here c.fill-came.ensures.bytes
-    (omega (arith, size)) read c.update.ensures (IsBytes-take c.fill-came.result.count c.fill-came.new.buf c.fill-came.ensures.range) in
+    let (rest, at, gives) = step_gives (List Entry) (6 * n) (entries_at n) (entries-is n) c.fill-came.result.short front whole left (new, over) _ _ here c.fill-came.ensures.bytes
+    (omega (arith, size)) read (IsBytes-take c.fill-came.result.count c.fill-came.new.buf c.fill-came.ensures.range) in
     (new, rest, items, at, gives)
 
 pub returns-in_err-add_entries-clause-stops : goal.returns-in_err-add_entries-clause-stops
@@ -53,7 +53,7 @@ returns-in_err-add_entries-clause-stops g c = λ whole left here is.
     let n = c.args.count in
     let front = take c.fill-came.result.count c.fill-came.new.buf in
     let same : c.in_err-add_entries.field-0.0 ≡ faults.Read = sym p.2 ∙ fault_was c.from_residual.result p.0 faults.Read p.1 is in
-    step_stops (List Entry) (6 * n) (entries_at n) (entries-is n) c.fill-came.result.short front whole left _ _ c.args.hasher.now here c.fill-came.ensures.bytes (not_lacking c.in_err-add_entries.field-0.0 faults.Read _ (λ is. absurd cc) same c.in_err-add_entries.ensures.added)
+    step_stops (List Entry) (6 * n) (entries_at n) (entries-is n) c.fill-came.result.short front whole left _ _ here c.fill-came.ensures.bytes (not_lacking c.in_err-add_entries.field-0.0 faults.Read _ (λ is. absurd cc) same c.in_err-add_entries.ensures.added)
 
 pub returns-clause-clean : goal.returns-clause-clean
 returns-clause-clean g c =
@@ -79,5 +79,5 @@ returns-in_err-add_entries-clause-whole g c = λ whole left e here own is.
     let front = take c.fill-came.result.count c.fill-came.new.buf in
     let size = length-take c.fill-came.result.count c.fill-came.new.buf in
     let same : c.in_err-add_entries.field-0.0 ≡ e = sym p.2 ∙ fault_was c.from_residual.result p.0 e p.1 is in
-    step_whole (List Entry) (6 * n) (entries_at n) (entries-is n) c.fill-came.result.short e front whole left _ _ c.args.hasher.now _ _ here c.fill-came.ensures.bytes
+    step_whole (List Entry) (6 * n) (entries_at n) (entries-is n) c.fill-came.result.short e front whole left _ _ _ _ here c.fill-came.ensures.bytes
     (λ lt. c.fill-came.ensures.why (omega (arith, size))) own (not_lacking c.in_err-add_entries.field-0.0 e _ (own_not_memory e own) same c.in_err-add_entries.ensures.added)

@@ -1,12 +1,9 @@
-use Rattle.std.proofs.Common.{arith, w8, ◌≡◌, ◌∙◌, ◌++◌, All, List, ℕ, [], ap, subst}
-use Rattle.std.specs.List.{flat_map}
+use Rattle.std.proofs.Common.{arith, w8, ◌≡◌, ◌∙◌, ◌++◌, List, ℕ, [], ap, subst}
 use Rattle.std.specs.Io.KnownBytes.{Appends}
 use Rattle.std.proofs.KnownBytes.{Appends-trans}
 use Rattle.sha2.specs.Sha256.{sha256}
-use Rattle.awari_table.specs.declared.images.Entry.{Entry}
 use Rattle.awari_table.specs.Counted.{inner_of}
-use Rattle.awari_file.specs.FileText.{header_text, entry_text, body_text}
-use Rattle.awari_table.specs.Spelling.{FitsNumbers}
+use Rattle.awari_file.specs.FileText.{header_text, body_text}
 use borrow.Author.Rules.{elem_Fits}
 use Rattle.awari_file.proofs.FitLaws.{has_file}
 use Rattle.awari_file.proofs.WriteLaws.{Puts-then, Puts-same}

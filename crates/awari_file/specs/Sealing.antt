@@ -1,0 +1,77 @@
+-- A file that was read, with its digest still to be compared.
+use Rattle.std.specs.Prelude.{◌≡◌, ◌≢◌, ◌⊎◌, ◌<◌, ◌≤◌, ℕ, List, [], ◌∷◌, ◌++◌, length, Option, Some, None, Result, Ok, Err}
+use Rattle.sha2.specs.Sha256.{sha256}
+use Rattle.awari_table.specs.Counted.{Grew}
+use Rattle.awari_file.specs.declared.faults.FileFault.{FileFault}
+use Rattle.awari_file.specs.declared.faults.FileFault.TheVariants as faults
+use Rattle.awari_file.specs.declared.contents.Loaded.{Loaded}
+use Rattle.awari_file.specs.declared.sealing.Unsealed.{Unsealed}
+use Rattle.awari_file.specs.FileText.{HasFile, body_text}
+use Rattle.awari_file.specs.Reading.{file_in, Fails}
+use Rattle.awari_file.specs.Source.{StopsIn, IsSoundSoFar, IsRefused, BeginsRight}
+
+-- what is wrong with what came behind a digest, if no more came for this reason
+abbrev pub fault_behind : List ℕ → FileFault → Option FileFault
+fault_behind (x ∷ over) short = Some faults.Trailing
+fault_behind [] faults.Read = Some faults.Read
+fault_behind [] short = None
+
+-- Behind a digest, `over` came and `rest` did not: nothing is there, or some came, or the reader answered a fault before any.
+abbrev pub IsBehind : Option FileFault → List ℕ → List ℕ → Type 0
+IsBehind None over rest = (over ≡ []) × (rest ≡ [])
+IsBehind (Some faults.Trailing) over rest = over ≢ []
+IsBehind (Some faults.Read) over rest = over ≡ []
+IsBehind (Some e) over rest = ⊥
+
+-- of what is left, this digest came, and this of what is behind it
+pub record Ends (digest : List ℕ) (behind : Option FileFault) (left : List ℕ) (known : Option (List ℕ)) : Type 0 where
+  pub over : List ℕ
+  pub rest : List ℕ
+  pub whole : length digest ≡ 32
+  pub known_is : known ≡ Some rest
+  pub parts : left ≡ digest ++ (over ++ rest)
+  pub behind_is : IsBehind behind over rest
+
+-- of what is left, no whole digest came
+abbrev pub EndsEarly : List ℕ → Option (List ℕ) → FileFault → Type 0
+EndsEarly left known faults.Truncated = length left < 32
+EndsEarly left known faults.Read = StopsIn (λ came. length came < 32) left known
+EndsEarly left known e = ⊥
+
+-- The bytes begin as the file of what was found, and end in the digest that was found, or go on behind it.
+pub record IsUnsealed (file : Unsealed) (bytes : List ℕ) (known : Option (List ℕ)) : Type 0 where
+  pub left : List ℕ
+  pub has : HasFile file.loaded.version file.loaded.image file.loaded.below
+  pub parts : bytes ≡ body_text file.loaded.version file.loaded.image file.loaded.below ++ left
+  pub ends : Ends file.loaded.digest file.behind left known
+
+-- the digest of what was found
+abbrev pub digest_of : Loaded → List ℕ
+digest_of found = sha256 (body_text found.version found.image found.below)
+
+-- the digest that was found is that of what was found, and nothing came behind it; or this is the first fault
+abbrev pub Seals : {X : Type 0} → Unsealed → Result X FileFault → Type 0
+Seals file (Ok x) = (file.loaded.digest ≡ digest_of file.loaded) × (file.behind ≡ None)
+Seals file (Err e) = ((file.loaded.digest ≢ digest_of file.loaded) × (e ≡ faults.Digest)) ⊎ ((file.loaded.digest ≡ digest_of file.loaded) × (file.behind ≡ Some e))
+
+-- Where reading stops with a fault. With 68 what came has no fault of its own, with 61 to 67 that one, and with 69 the header is
+-- right, and so are the entries that are read at once.
+abbrev pub StopsBy : FileFault → List ℕ → Option (List ℕ) → Type 0
+StopsBy faults.Read bytes known = StopsIn IsSoundSoFar bytes known
+StopsBy faults.Memory bytes known = BeginsRight bytes
+StopsBy faults.Truncated bytes known = Unit {0}
+StopsBy e bytes known = StopsIn (IsRefused e) bytes known
+
+abbrev pub Stops : List ℕ → Option (List ℕ) → FileFault → Type 0
+Stops bytes known e = Fails e (file_in bytes) × StopsBy e bytes known
+
+-- The faults of a reader that were counted, as a fault tells of them: one more with 68, and none with 60.
+abbrev pub Tells : FileFault → ℕ → ℕ → Type 0
+Tells faults.Read old new = Grew old new
+Tells faults.Truncated old new = new ≡ old
+Tells e old new = old ≤ new
+
+-- the same, with what is wrong behind a digest
+abbrev pub TellsBehind : Option FileFault → ℕ → ℕ → Type 0
+TellsBehind None old new = new ≡ old
+TellsBehind (Some e) old new = Tells e old new
