@@ -9,7 +9,7 @@ ghost use Rattle.awari_answers.specs.Asked.{IsAsked};
 ghost use Rattle.awari_answers.specs.declared.asked.NoAnswer.TheVariants as no_answer;
 
 use awari_board::{Board, BoardFault, one_board_fault_is_due};
-use awari_folder::{Folder, FolderFault, load_parallel_to};
+use awari_folder::{Folder, FolderFault, Together, load};
 use awari_play::LineFault;
 use awari_table::{HIGHEST_LEVEL, NotYet, Shelf};
 use std::alloc::Global;
@@ -86,7 +86,7 @@ impl fmt::Display for NoAnswer {
 
 /// The board that `text` spells, and the levels in the folder up to the board's. Files of higher levels
 /// are not read. The text is read before the folder. If it is not a board, it is refused for that,
-/// whatever the folder holds. It takes the memory that `load_parallel_to` takes.
+/// whatever the folder holds. It takes the memory that `load` takes.
 pub fn ask_folder<T: Threads + Sync, F: Folder>(
     rt: &T,
     folder: &mut F,
@@ -101,7 +101,7 @@ pub fn ask_folder<T: Threads + Sync, F: Folder>(
     one_board_fault_is_due();
     let board = Board::parse(text)?;
     let most = board.stones().min(HIGHEST_LEVEL);
-    let shelf = load_parallel_to(rt, alloc, folder, most)?.shelf;
+    let shelf = load(&Together(rt), alloc, folder, most)?.shelf;
     // For the proof: the levels are a shelf.
     let _levels = shelf.levels();
     Ok(Asked { board, shelf })

@@ -12,8 +12,8 @@ ghost use Rattle.awari_answers.specs.declared.asked.NoAnswer.TheVariants as no_a
 use crate::asked::{NoAnswer, ask_folder};
 use crate::printing::{print, print_bytes, refuse, status_of};
 use arrayvec::ArrayString;
-use awari_folder::{Folder, load_parallel};
-use awari_table::{Entry, Shelf, line_of_entry};
+use awari_folder::{Folder, Together, load};
+use awari_table::{Entry, HIGHEST_LEVEL, Shelf, line_of_entry};
 use std::alloc::Global;
 use std::fmt;
 use std::io::Write;
@@ -126,7 +126,7 @@ pub fn run_verify<T: Threads + Sync, F: Folder, W: Write>(
     ensures verified { result ≡ 0 → PrintsFolder (F.stands folder.old) (W.contents writer.old) (W.contents writer.new) }
     ensures same { Same (F.stands folder.old) (F.stands folder.new) }
 {
-    let stored = match load_parallel(rt, alloc, folder) {
+    let stored = match load(&Together(rt), alloc, folder, HIGHEST_LEVEL) {
         Ok(stored) => stored,
         Err(fault) => return refuse(writer, fault),
     };

@@ -7,8 +7,8 @@ ghost use Rattle.awari_folder.specs.Contents.{Same};
 ghost use Rattle.awari_answers.specs.Texts.{AppendsText, PrintsText};
 
 use crate::printing::{refuse, status_of};
-use awari_folder::{Folder, load_parallel};
-use awari_table::{Counted, NotYet, Shelf, write_level_text, write_shelf_text};
+use awari_folder::{Folder, Together, load};
+use awari_table::{Counted, HIGHEST_LEVEL, NotYet, Shelf, write_level_text, write_shelf_text};
 use core::mem::replace_with;
 use std::alloc::Global;
 use std::io::{self, Write};
@@ -27,7 +27,7 @@ pub fn run_text<T: Threads + Sync, F: Folder, W: Write>(
     ensures text { result ≡ 0 → PrintsText (F.stands folder.old) level (W.contents writer.old) (W.contents writer.new) }
     ensures same { Same (F.stands folder.old) (F.stands folder.new) }
 {
-    let stored = match load_parallel(rt, alloc, folder) {
+    let stored = match load(&Together(rt), alloc, folder, HIGHEST_LEVEL) {
         Ok(stored) => stored,
         Err(fault) => return refuse(writer, fault),
     };

@@ -14,11 +14,11 @@ ghost use Rattle.awari_cli.specs.declared.building.BuildingFault.TheVariants as 
 
 use awari_answers::{Refused, print, refuse};
 use awari_build::{BuildFault, Pace, build_level_with_progress, build_together_with_progress};
-use awari_folder::{Folder, FolderFault, load_parallel, save_or_keep};
+use awari_folder::{Folder, FolderFault, Together, load, save_or_keep};
 use awari_phase::{Open, Progress};
 use awari_play::lowest_plans_stay;
 use awari_rank::size;
-use awari_table::{Counts, Level, Shelf};
+use awari_table::{Counts, HIGHEST_LEVEL, Level, Shelf};
 use std::alloc::{AllocFailed, Global};
 use std::fmt;
 use std::io::Write;
@@ -158,7 +158,7 @@ pub fn run_build_in<T: Threads + Wait + Sync, P: Progress, F: Folder, W: Write>(
     ensures keeps { (names : ℕ → Option (List ℕ)) → AreNames (F.stands folder.old) names
         → KeepsLevels top names (F.stands folder.old) (F.stands folder.new) (F.may_leave folder.old) (F.may_leave folder.new) }
 {
-    let stored = match load_parallel(builder.rt, builder.alloc, folder) {
+    let stored = match load(&Together(builder.rt), builder.alloc, folder, HIGHEST_LEVEL) {
         Ok(stored) => stored,
         Err(fault) => return refuse(writer, fault),
     };

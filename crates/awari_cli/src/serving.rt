@@ -13,9 +13,9 @@ use crate::lasting::{WhileServed, lasting_service};
 use awari_answers::refuse;
 use awari_build::{BuildFault, Pace, build_level_with_progress, build_together_with_progress};
 use awari_desk::{DeskFault, Publisher, Reader, ServeFault, desk, serve};
-use awari_folder::{Folder, FolderFault, load_parallel};
+use awari_folder::{Folder, FolderFault, Together, load};
 use awari_phase::{Open, PhaseFault};
-use awari_table::{Counted, Level, Shelf};
+use awari_table::{Counted, HIGHEST_LEVEL, Level, Shelf};
 use core::mem::replace_with;
 use rayon::current_num_threads;
 use std::alloc::{AllocError, AllocFailed, Global};
@@ -175,7 +175,7 @@ fn serve_beside<
     ensures served { OnOk result (PrintsService (F.stands folder.old) (R.remaining reader.old) (W.contents writer.old) (W.contents writer.new)) }
     ensures grown { IfOk result (λ end. end ≡ Grown.ToTop → HasLevelsTo top) }
 {
-    let stored = load_parallel(rt, alloc, folder)?;
+    let stored = load(&Together(rt), alloc, folder, HIGHEST_LEVEL)?;
     let (publisher, known) = published(rt.clone()?, alloc, &stored.shelf)?;
     let (service, wanted) = lasting_service(alloc)?;
     let grower = Grower {

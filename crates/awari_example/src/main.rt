@@ -13,9 +13,9 @@ ghost use Rattle.awari_table.specs.Images.{entry_of};
 
 use anyhow::{Context, Result, anyhow};
 use awari_board::Board;
-use awari_folder::{HostFolder, load};
+use awari_folder::{Alone, HostFolder, load};
 use awari_game::Game;
-use awari_table::Shelf;
+use awari_table::{HIGHEST_LEVEL, Shelf};
 use std::env;
 use std::fs::File;
 use std::path::Path;
@@ -37,7 +37,7 @@ fn start(
 ) -> Result<()> {
     let board = Board::parse(board.as_bytes())?;
     let mut folder = HostFolder::new(rt, rt.alloc(), Path::new(folder));
-    let shelf = load(rt.alloc(), &mut folder)?.shelf;
+    let shelf = load(&Alone, rt.alloc(), &mut folder, HIGHEST_LEVEL)?.shelf;
     let value = shelf.entry(&board)?.value;
     println!(rt; "{board} is worth {value}")?;
     play(rt, &shelf, Game::start(board))

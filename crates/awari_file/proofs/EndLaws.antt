@@ -11,7 +11,7 @@ use Rattle.awari_file.specs.declared.faults.FileFault.TheVariants as faults
 use Rattle.awari_file.specs.Reading.{◌>>=◌, field, digest_if, as_they_are, end_at}
 use Rattle.awari_file.specs.Source as source
 use Rattle.awari_file.specs.Source.{StopsIn}
-use Rattle.awari_file.specs.Sealing.{Ends, EndsEarly, IsBehind, TellsBehind, fault_behind}
+use Rattle.awari_file.specs.Sealing.{Ends, EndsEarly, IsBehind, TellsBehind, behind_by}
 use Rattle.awari_table.specs.Counted.{Grew}
 use Rattle.awari_file.proofs.FieldLaws.{guard_ok, ok_is, err_is}
 use Rattle.awari_file.proofs.Steps.{consumes_some, end_is}
@@ -54,7 +54,7 @@ too_short body left short = let less : ltb (length left) 32 ≡ true = lt-ltb _ 
 
 -- ---- what a reader has of it
 
-parted : (front digest over : List ℕ) (s : FileFault) → field 32 as_they_are s front ≡ Ok (digest, over) → (length digest ≡ 32) × (front ≡ digest ++ over)
+pub parted : (front digest over : List ℕ) (s : FileFault) → field 32 as_they_are s front ≡ Ok (digest, over) → (length digest ≡ 32) × (front ≡ digest ++ over)
 parted front digest over s h =
     let g = guard_ok (ltb (length front) 32) s (Ok (take 32 front, drop 32 front)) (digest, over) h in
     let cut : List ℕ × List ℕ = (take 32 front, drop 32 front) in
@@ -66,7 +66,7 @@ parted front digest over s h =
       sym (take-append-drop 32 front) ∙ ap (λ (l : List ℕ). l ++ drop 32 front) first ∙ ap (λ (l : List ℕ). digest ++ l) second,
     )
 
-why_behind : (s : FileFault) (b : Option (List ℕ)) (rest : List ℕ) (old new : ℕ) → b ≡ Some rest → source.IsWhy s b old new → IsBehind (fault_behind [] s) [] rest
+why_behind : (s : FileFault) (b : Option (List ℕ)) (rest : List ℕ) (old new : ℕ) → b ≡ Some rest → source.IsWhy s b old new → IsBehind (behind_by [] s) [] rest
 why_behind faults.Truncated b rest old new is why = (refl, end_is b rest is why)
 why_behind faults.Read b rest old new is why = refl
 why_behind faults.Memory b rest old new is why = absurd why
@@ -79,12 +79,12 @@ why_behind faults.Digest b rest old new is why = absurd why
 why_behind faults.Trailing b rest old new is why = absurd why
 why_behind faults.Write b rest old new is why = absurd why
 
-behind_is : (over : List ℕ) (s : FileFault) (b : Option (List ℕ)) (rest : List ℕ) (old new : ℕ) → b ≡ Some rest → (length over < 1 → source.IsWhy s b old new) → IsBehind (fault_behind over s) over rest
+behind_is : (over : List ℕ) (s : FileFault) (b : Option (List ℕ)) (rest : List ℕ) (old new : ℕ) → b ≡ Some rest → (length over < 1 → source.IsWhy s b old new) → IsBehind (behind_by over s) over rest
 behind_is [] s b rest old new is why = why_behind s b rest old new is (why (omega arith))
 behind_is (x ∷ over) s b rest old new is why = λ none. absurd cc
 
 pub end_there : (s : FileFault) (front left digest over : List ℕ) (a b : Option (List ℕ)) (old new : ℕ) → a ≡ Some left → Consumes a b front → (length front < 33 → source.IsWhy s b old new)
-    → field 32 as_they_are s front ≡ Ok (digest, over) → Ends digest (fault_behind over s) left b
+    → field 32 as_they_are s front ≡ Ok (digest, over) → Ends digest (behind_by over s) left b
 end_there s front left digest over a b old new known took why h =
     let (rest, b-is, parts) = consumes_some a b left front known took in
     let cut = parted front digest over s h in
@@ -124,16 +124,16 @@ end_missing s e front left a b old new known took why h =
     let short = short_front front s e h in
     subst (EndsEarly left b) (sym short.1) (early s front left rest b old new b-is parts short.0 (why (omega (arith, short.0))))
 
-pub tells_behind : (over : List ℕ) (s : FileFault) (old new : ℕ) → (s ≡ faults.Read → Grew old new) → (s ≢ faults.Read → new ≡ old) → old ≤ new → TellsBehind (fault_behind over s) old new
-tells_behind (x ∷ over) s old new read calm more = more
-tells_behind [] faults.Read old new read calm more = read refl
-tells_behind [] faults.Truncated old new read calm more = calm (λ is. absurd cc)
-tells_behind [] faults.Memory old new read calm more = calm (λ is. absurd cc)
-tells_behind [] faults.Magic old new read calm more = calm (λ is. absurd cc)
-tells_behind [] faults.Version old new read calm more = calm (λ is. absurd cc)
-tells_behind [] faults.LevelOutOfRange old new read calm more = calm (λ is. absurd cc)
-tells_behind [] faults.Count old new read calm more = calm (λ is. absurd cc)
-tells_behind [] faults.EntryForm old new read calm more = calm (λ is. absurd cc)
-tells_behind [] faults.Digest old new read calm more = calm (λ is. absurd cc)
-tells_behind [] faults.Trailing old new read calm more = calm (λ is. absurd cc)
-tells_behind [] faults.Write old new read calm more = calm (λ is. absurd cc)
+pub tells_behind : (over : List ℕ) (s : FileFault) (old new : ℕ) → (s ≡ faults.Read → Grew old new) → (s ≢ faults.Read → new ≡ old) → (1 ≤ length over → new ≡ old) → TellsBehind (behind_by over s) old new
+tells_behind (x ∷ over) s old new read calm some = some (omega arith)
+tells_behind [] faults.Read old new read calm some = read refl
+tells_behind [] faults.Truncated old new read calm some = calm (λ is. absurd cc)
+tells_behind [] faults.Memory old new read calm some = calm (λ is. absurd cc)
+tells_behind [] faults.Magic old new read calm some = calm (λ is. absurd cc)
+tells_behind [] faults.Version old new read calm some = calm (λ is. absurd cc)
+tells_behind [] faults.LevelOutOfRange old new read calm some = calm (λ is. absurd cc)
+tells_behind [] faults.Count old new read calm some = calm (λ is. absurd cc)
+tells_behind [] faults.EntryForm old new read calm some = calm (λ is. absurd cc)
+tells_behind [] faults.Digest old new read calm some = calm (λ is. absurd cc)
+tells_behind [] faults.Trailing old new read calm some = calm (λ is. absurd cc)
+tells_behind [] faults.Write old new read calm some = calm (λ is. absurd cc)

@@ -5,13 +5,15 @@ use Rattle.awari_table.specs.Counted.{Grew}
 use Rattle.awari_table.specs.declared.images.Entry.{Entry}
 use Rattle.awari_file.specs.declared.contents.Header.{Header}
 use Rattle.awari_file.specs.declared.contents.Loaded.{Loaded}
+use Rattle.awari_file.specs.declared.sealing.Behind.{Behind}
+use Rattle.awari_file.specs.declared.sealing.Behind.TheVariants as behind
 use Rattle.awari_file.specs.declared.sealing.Unsealed.{Unsealed}
 use Rattle.awari_file.specs.declared.faults.FileFault.{FileFault}
 use Rattle.awari_file.specs.declared.faults.FileFault.TheVariants as faults
 use Rattle.awari_file.specs.FileText.{body_text, HasFile, IsFileOf}
 use Rattle.awari_file.specs.Reading.{file_in, end_at, IsOwn}
 use Rattle.awari_file.specs.Source.{Answers, StopsIn, IsSoundSoFar, IsRefused, BeginsRight}
-use Rattle.awari_file.specs.Sealing.{IsBehind, IsUnsealed, Seals, Stops, StopsBy, EndsEarly, Tells, digest_of}
+use Rattle.awari_file.specs.Sealing.{IsBehind, IsUnsealed, Seals, Stops, StopsBy, EndsEarly, Tells, digest_of, fault_behind}
 use Rattle.awari_file.proofs.EndLaws.{another_digest, nothing_behind, some_behind, too_short}
 use Rattle.awari_file.proofs.WholeLaws.{after_end, known_intro}
 use Rattle.awari_file.proofs.WholeSpell.{file_on, size_small, low_in}
@@ -35,11 +37,11 @@ tail_gives found tail digest has is = let (h, gives, on) = on_tail found tail ha
 left_whole : (digest over rest left : List ℕ) → left ≡ digest ++ (over ++ rest) → over ≡ [] → rest ≡ [] → left ≡ digest ++ []
 left_whole digest over rest left parts none end = parts ∙ ap (λ (l : List ℕ). digest ++ (l ++ rest)) none ∙ ap (λ (l : List ℕ). digest ++ l) end
 
-pub sealed_is : (file : Unsealed) (bytes : List ℕ) (known : Option (List ℕ)) → IsUnsealed file bytes known → file.loaded.digest ≡ digest_of file.loaded → file.behind ≡ None
+pub sealed_is : (file : Unsealed) (bytes : List ℕ) (known : Option (List ℕ)) → IsUnsealed file bytes known → file.loaded.digest ≡ digest_of file.loaded → file.behind ≡ behind.Nothing
     → (file_in bytes ≡ Ok file.loaded) × IsFileOf bytes file.loaded
 sealed_is file bytes known is same none =
     let found = file.loaded in
-    let (over, rest) = subst (λ (b : Option FileFault). IsBehind b is.ends.over is.ends.rest) none is.ends.behind_is in
+    let (over, rest) = subst (λ (b : Behind). IsBehind b is.ends.over is.ends.rest) none is.ends.behind_is in
     let left : is.left ≡ found.digest ++ [] = left_whole found.digest is.ends.over is.ends.rest is.left is.ends.parts over rest in (
       ap file_in (is.parts ∙ ap (λ (l : List ℕ). body_of found ++ l) left) ∙ tail_gives found (found.digest ++ []) found.digest is.has (nothing_behind (body_of found) found.digest is.ends.whole same),
       record { has = is.has; text = is.parts ∙ ap (λ (l : List ℕ). body_of found ++ l) (left ∙ append-nil found.digest ∙ same); digest = same },
@@ -85,27 +87,23 @@ read_behind file bytes known is same none =
       kind = inr (rw (none, whole) refl);
     }
 
-behind_stops : (e : FileFault) (file : Unsealed) (bytes : List ℕ) (known : Option (List ℕ)) (is : IsUnsealed file bytes known) → file.loaded.digest ≡ digest_of file.loaded
-    → IsBehind (Some e) is.ends.over is.ends.rest → Stops bytes known e
-behind_stops faults.Trailing file bytes known is same some =
-    refused_by file bytes known faults.Trailing is (λ more. some_behind (body_of file.loaded) file.loaded.digest (is.ends.over ++ more) is.ends.whole same (still_some is.ends.over more some))
-behind_stops faults.Read file bytes known is same none = (tt, read_behind file bytes known is same none)
-behind_stops faults.Truncated file bytes known is same behind = absurd behind
-behind_stops faults.Memory file bytes known is same behind = absurd behind
-behind_stops faults.Magic file bytes known is same behind = absurd behind
-behind_stops faults.Version file bytes known is same behind = absurd behind
-behind_stops faults.LevelOutOfRange file bytes known is same behind = absurd behind
-behind_stops faults.Count file bytes known is same behind = absurd behind
-behind_stops faults.EntryForm file bytes known is same behind = absurd behind
-behind_stops faults.Digest file bytes known is same behind = absurd behind
-behind_stops faults.Write file bytes known is same behind = absurd behind
+behind_stops : (after : Behind) (e : FileFault) (file : Unsealed) (bytes : List ℕ) (known : Option (List ℕ)) (is : IsUnsealed file bytes known) → file.loaded.digest ≡ digest_of file.loaded
+    → IsBehind after is.ends.over is.ends.rest → fault_behind after ≡ Some e → Stops bytes known e
+behind_stops behind.Nothing e file bytes known is same here there = absurd cc
+behind_stops behind.Byte e file bytes known is same some there =
+    let trailing : faults.Trailing ≡ e = cc in
+    subst (Stops bytes known) trailing
+    (refused_by file bytes known faults.Trailing is (λ more. some_behind (body_of file.loaded) file.loaded.digest (is.ends.over ++ more) is.ends.whole same (still_some is.ends.over more some)))
+behind_stops behind.Fault e file bytes known is same none there =
+    let read : faults.Read ≡ e = cc in
+    subst (Stops bytes known) read (tt, read_behind file bytes known is same none)
 
 -- the fault that comparing the digest answers is the first
 pub seal_stops : (file : Unsealed) (bytes : List ℕ) (known : Option (List ℕ)) (e : FileFault) → IsUnsealed file bytes known → Seals {X = ⊤} file (Err e) → Stops bytes known e
 seal_stops file bytes known e is (inl another) =
     subst (Stops bytes known) (sym another.1)
     (refused_by file bytes known faults.Digest is (λ more. another_digest (body_of file.loaded) file.loaded.digest (is.ends.over ++ more) is.ends.whole another.0))
-seal_stops file bytes known e is (inr behind) = behind_stops e file bytes known is behind.0 (subst (λ (b : Option FileFault). IsBehind b is.ends.over is.ends.rest) behind.1 is.ends.behind_is)
+seal_stops file bytes known e is (inr behind) = behind_stops file.behind e file bytes known is behind.0 is.ends.behind_is behind.1
 
 -- ---- where a part of the file stops
 

@@ -5,32 +5,33 @@ use Rattle.awari_table.specs.Counted.{Grew}
 use Rattle.awari_file.specs.declared.faults.FileFault.{FileFault}
 use Rattle.awari_file.specs.declared.faults.FileFault.TheVariants as faults
 use Rattle.awari_file.specs.declared.contents.Loaded.{Loaded}
+use Rattle.awari_file.specs.declared.sealing.Behind.{Behind}
+use Rattle.awari_file.specs.declared.sealing.Behind.TheVariants as behind
 use Rattle.awari_file.specs.declared.sealing.Unsealed.{Unsealed}
 use Rattle.awari_file.specs.FileText.{HasFile, body_text}
 use Rattle.awari_file.specs.Reading.{file_in, Fails}
 use Rattle.awari_file.specs.Source.{StopsIn, IsSoundSoFar, IsRefused, BeginsRight}
 
--- what is wrong with what came behind a digest, if no more came for this reason
-abbrev pub fault_behind : List ℕ → FileFault → Option FileFault
-fault_behind (x ∷ over) short = Some faults.Trailing
-fault_behind [] faults.Read = Some faults.Read
-fault_behind [] short = None
+-- what came behind a digest, if no more came for this reason
+abbrev pub behind_by : List ℕ → FileFault → Behind
+behind_by (x ∷ over) short = behind.Byte
+behind_by [] faults.Read = behind.Fault
+behind_by [] short = behind.Nothing
 
 -- Behind a digest, `over` came and `rest` did not: nothing is there, or some came, or the reader answered a fault before any.
-abbrev pub IsBehind : Option FileFault → List ℕ → List ℕ → Type 0
-IsBehind None over rest = (over ≡ []) × (rest ≡ [])
-IsBehind (Some faults.Trailing) over rest = over ≢ []
-IsBehind (Some faults.Read) over rest = over ≡ []
-IsBehind (Some e) over rest = ⊥
+abbrev pub IsBehind : Behind → List ℕ → List ℕ → Type 0
+IsBehind behind.Nothing over rest = (over ≡ []) × (rest ≡ [])
+IsBehind behind.Byte over rest = over ≢ []
+IsBehind behind.Fault over rest = over ≡ []
 
 -- of what is left, this digest came, and this of what is behind it
-pub record Ends (digest : List ℕ) (behind : Option FileFault) (left : List ℕ) (known : Option (List ℕ)) : Type 0 where
+pub record Ends (digest : List ℕ) (after : Behind) (left : List ℕ) (known : Option (List ℕ)) : Type 0 where
   pub over : List ℕ
   pub rest : List ℕ
   pub whole : length digest ≡ 32
   pub known_is : known ≡ Some rest
   pub parts : left ≡ digest ++ (over ++ rest)
-  pub behind_is : IsBehind behind over rest
+  pub behind_is : IsBehind after over rest
 
 -- of what is left, no whole digest came
 abbrev pub EndsEarly : List ℕ → Option (List ℕ) → FileFault → Type 0
@@ -49,10 +50,16 @@ pub record IsUnsealed (file : Unsealed) (bytes : List ℕ) (known : Option (List
 abbrev pub digest_of : Loaded → List ℕ
 digest_of found = sha256 (body_text found.version found.image found.below)
 
--- the digest that was found is that of what was found, and nothing came behind it; or this is the first fault
+-- what is wrong behind a right digest
+abbrev pub fault_behind : Behind → Option FileFault
+fault_behind behind.Nothing = None
+fault_behind behind.Byte = Some faults.Trailing
+fault_behind behind.Fault = Some faults.Read
+
+-- the digest that was found is that of what was found, and nothing is wrong behind it; or this is the first fault
 abbrev pub Seals : {X : Type 0} → Unsealed → Result X FileFault → Type 0
-Seals file (Ok x) = (file.loaded.digest ≡ digest_of file.loaded) × (file.behind ≡ None)
-Seals file (Err e) = ((file.loaded.digest ≢ digest_of file.loaded) × (e ≡ faults.Digest)) ⊎ ((file.loaded.digest ≡ digest_of file.loaded) × (file.behind ≡ Some e))
+Seals file (Ok x) = (file.loaded.digest ≡ digest_of file.loaded) × (file.behind ≡ behind.Nothing)
+Seals file (Err e) = ((file.loaded.digest ≢ digest_of file.loaded) × (e ≡ faults.Digest)) ⊎ ((file.loaded.digest ≡ digest_of file.loaded) × (fault_behind file.behind ≡ Some e))
 
 -- Where reading stops with a fault. With 68 what came has no fault of its own, with 61 to 67 that one, and with 69 the header is
 -- right, and so are the entries that are read at once.
@@ -71,7 +78,8 @@ Tells faults.Read old new = Grew old new
 Tells faults.Truncated old new = new ≡ old
 Tells e old new = old ≤ new
 
--- the same, with what is wrong behind a digest
-abbrev pub TellsBehind : Option FileFault → ℕ → ℕ → Type 0
-TellsBehind None old new = new ≡ old
-TellsBehind (Some e) old new = Tells e old new
+-- the same, of what came behind a digest
+abbrev pub TellsBehind : Behind → ℕ → ℕ → Type 0
+TellsBehind behind.Nothing old new = new ≡ old
+TellsBehind behind.Byte old new = new ≡ old
+TellsBehind behind.Fault old new = Grew old new

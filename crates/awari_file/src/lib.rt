@@ -37,5 +37,5 @@ pub use faults::FileFault;
 pub use fields::OLD_VERSION;
 pub use laws::files_tell_images_apart;
 pub use reading::{read_image, read_unsealed};
-pub use sealing::Unsealed;
+pub use sealing::{Behind, Unsealed};
 pub use writing::write_level;

@@ -9,12 +9,12 @@ ghost use Rattle.awari_file.specs.declared.sizes.TheConstants.{BUFFERED};
 ghost use Rattle.awari_file.specs.FileText.{HasFile, IsFileOf, file_text, found_of};
 ghost use Rattle.awari_file.specs.Reading.{header_at, entries_at, file_in, IsOwn};
 ghost use Rattle.awari_file.specs.Source.{IsAt, StopsIn, Unfinished, HasFault, IsRefused, IsSoundSoFar, Advances, Adds, AddsAt, AddsOrLacks, Answers, BeginsRight, Judges};
-ghost use Rattle.awari_file.specs.Sealing.{Ends, EndsEarly, IsUnsealed, Stops, Tells, TellsBehind, fault_behind};
+ghost use Rattle.awari_file.specs.Sealing.{Ends, EndsEarly, IsUnsealed, Stops, Tells, TellsBehind, behind_by};
 
 use crate::contents::{Header, Loaded};
 use crate::faults::FileFault;
 use crate::fields::{bytes_at, entry_at, header_of};
-use crate::sealing::{End, Unsealed};
+use crate::sealing::{Behind, End, Unsealed};
 use crate::sizes::{BUFFER_LEN, BUFFERED, END_LEN, ENTRY_LEN, HEADER_LEN};
 use crate::source::fill;
 use awari_rank::size;
@@ -179,16 +179,16 @@ fn read_end<R: Read>(reader: &mut Counted<R>) -> Result<End, FileFault>
     })
 }
 
-/// What is wrong with what came behind a digest, if these bytes did, and no more for this reason.
-fn behind(over: &[u8], short: FileFault) -> Option<FileFault>
-    ensures { result ≡ fault_behind over.now short }
+/// What came behind a digest, if these bytes did, and no more for this reason.
+fn behind(over: &[u8], short: FileFault) -> Behind
+    ensures { result ≡ behind_by over.now short }
 {
     if !over.is_empty() {
-        return Some(FileFault::Trailing);
+        return Behind::Byte;
     }
     match short {
-        FileFault::Read => Some(FileFault::Read),
-        _ => None,
+        FileFault::Read => Behind::Fault,
+        _ => Behind::Nothing,
     }
 }
 

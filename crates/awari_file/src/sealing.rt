@@ -16,13 +16,23 @@ use crate::writing::{header_of, spell};
 use awari_table::{Entries, Entry, Image};
 use sha2::{Digest, Sha256};
 
+/// What came behind the digest of a file.
+#[derive(Clone, Copy, Debug, PartialEq, Eq)]
+pub enum Behind {
+    /// Nothing, as it has to be.
+    Nothing,
+    /// A byte.
+    Byte,
+    /// A fault of the reader, before any byte.
+    Fault,
+}
+
 /// The end of a file.
 #[derive(Clone, Copy)]
 pub(crate) struct End {
     /// The digest that stands there.
     pub digest: [u8; 32],
-    /// What is wrong with what comes behind it: a byte, or a fault of the reader.
-    pub behind: Option<FileFault>,
+    pub behind: Behind,
 }
 
 /// The file of a level, read, with its digest still to be compared. Its form is right up to the
@@ -31,8 +41,8 @@ pub(crate) struct End {
 pub struct Unsealed {
     /// What was read, with the digest that the file names.
     pub loaded: Loaded,
-    /// What is wrong with what comes behind the digest: 67, or 68.
-    pub behind: Option<FileFault>,
+    /// What came behind the digest.
+    pub behind: Behind,
 }
 
 impl Unsealed {
@@ -58,8 +68,9 @@ impl Unsealed {
             return Err(FileFault::Digest);
         }
         match self.behind {
-            Some(fault) => Err(fault),
-            None => Ok(()),
+            Behind::Nothing => Ok(()),
+            Behind::Byte => Err(FileFault::Trailing),
+            Behind::Fault => Err(FileFault::Read),
         }
     }
 }

@@ -2,8 +2,8 @@
 
 use crate::expect::expect_equal;
 use awari_file::{read_image, write_level};
-use awari_folder::{MemoryFolder, load, save};
-use awari_table::{Counted, Shelf, TableText};
+use awari_folder::{Alone, MemoryFolder, load, save};
+use awari_table::{Counted, HIGHEST_LEVEL, Shelf, TableText};
 use awari_verify::verify;
 use std::test::Fail;
 
@@ -28,7 +28,7 @@ fn a_saved_level_is_loaded(rt: HostRuntime) -> Result<(), Fail> {
     let level = verify(&Shelf::empty(), image)?;
     let mut folder = MemoryFolder::new(rt.alloc());
     let digest = save(&mut folder, &level, [0; 32])?;
-    let stored = load(rt.alloc(), &mut folder)?;
+    let stored = load(&Alone, rt.alloc(), &mut folder, HIGHEST_LEVEL)?;
     expect_equal(&rt, "levels", stored.shelf.levels(), 1);
     expect_equal(&rt, "digest", stored.digest, digest);
     Ok(())

@@ -4,7 +4,7 @@
 
 use awari_file::{FileFault, Loaded, compare_level, read_image, write_level};
 use awari_folder::{
-    Folder, FolderFault, MemoryFolder, Migrated, Stored, load, migrate, save, save_or_keep,
+    Alone, Folder, FolderFault, MemoryFolder, Migrated, Stored, load, migrate, save, save_or_keep,
 };
 use awari_table::{Counted, HIGHEST_LEVEL, Image, Level, Shelf, TableText};
 use awari_verify::{VerifyFault, verify};
@@ -82,7 +82,7 @@ pub(crate) fn save_into(
 
 /// Loads the levels of a folder.
 pub(crate) fn load_from(folder: &mut impl Folder, alloc: Global) -> Result<Stored, FolderFault> {
-    load(alloc, folder)
+    load(&Alone, alloc, folder, HIGHEST_LEVEL)
 }
 
 /// Brings the levels of one folder over to another.

@@ -5,3 +5,4 @@ pub mod Log
 pub mod Saved
 pub mod Migrations
 pub mod Kept
+pub mod Placing

@@ -130,7 +130,3 @@ pub record IsFaultTo (most : ℕ) (names : ℕ → Option (List ℕ)) (fault : F
   pub below : List ℕ
   pub right : HoldLevels names level shelf below
   pub here : IsFaultAt names level shelf below fault
-
--- The same of a level up to the highest.
-abbrev pub IsFirstFault : (ℕ → Option (List ℕ)) → FolderFault → Type 0
-IsFirstFault names fault = IsFaultTo HIGHEST_LEVEL names fault

@@ -1,7 +1,7 @@
 pub mod FolderFault
 pub mod NextFile
 pub mod Migration
-pub mod Judges
+pub mod Verifying
 pub mod Contents
 pub mod Log
 pub mod Host

@@ -13,7 +13,7 @@
 //!         let level = verify(&Shelf::empty(), image)?;
 //!         let mut folder = MemoryFolder::new(rt.alloc());
 //!         let digest = save(&mut folder, &level, [0; 32])?;
-//!         let stored = load(rt.alloc(), &mut folder)?;
+//!         let stored = load(&Alone, rt.alloc(), &mut folder, HIGHEST_LEVEL)?;
 //!         expect_equal(&rt, "levels", stored.shelf.levels(), 1);
 //!         expect_equal(&rt, "digest", stored.digest, digest);
 //!         Ok(())
@@ -30,13 +30,15 @@ mod memory;
 mod migrating;
 mod names;
 mod saving;
+mod verifiers;
 
 pub use calls::{Draft, Folder, Refusal};
 pub use faults::FolderFault;
 pub use host::{HostDraft, HostFolder};
 pub use keeping::save_or_keep;
 pub use laws::{folders_hold_one_shelf, stored_shelves_are_loaded};
-pub use loading::{Stored, load, load_parallel, load_parallel_to};
+pub use loading::{Stored, load};
 pub use memory::{MemoryDraft, MemoryFolder};
 pub use migrating::{Limits, Migrated, migrate};
 pub use saving::save;
+pub use verifiers::{Alone, Together, Verifier};

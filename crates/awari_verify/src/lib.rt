@@ -2,7 +2,8 @@
 //! rule first, and which rule.
 //!
 //! [`verify`] makes a level of an image that is right, and refuses any other. [`verify_parallel`]
-//! answers the same with the boards shared among threads, and is the only call that takes memory.
+//! answers the same with the boards shared among threads. [`fault_of`] and [`fault_of_parallel`] leave
+//! the image with the caller. Only the calls that share boards take memory.
 //!
 //! An image is verified and put on top of its shelf, in `crates/awari_check/src/checks.rt`:
 //!
@@ -31,6 +32,6 @@ mod sights;
 mod verdicts;
 
 pub use laws::one_fault_is_due;
-pub use parallel::verify_parallel;
+pub use parallel::{fault_of_parallel, verify_parallel};
 pub use rules::Rule;
 pub use verdicts::{VerifyFault, fault_of, verify, verify_old};

@@ -42,9 +42,30 @@ pub fn verify_parallel<R: Threads + Sync>(
     // least.
     ensures meaning { IfOk result (λ level. TellsTruth (shelf.now ++ level ∷ [])) }
 {
-    match fault_in_pieces(rt, alloc, shelf, &image)? {
+    match fault_of_parallel(rt, alloc, shelf, &image) {
         Some(fault) => Err(fault),
         None => Ok(Level::new(image)),
+    }
+}
+
+/// Answers what [`fault_of`](crate::fault_of) does, with the boards shared among as many threads as
+/// there are processors. It takes memory as [`verify_parallel`] does, and answers 23 `Memory` if that
+/// runs out.
+pub fn fault_of_parallel<R: Threads + Sync>(
+    rt: &R,
+    alloc: Global,
+    shelf: &Shelf,
+    image: &Image,
+) -> Option<VerifyFault>
+    // An image with no fault tells the truth, on the shelf: following the plans secures the value,
+    // soon, the value is what the board is worth, and the distance is the least.
+    ensures meaning { IsNone result → TellsTruth (shelf.now ++ image.now ∷ []) }
+    ensures none { IsNone result → Consistent shelf.now image.now }
+    ensures fault { IfSome result (λ fault. (fault ≡ VerifyFault.Memory) ⊎ IsDue shelf.now image.now fault) }
+{
+    match fault_in_pieces(rt, alloc, shelf, image) {
+        Ok(fault) => fault,
+        Err(_) => Some(VerifyFault::Memory),
     }
 }
 

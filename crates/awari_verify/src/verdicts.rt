@@ -28,7 +28,7 @@ pub enum VerifyFault {
     /// 22: the board of this rank is the first that breaks a rule, and this is the first rule that it
     /// breaks. If each board keeps V1 to V6 and the limit is wrong, it is rank 0 and V7.
     Refused { rank: u32, rule: Rule },
-    /// 23: there was no room. Only [`verify_parallel`](crate::verify_parallel) takes memory.
+    /// 23: there was no room. Only the calls that share boards among threads take memory.
     Memory,
 }
 

@@ -4,4 +4,4 @@ use Rattle.awari_table.proofs.ShelfLemmas.{IsLevel-consistent}
 use Rattle.awari_verify.proofs.parallel.verify_parallel.Goals as goal
 
 pub new-requires : goal.new-requires
-new-requires g c = IsLevel-consistent Least c.args.shelf.now c.args.image (c.in_ok-fault.ensures.none.0 (rw c.in-None.is refl))
+new-requires g c = IsLevel-consistent Least c.args.shelf.now c.args.image (c.in-None.ensures.none refl)
