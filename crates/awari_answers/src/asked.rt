@@ -93,8 +93,8 @@ pub fn ask_folder<T: Threads + Sync, F: Folder>(
     alloc: Global,
     text: &[u8],
 ) -> Result<Asked, NoAnswer>
-    ensures asked { IfOk result (λ found. IsAsked (F.stands folder.old) text.now found.shelf found.board) }
-    ensures same { Same (F.stands folder.old) (F.stands folder.new) }
+    ensures asked { IfOk result (λ found. IsAsked (F.state folder.old).stands text.now found.shelf found.board) }
+    ensures same { Same (F.state folder.old).stands (F.state folder.new).stands }
     ensures board { (fault : BoardFault) → (result ≡ Err (no_answer.Board fault)) ↔ IsFaulty text.now fault }
 {
     // Ghost: a text has at most one fault.

@@ -88,8 +88,8 @@ fn look_up<T: Threads + Sync, F: Folder>(
     alloc: Global,
     text: &[u8],
 ) -> Result<Entry, NoAnswer>
-    ensures entry { IfOk result (IsEntryOf (F.stands folder.old) text.now) }
-    ensures same { Same (F.stands folder.old) (F.stands folder.new) }
+    ensures entry { IfOk result (IsEntryOf (F.state folder.old).stands text.now) }
+    ensures same { Same (F.state folder.old).stands (F.state folder.new).stands }
     ensures board { (fault : BoardFault) → (result ≡ Err (no_answer.Board fault)) ↔ IsFaulty text.now fault }
 {
     let asked = ask_folder(rt, folder, alloc, text)?;
@@ -105,8 +105,8 @@ pub fn run_ask<T: Threads + Sync, F: Folder, W: Write>(
     writer: &mut W,
 ) -> u8
     ensures status { result ≤ 1 }
-    ensures found { result ≡ 0 → PrintsEntry (F.stands folder.old) board.now (W.contents writer.old) (W.contents writer.new) }
-    ensures same { Same (F.stands folder.old) (F.stands folder.new) }
+    ensures found { result ≡ 0 → PrintsEntry (F.state folder.old).stands board.now (W.contents writer.old) (W.contents writer.new) }
+    ensures same { Same (F.state folder.old).stands (F.state folder.new).stands }
 {
     match look_up(rt, folder, alloc, board.as_bytes()) {
         Ok(entry) => status_of(print_bytes(writer, line_of_entry(entry).as_slice())),
@@ -123,8 +123,8 @@ pub fn run_verify<T: Threads + Sync, F: Folder, W: Write>(
     writer: &mut W,
 ) -> u8
     ensures status { result ≤ 1 }
-    ensures verified { result ≡ 0 → PrintsFolder (F.stands folder.old) (W.contents writer.old) (W.contents writer.new) }
-    ensures same { Same (F.stands folder.old) (F.stands folder.new) }
+    ensures verified { result ≡ 0 → PrintsFolder (F.state folder.old).stands (W.contents writer.old) (W.contents writer.new) }
+    ensures same { Same (F.state folder.old).stands (F.state folder.new).stands }
 {
     let stored = match load(&Together(rt), alloc, folder, HIGHEST_LEVEL) {
         Ok(stored) => stored,

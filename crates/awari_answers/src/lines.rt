@@ -65,8 +65,8 @@ fn line_of<T: Threads + Sync, F: Folder>(
     alloc: Global,
     text: &[u8],
 ) -> Result<ValuedLine, NoAnswer>
-    ensures same { Same (F.stands folder.old) (F.stands folder.new) }
-    ensures line { IfOk result (λ found. IsLineOf (F.stands folder.old) text.now found.entry.value found.line.moves.items found.line.outcome) }
+    ensures same { Same (F.state folder.old).stands (F.state folder.new).stands }
+    ensures line { IfOk result (λ found. IsLineOf (F.state folder.old).stands text.now found.entry.value found.line.moves.items found.line.outcome) }
     ensures board { (fault : BoardFault) → (result ≡ Err (no_answer.Board fault)) ↔ IsFaulty text.now fault }
 {
     let Asked { board, shelf } = ask_folder(rt, folder, alloc, text)?;
@@ -86,8 +86,8 @@ pub fn run_line<T: Threads + Sync, F: Folder, W: Write>(
     writer: &mut W,
 ) -> u8
     ensures status { result ≤ 1 }
-    ensures same { Same (F.stands folder.old) (F.stands folder.new) }
-    ensures found { result ≡ 0 → PrintsLine (F.stands folder.old) board.now (W.contents writer.old) (W.contents writer.new) }
+    ensures same { Same (F.state folder.old).stands (F.state folder.new).stands }
+    ensures found { result ≡ 0 → PrintsLine (F.state folder.old).stands board.now (W.contents writer.old) (W.contents writer.new) }
 {
     match line_of(rt, folder, alloc, board.as_bytes()) {
         Ok(found) => status_of(print(writer, &found)),

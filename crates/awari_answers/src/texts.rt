@@ -24,8 +24,8 @@ pub fn run_text<T: Threads + Sync, F: Folder, W: Write>(
     writer: &mut W,
 ) -> u8
     ensures status { result ≤ 1 }
-    ensures text { result ≡ 0 → PrintsText (F.stands folder.old) level (W.contents writer.old) (W.contents writer.new) }
-    ensures same { Same (F.stands folder.old) (F.stands folder.new) }
+    ensures text { result ≡ 0 → PrintsText (F.state folder.old).stands level (W.contents writer.old) (W.contents writer.new) }
+    ensures same { Same (F.state folder.old).stands (F.state folder.new).stands }
 {
     let stored = match load(&Together(rt), alloc, folder, HIGHEST_LEVEL) {
         Ok(stored) => stored,

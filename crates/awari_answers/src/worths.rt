@@ -22,8 +22,8 @@ fn weigh_in<T: Threads + Sync, F: Folder>(
     alloc: Global,
     text: &[u8],
 ) -> Result<Weighed, NoAnswer>
-    ensures weighed { IfOk result (IsWeighedIn (F.stands folder.old) text.now) }
-    ensures same { Same (F.stands folder.old) (F.stands folder.new) }
+    ensures weighed { IfOk result (IsWeighedIn (F.state folder.old).stands text.now) }
+    ensures same { Same (F.state folder.old).stands (F.state folder.new).stands }
     ensures board { (fault : BoardFault) → (result ≡ Err (no_answer.Board fault)) ↔ IsFaulty text.now fault }
 {
     let asked = ask_folder(rt, folder, alloc, text)?;
@@ -40,8 +40,8 @@ pub fn run_moves<T: Threads + Sync, F: Folder, W: Write>(
     writer: &mut W,
 ) -> u8
     ensures status { result ≤ 1 }
-    ensures same { Same (F.stands folder.old) (F.stands folder.new) }
-    ensures found { result ≡ 0 → PrintsWorths (F.stands folder.old) board.now (W.contents writer.old) (W.contents writer.new) }
+    ensures same { Same (F.state folder.old).stands (F.state folder.new).stands }
+    ensures found { result ≡ 0 → PrintsWorths (F.state folder.old).stands board.now (W.contents writer.old) (W.contents writer.new) }
 {
     match weigh_in(rt, folder, alloc, board.as_bytes()) {
         Ok(weighed) => status_of(print_bytes(writer, weighed.text().as_slice())),

@@ -150,13 +150,13 @@ pub fn run_build_in<T: Threads + Wait + Sync, P: Progress, F: Folder, W: Write>(
 ) -> u8
     ensures status { result ≤ 1 }
     ensures built { result ≡ 0
-        → PrintsLevels top (F.stands folder.old) (F.stands folder.new) (W.contents writer.old) (W.contents writer.new) }
+        → PrintsLevels top (F.state folder.old).stands (F.state folder.new).stands (W.contents writer.old) (W.contents writer.new) }
 
     // Each file stays that was there. A folder that is at fault stays as it was, and no level that is
     // there is written again.
-    ensures kept { KeepsFiles (F.stands folder.old) (F.stands folder.new) }
-    ensures keeps { (names : ℕ → Option (List ℕ)) → AreNames (F.stands folder.old) names
-        → KeepsLevels top names (F.stands folder.old) (F.stands folder.new) (F.may_leave folder.old) (F.may_leave folder.new) }
+    ensures kept { KeepsFiles (F.state folder.old).stands (F.state folder.new).stands }
+    ensures keeps { (names : ℕ → Option (List ℕ)) → AreNames (F.state folder.old).stands names
+        → KeepsLevels top names (F.state folder.old).stands (F.state folder.new).stands (F.state folder.old).may_leave (F.state folder.new).may_leave }
 {
     let stored = match load(&Together(builder.rt), builder.alloc, folder, HIGHEST_LEVEL) {
         Ok(stored) => stored,
@@ -213,11 +213,11 @@ fn build_up_in<T: Threads + Wait + Sync, P: Progress, F: Folder, W: Write>(
     ensures built { result ≡ 0 → (built : List Image) × (shelf.new ≡ shelf.old ++ built)
         × Appends (W.contents writer.old) (W.contents writer.new) (level_lines built) }
     ensures planned { result ≡ 0 → HasLowestPlans shelf.old → HasLowestPlans shelf.new }
-    ensures holds { HoldsIn (F.stands folder.old) shelf.old digest.old → result ≡ 0 → HoldsIn (F.stands folder.new) shelf.new digest.new }
-    ensures same { SameOutside (length shelf.old) top (F.stands folder.old) (F.stands folder.new) }
-    ensures kept { KeepsFiles (F.stands folder.old) (F.stands folder.new) }
-    ensures crash { (names : ℕ → Option (List ℕ)) → AreNames (F.stands folder.old) names
-        → LeavesFiles (length shelf.old) names (F.may_leave folder.old) (F.may_leave folder.new) }
+    ensures holds { HoldsIn (F.state folder.old).stands shelf.old digest.old → result ≡ 0 → HoldsIn (F.state folder.new).stands shelf.new digest.new }
+    ensures same { SameOutside (length shelf.old) top (F.state folder.old).stands (F.state folder.new).stands }
+    ensures kept { KeepsFiles (F.state folder.old).stands (F.state folder.new).stands }
+    ensures crash { (names : ℕ → Option (List ℕ)) → AreNames (F.state folder.old).stands names
+        → LeavesFiles (length shelf.old) names (F.state folder.old).may_leave (F.state folder.new).may_leave }
 {
     while shelf.levels() <= top {
         match save_next(builder, folder, shelf, digest) {
@@ -261,12 +261,12 @@ fn save_next<T: Threads + Wait + Sync, P: Progress, F: Folder>(
 ) -> Result<BuiltLevel, BuildingFault>
     ensures built { IfOk result (λ told. (image : Image) × (shelf.new ≡ shelf.old ++ image ∷ []) × IsToldOf image told) }
     ensures planned { OnOk result (HasLowestPlans shelf.old → HasLowestPlans shelf.new) }
-    ensures holds { HoldsIn (F.stands folder.old) shelf.old digest.old → OnOk result (HoldsIn (F.stands folder.new) shelf.new digest.new) }
-    ensures others { SameBut (length shelf.old) (F.stands folder.old) (F.stands folder.new) }
-    ensures kept { KeepsFiles (F.stands folder.old) (F.stands folder.new) }
-    ensures err { OnErr result (Same (F.stands folder.old) (F.stands folder.new)) }
-    ensures crash { (names : ℕ → Option (List ℕ)) → F.stands folder.old (length shelf.old) ≡ Some (names (length shelf.old))
-        → LeavesFiles (length shelf.old) names (F.may_leave folder.old) (F.may_leave folder.new) }
+    ensures holds { HoldsIn (F.state folder.old).stands shelf.old digest.old → OnOk result (HoldsIn (F.state folder.new).stands shelf.new digest.new) }
+    ensures others { SameBut (length shelf.old) (F.state folder.old).stands (F.state folder.new).stands }
+    ensures kept { KeepsFiles (F.state folder.old).stands (F.state folder.new).stands }
+    ensures err { OnErr result (Same (F.state folder.old).stands (F.state folder.new).stands) }
+    ensures crash { (names : ℕ → Option (List ℕ)) → (F.state folder.old).stands (length shelf.old) ≡ Some (names (length shelf.old))
+        → LeavesFiles (length shelf.old) names (F.state folder.old).may_leave (F.state folder.new).may_leave }
 {
     // Ghost: the plans stay the lowest.
     lowest_plans_stay();

@@ -2,7 +2,7 @@
 
 ghost use Rattle.std.specs.Prelude.{◌≡◌, ◌≤◌, true};
 ghost use Rattle.std.specs.Io.KnownBytes.{Appends};
-ghost use Rattle.awari_folder.specs.Contents.{LeavesNoMore, Same};
+ghost use Rattle.awari_folder.specs.State.{Unchanged};
 ghost use Rattle.awari_folder.specs.Migration.{KeepsFiles};
 ghost use Rattle.awari_cli.specs.Migrating.{LeavesMigrated, PrintsMigrated, migrated_lines};
 
@@ -41,16 +41,15 @@ pub fn run_migrate<F: Folder, G: Folder, W: Write>(
 ) -> u8
     ensures status { result ≤ 1 }
     ensures migrated { result ≡ 0
-        → PrintsMigrated (F.stands from.old) (G.stands to.old) (G.stands to.new) (W.contents writer.old) (W.contents writer.new) }
+        → PrintsMigrated (F.state from.old).stands (G.state to.old).stands (G.state to.new).stands (W.contents writer.old) (W.contents writer.new) }
 
     // Whatever is printed or not, all levels were brought over, or those below the first that is
     // refused.
-    ensures leaves { LeavesMigrated (F.stands from.old) (G.stands to.old) (G.stands to.new) }
-    ensures kept { KeepsFiles (G.stands to.old) (G.stands to.new) }
+    ensures leaves { LeavesMigrated (F.state from.old).stands (G.state to.old).stands (G.state to.new).stands }
+    ensures kept { KeepsFiles (G.state to.old).stands (G.state to.new).stands }
 
     // The folder that is read stays as it was.
-    ensures same { Same (F.stands from.old) (F.stands from.new) }
-    ensures crash { LeavesNoMore (F.may_leave from.old) (F.may_leave from.new) }
+    ensures unchanged { Unchanged (F.state from.old) (F.state from.new) }
 {
     let migrated = match migrate(alloc, from, to) {
         Ok(migrated) => migrated,

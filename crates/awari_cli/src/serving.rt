@@ -143,7 +143,7 @@ pub fn run_serve<
     ensures status { result ≤ 1 }
 
     // What was written is a service by right levels, of which the first are those of the folder.
-    ensures served { result ≡ 0 → PrintsService (F.stands folder.old) (R.remaining reader.old) (W.contents writer.old) (W.contents writer.new) }
+    ensures served { result ≡ 0 → PrintsService (F.state folder.old).stands (R.remaining reader.old) (W.contents writer.old) (W.contents writer.new) }
 {
     match serve_beside(rt, folder, alloc, top, owners, reader, writer) {
         Ok(Grown::ToTop | Grown::Stopped) => 0,
@@ -172,7 +172,7 @@ fn serve_beside<
     reader: &mut R,
     writer: &mut W,
 ) -> Result<Grown, ServingFault>
-    ensures served { OnOk result (PrintsService (F.stands folder.old) (R.remaining reader.old) (W.contents writer.old) (W.contents writer.new)) }
+    ensures served { OnOk result (PrintsService (F.state folder.old).stands (R.remaining reader.old) (W.contents writer.old) (W.contents writer.new)) }
     ensures grown { IfOk result (λ end. end ≡ Grown.ToTop → HasLevelsTo top) }
 {
     let stored = load(&Together(rt), alloc, folder, HIGHEST_LEVEL)?;

@@ -1,8 +1,9 @@
 //! Examples that stand whole at the head of the libraries they call.
 
 use crate::expect::expect_equal;
+use crate::memory::MemoryFolder;
 use awari_file::{read_image, write_level};
-use awari_folder::{Alone, MemoryFolder, load, save};
+use awari_folder::{Alone, load, save};
 use awari_table::{Counted, HIGHEST_LEVEL, Shelf, TableText};
 use awari_verify::verify;
 use std::test::Fail;

@@ -1,5 +1,5 @@
 //! Tests of the files of levels and of folders of them, by public calls alone: their bytes, and every
-//! fault in its place.
+//! fault in its place. [`MemoryFolder`] is a folder in memory, of which chosen calls are refused.
 #![tactic(auto)]
 
 #[cfg(test)]
@@ -14,6 +14,7 @@ mod expect;
 mod folders;
 #[cfg(test)]
 mod levels;
+mod memory;
 #[cfg(test)]
 mod plain;
 #[cfg(test)]
@@ -22,3 +23,5 @@ mod refusals;
 mod streams;
 #[cfg(test)]
 mod versions;
+
+pub use memory::{MemoryDraft, MemoryFolder};

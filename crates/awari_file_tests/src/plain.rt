@@ -2,9 +2,10 @@
 //! promises is a premise of each goal behind it, and no test is proved from that: it is seen when the
 //! test runs.
 
+use crate::memory::MemoryFolder;
 use awari_file::{FileFault, Loaded, compare_level, read_image, write_level};
 use awari_folder::{
-    Alone, Folder, FolderFault, MemoryFolder, Migrated, Stored, load, migrate, save, save_or_keep,
+    Alone, Folder, FolderFault, Migrated, Stored, load, migrate, save, save_or_keep,
 };
 use awari_table::{Counted, HIGHEST_LEVEL, Image, Level, Shelf, TableText};
 use awari_verify::{VerifyFault, verify};

@@ -1,27 +1,35 @@
--- A folder whose file of a level was kept.
-use Rattle.std.proofs.Common.{◌≡◌, ◌∙◌, ℕ, List, ◌∷◌, ◌++◌, [], Option, Some, None, Result, Ok, Err, ap, sym}
-use Rattle.std.specs.Prelude.{IfOk, IfSome, IsSomeAnd, OnOk}
-use Rattle.sha2.specs.Sha256.{sha256}
-use Rattle.awari_table.specs.Shelves.{Consistent}
+-- A folder whose file of a level was kept, and one that has none.
+use Rattle.std.proofs.Common.{◌≡◌, ◌∙◌, ℕ, List, Option, Some, None, Result, Ok, Err, ap, refl, subst}
+use Rattle.std.specs.Prelude.{IfSome, IsSomeAnd, OnOk}
 use Rattle.awari_table.specs.declared.images.Image.{Image}
-use Rattle.awari_file.specs.FileText.{HasFile, body_text, file_text}
+use Rattle.awari_file.specs.FileText.{HasFile, file_text}
 use Rattle.awari_folder.specs.declared.faults.FolderFault.{FolderFault}
-use Rattle.awari_folder.specs.Contents.{HoldsIn, Opens, Same}
+use Rattle.awari_folder.specs.Contents.{Becomes, Opens}
+use Rattle.awari_folder.specs.State.{Saves, State, Unchanged}
 use Rattle.awari_folder.proofs.Opened.{of_name}
-use Rattle.awari_folder.proofs.Saved.{holds_more}
+use Rattle.awari_folder.proofs.Saved.{saves_by}
 
 some_of : (name : Option (List ℕ)) (text : List ℕ) → IsSomeAnd name (λ bytes. bytes ≡ text) → name ≡ Some text
 some_of None text is = absurd is
 some_of (Some bytes) text is = ap (λ (b : List ℕ). Some b) is
 
--- A folder that holds a shelf holds it with a level on top, if the file that has the level's name is the level's.
-pub holds_kept : {F : Type 0} (remaining : F → Option (List ℕ)) (old new : ℕ → Option (Option (List ℕ))) (number : ℕ) (below : List ℕ) (image : Image) (lent file : F) (result : Result (List ℕ) FolderFault)
-    → number ≡ image.level → lent ≡ file → Opens remaining (old number) (Some file) → IfSome (remaining lent) (λ bytes. OnOk result (bytes ≡ file_text 2 image below))
-    → OnOk result (HasFile 2 image below) → IfOk result (λ digest. digest ≡ sha256 (body_text 2 image below)) → Same old new
-    → (shelf : List Image) → HoldsIn old shelf below → Consistent shelf image → IfOk result (HoldsIn new (shelf ++ image ∷ []))
-holds_kept remaining old new number below image lent file (Ok digest) is lent_is opened own has ends same shelf (names, are, held) right =
-    let text = file_text 2 image below in
-    let named : names number ≡ Some text = some_of (names number) text (of_name remaining (old number) (names number) lent file (λ bytes. bytes ≡ text) lent_is (are number) opened own) in
-    let stands : new image.level ≡ Some (Some text) = same image.level ∙ are image.level ∙ ap (λ (n : ℕ). Some (names n)) (sym is) ∙ ap (λ (name : Option (List ℕ)). Some name) named in
-    holds_more old new shelf below image digest (names, are, held) right has (λ n _. same n) stands ends
-holds_kept remaining old new number below image lent file (Err fault) is lent_is opened own has ends same shelf held right = tt
+own_kept : {F : Type 0} (remaining : F → Option (List ℕ)) (stand new : Option (Option (List ℕ))) (lent file : F) (text : List ℕ) → lent ≡ file → Opens remaining stand (Some file) → IfSome (remaining lent) (λ bytes. bytes ≡ text)
+    → new ≡ stand → Becomes stand new (Some text)
+own_kept remaining None new lent file text lent_is opened own same = tt
+own_kept remaining (Some name) new lent file text lent_is opened own same =
+    same ∙ ap (λ (n : Option (List ℕ)). Some n) (some_of name text (of_name remaining (Some name) name lent file (λ bytes. bytes ≡ text) lent_is refl opened own))
+
+-- A level is saved, if the file that has its name is the level's.
+pub saves_kept : {F : Type 0} (remaining : F → Option (List ℕ)) (old new : State) (number : ℕ) (image : Image) (below : List ℕ) (lent file : F) (result : Result (List ℕ) FolderFault)
+    → number ≡ image.level → lent ≡ file → Opens remaining (old.stands number) (Some file) → IfSome (remaining lent) (λ bytes. OnOk result (bytes ≡ file_text 2 image below))
+    → OnOk result (HasFile 2 image below) → Unchanged old new → OnOk result (Saves image below old new)
+saves_kept remaining old new number image below lent file (Err fault) is lent_is opened own has same = tt
+saves_kept remaining old new number image below lent file (Ok digest) is lent_is opened own has same =
+    let there = subst (λ n. Opens remaining (old.stands n) (Some file)) is opened in
+    saves_by old new image below (own_kept remaining (old.stands image.level) (new.stands image.level) lent file (file_text 2 image below) lent_is there own (same.stands image.level)) (λ n _. same.stands n) has
+
+-- Where no file was opened, none has the name, if that is known.
+pub free_if : {F : Type 0} (remaining : F → Option (List ℕ)) (stand : Option (Option (List ℕ))) → Opens remaining stand None → IfSome stand (λ name. name ≡ None)
+free_if remaining None opened = tt
+free_if remaining (Some None) opened = refl
+free_if remaining (Some (Some bytes)) opened = absurd opened

@@ -1,8 +1,8 @@
 pub mod Empty
 pub mod Written
 pub mod Opened
-pub mod Log
 pub mod Saved
 pub mod Migrations
 pub mod Kept
 pub mod Placing
+pub mod States

@@ -16,6 +16,7 @@ use Rattle.awari_folder.specs.declared.faults.FolderFault.TheVariants.{Below, Fi
 use Rattle.awari_folder.specs.declared.loading.Stored.{Stored}
 use Rattle.awari_folder.specs.declared.migrating.Limits.{Limits}
 use Rattle.awari_folder.specs.Contents.{Same, SameBut, LeavesToo, OpenIfRefused, OpenIfEither, AreNames, HoldsIn}
+use Rattle.awari_folder.specs.State.{IsOwnIfFree}
 use Rattle.awari_folder.specs.Migration.{rules_of, IsMigratedFile, MigrateLevels, CanMigrate, IsMigrationFault, IsStoreFault, IsMigrated, IsFirstMigrationFault, LeavesWhole}
 
 -- ---- a file that is opened
@@ -208,7 +209,7 @@ leaves_of (Some o) other before after level text is leaves =
 
 -- one level more
 pub leaves-more : (others : ℕ → Option (List ℕ)) (stands : ℕ → Option (Option (List ℕ))) (first before after : ℕ → Option (List ℕ) → Type 0) (image : Image) (below : List ℕ) → stands image.level ≡ Some (others image.level)
-    → LeavesWhole others first before → IfSome (stands image.level) (λ o. LeavesToo image.level (λ left. (o ≡ None) × (left ≡ Some (file_text 2 image below))) before after) → LeavesWhole others first after
+    → LeavesWhole others first before → IfSome (stands image.level) (λ o. LeavesToo image.level (IsOwnIfFree image below o) before after) → LeavesWhole others first after
 leaves-more others stands first before after image below is whole leaves n left end =
     let one = leaves_of (stands image.level) (others image.level) before after image.level (file_text 2 image below) is leaves in
     ⊎_elim (λ l. whole n left l) (λ r. inr (ap others r.0 ∙ r.1.0, (image, below, r.1.1))) (one n left end)

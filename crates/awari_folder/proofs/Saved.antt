@@ -1,6 +1,7 @@
 -- A shelf's files with one level more, and that files are those of one shelf.
-use Rattle.std.proofs.Common.{arith, ◌≡◌, ◌≢◌, ◌<◌, ◌≤◌, ◌+◌, inl, inr, ⊎_elim, true, false, eqb, if◌then◌else◌, List, ℕ, zero, suc, [], ◌∷◌, ◌++◌, length, Option, Some, None, ap, sym, refl, subst, ◌∙◌, length-append}
-use Rattle.std.specs.Prelude.{IfSome, IsSomeAnd}
+use Rattle.std.proofs.Common.{arith, ◌≡◌, ◌≢◌, ◌<◌, ◌≤◌, ◌+◌, ⊎_elim, true, false, eqb, if◌then◌else◌, List, ℕ, zero, suc, [], ◌∷◌, ◌++◌, length, Option, Some, None, Result, Ok, Err, ap, sym, refl, subst, ◌∙◌, length-append}
+use Rattle.std.specs.Prelude.{IfSome, IsSomeAnd, OnOk}
+use Rattle.awari_folder.specs.declared.faults.FolderFault.{FolderFault}
 use Rattle.std.proofs.lemmas.Bool.{eqb-true, false_from_ne_true, cases_lt}
 use Rattle.std.proofs.lemmas.Bool.Decides.{eqb_tells}
 use Rattle.sha2.specs.Sha256.{sha256}
@@ -10,7 +11,8 @@ use Rattle.awari_table.specs.Shelves.{Consistent}
 use Rattle.awari_file.specs.FileText.{HasFile, body_text, file_text, found_of}
 use Rattle.awari_file.proofs.WholeSpell.{told_apart}
 use Rattle.awari_folder.specs.NextFile.{IsNextFile}
-use Rattle.awari_folder.specs.Contents.{Same, SameBut, Becomes, LeavesNoMore, LeavesToo, IsLeftOf, IsWhole, AreNames, HoldLevels, HoldsIn, IsStored}
+use Rattle.awari_folder.specs.Contents.{Same, SameBut, Becomes, AreNames, HoldLevels, HoldsIn, IsStored}
+use Rattle.awari_folder.specs.State.{Saves, State, Unchanged}
 
 same_number : (n : ℕ) → eqb n n ≡ true
 same_number n = grind arith
@@ -84,41 +86,36 @@ holds_more old new shelf below image digest (names, are, held) right has others 
       ),
     )
 
--- The same, once a file that was written from its start was brought to the disk and got the level's name.
-pub holds_saved : {D : Type 0} (contents kept : D → Option (List ℕ)) (old mid new : ℕ → Option (Option (List ℕ))) (number : ℕ) (below : List ℕ) (image : Image) (digest : List ℕ) (fresh done : D)
-    → number ≡ image.level → IfSome (old number) (λ _. contents fresh ≡ Some [])
-    → (contents fresh ≡ Some [] → IsWhole (contents done) (kept done) (file_text 2 image below))
-    → Same old mid → Becomes (mid number) (new number) (contents done) → SameBut number mid new → HasFile 2 image below → digest ≡ sha256 (body_text 2 image below)
-    → (shelf : List Image) → HoldsIn old shelf below → Consistent shelf image → HoldsIn new (shelf ++ image ∷ []) digest
-holds_saved contents kept old mid new number below image digest fresh done is empty whole same becomes others has ends shelf (names, are, held) right =
-    let text = file_text 2 image below in
-    let none : contents fresh ≡ Some [] = subst (λ o. IfSome o (λ _. contents fresh ≡ Some [])) (are number) empty in
-    let own : new number ≡ Some (Some text) = becomes_own (mid number) (new number) (names number) text (same number ∙ are number) (subst (Becomes (mid number) (new number)) (whole none).0 becomes) in
-    holds_more old new shelf below image digest (names, are, held) right has (λ n other. others n (λ e. other (e ∙ is)) ∙ same n) (ap new (sym is) ∙ own) ends
+becomes_then : (old mid new : Option (Option (List ℕ))) (E : Type 0) (text : List ℕ) → mid ≡ old → IfSome old (λ _. E) → (E → Becomes mid new (Some text)) → Becomes old new (Some text)
+becomes_then None mid new E text same known becomes = tt
+becomes_then (Some name) mid new E text same known becomes = subst (λ (o : Option (Option (List ℕ))). Becomes o new (Some text)) same (becomes known)
 
--- What a save may leave.
-left_by : {D : Type 0} (contents kept : D → Option (List ℕ)) (stand : Option (Option (List ℕ))) (number : ℕ) (text : List ℕ) (fresh done : D) (first mid last : ℕ → Option (List ℕ) → Type 0)
-    → IfSome stand (λ _. contents fresh ≡ Some []) → (contents fresh ≡ Some [] → IsWhole (contents done) (kept done) text)
-    → LeavesNoMore first mid → LeavesToo number (IsLeftOf (kept done)) mid last → IfSome stand (λ _. LeavesToo number (λ c. c ≡ Some text) first last)
-left_by contents kept None number text fresh done first mid last empty whole before after = tt
-left_by contents kept (Some name) number text fresh done first mid last empty whole before after = λ n c left.
-    ⊎_elim (λ l. inl (before n c l)) (λ r. inr (r.0, subst (λ k. IsLeftOf k c) (whole empty).1 r.1)) (after n c left)
+-- A level whose file has its name now.
+pub saves_by : (old new : State) (image : Image) (below : List ℕ) → Becomes (old.stands image.level) (new.stands image.level) (Some (file_text 2 image below)) → SameBut image.level old.stands new.stands
+    → HasFile 2 image below → Saves image below old new
+saves_by old new image below own others has = record {
+  own = own;
+  next = λ shelf (names, are, held) right.
+      holds_more old.stands new.stands shelf below image (sha256 (body_text 2 image below)) (names, are, held) right has others
+      (becomes_own (old.stands image.level) (new.stands image.level) (names image.level) (file_text 2 image below) (are image.level) own) refl;
+}
 
-pub left_by_save : {D : Type 0} (contents kept : D → Option (List ℕ)) (stands : ℕ → Option (Option (List ℕ))) (number level : ℕ) (text : List ℕ) (fresh done : D) (first mid last : ℕ → Option (List ℕ) → Type 0)
-    → number ≡ level → IfSome (stands number) (λ _. contents fresh ≡ Some []) → (contents fresh ≡ Some [] → IsWhole (contents done) (kept done) text)
-    → LeavesNoMore first mid → LeavesToo number (IsLeftOf (kept done)) mid last → IfSome (stands level) (λ _. LeavesToo level (λ c. c ≡ Some text) first last)
-left_by_save contents kept stands number level text fresh done first mid last is empty whole before after =
-    subst (λ m. IfSome (stands m) (λ _. LeavesToo m (λ c. c ≡ Some text) first last)) is (left_by contents kept (stands number) number text fresh done first mid last empty whole before after)
+-- The same, in place of what stood there before.
+pub saves_over : (old mid new : State) (image : Image) (below : List ℕ) (E : Type 0) (result : Result (List ℕ) FolderFault) → Same old.stands mid.stands → IfSome (old.stands image.level) (λ _. E)
+    → OnOk result (E → Becomes (mid.stands image.level) (new.stands image.level) (Some (file_text 2 image below))) → SameBut image.level mid.stands new.stands → OnOk result (HasFile 2 image below)
+    → OnOk result (Saves image below old new)
+saves_over old mid new image below E (Err fault) same known becomes others has = tt
+saves_over old mid new image below E (Ok digest) same known becomes others has =
+    saves_by old new image below (becomes_then (old.stands image.level) (mid.stands image.level) (new.stands image.level) E (file_text 2 image below) (same image.level) known becomes)
+    (λ n other. others n other ∙ same n) has
 
-pub left_then : (stand : Option (Option (List ℕ))) (level : ℕ) (P : Option (List ℕ) → Type 0) (first mid last : ℕ → Option (List ℕ) → Type 0)
-    → IfSome stand (λ _. LeavesToo level P first mid) → LeavesNoMore mid last → IfSome stand (λ _. LeavesToo level P first last)
-left_then None level P first mid last left after = tt
-left_then (Some name) level P first mid last left after = λ n c end. left n c (after n c end)
-
-pub left_none : (stand : Option (Option (List ℕ))) (level : ℕ) (P : Option (List ℕ) → Type 0) (first last : ℕ → Option (List ℕ) → Type 0)
-    → LeavesNoMore first last → IfSome stand (λ _. LeavesToo level P first last)
-left_none None level P first last after = tt
-left_none (Some name) level P first last after = λ n c end. inl (after n c end)
+-- The same of one that was saved after its folder was read.
+pub saves_after : (old mid new : State) (image : Image) (below : List ℕ) (result : Result (List ℕ) FolderFault) → Unchanged old mid → OnOk result (Saves image below mid new) → OnOk result (Saves image below old new)
+saves_after old mid new image below (Err fault) same saves = tt
+saves_after old mid new image below (Ok digest) same saves = record {
+  own = subst (λ (o : Option (Option (List ℕ))). Becomes o (new.stands image.level) (Some (file_text 2 image below))) (same.stands image.level) saves.own;
+  next = λ shelf (names, are, held). saves.next shelf (names, λ n. same.stands n ∙ are n, held);
+}
 
 -- of the file on top
 top_of : (lower : List Image) (below : List ℕ) (shelf : List Image) (digest : List ℕ) (name : Option (List ℕ)) → IsSomeAnd name (λ bytes. IsNextFile lower below bytes shelf digest)

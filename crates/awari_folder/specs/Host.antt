@@ -1,11 +1,7 @@
--- A folder of the host counts the calls that came to nothing.
-use Rattle.std.specs.Prelude.{ℕ}
+-- Of the host's files nothing is known, but how many calls came to nothing.
+use Rattle.std.specs.Prelude.{None, ⊤}
 use Rattle.awari_folder.specs.declared.host.HostFolder.{HostFolder}
+use Rattle.awari_folder.specs.State.{State}
 
--- how many calls were refused, but those to remove a new file
-abbrev pub refusals_of : {R : Type 0} → HostFolder R → ℕ
-refusals_of folder = folder.refused
-
--- how many calls to remove a new file came to nothing
-abbrev pub stuck_of : {R : Type 0} → HostFolder R → ℕ
-stuck_of folder = folder.stuck
+abbrev pub state_of : {R : Type 0} → HostFolder R → State
+state_of folder = record { stands = λ _. None; may_leave = λ _ _. ⊥; is_clear = λ _. ⊤; refusals = folder.refused; stuck = folder.stuck }

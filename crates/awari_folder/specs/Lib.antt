@@ -3,6 +3,6 @@ pub mod NextFile
 pub mod Migration
 pub mod Verifying
 pub mod Contents
-pub mod Log
 pub mod Host
 pub mod Keeping
+pub mod State

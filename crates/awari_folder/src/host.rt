@@ -1,6 +1,6 @@
 //! The folder of the host: what its files hold is not known to any proof.
 
-ghost use Rattle.std.specs.Prelude.{◌≡◌, ◌↔◌, None, IsTrue, ⊤};
+ghost use Rattle.std.specs.Prelude.{◌≡◌, ◌↔◌, None, IsTrue};
 
 use crate::calls::{Draft, Folder, Refusal};
 use crate::names::{path_of, path_of_itself, path_of_new};
@@ -113,22 +113,14 @@ impl Draft for HostDraft {
 }
 
 impl<R: Files<File = File>> Folder for HostFolder<'_, R> {
-    ghost use Rattle.awari_folder.specs.Host.{refusals_of, stuck_of};
+    ghost use Rattle.awari_folder.specs.Host.{state_of};
 
     type File = File;
 
     type New = HostDraft;
 
     // Of the host's files nothing is known.
-    ghost stands = { λ _ _. None };
-
-    ghost may_leave = { λ _ _ _. ⊥ };
-
-    ghost is_clear = { λ _ _. ⊤ };
-
-    ghost refusals = { λ folder. refusals_of folder };
-
-    ghost stuck = { λ folder. stuck_of folder };
+    ghost state = { λ folder. state_of folder };
 
     fn open(&mut self, level: u8) -> Result<Option<File>, Refusal> {
         let Ok(path) = path_of(self.alloc, self.path, level) else {

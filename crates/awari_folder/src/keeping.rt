@@ -1,15 +1,14 @@
 //! A level as a file in a folder, in place of none.
 
-ghost use Rattle.std.specs.Prelude.{◌≡◌, ◌⊎◌, [], ◌∷◌, ◌++◌, List, Some, None, IfOk, IfErr, IfSome, OnOk, OnErr};
+ghost use Rattle.std.specs.Prelude.{◌≡◌, Some, IfOk, IfErr, IfSome, OnOk, OnErr};
 ghost use Rattle.sha2.specs.Sha256.{sha256};
-ghost use Rattle.awari_table.specs.Counted.{inner_of, Grew};
-ghost use Rattle.awari_table.specs.Shelves.{Consistent};
-ghost use Rattle.awari_table.specs.declared.images.Image.{Image};
+ghost use Rattle.awari_table.specs.Counted.{inner_of};
 ghost use Rattle.awari_file.specs.FileText.{HasFile, body_text, file_text};
 ghost use Rattle.awari_folder.specs.FolderFault.{Names};
 ghost use Rattle.awari_folder.specs.Keeping.{IsFreeFor, IsKeepFault};
 ghost use Rattle.awari_folder.specs.Migration.{KeepsFiles};
-ghost use Rattle.awari_folder.specs.Contents.{Same, SameBut, StaysBut, Becomes, LeavesToo, LeavesStill, IsOfFile, OpenIfRefused, HoldsIn};
+ghost use Rattle.awari_folder.specs.Contents.{Same, IsOfFile, OpenIfRefused};
+ghost use Rattle.awari_folder.specs.State.{IsOwnIfFree, Leaves, Saves};
 
 use crate::calls::{Folder, Refusal};
 use crate::faults::FolderFault;
@@ -31,29 +30,17 @@ pub fn save_or_keep<F: Folder>(
 ) -> Result<[u8; 32], FolderFault>
     ensures digest { IfOk result (λ digest. digest ≡ sha256 (body_text 2 level.now below)) }
     ensures named { IfErr result (Names level.now.level) }
-
     // It is refused as 85 only if another file has the name, and saved only if none has.
-    ensures fault { IfSome (F.stands folder.old level.now.level) (λ name. IfErr result (IsKeepFault level.now.level (file_text 2 level.now below) name)) }
-    ensures free { OnOk result (IfSome (F.stands folder.old level.now.level) (IsFreeFor (file_text 2 level.now below))) }
-
-    // The level's name has the level's file, and each file stays that was there.
-    ensures saved { OnOk result (Becomes (F.stands folder.old level.now.level) (F.stands folder.new level.now.level) (Some (file_text 2 level.now below))) }
-    ensures others { SameBut level.now.level (F.stands folder.old) (F.stands folder.new) }
-    ensures kept { KeepsFiles (F.stands folder.old) (F.stands folder.new) }
-    // A folder that holds a shelf holds it with the level on top, if the level is right over it.
-    ensures next { (shelf : List Image) → HoldsIn (F.stands folder.old) shelf below → Consistent shelf level.now
-        → IfOk result (HoldsIn (F.stands folder.new) (shelf ++ level.now ∷ [])) }
-    // A refusal changes nothing.
-    ensures err { OnErr result (Same (F.stands folder.old) (F.stands folder.new)) }
-    // A crash at any moment leaves each name what it might have left before, or the level's file, whole, if its name had none.
-    ensures crash { IfSome (F.stands folder.old level.now.level) (λ name.
-        LeavesToo level.now.level (λ left. (name ≡ None) × (left ≡ Some (file_text 2 level.now below))) (F.may_leave folder.old) (F.may_leave folder.new)) }
-    ensures still { LeavesStill (F.may_leave folder.old) (F.may_leave folder.new) }
-    // No new file is left beside where none was, or it could not be removed.
-    ensures clear { F.is_clear folder.old level.now.level → F.is_clear folder.new level.now.level ⊎ Grew (F.stuck folder.old) (F.stuck folder.new) }
-    ensures others_clear { StaysBut level.now.level (F.is_clear folder.old) (F.is_clear folder.new) }
-    // 82 is told if the folder refused to open, to make or to name a file, and only then.
-    ensures refused { OpenIfRefused result (F.refusals folder.old) (F.refusals folder.new) }
+    ensures fault { IfSome ((F.state folder.old).stands level.now.level) (λ name. IfErr result (IsKeepFault level.now.level (file_text 2 level.now below) name)) }
+    ensures free { OnOk result (IfSome ((F.state folder.old).stands level.now.level) (IsFreeFor (file_text 2 level.now below))) }
+    // Each file stays that was there; and a refusal changes no name.
+    ensures saved { OnOk result (Saves level.now below (F.state folder.old) (F.state folder.new)) }
+    ensures kept { KeepsFiles (F.state folder.old).stands (F.state folder.new).stands }
+    ensures err { OnErr result (Same (F.state folder.old).stands (F.state folder.new).stands) }
+    // A crash at any moment leaves the level's name what it might have left before, or the level's file, whole, if it had none.
+    ensures leaves { Leaves level.now.level (IsOwnIfFree level.now below) (F.state folder.old) (F.state folder.new) }
+    // It is 82 if the folder refused to open, to make or to name a file, and only then.
+    ensures refused { OpenIfRefused result (F.state folder.old).refusals (F.state folder.new).refusals }
 {
     let number = level.number();
     match folder.open(number) {

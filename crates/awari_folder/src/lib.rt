@@ -2,8 +2,8 @@
 //!
 //! [`load`] makes a shelf of the files, and verifies each level. [`save`] gives a level its file, whole
 //! or not at all, at whatever moment the machine stops. [`migrate`] brings the levels of older files
-//! over to another folder. A [`Folder`] is a trait: [`HostFolder`] is one on disk, and [`MemoryFolder`]
-//! one for tests.
+//! over to another folder. A [`Folder`] is a trait, and [`HostFolder`] is one on disk. The tests have
+//! one in memory.
 //!
 //! Level 0 is saved and loaded again, in `crates/awari_file_tests/src/examples.rt`:
 //!
@@ -26,7 +26,6 @@ mod host;
 mod keeping;
 mod laws;
 mod loading;
-mod memory;
 mod migrating;
 mod names;
 mod saving;
@@ -38,7 +37,6 @@ pub use host::{HostDraft, HostFolder};
 pub use keeping::save_or_keep;
 pub use laws::{folders_hold_one_shelf, stored_shelves_are_loaded};
 pub use loading::{Stored, load};
-pub use memory::{MemoryDraft, MemoryFolder};
 pub use migrating::{Limits, Migrated, migrate};
 pub use saving::save;
 pub use verifiers::{Alone, Together, Verifier};

@@ -6,8 +6,9 @@ ghost use Rattle.awari_table.specs.declared.TheConstants.{HIGHEST_LEVEL};
 ghost use Rattle.awari_theory.specs.Truth.{TellsTruth};
 ghost use Rattle.awari_file.specs.Sealing.{IsUnsealed};
 ghost use Rattle.awari_folder.specs.FolderFault.{Names, NamesLevel};
+ghost use Rattle.awari_folder.specs.State.{OnlyReads};
 ghost use Rattle.awari_folder.specs.NextFile.{IsNextFile, IsFileFault};
-ghost use Rattle.awari_folder.specs.Contents.{Same, Stays, LeavesNoMore, LeavesStill, IsOfFile, OpenIfRefused, AreNames, IsStoredTo, IsFaultTo};
+ghost use Rattle.awari_folder.specs.Contents.{IsOfFile, AreNames, IsStoredTo, IsFaultTo};
 
 use crate::calls::{Folder, Refusal};
 use crate::faults::FolderFault;
@@ -144,16 +145,10 @@ pub fn load<V: Verifier, F: Folder>(
     ensures named { IfErr result NamesLevel }
     // If it is known what has the names: the levels up to the first that has no file, or the first
     // fault.
-    ensures exact { (names : ℕ → Option (List ℕ)) → AreNames (F.stands folder.old) names
+    ensures exact { (names : ℕ → Option (List ℕ)) → AreNames (F.state folder.old).stands names
         → MatchResult result (λ stored. IsStoredTo most names stored.shelf stored.digest) (IsFaultTo most names) }
-    // It is 82 if the folder refused to open a file, and only then.
-    ensures refused { OpenIfRefused result (F.refusals folder.old) (F.refusals folder.new) }
-    // Nothing is changed.
-    ensures stands { Same (F.stands folder.old) (F.stands folder.new) }
-    ensures crash { LeavesNoMore (F.may_leave folder.old) (F.may_leave folder.new) }
-    ensures still { LeavesStill (F.may_leave folder.old) (F.may_leave folder.new) }
-    ensures clear { Stays (F.is_clear folder.old) (F.is_clear folder.new) }
-    ensures stuck { F.stuck folder.new ≡ F.stuck folder.old }
+    // Nothing is changed, and it is 82 if the folder refused to open a file, and only then.
+    ensures reads { OnlyReads result (F.state folder.old) (F.state folder.new) }
 {
     let mut stored = Stored::empty();
     for level in 0..=most {

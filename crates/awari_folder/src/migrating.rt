@@ -5,10 +5,12 @@ ghost use Rattle.awari_table.specs.declared.TheConstants.{HIGHEST_LEVEL};
 ghost use Rattle.awari_table.specs.declared.images.Image.{Image};
 ghost use Rattle.awari_table.specs.Counted.{inner_of};
 ghost use Rattle.awari_table.specs.Shelves.{Consistent};
-ghost use Rattle.awari_file.specs.FileText.{file_text};
+ghost use Rattle.awari_file.specs.FileText.{body_text};
 ghost use Rattle.awari_verify.specs.VerifyFault.{IsDueBy};
 ghost use Rattle.awari_folder.specs.FolderFault.{Names, NamesLevel};
-ghost use Rattle.awari_folder.specs.Contents.{Same, SameBut, Stays, LeavesNoMore, LeavesToo, LeavesStill, IsOfFile, OpenIfRefused, OpenIfEither, AreNames, HoldsIn};
+ghost use Rattle.awari_folder.specs.Contents.{Same, LeavesStill, IsOfFile, OpenIfRefused, OpenIfEither, AreNames};
+ghost use Rattle.awari_folder.specs.State.{IsOwnIfFree, Leaves, OnlyReads, Saves, Unchanged};
+ghost use Rattle.sha2.specs.Sha256.{sha256};
 ghost use Rattle.awari_folder.specs.Migration.{rules_of, IsMigratedImage, IsMigratedFile, IsNextMigrated, IsMigrationFault, IsMigrated, IsFirstMigrationFault, IsStoreFault, LeavesWhole, KeepsFiles};
 
 use crate::calls::{Folder, Refusal};
@@ -69,22 +71,18 @@ pub fn migrate<F: Folder, G: Folder>(
 ) -> Result<Migrated, FolderFault>
     // If it is known what has the names in both: all levels are brought over, or there is the first
     // fault.
-    ensures exact { (names others : ℕ → Option (List ℕ)) → AreNames (F.stands from.old) names → AreNames (G.stands to.old) others
-        → MatchResult result (λ done. IsMigrated names others (G.stands to.new) done.limits.items done.digest) (IsFirstMigrationFault names others (G.stands to.new)) }
+    ensures exact { (names others : ℕ → Option (List ℕ)) → AreNames (F.state from.old).stands names → AreNames (G.state to.old).stands others
+        → MatchResult result (λ done. IsMigrated names others (G.state to.new).stands done.limits.items done.digest) (IsFirstMigrationFault names others (G.state to.new).stands) }
     ensures named { IfErr result NamesLevel }
     // Whether it is refused or not, each file stays that was there.
-    ensures kept { KeepsFiles (G.stands to.old) (G.stands to.new) }
-    ensures kept_still { LeavesStill (G.may_leave to.old) (G.may_leave to.new) }
+    ensures kept { KeepsFiles (G.state to.old).stands (G.state to.new).stands }
+    ensures kept_still { LeavesStill (G.state to.old).may_leave (G.state to.new).may_leave }
     // A crash at any moment leaves no half of a file, and harms none that was there.
-    ensures whole { (others : ℕ → Option (List ℕ)) → AreNames (G.stands to.old) others → LeavesWhole others (G.may_leave to.old) (G.may_leave to.new) }
+    ensures whole { (others : ℕ → Option (List ℕ)) → AreNames (G.state to.old).stands others → LeavesWhole others (G.state to.old).may_leave (G.state to.new).may_leave }
     // It is 82 if one of the folders refused to open, to make or to name a file, and only then.
-    ensures refused { OpenIfEither result (F.refusals from.old) (F.refusals from.new) (G.refusals to.old) (G.refusals to.new) }
+    ensures refused { OpenIfEither result (F.state from.old).refusals (F.state from.new).refusals (G.state to.old).refusals (G.state to.new).refusals }
     // Nothing is changed in the folder that the levels come from.
-    ensures stands { Same (F.stands from.old) (F.stands from.new) }
-    ensures crash { LeavesNoMore (F.may_leave from.old) (F.may_leave from.new) }
-    ensures still { LeavesStill (F.may_leave from.old) (F.may_leave from.new) }
-    ensures clear { Stays (F.is_clear from.old) (F.is_clear from.new) }
-    ensures stuck { F.stuck from.new ≡ F.stuck from.old }
+    ensures unchanged { Unchanged (F.state from.old) (F.state from.new) }
 {
     let mut limits = Vec::with_capacity(alloc, LEVELS)?;
     let mut shelf = Shelf::empty();
@@ -120,16 +118,11 @@ fn next_migrated<F: Folder>(
     below: [u8; 32],
 ) -> Result<Option<MigratedLevel>, FolderFault>
     requires { length shelf.now ≤ HIGHEST_LEVEL }
-    ensures exact { (name other : Option (List ℕ)) → F.stands from.old (length shelf.now) ≡ Some name
+    ensures exact { (name other : Option (List ℕ)) → (F.state from.old).stands (length shelf.now) ≡ Some name
         → MatchResult result (IsNextMigrated shelf.now below name) (IsMigrationFault shelf.now below name other) }
     ensures right { IfOk result (λ next. IfSome next (λ migrated. Consistent shelf.now migrated.level)) }
     ensures named { IfErr result (Names (length shelf.now)) }
-    ensures refused { OpenIfRefused result (F.refusals from.old) (F.refusals from.new) }
-    ensures stands { Same (F.stands from.old) (F.stands from.new) }
-    ensures crash { LeavesNoMore (F.may_leave from.old) (F.may_leave from.new) }
-    ensures still { LeavesStill (F.may_leave from.old) (F.may_leave from.new) }
-    ensures clear { Stays (F.is_clear from.old) (F.is_clear from.new) }
-    ensures stuck { F.stuck from.new ≡ F.stuck from.old }
+    ensures reads { OnlyReads result (F.state from.old) (F.state from.new) }
 {
     let level = shelf.levels();
     match from.open(level) {
@@ -208,18 +201,15 @@ fn migrated_over(
 
 /// Saves a level into a folder that has no file of it yet.
 fn store<G: Folder>(to: &mut G, level: &Level, below: [u8; 32]) -> Result<[u8; 32], FolderFault>
-    ensures next { (shelf : List Image) → HoldsIn (G.stands to.old) shelf below → Consistent shelf level.now
-        → IfOk result (HoldsIn (G.stands to.new) (shelf ++ level.now ∷ [])) }
-    ensures free { OnOk result (IfSome (G.stands to.old level.now.level) (λ other. other ≡ None)) }
-    ensures fault { IfSome (G.stands to.old level.now.level) (λ other. IfErr result (IsStoreFault level.now.level other)) }
+    ensures digest { IfOk result (λ digest. digest ≡ sha256 (body_text 2 level.now below)) }
+    ensures free { OnOk result (IfSome ((G.state to.old).stands level.now.level) (λ other. other ≡ None)) }
+    ensures fault { IfSome ((G.state to.old).stands level.now.level) (λ other. IfErr result (IsStoreFault level.now.level other)) }
     ensures named { IfErr result (Names level.now.level) }
-    ensures kept { KeepsFiles (G.stands to.old) (G.stands to.new) }
-    ensures others { SameBut level.now.level (G.stands to.old) (G.stands to.new) }
-    ensures err { OnErr result (Same (G.stands to.old) (G.stands to.new)) }
-    ensures refused { OpenIfRefused result (G.refusals to.old) (G.refusals to.new) }
-    ensures still { LeavesStill (G.may_leave to.old) (G.may_leave to.new) }
-    ensures crash { IfSome (G.stands to.old level.now.level) (λ other.
-        LeavesToo level.now.level (λ left. (other ≡ None) × (left ≡ Some (file_text 2 level.now below))) (G.may_leave to.old) (G.may_leave to.new)) }
+    ensures saved { OnOk result (Saves level.now below (G.state to.old) (G.state to.new)) }
+    ensures kept { KeepsFiles (G.state to.old).stands (G.state to.new).stands }
+    ensures err { OnErr result (Same (G.state to.old).stands (G.state to.new).stands) }
+    ensures leaves { Leaves level.now.level (IsOwnIfFree level.now below) (G.state to.old) (G.state to.new) }
+    ensures refused { OpenIfRefused result (G.state to.old).refusals (G.state to.new).refusals }
 {
     let number = level.number();
     match to.open(number) {

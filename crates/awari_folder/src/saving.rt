@@ -1,13 +1,11 @@
 //! A level as a file in a folder.
 
-ghost use Rattle.std.specs.Prelude.{◌≡◌, ◌⊎◌, [], ◌∷◌, ◌++◌, List, Some, IfOk, IfErr, IfSome, OnOk, OnErr};
+ghost use Rattle.std.specs.Prelude.{◌≡◌, [], Some, IfOk, IfErr, OnOk, OnErr};
 ghost use Rattle.sha2.specs.Sha256.{sha256};
-ghost use Rattle.awari_table.specs.Counted.{Grew};
-ghost use Rattle.awari_table.specs.Shelves.{Consistent};
-ghost use Rattle.awari_table.specs.declared.images.Image.{Image};
 ghost use Rattle.awari_file.specs.FileText.{HasFile, body_text, file_text};
-ghost use Rattle.awari_folder.specs.FolderFault.{Names, IsSaveFault};
-ghost use Rattle.awari_folder.specs.Contents.{Same, SameBut, StaysBut, Becomes, LeavesToo, LeavesStill, IsWhole, OpenIfRefused, HoldsIn};
+ghost use Rattle.awari_folder.specs.FolderFault.{IsSaveFault};
+ghost use Rattle.awari_folder.specs.Contents.{Same, Becomes, IsWhole, OpenIfRefused};
+ghost use Rattle.awari_folder.specs.State.{IsOwnFile, Leaves, MayName, Saves};
 
 use crate::calls::{Draft, Folder, Refusal};
 use crate::faults::FolderFault;
@@ -29,27 +27,16 @@ pub fn save<F: Folder>(
     below: [u8; 32],
 ) -> Result<[u8; 32], FolderFault>
     ensures digest { IfOk result (λ digest. digest ≡ sha256 (body_text 2 level.now below)) }
-    ensures named { IfErr result (Names level.now.level) }
     // It is 82, or 81 with 70, or 84.
     ensures told { IfErr result (IsSaveFault level.now.level) }
-    // The level's name has the level's file, and what has the other names stays.
-    ensures saved { OnOk result (Becomes (F.stands folder.old level.now.level) (F.stands folder.new level.now.level) (Some (file_text 2 level.now below))) }
-    ensures others { SameBut level.now.level (F.stands folder.old) (F.stands folder.new) }
-    // A folder that holds a shelf holds it with the level on top, if the level is right over it.
-    ensures next { (shelf : List Image) → HoldsIn (F.stands folder.old) shelf below → Consistent shelf level.now
-        → IfOk result (HoldsIn (F.stands folder.new) (shelf ++ level.now ∷ [])) }
-    // A refusal changes nothing.
-    ensures err { OnErr result (Same (F.stands folder.old) (F.stands folder.new)) }
-    // A crash at any moment leaves each name what it might have left before, and the level's that or its file, whole.
-    ensures crash { IfSome (F.stands folder.old level.now.level) (λ _.
-        LeavesToo level.now.level (λ c. c ≡ Some (file_text 2 level.now below)) (F.may_leave folder.old) (F.may_leave folder.new)) }
-    ensures still { LeavesStill (F.may_leave folder.old) (F.may_leave folder.new) }
-    // Nothing of the new file is left beside, or it could not be removed.
-    ensures ok { OnOk result (F.is_clear folder.new level.now.level) }
-    ensures clear { F.is_clear folder.old level.now.level → F.is_clear folder.new level.now.level ⊎ Grew (F.stuck folder.old) (F.stuck folder.new) }
-    ensures others_clear { StaysBut level.now.level (F.is_clear folder.old) (F.is_clear folder.new) }
+    ensures saved { OnOk result (Saves level.now below (F.state folder.old) (F.state folder.new)) }
+    // No draft is left; and a refusal changes no name.
+    ensures ok { OnOk result ((F.state folder.new).is_clear level.now.level) }
+    ensures err { OnErr result (Same (F.state folder.old).stands (F.state folder.new).stands) }
+    // A crash at any moment leaves the level's name what it might have left before, or the level's file, whole.
+    ensures leaves { Leaves level.now.level (IsOwnFile level.now below) (F.state folder.old) (F.state folder.new) }
     // It is 82 if the folder refused to make the file or to give it its name, and only then.
-    ensures refused { OpenIfRefused result (F.refusals folder.old) (F.refusals folder.new) }
+    ensures refused { OpenIfRefused result (F.state folder.old).refusals (F.state folder.new).refusals }
 {
     let number = level.number();
     let new = match folder.create(number) {
@@ -57,24 +44,48 @@ pub fn save<F: Folder>(
         Err(Refusal::Refused) => return Err(FolderFault::Open { level: number }),
         Err(Refusal::Memory) => return Err(FolderFault::Memory),
     };
-    let fault = match write_whole(level, below, new) {
-        Ok(written) => {
-            let digest = written.digest;
-            match folder.replace(number, written.new) {
-                Ok(()) => return Ok(digest),
-                Err(Refusal::Refused) => FolderFault::Open { level: number },
-                Err(Refusal::Memory) => FolderFault::Memory,
-            }
+    let saved = put_in_place(folder, level, below, new);
+    if saved.is_err() {
+        // What was written of the new file is of no use. If it cannot be removed, that is no further
+        // fault.
+        let _ = folder.remove_new(number);
+    }
+    saved
+}
+
+/// Writes the file of a level into a new one, which is empty, and gives it the level's name.
+fn put_in_place<F: Folder>(
+    folder: &mut F,
+    level: &Level,
+    below: [u8; 32],
+    new: F::New,
+) -> Result<[u8; 32], FolderFault>
+    ensures digest { IfOk result (λ digest. digest ≡ sha256 (body_text 2 level.now below)) }
+    ensures has { OnOk result (HasFile 2 level.now below) }
+    ensures told { IfErr result (IsSaveFault level.now.level) }
+    ensures named { OnOk result (F.New.contents new ≡ Some [] → Becomes ((F.state folder.old).stands level.now.level) ((F.state folder.new).stands level.now.level) (Some (file_text 2 level.now below))) }
+    ensures ok { OnOk result ((F.state folder.new).is_clear level.now.level) }
+    ensures err { OnErr result (Same (F.state folder.old).stands (F.state folder.new).stands) }
+    ensures leaves { MayName level.now.level (λ left. F.New.contents new ≡ Some [] → left ≡ Some (file_text 2 level.now below)) (F.state folder.old) (F.state folder.new) }
+    ensures stuck { (F.state folder.new).stuck ≡ (F.state folder.old).stuck }
+    ensures refused { OpenIfRefused result (F.state folder.old).refusals (F.state folder.new).refusals }
+{
+    let number = level.number();
+    let written = match write_whole(level, below, new) {
+        Ok(written) => written,
+        Err(fault) => {
+            return Err(FolderFault::File {
+                level: number,
+                fault,
+            });
         }
-        Err(fault) => FolderFault::File {
-            level: number,
-            fault,
-        },
     };
-    // What was written of the new file is of no use. If it cannot be removed, that is no further
-    // fault.
-    let _ = folder.remove_new(number);
-    Err(fault)
+    let digest = written.digest;
+    match folder.replace(number, written.new) {
+        Ok(()) => Ok(digest),
+        Err(Refusal::Refused) => Err(FolderFault::Open { level: number }),
+        Err(Refusal::Memory) => Err(FolderFault::Memory),
+    }
 }
 
 /// A file that was written and brought to the disk.

@@ -8,7 +8,7 @@ returns-clause-asked g c = record {
   digest = c.in_ok-shelf.field-0.digest;
   stored =
       (let is : c.min-most.result ≡ min (sum c.in_ok-board.board) HIGHEST_LEVEL = search rules in
-      subst (λ most. IsStoredToIn most (g.F.Folder.stands c.args.folder.now) c.in_ok-shelf.field-0.shelf c.in_ok-shelf.field-0.digest) is c.in_ok-shelf.ensures.exact);
+      subst (λ most. IsStoredToIn most (g.F.Folder.state c.args.folder.now).stands c.in_ok-shelf.field-0.shelf c.in_ok-shelf.field-0.digest) is c.in_ok-shelf.ensures.exact);
   right = search rules;
   whole = search rules;
   spelled = search rules;

@@ -8,8 +8,8 @@ use Rattle.awari_cli.proofs.building.build_up_in.Given as goal
 
 abbrev pub invariant-loop-builder : goal.invariant-loop-builder
 invariant-loop-builder g l =
-    let stands = g.F.Folder.stands in
-    let may_leave = g.F.Folder.may_leave in
+    let stands = λ folder. (g.F.Folder.state folder).stands in
+    let may_leave = λ folder. (g.F.Folder.state folder).may_leave in
     record {
       built : IsBuilt l.fn.shelf l.shelf (g.W.Write.contents l.fn.writer) (g.W.Write.contents l.writer);
       planned : HasLowestPlans l.fn.shelf → HasLowestPlans l.shelf;

@@ -1,6 +1,7 @@
 use Rattle.std.proofs.Common.{◌+◌, ap, arith, inl, inr, length, refl, rules, subst, ◌∙◌}
 use Rattle.std.proofs.lemmas.Result.{err_from_is_err_and}
 use Rattle.awari_folder.proofs.Empty.{truth_of_empty}
+use Rattle.awari_folder.proofs.States.{only_reads, unchanged, unchanged_then}
 use Rattle.awari_folder.proofs.Opened.{of_name, of_no_name, not_open, next_level, stored_to}
 use Rattle.awari_folder.specs.declared.faults.FolderFault.TheVariants.{Open}
 use Rattle.awari_folder.proofs.Placing.{fault_at, fault_to}
@@ -14,19 +15,16 @@ loop-level-init g c = record {
   truth = truth_of_empty c.empty-stored.result.shelf c.empty-stored.ensures.shelf;
   levels = ap length c.empty-stored.ensures.shelf;
   held = λ names are. (c.empty-stored.ensures.shelf, c.empty-stored.ensures.digest);
-  stands = λ n. refl;
-  crash = λ n o h. h;
-  still = λ n o h. h;
-  clear = λ n h. h;
+  unchanged = unchanged _;
   refused = refl;
-  stuck = refl;
 }
 
-pub returns-in_err-put_on-in-Ok-Some-clause-refused :
-    goal.returns-in_err-put_on-in-Ok-Some-clause-refused
-returns-in_err-put_on-in-Ok-Some-clause-refused g c =
+pub returns-in_err-put_on-in-Ok-Some-clause-reads : goal.returns-in_err-put_on-in-Ok-Some-clause-reads
+returns-in_err-put_on-in-Ok-Some-clause-reads g c =
     let p = err_from_is_err_and c.from_residual.result c.from_residual.ensures.1 in
-    rw (p.1, p.2) (not_open _ _ _ c.in_err-put_on-in-Ok-Some.ensures.of_file (c.in-Ok-Some.ensures.refused ∙ c.loop-level.invariant.refused))
+    let i = c.loop-level.invariant in
+    only_reads _ _ _ (unchanged_then _ _ _ i.unchanged c.open.ensures.unchanged)
+    (rw (p.1, p.2) (not_open _ _ _ c.in_err-put_on-in-Ok-Some.ensures.of_file (c.in-Ok-Some.ensures.refused ∙ i.refused)))
 
 pub returns-in_err-put_on-in-Ok-Some-clause-exact : goal.returns-in_err-put_on-in-Ok-Some-clause-exact
 returns-in_err-put_on-in-Ok-Some-clause-exact g c = λ names are.
@@ -35,7 +33,7 @@ returns-in_err-put_on-in-Ok-Some-clause-exact g c = λ names are.
     let level = c.loop-level.level in
     let fault = c.in_err-put_on-in-Ok-Some.field-0.0 in
     let here = of_name g.F.File.Read.remaining _ _ _ c.in-Ok-Some.file (λ bytes. IsFileFault c.loop-level.stored.shelf c.loop-level.stored.digest bytes fault)
-    c.new.ensures.inner (i.stands level ∙ are level) (subst (λ o. Opens g.F.File.Read.remaining (g.F.Folder.stands c.loop-level.folder level) o) c.in-Ok-Some.field-0-is c.in-Ok-Some.ensures.opened) c.in_err-put_on-in-Ok-Some.ensures.fault in
+    c.new.ensures.inner (i.unchanged.stands level ∙ are level) (subst (λ o. Opens g.F.File.Read.remaining ((g.F.Folder.state c.loop-level.folder).stands level) o) c.in-Ok-Some.field-0-is c.in-Ok-Some.ensures.opened) c.in_err-put_on-in-Ok-Some.ensures.fault in
     rw (p.1, p.2) (fault_to c.args.most names level c.loop-level.stored.shelf c.loop-level.stored.digest fault (let low = c.loop-level-test.true in omega (arith, low)) (i.held names are)
     (fault_at names level c.loop-level.stored.shelf c.loop-level.stored.digest fault c.in_err-put_on-in-Ok-Some.ensures.of_file here))
 
@@ -53,14 +51,10 @@ loop-level-preserved g c =
       levels = c.in_ok-put_on-in-Ok-Some.ensures.levels ∙ ap (λ n. n + 1) i.levels;
       held = λ names are. next_level names c.loop-level.level c.loop-level.stored.shelf c.loop-level.stored.digest c.put_on.new.self.shelf c.put_on.new.self.digest (i.held names are)
           (of_name g.F.File.Read.remaining _ _ _ c.in-Ok-Some.file (λ bytes. IsNextFile c.loop-level.stored.shelf c.loop-level.stored.digest bytes c.put_on.new.self.shelf c.put_on.new.self.digest)
-          c.new.ensures.inner (i.stands c.loop-level.level ∙ are c.loop-level.level) (subst (λ o. Opens g.F.File.Read.remaining (g.F.Folder.stands c.loop-level.folder c.loop-level.level) o) c.in-Ok-Some.field-0-is c.in-Ok-Some.ensures.opened)
+          c.new.ensures.inner (i.unchanged.stands c.loop-level.level ∙ are c.loop-level.level) (subst (λ o. Opens g.F.File.Read.remaining ((g.F.Folder.state c.loop-level.folder).stands c.loop-level.level) o) c.in-Ok-Some.field-0-is c.in-Ok-Some.ensures.opened)
           c.in_ok-put_on-in-Ok-Some.ensures.ok);
-      stands = λ n. e.stands n ∙ i.stands n;
-      crash = λ n o h. i.crash n o (e.crash n o h);
-      still = λ n o h. e.still n o (i.still n o h);
-      clear = λ n h. e.clear n (i.clear n h);
+      unchanged = unchanged_then _ _ _ i.unchanged e.unchanged;
       refused = c.in-Ok-Some.ensures.refused ∙ i.refused;
-      stuck = e.stuck ∙ i.stuck;
     }
 
 pub returns-clause-exact : goal.returns-clause-exact
@@ -71,12 +65,12 @@ returns-clause-exact g c = λ names are.
           (let end = c.loop-level.auto.level-end in omega (arith, end)) (inr (let end = w.loop-level-test.false in omega (arith, end))))
       | then-loop-level-test+in-Ok-None w ↦ rw w.stored-is (stored_to c.args.most names c.loop-level.level c.loop-level.stored.shelf c.loop-level.stored.digest i.levels (i.held names are)
           (let low = w.loop-level-test.true in omega (arith, low))
-          (inl (of_no_name g.F.File.Read.remaining (g.F.Folder.stands c.loop-level.folder c.loop-level.level) (names c.loop-level.level) (i.stands c.loop-level.level ∙ are c.loop-level.level) (subst (λ o. Opens g.F.File.Read.remaining (g.F.Folder.stands c.loop-level.folder c.loop-level.level) o) w.in-Ok-None.field-0-is w.in-Ok-None.ensures.opened))))
+          (inl (of_no_name g.F.File.Read.remaining ((g.F.Folder.state c.loop-level.folder).stands c.loop-level.level) (names c.loop-level.level) (i.unchanged.stands c.loop-level.level ∙ are c.loop-level.level) (subst (λ o. Opens g.F.File.Read.remaining ((g.F.Folder.state c.loop-level.folder).stands c.loop-level.level) o) w.in-Ok-None.field-0-is w.in-Ok-None.ensures.opened))))
       | then-loop-level-test+in-Ok-Some+in_ok-put_on-in-Ok-Some+else-level-most w ↦ rw w.stored-is (stored_to c.args.most names (c.loop-level.level + 1) w.put_on.new.self.shelf w.put_on.new.self.digest
           (w.in_ok-put_on-in-Ok-Some.ensures.levels ∙ ap (λ n. n + 1) i.levels)
           (next_level names c.loop-level.level c.loop-level.stored.shelf c.loop-level.stored.digest w.put_on.new.self.shelf w.put_on.new.self.digest (i.held names are)
           (of_name g.F.File.Read.remaining _ _ _ w.in-Ok-Some.file (λ bytes. IsNextFile c.loop-level.stored.shelf c.loop-level.stored.digest bytes w.put_on.new.self.shelf w.put_on.new.self.digest)
-          w.new.ensures.inner (i.stands c.loop-level.level ∙ are c.loop-level.level) (subst (λ o. Opens g.F.File.Read.remaining (g.F.Folder.stands c.loop-level.folder c.loop-level.level) o) w.in-Ok-Some.field-0-is w.in-Ok-Some.ensures.opened)
+          w.new.ensures.inner (i.unchanged.stands c.loop-level.level ∙ are c.loop-level.level) (subst (λ o. Opens g.F.File.Read.remaining ((g.F.Folder.state c.loop-level.folder).stands c.loop-level.level) o) w.in-Ok-Some.field-0-is w.in-Ok-Some.ensures.opened)
           w.in_ok-put_on-in-Ok-Some.ensures.ok))
           (let low = w.loop-level-test.true in omega (arith, low))
           (inr (search rules)))

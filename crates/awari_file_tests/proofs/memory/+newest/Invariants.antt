@@ -1,5 +1,5 @@
 use Rattle.std.proofs.Common.{length}
-use Rattle.awari_folder.proofs.memory.+newest.Given as goal
+use Rattle.awari_file_tests.proofs.memory.+newest.Given as goal
 
 abbrev pub decreases-newest : goal.decreases-newest
 decreases-newest l = length l.puts.now

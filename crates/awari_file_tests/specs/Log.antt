@@ -1,9 +1,10 @@
 -- A folder in memory keeps each file that was ever given a name, the oldest first.
 use Rattle.std.specs.Prelude.{◌≡◌, ◌≢◌, ℕ, List, [], ◌∷◌, ◌⊎◌, Option, Some, None, if◌then◌else◌, ◌==◌, Bool, true, false, is_some}
-use Rattle.awari_folder.specs.declared.memory.MemoryDraft.{MemoryDraft}
-use Rattle.awari_folder.specs.declared.memory.MemoryFolder.{MemoryFolder}
-use Rattle.awari_folder.specs.declared.memory.Put.{Put}
+use Rattle.awari_file_tests.specs.declared.memory.MemoryDraft.{MemoryDraft}
+use Rattle.awari_file_tests.specs.declared.memory.MemoryFolder.{MemoryFolder}
+use Rattle.awari_file_tests.specs.declared.memory.Put.{Put}
 use Rattle.awari_folder.specs.Contents.{IsLeftOf}
+use Rattle.awari_folder.specs.State.{State}
 
 -- a newer file where there is one
 abbrev pub newer : Option (List ℕ) → Option (List ℕ) → Option (List ℕ)
@@ -30,14 +31,6 @@ has_draft folder = is_some folder.beside
 abbrev pub IsClearOf : MemoryFolder → ℕ → Type 0
 IsClearOf folder level = folder.beside ≢ Some level
 
--- how many calls were refused, but those to remove a new file
-abbrev pub refusals_of : MemoryFolder → ℕ
-refusals_of folder = folder.refused
-
--- how many calls to remove a new file came to nothing
-abbrev pub stuck_of : MemoryFolder → ℕ
-stuck_of folder = folder.stuck
-
 -- what was written into a new file
 abbrev pub bytes_of : MemoryDraft → List ℕ
 bytes_of draft = draft.bytes.items
@@ -59,3 +52,13 @@ MayLeave (put ∷ puts) n c = MayLeave puts n c ⊎ ((n ≡ put.level) × IsLeft
 -- what a crash may leave of a folder in memory
 abbrev pub MayLeaveOf : MemoryFolder → ℕ → Option (List ℕ) → Type 0
 MayLeaveOf folder = MayLeave folder.puts.items
+
+-- all that is known of it
+abbrev pub state_of : MemoryFolder → State
+state_of folder = record {
+  stands = λ n. Some (files_in folder n);
+  may_leave = MayLeaveOf folder;
+  is_clear = IsClearOf folder;
+  refusals = folder.refused;
+  stuck = folder.stuck;
+}

@@ -1,9 +1,9 @@
 -- A log with one file more.
 use Rattle.std.proofs.Common.{arith, ◌≡◌, ◌≢◌, inl, inr, ⊎_elim, eqb, true, List, ℕ, [], ◌∷◌, ◌++◌, Some, None, ap, sym, if◌then◌else◌}
 use Rattle.std.proofs.lemmas.Bool.{eqb-true, false_from_ne_true}
-use Rattle.awari_folder.specs.declared.memory.Put.{Put}
+use Rattle.awari_file_tests.specs.declared.memory.Put.{Put}
 use Rattle.awari_folder.specs.Contents.{IsLeftOf, LeavesToo, LeavesStill}
-use Rattle.awari_folder.specs.Log.{named, newer, bytes_under, kept_of, MayLeave}
+use Rattle.awari_file_tests.specs.Log.{named, newer, bytes_under, kept_of, MayLeave}
 
 same_number : (n : ℕ) → eqb n n ≡ true
 same_number n = grind arith

@@ -1,9 +1,9 @@
 //! A folder in memory, of which chosen calls are refused.
 
 ghost use Rattle.std.specs.Prelude.{◌≡◌, ℕ, Some, None, option_map, ◌++◌, ◌∷◌, [], OnOk, OnErr, IfErr};
-ghost use Rattle.awari_folder.specs.Log.{named};
+ghost use Rattle.awari_file_tests.specs.Log.{named};
 
-use crate::calls::{Draft, Folder, Refusal};
+use awari_folder::{Draft, Folder, Refusal};
 use std::alloc::Global;
 use std::collections::VecDeque;
 use std::io::{self, Error, ErrorKind, Write};
@@ -26,7 +26,7 @@ pub struct MemoryDraft {
 }
 
 impl Write for MemoryDraft {
-    ghost use Rattle.awari_folder.specs.Log.{bytes_of};
+    ghost use Rattle.awari_file_tests.specs.Log.{bytes_of};
 
     ghost contents = { λ draft. Some (bytes_of draft) };
 
@@ -44,7 +44,7 @@ impl Write for MemoryDraft {
 }
 
 impl Draft for MemoryDraft {
-    ghost use Rattle.awari_folder.specs.Log.{kept_bytes_of};
+    ghost use Rattle.awari_file_tests.specs.Log.{kept_bytes_of};
 
     ghost kept = { λ draft. kept_bytes_of draft };
 
@@ -73,7 +73,7 @@ pub struct MemoryFolder {
 }
 
 impl MemoryFolder {
-    ghost use Rattle.awari_folder.specs.Log.{files_in, has_draft};
+    ghost use Rattle.awari_file_tests.specs.Log.{files_in, has_draft};
 
     /// An empty folder, which refuses nothing.
     pub fn new(alloc: Global) -> MemoryFolder
@@ -157,21 +157,13 @@ fn newest(puts: &[Put], level: u8) -> Option<&[u8]>
 }
 
 impl Folder for MemoryFolder {
-    ghost use Rattle.awari_folder.specs.Log.{files_in, MayLeaveOf, IsClearOf, refusals_of, stuck_of};
+    ghost use Rattle.awari_file_tests.specs.Log.{state_of};
 
     type File = VecDeque<u8>;
 
     type New = MemoryDraft;
 
-    ghost stands = { λ f n. Some (files_in f n) };
-
-    ghost may_leave = { λ f n c. MayLeaveOf f n c };
-
-    ghost is_clear = { λ f n. IsClearOf f n };
-
-    ghost refusals = { λ f. refusals_of f };
-
-    ghost stuck = { λ f. stuck_of f };
+    ghost state = { λ folder. state_of folder };
 
     fn open(&mut self, level: u8) -> Result<Option<VecDeque<u8>>, Refusal> {
         if self.is_refused() {
