@@ -1,107 +1,77 @@
 -- The fresh boards of a block whose cells are put.
-use Rattle.std.proofs.Common.{◌≡◌, ◌≢◌, ℕ, ◌+◌, ◌-◌, ◌/◌, ◌<◌, ◌≤◌, ◌==◌, ◌⊎◌, ◌||◌, ◌&&◌, not, eqb-true, IsTrue, Some, ◌↔◌, inl, inr, Bool, true, false, if◌then◌else◌, List, [], ◌∷◌, map, filter, length, get_or, set, All, refl, sym, ap, subst, ◌∙◌, arith, get_or-set_same, get_or-set_other, length-set}
+use Rattle.std.proofs.Common.{◌≡◌, ◌≢◌, ℕ, ◌+◌, ◌-◌, ◌<◌, ◌≤◌, ◌==◌, ◌⊎◌, ◌&&◌, not, eqb-true, IsTrue, Option, Some, None, ℤ, ◌↔◌, inl, inr, Bool, true, false, List, [], ◌∷◌, map, filter, length, get_or, set, All, refl, sym, ap, subst, ◌∙◌, arith, get_or-set_same, get_or-set_other, length-set}
 use Rattle.std.specs.List.{range_with_len}
 use Rattle.std.specs.List.Sorted.{IsPermutation}
 use Rattle.std.proofs.lemmas.Bool.{cases_eq, false≢true}
 use Rattle.std.proofs.lemmas.Bool.Decides.{nat_tests}
 use Rattle.std.proofs.lemmas.List.{length-map}
-use Rattle.std.proofs.lemmas.List.FromFn.{length-range_with_len}
-use Rattle.std.proofs.lemmas.List.Filters.{length-filter_both}
 use Rattle.std.specs.List.{Any}
-use Rattle.std.proofs.lemmas.List.Sorted.{length_permutation, list_any-IsPermutation, IsPermutation-map}
+use Rattle.std.proofs.lemmas.List.Sorted.{length_permutation, list_any-IsPermutation, All-permutation, IsPermutation-map, IsPermutation-sym}
 use Rattle.std.proofs.lemmas.List.Folds.{Any-from_list_any, list_any-from_Any}
-use Rattle.std.proofs.lemmas.List.Elements.{All-weaker}
-use Rattle.awari_block.specs.Part.{Part, IsLeastDue}
+use Rattle.std.specs.Prelude.{IfSome}
+use Rattle.awari_block.specs.Part.{Part, InBlock, IsLeastDue, part_of, settled_at}
 use Rattle.awari_block.specs.declared.cells.Cell.{Cell}
 use Rattle.awari_block.specs.declared.fresh.Fresh.{Fresh}
 use Rattle.awari_block.specs.declared.places.Place.{Place}
 use Rattle.awari_block.specs.Cells.{is_settled, Keeps}
-use Rattle.awari_block.specs.Blocks.{Due, cell_in, due_dist, due_rank, is_settled_in, no_cell, times_due, IsBlock}
-use Rattle.awari_block.specs.Fresh.{dist_at, due_of, fresh_of, is_marked, marked_of, IsFirstOf, IsFresh, MarksOne, UnmarksOne}
-use Rattle.awari_block.proofs.BlockLemmas.{settled_inside}
-use Rattle.awari_block.proofs.FreshLists.{filter_joins, filter_none, first_fresh, fresh_joins, fresh_leaves, fresh_same, times_fresh}
+use Rattle.awari_block.specs.Blocks.{Due, cell_in, due_dist, due_rank, no_cell, IsBlock, IsDueAs}
+use Rattle.awari_block.specs.Fresh.{dist_at, due_of, fresh_of, is_marked, marked_of, nearest_of, AreMarked, IsFirst, IsFresh, IsNext, MarksOne, UnmarksOne}
+use Rattle.awari_block.proofs.BlockLemmas.{first_due}
+use Rattle.awari_block.proofs.Freshness.{settled_cell}
+use Rattle.awari_block.proofs.Noting.{noted_idle, noted_still}
+use Rattle.awari_block.proofs.FreshLists.{all_due, filter_joins, filter_none, fresh_joins, fresh_leaves, fresh_same}
 
 -- where the marked boards keep their distances all stays right
-pub still_fresh : (cells after : List Cell) (fresh : Fresh) → length after ≡ length cells → ((k : ℕ) → is_marked fresh.words.items k ≡ true → dist_at after k ≡ dist_at cells k)
-    → IsFresh cells fresh → IsFresh after fresh
-still_fresh cells after fresh size same sound = record {
-  room = let all = sound.room in omega (arith, all, size);
-  kept = record {
-    few = sound.kept.few;
-    runs = sound.kept.runs;
-    inside = λ k marked. let within = sound.kept.inside k marked in omega (arith, within, size);
-    near = λ k marked. near k (same k marked) (sound.kept.near k marked);
+pub still_fresh : (wave : ℕ) (cells after : List Cell) (fresh : Fresh) → length after ≡ length cells → ((k : ℕ) → is_marked fresh.words.items k ≡ true → dist_at after k ≡ dist_at cells k)
+    → IsFresh wave cells fresh → IsFresh wave after fresh
+still_fresh wave cells after fresh size same sound = record {
+  marked = record {
+    few = sound.marked.few;
+    room = let all = sound.marked.room in omega (arith, all, size);
+    runs = sound.marked.runs;
+    inside = λ k marked. let within = sound.marked.inside k marked in omega (arith, within, size);
+    count = sound.marked.count ∙ ap (λ n. length (filter (is_marked fresh.words.items) (range_with_len 0 n))) (sym size);
   };
-  count = sound.count ∙ ap (λ n. length (filter (is_marked fresh.words.items) (range_with_len 0 n))) (sym size);
-  first = record {
-    within = sound.first.within;
-    short = sound.first.short;
-    here = λ i below. (
-      λ one. let both = (sound.first.here i below).0 one in (both.0, same _ both.0 ∙ both.1),
-      λ both. (sound.first.here i below).1 (both.0, sym (same _ both.0) ∙ both.1),
-    );
-    behind = λ k marked. behind k (same k marked) (sound.first.behind k marked);
-    none = sound.first.none;
-  };
+  noted = noted_still cells after (λ k. is_marked fresh.words.items k ≡ true) wave fresh.near.items fresh.first fresh.next same sound.noted;
 }
+
+-- a marked board is among the fresh ones
+fresh_among : (start : ℕ) (cells : List Cell) (words : List ℕ) (b : ℕ) → is_marked words b ≡ true → b < length cells
+    → (rest : List Due) × IsPermutation ((dist_at cells b, start + b) ∷ rest) (due_of start cells words)
+fresh_among start cells words b marked inside = (
+  map (λ k. (dist_at cells k, start + k)) (filter others (range_with_len 0 (length cells))),
+  IsPermutation-map (λ k. (dist_at cells k, start + k)) _ _ (filter_joins others (is_marked words) b without marked same (length cells) 0 (omega arith) (omega (arith, inside))),
+)
   where
-    near : (k : ℕ) → dist_at after k ≡ dist_at cells k → ((k / 64 ≡ fresh.run) × (dist_at cells k ≡ fresh.dist)) ⊎ (get_or fresh.least.items (k / 64) 0 ≤ dist_at cells k)
-        → ((k / 64 ≡ fresh.run) × (dist_at after k ≡ fresh.dist)) ⊎ (get_or fresh.least.items (k / 64) 0 ≤ dist_at after k)
-    near k e (inl hand) = inl (hand.0, e ∙ hand.1)
-    near k e (inr bound) = inr (omega (arith, e, bound))
+    others : ℕ → Bool
+    others k = is_marked words k && not (k == b)
 
-    behind : (k : ℕ) → dist_at after k ≡ dist_at cells k → (fresh.dist < dist_at cells k) ⊎ ((dist_at cells k ≡ fresh.dist) × (fresh.run ≤ k / 64)) → (fresh.dist < dist_at after k) ⊎ ((dist_at after k ≡ fresh.dist) × (fresh.run ≤ k / 64))
-    behind k e (inl more) = inl (omega (arith, e, more))
-    behind k e (inr (near, later)) = inr (e ∙ near, later)
+    and_false : (p q : Bool) → q ≡ true → (p && not q) ≡ false
+    and_false p q e = grind arith
 
--- the marks leave one place out, so they are fewer than the places
-pub marks_below : (p : ℕ → Bool) (n place : ℕ) → place < n → p place ≡ false → length (filter p (range_with_len 0 n)) < n
-marks_below p n place inside was =
-    let more = length_permutation _ _ (filter_joins p with_place place was here others n 0 (omega arith) (omega (arith, inside))) in
-    let both = length-filter_both with_place (λ k. not_b (with_place k)) (λ k. refl) (range_with_len 0 n) in
-    let all = length-range_with_len 0 n in
-    omega (arith, more, both, all)
-  where
-    not_b : Bool → Bool
-    not_b true = false
-    not_b false = true
+    and_same : (p q : Bool) → q ≡ false → p ≡ (p && not q)
+    and_same p q e = grind arith
 
-    with_place : ℕ → Bool
-    with_place k = p k || (k == place)
-
-    or_true : (a b : Bool) → b ≡ true → (a || b) ≡ true
-    or_true a b e = grind arith
-
-    or_false : (a b : Bool) → b ≡ false → (a || b) ≡ a
-    or_false a b e = grind arith
-
-    here : with_place place ≡ true
-    here = or_true (p place) (place == place) (itself place)
+    without : others b ≡ false
+    without = and_false (is_marked words b) (b == b) (itself b)
       where
         itself : (x : ℕ) → (x == x) ≡ true
         itself x = grind (arith, nat_tests)
 
-    others : (k : ℕ) → k ≢ place → with_place k ≡ p k
-    others k other = or_false (p k) (k == place) (apart k place other)
+    same : (k : ℕ) → k ≢ b → is_marked words k ≡ others k
+    same k other = and_same (is_marked words k) (k == b) (apart k b other)
       where
         apart : (x y : ℕ) → x ≢ y → (x == y) ≡ false
         apart x y h = grind (arith, nat_tests)
 
-module _ (place : Place) (cells : List Cell) (fresh : Fresh) (sound : IsBlock place cells (fresh_of place.start cells fresh)) (marks : IsFresh cells fresh) where
+module _ (place : Place) (cells : List Cell) (fresh : Fresh) (sound : IsBlock place cells (fresh_of place.start cells fresh)) (marks : IsFresh place.wave cells fresh) where
   -- a marked board is settled
   pub marked_settled : (k : ℕ) → is_marked fresh.words.items k ≡ true → is_settled (get_or cells k no_cell).mark ≡ true
   marked_settled k marked =
-      let inside = marks.kept.inside k marked in
-      let one = times_fresh place.start cells fresh.words.items k inside in
-      let most = sound.settled (place.start + k) in
-      let settled = settled_inside place.start cells (place.start + k) (by (is_marked fresh.words.items k) (is_settled_in place.start cells (place.start + k)) marked one most) in
+      let among = fresh_among place.start cells fresh.words.items k marked (marks.marked.inside k marked) in
+      let settled = (first_due place cells (fresh_of place.start cells fresh) among.0 (dist_at cells k, place.start + k) sound among.1).4 in
       let at : place.start + k - place.start ≡ k = omega arith in
-      subst (λ n. is_settled (get_or cells n no_cell).mark ≡ true) at settled.2
-    where
-      by : (m b : Bool) → m ≡ true → times_due (fresh_of place.start cells fresh) (place.start + k) ≡ (if m then 1 else 0) → times_due (fresh_of place.start cells fresh) (place.start + k) ≤ (if b then 1 else 0) → b ≡ true
-      by true true e one most = refl
-      by true false e one most = absurd (omega (arith, one, most))
-      by false b e one most = absurd (false≢true e)
+      subst (λ n. is_settled (get_or cells n no_cell).mark ≡ true) at settled
 
   module _ (rank : ℕ) (c : Cell) (low : place.start ≤ rank) (high : rank - place.start < length cells) (keeps : Keeps (cell_in place.start cells rank) c) where
     -- a marked board keeps its distance
@@ -113,8 +83,8 @@ module _ (place : Place) (cells : List Cell) (fresh : Fresh) (sound : IsBlock pl
       | inr other ↦ ap (λ (d : Cell). d.dist) (get_or-set_other cells (rank - place.start) k c no_cell other)
     ]
 
-    pub put_marks : IsFresh (set cells (rank - place.start) c) fresh
-    put_marks = still_fresh cells (set cells (rank - place.start) c) fresh (length-set cells (rank - place.start) c) same_dist marks
+    pub put_marks : IsFresh place.wave (set cells (rank - place.start) c) fresh
+    put_marks = still_fresh place.wave cells (set cells (rank - place.start) c) fresh (length-set cells (rank - place.start) c) same_dist marks
 
     pub put_same : fresh_of place.start (set cells (rank - place.start) c) fresh ≡ fresh_of place.start cells fresh
     put_same = fresh_same place.start cells (set cells (rank - place.start) c) fresh.words.items (length-set cells (rank - place.start) c) same_dist
@@ -128,13 +98,6 @@ module _ (place : Place) (cells : List Cell) (fresh : Fresh) (sound : IsBlock pl
           by false e = e
           by true e = absurd (false≢true (sym open_mark ∙ marked_settled (rank - place.start) e))
 
-      pub put_few : fresh.count < length (set cells (rank - place.start) c)
-      put_few =
-          let below = marks_below (is_marked fresh.words.items) (length cells) (rank - place.start) high put_unmarked in
-          let size = length-set cells (rank - place.start) c in
-          let count = marks.count in
-          omega (arith, below, size, count)
-
       -- it joins them
       pub put_permuted : (new : List ℕ) → MarksOne (rank - place.start) fresh.words.items new
           → IsPermutation ((c.dist, place.start + (rank - place.start)) ∷ fresh_of place.start cells fresh) (due_of place.start (set cells (rank - place.start) c) new)
@@ -147,10 +110,10 @@ module _ (place : Place) (cells : List Cell) (fresh : Fresh) (sound : IsBlock pl
 -- ---- the first
 
 -- how many are fresh
-pub fresh_count : (start : ℕ) (cells : List Cell) (fresh : Fresh) → IsFresh cells fresh → length (fresh_of start cells fresh) ≡ fresh.count
-fresh_count start cells fresh marks = length-map (marked_of cells fresh.words.items) (λ k. (dist_at cells k, start + k)) ∙ sym marks.count
+pub fresh_count : (start : ℕ) (cells : List Cell) (fresh : Fresh) → AreMarked cells fresh → length (fresh_of start cells fresh) ≡ fresh.count
+fresh_count start cells fresh marked = length-map (marked_of cells fresh.words.items) (λ k. (dist_at cells k, start + k)) ∙ sym marked.count
 
-pub no_items : (xs : List Due) → length xs ≡ 0 → xs ≡ []
+no_items : (xs : List Due) → length xs ≡ 0 → xs ≡ []
 no_items [] e = refl
 no_items (x ∷ xs) e = absurd (omega (arith, e))
 
@@ -167,76 +130,112 @@ empty_is n count xs same len = (λ zero. no_items xs (let none = is_zero n zero 
 pub none_fresh : (start : ℕ) (cells : List Cell) (words : List ℕ) → ((k : ℕ) → is_marked words k ≡ true → ⊥) → due_of start cells words ≡ []
 none_fresh start cells words none = ap (map (λ k. (dist_at cells k, start + k))) (filter_none (is_marked words) (length cells) 0 none)
 
--- the first of them, and those after it
-pub record IsFirstDue (fresh : List Due) (d rank : ℕ) : Type 0 where
-  pub rest : List Due
-  pub moved : IsPermutation ((d, rank) ∷ rest) fresh
-  pub least : All (λ (f : Due). (d ≤ due_dist f) × (due_dist f ≡ d → rank ≤ due_rank f)) fresh
-
-pub first_due_is : (start : ℕ) (cells : List Cell) (fresh : Fresh) (d b : ℕ) → IsFresh cells fresh → IsFirstOf cells fresh.words.items (Some (d, b)) → IsFirstDue (fresh_of start cells fresh) d (start + b)
-first_due_is start cells fresh d b marks first = record {
-  rest = map (λ k. (dist_at cells k, start + k)) (filter others (range_with_len 0 (length cells)));
-  moved =
-      subst (λ e. IsPermutation ((e, start + b) ∷ map (λ k. (dist_at cells k, start + k)) (filter others (range_with_len 0 (length cells)))) (fresh_of start cells fresh)) first.1
-      (IsPermutation-map (λ k. (dist_at cells k, start + k)) _ _
-      (filter_joins others (is_marked fresh.words.items) b without first.0 same (length cells) 0 (omega arith) (let inside = marks.kept.inside b first.0 in omega (arith, inside))));
-  least = subst (λ e. All (λ (f : Due). (e ≤ due_dist f) × (due_dist f ≡ e → start + b ≤ due_rank f)) (fresh_of start cells fresh)) first.1 (first_fresh start cells fresh.words.items b first.2);
-}
-  where
-    others : ℕ → Bool
-    others k = is_marked fresh.words.items k && not (k == b)
-
-    and_false : (p q : Bool) → q ≡ true → (p && not q) ≡ false
-    and_false p q e = grind arith
-
-    and_same : (p q : Bool) → q ≡ false → p ≡ (p && not q)
-    and_same p q e = grind arith
-
-    without : others b ≡ false
-    without = and_false (is_marked fresh.words.items b) (b == b) (itself b)
-      where
-        itself : (x : ℕ) → (x == x) ≡ true
-        itself x = grind (arith, nat_tests)
-
-    same : (k : ℕ) → k ≢ b → is_marked fresh.words.items k ≡ others k
-    same k other = and_same (is_marked fresh.words.items k) (k == b) (apart k b other)
-      where
-        apart : (x y : ℕ) → x ≢ y → (x == y) ≡ false
-        apart x y h = grind (arith, nat_tests)
-
--- one of them is as near as the first
-pub any_first : (fresh : List Due) (d rank : ℕ) → IsFirstDue fresh d rank → Any (λ (f : Due). due_dist f ≡ d) fresh
-any_first fresh d rank first =
-    let found = Any-from_list_any (λ (f : Due). due_dist f == d) fresh
-    (sym (list_any-IsPermutation (λ (f : Due). due_dist f == d) ((d, rank) ∷ first.rest) fresh first.moved)
-    ∙ list_any-from_Any (λ (f : Due). due_dist f == d) ((d, rank) ∷ first.rest) (0, (d, rank), omega arith, refl, itself d)) in
+-- some fresh board is of the distance of one that is marked
+any_due : (start : ℕ) (cells : List Cell) (words : List ℕ) (b d : ℕ) → is_marked words b ≡ true → b < length cells → dist_at cells b ≡ d → Any (λ (f : Due). due_dist f ≡ d) (due_of start cells words)
+any_due start cells words b d marked inside at =
+    let among = fresh_among start cells words b marked inside in
+    let found = Any-from_list_any (λ (f : Due). due_dist f == d) (due_of start cells words)
+    (sym (list_any-IsPermutation (λ (f : Due). due_dist f == d) ((dist_at cells b, start + b) ∷ among.0) (due_of start cells words) among.1)
+    ∙ list_any-from_Any (λ (f : Due). due_dist f == d) ((dist_at cells b, start + b) ∷ among.0) (0, (dist_at cells b, start + b), omega arith, refl, itself (dist_at cells b) d at)) in
     (found.0, found.1, found.2, found.3, eqb-true (due_dist found.1) d found.4)
   where
-    itself : (x : ℕ) → (x == x) ≡ true
-    itself x = grind (arith, nat_tests)
+    itself : (x y : ℕ) → x ≡ y → (x == y) ≡ true
+    itself x y e = grind (arith, nat_tests)
 
--- and none is nearer
-pub least_first : (part : Part) (d rank : ℕ) → IsFirstDue part.fresh d rank → IsLeastDue part (Some d)
-least_first part d rank first =
-    (any_first part.fresh d rank first, All-weaker (λ (f : Due). (d ≤ due_dist f) × (due_dist f ≡ d → rank ≤ due_rank f)) (λ (f : Due). d ≤ due_dist f) (λ f both. both.0) part.fresh first.least)
+-- what is due: some fresh board is so near, and none is nearer
+pub record IsDueNow (part : Part) (o : Option ℕ) : Type 0 where
+  pub least : IsLeastDue part o
+  pub timely : IfSome o (λ dist. part.wave ≤ dist)
+  pub settled : IfSome o (λ dist. (rank : ℕ) × (v : ℤ) × InBlock part rank × (settled_at part rank ≡ Some (v, dist)))
 
--- so it has the open distance where a board of that is the nearest
-pub wave_is : (fresh : List Due) (d rank wave : ℕ) → IsFirstDue fresh d rank → Any (λ (f : Due). due_dist f ≡ wave) fresh × All (λ (f : Due). wave ≤ due_dist f) fresh → d ≡ wave
-wave_is fresh d rank wave first (some, least) =
-    let near = any_first fresh d rank first in
-    let a = subst (λ (f : Due). wave ≤ due_dist f) near.3 (least near.0 near.1 near.2) in
-    let b = subst (λ (f : Due). (d ≤ due_dist f) × (due_dist f ≡ d → rank ≤ due_rank f)) some.3 (first.least some.0 some.1 some.2) in
-    let low = b.0 in
-    let e = near.4 in
-    let h = some.4 in
-    omega (arith, a, e, low, h)
+module _ (place : Place) (cells : List Cell) (fresh : Fresh) (sound : IsBlock place cells (fresh_of place.start cells fresh)) (marks : IsFresh place.wave cells fresh) where
+  abbrev seen : Part
+  seen = part_of place cells (fresh_of place.start cells fresh)
 
-pub none_due : (fresh : List Due) (wave : ℕ) → fresh ≡ [] → Any (λ (f : Due). due_dist f ≡ wave) fresh → ⊥
-none_due fresh wave none some = let below = some.2 in let len = ap length none in omega (arith, below, len)
+  -- a marked board is settled, and not nearer than the open distance
+  due_at : (k : ℕ) → is_marked fresh.words.items k ≡ true → IsDueAs place (dist_at cells k, place.start + k) (cell_in place.start cells (place.start + k))
+  due_at k marked =
+      let among = fresh_among place.start cells fresh.words.items k marked (marks.marked.inside k marked) in
+      (first_due place cells (fresh_of place.start cells fresh) among.0 (dist_at cells k, place.start + k) sound among.1).2
 
--- the fresh boards once the first is taken
-pub taken_moved : (start : ℕ) (cells : List Cell) (fresh after : Fresh) (d b : ℕ) → IsFresh cells fresh → IsFirstOf cells fresh.words.items (Some (d, b)) → UnmarksOne b fresh.words.items after.words.items
-    → IsPermutation ((d, start + b) ∷ fresh_of start cells after) (fresh_of start cells fresh)
-taken_moved start cells fresh after d b marks first one =
-    subst (λ e. IsPermutation ((e, start + b) ∷ fresh_of start cells after) (fresh_of start cells fresh)) first.1
-    (fresh_leaves start cells fresh.words.items after.words.items b (marks.kept.inside b first.0) first.0 one)
+  far_at : (k : ℕ) → is_marked fresh.words.items k ≡ true → place.wave ≤ dist_at cells k
+  far_at k marked = let due = due_at k marked in let timely = due.timely in let near = due.near in omega (arith, timely, near)
+
+  some_due : (k d : ℕ) → is_marked fresh.words.items k ≡ true → dist_at cells k ≡ d → ((j : ℕ) → is_marked fresh.words.items j ≡ true → d ≤ dist_at cells j) → IsDueNow seen (Some d)
+  some_due k d marked at least =
+      let inside = marks.marked.inside k marked in
+      let among = fresh_among place.start cells fresh.words.items k marked inside in
+      let first = first_due place cells (fresh_of place.start cells fresh) among.0 (dist_at cells k, place.start + k) sound among.1 in
+      let cell = cell_in place.start cells (place.start + k) in
+      record {
+        least = (any_due place.start cells fresh.words.items k d marked inside at, all_due place.start cells fresh.words.items (λ (f : Due). d ≤ due_dist f) least);
+        timely = let far = far_at k marked in omega (arith, far, at);
+        settled = (place.start + k, cell.score, (first.0, first.1), settled_cell cell d first.4 (first.2.near ∙ at));
+      }
+
+  pub due_is : IsDueNow seen (nearest_of place.wave fresh.first fresh.next)
+  due_is = by fresh.first fresh.next marks.noted.is_first marks.noted.is_next
+    where
+      apart : IsFirst fresh.near.items None → (k : ℕ) → is_marked fresh.words.items k ≡ true → dist_at cells k ≢ place.wave
+      apart none k marked near = none k ((marks.noted.here k).1 (marked, near))
+
+      by : (first next : Option ℕ) → IsFirst fresh.near.items first → IsNext cells (λ k. is_marked fresh.words.items k ≡ true) place.wave next → IsDueNow seen (nearest_of place.wave first next)
+      by (Some b) next (is, least) others = let both = (marks.noted.here b).0 is in some_due b place.wave both.0 both.1 far_at
+      by None (Some d) none ((k, marked, off, at), least) = some_due k d marked at (λ j here. later j here (least j here))
+        where
+          later : (j : ℕ) → is_marked fresh.words.items j ≡ true → (dist_at cells j ≡ place.wave) ⊎ (d ≤ dist_at cells j) → d ≤ dist_at cells j
+          later j here (inl near) = absurd (apart none j here near)
+          later j here (inr more) = more
+      by None None none all = record { least = none_fresh place.start cells fresh.words.items (λ k marked. apart none k marked (all k marked)); timely = tt; settled = tt }
+
+  -- where none is of the open distance, none is due there
+  pub none_due : fresh.first ≡ None → Any (λ (f : Due). due_dist f ≡ place.wave) (fresh_of place.start cells fresh) → ⊥
+  none_due none some =
+      let clear = subst (IsFirst fresh.near.items) none marks.noted.is_first in
+      let all = all_due place.start cells fresh.words.items (λ (f : Due). due_dist f ≡ place.wave → ⊥) (λ k marked near. clear k ((marks.noted.here k).1 (marked, near))) in
+      all some.0 some.1 some.2 (ap due_dist some.3 ∙ some.4)
+
+  -- where all are farther than the open distance, none is of it
+  pub near_none : (dist : ℕ) → place.wave < dist → All (λ (f : Due). dist ≤ due_dist f) (fresh_of place.start cells fresh) → (k : ℕ) → is_marked fresh.near.items k ≡ true → ⊥
+  near_none dist farther all k near =
+      let both = (marks.noted.here k).0 near in
+      let among = fresh_among place.start cells fresh.words.items k both.0 (marks.marked.inside k both.0) in
+      let far = All-permutation (λ (f : Due). dist ≤ due_dist f) (fresh_of place.start cells fresh) ((dist_at cells k, place.start + k) ∷ among.0) (IsPermutation-sym _ _ among.1) all in
+      let here : dist ≤ dist_at cells k = far 0 (dist_at cells k, place.start + k) (omega arith) in
+      let at = both.1 in
+      omega (arith, farther, here, at)
+
+  -- where there is none, any distance may be the open one
+  pub fresh_idle : (wave : ℕ) → fresh_of place.start cells fresh ≡ [] → IsFresh wave cells fresh
+  fresh_idle wave none = record {
+    marked = marks.marked;
+    noted = noted_idle cells (λ k. is_marked fresh.words.items k ≡ true) place.wave wave fresh.near.items fresh.first fresh.next clear marks.noted;
+  }
+    where
+      clear : (k : ℕ) → is_marked fresh.words.items k ≡ true → ⊥
+      clear k marked =
+          let among = fresh_among place.start cells fresh.words.items k marked (marks.marked.inside k marked) in
+          let same = length_permutation _ _ among.1 in
+          let zero = ap length none in
+          omega (arith, same, zero)
+
+  -- the first board is taken
+  module _ (b : ℕ) (is : fresh.first ≡ Some b) where
+    first_is : IsFirst fresh.near.items (Some b)
+    first_is = subst (IsFirst fresh.near.items) is marks.noted.is_first
+
+    first_at : (is_marked fresh.words.items b ≡ true) × (dist_at cells b ≡ place.wave)
+    first_at = (marks.noted.here b).0 first_is.0
+
+    pub first_inside : b < length cells
+    first_inside = marks.marked.inside b first_at.0
+
+    pub first_least : All (λ (f : Due). (place.wave ≤ due_dist f) × (due_dist f ≡ place.wave → place.start + b ≤ due_rank f)) (fresh_of place.start cells fresh)
+    first_least =
+        all_due place.start cells fresh.words.items (λ (f : Due). (place.wave ≤ due_dist f) × (due_dist f ≡ place.wave → place.start + b ≤ due_rank f))
+        (λ k marked. (far_at k marked, λ near. (let low = first_is.1 k ((marks.noted.here k).1 (marked, near)) in omega (arith, low))))
+
+    pub taken_moved : (after : Fresh) → UnmarksOne b fresh.words.items after.words.items → IsPermutation ((place.wave, place.start + b) ∷ fresh_of place.start cells after) (fresh_of place.start cells fresh)
+    taken_moved after one =
+        subst (λ e. IsPermutation ((e, place.start + b) ∷ fresh_of place.start cells after) (fresh_of place.start cells fresh)) first_at.1
+        (fresh_leaves place.start cells fresh.words.items after.words.items b first_inside first_at.0 one)

@@ -1,15 +1,14 @@
 -- The fresh boards as a list.
-use Rattle.std.proofs.Common.{◌≡◌, ◌≢◌, ℕ, ◌+◌, ◌<◌, ◌≤◌, ◌==◌, zero, suc, inl, inr, Bool, true, false, cond, List, [], ◌∷◌, map, filter, length, All, refl, sym, ap, subst, ◌∙◌, arith}
-use Rattle.std.specs.Prelude.{count_by, if◌then◌else◌}
+use Rattle.std.proofs.Common.{◌≡◌, ◌≢◌, ℕ, ◌+◌, ◌<◌, ◌≤◌, zero, suc, inl, inr, Bool, true, false, not, cond, List, [], ◌∷◌, map, filter, length, All, refl, sym, ap, subst, ◌∙◌, arith}
 use Rattle.std.specs.List.{range_with_len, AllByRecursion}
 use Rattle.std.specs.List.Sorted.{IsPermutation}
 use Rattle.std.proofs.lemmas.Bool.{cases_eq}
-use Rattle.std.proofs.lemmas.Bool.Decides.{nat_tests}
-use Rattle.std.proofs.lemmas.List.Sorted.{IsPermutation-refl, IsPermutation-cons, IsPermutation-map, IsPermutation-trans, IsPermutation-middle}
-use Rattle.std.proofs.lemmas.List.Sums.{sum_by-cons}
+use Rattle.std.proofs.lemmas.List.Sorted.{IsPermutation-refl, IsPermutation-cons, IsPermutation-map, IsPermutation-trans, IsPermutation-middle, length_permutation}
+use Rattle.std.proofs.lemmas.List.Filters.{length-filter_both}
+use Rattle.std.proofs.lemmas.List.FromFn.{length-range_with_len}
 use Rattle.std.proofs.lemmas.List.Elements.{All-from_recursion}
 use Rattle.awari_block.specs.declared.cells.Cell.{Cell}
-use Rattle.awari_block.specs.Fresh.{dist_at, is_marked, due_of, IsBefore, MarksOne, UnmarksOne}
+use Rattle.awari_block.specs.Fresh.{dist_at, is_marked, marked_of, due_of, MarksOne, UnmarksOne}
 
 -- what a test lets through, by whether it does the first
 filter_yes : (p : ℕ → Bool) (a : ℕ) (xs : List ℕ) → p a ≡ true → filter p (a ∷ xs) ≡ a ∷ filter p xs
@@ -95,69 +94,6 @@ fresh_leaves start cells old new place inside was unmarks =
     IsPermutation-map (λ k. (dist_at cells k, start + k)) _ _
     (filter_joins (is_marked new) (is_marked old) place unmarks.here was (λ k other. sym (unmarks.others k other)) (length cells) 0 (omega arith) (omega (arith, inside)))
 
--- how often a rank is among the fresh
-abbrev pub times : List (ℕ × ℕ) → ℕ → ℕ
-times fresh rank = count_by (λ f. f.1 == rank) fresh
-
-times_cons : (f : ℕ × ℕ) (fresh : List (ℕ × ℕ)) (rank : ℕ) → times (f ∷ fresh) rank ≡ (if f.1 == rank then 1 else 0) + times fresh rank
-times_cons f fresh rank = sum_by-cons (λ (g : ℕ × ℕ). cond (g.1 == rank) 1 0) f fresh
-
-eqb_no : (x y : ℕ) → x ≢ y → (x == y) ≡ false
-eqb_no x y apart = grind (arith, nat_tests)
-
-eqb_yes : (x y : ℕ) → x ≡ y → (x == y) ≡ true
-eqb_yes x y same = grind (arith, nat_tests)
-
-zero_plus : (n : ℕ) → 0 + n ≡ n
-zero_plus n = omega arith
-
-times_out : (d : ℕ → ℕ) (p : ℕ → Bool) (start rank n a : ℕ) → rank < start + a → times (map (λ k. (d k, start + k)) (filter p (range_with_len a n))) rank ≡ 0
-times_out d p start rank zero a out = refl
-times_out d p start rank (suc n) a out = by (times_out d p start rank n (a + 1) (omega (arith, out))) (p a) refl
-  where
-    by : times (map (λ k. (d k, start + k)) (filter p (range_with_len (a + 1) n))) rank ≡ 0 → (b : Bool) → p a ≡ b
-        → times (map (λ k. (d k, start + k)) (filter p (a ∷ range_with_len (a + 1) n))) rank ≡ 0
-    by rest true e =
-        ap (λ (xs : List ℕ). times (map (λ k. (d k, start + k)) xs) rank) (filter_yes p a (range_with_len (a + 1) n) e)
-        ∙ times_cons (d a, start + a) (map (λ k. (d k, start + k)) (filter p (range_with_len (a + 1) n))) rank
-        ∙ ap (λ b. cond b 1 0 + times (map (λ k. (d k, start + k)) (filter p (range_with_len (a + 1) n))) rank) (eqb_no (start + a) rank (λ same. absurd (omega (arith, same, out))))
-        ∙ zero_plus (times (map (λ k. (d k, start + k)) (filter p (range_with_len (a + 1) n))) rank) ∙ rest
-    by rest false e = ap (λ (xs : List ℕ). times (map (λ k. (d k, start + k)) xs) rank) (filter_no p a (range_with_len (a + 1) n) e) ∙ rest
-
-times_in : (d : ℕ → ℕ) (p : ℕ → Bool) (start place n a : ℕ) → a ≤ place → place < a + n
-    → times (map (λ k. (d k, start + k)) (filter p (range_with_len a n))) (start + place) ≡ (if p place then 1 else 0)
-times_in d p start place zero a low high = absurd (omega (arith, low, high))
-times_in d p start place (suc n) a low high = elim (cases_eq a place) [
-  | inl here ↦ at_here here (times_out d p start (start + place) n (a + 1) (omega (arith, here))) (p a) refl
-  | inr other ↦ elsewhere other (times_in d p start place n (a + 1) (omega (arith, low, other)) (omega (arith, high))) (p a) refl
-]
-  where
-    rest : ℕ
-    rest = times (map (λ k. (d k, start + k)) (filter p (range_with_len (a + 1) n))) (start + place)
-
-    at_here : a ≡ place → rest ≡ 0 → (b : Bool) → p a ≡ b → times (map (λ k. (d k, start + k)) (filter p (a ∷ range_with_len (a + 1) n))) (start + place) ≡ (if p place then 1 else 0)
-    at_here here none true e =
-        ap (λ (xs : List ℕ). times (map (λ k. (d k, start + k)) xs) (start + place)) (filter_yes p a (range_with_len (a + 1) n) e)
-        ∙ times_cons (d a, start + a) (map (λ k. (d k, start + k)) (filter p (range_with_len (a + 1) n))) (start + place)
-        ∙ ap (λ b. cond b 1 0 + rest) (eqb_yes (start + a) (start + place) (ap (λ k. start + k) here))
-        ∙ ap (λ n. 1 + n) none
-        ∙ sym (ap (λ b. cond b 1 0) (subst (λ k. p k ≡ true) here e))
-    at_here here none false e =
-        ap (λ (xs : List ℕ). times (map (λ k. (d k, start + k)) xs) (start + place)) (filter_no p a (range_with_len (a + 1) n) e) ∙ none
-        ∙ sym (ap (λ b. cond b 1 0) (subst (λ k. p k ≡ false) here e))
-
-    elsewhere : a ≢ place → rest ≡ (if p place then 1 else 0) → (b : Bool) → p a ≡ b → times (map (λ k. (d k, start + k)) (filter p (a ∷ range_with_len (a + 1) n))) (start + place) ≡ (if p place then 1 else 0)
-    elsewhere other is true e =
-        ap (λ (xs : List ℕ). times (map (λ k. (d k, start + k)) xs) (start + place)) (filter_yes p a (range_with_len (a + 1) n) e)
-        ∙ times_cons (d a, start + a) (map (λ k. (d k, start + k)) (filter p (range_with_len (a + 1) n))) (start + place)
-        ∙ ap (λ b. cond b 1 0 + rest) (eqb_no (start + a) (start + place) (λ same. other (omega (arith, same))))
-        ∙ zero_plus rest ∙ is
-    elsewhere other is false e = ap (λ (xs : List ℕ). times (map (λ k. (d k, start + k)) xs) (start + place)) (filter_no p a (range_with_len (a + 1) n) e) ∙ is
-
--- a board of the block is among the fresh as often as it is marked: once, or not at all
-pub times_fresh : (start : ℕ) (cells : List Cell) (words : List ℕ) (place : ℕ) → place < length cells → times (due_of start cells words) (start + place) ≡ (if is_marked words place then 1 else 0)
-times_fresh start cells words place inside = times_in (dist_at cells) (is_marked words) start place (length cells) 0 (omega arith) (omega (arith, inside))
-
 -- where no board is marked none is fresh
 pub filter_none : (p : ℕ → Bool) (n a : ℕ) → ((k : ℕ) → p k ≡ true → ⊥) → filter p (range_with_len a n) ≡ []
 filter_none p zero a none = refl
@@ -176,13 +112,23 @@ all_marked d p P start (suc n) a each = by (all_marked d p P start n (a + 1) (λ
     by rest true e = subst (λ (xs : List ℕ). AllByRecursion P (map (λ k. (d k, start + k)) xs)) (sym (filter_yes p a (range_with_len (a + 1) n) e)) (each a (omega arith) (omega arith) e, rest)
     by rest false e = subst (λ (xs : List ℕ). AllByRecursion P (map (λ k. (d k, start + k)) xs)) (sym (filter_no p a (range_with_len (a + 1) n) e)) rest
 
--- the first marked board is the fresh one of least distance, and of least rank among those
-pub first_fresh : (start : ℕ) (cells : List Cell) (words : List ℕ) (b : ℕ) → ((k : ℕ) → is_marked words k ≡ true → IsBefore cells b k)
-    → All (λ f. (dist_at cells b ≤ f.0) × (f.0 ≡ dist_at cells b → start + b ≤ f.1)) (due_of start cells words)
-first_fresh start cells words b before =
-    All-from_recursion _ (due_of start cells words)
-    (all_marked (dist_at cells) (is_marked words) (λ f. (dist_at cells b ≤ f.0) × (f.0 ≡ dist_at cells b → start + b ≤ f.1)) start (length cells) 0 (λ k low high marked. one k (before k marked)))
-  where
-    one : (k : ℕ) → IsBefore cells b k → (dist_at cells b ≤ dist_at cells k) × (dist_at cells k ≡ dist_at cells b → start + b ≤ start + k)
-    one k (inl less) = (omega (arith, less), λ same. absurd (omega (arith, same, less)))
-    one k (inr (same, order)) = (omega (arith, same), λ _. omega (arith, order))
+-- what holds of each marked board holds of the fresh ones
+pub all_due : (start : ℕ) (cells : List Cell) (words : List ℕ) (P : ℕ × ℕ → Type 0) → ((k : ℕ) → is_marked words k ≡ true → P (dist_at cells k, start + k)) → All P (due_of start cells words)
+all_due start cells words P each = All-from_recursion P (due_of start cells words) (all_marked (dist_at cells) (is_marked words) P start (length cells) 0 (λ k low high marked. each k marked))
+
+-- how many are marked: at most all boards
+pub count_most : (cells : List Cell) (words : List ℕ) → length (marked_of cells words) ≤ length cells
+count_most cells words =
+    let both = length-filter_both (is_marked words) (λ k. not (is_marked words k)) (λ k. refl) (range_with_len 0 (length cells)) in
+    let all = length-range_with_len 0 (length cells) in
+    omega (arith, both, all)
+
+-- with one more
+pub count_more : (cells : List Cell) (old new : List ℕ) (place : ℕ) → place < length cells → is_marked old place ≡ false → MarksOne place old new → length (marked_of cells new) ≡ 1 + length (marked_of cells old)
+count_more cells old new place inside was marks =
+    let e = length_permutation _ _ (filter_joins (is_marked old) (is_marked new) place was marks.here marks.others (length cells) 0 (omega arith) (omega (arith, inside))) in omega (arith, e)
+
+-- and with one less
+pub count_less : (cells : List Cell) (old new : List ℕ) (place : ℕ) → place < length cells → is_marked old place ≡ true → UnmarksOne place old new → length (marked_of cells old) ≡ 1 + length (marked_of cells new)
+count_less cells old new place inside was marks =
+    let e = length_permutation _ _ (filter_joins (is_marked new) (is_marked old) place marks.here was (λ k other. sym (marks.others k other)) (length cells) 0 (omega arith) (omega (arith, inside))) in omega (arith, e)

@@ -1,8 +1,7 @@
 pub mod Bits
-pub mod Nearest
-pub mod RunBounds
+pub mod Marks
+pub mod Noting
 pub mod FreshLists
-pub mod FirstBits
 pub mod BlockLemmas
 pub mod FreshBlocks
 pub mod Opening

@@ -1,21 +1,19 @@
 -- What the boards of a block are once another cell stands in place of one.
-use Rattle.std.proofs.Common.{◌≡◌, ℕ, ◌-◌, ◌<◌, Bool, true, false, not, ◌&&◌, List, length, get_or, set, refl, sym, ap, subst, ◌∙◌, length-set}
-use Rattle.std.proofs.lemmas.Bool.{false≢true}
+use Rattle.std.proofs.Common.{◌≡◌, ℕ, ◌-◌, true, false, List, get_or, set, sym, ap, subst, ◌∙◌, length-set}
 use Rattle.std.proofs.lemmas.List.{get_or_default}
 use Rattle.std.specs.Vec.{with_item}
 use Rattle.awari_block.specs.declared.boards.Boards.TheInside.{Inside}
 use Rattle.awari_block.specs.declared.cells.Cell.{Cell}
 use Rattle.awari_block.specs.declared.fresh.Fresh.{Fresh}
-use Rattle.awari_block.specs.Awaited.{AwaitsNoMore}
 use Rattle.awari_block.specs.Blocks.{cell_in, no_cell, IsBlock}
-use Rattle.awari_block.specs.Boards.{CanHear, CanPut, Settles}
+use Rattle.awari_block.specs.Boards.{CanPut, Settles}
 use Rattle.awari_block.specs.BoardsFields.{IsBoards}
-use Rattle.awari_block.specs.Cells.{is_settled, Fits, Keeps, SettlesTimely}
+use Rattle.awari_block.specs.Cells.{is_settled}
 use Rattle.awari_block.specs.Fresh.{fresh_of, is_marked, IsFresh, MarksOne}
 use Rattle.awari_block.specs.Landmarks.{AreLandmarks}
-use Rattle.awari_block.specs.Part.{Part, InBlock, part_of}
+use Rattle.awari_block.specs.Part.{Part, part_of}
 use Rattle.awari_block.proofs.Awaiting.{awaited_put}
-use Rattle.awari_block.proofs.FreshBlocks.{put_few, put_marks, put_unmarked}
+use Rattle.awari_block.proofs.FreshBlocks.{put_marks, put_unmarked}
 use Rattle.awari_block.proofs.Settling.{joined_block, joined_settles, kept_block, kept_settles}
 
 -- what callers see of these boards
@@ -36,43 +34,15 @@ pub put_replaces : (a : Inside) (part : Part) (rank : ℕ) (old new : Cell) → 
 put_replaces a part rank old new view can read =
     let can : CanPut (seen a) rank new = subst (λ (o : Part). CanPut o rank new) (sym view) can in record { can = can; was = get_or_default a.cells.items (rank - a.place.start) no_cell old can.held.1 ∙ sym read }
 
--- and one that heard a note
-pub heard_replaces : (a : Inside) (part : Part) (rank pit : ℕ) (old new : Cell) → seen a ≡ part → CanHear part rank pit → old ≡ get_or a.cells.items (rank - a.place.start) old
-    → Fits a.place new → Keeps old new → SettlesTimely a.place old new → AwaitsNoMore old new → Replaces a rank old new
-heard_replaces a part rank pit old new view can read fits keeps timely awaits =
-    let held : InBlock (seen a) rank = subst (λ (o : Part). InBlock o rank) (sym view) can.held in
-    let was : cell_in a.place.start a.cells.items rank ≡ old = get_or_default a.cells.items (rank - a.place.start) no_cell old held.1 ∙ sym read in
-    record {
-      can = record {
-        held = held;
-        fits = fits;
-        keeps = subst (λ (c : Cell). Keeps c new) (sym was) keeps;
-        timely = subst (λ (c : Cell). SettlesTimely a.place c new) (sym was) timely;
-        awaits = subst (λ (c : Cell). AwaitsNoMore c new) (sym was) awaits;
-      };
-      was = was;
-    }
-
--- whether a cell is newly settled
-pub newly : (new old : Bool) → true ≡ (new && not old) → (new ≡ true) × (old ≡ false)
-newly true true e = absurd (false≢true (sym e))
-newly true false e = (refl, refl)
-newly false old e = absurd (false≢true (sym e))
-
-pub not_newly : (new old : Bool) → false ≡ (new && not old) → new ≡ true → old ≡ true
-not_newly true true e is = refl
-not_newly true false e is = absurd (false≢true e)
-not_newly false old e is = absurd (false≢true is)
-
 module _ (a : Inside) (sound : IsBoards a) (rank : ℕ) (old new : Cell) (put : Replaces a rank old new) where
   abbrev after : List Cell
   after = set a.cells.items (rank - a.place.start) new
 
   -- what is kept of the fresh boards is right of the other cells as well
-  pub still_marks : IsFresh after a.fresh
+  pub still_marks : IsFresh a.place.wave after a.fresh
   still_marks = put_marks a.place a.cells.items a.fresh sound.block sound.marks rank new put.can.held.0 put.can.held.1 put.can.keeps
 
-  still_boards : (fresh : Fresh) → IsFresh after fresh → IsBlock a.place after (fresh_of a.place.start after fresh) → IsBoards (with_cell a rank new fresh)
+  still_boards : (fresh : Fresh) → IsFresh a.place.wave after fresh → IsBlock a.place after (fresh_of a.place.start after fresh) → IsBoards (with_cell a rank new fresh)
   still_boards fresh marks block =
       record {
         low = sound.low;
@@ -90,16 +60,13 @@ module _ (a : Inside) (sound : IsBoards a) (rank : ℕ) (old new : Cell) (put : 
     open_before : is_settled (cell_in a.place.start a.cells.items rank).mark ≡ false
     open_before = ap (λ (c : Cell). is_settled c.mark) put.was ∙ open_mark
 
-    -- a board that was not settled is not among the fresh ones, which are fewer than the boards
-    pub joins_few : a.fresh.count < length after
-    joins_few = put_few a.place a.cells.items a.fresh sound.block sound.marks rank new put.can.held.0 put.can.held.1 put.can.keeps open_before
-
+    -- a board that was not settled is not among the fresh ones
     pub joins_unmarked : is_marked a.fresh.words.items (rank - a.place.start) ≡ false
     joins_unmarked = put_unmarked a.place a.cells.items a.fresh sound.block sound.marks rank new put.can.held.0 put.can.held.1 put.can.keeps open_before
 
     -- it joins them where it is settled now
     module _ (settled : is_settled new.mark ≡ true) (fresh : Fresh) (one : MarksOne (rank - a.place.start) a.fresh.words.items fresh.words.items) where
-      pub joined_boards : IsFresh after fresh → IsBoards (with_cell a rank new fresh)
+      pub joined_boards : IsFresh a.place.wave after fresh → IsBoards (with_cell a rank new fresh)
       joined_boards marks = still_boards fresh marks (joined_block a.place a.cells.items a.fresh sound.block sound.marks rank new put.can settled open_before fresh.words.items one)
 
       pub joined_seen : (part : Part) → seen a ≡ part → Settles part (seen (with_cell a rank new fresh))

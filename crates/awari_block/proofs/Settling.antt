@@ -76,7 +76,7 @@ alike old new keeps false was back = by (is_settled new.mark) refl
     by true e = absurd (false≢true (back e))
     by false e = e ∙ sym was
 
-module _ (place : Place) (cells : List Cell) (fresh : Fresh) (sound : IsBlock place cells (fresh_of place.start cells fresh)) (marks : IsFresh cells fresh) (rank : ℕ) (c : Cell)
+module _ (place : Place) (cells : List Cell) (fresh : Fresh) (sound : IsBlock place cells (fresh_of place.start cells fresh)) (marks : IsFresh place.wave cells fresh) (rank : ℕ) (c : Cell)
     (can : CanPut (part_of place cells (fresh_of place.start cells fresh)) rank c) where
   abbrev pub was : Cell
   was = cell_in place.start cells rank

@@ -13,7 +13,7 @@ pub record IsBoards (a : Inside) : Type 0 where
   pub inward : a.place.gain ≤ a.place.level + 1
   pub fits : a.place.start + vec_len a.cells < 2 ^ 32
   pub within : a.place.start + vec_len a.cells ≤ size_of a.place.level
-  pub marks : IsFresh a.cells.items a.fresh
+  pub marks : IsFresh a.place.wave a.cells.items a.fresh
   pub block : IsBlock a.place a.cells.items (fresh_of a.place.start a.cells.items a.fresh)
   pub awaited : AreAwaited a.place.level a.cells.items a.awaited.gains.items
   pub landmarks : AreLandmarks a.place.level a.place.start (length a.cells.items) a.landmarks.boards.items

@@ -154,10 +154,7 @@ impl Boards {
         ensures timely { IfSome result (λ dist. self.now.wave ≤ dist) }
         ensures settled { IfSome result (λ dist. (rank : ℕ) × (v : ℤ) × InBlock self.now rank × (settled_at self.now rank ≡ Some (v, dist))) }
     {
-        match self.fresh.first() {
-            Some((dist, _index)) => Some(dist),
-            None => None,
-        }
+        self.fresh.due(self.place.wave)
     }
 
     /// Makes the first fresh board fresh no longer, and gives its rank. Conditions: a board is fresh,
@@ -168,11 +165,10 @@ impl Boards {
         ensures held { InBlock self.new result }
         ensures fresh { AreFresh self.new }
     {
-        let Some((_dist, index)) = self.fresh.first() else {
+        let Some(index) = self.fresh.take_first() else {
             unreachable!()
         };
-        self.fresh.remove(self.cells.as_slice(), index);
-        self.place.start + index as u32
+        self.place.start + index
     }
 
     /// A note of the open gain and distance, for the board of this rank in this block or another.
@@ -199,10 +195,9 @@ impl Boards {
         ensures settles { Settles self.old self.new }
         ensures hears { HearsNote self.old self.new target pit kind }
     {
-        let index = (target - self.place.start) as usize;
-        if self.cells[index].hear(self.place, pit, kind) {
-            self.fresh.insert(self.cells.as_slice(), index);
-        }
+        let mut cell = self.cell(target);
+        cell.hear(self.place(), pit, kind);
+        self.put(target, cell);
     }
 
     /// Opens the next smaller gain. The boards that an end or a capture settles at that gain are
@@ -230,6 +225,7 @@ impl Boards {
         ensures wave { self.new ≡ record self.old { wave = dist } }
         ensures fresh { AreFresh self.new }
     {
+        self.fresh.open_wave(dist, self.cells.as_slice());
         self.place = Place {
             wave: dist,
             ..self.place
@@ -301,11 +297,12 @@ impl Boards {
         ensures settles { Settles self.old self.new }
         ensures cells { self.new.cells ≡ slice_set self.old.cells (rank - self.old.start) cell }
     {
-        let index = (rank - self.place.start) as usize;
-        let was_settled = self.cells[index].is_settled();
-        self.cells[index] = cell;
+        let index = rank - self.place.start;
+        let was_settled = self.cells[index as usize].is_settled();
+        self.cells[index as usize] = cell;
         if cell.is_settled() && !was_settled {
-            self.fresh.insert(self.cells.as_slice(), index);
+            self.fresh
+                .insert(self.place.wave, self.cells.as_slice(), index);
         }
     }
 }

@@ -1,6 +1,6 @@
 //! What is kept of each board of a block.
 
-ghost use Rattle.std.specs.Prelude.{◌≡◌, ℕ, false, not, ◌&&◌, ◌⊎◌, ◌+◌, ◌-◌, ◌^◌, ◌<◌, ◌≤◌, IfSome, Some, None};
+ghost use Rattle.std.specs.Prelude.{◌≡◌, ℕ, false, ◌⊎◌, ◌+◌, ◌-◌, ◌^◌, ◌<◌, ◌≤◌, IfSome, Some, None};
 ghost use Rattle.awari_block.specs.Awaited.{AwaitsNoMore, MayOpen};
 ghost use Rattle.awari_block.specs.Cells.{status_of, view_of, is_settled, knowing, Fits, FitsBy, IsBeyond, IsOpen, IsWithin, IsEither, Keeps, SettlesTimely};
 ghost use Rattle.awari_block.specs.Part.{settled_by};
@@ -76,15 +76,14 @@ impl Cell {
         self.left & (1 << pit) != 0
     }
 
-    /// Hears the note of this pit and kind, of the open gain and distance. True if that settles the
-    /// board, which was not settled before. Conditions: the pit is below 6, a gain is open, and the
-    /// open distance is not the greatest u32.
+    /// Hears the note of this pit and kind, of the open gain and distance. Conditions: the pit is below
+    /// 6, a gain is open, and the open distance is not the greatest u32.
     ///
     /// A lost board gives the gain at once, and another that is as near serves as a plan as well. A
     /// won one leaves one quiet move less that might do better. The last of them settles the board,
     /// unless a capture does better.
     #[inline(always)]
-    pub fn hear(&mut self, place: Place, pit: u8, kind: Kind) -> bool
+    pub fn hear(&mut self, place: Place, pit: u8, kind: Kind)
         requires pit { pit < 6 }
         requires low { place.level ≤ 24 }
         requires gain { place.gain ≤ place.level }
@@ -95,18 +94,17 @@ impl Cell {
         ensures awaits { AwaitsNoMore self.old self.new }
         ensures timely { SettlesTimely place self.old self.new }
         ensures fits { Fits place self.new }
-        ensures settles { result ≡ (is_settled self.new.mark && not (is_settled self.old.mark)) }
     {
         self.left = without_pit(self.left, pit);
-        if kind == Kind::Lost {
-            return self.hear_lost(place, pit);
+        match kind {
+            Kind::Lost => self.hear_lost(place, pit),
+            Kind::Won => self.hear_won(place, pit),
         }
-        self.hear_won(place, pit)
     }
 
     /// Hears that the move from this pit leads to a lost board.
     #[inline(always)]
-    fn hear_lost(&mut self, place: Place, pit: u8) -> bool
+    fn hear_lost(&mut self, place: Place, pit: u8)
         requires pit { pit < 6 }
         requires low { place.level ≤ 24 }
         requires gain { place.gain ≤ place.level }
@@ -118,7 +116,6 @@ impl Cell {
         ensures awaits { AwaitsNoMore self.old self.new }
         ensures timely { SettlesTimely place self.old self.new }
         ensures fits { Fits place self.new }
-        ensures settles { result ≡ (is_settled self.new.mark && not (is_settled self.old.mark)) }
     {
         let gain = place.gain as i8;
         let dist = place.wave + 1;
@@ -127,20 +124,18 @@ impl Cell {
                 if self.score == gain && self.dist == dist {
                     self.plans = with_pit(self.plans, pit);
                 }
-                false
             }
-            Mark::Ended => false,
+            Mark::Ended => {}
             Mark::Quiet | Mark::Capturing | Mark::Noted => {
                 self.plans = pit_alone(pit);
                 self.settle(gain, dist);
-                true
             }
         }
     }
 
     /// Hears that the move from this pit leads to a won board.
     #[inline(always)]
-    fn hear_won(&mut self, place: Place, pit: u8) -> bool
+    fn hear_won(&mut self, place: Place, pit: u8)
         requires pit { pit < 6 }
         requires low { place.level ≤ 24 }
         requires gain { place.gain ≤ place.level }
@@ -152,20 +147,18 @@ impl Cell {
         ensures awaits { AwaitsNoMore self.old self.new }
         ensures timely { SettlesTimely place self.old self.new }
         ensures fits { Fits place self.new }
-        ensures settles { result ≡ (is_settled self.new.mark && not (is_settled self.old.mark)) }
     {
         if self.mark == Mark::Settled || self.mark == Mark::Ended {
-            return false;
+            return;
         }
         let gain = -(place.gain as i8);
         let far = place.wave.max(self.dist);
         self.know(gain, pit);
         if self.left == 0 && self.score == gain {
             self.settle(gain, far + 1);
-            return true;
+        } else {
+            self.dist = far;
         }
-        self.dist = far;
-        false
     }
 
     /// Takes in that the move from this pit gains this, by a note. Condition: the board is neither
@@ -183,9 +176,7 @@ impl Cell {
             self.mark = Mark::Noted;
             self.score = gain;
             self.plans = pit_alone(pit);
-            return;
-        }
-        if self.score == gain {
+        } else if self.score == gain {
             self.plans = with_pit(self.plans, pit);
         }
     }

@@ -1,16 +1,11 @@
-use Rattle.std.proofs.Common.{◌<◌, List, length, sym, subst, ◌∙◌}
+use Rattle.std.proofs.Common.{List, sym, subst, ◌∙◌}
 use Rattle.std.proofs.lemmas.Bool.{false≢true}
 use Rattle.awari_block.specs.declared.cells.Cell.{Cell}
 use Rattle.awari_block.specs.Boards.{Settles}
 use Rattle.awari_block.specs.Fresh.{IsFresh}
-use Rattle.awari_block.proofs.Putting.{joined_boards, joined_seen, joins_few, joins_unmarked, kept_boards, kept_seen, put_replaces, still_marks}
+use Rattle.awari_block.proofs.Putting.{joined_boards, joined_seen, joins_unmarked, kept_boards, kept_seen, put_replaces, still_marks}
 use Rattle.awari_block.proofs.boards.Boards.put.Goals as goal
 use Rattle.awari_block.proofs.boards.Boards.put.Goals.{else-is_settled-via-then-is_settled+else-not-was_settled, else-is_settled-via-else-is_settled}
-
-pub insert-requires-clause-few : goal.insert-requires-clause-few
-insert-requires-clause-few c =
-    let put = put_replaces c.self.inside c.args.self.now c.args.rank c.index.result.now c.args.cell c.self.view_is c.requires c.index.ensures in
-    subst (λ (cs : List Cell). c.self.inside.fresh.count < length cs) (sym c.as_slice.ensures.value) (joins_few c.self.inside c.self.invariant c.args.rank c.index.result.now c.args.cell put (sym c.if-not-was_settled.ensures))
 
 pub insert-requires-clause-new : goal.insert-requires-clause-new
 insert-requires-clause-new c =
@@ -20,12 +15,12 @@ insert-requires-clause-new c =
 pub insert-requires-clause-sound : goal.insert-requires-clause-sound
 insert-requires-clause-sound c =
     let put = put_replaces c.self.inside c.args.self.now c.args.rank c.index.result.now c.args.cell c.self.view_is c.requires c.index.ensures in
-    subst (λ (cs : List Cell). IsFresh cs c.self.inside.fresh) (sym c.as_slice.ensures.value) (still_marks c.self.inside c.self.invariant c.args.rank c.index.result.now c.args.cell put)
+    subst (λ (cs : List Cell). IsFresh c.self.inside.place.wave cs c.self.inside.fresh) (sym c.as_slice.ensures.value) (still_marks c.self.inside c.self.invariant c.args.rank c.index.result.now c.args.cell put)
 
 pub invariant_of-self : goal.invariant_of-self
 invariant_of-self c =
     let put = put_replaces c.self.inside c.args.self.now c.args.rank c.index.result.now c.args.cell c.self.view_is c.requires c.index.ensures in
-    joined_boards c.self.inside c.self.invariant c.args.rank c.index.result.now c.args.cell put (sym c.if-not-was_settled.ensures) (sym c.if-is_settled.ensures) c.insert.new.self c.insert.ensures.marks (subst (λ (cs : List Cell). IsFresh cs c.insert.new.self) c.as_slice.ensures.value c.insert.ensures.sound)
+    joined_boards c.self.inside c.self.invariant c.args.rank c.index.result.now c.args.cell put (sym c.if-not-was_settled.ensures) (sym c.if-is_settled.ensures) c.insert.new.self c.insert.ensures.marks (subst (λ (cs : List Cell). IsFresh c.self.inside.place.wave cs c.insert.new.self) c.as_slice.ensures.value c.insert.ensures.sound)
 
 pub invariant_of-self-else-not-was_settled : goal.invariant_of-self-else-not-was_settled
 invariant_of-self-else-not-was_settled c =

@@ -11,7 +11,7 @@ use Rattle.awari_block.proofs.boards.Boards.unopened.Goals as goal
 pub invariant_of-result : goal.invariant_of-result
 invariant_of-result c =
     let cells = c.args.cells.items in
-    let marks : IsFresh cells c.in_ok-fresh.fresh = c.in_ok-fresh.ensures.sound cells (search rules) in
+    let marks : IsFresh 0 cells c.in_ok-fresh.fresh = c.in_ok-fresh.ensures.sound 0 cells (search rules) in
     let none : fresh_of c.args.start cells c.in_ok-fresh.fresh ≡ [] =
     none_fresh c.args.start cells c.in_ok-fresh.fresh.words.items (λ k marked. absurd (false≢true (sym (c.in_ok-fresh.ensures.none k) ∙ marked))) in
     let awaited : AreAwaited c.args.level cells c.in_ok-awaited.awaited.gains.items = subst (λ (cs : List Cell). AreAwaited c.args.level cs c.in_ok-awaited.awaited.gains.items) c.as_slice.ensures.value c.in_ok-awaited.ensures in

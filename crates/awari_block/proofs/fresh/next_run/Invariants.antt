@@ -1,5 +1,0 @@
-use Rattle.std.proofs.Common.{ℕ, ◌<◌, ◌≤◌, get_or}
-use Rattle.awari_block.proofs.fresh.next_run.Given as goal
-
-abbrev pub invariant-loop-run : goal.invariant-loop-run
-invariant-loop-run l = (r : ℕ) → l.from ≤ r → r < l.run → l.dist < get_or l.least r 0
