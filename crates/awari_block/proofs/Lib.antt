@@ -9,4 +9,3 @@ pub mod Freshness
 pub mod Settling
 pub mod Awaiting
 pub mod Putting
-pub mod Marking

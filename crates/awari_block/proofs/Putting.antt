@@ -1,5 +1,5 @@
 -- What the boards of a block are once another cell stands in place of one.
-use Rattle.std.proofs.Common.{◌≡◌, ℕ, ◌-◌, true, false, List, get_or, set, sym, ap, subst, ◌∙◌, length-set}
+use Rattle.std.proofs.Common.{◌≡◌, ℕ, ◌-◌, true, false, List, get_or, set, sym, ap, subst, ◌∙◌}
 use Rattle.std.proofs.lemmas.List.{get_or_default}
 use Rattle.std.specs.Vec.{with_item}
 use Rattle.awari_block.specs.declared.boards.Boards.TheInside.{Inside}
@@ -10,7 +10,6 @@ use Rattle.awari_block.specs.Boards.{CanPut, Settles}
 use Rattle.awari_block.specs.BoardsFields.{IsBoards}
 use Rattle.awari_block.specs.Cells.{is_settled}
 use Rattle.awari_block.specs.Fresh.{fresh_of, is_marked, IsFresh, MarksOne}
-use Rattle.awari_block.specs.Landmarks.{AreLandmarks}
 use Rattle.awari_block.specs.Part.{Part, part_of}
 use Rattle.awari_block.proofs.Awaiting.{awaited_put}
 use Rattle.awari_block.proofs.FreshBlocks.{put_marks, put_unmarked}
@@ -22,7 +21,7 @@ seen a = part_of a.place a.cells.items (fresh_of a.place.start a.cells.items a.f
 
 -- the boards with this cell for that of the board of this rank, and with what is kept of the fresh ones
 abbrev pub with_cell : Inside → ℕ → Cell → Fresh → Inside
-with_cell a rank new fresh = record { place = a.place; cells = with_item a.cells (rank - a.place.start) new; fresh = fresh; awaited = a.awaited; landmarks = a.landmarks }
+with_cell a rank new fresh = record { place = a.place; cells = with_item a.cells (rank - a.place.start) new; fresh = fresh; awaited = a.awaited; index = a.index }
 
 -- the new cell may take the place of the old one, which is that of the board of this rank
 pub record Replaces (a : Inside) (rank : ℕ) (old new : Cell) : Type 0 where
@@ -53,7 +52,7 @@ module _ (a : Inside) (sound : IsBoards a) (rank : ℕ) (old new : Cell) (put : 
         marks = marks;
         block = block;
         awaited = awaited_put a.place.level (rank - a.place.start) a.cells.items a.awaited.gains.items new put.can.held.1 put.can.awaits sound.awaited;
-        landmarks = subst (λ n. AreLandmarks a.place.level a.place.start n a.landmarks.boards.items) (sym (length-set a.cells.items (rank - a.place.start) new)) sound.landmarks;
+        index = sound.index;
       }
 
   module _ (open_mark : is_settled old.mark ≡ false) where

@@ -1,10 +1,9 @@
 -- The fields of the boards of a block.
-use Rattle.std.specs.Prelude.{◌+◌, ◌^◌, ◌<◌, ◌≤◌, length, vec_len}
+use Rattle.std.specs.Prelude.{◌≡◌, ◌+◌, ◌^◌, ◌<◌, ◌≤◌, vec_len}
 use Rattle.awari_rank.specs.Rank.{size_of}
 use Rattle.awari_block.specs.Fresh.{IsFresh, fresh_of}
 use Rattle.awari_block.specs.Awaited.{AreAwaited}
 use Rattle.awari_block.specs.Blocks.{IsBlock}
-use Rattle.awari_block.specs.Landmarks.{AreLandmarks}
 use Rattle.awari_block.specs.declared.boards.Boards.TheInside.{Inside}
 
 pub record IsBoards (a : Inside) : Type 0 where
@@ -16,4 +15,4 @@ pub record IsBoards (a : Inside) : Type 0 where
   pub marks : IsFresh a.place.wave a.cells.items a.fresh
   pub block : IsBlock a.place a.cells.items (fresh_of a.place.start a.cells.items a.fresh)
   pub awaited : AreAwaited a.place.level a.cells.items a.awaited.gains.items
-  pub landmarks : AreLandmarks a.place.level a.place.start (length a.cells.items) a.landmarks.boards.items
+  pub index : a.index ≡ a.place.level

@@ -11,6 +11,5 @@ pub mod Boards
 pub mod BoardsFields
 pub mod Leaving
 pub mod ClosedFields
-pub mod Landmarks
 pub mod Awaited
 pub mod Paces

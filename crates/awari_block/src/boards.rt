@@ -14,9 +14,9 @@ use crate::awaited::{Awaited, WIDTH};
 use crate::cells::Cell;
 use crate::closed::ClosedPart;
 use crate::fresh::Fresh;
-use crate::landmarks::Landmarks;
 use crate::notes::{Kind, Note};
 use crate::places::Place;
+use awari_index::Index;
 use awari_packed::PackedBoard;
 use std::alloc::{AllocError, Global};
 use std::marker::Model;
@@ -26,14 +26,14 @@ use std::marker::Model;
 ///
 /// Place, cells and fresh boards go together: the fresh boards are ordered by the distances in the
 /// cells, and the open gain limits what a cell may hold. The other two fields save time. One says
-/// which gains each row of boards awaits. The other keeps some boards from which the rest are found.
+/// which gains each row of boards awaits. The other finds the board of a rank.
 #[derive(Drop)]
 pub struct Boards {
     place: Place,
     cells: Vec<Cell>,
     fresh: Fresh,
     awaited: Awaited,
-    landmarks: Landmarks,
+    index: Index,
 }
 
 impl Model for Boards {
@@ -51,7 +51,7 @@ impl Model for Boards {
 
 impl Boards {
     /// The boards of a block of this level, from rank `start` on, with no gain open and no board
-    /// fresh. It takes all memory that they will ever need, a little more than two bytes a board, and
+    /// fresh. It takes all memory that they will ever need, half a byte a board and an [`Index`], and
     /// is refused only if that runs out.
     ///
     /// Conditions: the level has at most 24 stones, the block lies within the level, and each cell
@@ -70,7 +70,7 @@ impl Boards {
     {
         let fresh = Fresh::new(alloc, cells.len())?;
         let awaited = Awaited::of(alloc, level, cells.as_slice())?;
-        let landmarks = Landmarks::of(alloc, level, start, cells.len())?;
+        let index = Index::of(alloc, level)?;
         Ok(Boards {
             place: Place {
                 level,
@@ -81,7 +81,7 @@ impl Boards {
             cells,
             fresh,
             awaited,
-            landmarks,
+            index,
         })
     }
 
@@ -131,7 +131,7 @@ impl Boards {
         ensures stones { sum result ≡ self.now.level }
         ensures rank { rank_of result ≡ rank }
     {
-        self.landmarks.board((rank - self.place.start) as usize)
+        self.index.board(rank)
     }
 
     /// Whether none is fresh.

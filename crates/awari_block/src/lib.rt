@@ -26,7 +26,6 @@ mod boards;
 mod cells;
 mod closed;
 mod fresh;
-mod landmarks;
 mod laws;
 mod notes;
 mod paces;

@@ -34,7 +34,7 @@ invariant_of-self c = record {
   marks = c.take_first.ensures.sound c.self.inside.place.wave c.self.inside.cells.items c.self.invariant.marks;
   block = block c;
   awaited = c.self.invariant.awaited;
-  landmarks = c.self.invariant.landmarks;
+  index = c.self.invariant.index;
 }
 
 pub returns-clause-first : goal.returns-clause-first

@@ -1,8 +1,7 @@
-use Rattle.std.proofs.Common.{◌≡◌, ◌+◌, List, [], length, vec_len, ap, sym, subst, ◌∙◌, rules}
+use Rattle.std.proofs.Common.{◌≡◌, ◌+◌, List, [], ap, sym, subst, ◌∙◌, rules}
 use Rattle.std.proofs.lemmas.Bool.{false≢true}
 use Rattle.awari_block.specs.Awaited.{AreAwaited}
 use Rattle.awari_block.specs.declared.cells.Cell.{Cell}
-use Rattle.awari_block.specs.Landmarks.{AreLandmarks}
 use Rattle.awari_block.specs.Fresh.{IsFresh, fresh_of}
 use Rattle.awari_block.specs.Part.{part_of}
 use Rattle.awari_block.proofs.FreshBlocks.{none_fresh}
@@ -15,9 +14,6 @@ invariant_of-result c =
     let none : fresh_of c.args.start cells c.in_ok-fresh.fresh ≡ [] =
     none_fresh c.args.start cells c.in_ok-fresh.fresh.words.items (λ k marked. absurd (false≢true (sym (c.in_ok-fresh.ensures.none k) ∙ marked))) in
     let awaited : AreAwaited c.args.level cells c.in_ok-awaited.awaited.gains.items = subst (λ (cs : List Cell). AreAwaited c.args.level cs c.in_ok-awaited.awaited.gains.items) c.as_slice.ensures.value c.in_ok-awaited.ensures in
-    let long : vec_len c.args.cells ≡ length cells = search rules in
-    let landmarks : AreLandmarks c.args.level c.args.start (length cells) c.in_ok-landmarks.landmarks.boards.items =
-    subst (λ n. AreLandmarks c.args.level c.args.start n c.in_ok-landmarks.landmarks.boards.items) (c.len-2.ensures ∙ long) c.in_ok-landmarks.ensures in
     search rules
 
 pub returns : goal.returns
