@@ -1,16 +1,22 @@
--- Which gains boards await: what no board awaits opens nothing, and what is awaited of cells that change.
-use Rattle.std.proofs.Common.{◌≡◌, ℕ, ◌+◌, ◌*◌, ◌/◌, ◌<◌, ◌≤◌, ◌==◌, inl, inr, Bool, true, false, ℤ, pos, neg_ℤ, List, length, get_or, set, refl, sym, ap, subst, ◌∙◌, arith, eqb-true, get_or-set_same, get_or-set_other}
+-- Which gain each board awaits: what no opening changes, what the bytes say while cells change, and how they are filled.
+use Rattle.std.proofs.Common.{◌≡◌, ℕ, ◌≢◌, ◌+◌, ◌-◌, ◌<◌, ◌≤◌, ◌==◌, inl, inr, Option, Some, None, Bool, true, false, ℤ, pos, neg_ℤ, List, length, get_or, get_or-drop, drop, length-drop, length-take, set, refl, sym, ap, subst, ◌∙◌, arith, eqb-true, get_or-set_same, get_or-set_other}
 use Rattle.std.proofs.lemmas.Bool.{cases_eq}
 use Rattle.std.proofs.lemmas.Bool.Decides.{Decides-int_eq}
 use Rattle.std.proofs.lemmas.List.{length-set}
 use Rattle.std.specs.Ordering.{int_eq}
-use Rattle.std.specs.Int.{bit_at}
-use Rattle.awari_block.specs.declared.awaited.TheConstants.{WIDTH}
+use Rattle.std.specs.Option.{unwrap_or}
+use Rattle.std.specs.Prelude.{IfNone, IfSome}
+use Rattle.std.specs.List.{All, slice_range}
+use lib.Seq.{get_or-take}
 use Rattle.awari_block.specs.declared.cells.Cell.{Cell}
 use Rattle.awari_block.specs.declared.cells.Mark.{Mark}
 use Rattle.awari_block.specs.declared.cells.Mark.TheVariants as mark
-use Rattle.awari_block.specs.Awaited.{AreAwaited, AwaitsNoMore, MayOpen}
-use Rattle.awari_block.specs.Blocks.{no_cell}
+use Rattle.awari_block.specs.declared.places.Place.{Place}
+use Rattle.awari_block.specs.Awaited.{AwaitsNoMore, MayOpen, NoneAwait, TellAwaited}
+use Rattle.awari_block.specs.Blocks.{Due, no_cell}
+use Rattle.awari_block.specs.Boards.{OpensCells}
+use Rattle.awari_block.specs.Part.{Part, part_of}
+use Rattle.awari_block.proofs.Opening.{opens_still}
 use Rattle.awari_block.specs.Cells.{status_by, view_of}
 use Rattle.awari_block.specs.Tally as tally
 use Rattle.awari_block.specs.Steps.{after_opening, cell_after_opening}
@@ -45,35 +51,67 @@ still_by mark.Capturing score left plans dist n t idle = by (int_eq score (pos t
 pub still : (c : Cell) (n t : ℕ) → (MayOpen c.mark c.score n t → ⊥) → cell_after_opening (view_of c) n t ≡ view_of c
 still c n t idle = ap (λ (s : tally.Status). record { left = c.left; status = s }) (still_by c.mark c.score c.left c.plans c.dist n t idle)
 
--- of a row whose word has no bit for the gain, no cell changes
-pub row_still : (n t row : ℕ) (cells : List Cell) (gains : List ℕ) → AreAwaited n cells gains → bit_at (get_or gains row 0) t ≡ 0
-    → (k : ℕ) → k < length cells → WIDTH * row ≤ k → k < WIDTH * row + WIDTH → cell_after_opening (view_of (get_or cells k no_cell)) n t ≡ view_of (get_or cells k no_cell)
-row_still n t row cells gains are none k inside from to =
-    let at : k / WIDTH ≡ row = omega (arith, from, to) in
-    still (get_or cells k no_cell) n t (λ may. let one = are.bits k t inside may in let zero = ap (λ r. bit_at (get_or gains r 0) t) at ∙ none in absurd (omega (arith, one, zero)))
-
 -- a cell that awaits no more than before may be put
-pub awaited_put : (n i : ℕ) (cells : List Cell) (gains : List ℕ) (c : Cell) → i < length cells → AwaitsNoMore (get_or cells i no_cell) c → AreAwaited n cells gains → AreAwaited n (set cells i c) gains
-awaited_put n i cells gains c inside no_more are = record {
-  rows = are.rows ∙ ap (λ l. l / WIDTH + 1) (sym (length-set cells i c));
-  bits = λ k t below may. elim (cases_eq k i) [
-    | inl same ↦ are.bits k t (subst (λ l. k < l) (length-set cells i c) below)
+pub awaited_put : (n i : ℕ) (cells : List Cell) (gains : List ℕ) (c : Cell) → i < length cells → AwaitsNoMore (get_or cells i no_cell) c → TellAwaited n cells gains → TellAwaited n (set cells i c) gains
+awaited_put n i cells gains c inside no_more tell = record {
+  boards = tell.boards ∙ sym (length-set cells i c);
+  only = λ k t below may. elim (cases_eq k i) [
+    | inl same ↦ tell.only k t (subst (λ l. k < l) (length-set cells i c) below)
         (subst (λ j. MayOpen (get_or cells j no_cell).mark (get_or cells j no_cell).score n t) (sym same)
         (no_more n t (subst (λ (d : Cell). MayOpen d.mark d.score n t) (ap (λ j. get_or (set cells i c) j no_cell) same ∙ get_or-set_same cells i c no_cell inside) may)))
-    | inr other ↦ are.bits k t (subst (λ l. k < l) (length-set cells i c) below) (subst (λ (d : Cell). MayOpen d.mark d.score n t) (get_or-set_other cells i k c no_cell other) may)
+    | inr other ↦ tell.only k t (subst (λ l. k < l) (length-set cells i c) below) (subst (λ (d : Cell). MayOpen d.mark d.score n t) (get_or-set_other cells i k c no_cell other) may)
   ];
 }
 
--- of each gain that the boards before this place await, the word of their row has the bit
-abbrev pub AreNoted : ℕ → List Cell → List ℕ → ℕ → Type 0
-AreNoted n cells gains place =
-    (k t : ℕ) → k < place → MayOpen (get_or cells k no_cell).mark (get_or cells k no_cell).score n t → bit_at (get_or gains (k / WIDTH) 0) t ≡ 1
+-- boards that do not await the gain of the place stay as they are
+module _ (place : Place) (cells : List Cell) (fresh : List Due) (awaits : List ℕ) (tell : TellAwaited place.level cells awaits) (part : Part) (view : part_of place cells fresh ≡ part) (from : ℕ) where
+  opens_none : (to : ℕ) → NoneAwait place.gain awaits from to → OpensCells part part from to
+  opens_none to none =
+      subst (λ (p : Part). OpensCells p p from to) view
+      (opens_still (part_of place cells fresh) (part_of place cells fresh) from to
+      (λ k inside low high. still (get_or cells k no_cell) place.level place.gain (λ may. none k (let many = tell.boards in omega (arith, many, inside)) low high (tell.only k place.gain inside may))))
 
--- one board more, which awaits none
-pub noted_none : (n place : ℕ) (cells : List Cell) (gains : List ℕ)
-    → ((t : ℕ) → MayOpen (get_or cells place no_cell).mark (get_or cells place no_cell).score n t → ⊥)
-    → AreNoted n cells gains place → AreNoted n cells gains (place + 1)
-noted_none n place cells gains idle before k t below may = elim (cases_eq k place) [
-  | inl same ↦ absurd (idle t (subst (λ j. MayOpen (get_or cells j no_cell).mark (get_or cells j no_cell).score n t) same may))
-  | inr other ↦ before k t (omega (arith, below, other)) may
-]
+  same : length awaits ≡ length part.cells
+  same = tell.boards ∙ ap (λ (p : Part). length p.cells) view
+
+  pub awaiting_some : (o : Option ℕ) → IfSome o (λ i. (from ≤ i) × (i < length awaits) × NoneAwait place.gain awaits from i) → IfSome o (λ i. (from ≤ i) × (i < length part.cells) × OpensCells part part from i)
+  awaiting_some None found = tt
+  awaiting_some (Some i) (later, inside, none) = (later, (let many = same in omega (arith, many, inside)), opens_none i none)
+
+  pub awaiting_none : (o : Option ℕ) → IfNone o (NoneAwait place.gain awaits from (length awaits)) → IfNone o (OpensCells part part from (length part.cells))
+  awaiting_none None none = subst (λ n. OpensCells part part from n) same (opens_none (length awaits) none)
+  awaiting_none (Some i) found = tt
+
+-- no board of these awaits the gain
+pub none_among : (t low high : ℕ) (awaits : List ℕ) → All (λ g. g ≢ t) (slice_range awaits low high) → NoneAwait t awaits low high
+none_among t low high awaits others k inside from to =
+    let long = length-take (high - low) (drop low awaits) in
+    let left = length-drop low awaits in
+    let at : low + (k - low) ≡ k = omega (arith, from) in
+    let read = get_or-take (high - low) (drop low awaits) (k - low) 0 (omega (arith, from, to)) ∙ get_or-drop low awaits (k - low) 0 ∙ ap (λ i. get_or awaits i 0) at in
+    λ is. others (k - low) 0 (omega (arith, long, left, inside, from, to)) (read ∙ is)
+
+-- ---- the bytes are filled
+
+-- the first of them are
+pub record AreFilled (n : ℕ) (cells : List Cell) (gains : List ℕ) (to : ℕ) : Type 0 where
+  pub boards : length gains ≡ length cells
+  pub only : (k t : ℕ) → k < to → MayOpen (get_or cells k no_cell).mark (get_or cells k no_cell).score n t → get_or gains k 0 ≡ t
+
+pub filled_none : (n : ℕ) (cells : List Cell) (gains : List ℕ) → length gains ≡ length cells → AreFilled n cells gains 0
+filled_none n cells gains boards = record { boards = boards; only = λ k t below may. absurd (omega (arith, below)) }
+
+pub filled_more : (n i g d : ℕ) (cells : List Cell) (gains : List ℕ) (o : Option ℕ) → i < length cells → ((t : ℕ) → MayOpen (get_or cells i no_cell).mark (get_or cells i no_cell).score n t → o ≡ Some t) → g ≡ unwrap_or o d
+    → AreFilled n cells gains i → AreFilled n cells (set gains i g) (i + 1)
+filled_more n i g d cells gains o inside only is before = record {
+  boards = length-set gains i g ∙ before.boards;
+  only = λ k t below may. elim (cases_eq k i) [
+    | inl same ↦
+        ap (λ j. get_or (set gains i g) j 0) same ∙ get_or-set_same gains i g 0 (let boards = before.boards in omega (arith, boards, inside)) ∙ is
+        ∙ ap (λ (p : Option ℕ). unwrap_or p d) (only t (subst (λ j. MayOpen (get_or cells j no_cell).mark (get_or cells j no_cell).score n t) same may))
+    | inr other ↦ get_or-set_other gains i k g 0 other ∙ before.only k t (omega (arith, below, other)) may
+  ];
+}
+
+pub filled_all : (n to : ℕ) (cells : List Cell) (gains : List ℕ) → length cells ≤ to → AreFilled n cells gains to → TellAwaited n cells gains
+filled_all n to cells gains end filled = record { boards = filled.boards; only = λ k t below. filled.only k t (omega (arith, below, end)) }

@@ -53,12 +53,6 @@ module _ (part : Part) (i n t : ℕ) (cell : Cell) (read : get_or part.cells i n
       ap (λ (d : Cell). cell_after_opening (view_of d) n t) (sym read) ∙ ap (λ m. cell_after_opening (view_of (get_or part.cells i no_cell)) m t) (sym level)
       ∙ ap (λ u. cell_after_opening (view_of (get_or part.cells i no_cell)) part.level u) (sym gain)
 
-  pub still_one : cell_after_opening (view_of cell) n t ≡ view_of cell → OpensCells part part i (i + 1)
-  still_one stays = opens_still part part i (i + 1) (λ k h from to.
-      let same : i ≡ k = omega (arith, from, to) in
-      subst (λ j. cell_after_opening (view_of (get_or part.cells j no_cell)) part.level part.gain ≡ view_of (get_or part.cells j no_cell)) same
-      (sym at_part ∙ stays ∙ ap view_of (sym read)))
-
   pub put_one : (new : Part) (next : Cell) → new.cells ≡ set part.cells i next → i < length part.cells → view_of next ≡ cell_after_opening (view_of cell) n t → OpensCells part new i (i + 1)
   put_one new next put high opened = opens_one part new i next put high (opened ∙ at_part)
 

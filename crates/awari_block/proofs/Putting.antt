@@ -21,7 +21,7 @@ seen a = part_of a.place a.cells.items (fresh_of a.place.start a.cells.items a.f
 
 -- the boards with this cell for that of the board of this rank, and with what is kept of the fresh ones
 abbrev pub with_cell : Inside → ℕ → Cell → Fresh → Inside
-with_cell a rank new fresh = record { place = a.place; cells = with_item a.cells (rank - a.place.start) new; fresh = fresh; awaited = a.awaited; index = a.index }
+with_cell a rank new fresh = record { place = a.place; cells = with_item a.cells (rank - a.place.start) new; fresh = fresh; awaits = a.awaits; index = a.index }
 
 -- the new cell may take the place of the old one, which is that of the board of this rank
 pub record Replaces (a : Inside) (rank : ℕ) (old new : Cell) : Type 0 where
@@ -51,7 +51,7 @@ module _ (a : Inside) (sound : IsBoards a) (rank : ℕ) (old new : Cell) (put : 
         within = sound.within;
         marks = marks;
         block = block;
-        awaited = awaited_put a.place.level (rank - a.place.start) a.cells.items a.awaited.gains.items new put.can.held.1 put.can.awaits sound.awaited;
+        awaited = awaited_put a.place.level (rank - a.place.start) a.cells.items a.awaits.items new put.can.held.1 put.can.awaits sound.awaited;
         index = sound.index;
       }
 

@@ -1,7 +1,5 @@
--- Which gains the boards of a block await.
-use Rattle.std.specs.Prelude.{◌≡◌, ℕ, ◌+◌, ◌/◌, ◌<◌, ℤ, List, length, slice_index_or}
-use Rattle.std.specs.Int.{bit_at}
-use Rattle.awari_block.specs.declared.awaited.TheConstants.{WIDTH}
+-- Which gain the boards of a block await.
+use Rattle.std.specs.Prelude.{◌≡◌, ◌≢◌, ℕ, ◌<◌, ◌≤◌, ℤ, List, length, slice_index_or}
 use Rattle.awari_block.specs.Cells.{IsEither}
 use Rattle.awari_block.specs.Blocks.{no_cell}
 use Rattle.awari_block.specs.declared.cells.Cell.{Cell}
@@ -20,8 +18,12 @@ MayOpen mark.Settled score n t = ⊥
 abbrev pub AwaitsNoMore : Cell → Cell → Type 0
 AwaitsNoMore old new = (n t : ℕ) → MayOpen new.mark new.score n t → MayOpen old.mark old.score n t
 
--- of each gain that a board awaits, the word of its row has the bit
-pub record AreAwaited (n : ℕ) (cells : List Cell) (gains : List ℕ) : Type 0 where
-  pub rows : length gains ≡ length cells / WIDTH + 1
-  pub bits : (k t : ℕ) → k < length cells → MayOpen (slice_index_or cells k no_cell).mark (slice_index_or cells k no_cell).score n t
-      → bit_at (slice_index_or gains (k / WIDTH) 0) t ≡ 1
+-- The bytes of these boards of the level of n stones: if the opening of a gain may settle a board, its byte is that gain. A board that
+-- awaits none may have any.
+pub record TellAwaited (n : ℕ) (cells : List Cell) (awaits : List ℕ) : Type 0 where
+  pub boards : length awaits ≡ length cells
+  pub only : (k t : ℕ) → k < length cells → MayOpen (slice_index_or cells k no_cell).mark (slice_index_or cells k no_cell).score n t → slice_index_or awaits k 0 ≡ t
+
+-- no board from index `low` up to, not including, index `high` awaits gain t
+abbrev pub NoneAwait : ℕ → List ℕ → ℕ → ℕ → Type 0
+NoneAwait t awaits low high = (k : ℕ) → k < length awaits → low ≤ k → k < high → slice_index_or awaits k 0 ≢ t

@@ -1,49 +1,75 @@
-//! Which gains the boards of a block await.
+//! Which gain each board of a block awaits: that whose opening may settle it.
+//!
+//! This is noted once, a byte a board, before any gain is open. The opening of a gain goes over these
+//! bytes, and reads the cells of the few boards that may await it.
 
-ghost use Rattle.std.specs.Prelude.{◌≡◌, ◌+◌, ◌^◌, ◌<◌, ◌≤◌, false, All, IfOk, length, slice_index_or};
-ghost use Rattle.std.specs.Int.{bit_at};
-ghost use Rattle.awari_block.specs.Awaited.{AreAwaited};
+ghost use Rattle.std.specs.Prelude.{◌≡◌, ◌≢◌, ℕ, ◌+◌, ◌<◌, ◌≤◌, false, All, IfNone, IfOk, IfSome, length, slice_index_or};
+ghost use Rattle.awari_block.specs.Awaited.{NoneAwait, TellAwaited};
 ghost use Rattle.awari_block.specs.Cells.{FitsBy};
 
 use crate::cells::Cell;
-use crate::words::{has_bit, with_bit};
 use std::alloc::{AllocError, Global};
 
-/// How many boards have a word together.
-pub const WIDTH: usize = 32;
+/// What a board awaits if no opening settles it. No gain is so great.
+const NO_GAIN: u8 = 255;
 
-/// The gains whose opening may settle a board: a bit for each gain, a word for each row of 32 boards.
-/// Few rows await a great gain. When one is opened, no cell of the other rows is read.
-#[derive(Drop)]
-pub struct Awaited {
-    gains: Vec<u64>,
+/// How many boards are asked together whether one of them awaits a gain.
+const STRETCH: usize = 64;
+
+/// For each of these boards of a level the gain whose opening may settle it, with no gain open. It
+/// takes a byte a board, and is refused only if memory runs out. Conditions: the level has at most 24
+/// stones, and each cell fits it.
+pub fn awaited_gains(alloc: Global, level: u8, cells: &[Cell]) -> Result<Vec<u8>, AllocError>
+    requires low { level ≤ 24 }
+    requires fit { All (λ c. FitsBy c.mark level (level + 1) c.score c.dist) cells.now }
+    ensures { IfOk result (λ awaits. TellAwaited level cells.now awaits.items) }
+{
+    let mut awaits = vec![in alloc; NO_GAIN; cells.len()]?;
+    for index in 0..cells.len() {
+        awaits[index] = cells[index].awaited_gain(level).unwrap_or(NO_GAIN);
+    }
+    Ok(awaits)
 }
 
-impl Awaited {
-    /// The gains that these boards of a level await, with no gain open. It takes two bits a board,
-    /// and is refused only if memory runs out.
-    pub fn of(alloc: Global, level: u8, cells: &[Cell]) -> Result<Awaited, AllocError>
-        requires low { level ≤ 24 }
-        requires fit { All (λ c. FitsBy c.mark level (level + 1) c.score c.dist) cells.now }
-        requires short { length cells.now < 2 ^ 32 }
-        ensures { IfOk result (λ awaited. AreAwaited level cells.now awaited.gains.items) }
-    {
-        let mut gains = vec![in alloc; 0; cells.len() / WIDTH + 1]?;
-        for place in 0..cells.len() {
-            if let Some(gain) = cells[place].awaited_gain(level) {
-                let row = place / WIDTH;
-                gains[row] = with_bit(gains[row], u32::from(gain));
-            }
+/// The index of the first board from this one on that awaits the gain, none if no board does.
+pub fn next_awaiting(gain: u8, awaits: &[u8], from: usize) -> Option<usize>
+    ensures some { IfSome result (λ index. (from ≤ index) × (index < length awaits.now) × NoneAwait gain awaits.now from index) }
+    ensures none { IfNone result (NoneAwait gain awaits.now from (length awaits.now)) }
+{
+    let mut index = from;
+    while index < awaits.len() {
+        let boards = passed_over(gain, awaits, index);
+        if boards == 0 {
+            return Some(index);
         }
-        Ok(Awaited { gains })
+        index += boards;
     }
+    None
+}
 
-    /// Whether some board of this row may await this gain.
-    pub fn awaits(&self, row: usize, gain: u8) -> bool
-        requires row { row < length self.now.gains.items }
-        requires gain { gain < 64 }
-        ensures { result ≡ false → bit_at (slice_index_or self.now.gains.items row 0) gain ≡ 0 }
-    {
-        has_bit(self.gains[row], u32::from(gain))
+/// How many boards from this one on are known not to await the gain: a stretch, one or none.
+#[inline(always)]
+fn passed_over(gain: u8, awaits: &[u8], index: usize) -> usize
+    requires inside { index < length awaits.now }
+    ensures few { result ≤ STRETCH }
+    ensures others { NoneAwait gain awaits.now index (index + result) }
+{
+    if index % STRETCH == 0 {
+        let end = awaits.len().min(index + STRETCH);
+        if !is_among(gain, &awaits[index..end]) {
+            return STRETCH;
+        }
     }
+    usize::from(awaits[index] != gain)
+}
+
+/// Whether the gain is among these. There is no branch for a byte, so processors compare many at once.
+fn is_among(gain: u8, awaits: &[u8]) -> bool
+    ensures { (result ≡ false) → All (λ awaited. awaited ≢ gain) awaits.now }
+{
+    let mut found = false;
+    for awaited in awaits {
+        found |= *awaited == gain;
+    }
+    found
 }

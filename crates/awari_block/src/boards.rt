@@ -1,16 +1,15 @@
 //! The boards of a block: what is known of each, which are fresh, and where their analysis stands.
 
-ghost use Rattle.std.specs.Prelude.{◌≡◌, ℕ, ℤ, ◌+◌, ◌-◌, ◌*◌, ◌/◌, ◌^◌, ◌<◌, ◌≤◌, ◌↔◌, IsTrue, false, sum, IfOk, IfSome, All, Some, [], length, vec_len, slice_set, slice_index_or};
+ghost use Rattle.std.specs.Prelude.{◌≡◌, ℕ, ℤ, ◌+◌, ◌-◌, ◌*◌, ◌/◌, ◌^◌, ◌<◌, ◌≤◌, ◌↔◌, IsTrue, false, sum, IfNone, IfOk, IfSome, All, Some, [], length, vec_len, slice_set, slice_index_or};
 ghost use Rattle.awari_board.specs.Rules.{IsBoard};
 ghost use Rattle.awari_rank.specs.Rank.{rank_of, size_of};
 ghost use Rattle.awari_block.specs.Cells.{Fits, FitsBy, view_of};
 ghost use Rattle.awari_block.specs.Steps.{cell_after_opening};
 ghost use Rattle.awari_block.specs.Blocks.{due_dist, no_cell};
 ghost use Rattle.awari_block.specs.Part.{Part as PartView, AreFresh, InBlock, IsLeastDue, settled_at, stored_at, IsClosed};
-ghost use Rattle.awari_block.specs.declared.awaited.TheConstants.{WIDTH};
 ghost use Rattle.awari_block.specs.Boards.{CanHear, CanPut, HearsNote, OpensCells, Settles, TakesFirst, place_of};
 
-use crate::awaited::{Awaited, WIDTH};
+use crate::awaited::{awaited_gains, next_awaiting};
 use crate::cells::Cell;
 use crate::closed::ClosedPart;
 use crate::fresh::Fresh;
@@ -26,13 +25,13 @@ use std::marker::Model;
 ///
 /// Place, cells and fresh boards go together: the fresh boards are ordered by the distances in the
 /// cells, and the open gain limits what a cell may hold. The other two fields save time. One says
-/// which gains each row of boards awaits. The other finds the board of a rank.
+/// which gain each board awaits. The other finds the board of a rank.
 #[derive(Drop)]
 pub struct Boards {
     place: Place,
     cells: Vec<Cell>,
     fresh: Fresh,
-    awaited: Awaited,
+    awaits: Vec<u8>,
     index: Index,
 }
 
@@ -51,8 +50,8 @@ impl Model for Boards {
 
 impl Boards {
     /// The boards of a block of this level, from rank `start` on, with no gain open and no board
-    /// fresh. It takes all memory that they will ever need, half a byte a board and an [`Index`], and
-    /// is refused only if that runs out.
+    /// fresh. It takes all memory that they will ever need, less than two bytes a board and an [`Index`],
+    /// and is refused only if that runs out.
     ///
     /// Conditions: the level has at most 24 stones, the block lies within the level, and each cell
     /// fits a level with no gain open.
@@ -69,7 +68,7 @@ impl Boards {
         ensures { IfOk result (λ boards. boards ≡ record { level = level; gain = level + 1; wave = 0; start = start; cells = cells.items; fresh = [] }) }
     {
         let fresh = Fresh::new(alloc, cells.len())?;
-        let awaited = Awaited::of(alloc, level, cells.as_slice())?;
+        let awaits = awaited_gains(alloc, level, cells.as_slice())?;
         let index = Index::of(alloc, level)?;
         Ok(Boards {
             place: Place {
@@ -80,7 +79,7 @@ impl Boards {
             },
             cells,
             fresh,
-            awaited,
+            awaits,
             index,
         })
     }
@@ -243,51 +242,31 @@ impl Boards {
         }
     }
 
-    /// Opens the gain of the place in each cell, in order of rank.
+    /// Opens the gain of the place in each cell, in order of rank. Most boards do not await it, and
+    /// their cells are not read.
     fn open_cells(&mut self)
         requires gain { self.old.gain ≤ self.old.level }
         requires opened { self.old.wave ≡ 0 }
         ensures settles { Settles self.old self.new }
         ensures opens { OpensCells self.old self.new 0 (length self.old.cells) }
     {
-        for row in 0..self.cells.len() / WIDTH + 1 {
-            self.open_row(row);
-        }
-    }
-
-    /// Whether the opening of the gain of the place may settle a board of this row.
-    fn may_open(&self, row: usize) -> bool
-        requires gain { self.now.gain ≤ self.now.level }
-        requires row { row ≤ length self.now.cells / WIDTH }
-        ensures { result ≡ false → (k : ℕ) → k < length self.now.cells → WIDTH * row ≤ k → k < WIDTH * row + WIDTH
-            → cell_after_opening (view_of (slice_index_or self.now.cells k no_cell)) self.now.level self.now.gain ≡ view_of (slice_index_or self.now.cells k no_cell) }
-    {
-        self.awaited.awaits(row, self.place.gain)
-    }
-
-    /// Opens the gain of the place in the cells of this row, in order of rank. If none of its boards
-    /// awaits the gain, no cell is read.
-    fn open_row(&mut self, row: usize)
-        requires gain { self.old.gain ≤ self.old.level }
-        requires opened { self.old.wave ≡ 0 }
-        requires row { WIDTH * row ≤ length self.old.cells }
-        ensures settles { Settles self.old self.new }
-        ensures opens { OpensCells self.old self.new (WIDTH * row) (WIDTH * row + WIDTH) }
-    {
-        if !self.may_open(row) {
-            return;
-        }
         let place = self.place();
-        let (start, end) = self.block();
-        let first = start + (WIDTH * row) as u32;
-        for rank in first..first + (end - first).min(WIDTH as u32) {
-            // Most cells have nothing to open, and are passed over without being written.
+        let mut from = 0;
+        while let Some(index) = self.next_awaiting(from) {
+            let rank = place.start + index as u32;
             let cell = self.cell(rank);
-            if !cell.awaits_gain(place) {
-                continue;
-            }
             self.put(rank, cell.with_gain(place));
+            from = index + 1;
         }
+    }
+
+    /// The index of the first board from this one on that awaits the gain of the place.
+    fn next_awaiting(&self, from: usize) -> Option<usize>
+        ensures short { self.now.start + length self.now.cells < 2 ^ 32 }
+        ensures some { IfSome result (λ index. (from ≤ index) × (index < length self.now.cells) × OpensCells self.now self.now from index) }
+        ensures none { IfNone result (OpensCells self.now self.now from (length self.now.cells)) }
+    {
+        next_awaiting(self.place.gain, self.awaits.as_slice(), from)
     }
 
     /// Replaces the cell of the board of this rank. A board that this settles becomes fresh.

@@ -181,21 +181,6 @@ impl Cell {
         }
     }
 
-    /// Whether the opening of the gain of the place can change the cell.
-    #[inline(always)]
-    pub(crate) fn awaits_gain(&self, place: Place) -> bool
-        requires low { place.level ≤ 24 }
-        requires gain { place.gain ≤ place.level }
-        requires fits { Fits place self.now }
-        ensures { result ≡ false → cell_after_opening (view_of self.now) place.level place.gain ≡ view_of self.now }
-    {
-        let gain = place.gain as i8;
-        if self.mark == Mark::Capturing {
-            return self.score == gain || self.score == -gain;
-        }
-        self.mark == Mark::Ended && place.gain == place.level
-    }
-
     /// The gain whose opening may settle the board, in a level of so many stones: that of its end, or
     /// what its best capture gains or loses. None if the board is settled, or has neither.
     pub fn awaited_gain(&self, level: u8) -> Option<u8>

@@ -33,6 +33,7 @@ mod pits;
 mod places;
 mod words;
 
+pub use awaited::{awaited_gains, next_awaiting};
 pub use boards::Boards;
 pub use cells::{Cell, Mark};
 pub use closed::ClosedPart;

@@ -1,6 +1,6 @@
 //! Words of 64 bits.
 
-ghost use Rattle.std.specs.Prelude.{◌≡◌, ◌≢◌, ℕ, ◌<◌, ◌≤◌, ◌↔◌, IfSome, IsTrue, None, ◌==◌};
+ghost use Rattle.std.specs.Prelude.{◌≡◌, ◌≢◌, ℕ, ◌<◌, ◌≤◌, IfSome, None};
 ghost use Rattle.std.specs.Int.{bit_at};
 
 /// The word with this bit.
@@ -19,14 +19,6 @@ pub fn without_bit(word: u64, k: u32) -> u64
     ensures others { (i : ℕ) → i < 64 → i ≢ k → bit_at result i ≡ bit_at word i }
 {
     word & !(1 << k)
-}
-
-/// Whether the word has this bit.
-pub fn has_bit(word: u64, k: u32) -> bool
-    requires { k < 64 }
-    ensures { IsTrue result ↔ (bit_at word k ≡ 1) }
-{
-    (word >> k) % 2 == 1
 }
 
 /// The lowest bit of the word that is not below `from`.

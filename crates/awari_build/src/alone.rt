@@ -22,7 +22,7 @@ use std::alloc::{AllocError, Global};
 
 /// The shelf's next level, built by one part in one thread. It always returns. Refused as 51
 /// `TooHigh` if the shelf has all levels, and as 53 `Memory` if memory runs out. It takes memory for
-/// the part, less than ten bytes a board, and for the entries.
+/// the part, less than eleven bytes a board, and for the entries.
 ///
 /// The level is proved right, so nothing verifies it when the program runs.
 pub fn build_alone(alloc: Global, shelf: &Shelf) -> Result<Level, BuildFault>

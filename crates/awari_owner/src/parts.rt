@@ -59,7 +59,7 @@ impl Part {
     /// and no gain is open. Conditions: there are 1 to 16 owners, `owner` is below `owners`, and the
     /// shelf has at most `HIGHEST_LEVEL` levels. Refused as 33 `Memory` if memory runs out.
     ///
-    /// It takes all the memory that the part will ever need: less than ten bytes a board, an index of
+    /// It takes all the memory that the part will ever need: less than eleven bytes a board, an index of
     /// the level, and 2304 bytes for the predecessors of the board that is spread.
     pub fn scan(alloc: Global, shelf: &Shelf, owners: u8, owner: u8) -> Result<Part, OwnerFault>
         requires owners { (1 ≤ owners) × (owners ≤ 16) }

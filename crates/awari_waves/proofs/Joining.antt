@@ -20,7 +20,7 @@ use Rattle.awari_waves.specs.Lists.{dues_from, dues_of, with_put}
 use Rattle.awari_waves.specs.SegmentFields.{AreOfScore, IsAboveZero, IsBelowZero, IsSegment}
 use Rattle.awari_waves.specs.Waves.{StaysPassed}
 use Rattle.awari_waves.specs.declared.segments.Segment.TheInside.{Inside}
-use Rattle.awari_waves.proofs.Awaiting.{awaited_put}
+use Rattle.awari_block.proofs.Awaiting.{awaited_put}
 
 -- ---- one more in a list
 

@@ -17,6 +17,5 @@ pub mod Replacing
 pub mod Cutting
 pub mod Stretches
 pub mod Stages
-pub mod Awaiting
 pub mod Ahead
 pub mod Heard

@@ -1,20 +1,14 @@
 -- A cell is replaced by its index.
-use Rattle.std.proofs.Common.{◌≡◌, ◌≢◌, ℕ, ◌+◌, ◌-◌, ◌<◌, ◌≤◌, true, false, ℤ, inl, inr, List, length, drop, get_or, set, pos, ◌≤ℤ◌, refl, sym, get_or-drop, length-drop, length-take, ap, subst, ◌∙◌, arith}
+use Rattle.std.proofs.Common.{◌≡◌, ℕ, ◌+◌, ◌-◌, ◌<◌, true, false, inl, inr, List, length, get_or, set, pos, ◌≤ℤ◌, sym, ap, subst, ◌∙◌, arith}
 use Rattle.std.proofs.lemmas.Int.{ints}
 use Rattle.std.proofs.lemmas.List.{get_or_default}
-use lib.Seq.{get_or-take}
-use Rattle.std.specs.List.{All, slice_range}
 use Rattle.std.specs.Vec.{with_item}
 use Rattle.awari_block.specs.Blocks.{cell_in, no_cell}
 use Rattle.awari_block.specs.Boards.{CanPut, OpensCells, Settles}
 use Rattle.awari_block.specs.Cells.{is_settled, Fits, Keeps, SettlesTimely, view_of}
-use Rattle.awari_block.specs.Awaited.{AwaitsNoMore, MayOpen}
-use Rattle.awari_block.specs.declared.cells.Mark.{Mark}
-use Rattle.awari_block.specs.declared.cells.Mark.TheVariants as mark
-use Rattle.awari_block.proofs.Awaiting.{still}
-use Rattle.std.proofs.lemmas.Bool.{false≢true}
+use Rattle.awari_block.specs.Awaited.{AwaitsNoMore}
 use Rattle.awari_block.specs.Steps.{cell_after_opening}
-use Rattle.awari_block.proofs.Opening.{put_one, still_one}
+use Rattle.awari_block.proofs.Opening.{put_one}
 use Rattle.awari_block.specs.Part.{Part}
 use Rattle.awari_block.specs.declared.cells.Cell.{Cell}
 use Rattle.awari_waves.specs.Each.{IsFarther}
@@ -22,63 +16,11 @@ use Rattle.awari_waves.specs.Lists.{dues_of, with_put}
 use Rattle.awari_waves.specs.SegmentFields.{IsAboveZero, IsBelowZero, IsSegment}
 use Rattle.awari_waves.specs.Waves.{StaysPassed}
 use Rattle.awari_waves.specs.declared.segments.Segment.TheInside.{Inside}
-use Rattle.awari_waves.proofs.Awaiting.{awaited_still}
 use Rattle.awari_waves.proofs.Joining.{Replaces, above_zero, kept_passed, kept_segment, kept_settles, lost_passed, lost_segment, lost_settles, refused_segment, seen, with_cell, won_passed, won_segment, won_settles}
 
 -- with this cell at this index, and with these fresh boards
 abbrev pub with_index : Inside → ℕ → Cell → List (List ℕ) → List (List ℕ) → Inside
 with_index a index new lost won = record { place = a.place; cells = with_item a.cells index new; awaits = a.awaits; lost = lost; won = won }
-
--- the opening leaves a board as it is that awaits another gain
-pub opened_other : (a : Inside) (part : Part) → seen a ≡ part → IsSegment a → (index g : ℕ) → index < length a.cells.items → g ≡ get_or a.awaits.items index g → g ≢ a.place.gain → OpensCells part part index (index + 1)
-opened_other a part view sound index g inside byte other =
-    still_one part index a.place.level a.place.gain (get_or a.cells.items index no_cell) (ap (λ (p : Part). get_or p.cells index no_cell) (sym view)) (ap (λ (p : Part). p.level) (sym view)) (ap (λ (p : Part). p.gain) (sym view))
-    (awaited_still a.place.level index a.place.gain g a.cells.items a.awaits.items sound.awaited inside byte other)
-
--- what stands at an index of a stretch
-stretch_read : {X : Type 0} (xs : List X) (start end k : ℕ) (d : X) → k < length xs → start ≤ k → k < end → (k - start < length (slice_range xs start end)) × (get_or (slice_range xs start end) (k - start) d ≡ get_or xs k d)
-stretch_read xs start end k d inside from to =
-    let long = length-take (end - start) (drop start xs) in
-    let left = length-drop start xs in (
-      omega (arith, long, left, inside, from, to),
-      get_or-take (end - start) (drop start xs) (k - start) d (omega (arith, from, to)) ∙ get_or-drop start xs (k - start) d
-          ∙ ap (λ i. get_or xs i d) (let e : start + (k - start) ≡ k = omega (arith, from) in e),
-    )
-
--- it leaves all boards of a stretch as they are, if none awaits it
-pub opened_none : (a : Inside) (part : Part) → seen a ≡ part → IsSegment a → (start end : ℕ) → end ≤ length part.cells → All (λ g. g ≢ a.place.gain) (slice_range a.awaits.items start end) → OpensCells part part start end
-opened_none a part view sound start end within others = record {
-  inside = λ k h from to.
-      let many = sound.awaited.boards in
-      let cells = ap (λ (p : Part). length p.cells) view in
-      let high : k < length a.cells.items = omega (arith, h, cells) in
-      let among : k < length a.awaits.items = omega (arith, high, many) in
-      let read = stretch_read a.awaits.items start end k 0 among from to in
-      let byte = get_or_default a.awaits.items k 0 (get_or a.awaits.items k 0) among in
-      (opened_other a part view sound k (get_or a.awaits.items k 0) high byte (λ is. others (k - start) 0 read.0 (read.1 ∙ is))).inside k h (omega arith) (omega arith);
-  outside = λ k out. refl;
-}
-
-settled_idle : (m : Mark) (v : ℤ) (n t : ℕ) → is_settled m ≡ true → MayOpen m v n t → ⊥
-settled_idle mark.Settled v n t is may = may
-settled_idle mark.Quiet v n t is may = may
-settled_idle mark.Noted v n t is may = may
-settled_idle mark.Capturing v n t is may = absurd (false≢true is)
-settled_idle mark.Ended v n t is may = absurd (false≢true is)
-
--- or if all are settled
-pub opened_settled : (a : Inside) (part : Part) → seen a ≡ part → (start end : ℕ) → end ≤ length part.cells → All (λ (c : Cell). is_settled c.mark ≡ true) (slice_range a.cells.items start end) → OpensCells part part start end
-opened_settled a part view start end within settled = record {
-  inside = λ k h from to.
-      let cells = ap (λ (p : Part). length p.cells) view in
-      let high : k < length a.cells.items = omega (arith, h, cells) in
-      let read = stretch_read a.cells.items start end k no_cell high from to in
-      let cell : Cell = get_or a.cells.items k no_cell in
-      let is : is_settled cell.mark ≡ true = subst (λ (c : Cell). is_settled c.mark ≡ true) read.1 (settled (k - start) no_cell read.0) in
-      (still_one part k a.place.level a.place.gain cell (ap (λ (p : Part). get_or p.cells k no_cell) (sym view)) (ap (λ (p : Part). p.level) (sym view)) (ap (λ (p : Part). p.gain) (sym view))
-      (still cell a.place.level a.place.gain (settled_idle cell.mark cell.score a.place.level a.place.gain is))).inside k h (omega arith) (omega arith);
-  outside = λ k out. refl;
-}
 
 -- what is read of one cell
 module _ (a : Inside) (part : Part) (view : seen a ≡ part) (index : ℕ) (old : Cell) (high : index < length a.cells.items) (read : old ≡ get_or a.cells.items index old) where

@@ -1,8 +1,8 @@
 -- The fields of a segment.
-use Rattle.std.specs.Prelude.{◌≡◌, ◌+◌, ◌++◌, ◌^◌, ◌<◌, ◌≤◌, ℕ, ℤ, pos, ◌<ℤ◌, All, List, length, slice_index_or, vec_len}
+use Rattle.std.specs.Prelude.{◌+◌, ◌++◌, ◌^◌, ◌<◌, ◌≤◌, ℕ, ℤ, pos, ◌<ℤ◌, All, List, vec_len}
 use Rattle.awari_rank.specs.Rank.{size_of}
-use Rattle.awari_block.specs.Awaited.{MayOpen}
-use Rattle.awari_block.specs.Blocks.{Due, cell_in, due_rank, no_cell, IsBlock}
+use Rattle.awari_block.specs.Awaited.{TellAwaited}
+use Rattle.awari_block.specs.Blocks.{Due, cell_in, due_rank, IsBlock}
 use Rattle.awari_block.specs.declared.cells.Cell.{Cell}
 use Rattle.awari_waves.specs.Lists.{dues_of}
 use Rattle.awari_waves.specs.declared.segments.Segment.TheInside.{Inside}
@@ -16,12 +16,6 @@ IsBelowZero v = v <ℤ pos 0
 
 abbrev pub IsAboveZero : ℤ → Type 0
 IsAboveZero v = pos 0 <ℤ v
-
--- The bytes of these boards of the level of n stones: if the opening of a gain may settle a board, its byte is that gain. A board that
--- awaits none may have any.
-pub record TellAwaited (n : ℕ) (cells : List Cell) (gains : List ℕ) : Type 0 where
-  pub boards : length gains ≡ length cells
-  pub only : (k t : ℕ) → k < length cells → MayOpen (slice_index_or cells k no_cell).mark (slice_index_or cells k no_cell).score n t → slice_index_or gains k 0 ≡ t
 
 pub record IsSegment (a : Inside) : Type 0 where
   pub low : a.place.level ≤ 24

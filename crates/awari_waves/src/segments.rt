@@ -1,6 +1,6 @@
 //! A block of the boards of a level, and which of them are fresh, in lists by distance.
 
-ghost use Rattle.std.specs.Prelude.{◌≡◌, ℕ, ℤ, ◌+◌, ◌-◌, ◌/◌, ◌%◌, ◌^◌, ◌<◌, ◌≤◌, ◌++◌, IsTrue, List, [], true, false, ◌≢◌, All, IfNone, IfOk, IfSome, OnOk, Some, length, slice_set, vec_len};
+ghost use Rattle.std.specs.Prelude.{◌≡◌, ℕ, ℤ, ◌+◌, ◌-◌, ◌/◌, ◌%◌, ◌^◌, ◌<◌, ◌≤◌, ◌++◌, IsTrue, List, [], true, All, IfNone, IfOk, IfSome, OnOk, Some, length, slice_set, vec_len};
 ghost use Rattle.awari_block.specs.declared.notes.Kind.TheVariants.{Lost, Won};
 ghost use Rattle.awari_block.specs.Part.{Part as PartView, AreFresh, InBlock, IsClosed, settled_at, stored_at};
 ghost use Rattle.awari_rank.specs.Rank.{size_of};
@@ -10,21 +10,14 @@ ghost use Rattle.awari_block.specs.Boards.{CanPut, HearsNote, OpensCells, Settle
 ghost use Rattle.awari_waves.specs.Ahead.{TellSettled};
 ghost use Rattle.awari_waves.specs.Each.{IsFarther, OpensGain};
 ghost use Rattle.awari_waves.specs.Rows.{notes_at};
-ghost use Rattle.awari_waves.specs.SegmentFields.{TellAwaited};
 ghost use Rattle.awari_waves.specs.Waves.{GivesFresh, IsCodeFor, IsReady, StaysPassed, Tells, TellsBoth};
 
 use crate::dues::nearer;
 use crate::lists::{Lists, Row};
-use awari_block::{Cell, ClosedPart, Kind, Place};
+use awari_block::{Cell, ClosedPart, Kind, Place, awaited_gains, next_awaiting};
 use awari_rank::ranks_tell_boards_apart;
 use std::alloc::{AllocError, Global};
 use std::marker::Model;
-
-/// What a board awaits if no opening settles it. No gain is so great.
-const NO_GAIN: u8 = 255;
-
-/// How many boards are asked together whether one of them awaits a gain.
-const STRETCH: usize = 64;
 
 /// How many notes are heard at a time, their cells being read ahead. Processors wait for fewer reads
 /// than this at a time.
@@ -33,9 +26,6 @@ const AHEAD: usize = 64;
 /// The boards of a level from one rank up to, not including, another: a cell for each, the gain whose
 /// opening may settle it, and the ranks of those that are settled and not spread yet, the lost and the
 /// won ones, by distance.
-///
-/// What a board awaits is noted once, before any gain is open. The opening of a gain goes over these
-/// bytes, and reads the cells of the few boards that may await it.
 #[derive(Drop)]
 pub struct Segment {
     place: Place,
@@ -73,7 +63,7 @@ impl Segment {
         requires fit { All (λ c. FitsBy c.mark level (level + 1) c.score c.dist) cells.items }
         ensures { IfOk result (λ segment. segment ≡ record { level = level; gain = level + 1; wave = 0; start = start; cells = cells.items; fresh = [] }) }
     {
-        let awaits = awaited(alloc, level, cells.as_slice())?;
+        let awaits = awaited_gains(alloc, level, cells.as_slice())?;
         Ok(Segment {
             place: Place {
                 level,
@@ -117,48 +107,29 @@ impl Segment {
         self.open_cells()
     }
 
-    /// Opens the gain of the place in each cell, in order of rank.
+    /// Opens the gain of the place in each cell, in order of rank. Most boards do not await it, and
+    /// their cells are not read.
     fn open_cells(&mut self) -> Result<(), AllocError>
         requires gain { self.old.gain ≤ self.old.level }
         requires opened { self.old.wave ≡ 0 }
         ensures settles { OnOk result (Settles self.old self.new) }
         ensures opens { OnOk result (OpensCells self.old self.new 0 (length self.old.cells)) }
     {
-        let boards = self.cells.len();
-        let mut start: usize = 0;
-        while start < boards {
-            let end = boards.min(start + STRETCH);
-            self.open_stretch(start, end)?;
-            start = end;
+        let mut from = 0;
+        while let Some(index) = self.next_awaiting(from) {
+            let opened = self.cells[index].with_gain(self.place);
+            self.put(index, opened)?;
+            from = index + 1;
         }
         Ok(())
     }
 
-    /// Opens it in the cells from one index up to, not including, another. Most boards await another gain
-    /// or none, and their cells are not read.
-    fn open_stretch(&mut self, start: usize, end: usize) -> Result<(), AllocError>
-        requires order { start ≤ end }
-        requires within { end ≤ length self.old.cells }
-        requires gain { self.old.gain ≤ self.old.level }
-        requires opened { self.old.wave ≡ 0 }
-        ensures settles { OnOk result (Settles self.old self.new) }
-        ensures opens { OnOk result (OpensCells self.old self.new start end) }
+    /// The index of the first board from this one on that awaits the gain of the place.
+    fn next_awaiting(&self, from: usize) -> Option<usize>
+        ensures some { IfSome result (λ index. (from ≤ index) × (index < length self.now.cells) × OpensCells self.now self.now from index) }
+        ensures none { IfNone result (OpensCells self.now self.now from (length self.now.cells)) }
     {
-        if !is_among(self.place.gain, &self.awaits[start..end]) {
-            return Ok(());
-        }
-        if are_settled(&self.cells[start..end]) {
-            return Ok(());
-        }
-        for index in start..end {
-            let place = self.place;
-            if self.awaits[index] != place.gain {
-                continue;
-            }
-            let opened = self.cells[index].with_gain(place);
-            self.put(index, opened)?;
-        }
-        Ok(())
+        next_awaiting(self.place.gain, self.awaits.as_slice(), from)
     }
 
     /// The least distance of a fresh board, none if no board is fresh. Condition: no fresh board is
@@ -381,41 +352,4 @@ impl Segment {
         self.put(index, cell)?;
         Ok(())
     }
-}
-
-/// For each of these boards of a level the gain whose opening may settle it, with no gain open. It takes a
-/// byte a board, and is refused only if memory runs out.
-fn awaited(alloc: Global, level: u8, cells: &[Cell]) -> Result<Vec<u8>, AllocError>
-    requires low { level ≤ 24 }
-    requires fit { All (λ c. FitsBy c.mark level (level + 1) c.score c.dist) cells.now }
-    ensures { IfOk result (λ awaits. TellAwaited level cells.now awaits.items) }
-{
-    let mut awaits = vec![in alloc; NO_GAIN; cells.len()]?;
-    for index in 0..cells.len() {
-        awaits[index] = cells[index].awaited_gain(level).unwrap_or(NO_GAIN);
-    }
-    Ok(awaits)
-}
-
-/// Whether the gain is among these. There is no branch for a byte, so processors compare many at once.
-fn is_among(gain: u8, awaits: &[u8]) -> bool
-    ensures { (result ≡ false) → All (λ awaited. awaited ≢ gain) awaits.now }
-{
-    let mut found = false;
-    for awaited in awaits {
-        found |= *awaited == gain;
-    }
-    found
-}
-
-/// Whether all these boards are settled. It only reads and has no branch, so one cell is asked for while
-/// another is still on its way.
-fn are_settled(cells: &[Cell]) -> bool
-    ensures { (result ≡ true) → All (λ cell. is_settled cell.mark ≡ true) cells.now }
-{
-    let mut settled = true;
-    for cell in cells {
-        settled &= cell.is_settled();
-    }
-    settled
 }

@@ -1,31 +1,29 @@
-use Rattle.std.proofs.Common.{◌≡◌, ◌+◌, ◌*◌, ◌≤◌, inl, inr, length, rules, sym, ◌∙◌, subst, arith}
-use Rattle.std.proofs.lemmas.List.{get_or_past}
+use Rattle.std.proofs.Common.{◌≡◌, ◌+◌, ◌-◌, get_or, set, ap, sym, ◌∙◌, arith}
 use Rattle.awari_block.specs.Blocks.{no_cell}
-use Rattle.awari_block.specs.declared.awaited.TheConstants.{WIDTH}
-use Rattle.awari_block.specs.Boards.{OpensCells}
-use Rattle.awari_block.proofs.Opening.{opens_both}
+use Rattle.awari_block.specs.declared.places.Place.{Place}
+use Rattle.awari_block.proofs.Opening.{opens_both, put_one}
 use Rattle.awari_block.proofs.Settling.{settles_both}
 use Rattle.awari_block.proofs.boards.Boards.open_cells.Goals as goal
 
-pub loop-row-preserved : goal.loop-row-preserved
-loop-row-preserved c =
-    let before = c.loop-row.invariant in
-    let next : WIDTH * c.loop-row.row + WIDTH ≡ WIDTH * (c.loop-row.row + 1) = omega arith in
+pub loop-index-preserved : goal.loop-index-preserved
+loop-index-preserved c =
+    let before = c.loop-index.invariant in
+    let same = before.settles.same in
+    let size = before.settles.size in
+    let found = c.in-Some.ensures.some in
+    let later = found.0 in
+    let inside = found.1 in
+    let start = ap (λ (p : Place). p.start) c.place-place.ensures.place in
+    let same_start = same.start in
+    let at : c.place-place.result.start + c.in-Some.index - c.loop-index.self.start ≡ c.in-Some.index = omega (arith, start, same_start) in
+    let put = c.put.ensures.cells ∙ ap (λ n. set c.loop-index.self.cells n c.with_gain.result) at in
+    let read = ap (λ n. get_or c.loop-index.self.cells n no_cell) (sym at) ∙ sym c.cell-cell.ensures.stored in
+    let level = same.level ∙ sym (ap (λ (p : Place). p.level) c.place-place.ensures.place) in
+    let gain = same.gain ∙ sym (ap (λ (p : Place). p.gain) c.place-place.ensures.place) in
     record {
-      settles = settles_both c.args.self.now c.loop-row.self c.open_row.new.self before.settles c.open_row.ensures.settles;
-      opens = subst (OpensCells c.args.self.now c.open_row.new.self 0) next
-          (opens_both c.args.self.now c.loop-row.self c.open_row.new.self 0 _ _ (omega arith) (omega arith) before.settles.same before.settles.size before.opens c.open_row.ensures.opens);
-    }
-
-pub returns-clause-opens : goal.returns-clause-opens
-returns-clause-opens c =
-    let done = c.loop-row.invariant in
-    let size = done.settles.size in
-    let all : length c.args.self.now.cells ≤ WIDTH * c.loop-row.row = search rules in
-    record {
-      inside = λ k h from to. done.opens.inside k h from (omega (arith, to, all));
-      outside = λ k out. elim out [
-        | inl none ↦ absurd (omega (arith, none))
-        | inr past ↦ get_or_past c.loop-row.self.cells k no_cell (omega (arith, size, past)) ∙ sym (get_or_past c.args.self.now.cells k no_cell past)
-      ];
+      within = omega (arith, inside, size);
+      settles = settles_both c.args.self.now c.loop-index.self c.put.new.self before.settles c.put.ensures.settles;
+      opens = opens_both c.args.self.now c.loop-index.self c.put.new.self 0 c.in-Some.index _ (omega arith) (omega arith) same size
+          (opens_both c.args.self.now c.loop-index.self c.loop-index.self 0 c.loop-index.from _ (omega arith) later same size before.opens found.2)
+          (put_one c.loop-index.self c.in-Some.index _ _ c.cell-cell.result read level gain c.put.new.self c.with_gain.result put inside c.with_gain.ensures.cell);
     }

@@ -1,6 +1,6 @@
 use Rattle.std.proofs.Common.{◌≡◌, ◌+◌, List, [], ap, sym, subst, ◌∙◌, rules}
 use Rattle.std.proofs.lemmas.Bool.{false≢true}
-use Rattle.awari_block.specs.Awaited.{AreAwaited}
+use Rattle.awari_block.specs.Awaited.{TellAwaited}
 use Rattle.awari_block.specs.declared.cells.Cell.{Cell}
 use Rattle.awari_block.specs.Fresh.{IsFresh, fresh_of}
 use Rattle.awari_block.specs.Part.{part_of}
@@ -13,7 +13,7 @@ invariant_of-result c =
     let marks : IsFresh 0 cells c.in_ok-fresh.fresh = c.in_ok-fresh.ensures.sound 0 cells (search rules) in
     let none : fresh_of c.args.start cells c.in_ok-fresh.fresh ≡ [] =
     none_fresh c.args.start cells c.in_ok-fresh.fresh.words.items (λ k marked. absurd (false≢true (sym (c.in_ok-fresh.ensures.none k) ∙ marked))) in
-    let awaited : AreAwaited c.args.level cells c.in_ok-awaited.awaited.gains.items = subst (λ (cs : List Cell). AreAwaited c.args.level cs c.in_ok-awaited.awaited.gains.items) c.as_slice.ensures.value c.in_ok-awaited.ensures in
+    let awaited : TellAwaited c.args.level cells c.in_ok-awaits.awaits.items = subst (λ (cs : List Cell). TellAwaited c.args.level cs c.in_ok-awaits.awaits.items) c.as_slice.ensures.value c.in_ok-awaits.ensures in
     search rules
 
 pub returns : goal.returns

@@ -1,5 +1,5 @@
 use Rattle.std.proofs.lemmas.List.{drop_all, drop_more}
-use Rattle.std.proofs.Common.{List, ℕ, ap, ◌∙◌, sym, subst}
+use Rattle.std.proofs.Common.{List, ap, ◌∙◌, sym, subst}
 use Rattle.awari_block.specs.Boards.{place_of}
 use Rattle.awari_waves.specs.Lists.{list_at}
 use Rattle.awari_waves.specs.Rows.{lists_by, notes_at}

@@ -1,14 +1,13 @@
-use Rattle.std.proofs.Common.{◌≡◌, ◌≤◌, ◌-◌, length}
+use Rattle.std.proofs.Common.{◌-◌, ◌≤◌, length}
 use Rattle.awari_block.specs.Boards.{OpensCells, Settles}
 use Rattle.awari_waves.proofs.segments.Segment.open_cells.Given as goal
 
-abbrev pub invariant-loop-start : goal.invariant-loop-start
-invariant-loop-start l = record {
+abbrev pub invariant-loop-index : goal.invariant-loop-index
+invariant-loop-index l = record {
+  within : l.from ≤ length l.initial.self.cells;
   settles : Settles l.initial.self l.self;
-  opens : OpensCells l.initial.self l.self 0 l.start;
-  boards : l.boards ≡ length l.initial.self.cells;
-  within : l.start ≤ l.boards;
+  opens : OpensCells l.initial.self l.self 0 l.from;
 }
 
-abbrev pub decreases-loop-start : goal.decreases-loop-start
-decreases-loop-start l = l.boards - l.start
+abbrev pub decreases-loop-index : goal.decreases-loop-index
+decreases-loop-index l = length l.initial.self.cells - l.from

@@ -1,5 +1,5 @@
-use Rattle.awari_waves.proofs.Awaiting.{AreFilled}
-use Rattle.awari_waves.proofs.segments.awaited.Given as goal
+use Rattle.awari_block.proofs.Awaiting.{AreFilled}
+use Rattle.awari_block.proofs.awaited.awaited_gains.Given as goal
 
 abbrev pub invariant-loop-index : goal.invariant-loop-index
 invariant-loop-index l = AreFilled l.level l.cells l.awaits.items l.index

@@ -1,6 +1,6 @@
 use Rattle.std.proofs.Common.{rules}
-use Rattle.awari_waves.proofs.Awaiting.{filled_all, filled_more, filled_none}
-use Rattle.awari_waves.proofs.segments.awaited.Goals as goal
+use Rattle.awari_block.proofs.Awaiting.{filled_all, filled_more, filled_none}
+use Rattle.awari_block.proofs.awaited.awaited_gains.Goals as goal
 
 pub loop-index-init : goal.loop-index-init
 loop-index-init c = filled_none c.args.level c.args.cells.now _ (search rules)
