@@ -112,6 +112,13 @@ impl Boards {
         self.place.start <= rank && ((rank - self.place.start) as usize) < self.cells.len()
     }
 
+    /// Their cells, in order of rank.
+    pub fn cells(&self) -> &[Cell]
+        ensures { result.now ≡ self.now.cells }
+    {
+        self.cells.as_slice()
+    }
+
     /// What is known of the board of this rank, which is one of the block.
     #[inline(always)]
     pub fn cell(&self, rank: u32) -> Cell

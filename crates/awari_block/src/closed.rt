@@ -1,7 +1,7 @@
 //! What is kept of a part once its gains are all closed.
 
-ghost use Rattle.std.specs.Prelude.{◌≡◌, ◌+◌, ◌^◌, ◌<◌, [], length, vec_len};
-ghost use Rattle.awari_block.specs.Part.{InBlock, stored_at, IsClosed, part_of};
+ghost use Rattle.std.specs.Prelude.{◌≡◌, ◌+◌, ◌^◌, ◌<◌, [], vec_len};
+ghost use Rattle.awari_block.specs.Part.{part_of};
 
 use crate::cells::Cell;
 use crate::places::Place;
@@ -39,21 +39,10 @@ impl ClosedPart {
         ClosedPart { place, cells }
     }
 
-    /// What is known of the board of this rank. Condition: the board is in the block.
-    pub fn cell(&self, rank: u32) -> Cell
-        requires { InBlock self.now rank }
-        ensures { result ≡ stored_at self.now rank }
+    /// The cells of the boards of the block, in order of rank.
+    pub fn cells(&self) -> &[Cell]
+        ensures { result.now ≡ self.now.cells }
     {
-        self.cells[(rank - self.place.start) as usize]
-    }
-
-    /// The ranks of the boards of the block: from the first number up to, not including, the second.
-    pub fn block(&self) -> (u32, u32)
-        ensures start { result.0 ≡ self.now.start }
-        ensures end { result.1 ≡ self.now.start + length self.now.cells }
-        ensures closed { IsClosed self.now }
-    {
-        let start = self.place.start;
-        (start, start + self.cells.len() as u32)
+        self.cells.as_slice()
     }
 }

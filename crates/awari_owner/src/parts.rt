@@ -121,6 +121,13 @@ impl Part {
         self.boards.cell(rank)
     }
 
+    /// The cells of the boards of the block, in order of rank.
+    pub fn cells(&self) -> &[Cell]
+        ensures { result.now ≡ self.now.cells }
+    {
+        self.boards.cells()
+    }
+
     /// The ranks of the boards of the block: from the first number up to, not including, the second.
     pub fn block(&self) -> (u32, u32)
         ensures start { result.0 ≡ self.now.start }

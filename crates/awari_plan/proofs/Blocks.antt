@@ -1,5 +1,5 @@
 -- The entries of blocks put one after another.
-use Rattle.std.proofs.Common.{◌≡◌, ℕ, ◌+◌, ◌-◌, ◌<◌, ◌≤◌, List, [], ◌∷◌, ◌++◌, ◌⊎◌, inl, inr, length, get_or, Result, Ok, refl, sym, ap, ◌∙◌, subst, arith, sum, take, zero, suc, append_assoc, length-append}
+use Rattle.std.proofs.Common.{◌≡◌, ℕ, ◌+◌, ◌-◌, ◌<◌, ◌≤◌, List, [], ◌∷◌, ◌++◌, inl, inr, length, get_or, Result, Ok, refl, sym, ap, ◌∙◌, subst, arith, sum, take, zero, suc, append_assoc, length-append}
 use Rattle.std.proofs.lemmas.Bool.{cases_lt}
 use Rattle.std.specs.Prelude.{IfOk}
 use Rattle.std.specs.declared.alloc.AllocError.{AllocError}
@@ -10,7 +10,10 @@ use Rattle.awari_table.specs.Images.{no_entry}
 use Rattle.awari_board.specs.Rules.{IsBoard}
 use Rattle.awari_rank.specs.Rank.{rank_of, size_of}
 use Rattle.awari_owner.specs.Level.{AreBlocks, AreWhole, known_at, no_part, part_at}
-use Rattle.awari_block.specs.Tally.{Cell}
+use Rattle.awari_block.specs.Blocks.{no_cell}
+use Rattle.awari_block.specs.Cells.{view_of}
+use Rattle.awari_block.specs.Tally as tally
+use Rattle.awari_block.specs.declared.cells.Cell.{Cell}
 use Rattle.awari_owner.proofs.Levels.{holds, known_there}
 use Rattle.awari_plan.specs.Finished.{HasSettled, HasAllSettled}
 use Rattle.awari_plan.specs.Filling.{AreMade, PushesBlock, PutsBlocks}
@@ -42,37 +45,28 @@ settled_push [] part entries has last = (last, tt)
 settled_push (first ∷ parts) part entries has last = (has.0, settled_push parts part entries has.1 last)
 
 -- a block that is put where its ranks begin has its settled boards there
-pub block_settled : (part : Part) (old now : List Entry) → part.start ≡ length old → PushesBlock part old now (length part.cells) → (rank : ℕ) → InBlock part rank → HasSettled (cell_at part rank) (get_or now rank no_entry)
+pub block_settled : (part : Part) (old now : List Entry) → part.start ≡ length old → PushesBlock part.cells old now (length part.cells) → (rank : ℕ) → InBlock part rank → HasSettled (cell_at part rank) (get_or now rank no_entry)
 block_settled part old now here pushed rank inside =
-    let k = rank - part.start in
-    let a : part.start + k ≡ rank = omega (arith, inside.0) in
-    let b : length old + k ≡ rank = omega (arith, inside.0, here) in
-    subst (λ n. HasSettled (cell_at part n) (get_or now rank no_entry)) a
-    (subst (λ n. HasSettled (cell_at part (part.start + k)) (get_or now n no_entry)) b (pushed.settled k inside.1))
+    let at : length old + (rank - part.start) ≡ rank = omega (arith, inside.0, here) in
+    subst (λ n. HasSettled (cell_at part rank) (get_or now n no_entry)) at (pushed.settled (rank - part.start) inside.1)
 
--- the entry of one more board of the block
-pub push_one : (part : Part) (old now new : List Entry) (start rank : ℕ) (e : Entry) → start ≡ part.start → start ≤ rank → PushesBlock part old now (rank - start) → new ≡ now ++ e ∷ [] → HasSettled (cell_at part rank) e
-    → PushesBlock part old new (rank + 1 - start)
-push_one part old now new start rank e here order before is last =
-    let count = rank - start in
-    let more : rank + 1 - start ≡ count + 1 = omega (arith, order) in
-    let at : part.start + count ≡ rank = omega (arith, order, here) in
-    subst (PushesBlock part old new) (sym more)
-    (record {
-      size = ap (λ (es : List Entry). length es) is ∙ length-append now (e ∷ []) ∙ omega (arith, before.size);
-      before = λ k below. ap (λ (es : List Entry). get_or es k no_entry) is ∙ get_or_append_left now (e ∷ []) no_entry k (omega (arith, below, before.size)) ∙ before.before k below;
-      settled = λ k below. elim (cases_lt k count) [
-        | inl lt ↦
-            subst (HasSettled (cell_at part (part.start + k)))
-            (sym (ap (λ (es : List Entry). get_or es (length old + k) no_entry) is ∙ get_or_append_left now (e ∷ []) no_entry (length old + k) (omega (arith, lt, before.size)))) (before.settled k lt)
-        | inr ge ↦
-            let last_one : k ≡ count = omega (arith, ge, below) in
-            let there : part.start + k ≡ rank = omega (arith, last_one, at) in
-            subst (HasSettled (cell_at part (part.start + k)))
-            (sym (ap (λ (es : List Entry). get_or es (length old + k) no_entry) is ∙ get_or_push now e no_entry (length old + k) (omega (arith, last_one, before.size))))
-            (subst (λ n. HasSettled (cell_at part n) e) (sym there) last)
-      ];
-    })
+-- the entry of one more board
+pub push_one : (cells : List Cell) (old now new : List Entry) (count : ℕ) (e : Entry) → PushesBlock cells old now count → new ≡ now ++ e ∷ [] → HasSettled (view_of (get_or cells count no_cell)) e
+    → PushesBlock cells old new (count + 1)
+push_one cells old now new count e before is last = record {
+  size = ap (λ (es : List Entry). length es) is ∙ length-append now (e ∷ []) ∙ omega (arith, before.size);
+  before = λ k below. ap (λ (es : List Entry). get_or es k no_entry) is ∙ get_or_append_left now (e ∷ []) no_entry k (omega (arith, below, before.size)) ∙ before.before k below;
+  settled = λ k below. elim (cases_lt k count) [
+    | inl lt ↦
+        subst (HasSettled (view_of (get_or cells k no_cell)))
+        (sym (ap (λ (es : List Entry). get_or es (length old + k) no_entry) is ∙ get_or_append_left now (e ∷ []) no_entry (length old + k) (omega (arith, lt, before.size)))) (before.settled k lt)
+    | inr ge ↦
+        let last_one : k ≡ count = omega (arith, ge, below) in
+        subst (HasSettled (view_of (get_or cells k no_cell)))
+        (sym (ap (λ (es : List Entry). get_or es (length old + k) no_entry) is ∙ get_or_push now e no_entry (length old + k) (omega (arith, last_one, before.size))))
+        (subst (λ n. HasSettled (view_of (get_or cells n no_cell)) e) (sym last_one) last)
+  ];
+}
 
 -- blocks put one after another, and then others
 pub puts_then : (front back : List Part) (old mid new : List Entry) → PutsBlocks front old mid → PutsBlocks back mid new → PutsBlocks (front ++ back) old new
@@ -81,7 +75,7 @@ puts_then (part ∷ front) back old mid new (next, one, rest) more = (next, one,
 
 -- and then the next of the parts
 pub puts_more : (parts : List Part) (i : ℕ) (part : Part) (old mid new : List Entry) → i < length parts → part ≡ get_or parts i part → PutsBlocks (take i parts) old mid
-    → PushesBlock part mid new (length part.cells) → PutsBlocks (take (i + 1) parts) old new
+    → PushesBlock part.cells mid new (length part.cells) → PutsBlocks (take (i + 1) parts) old new
 puts_more parts i part old mid new inside is before pushed =
     let more : take (i + 1) parts ≡ take i parts ++ part ∷ [] = take_more parts i part inside ∙ ap (λ p. take i parts ++ p ∷ []) (sym is) in
     subst (λ ps. PutsBlocks ps old new) (sym more) (puts_then (take i parts) (part ∷ []) old mid new before (new, pushed, refl))
@@ -90,8 +84,8 @@ pub puts_all : (parts : List Part) (i : ℕ) (old new : List Entry) → length p
 puts_all parts i old new past puts = subst (λ ps. PutsBlocks ps old new) (take_all i parts past) puts
 
 -- entries that were made apart, and are put behind others
-pub pushed_behind : (part : Part) (old block new : List Entry) (count : ℕ) → PushesBlock part [] block count → new ≡ old ++ block → PushesBlock part old new count
-pushed_behind part old block new count made is =
+pub pushed_behind : (cells : List Cell) (old block new : List Entry) (count : ℕ) → PushesBlock cells [] block count → new ≡ old ++ block → PushesBlock cells old new count
+pushed_behind cells old block new count made is =
     let empty : List Entry = [] in
     let long : length block ≡ count = made.size ∙ omega arith in
     record {
@@ -99,8 +93,8 @@ pushed_behind part old block new count made is =
       before = λ k below. ap (λ (es : List Entry). get_or es k no_entry) is ∙ get_or_append_left old block no_entry k below;
       settled = λ k below.
           let same : length empty + k ≡ k = omega arith in
-          subst (HasSettled (cell_at part (part.start + k))) (sym (ap (λ (es : List Entry). get_or es (length old + k) no_entry) is ∙ get_or-append-add old block k no_entry))
-          (subst (λ n. HasSettled (cell_at part (part.start + k)) (get_or block n no_entry)) same (made.settled k below));
+          subst (HasSettled (view_of (get_or cells k no_cell))) (sym (ap (λ (es : List Entry). get_or es (length old + k) no_entry) is ∙ get_or-append-add old block k no_entry))
+          (subst (λ n. HasSettled (view_of (get_or cells k no_cell)) (get_or block n no_entry)) same (made.settled k below));
     }
 
 pub joined_more : (parts : List Part) (made : List (Result (List Entry) AllocError)) (i : ℕ) (item : Result (List Entry) AllocError) (block old mid new : List Entry) → AreMade parts made → i < length made
@@ -108,9 +102,9 @@ pub joined_more : (parts : List Part) (made : List (Result (List Entry) AllocErr
 joined_more parts made i item block old mid new (size, each) inside is right before joined =
     let within : i < length parts = omega (arith, size, inside) in
     let part = get_or parts i no_part in
-    let P : Result (List Entry) AllocError → Type 0 = λ r. IfOk r (λ es. PushesBlock part [] es (length part.cells)) in
-    let pushed : PushesBlock part [] block (length part.cells) = subst P (sym is ∙ right) (each i no_part item within) in
-    puts_more parts i part old mid new within (get_or_default parts i no_part part within) before (pushed_behind part mid block new (length part.cells) pushed joined)
+    let P : Result (List Entry) AllocError → Type 0 = λ r. IfOk r (λ es. PushesBlock part.cells [] es (length part.cells)) in
+    let pushed : PushesBlock part.cells [] block (length part.cells) = subst P (sym is ∙ right) (each i no_part item within) in
+    puts_more parts i part old mid new within (get_or_default parts i no_part part within) before (pushed_behind part.cells mid block new (length part.cells) pushed joined)
 
 -- the blocks of a level that are put one after another have all that was settled
 put_from : (level low high : ℕ) (done parts : List Part) (old new : List Entry) → low ≡ length old → AllBelow done low → HasAllSettled done old → AreBlocks level low high parts → PutsBlocks parts old new
@@ -141,5 +135,5 @@ pub finished_there : (level : ℕ) (parts : List Part) → AreWhole level parts 
     → HasSettled (known_at parts (rank_of p)) (get_or entries (rank_of p) no_entry)
 finished_there level parts whole entries has p is stones =
     let (i, inside, held) = holds level parts whole p is stones in
-    subst (λ (c : Cell). HasSettled c (get_or entries (rank_of p) no_entry)) (sym (known_there level parts whole i inside (rank_of p) held))
+    subst (λ (c : tally.Cell). HasSettled c (get_or entries (rank_of p) no_entry)) (sym (known_there level parts whole i inside (rank_of p) held))
     (settled_there parts entries has i inside (rank_of p) held)

@@ -1,6 +1,6 @@
 -- The image made of the entries of all cells.
 use Rattle.std.proofs.Common.{◌≡◌, ℕ, All, sum, arith, List, [], ◌∷◌, ◌++◌, length, get_or, refl, sym, ap, ◌∙◌, subst}
-use Rattle.awari_rank.specs.Rank.{rank_of, size_of}
+use Rattle.awari_rank.specs.Rank.{rank_of}
 use Rattle.awari_block.specs.Part.{Part, IsClosed}
 use Rattle.awari_block.specs.Tally.{Cell}
 use Rattle.awari_block.specs.declared.notes.Note.{Note}
@@ -14,12 +14,11 @@ use Rattle.awari_plan.proofs.Consistency.{has_value}
 use Rattle.awari_plan.proofs.LowestPlans.{plan_lowest}
 use Rattle.awari_table.specs.declared.images.Entry.{Entry}
 use Rattle.awari_table.specs.declared.images.Image.{Image}
-use Rattle.awari_table.specs.Images.{entry_of, table_of, no_entry, greatest_dist}
+use Rattle.awari_table.specs.Images.{entry_of, table_of, no_entry}
 use Rattle.awari_table.proofs.EntryLemmas.{entry_of-append, entry_of-rank}
 use Rattle.awari_play.specs.Least.{IsPlannedLowest}
 use Rattle.awari_play.specs.Plan.{IsLowest}
-use Rattle.awari_plan.specs.Finished.{HasAllSettled, HasSettled, IsFinished}
-use Rattle.awari_plan.specs.Filling.{IsImageOf}
+use Rattle.awari_plan.specs.Finished.{HasSettled, IsFinished}
 
 -- a table has what the cells know
 entered_has : (shelf : List Image) (cell : List ℕ → Cell) (image : Image) → ((p : List ℕ) → IsBoard p → sum p ≡ length shelf → HasSettled (cell p) (get_or image.entries (rank_of p) no_entry))
@@ -43,17 +42,7 @@ entered_lowest shelf cell image entered quiet p is stones =
           ap (λ (e : Entry). e.value) (entry_of-append shelf (image ∷ []) q (let kept = sum-from_IsMove p x c q is.pits move in omega (arith, kept, stones, some)));
     }) (get_or image.entries (rank_of p) no_entry) (entered p is stones))
 
--- the image of the entries of these parts is finished
-pub entered_finished : (shelf : List Image) (parts : List Part) (image : Image) (entries : List Entry) → length entries ≡ size_of (length shelf) → HasAllSettled parts entries → IsImageOf (length shelf) entries image
-    → IsFinished shelf parts image
-entered_finished shelf parts image entries sized settled made = record {
-  level = made.level_is;
-  sized = ap (λ (es : List Entry). length es) made.has ∙ sized;
-  settled = subst (HasAllSettled parts) (sym made.has) settled;
-  limited = made.limited ∙ ap greatest_dist (sym made.has);
-}
-
--- and where they heard what was due, its plans are the lowest
+-- where they heard what was due, its plans are the lowest
 pub finished_lowest : (shelf : List Image) (parts : List Part) (image : Image) → AreWhole (length shelf) parts → All IsClosed parts → AreHeard (table_of shelf).value parts → IsFinished shelf parts image
     → IsPlannedLowest shelf image
 finished_lowest shelf parts image whole closed heard finished = λ p is stones.

@@ -1,10 +1,13 @@
 -- The image of a level whose gains are all closed.
-use Rattle.std.specs.Prelude.{◌≡◌, ℕ, List, [], ◌∷◌, length, pos, None, slice_index_or}
+use Rattle.std.specs.Prelude.{◌≡◌, ℕ, List, [], ◌∷◌, length, pos, None, All, slice_index_or}
 use Rattle.awari_rank.specs.Rank.{size_of}
 use Rattle.awari_table.specs.declared.images.Entry.{Entry}
 use Rattle.awari_table.specs.declared.images.Image.{Image}
-use Rattle.awari_table.specs.Images.{greatest_dist, no_entry}
-use Rattle.awari_block.specs.Part.{Part, InBlock, cell_at}
+use Rattle.awari_table.specs.Images.{greatest_dist, no_entry, table_of}
+use Rattle.awari_table.specs.Shelves.{Consistent}
+use Rattle.awari_block.specs.Part.{Part, InBlock, IsClosed, cell_at}
+use Rattle.awari_owner.specs.Level.{AreHeard}
+use Rattle.awari_play.specs.Least.{IsPlannedLowest}
 use Rattle.awari_block.specs.Pits.{IsLowestIn}
 use Rattle.awari_block.specs.Steps.{even_pits}
 use Rattle.awari_block.specs.Tally.{Cell, Status, Ended, Open, Settled}
@@ -31,3 +34,9 @@ pub record IsFinished (shelf : List Image) (parts : List Part) (image : Image) :
   pub sized : length image.entries ≡ size_of (length shelf)
   pub settled : HasAllSettled parts image.entries
   pub limited : image.limit ≡ greatest_dist image.entries
+
+-- it is such an image, and right if the parts are closed and heard what was due
+pub record IsFinishedImage (shelf : List Image) (parts : List Part) (image : Image) : Type 0 where
+  pub finished : IsFinished shelf parts image
+  pub planned : All IsClosed parts → AreHeard (table_of shelf).value parts → IsPlannedLowest shelf image
+  pub consistent : All IsClosed parts → AreHeard (table_of shelf).value parts → Consistent shelf image

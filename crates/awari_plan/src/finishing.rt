@@ -1,14 +1,14 @@
 //! The image of a level, of what its parts have settled.
 
-ghost use Rattle.std.specs.Prelude.{◌≡◌, ◌≤◌, [], All, IfOk, OnOk, length};
+ghost use Rattle.std.specs.Prelude.{◌≡◌, ◌≤◌, [], All, IfOk, List, OnOk, length};
 ghost use Rattle.awari_table.specs.Images.{table_of};
 ghost use Rattle.awari_table.specs.Shelves.{Consistent};
 ghost use Rattle.awari_owner.specs.Level.{AreHeard, AreWhole};
-ghost use Rattle.awari_block.specs.Part.{IsClosed};
+ghost use Rattle.awari_block.specs.Part.{Part, IsClosed};
 ghost use Rattle.awari_block.specs.Cells.{view_of};
 ghost use Rattle.awari_block.specs.Pits.{IsLowestIn};
-ghost use Rattle.awari_plan.specs.Finished.{HasSettled, IsFinished};
-ghost use Rattle.awari_plan.specs.Filling.{IsImageOf, PushesBlock, PutsBlocks};
+ghost use Rattle.awari_plan.specs.Finished.{HasSettled, IsFinished, IsFinishedImage};
+ghost use Rattle.awari_plan.specs.Filling.{PushesBlock, PutsBlocks};
 ghost use Rattle.awari_play.specs.Least.{IsPlannedLowest};
 ghost use Rattle.awari_table.specs.declared.TheConstants.{HIGHEST_LEVEL};
 
@@ -36,7 +36,7 @@ pub fn finish(alloc: Global, shelf: &Shelf, parts: &[Part]) -> Result<Image, All
     ensures consistent { AreHeard (table_of shelf.now).value parts.now → IfOk result (Consistent shelf.now) }
 {
     let entries = settled_entries(alloc, shelf.levels(), parts)?;
-    let image = image_of(shelf.levels(), entries);
+    let image = finished_image(shelf, entries);
     Ok(image)
 }
 
@@ -55,16 +55,17 @@ pub fn finish_closed(
     ensures consistent { All IsClosed parts.items → AreHeard (table_of shelf.now).value parts.items → IfOk result (Consistent shelf.now) }
 {
     let entries = closed_entries(alloc, shelf.levels(), parts)?;
-    let image = image_of(shelf.levels(), entries);
+    let image = finished_image(shelf, entries);
     Ok(image)
 }
 
-/// The image of this level that has these entries.
-pub fn image_of(level: u8, entries: Entries) -> Image
-    ensures { IsImageOf level entries result }
+/// The image of the shelf's next level that has these entries, those of all its blocks.
+pub fn finished_image(shelf: &Shelf, entries: Entries) -> Image
+    requires low { length shelf.now ≤ HIGHEST_LEVEL }
+    ensures { (parts : List Part) → AreWhole (length shelf.now) parts → PutsBlocks parts [] entries → IsFinishedImage shelf.now parts result }
 {
     Image {
-        level,
+        level: shelf.levels(),
         limit: entries.greatest_dist(),
         entries,
     }
@@ -77,20 +78,9 @@ fn settled_entries(alloc: Global, level: u8, parts: &[Part]) -> Result<Entries, 
 {
     let mut entries = Entries::with_capacity(alloc, size(level) as usize)?;
     for part in parts {
-        push_block(alloc, &mut entries, part)?;
+        push_block(alloc, &mut entries, part.cells())?;
     }
     Ok(entries)
-}
-
-/// Puts the entries of a block behind those that are there.
-fn push_block(alloc: Global, entries: &mut Entries, part: &Part) -> Result<(), AllocError>
-    ensures { OnOk result (PushesBlock part.now entries.old entries.new (length part.now.cells)) }
-{
-    let (start, end) = part.block();
-    for rank in start..end {
-        entries.push(alloc, entry_of(part.cell(rank)))?;
-    }
-    Ok(())
 }
 
 /// The entries of the level, of closed parts, each of which is dropped before the next is begun.
@@ -99,23 +89,19 @@ fn closed_entries(alloc: Global, level: u8, parts: Vec<ClosedPart>) -> Result<En
     ensures { IfOk result (PutsBlocks parts.items []) }
 {
     let mut entries = Entries::with_capacity(alloc, size(level) as usize)?;
-    for part in parts {
-        push_closed_block(alloc, &mut entries, &part)?;
+    for closed in parts {
+        push_block(alloc, &mut entries, closed.cells())?;
     }
     Ok(entries)
 }
 
-/// Puts the entries of a closed block behind those that are there.
-pub fn push_closed_block(
-    alloc: Global,
-    entries: &mut Entries,
-    part: &ClosedPart,
-) -> Result<(), AllocError>
-    ensures { OnOk result (PushesBlock part.now entries.old entries.new (length part.now.cells)) }
+/// Puts the entries of the boards with these cells behind those that are there.
+pub fn push_block(alloc: Global, entries: &mut Entries, cells: &[Cell]) -> Result<(), AllocError>
+    ensures { OnOk result (PushesBlock cells.now entries.old entries.new (length cells.now)) }
 {
-    let (start, end) = part.block();
-    for rank in start..end {
-        entries.push(alloc, entry_of(part.cell(rank)))?;
+    for k in 0..cells.len() {
+        let cell = cells[k];
+        entries.push(alloc, entry_of(cell))?;
     }
     Ok(())
 }

@@ -10,7 +10,7 @@ ghost use Rattle.awari_plan.specs.Filling.{PushesBlock, PutsBlocks, AreMade};
 ghost use Rattle.awari_play.specs.Least.{IsPlannedLowest};
 ghost use Rattle.awari_table.specs.declared.TheConstants.{HIGHEST_LEVEL};
 
-use crate::finishing::{image_of, push_closed_block};
+use crate::finishing::{finished_image, push_block};
 use awari_block::ClosedPart;
 use awari_rank::size;
 use awari_table::{Entries, Image, Shelf};
@@ -35,7 +35,7 @@ pub fn finish_parallel<R: Threads + Sync>(
     ensures consistent { All IsClosed parts.items → AreHeard (table_of shelf.now).value parts.items → IfOk result (Consistent shelf.now) }
 {
     let entries = entries_in_batches(rt, alloc, shelf.levels(), parts, threads.max(1))?;
-    let image = image_of(shelf.levels(), entries);
+    let image = finished_image(shelf, entries);
     Ok(image)
 }
 
@@ -88,11 +88,10 @@ fn entries_of_each<R: Threads + Sync>(
 
 /// The entries of a closed block.
 fn entries_of(alloc: Global, part: ClosedPart) -> Result<Entries, AllocError>
-    ensures { IfOk result (λ entries. PushesBlock part [] entries (length part.cells)) }
+    ensures { IfOk result (λ entries. PushesBlock part.cells [] entries (length part.cells)) }
 {
-    let (start, end) = part.block();
-    let mut entries = Entries::with_capacity(alloc, (end - start) as usize)?;
-    push_closed_block(alloc, &mut entries, &part)?;
+    let mut entries = Entries::with_capacity(alloc, part.cells().len())?;
+    push_block(alloc, &mut entries, part.cells())?;
     Ok(entries)
 }
 

@@ -1,6 +1,5 @@
-use Rattle.std.proofs.Common.{◌-◌}
 use Rattle.awari_plan.specs.Filling.{PushesBlock}
 use Rattle.awari_plan.proofs.finishing.push_block.Given as goal
 
-abbrev pub invariant-loop-rank : goal.invariant-loop-rank
-invariant-loop-rank l = PushesBlock l.part l.fn.entries l.entries (l.rank - l.start)
+abbrev pub invariant-loop-k : goal.invariant-loop-k
+invariant-loop-k l = PushesBlock l.cells l.fn.entries l.entries l.k

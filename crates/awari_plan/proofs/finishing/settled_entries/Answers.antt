@@ -1,9 +1,12 @@
-use Rattle.std.proofs.Common.{arith}
+use Rattle.std.proofs.Common.{List, length, subst}
+use Rattle.awari_block.specs.declared.cells.Cell.{Cell}
+use Rattle.awari_plan.specs.Filling.{PushesBlock}
 use Rattle.awari_plan.proofs.Blocks.{puts_more, puts_all}
 use Rattle.awari_plan.proofs.finishing.settled_entries.Goals as goal
 
 pub loop-part-preserved : goal.loop-part-preserved
-loop-part-preserved c = puts_more _ _ _ _ _ _ c.loop-part-test.true c.part-item.is c.loop-part.invariant c.in_ok-push_block.ensures
+loop-part-preserved c = puts_more _ _ _ _ _ _ c.loop-part-test.true c.part-item.is c.loop-part.invariant
+    (subst (λ (cells : List Cell). PushesBlock cells c.loop-part.entries c.push_block.new.entries (length cells)) c.cells.ensures c.in_ok-push_block.ensures)
 
 pub returns : goal.returns
 returns c = puts_all _ _ _ _ c.loop-part-test.false c.loop-part.invariant
