@@ -1,14 +1,13 @@
 -- What putting a cell into a block keeps.
-use Rattle.std.proofs.Common.{◌≡◌, ◌≢◌, ℕ, ◌+◌, ◌-◌, ◌<◌, ◌≤◌, ◌==◌, inl, inr, Bool, true, false, not, ◌&&◌, if◌then◌else◌, nat_le, List, [], ◌∷◌, length, get_or, set, All, cond, refl, sym, ap, subst, subst₂, ◌∙◌, arith, get_or-set_same, get_or-set_other, eqb-true}
+use Rattle.std.proofs.Common.{◌≡◌, ◌≢◌, ℕ, ◌+◌, ◌-◌, ◌<◌, ◌≤◌, ◌==◌, inl, inr, Bool, true, false, not, ◌&&◌, if◌then◌else◌, nat_le, List, [], ◌∷◌, length, get_or, set, All, cond, refl, sym, ap, subst, subst₂, ◌∙◌, arith, get_or-set_same, get_or-set_other}
 use Rattle.std.proofs.lemmas.Bool.Decides.{nat_tests}
-use Rattle.std.proofs.lemmas.Bool.{false≢true}
+use Rattle.std.proofs.lemmas.Bool.{cases_eq, cases_lt, false≢true}
 use Rattle.awari_block.specs.declared.cells.Mark.{Mark}
 use Rattle.std.proofs.lemmas.List.Sums.{sum_by-cons, sum_by-set}
 use Rattle.std.proofs.lemmas.List.Sorted.{sum_by-IsPermutation, All-permutation, IsPermutation-sym}
 use Rattle.std.proofs.lemmas.List.Elements.{All-set, All-cons, All-tail, recursion_from_All, All-from_recursion}
 use Rattle.std.specs.List.{AllByRecursion}
 use Rattle.std.proofs.Math.ListN.{get_or-eq_default}
-use Rattle.std.proofs.lemmas.Bool.{cases_lt}
 use Rattle.std.specs.List.Sorted.{IsPermutation}
 use Rattle.awari_block.specs.declared.cells.Cell.{Cell}
 use Rattle.awari_block.specs.Cells.{is_settled, Fits, IsEither, IsTimely, Keeps}
@@ -34,6 +33,19 @@ pub cell_in-other : (start : ℕ) (cells : List Cell) (rank other : ℕ) (c : Ce
     → cell_in start (set cells (rank - start) c) other ≡ cell_in start cells other
 cell_in-other start cells rank other c low low' apart = let ne : other - start ≢ rank - start = omega arith in rw get_or-set_other refl
 
+le_of : (a b : ℕ) → nat_le a b ≡ true → a ≤ b
+le_of a b e = grind (arith, nat_tests)
+
+-- of a rank that is not below the first
+settled_from : (start rank : ℕ) (b : Bool) → start ≤ rank → (nat_le start rank && b) ≡ b
+settled_from start rank b low = and_true (nat_le start rank) b (le_true start rank low)
+  where
+    le_true : (a b : ℕ) → a ≤ b → nat_le a b ≡ true
+    le_true a b h = grind (arith, nat_tests)
+
+    and_true : (a b : Bool) → a ≡ true → (a && b) ≡ b
+    and_true a b e = grind arith
+
 -- what is settled elsewhere stays
 pub is_settled_in-other : (start : ℕ) (cells : List Cell) (rank other : ℕ) (c : Cell) → start ≤ rank → other ≢ rank
     → is_settled_in start (set cells (rank - start) c) other ≡ is_settled_in start cells other
@@ -41,32 +53,15 @@ is_settled_in-other start cells rank other c low apart = by (nat_le start other)
   where
     by : (b : Bool) → nat_le start other ≡ b
         → (nat_le start other && is_settled (cell_in start (set cells (rank - start) c) other).mark) ≡ (nat_le start other && is_settled (cell_in start cells other).mark)
-    by true e = ap (λ (d : Cell). nat_le start other && is_settled d.mark) (cell_in-other start cells rank other c low (le start other e) apart)
-      where
-        le : (a b : ℕ) → nat_le a b ≡ true → a ≤ b
-        le a b e = grind (arith, nat_tests)
+    by true e = ap (λ (d : Cell). nat_le start other && is_settled d.mark) (cell_in-other start cells rank other c low (le_of start other e) apart)
     by false e = rw e refl
 
 pub is_settled_in-same : (start : ℕ) (cells : List Cell) (rank : ℕ) (c : Cell) → start ≤ rank → rank - start < length cells
     → is_settled_in start (set cells (rank - start) c) rank ≡ is_settled c.mark
-is_settled_in-same start cells rank c low high =
-    let here = cell_in-same start cells rank c high in
-    ap (λ (d : Cell). nat_le start rank && is_settled d.mark) here ∙ and_true (nat_le start rank) (is_settled c.mark) (le_true start rank low)
-  where
-    le_true : (a b : ℕ) → a ≤ b → nat_le a b ≡ true
-    le_true a b h = grind (arith, nat_tests)
-
-    and_true : (a b : Bool) → a ≡ true → (a && b) ≡ b
-    and_true a b e = grind arith
+is_settled_in-same start cells rank c low high = settled_from start rank _ low ∙ ap (λ (d : Cell). is_settled d.mark) (cell_in-same start cells rank c high)
 
 is_settled_in-here : (start : ℕ) (cells : List Cell) (rank : ℕ) → start ≤ rank → is_settled_in start cells rank ≡ is_settled (cell_in start cells rank).mark
-is_settled_in-here start cells rank low = and_true (nat_le start rank) (is_settled (cell_in start cells rank).mark) (le_true start rank low)
-  where
-    le_true : (a b : ℕ) → a ≤ b → nat_le a b ≡ true
-    le_true a b h = grind (arith, nat_tests)
-
-    and_true : (a b : Bool) → a ≡ true → (a && b) ≡ b
-    and_true a b e = grind arith
+is_settled_in-here start cells rank low = settled_from start rank _ low
 
 -- the number of times that a rank is due, with one more
 pub times_due-cons : (f : Due) (fresh : List Due) (r : ℕ) → times_due (f ∷ fresh) r ≡ (if due_rank f == r then 1 else 0) + times_due fresh r
@@ -77,6 +72,9 @@ times_due-permuted fresh after r h = sum_by-IsPermutation (λ (g : Due). cond (d
 
 eqb_self : (x : ℕ) → (x == x) ≡ true
 eqb_self x = grind (arith, nat_tests)
+
+eqb_apart : (x y : ℕ) → x ≢ y → (x == y) ≡ false
+eqb_apart x y apart = grind (arith, nat_tests)
 
 -- a fresh board is settled
 pub due_settled : (P : ℕ → Bool) (fresh : List Due) → ((r : ℕ) → times_due fresh r ≤ (if P r then 1 else 0)) → AllByRecursion (λ f. P (due_rank f) ≡ true) fresh
@@ -97,6 +95,20 @@ pub all_both : {X : Type 0} (P Q R : X → Type 0) (xs : List X) → ((x : X) �
 all_both P Q R [] f a b = tt
 all_both P Q R (x ∷ xs) f a b = (f x a.0 b.0, all_both P Q R xs f a.1 b.1)
 
+-- what is settled is in the block
+pub settled_inside : (start : ℕ) (cells : List Cell) (r : ℕ) → is_settled_in start cells r ≡ true
+    → (start ≤ r) × (r - start < length cells) × (is_settled (cell_in start cells r).mark ≡ true)
+settled_inside start cells r e = let (low, settled) = parts start r (is_settled (cell_in start cells r).mark) e in (low, below (r - start) settled, settled)
+  where
+    parts : (a b : ℕ) (d : Bool) → (nat_le a b && d) ≡ true → (a ≤ b) × (d ≡ true)
+    parts a b d e = grind (arith, nat_tests)
+
+    below : (k : ℕ) → is_settled (get_or cells k no_cell).mark ≡ true → k < length cells
+    below k e = elim (cases_lt k (length cells)) [
+      | inl h ↦ h
+      | inr h ↦ absurd (false≢true (subst (λ (d : Cell). is_settled d.mark ≡ true) (get_or-eq_default cells no_cell h) e))
+    ]
+
 -- the cell of a fresh board may change while it is kept
 kept_due : (place : Place) (f : Due) (a b : Cell) → b.score ≡ a.score → b.dist ≡ a.dist → IsDueAs place f a → IsDueAs place f b
 kept_due place f a b score dist due = record {
@@ -113,46 +125,33 @@ module _ (place : Place) (cells : List Cell) (fresh : List Due) (rank : ℕ) (c 
       All-from_recursion _ fresh (all_both (λ (f : Due). is_settled_in place.start cells (due_rank f) ≡ true) (λ (f : Due). IsDueAs place f (cell_in place.start cells (due_rank f))) _ fresh one
       (due_settled (is_settled_in place.start cells) fresh sound.settled) (recursion_from_All _ fresh sound.due))
     where
-      parts : (a b : ℕ) (d : Bool) → (nat_le a b && d) ≡ true → (a ≤ b) × (d ≡ true)
-      parts a b d e = grind (arith, nat_tests)
-
-      differ : (x y : ℕ) → (x == y) ≡ false → x ≢ y
-      differ x y e = grind (arith, nat_tests)
-
       one : (f : Due) → is_settled_in place.start cells (due_rank f) ≡ true → IsDueAs place f (cell_in place.start cells (due_rank f))
           → IsDueAs place f (cell_in place.start (set cells (rank - place.start) c) (due_rank f))
-      one f settled due = by (due_rank f == rank) refl
-        where
-          by : (b : Bool) → (due_rank f == rank) ≡ b → IsDueAs place f (cell_in place.start (set cells (rank - place.start) c) (due_rank f))
-          by true e =
-              let same : due_rank f ≡ rank = eqb-true (due_rank f) rank e in
-              let was : is_settled (cell_in place.start cells rank).mark ≡ true = subst (λ r. is_settled (cell_in place.start cells r).mark ≡ true) same (parts place.start (due_rank f) _ settled).1 in
-              let kept = keeps was in
-              subst (λ r. IsDueAs place f (cell_in place.start (set cells (rank - place.start) c) r)) (sym same)
-              (subst (IsDueAs place f) (sym (cell_in-same place.start cells rank c high))
-              (kept_due place f (cell_in place.start cells rank) c kept.1 kept.2 (subst (λ r. IsDueAs place f (cell_in place.start cells r)) same due)))
-          by false e =
-              subst (IsDueAs place f) (sym (cell_in-other place.start cells rank (due_rank f) c low (parts place.start (due_rank f) _ settled).0 (differ (due_rank f) rank e))) due
+      one f settled due =
+          let inside = settled_inside place.start cells (due_rank f) settled in
+          elim (cases_eq (due_rank f) rank) [
+            | inl same ↦
+                let was : is_settled (cell_in place.start cells rank).mark ≡ true = subst (λ r. is_settled (cell_in place.start cells r).mark ≡ true) same inside.2 in
+                let kept = keeps was in
+                subst (λ r. IsDueAs place f (cell_in place.start (set cells (rank - place.start) c) r)) (sym same)
+                (subst (IsDueAs place f) (sym (cell_in-same place.start cells rank c high))
+                (kept_due place f (cell_in place.start cells rank) c kept.1 kept.2 (subst (λ r. IsDueAs place f (cell_in place.start cells r)) same due)))
+            | inr other ↦ subst (IsDueAs place f) (sym (cell_in-other place.start cells rank (due_rank f) c low inside.0 other)) due
+          ]
 
   -- a cell that is not newly settled
   pub put_kept : Fits place c → Keeps (cell_in place.start cells rank) c → is_settled c.mark ≡ is_settled (cell_in place.start cells rank).mark
       → IsBlock place (set cells (rank - place.start) c) fresh
   put_kept fits keeps same = record {
     fit = All-set (Fits place) cells (rank - place.start) c fits sound.fit;
-    settled = λ r. by r (r == rank) refl;
-    due = due_still keeps;
-  }
-    where
-      differ : (x y : ℕ) → (x == y) ≡ false → x ≢ y
-      differ x y e = grind (arith, nat_tests)
-
-      by : (r : ℕ) (b : Bool) → (r == rank) ≡ b → times_due fresh r ≤ (if is_settled_in place.start (set cells (rank - place.start) c) r then 1 else 0)
-      by r true e =
-          let here : r ≡ rank = eqb-true r rank e in
+    settled = λ r. elim (cases_eq r rank) [
+      | inl here ↦
           subst (λ z. times_due fresh z ≤ (if is_settled_in place.start (set cells (rank - place.start) c) z then 1 else 0)) (sym here)
           (subst (λ z. times_due fresh rank ≤ (if z then 1 else 0)) (is_settled_in-here place.start cells rank low ∙ sym same ∙ sym (is_settled_in-same place.start cells rank c low high)) (sound.settled rank))
-      by r false e =
-          subst (λ z. times_due fresh r ≤ (if z then 1 else 0)) (sym (is_settled_in-other place.start cells rank r c low (differ r rank e))) (sound.settled r)
+      | inr other ↦ subst (λ z. times_due fresh r ≤ (if z then 1 else 0)) (sym (is_settled_in-other place.start cells rank r c low other)) (sound.settled r)
+    ];
+    due = due_still keeps;
+  }
 
   -- a newly settled cell, whose board joins the fresh
   pub put_joined : (f : Due) (after : List Due) → Fits place c → IsTimely place c → Keeps (cell_in place.start cells rank) c → is_settled c.mark ≡ true → is_settled (cell_in place.start cells rank).mark ≡ false
@@ -160,57 +159,47 @@ module _ (place : Place) (cells : List Cell) (fresh : List Due) (rank : ℕ) (c 
       → IsBlock place (set cells (rank - place.start) c) after
   put_joined f after fits timely keeps new old at dist moved = record {
     fit = All-set (Fits place) cells (rank - place.start) c fits sound.fit;
-    settled = λ r. by r (r == rank) refl;
+    settled = λ r. elim (cases_eq r rank) [
+      | inl here ↦
+          let none = subst (λ z. times_due fresh rank ≤ (if z then 1 else 0)) (is_settled_in-here place.start cells rank low ∙ old) (sound.settled rank) in
+          let count = times_due-permuted (f ∷ fresh) after rank moved ∙ times_due-cons f fresh rank in
+          let one : one_if (due_rank f == rank) ≡ 1 = subst (λ z. one_if (z == rank) ≡ 1) (sym at) (ap one_if (eqb_self rank)) in
+          subst (λ z. times_due after z ≤ (if is_settled_in place.start (set cells (rank - place.start) c) z then 1 else 0)) (sym here)
+          (subst (λ z. times_due after rank ≤ (if z then 1 else 0)) (sym (is_settled_in-same place.start cells rank c low high ∙ new)) (omega (arith, none, count, one)))
+      | inr other ↦
+          let count = times_due-permuted (f ∷ fresh) after r moved ∙ times_due-cons f fresh r in
+          let none : one_if (due_rank f == r) ≡ 0 = subst (λ z. one_if (z == r) ≡ 0) (sym at) (ap one_if (eqb_apart rank r (λ e. other (sym e)))) in
+          subst (λ z. times_due after r ≤ (if z then 1 else 0)) (sym (is_settled_in-other place.start cells rank r c low other)) (omega (arith, count, none, sound.settled r))
+    ];
     due = All-permutation (λ (g : Due). IsDueAs place g (cell_in place.start (set cells (rank - place.start) c) (due_rank g))) (f ∷ fresh) after moved
         (All-cons (λ (g : Due). IsDueAs place g (cell_in place.start (set cells (rank - place.start) c) (due_rank g))) f fresh
         (subst (λ r. IsDueAs place f (cell_in place.start (set cells (rank - place.start) c) r)) (sym at)
         (subst (IsDueAs place f) (sym (cell_in-same place.start cells rank c high)) (record { near = sym dist; timely = timely.1; valued = timely.0 })))
         (due_still keeps));
   }
-    where
-      differ : (x y : ℕ) → (x == y) ≡ false → x ≢ y
-      differ x y e = grind (arith, nat_tests)
-
-      at_rank : (a b : ℕ) → (a == b) ≡ false → (b == a) ≡ false
-      at_rank a b e = grind (arith, nat_tests)
-
-      by : (r : ℕ) (b : Bool) → (r == rank) ≡ b → times_due after r ≤ (if is_settled_in place.start (set cells (rank - place.start) c) r then 1 else 0)
-      by r true e =
-          let here : r ≡ rank = eqb-true r rank e in
-          let none = subst (λ z. times_due fresh rank ≤ (if z then 1 else 0)) (is_settled_in-here place.start cells rank low ∙ old) (sound.settled rank) in
-          let count = times_due-permuted (f ∷ fresh) after rank moved ∙ times_due-cons f fresh rank in
-          let one : one_if (due_rank f == rank) ≡ 1 = subst (λ z. one_if (z == rank) ≡ 1) (sym at) (ap one_if (eqb_self rank)) in
-          subst (λ z. times_due after z ≤ (if is_settled_in place.start (set cells (rank - place.start) c) z then 1 else 0)) (sym here)
-          (subst (λ z. times_due after rank ≤ (if z then 1 else 0)) (sym (is_settled_in-same place.start cells rank c low high ∙ new)) (omega (arith, none, count, one)))
-      by r false e =
-          let count = times_due-permuted (f ∷ fresh) after r moved ∙ times_due-cons f fresh r in
-          let none : one_if (due_rank f == r) ≡ 0 = subst (λ z. one_if (z == r) ≡ 0) (sym at) (ap one_if (at_rank r rank e)) in
-          subst (λ z. times_due after r ≤ (if z then 1 else 0)) (sym (is_settled_in-other place.start cells rank r c low (differ r rank e))) (omega (arith, count, none, sound.settled r))
 
   -- the fresh boards gain the newly settled board
   pub put_joins : (after : List Due) → Keeps (cell_in place.start cells rank) c → Joins (cell_in place.start cells rank) c rank fresh after
       → JoinNewlySettled place.start cells fresh (set cells (rank - place.start) c) after
   put_joins after keeps joins r = by (is_settled c.mark) (is_settled (cell_in place.start cells rank).mark) refl refl joins
     where
-      differ : (x y : ℕ) → (x == y) ≡ false → x ≢ y
-      differ x y e = grind (arith, nat_tests)
-
-      flip : (a b : ℕ) → (a == b) ≡ false → (b == a) ≡ false
-      flip a b e = grind (arith, nat_tests)
-
       here : is_settled_in place.start (set cells (rank - place.start) c) rank ≡ is_settled c.mark
       here = is_settled_in-same place.start cells rank c low high
 
-      there : (r : ℕ) → (r == rank) ≡ false → is_settled_in place.start (set cells (rank - place.start) c) r ≡ is_settled_in place.start cells r
-      there r e = is_settled_in-other place.start cells rank r c low (differ r rank e)
+      there : r ≢ rank → is_settled_in place.start (set cells (rank - place.start) c) r ≡ is_settled_in place.start cells r
+      there other = is_settled_in-other place.start cells rank r c low other
 
       same_marks : (after ≡ fresh) → is_settled c.mark ≡ is_settled (cell_in place.start cells rank).mark
           → times_due after r + one_if (is_settled_in place.start cells r) ≡ times_due fresh r + one_if (is_settled_in place.start (set cells (rank - place.start) c) r)
-      same_marks e marks = let count = ap (λ (l : List Due). times_due l r) e in let settled = ap one_if (alike (r == rank) refl) in omega (arith, count, settled)
+      same_marks e marks = let count = ap (λ (l : List Due). times_due l r) e in omega (arith, count, settled)
         where
-          alike : (b : Bool) → (r == rank) ≡ b → is_settled_in place.start cells r ≡ is_settled_in place.start (set cells (rank - place.start) c) r
-          alike true f = subst (λ z. is_settled_in place.start cells z ≡ is_settled_in place.start (set cells (rank - place.start) c) z) (sym (eqb-true r rank f)) (is_settled_in-here place.start cells rank low ∙ sym marks ∙ sym here)
-          alike false f = sym (there r f)
+          settled : one_if (is_settled_in place.start cells r) ≡ one_if (is_settled_in place.start (set cells (rank - place.start) c) r)
+          settled = elim (cases_eq r rank) [
+            | inl same ↦
+                subst (λ z. one_if (is_settled_in place.start cells z) ≡ one_if (is_settled_in place.start (set cells (rank - place.start) c) z)) (sym same)
+                (ap one_if (is_settled_in-here place.start cells rank low ∙ sym marks ∙ sym here))
+            | inr other ↦ ap one_if (sym (there other))
+          ]
 
       by : (a b : Bool) → is_settled c.mark ≡ a → is_settled (cell_in place.start cells rank).mark ≡ b → JoinsIf (is_settled c.mark && not (is_settled (cell_in place.start cells rank).mark)) c rank fresh after
           → times_due after r + one_if (is_settled_in place.start cells r) ≡ times_due fresh r + one_if (is_settled_in place.start (set cells (rank - place.start) c) r)
@@ -222,21 +211,21 @@ module _ (place : Place) (cells : List Cell) (fresh : List Due) (rank : ℕ) (c 
       by false false ea eb j = same_marks (subst₂ (λ x y. JoinsIf (x && not y) c rank fresh after) ea eb j) (ea ∙ sym eb)
       by true false ea eb j =
           let joined = subst₂ (λ x y. JoinsIf (x && not y) c rank fresh after) ea eb j in
-          let count = times_due-permuted (joined.0 ∷ fresh) after r joined.3 ∙ times_due-cons joined.0 fresh r in
-          at joined.0 joined.1 count (r == rank) refl
+          at joined.0 joined.1 (times_due-permuted (joined.0 ∷ fresh) after r joined.3 ∙ times_due-cons joined.0 fresh r)
         where
-          at : (f : Due) → due_rank f ≡ rank → times_due after r ≡ one_if (due_rank f == r) + times_due fresh r → (b : Bool) → (r == rank) ≡ b
+          at : (f : Due) → due_rank f ≡ rank → times_due after r ≡ one_if (due_rank f == r) + times_due fresh r
               → times_due after r + one_if (is_settled_in place.start cells r) ≡ times_due fresh r + one_if (is_settled_in place.start (set cells (rank - place.start) c) r)
-          at f e count true g =
-              let same : r ≡ rank = eqb-true r rank g in
-              let one : one_if (due_rank f == r) ≡ 1 = subst₂ (λ x y. one_if (x == y) ≡ 1) (sym e) (sym same) (ap one_if (eqb_self rank)) in
-              let was : one_if (is_settled_in place.start cells r) ≡ 0 = subst (λ z. one_if (is_settled_in place.start cells z) ≡ 0) (sym same) (ap one_if (is_settled_in-here place.start cells rank low ∙ eb)) in
-              let is : one_if (is_settled_in place.start (set cells (rank - place.start) c) r) ≡ 1 = subst (λ z. one_if (is_settled_in place.start (set cells (rank - place.start) c) z) ≡ 1) (sym same) (ap one_if (here ∙ ea)) in
-              omega (arith, one, was, is, count)
-          at f e count false g =
-              let none : one_if (due_rank f == r) ≡ 0 = subst (λ x. one_if (x == r) ≡ 0) (sym e) (ap one_if (flip r rank g)) in
-              let same = ap one_if (there r g) in
-              omega (arith, none, same, count)
+          at f e count = elim (cases_eq r rank) [
+            | inl same ↦
+                let one : one_if (due_rank f == r) ≡ 1 = subst₂ (λ x y. one_if (x == y) ≡ 1) (sym e) (sym same) (ap one_if (eqb_self rank)) in
+                let was : one_if (is_settled_in place.start cells r) ≡ 0 = subst (λ z. one_if (is_settled_in place.start cells z) ≡ 0) (sym same) (ap one_if (is_settled_in-here place.start cells rank low ∙ eb)) in
+                let is : one_if (is_settled_in place.start (set cells (rank - place.start) c) r) ≡ 1 = subst (λ z. one_if (is_settled_in place.start (set cells (rank - place.start) c) z) ≡ 1) (sym same) (ap one_if (here ∙ ea)) in
+                omega (arith, one, was, is, count)
+            | inr other ↦
+                let none : one_if (due_rank f == r) ≡ 0 = subst (λ x. one_if (x == r) ≡ 0) (sym e) (ap one_if (eqb_apart rank r (λ same. other (sym same)))) in
+                let same = ap one_if (there other) in
+                omega (arith, none, same, count)
+          ]
 
 -- each board that is newly settled is one more fresh board and one less that is not settled
 pub put_unspread : (start : ℕ) (cells : List Cell) (fresh after : List Due) (rank : ℕ) (c : Cell) → rank - start < length cells
@@ -246,20 +235,6 @@ put_unspread start cells fresh after rank c high step =
     let sums = sum_by-set (λ (d : Cell). cond (not (is_settled d.mark)) 1 0) cells (rank - start) c no_cell high in omega (arith, sums, step)
 
 -- ---- the first of the fresh boards
-
--- what is settled is in the block
-pub settled_inside : (start : ℕ) (cells : List Cell) (r : ℕ) → is_settled_in start cells r ≡ true
-    → (start ≤ r) × (r - start < length cells) × (is_settled (cell_in start cells r).mark ≡ true)
-settled_inside start cells r e = let (low, settled) = parts start r (is_settled (cell_in start cells r).mark) e in (low, below (r - start) settled, settled)
-  where
-    parts : (a b : ℕ) (d : Bool) → (nat_le a b && d) ≡ true → (a ≤ b) × (d ≡ true)
-    parts a b d e = grind (arith, nat_tests)
-
-    below : (k : ℕ) → is_settled (get_or cells k no_cell).mark ≡ true → k < length cells
-    below k e = by_lt k (length cells) (λ h. h) (λ h. absurd (false≢true (subst (λ (d : Cell). is_settled d.mark ≡ true) (get_or-eq_default cells no_cell h) e)))
-      where
-        by_lt : (a b : ℕ) → (a < b → a < b) → (b ≤ a → a < b) → a < b
-        by_lt a b f g = elim (cases_lt a b) [ inl h ↦ h | inr h ↦ g h ]
 
 -- it is a settled board of the block, with its distance
 pub first_due : (place : Place) (cells : List Cell) (fresh rest : List Due) (f : Due) → IsBlock place cells fresh → IsPermutation (f ∷ rest) fresh
@@ -307,14 +282,9 @@ keeps_same a b e settled = (ap (λ (d : Cell). d.mark) e, ap (λ (d : Cell). d.s
 -- a cell that is put keeps what is settled
 pub put_stays : (start : ℕ) (cells : List Cell) (rank : ℕ) (c : Cell) → start ≤ rank → rank - start < length cells → Keeps (cell_in start cells rank) c
     → (r : ℕ) → start ≤ r → Keeps (cell_in start cells r) (cell_in start (set cells (rank - start) c) r)
-put_stays start cells rank c low high keeps r low' = by (r == rank) refl
-  where
-    differ : (x y : ℕ) → (x == y) ≡ false → x ≢ y
-    differ x y e = grind (arith, nat_tests)
-
-    by : (b : Bool) → (r == rank) ≡ b → Keeps (cell_in start cells r) (cell_in start (set cells (rank - start) c) r)
-    by true e =
-        let same : r ≡ rank = eqb-true r rank e in
-        subst (λ z. Keeps (cell_in start cells z) (cell_in start (set cells (rank - start) c) z)) (sym same)
-        (subst (λ (d : Cell). Keeps (cell_in start cells rank) d) (sym (cell_in-same start cells rank c high)) keeps)
-    by false e = keeps_same (cell_in start cells r) (cell_in start (set cells (rank - start) c) r) (cell_in-other start cells rank r c low low' (differ r rank e))
+put_stays start cells rank c low high keeps r low' = elim (cases_eq r rank) [
+  | inl same ↦
+      subst (λ z. Keeps (cell_in start cells z) (cell_in start (set cells (rank - start) c) z)) (sym same)
+      (subst (λ (d : Cell). Keeps (cell_in start cells rank) d) (sym (cell_in-same start cells rank c high)) keeps)
+  | inr other ↦ keeps_same (cell_in start cells r) (cell_in start (set cells (rank - start) c) r) (cell_in-other start cells rank r c low low' other)
+]

@@ -1,7 +1,6 @@
 -- What the opening of a gain makes of the cells, one after another.
-use Rattle.std.proofs.Common.{◌≡◌, ◌≢◌, ℕ, ◌+◌, ◌<◌, ◌≤◌, ◌==◌, ◌⊎◌, inl, inr, Bool, true, false, List, length, get_or, set, refl, sym, ap, subst, ◌∙◌, arith, eqb-true, get_or-set_same, get_or-set_other}
-use Rattle.std.proofs.lemmas.Bool.{cases_lt}
-use Rattle.std.proofs.lemmas.Bool.Decides.{nat_tests}
+use Rattle.std.proofs.Common.{◌≡◌, ◌≢◌, ℕ, ◌+◌, ◌<◌, ◌≤◌, ◌⊎◌, inl, inr, List, length, get_or, set, refl, sym, ap, subst, ◌∙◌, arith, get_or-set_same, get_or-set_other}
+use Rattle.std.proofs.lemmas.Bool.{cases_eq, cases_lt}
 use Rattle.awari_block.specs.declared.cells.Cell.{Cell}
 use Rattle.awari_block.specs.Cells.{view_of}
 use Rattle.awari_block.specs.Steps.{cell_after_opening}
@@ -11,16 +10,10 @@ use Rattle.awari_block.specs.Part.{Part, SameLevel}
 
 put_cases : (xs ys : List Cell) (i : ℕ) (next : Cell) → ys ≡ set xs i next → i < length xs → (k : ℕ)
     → ((k ≡ i) × (get_or ys k no_cell ≡ next)) ⊎ ((k ≢ i) × (get_or ys k no_cell ≡ get_or xs k no_cell))
-put_cases xs ys i next put high k = by (k == i) refl
-  where
-    differ : (x y : ℕ) → (x == y) ≡ false → x ≢ y
-    differ x y e = grind (arith, nat_tests)
-
-    by : (b : Bool) → (k == i) ≡ b → ((k ≡ i) × (get_or ys k no_cell ≡ next)) ⊎ ((k ≢ i) × (get_or ys k no_cell ≡ get_or xs k no_cell))
-    by true e =
-        let same : k ≡ i = eqb-true k i e in
-        inl (same, ap (λ (l : List Cell). get_or l k no_cell) put ∙ subst (λ z. get_or (set xs i next) z no_cell ≡ next) (sym same) (rw get_or-set_same refl))
-    by false e = let ne : k ≢ i = differ k i e in inr (ne, ap (λ (l : List Cell). get_or l k no_cell) put ∙ rw get_or-set_other refl)
+put_cases xs ys i next put high k = elim (cases_eq k i) [
+  | inl same ↦ inl (same, ap (λ (l : List Cell). get_or l k no_cell) put ∙ subst (λ z. get_or (set xs i next) z no_cell ≡ next) (sym same) (rw get_or-set_same refl))
+  | inr other ↦ inr (other, ap (λ (l : List Cell). get_or l k no_cell) put ∙ rw get_or-set_other refl)
+]
 
 module _ (old new : Part) where
   -- cells that the opening leaves as they are
