@@ -1,8 +1,7 @@
 -- Owners before and after the phase of a gain.
-use Rattle.std.proofs.Common.{◌≡◌, ℕ, ◌+◌, ◌<◌, ◌≤◌, List, ℤ, length, get_or, ap, sym, subst, ◌∙◌, arith}
+use Rattle.std.proofs.Common.{◌≡◌, ℕ, ◌+◌, ◌<◌, List, ℤ, length, get_or, ap, sym, subst, ◌∙◌, arith}
 use Rattle.awari_phase.specs.declared.owners.Owner.{Owner}
-use Rattle.awari_phase.specs.Owners.{AllGrown, AreFinished, AreIdle, AreTogether}
-use Rattle.awari_phase.proofs.Worked.{together_finished}
+use Rattle.awari_phase.specs.Owners.{AllGrown, AreFinished, AreIdle}
 use Rattle.awari_build.specs.Owned.{AreAt}
 
 -- at rest, with this gain open in each part
@@ -22,20 +21,6 @@ next_open value n gain items now new is long finished less at = (
       let was = subst (λ l. (get_or l i d).part.gain ≡ gain + 1) (sym is) (at.gain i d (omega (arith, low, long, same))) in
       omega (arith, one, was),
 )
-
--- all that waits is of it
-pub opened_together : (value : List ℕ → ℤ) (n gain : ℕ) (items now new : List Owner) → now ≡ items → length new ≡ length now
-    → ((v : List ℕ → ℤ) (m : ℕ) → AreFinished v m now → AreFinished v m new)
-    → ((i : ℕ) (d : Owner) → i < length now → (get_or new i d).part.gain + 1 ≡ (get_or now i d).part.gain)
-    → AreAt value n gain items → gain ≤ n + 1 → AreTogether value n new
-opened_together value n gain items now new is long finished less at low =
-    together_finished value n new
-    (λ i d h.
-    let same = ap length is in
-    let one = less i d (omega (arith, h, long)) in
-    let was = subst (λ l. (get_or l i d).part.gain ≡ gain) (sym is) (at.gain i d (omega (arith, h, long, same))) in
-    omega (arith, one, was, low))
-    (finished value n (subst (AreFinished value n) (sym is) at.finished))
 
 -- and closed
 pub phase_ends : (value : List ℕ → ℤ) (n gain : ℕ) (opened passed all : List Owner) → passed ≡ opened → AreOpened value n gain opened → AllGrown passed all → AreIdle all

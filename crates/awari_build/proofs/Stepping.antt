@@ -1,13 +1,12 @@
 -- A part stays sound.
 use Rattle.std.proofs.Common.{ℕ, ℤ, List}
-use Rattle.awari_block.specs.Part.{Part, IsTallied}
-use Rattle.awari_owner.specs.Spread.{HearsOwn, Source, Spreads}
-use Rattle.awari_block.specs.declared.notes.Note.{Note}
+use Rattle.awari_block.specs.Part.{Part}
+use Rattle.awari_owner.specs.Sound.{KeepsOwn, KeepsTally}
+use Rattle.awari_owner.specs.Spread.{Source, Spreads}
 use Rattle.awari_build.specs.Sound.{IsSound}
 
 -- where a gain or a distance is opened the notes are the same
-pub sound_opened : (value : List ℕ → ℤ) (old new : Part) → ((v : List ℕ → ℤ) (notes : List Note) → IsTallied v old notes → IsTallied v new notes)
-    → ((notes : List Note) → HearsOwn old notes → HearsOwn new notes) → IsSound value old → IsSound value new
+pub sound_opened : (value : List ℕ → ℤ) (old new : Part) → KeepsTally old new → KeepsOwn old new → IsSound value old → IsSound value new
 sound_opened value old new opened hears (notes, tallied, heard) = (notes, opened value notes tallied, hears notes heard)
 
 -- where a board is spread its notes join them

@@ -175,7 +175,7 @@ fn closed_gain<R: Threads + Wait + Sync, G: Gate + Sync, P: Progress>(
     progress: &mut P,
 ) -> Result<Vec<Owner>, BuildFault>
     requires sweeps { (1 ≤ sweeps) × (sweeps ≤ 1000) }
-    requires rest { (value : List ℕ → ℤ) × (n : ℕ) × (gain : ℕ) × (2 ≤ gain) × AreAt value n gain owners.items × (gain ≤ n + 1) × (n ≤ HIGHEST_LEVEL) }
+    requires rest { (value : List ℕ → ℤ) × (n : ℕ) × (gain : ℕ) × (2 ≤ gain) × AreAt value n gain owners.items × (n ≤ HIGHEST_LEVEL) }
     ensures closed { IfOk result (λ all. (value : List ℕ → ℤ) (n gain : ℕ) → AreAt value n (gain + 1) owners.items → AreAt value n gain all.items) }
     ensures phase { IfErr result (λ fault. IsOfPhase fault ⊎ IsStopped P.stops fault) }
 {

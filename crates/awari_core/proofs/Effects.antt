@@ -1,15 +1,18 @@
 -- From what the parts and senders of a core do to what the core does.
 use Rattle.std.proofs.Common.{◌≡◌, ℕ, ◌+◌, ◌-◌, ◌^◌, ◌<◌, Bool, false, IsTrue, inl, inr, List, [], ◌∷◌, ◌++◌, All, Some, length, get_or, set, refl, sym, ap, subst, subst₂, ◌∙◌, arith, get_or-set_same}
 use Rattle.std.proofs.lemmas.List.{get_or_default, set-get_or}
-use Rattle.awari_block.specs.Blocks.{KeepSettled}
 use Rattle.awari_owner.specs.Level.{DistancesFit, no_part}
-use Rattle.awari_block.specs.Part.{Part, SameLevel, IsLeastDue, HasFarthest}
-use Rattle.awari_owner.specs.Spread.{Source, Spreads, Sends}
+use Rattle.awari_block.specs.Part.{Part, IsLeastDue, HasFarthest}
+use Rattle.awari_owner.specs.Sound.{SamePlace, SpreadsFirst, TakesNotes}
 use Rattle.awari_block.specs.declared.notes.Note.{Note}
-use Rattle.awari_core.specs.Core.{Core, Sender, Sound, DoesSpread, DoesTake, HearsBatch, Does, IsEnabled, IsFaultOf, Runs, no_sender, part_at, sender_at, line_at}
+use Rattle.awari_core.specs.Core.{Core, Sender, Sound, DoesSpread, DoesSend, DoesTake, Does, IsEnabled, IsFaultOf, MovesBatch, PopsBatch, Runs, no_sender, part_at, sender_at}
+use Rattle.awari_core.specs.declared.cores.Core.TheInside.{Inside}
 use Rattle.awari_core.specs.declared.events.Event.{Event}
 use Rattle.awari_core.specs.declared.faults.CoreFault.{CoreFault}
-use Rattle.awari_core.proofs.Steps.{taken_from}
+
+-- what a core's fields say
+abbrev pub core_of : Inside → Core
+core_of inside = record { shelf = inside.shelf; room = inside.room; gain = inside.gain; parts = inside.parts.items; senders = inside.senders.items }
 
 -- ---- what is read
 
@@ -41,28 +44,19 @@ both_same core i p q s t high high' at at' same same' =
     ap (λ (l : List Part). record core { parts = l; senders = set core.senders i t }) (ap (set core.parts i) (same ∙ sym (part_was core.parts i p high at)) ∙ set-get_or core.parts i no_part)
     ∙ ap (λ (l : List Sender). record core { senders = l }) (same_sender core.senders i s t high' at' same')
 
--- what a spread does to a part and what its owner sends by
-pub record SpreadsBy (p q : Part) (s t : Sender) : Type 0 where
-  pub lines : t.lines ≡ s.lines
-  pub numbered : (t.outboxes.owner ≡ s.outboxes.owner) × (length t.outboxes.queues ≡ length s.outboxes.queues)
-  pub same : SameLevel p q × (length q.cells ≡ length p.cells)
-  pub stays : KeepSettled p.start p.cells q.cells
-  pub spreads : (board : List ℕ) × (sources : List Source) × (notes : List Note) × Spreads p q board sources × Sends p board sources notes s.outboxes t.outboxes
-
-pub spread_does : (old : Core) (i : ℕ) (p q : Part) (s t : Sender) → i < length old.parts → i < length old.senders → p ≡ get_or old.parts i p → s ≡ get_or old.senders i s → SpreadsBy p q s t
-    → DoesSpread old (with_both old i q t) i
-spread_does old i p q s t high high' at at' does =
-    let part = get_or-set_same old.parts i q no_part high in
-    let sender = get_or-set_same old.senders i t no_sender high' in
-    let before = subst₂ (λ (a : Part) (b : Sender). SpreadsBy a q b t) (sym (part_was old.parts i p high at)) (sym (sender_was old.senders i s high' at')) does in
-    let here = subst₂ (λ (a : Part) (b : Sender). SpreadsBy (part_at old i) a (sender_at old i) b) (sym part) (sym sender) before in
+pub spread_does : (old : Core) (i : ℕ) (p q : Part) (s t : Sender) → i < length old.parts → i < length old.senders → p ≡ get_or old.parts i p → s ≡ get_or old.senders i s
+    → t.lines ≡ s.lines → SamePlace p q → SpreadsFirst p q s.outboxes t.outboxes → DoesSpread old (with_both old i q t) i
+spread_does old i p q s t high high' at at' lines place spreads =
+    let part = sym (get_or-set_same old.parts i q no_part high) in
+    let sender = sym (get_or-set_same old.senders i t no_sender high') in
+    let was = sym (part_was old.parts i p high at) in
+    let had = sym (sender_was old.senders i s high' at') in
     record {
-      changes = record { shelf = refl; room = refl; gain = refl; parts = ap (set old.parts i) (sym part); senders = ap (set old.senders i) (sym sender) };
-      lines = here.lines;
-      numbered = here.numbered;
-      same = here.same;
-      stays = here.stays;
-      spreads = here.spreads;
+      changes = record { shelf = refl; room = refl; gain = refl; parts = ap (set old.parts i) part; senders = ap (set old.senders i) sender };
+      lines = subst₂ (λ (a b : Sender). b.lines ≡ a.lines) had sender lines;
+      place = subst₂ SamePlace was part place;
+      spreads = subst₂ (λ (a b : Part). SpreadsFirst a b (sender_at old i).outboxes (sender_at (with_both old i q t) i).outboxes) was part
+          (subst₂ (λ (a b : Sender). SpreadsFirst p q a.outboxes b.outboxes) had sender spreads);
     }
 
 pub due_here : (parts : List Part) (i : ℕ) (p : Part) → i < length parts → p ≡ get_or parts i p → IsLeastDue p (Some p.wave) → IsLeastDue (get_or parts i no_part) (Some (get_or parts i no_part).wave)
@@ -75,19 +69,24 @@ never_far parts i p high at fit far =
     let low = subst DistancesFit (sym at) (fit i p high) rank v (2 ^ 32 - 1) inside settled in
     omega (arith, low)
 
--- ---- a take
+-- ---- a send, and a take
 
-pub take_does : (old : Core) (i j : ℕ) (batch : List Note) (rest : List (List Note)) (p q : Part) → j < length old.parts → p ≡ get_or old.parts j p
-    → (line_at old i j).batches ≡ batch ∷ rest → HearsBatch i j batch p q
-    → DoesTake old (record old { parts = set old.parts j q; senders = set old.senders i (taken_from (sender_at old i) j rest) }) i j
-take_does old i j batch rest p q high at first hears =
-    let part = get_or-set_same old.parts j q no_part high in
+pub send_does : (old : Core) (i j : ℕ) (t : Sender) → i < length old.senders → MovesBatch (sender_at old i) t j → DoesSend old (record old { senders = set old.senders i t }) i j
+send_does old i j t high moves =
+    let sender = sym (get_or-set_same old.senders i t no_sender high) in
+    (record { rest = refl; senders = ap (set old.senders i) sender }, subst (λ (u : Sender). MovesBatch (sender_at old i) u j) sender moves)
+
+pub take_does : (old : Core) (i j : ℕ) (batch : List Note) (q : Part) (t : Sender) → i < length old.senders → j < length old.parts → PopsBatch batch (sender_at old i) t j → TakesNotes batch (part_at old j) q
+    → DoesTake old (record old { parts = set old.parts j q; senders = set old.senders i t }) i j
+take_does old i j batch q t high high' pops hears =
+    let part = sym (get_or-set_same old.parts j q no_part high') in
+    let sender = sym (get_or-set_same old.senders i t no_sender high) in
     record {
       batch = batch;
-      rest = rest;
-      first = first;
-      moves = ap (λ (a : Part). record old { parts = set old.parts j a; senders = set old.senders i (taken_from (sender_at old i) j rest) }) (sym part);
-      heard = subst₂ (HearsBatch i j batch) (sym (part_was old.parts j p high at)) (sym part) hears;
+      rest = ap (λ (a : Part). record old { parts = set old.parts j a; senders = set old.senders i t }) part
+          ∙ ap (λ (u : Sender). record old { parts = set old.parts j (get_or (set old.parts j q) j no_part); senders = set old.senders i u }) sender;
+      pops = subst (λ (u : Sender). PopsBatch batch (sender_at old i) u j) sender pops;
+      hears = subst (TakesNotes batch (part_at old j)) part hears;
     }
 
 -- ---- one event more

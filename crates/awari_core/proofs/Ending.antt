@@ -9,4 +9,4 @@ use Rattle.awari_core.specs.Core.{Core, IsQuiet, Sound}
 pub closed_parts : (core : Core) → Sound core → core.gain ≡ 0 → IsQuiet core → All part.IsClosed core.parts
 closed_parts core sound none quiet k d low =
     subst part.IsClosed (get_or_default core.parts k no_part d low)
-    (sound.sound.gain k low ∙ sound.gain ∙ ap (max 1) none, quiet.0 k no_part low)
+    (sound.sound.step.gain k low ∙ sound.gain ∙ ap (max 1) none, quiet.0 k no_part low)

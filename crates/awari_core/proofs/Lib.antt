@@ -1,7 +1,5 @@
-pub mod Spreading
+pub mod Sounding
 pub mod Steps
-pub mod Batches
-pub mod Opening
 pub mod Telling
 pub mod Effects
 pub mod Rounds

@@ -1,21 +1,18 @@
 -- A core as it is made.
-use Rattle.std.proofs.Common.{◌≡◌, ℕ, ◌+◌, ◌<◌, ◌≤◌, max, List, [], ◌++◌, length, get_or, replicate, ℤ, refl, sym, ap, subst, ◌∙◌, arith}
+use Rattle.std.proofs.Common.{◌≡◌, ℕ, ◌+◌, ◌<◌, ◌≤◌, max, List, [], ◌++◌, length, All, get_or, replicate, refl, sym, ap, subst, ◌∙◌, arith}
 use Rattle.std.proofs.lemmas.List.{get_or-replicate, length-replicate}
 use Rattle.std.proofs.lemmas.List.Elements.{All-nil, All-replicate}
 use Rattle.awari_table.specs.declared.TheConstants.{HIGHEST_LEVEL}
 use Rattle.awari_table.specs.Images.{table_of}
 use Rattle.awari_table.specs.Shelves.{IsShelf}
-use Rattle.awari_owner.specs.Level.{AreSound, no_part}
-use Rattle.awari_owner.specs.Level as level
-use Rattle.awari_block.specs.Notes as notes
+use Rattle.awari_owner.specs.Level.{no_part}
 use Rattle.awari_owner.specs.Outboxes.{AreBatches, IsBatch}
-use Rattle.awari_block.specs.Part.{AreFresh, Part, IsTallied}
-use Rattle.awari_owner.specs.Scan.{IsScan}
-use Rattle.awari_owner.specs.Spread.{HearsOwn}
+use Rattle.awari_owner.specs.Sound.{IsScannedPart, IsTimely}
+use Rattle.awari_owner.proofs.Sounding.{sound_same}
 use Rattle.awari_block.specs.declared.notes.Note.{Note}
-use Rattle.awari_core.specs.Core.{Core, IsAllTaken, IsLinked, IsSilent, Line, Sender, Sound, coming, no_line, no_sender}
-use Rattle.awari_core.proofs.Opening.{sound_none}
-use Rattle.awari_core.proofs.Telling.{nothing_comes, silent_to}
+use Rattle.awari_core.specs.Core.{Core, IsAllTaken, IsLinked, IsSilent, Line, Sender, Sound, coming, no_line, no_sender, part_at}
+use Rattle.awari_core.proofs.Sounding.{scanned_sound}
+use Rattle.awari_core.proofs.Telling.{nothing_comes}
 
 abbrev pub new_sender : ℕ → ℕ → ℕ → Sender
 new_sender owners owner room = record { outboxes = record { owner = owner; queues = replicate owners [] }; lines = replicate owners (record { batches = []; room = room }) }
@@ -32,41 +29,32 @@ new_linked owners owner room s is = subst (IsLinked owners room owner) (sym is) 
   queues = length-replicate owners [];
   lines = length-replicate owners (record { batches = []; room = room });
   rooms = λ j low. ap (λ (l : Line). l.room) (get_or-replicate owners j (record { batches = []; room = room }) no_line low);
-  batches = λ j low. subst AreBatches (sym (silent_to (new_sender owners owner room) j (new_silent owners owner room (new_sender owners owner room) refl))) (All-nil IsBatch);
+  batches = λ j low. subst (λ (l : Line). AreBatches l.batches) (sym (get_or-replicate owners j (record { batches = []; room = room }) no_line low)) (All-nil IsBatch);
 })
 
 -- scanned parts with nothing on its way are sound
 pub sound_new : (core : Core) → IsShelf core.shelf → length core.shelf ≤ HIGHEST_LEVEL → 0 < length core.parts → length core.parts ≤ 16 → length core.senders ≡ length core.parts
     → ((i : ℕ) → i < length core.parts → IsLinked (length core.parts) core.room i (get_or core.senders i no_sender)) → core.gain ≡ length core.shelf + 1 → IsAllTaken core
-    → ((i : ℕ) → i < length core.parts → IsScan (length core.shelf) (length core.parts) i (get_or core.parts i no_part))
-    → ((i : ℕ) → i < length core.parts → IsTallied (table_of core.shelf).value (get_or core.parts i no_part) [])
-    → ((i : ℕ) → i < length core.parts → HearsOwn (get_or core.parts i no_part) [])
-    → ((i : ℕ) → i < length core.parts → AreFresh (get_or core.parts i no_part)) → Sound core
-sound_new core shelf low some few senders linked gain taken scanned tallied hears fresh = record {
+    → ((i : ℕ) → i < length core.parts → IsScannedPart (table_of core.shelf).value (length core.shelf) (length core.parts) i (get_or core.parts i no_part)) → Sound core
+sound_new core shelf low some few senders linked gain taken scanned = record {
   shelf = shelf;
   low = low;
   some = some;
   few = few;
   senders = senders;
   linked = linked;
-  gain = (scanned 0 some).gain ∙ top (length core.shelf) ∙ ap (max 1) (sym gain);
-  fresh = fresh;
+  gain = (scanned 0 some).scan.gain ∙ top (length core.shelf) ∙ ap (max 1) (sym gain);
   taken = λ _ _. [];
-  sound = sound_comes (table_of core.shelf).value (length core.shelf) (length core.parts) (λ i. get_or core.parts i no_part) (coming core)
-      (λ i j low. nothing_comes core taken i j (omega (arith, low, senders)))
-      (sound_none (table_of core.shelf).value (length core.shelf) (length core.parts) (λ i. get_or core.parts i no_part) some scanned tallied hears);
+  sound =
+      let sound = scanned_sound (table_of core.shelf).value (length core.shelf) (length core.parts) (part_at core) some scanned in
+      let none = λ (i : ℕ) (j : ℕ) (low : i < length core.parts). nothing_comes core taken i j (omega (arith, low, senders)) in
+      record {
+        shares = sound.shares;
+        step = sound.step;
+        sound = λ i low. sound_same (table_of core.shelf).value i (length core.parts) (part_at core i) (λ _. []) (λ _. []) (λ _. []) (coming core i) (λ _. []) (coming core i)
+            (λ j o. refl) (λ j o. none i j low) (λ j o h. subst (All (IsTimely (part_at core i))) (sym (none i j low)) h) (sound.sound i low);
+      };
 }
   where
     top : (n : ℕ) → n + 1 ≡ max 1 (n + 1)
     top n = omega arith
-
-    sound_comes : (value : List ℕ → ℤ) (n owners : ℕ) (part : ℕ → Part) (comes : ℕ → ℕ → List Note) → ((i j : ℕ) → i < owners → comes i j ≡ [])
-        → AreSound value n owners part (λ _ _. []) (λ _ _. []) → AreSound value n owners part comes (λ _ _. [])
-    sound_comes value n owners part comes none sound = record {
-      shares = sound.shares;
-      gain = sound.gain;
-      wave = sound.wave;
-      hears = sound.hears;
-      given = λ i j low low' apart. subst (λ (l : List Note). level.AreSpreadNotes (part i) (part j) ([] ++ l)) (sym (none i j low)) (sound.given i j low low' apart);
-      timely = λ i j low low' apart m has. sound.timely i j low low' apart m (subst (λ (l : List Note). notes.Has l m) (none i j low) has);
-    }

@@ -6,15 +6,13 @@ use Rattle.std.proofs.lemmas.Bool.{cases_eq, cases_lt, eq-eqb}
 use Rattle.std.proofs.lemmas.List.{get_or_default, get_or_push, get_or_append_left}
 use Rattle.std.proofs.lemmas.List.Elements.{All-nil}
 use Rattle.awari_table.specs.Images.{table_of}
-use Rattle.awari_block.specs.Blocks.{Due, KeepSettled, due_dist}
-use Rattle.awari_owner.specs.Level.{AreSound, no_part}
-use Rattle.awari_block.specs.Part.{AreFresh, Part, IsLeastDue, IsTallied, JoinsFresh}
-use Rattle.awari_owner.specs.Spread.{HearsOwn, IsSeenAs}
-use Rattle.awari_block.specs.declared.notes.Note.{Note}
-use Rattle.awari_owner.specs.Outboxes.{notes_of}
-use Rattle.awari_core.specs.Core.{Core, IsAllTaken, IsLeastOf, IsLinked, IsNearer, IsQuiet, IsWaveDone, OpensGain, Sound, coming, part_at, sender_at}
-use Rattle.awari_core.proofs.Opening.{sound_opened}
-use Rattle.awari_owner.proofs.Expecting.{seen_kept}
+use Rattle.awari_block.specs.Blocks.{Due, due_dist}
+use Rattle.awari_owner.specs.Level.{AreInStep, AreSound, no_part}
+use Rattle.awari_owner.specs.Sound.{IsOpened, OpensGain, OpensWave}
+use Rattle.awari_block.specs.Part.{Part, IsLeastDue}
+use Rattle.awari_owner.proofs.Sounding.{gain_opened, wave_opened}
+use Rattle.awari_core.specs.Core.{Core, IsAllTaken, IsLeastOf, IsLinked, IsNearer, IsQuiet, IsWaveDone, Sound, coming, part_at, sender_at}
+use Rattle.awari_core.proofs.Sounding.{opened_sound}
 use Rattle.awari_core.proofs.Telling.{nothing_comes}
 
 -- ---- one element after the other
@@ -41,75 +39,42 @@ more_push P items none x i count before here k less = elim (cases_eq k i) [
 pub all_below : {X : Type 0} (P : X → Type 0) (items : List X) (none : X) → ((k : ℕ) → k < length items → P (get_or items k none)) → All P items
 all_below P items none each k d low = subst P (get_or_default items k none d low) (each k low)
 
--- ---- a gain more
+-- ---- a gain or a distance more
 
-pub opens : (t : ℕ) (old was new : Part) → old ≡ was → new.gain ≡ t → new.wave ≡ 0 → (new.level ≡ was.level) × (new.start ≡ was.start) × (length new.cells ≡ length was.cells) → JoinsFresh was new
-    → KeepSettled was.start was.cells new.cells → ((value : List ℕ → ℤ) (notes : List Note) → IsTallied value was notes → IsTallied value new notes)
-    → ((notes : List Note) → HearsOwn was notes → HearsOwn new notes) → OpensGain t old new
-opens t old was new at gain wave same joins stays tallied own = subst (λ (p : Part). OpensGain t p new) (sym at) (record {
-  gain = gain;
-  wave = wave;
-  same = same;
-  joins = joins;
-  stays = stays;
-  tallied = tallied;
-  own = own;
-})
-
--- all parts at the next gain, with nothing on its way, are sound
-pub sound_gain : (old : Core) (t : ℕ) (parts : List Part) → Sound old → IsQuiet old → 1 ≤ t → length parts ≡ length old.parts
-    → ((i : ℕ) → i < length old.parts → OpensGain t (part_at old i) (get_or parts i no_part)) → ((i : ℕ) → i < length old.parts → AreFresh (get_or parts i no_part)) → Sound (record old { gain = t; parts = parts })
-sound_gain old t parts sound quiet some count opened fresh = record {
+-- all parts with the next one open, with nothing on its way, are sound
+pub sound_opened : (old : Core) (gain : ℕ) (parts : List Part) → Sound old → IsAllTaken old → length parts ≡ length old.parts
+    → ((i : ℕ) → i < length old.parts → IsOpened (part_at old i) (get_or parts i no_part)) → AreInStep (length old.parts) (λ i. get_or parts i no_part) → (get_or parts 0 no_part).gain ≡ max 1 gain
+    → Sound (record old { gain = gain; parts = parts })
+sound_opened old gain parts sound taken count opened step first = record {
   shelf = sound.shelf;
   low = sound.low;
   some = (let s = sound.some in omega (arith, count, s));
   few = (let f = sound.few in omega (arith, count, f));
   senders = sound.senders ∙ sym count;
   linked = subst (λ n. (i : ℕ) → i < n → IsLinked n old.room i (sender_at old i)) (sym count) sound.linked;
-  gain = (opened 0 sound.some).gain ∙ top t some;
-  fresh = λ i low. fresh i (omega (arith, low, count));
+  gain = first;
   taken = sound.taken;
-  sound = subst (λ n. AreSound (table_of old.shelf).value (length old.shelf) n (λ i. get_or parts i no_part) (coming old) (λ i j. notes_of (sound.taken i j))) (sym count)
-      (sound_opened (table_of old.shelf).value (length old.shelf) (length old.parts) (part_at old) (λ i. get_or parts i no_part) (coming old) (λ i j. notes_of (sound.taken i j))
-      (λ i low. let o = opened i low in seen_kept (part_at old i) (get_or parts i no_part) o.same.0 o.same.1 o.same.2 o.stays o.joins)
-      (λ i low. (opened i low).gain ∙ sym (opened 0 sound.some).gain)
-      (λ i low. (opened i low).wave ∙ sym (opened 0 sound.some).wave)
-      (λ i low notes. (opened i low).tallied (table_of old.shelf).value notes)
-      (λ i low. (opened i low).own)
-      (λ i j low low' apart. nothing_comes old quiet.1 i j (let s = sound.senders in omega (arith, low, s)))
-      sound.sound);
+  sound = subst (λ n. AreSound (table_of old.shelf).value (length old.shelf) n (λ i. get_or parts i no_part) (coming old) sound.taken) (sym count)
+      (opened_sound (table_of old.shelf).value (length old.shelf) (length old.parts) (part_at old) (λ i. get_or parts i no_part) (coming old) sound.taken sound.sound
+      (λ i j low low' apart. nothing_comes old taken i j (let s = sound.senders in omega (arith, low, s))) opened step);
 }
+
+pub sound_gain : (old : Core) (t : ℕ) (parts : List Part) → Sound old → IsQuiet old → 1 ≤ t → length parts ≡ length old.parts
+    → ((i : ℕ) → i < length old.parts → OpensGain t (part_at old i) (get_or parts i no_part)) → Sound (record old { gain = t; parts = parts })
+sound_gain old t parts sound quiet some count opens = sound_opened old t parts sound quiet.1 count (λ i low. gain_opened t (part_at old i) (get_or parts i no_part) (opens i low)) (record {
+  gain = λ i low. (opens i low).settles.same.gain ∙ sym (opens 0 sound.some).settles.same.gain;
+  wave = λ i low. (opens i low).settles.same.wave ∙ sym (opens 0 sound.some).settles.same.wave;
+}) ((opens 0 sound.some).settles.same.gain ∙ top t some)
   where
     top : (t : ℕ) → 1 ≤ t → t ≡ max 1 t
     top t some = omega (arith, some)
 
--- ---- a distance more
-
 pub sound_wave : (old : Core) (dist : ℕ) (parts : List Part) → Sound old → IsAllTaken old → length parts ≡ length old.parts
-    → ((i : ℕ) → i < length old.parts → get_or parts i no_part ≡ record (part_at old i) { wave = dist })
-    → ((i : ℕ) → i < length old.parts → (value : List ℕ → ℤ) (notes : List Note) → IsTallied value (part_at old i) notes → IsTallied value (get_or parts i no_part) notes)
-    → ((i : ℕ) → i < length old.parts → (notes : List Note) → HearsOwn (part_at old i) notes → HearsOwn (get_or parts i no_part) notes)
-    → ((i : ℕ) → i < length old.parts → AreFresh (get_or parts i no_part)) → Sound (record old { parts = parts })
-sound_wave old dist parts sound taken count opened tallied own fresh = record {
-  shelf = sound.shelf;
-  low = sound.low;
-  some = (let s = sound.some in omega (arith, count, s));
-  few = (let f = sound.few in omega (arith, count, f));
-  senders = sound.senders ∙ sym count;
-  linked = subst (λ n. (i : ℕ) → i < n → IsLinked n old.room i (sender_at old i)) (sym count) sound.linked;
-  gain = ap (λ (p : Part). p.gain) (opened 0 sound.some) ∙ sound.gain;
-  fresh = λ i low. fresh i (omega (arith, low, count));
-  taken = sound.taken;
-  sound = subst (λ n. AreSound (table_of old.shelf).value (length old.shelf) n (λ i. get_or parts i no_part) (coming old) (λ i j. notes_of (sound.taken i j))) (sym count)
-      (sound_opened (table_of old.shelf).value (length old.shelf) (length old.parts) (part_at old) (λ i. get_or parts i no_part) (coming old) (λ i j. notes_of (sound.taken i j))
-      (λ i low. subst (IsSeenAs (part_at old i)) (sym (opened i low)) (record { level = refl; start = refl; len = refl; stays = λ r v d _ h. h; before = λ r v d _ h. h }))
-      (λ i low. ap (λ (p : Part). p.gain) (opened i low) ∙ sound.sound.gain i low ∙ sym (ap (λ (p : Part). p.gain) (opened 0 sound.some)))
-      (λ i low. ap (λ (p : Part). p.wave) (opened i low) ∙ sym (ap (λ (p : Part). p.wave) (opened 0 sound.some)))
-      (λ i low notes. tallied i low (table_of old.shelf).value notes)
-      own
-      (λ i j low low' apart. nothing_comes old taken i j (let s = sound.senders in omega (arith, low, s)))
-      sound.sound);
-}
+    → ((i : ℕ) → i < length old.parts → OpensWave dist (part_at old i) (get_or parts i no_part)) → Sound (record old { parts = parts })
+sound_wave old dist parts sound taken count opens = sound_opened old old.gain parts sound taken count (λ i low. wave_opened dist (part_at old i) (get_or parts i no_part) (opens i low)) (record {
+  gain = λ i low. ap (λ (p : Part). p.gain) (opens i low).wave ∙ sound.sound.step.gain i low ∙ sym (ap (λ (p : Part). p.gain) (opens 0 sound.some).wave);
+  wave = λ i low. ap (λ (p : Part). p.wave) (opens i low).wave ∙ sym (ap (λ (p : Part). p.wave) (opens 0 sound.some).wave);
+}) (ap (λ (p : Part). p.gain) (opens 0 sound.some).wave ∙ sound.gain)
 
 -- ---- the least distance
 

@@ -1,4 +1,4 @@
--- The parts of a sound core are sound, and where nothing waits nothing is on its way.
+-- Where nothing waits, no note is on its way.
 use Rattle.std.proofs.Common.{◌≡◌, inl, inr, ℕ, ◌<◌, List, [], ◌++◌, length, get_or, All, refl, sym, ap, subst, ◌∙◌}
 use Rattle.std.proofs.lemmas.List.{get_or_past}
 use Rattle.std.proofs.lemmas.Bool.{cases_lt}
@@ -14,8 +14,8 @@ all_or P xs i d none all = elim (cases_lt i (length xs)) [
 
 pub silent_to : (s : Sender) (j : ℕ) → IsSilent s → coming_to s j ≡ []
 silent_to s j silent =
-    ap (λ l. l ++ queue_to s.outboxes j) (all_or (λ (l : Line). l.batches ≡ []) s.lines j no_line refl silent.lines)
-    ∙ all_or (λ (q : List (List Note)). q ≡ []) s.outboxes.queues j [] refl silent.outboxes
+    ap (λ l. notes_of l ++ notes_of (queue_to s.outboxes j)) (all_or (λ (l : Line). l.batches ≡ []) s.lines j no_line refl silent.lines)
+    ∙ ap notes_of (all_or (λ (q : List (List Note)). q ≡ []) s.outboxes.queues j [] refl silent.outboxes)
 
 pub nothing_comes : (core : Core) → IsAllTaken core → (i j : ℕ) → i < length core.senders → coming core i j ≡ []
-nothing_comes core all i j low = ap notes_of (silent_to (sender_at core i) j (all i no_sender low))
+nothing_comes core all i j low = silent_to (sender_at core i) j (all i no_sender low)

@@ -1,21 +1,21 @@
 -- All owners of a level, and what is on its way between them.
-use Rattle.std.specs.Prelude.{◌≡◌, ℕ, ◌+◌, ◌-◌, ◌<◌, ◌≤◌, ◌⊎◌, List, [], ◌∷◌, ◌++◌, length, max, min, All, Any, Option, Some, None, slice_index_or, slice_set, ℤ}
+use Rattle.std.specs.Prelude.{◌≡◌, ◌≢◌, ℕ, ◌+◌, ◌-◌, ◌<◌, ◌≤◌, ◌⊎◌, List, [], ◌∷◌, ◌++◌, length, max, min, All, Any, Option, Some, None, slice_index_or, slice_set}
 use Rattle.awari_table.specs.declared.images.Image.{Image}
 use Rattle.awari_table.specs.declared.TheConstants.{HIGHEST_LEVEL}
 use Rattle.awari_table.specs.Images.{table_of}
 use Rattle.awari_table.specs.Shelves.{IsShelf}
-use Rattle.awari_block.specs.Blocks.{due_dist, KeepSettled}
-use Rattle.awari_block.specs.Part.{Part, SameLevel, JoinsFresh, IsTallied, IsLeastDue, AreFresh}
+use Rattle.awari_block.specs.Blocks.{due_dist}
+use Rattle.awari_block.specs.Part.{Part, IsLeastDue}
 use Rattle.awari_owner.specs.Level.{AreSound, no_part}
 use Rattle.awari_owner.specs.Scan.{IsScan}
-use Rattle.awari_owner.specs.Outboxes.{Outboxes, AreBatches, queue_to, notes_of}
-use Rattle.awari_owner.specs.Spread.{HearsOwn, Source, Spreads, Sends}
+use Rattle.awari_owner.specs.Outboxes.{Outboxes, AreBatches, IsBatch, queue_to, notes_of}
+use Rattle.awari_owner.specs.Sound.{OpensGain, SamePlace, SpreadsFirst, TakesNotes}
+use Rattle.awari_owner.specs.Sound as owner
 use Rattle.awari_block.specs.declared.notes.Note.{Note}
 use Rattle.awari_core.specs.declared.events.Event.{Event}
 use Rattle.awari_core.specs.declared.events.Event.TheVariants.{Spread, Send, Take}
 use Rattle.awari_core.specs.declared.faults.CoreFault.{CoreFault}
 use Rattle.awari_core.specs.declared.faults.CoreFault.TheVariants.{NotEnabled, Owners, Room, TooHigh, Memory}
-use Rattle.awari_core.specs.Sound.{AreNext, AreTaken}
 
 -- the batches on a line, the first to be taken at the front, and for how many it has room
 pub record Line : Type 0 where
@@ -48,28 +48,31 @@ part_at core i = slice_index_or core.parts i no_part
 abbrev pub sender_at : Core → ℕ → Sender
 sender_at core i = slice_index_or core.senders i no_sender
 
--- the line from one owner to another
-abbrev pub line_at : Core → ℕ → ℕ → Line
-line_at core i j = slice_index_or (sender_at core i).lines j no_line
+-- the line to one owner, and that from one to another
+abbrev pub line_to : Sender → ℕ → Line
+line_to sender j = slice_index_or sender.lines j no_line
 
--- what is on its way to one owner: on the line, and behind that in the outbox
-abbrev pub coming_to : Sender → ℕ → List (List Note)
-coming_to sender j = (slice_index_or sender.lines j no_line).batches ++ queue_to sender.outboxes j
+abbrev pub line_at : Core → ℕ → ℕ → Line
+line_at core i j = line_to (sender_at core i) j
+
+-- the notes on their way to one owner: on the line, and behind that in the outbox
+abbrev pub coming_to : Sender → ℕ → List Note
+coming_to sender j = notes_of (line_to sender j).batches ++ notes_of (queue_to sender.outboxes j)
 
 abbrev pub coming : Core → ℕ → ℕ → List Note
-coming core i j = notes_of (coming_to (sender_at core i) j)
+coming core i j = coming_to (sender_at core i) j
 
--- What owner i of so many sends by: it has its number, and a queue and a line of this room for each owner. Batches on their way
--- have 1 to 32 notes.
+-- What owner i of so many sends by: it has its number, and a queue and a line of this room for each owner. Batches on a line have
+-- 1 to 32 notes, as those in outboxes have.
 pub record IsLinked (owners room i : ℕ) (sender : Sender) : Type 0 where
   pub owner : sender.outboxes.owner ≡ i
   pub queues : length sender.outboxes.queues ≡ owners
   pub lines : length sender.lines ≡ owners
-  pub rooms : (j : ℕ) → j < owners → (slice_index_or sender.lines j no_line).room ≡ room
-  pub batches : (j : ℕ) → j < owners → AreBatches (coming_to sender j)
+  pub rooms : (j : ℕ) → j < owners → (line_to sender j).room ≡ room
+  pub batches : (j : ℕ) → j < owners → AreBatches (line_to sender j).batches
 
--- The core is sound: there are lists of taken batches, for each ordered pair of owners, with which all that the owners gave and
--- heard is what was due.
+-- The core is sound: there are lists of taken notes, for each ordered pair of owners, with which all that the owners gave and heard
+-- is what was due.
 pub record Sound (core : Core) : Type 0 where
   pub shelf : IsShelf core.shelf
   pub low : length core.shelf ≤ HIGHEST_LEVEL
@@ -78,9 +81,8 @@ pub record Sound (core : Core) : Type 0 where
   pub senders : length core.senders ≡ length core.parts
   pub linked : (i : ℕ) → i < length core.parts → IsLinked (length core.parts) core.room i (sender_at core i)
   pub gain : (part_at core 0).gain ≡ max 1 core.gain
-  pub fresh : (i : ℕ) → i < length core.parts → AreFresh (part_at core i)
-  pub taken : ℕ → ℕ → List (List Note)
-  pub sound : AreSound (table_of core.shelf).value (length core.shelf) (length core.parts) (part_at core) (coming core) (λ i j. notes_of (taken i j))
+  pub taken : ℕ → ℕ → List Note
+  pub sound : AreSound (table_of core.shelf).value (length core.shelf) (length core.parts) (part_at core) (coming core) taken
 
 -- ---- when the owners rest
 
@@ -117,17 +119,7 @@ IsNearer (Some a) (Some b) least = least ≡ Some (min a b)
 IsNearer None b least = least ≡ b
 IsNearer (Some a) None least = least ≡ Some a
 
--- a gain is opened in a part: what it heard stays, and boards that captures settle at that gain join the fresh
-pub record OpensGain (t : ℕ) (old new : Part) : Type 0 where
-  pub gain : new.gain ≡ t
-  pub wave : new.wave ≡ 0
-  pub same : (new.level ≡ old.level) × (new.start ≡ old.start) × (length new.cells ≡ length old.cells)
-  pub joins : JoinsFresh old new
-  pub stays : KeepSettled old.start old.cells new.cells
-  pub tallied : (value : List ℕ → ℤ) (notes : List Note) → IsTallied value old notes → IsTallied value new notes
-  pub own : (notes : List Note) → HearsOwn old notes → HearsOwn new notes
-
--- in all parts, and nothing else changes
+-- the next gain is opened in all parts, and nothing else changes
 pub record OpensNextGain (old new : Core) : Type 0 where
   pub shelf : new.shelf ≡ old.shelf
   pub room : new.room ≡ old.room
@@ -144,7 +136,7 @@ pub record OpensWave (dist : ℕ) (old new : Core) : Type 0 where
   pub gain : new.gain ≡ old.gain
   pub senders : new.senders ≡ old.senders
   pub count : length new.parts ≡ length old.parts
-  pub parts : (i : ℕ) → i < length old.parts → part_at new i ≡ record (part_at old i) { wave = dist }
+  pub parts : (i : ℕ) → i < length old.parts → owner.OpensWave dist (part_at old i) (part_at new i)
 
 abbrev pub OpensNextWave : Core → Core → Option ℕ → Type 0
 OpensNextWave old new None = new ≡ old
@@ -200,46 +192,49 @@ pub record ChangesOwner (old new : Core) (i : ℕ) : Type 0 where
   pub parts : new.parts ≡ slice_set old.parts i (part_at new i)
   pub senders : new.senders ≡ slice_set old.senders i (sender_at new i)
 
--- The first fresh board of owner i is spread: its notes for the block are heard, and the others are put to the outboxes.
+-- what owner i sends by alone changes
+pub record ChangesSender (old new : Core) (i : ℕ) : Type 0 where
+  pub rest : new ≡ record old { senders = new.senders }
+  pub senders : new.senders ≡ slice_set old.senders i (sender_at new i)
+
+-- a batch for j can be sent: there is one, and room on the line for it
+abbrev pub CanSend : Sender → ℕ → Type 0
+CanSend sender j = (queue_to sender.outboxes j ≢ []) × (length (line_to sender j).batches < (line_to sender j).room)
+
+-- The first batch of the outbox for j moves to the end of the line to j.
+pub record MovesBatch (old new : Sender) (j : ℕ) : Type 0 where
+  pub batch : List Note
+  pub rest : List (List Note)
+  pub whole : IsBatch batch
+  pub first : queue_to old.outboxes j ≡ batch ∷ rest
+  pub moves : new ≡ record {
+    outboxes = record old.outboxes { queues = slice_set old.outboxes.queues j rest };
+    lines = slice_set old.lines j (record (line_to old j) { batches = (line_to old j).batches ++ batch ∷ [] });
+  }
+
+-- This batch is the first on the line to j, and is taken off.
+pub record PopsBatch (batch : List Note) (old new : Sender) (j : ℕ) : Type 0 where
+  pub rest : List (List Note)
+  pub first : (line_to old j).batches ≡ batch ∷ rest
+  pub pops : new ≡ record old { lines = slice_set old.lines j (record (line_to old j) { batches = rest }) }
+
+-- The first fresh board of owner i is spread.
 pub record DoesSpread (old new : Core) (i : ℕ) : Type 0 where
   pub changes : ChangesOwner old new i
   pub lines : (sender_at new i).lines ≡ (sender_at old i).lines
-  pub numbered : ((sender_at new i).outboxes.owner ≡ (sender_at old i).outboxes.owner) × (length (sender_at new i).outboxes.queues ≡ length (sender_at old i).outboxes.queues)
-  pub same : SameLevel (part_at old i) (part_at new i) × (length (part_at new i).cells ≡ length (part_at old i).cells)
-  pub stays : KeepSettled (part_at old i).start (part_at old i).cells (part_at new i).cells
-  pub spreads : (q : List ℕ) × (sources : List Source) × (notes : List Note) × Spreads (part_at old i) (part_at new i) q sources
-      × Sends (part_at old i) q sources notes (sender_at old i).outboxes (sender_at new i).outboxes
+  pub place : SamePlace (part_at old i) (part_at new i)
+  pub spreads : SpreadsFirst (part_at old i) (part_at new i) (sender_at old i).outboxes (sender_at new i).outboxes
 
--- The first batch of the outbox for j moves to the end of the line to j.
-pub record DoesSend (old new : Core) (i j : ℕ) : Type 0 where
-  pub batch : List Note
-  pub rest : List (List Note)
-  pub first : queue_to (sender_at old i).outboxes j ≡ batch ∷ rest
-  pub moves : new ≡ record old {
-    senders = slice_set old.senders i (record {
-      outboxes = record (sender_at old i).outboxes { queues = slice_set (sender_at old i).outboxes.queues j rest };
-      lines = slice_set (sender_at old i).lines j (record (line_at old i j) { batches = (line_at old i j).batches ++ batch ∷ [] });
-    });
-  }
-
--- A part hears these notes from owner i, in order, whatever notes it had heard: boards that they settle join the fresh.
-pub record HearsBatch (i j : ℕ) (batch : List Note) (old new : Part) : Type 0 where
-  pub same : SameLevel old new × (length new.cells ≡ length old.cells)
-  pub joins : JoinsFresh old new
-  pub stays : KeepSettled old.start old.cells new.cells
-  pub heard : (value : List ℕ → ℤ) (n owners : ℕ) (part : ℕ → Part) (coming taken : ℕ → ℕ → List Note) (after : List Note)
-      → AreNext value n owners i j part coming taken old batch after → AreTaken value n owners i j part coming taken new batch after
+-- A batch moves from the outbox of i for j to the line from i to j.
+abbrev pub DoesSend : Core → Core → ℕ → ℕ → Type 0
+DoesSend old new i j = ChangesSender old new i × MovesBatch (sender_at old i) (sender_at new i) j
 
 -- The first batch on the line from i to j is taken off, and owner j's part hears its notes.
 pub record DoesTake (old new : Core) (i j : ℕ) : Type 0 where
   pub batch : List Note
-  pub rest : List (List Note)
-  pub first : (line_at old i j).batches ≡ batch ∷ rest
-  pub moves : new ≡ record old {
-    parts = slice_set old.parts j (part_at new j);
-    senders = slice_set old.senders i (record (sender_at old i) { lines = slice_set (sender_at old i).lines j (record (line_at old i j) { batches = rest }) });
-  }
-  pub heard : HearsBatch i j batch (part_at old j) (part_at new j)
+  pub rest : new ≡ record old { parts = slice_set old.parts j (part_at new j); senders = slice_set old.senders i (sender_at new i) }
+  pub pops : PopsBatch batch (sender_at old i) (sender_at new i) j
+  pub hears : TakesNotes batch (part_at old j) (part_at new j)
 
 -- ---- events
 
@@ -250,7 +245,7 @@ IsBetween core i j = (i < length core.parts) × (j < length core.parts) × (i �
 -- an event that can be taken here
 abbrev pub IsEnabled : Core → Event → Type 0
 IsEnabled core (Spread i) = (i < length core.parts) × IsLeastDue (part_at core i) (Some (part_at core i).wave)
-IsEnabled core (Send i j) = IsBetween core i j × (queue_to (sender_at core i).outboxes j ≡ [] → ⊥) × (length (line_at core i j).batches < core.room)
+IsEnabled core (Send i j) = IsBetween core i j × CanSend (sender_at core i) j
 IsEnabled core (Take i j) = IsBetween core i j × ((line_at core i j).batches ≡ [] → ⊥)
 
 -- what it does

@@ -1,3 +1,2 @@
 pub mod CoreFault
-pub mod Sound
 pub mod Core

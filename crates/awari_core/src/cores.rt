@@ -12,15 +12,12 @@ ghost use Rattle.awari_core.specs.declared.faults.CoreFault.{CoreFault};
 
 use crate::events::Event;
 use crate::faults::CoreFault;
-use crate::hearing::hear_batch;
 use crate::laws::{scanned_owners_are_sound, sound_cores_are_told};
 use crate::openings::{are_idle, nearer, open_gains, open_waves, scanned_parts};
 use crate::senders::{Sender, are_silent, silent_senders};
 use awari_block::{MOST_OWNERS, MOST_ROOM};
-use awari_board::moves_keep_boards;
-use awari_owner::{OwnerFault, Part};
+use awari_owner::{OwnerFault, Part, coming_notes_are_expected, take_batch};
 use awari_plan::finish;
-use awari_rank::ranks_tell_boards_apart;
 use awari_table::{HIGHEST_LEVEL, Image, Shelf};
 use std::alloc::{AllocError, Global};
 use std::marker::Model;
@@ -218,8 +215,6 @@ impl Core {
         if owner as usize >= self.parts.len() {
             return Err(CoreFault::NotEnabled);
         }
-        moves_keep_boards();
-        ranks_tell_boards_apart();
         sound_cores_are_told();
         match self.senders[owner as usize].spread(&mut self.parts[owner as usize]) {
             Ok(true) => {}
@@ -261,8 +256,11 @@ impl Core {
         let Some(batch) = self.senders[from as usize].pop(to) else {
             return Err(CoreFault::NotEnabled);
         };
-        hear_batch(&mut self.parts[to as usize], &batch);
-        Ok(())
+        coming_notes_are_expected();
+        match take_batch(&mut self.parts[to as usize], &batch) {
+            Ok(()) => Ok(()),
+            Err(_) => unreachable!(),
+        }
     }
 
     /// Whether both owners are there, and are two.

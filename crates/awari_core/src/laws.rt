@@ -1,11 +1,10 @@
 //! What events keep: that the owners are sound.
 
-ghost use Rattle.std.specs.Prelude.{◌≡◌, ℕ, ℤ, ◌<◌, [], All, List, length};
-ghost use Rattle.awari_block.specs.Part.{Part, IsTallied};
-ghost use Rattle.awari_owner.specs.Scan.{IsScan};
-ghost use Rattle.awari_owner.specs.Spread.{HearsOwn, IsSeenAs};
+ghost use Rattle.std.specs.Prelude.{ℕ, ℤ, ◌<◌, [], All, List, length};
+ghost use Rattle.awari_block.specs.Part.{Part};
 ghost use Rattle.awari_block.specs.declared.notes.Note.{Note};
-ghost use Rattle.awari_owner.specs.Level.{AreHeard, AreSound, AreWhole, DistancesFit};
+ghost use Rattle.awari_owner.specs.Level.{AreHeard, AreInStep, AreSound, AreWhole, DistancesFit, NothingComes};
+ghost use Rattle.awari_owner.specs.Sound.{IsOpened, IsScannedPart};
 ghost use Rattle.awari_table.specs.Images.{table_of};
 ghost use Rattle.awari_core.specs.Core.{Core, Sound, IsAllTaken};
 
@@ -13,19 +12,14 @@ use awari_owner::{distances_fit, sound_parts_are_told};
 
 /// Parts that were just scanned are sound, with nothing on its way.
 pub fn scanned_owners_are_sound()
-    ensures { (value : List ℕ → ℤ) (n owners : ℕ) (part : ℕ → Part) → 0 < owners
-        → ((i : ℕ) → i < owners → IsScan n owners i (part i)) → ((i : ℕ) → i < owners → IsTallied value (part i) []) → ((i : ℕ) → i < owners → HearsOwn (part i) [])
+    ensures { (value : List ℕ → ℤ) (n owners : ℕ) (part : ℕ → Part) → 0 < owners → ((i : ℕ) → i < owners → IsScannedPart value n owners i (part i))
         → AreSound value n owners part (λ _ _. []) (λ _ _. []) }
 {}
 
 /// Opening a gain or a distance in all parts keeps the owners sound, if nothing is on its way.
 pub fn opening_keeps_owners_sound()
-    ensures { (value : List ℕ → ℤ) (n owners : ℕ) (part part' : ℕ → Part) (coming taken : ℕ → ℕ → List Note)
-        → ((i : ℕ) → i < owners → IsSeenAs (part i) (part' i)) → ((i : ℕ) → i < owners → (part' i).gain ≡ (part' 0).gain) → ((i : ℕ) → i < owners → (part' i).wave ≡ (part' 0).wave)
-        → ((i : ℕ) → i < owners → (notes : List Note) → IsTallied value (part i) notes → IsTallied value (part' i) notes)
-        → ((i : ℕ) → i < owners → (notes : List Note) → HearsOwn (part i) notes → HearsOwn (part' i) notes)
-        → ((i j : ℕ) → i < owners → j < owners → (i ≡ j → ⊥) → coming i j ≡ [])
-        → AreSound value n owners part coming taken → AreSound value n owners part' coming taken }
+    ensures { (value : List ℕ → ℤ) (n owners : ℕ) (part part' : ℕ → Part) (coming taken : ℕ → ℕ → List Note) → AreSound value n owners part coming taken
+        → NothingComes owners coming → ((i : ℕ) → i < owners → IsOpened (part i) (part' i)) → AreInStep owners part' → AreSound value n owners part' coming taken }
 {}
 
 /// The parts of a sound core together have all boards of its level, and what they heard is true. So

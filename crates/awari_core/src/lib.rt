@@ -18,7 +18,6 @@
 mod cores;
 mod events;
 mod faults;
-mod hearing;
 mod laws;
 mod lines;
 mod openings;

@@ -1,15 +1,13 @@
 //! What is done with all parts of a level, one after the other.
 
-ghost use Rattle.std.specs.Prelude.{◌≡◌, ◌↔◌, ◌+◌, ◌<◌, ◌≤◌, ℕ, ℤ, List, [], All, IfOk, IsTrue, length, vec_len, slice_index_or};
+ghost use Rattle.std.specs.Prelude.{◌≡◌, ◌↔◌, ◌+◌, ◌<◌, ◌≤◌, ℕ, [], All, IfOk, IsTrue, length, vec_len, slice_index_or};
 ghost use Rattle.awari_block.specs.Blocks.{due_dist};
 ghost use Rattle.awari_owner.specs.Level.{no_part};
-ghost use Rattle.awari_block.specs.Part.{AreFresh, IsTallied, Part as PartView};
-ghost use Rattle.awari_owner.specs.Scan.{IsScan};
-ghost use Rattle.awari_owner.specs.Spread.{HearsOwn};
-ghost use Rattle.awari_block.specs.declared.notes.Note.{Note};
+ghost use Rattle.awari_block.specs.Part.{Part as PartView};
+ghost use Rattle.awari_owner.specs.Sound.{IsScannedPart, OpensGain, OpensWave};
 ghost use Rattle.awari_table.specs.Images.{table_of};
 ghost use Rattle.awari_table.specs.declared.TheConstants.{HIGHEST_LEVEL};
-ghost use Rattle.awari_core.specs.Core.{IsNearer, OpensGain};
+ghost use Rattle.awari_core.specs.Core.{IsNearer};
 
 use awari_owner::Part;
 use awari_table::Shelf;
@@ -20,10 +18,7 @@ pub fn scanned_parts(alloc: Global, shelf: &Shelf, owners: u8) -> Result<Vec<Par
     requires owners { (1 ≤ owners) × (owners ≤ 16) }
     requires low { length shelf.now ≤ HIGHEST_LEVEL }
     ensures count { IfOk result (λ parts. vec_len parts ≡ owners) }
-    ensures scanned { IfOk result (λ parts. (i : ℕ) → i < owners → IsScan (length shelf.now) owners i (slice_index_or parts.items i no_part)) }
-    ensures tallied { IfOk result (λ parts. (i : ℕ) → i < owners → IsTallied (table_of shelf.now).value (slice_index_or parts.items i no_part) []) }
-    ensures fresh { IfOk result (λ parts. (i : ℕ) → i < owners → AreFresh (slice_index_or parts.items i no_part)) }
-    ensures hears { IfOk result (λ parts. (i : ℕ) → i < owners → HearsOwn (slice_index_or parts.items i no_part) []) }
+    ensures scanned { IfOk result (λ parts. (i : ℕ) → i < owners → IsScannedPart (table_of shelf.now).value (length shelf.now) owners i (slice_index_or parts.items i no_part)) }
 {
     let mut parts = Vec::with_capacity(alloc, owners as usize)?;
     for owner in 0..owners {
@@ -48,7 +43,6 @@ pub fn open_gains(parts: &mut Vec<Part>, gain: u8)
     requires next { (i : ℕ) → i < vec_len parts.old → gain + 1 ≡ (slice_index_or parts.old.items i no_part).gain }
     requires positive { 1 ≤ gain }
     ensures count { vec_len parts.new ≡ vec_len parts.old }
-    ensures fresh { (i : ℕ) → i < vec_len parts.old → AreFresh (slice_index_or parts.new.items i no_part) }
     ensures opened { (i : ℕ) → i < vec_len parts.old → OpensGain gain (slice_index_or parts.old.items i no_part) (slice_index_or parts.new.items i no_part) }
 {
     for part in parts.iter_mut() {
@@ -61,11 +55,7 @@ pub fn open_waves(parts: &mut Vec<Part>, dist: u32)
     requires farther { (i : ℕ) → i < vec_len parts.old → (slice_index_or parts.old.items i no_part).wave < dist }
     requires nearest { (i : ℕ) → i < vec_len parts.old → All (λ f. dist ≤ due_dist f) (slice_index_or parts.old.items i no_part).fresh }
     ensures count { vec_len parts.new ≡ vec_len parts.old }
-    ensures fresh { (i : ℕ) → i < vec_len parts.old → AreFresh (slice_index_or parts.new.items i no_part) }
-    ensures opened { (i : ℕ) → i < vec_len parts.old → (slice_index_or parts.new.items i no_part) ≡ record (slice_index_or parts.old.items i no_part) { wave = dist } }
-    ensures tallied { (i : ℕ) → i < vec_len parts.old → (value : List ℕ → ℤ) (notes : List Note) → IsTallied value (slice_index_or parts.old.items i no_part) notes
-        → IsTallied value (slice_index_or parts.new.items i no_part) notes }
-    ensures hears { (i : ℕ) → i < vec_len parts.old → (notes : List Note) → HearsOwn (slice_index_or parts.old.items i no_part) notes → HearsOwn (slice_index_or parts.new.items i no_part) notes }
+    ensures opened { (i : ℕ) → i < vec_len parts.old → OpensWave dist (slice_index_or parts.old.items i no_part) (slice_index_or parts.new.items i no_part) }
 {
     for part in parts.iter_mut() {
         part.open_wave(dist);

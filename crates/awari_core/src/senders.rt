@@ -1,13 +1,11 @@
 //! What an owner sends by.
 
-ghost use Rattle.std.specs.Prelude.{◌≡◌, ◌≢◌, ◌≤◌, ◌<◌, ◌-◌, ◌⊎◌, ◌∷◌, ◌++◌, ◌↔◌, [], ℕ, List, Some, OnErr, IfOk, IfErr, IfSome, IfNone, IsTrue, length, vec_len, All, replicate, true, false, slice_set, slice_index_or};
-ghost use Rattle.awari_block.specs.Blocks.{KeepSettled};
-ghost use Rattle.awari_block.specs.Part.{AreFresh, SameLevel, IsLeastDue, HasFarthest};
-ghost use Rattle.awari_owner.specs.Outboxes.{queue_to};
-ghost use Rattle.awari_owner.specs.Spread.{IsPartOf, Source, Spreads, Sends};
+ghost use Rattle.std.specs.Prelude.{◌≡◌, ◌≤◌, ◌<◌, ◌-◌, ◌⊎◌, ◌↔◌, [], ℕ, Some, OnErr, IfOk, IfErr, IfSome, IfNone, IsTrue, length, vec_len, All, replicate, true, false, slice_index_or};
+ghost use Rattle.awari_block.specs.Part.{IsLeastDue, HasFarthest};
+ghost use Rattle.awari_owner.specs.Sound.{SamePlace, SpreadsFirst};
+ghost use Rattle.awari_owner.specs.Spread.{IsPartOf};
 ghost use Rattle.awari_owner.specs.declared.faults.OwnerFault.{OwnerFault};
-ghost use Rattle.awari_block.specs.declared.notes.Note.{Note as NoteView};
-ghost use Rattle.awari_core.specs.Core.{IsLinked, IsSilent, Sender as SenderView, no_line, no_sender};
+ghost use Rattle.awari_core.specs.Core.{CanSend, IsLinked, IsSilent, MovesBatch, PopsBatch, Sender as SenderView, line_to, no_sender};
 
 use crate::lines::Line;
 use awari_owner::{Batch, Outboxes, OwnerFault, Part};
@@ -48,18 +46,14 @@ impl Sender {
     /// Spreads the first fresh board of the owner's part, if its distance is the open one.
     pub fn spread(&mut self, part: &mut Part) -> Result<bool, OwnerFault>
         requires part { IsPartOf part.old self.old.outboxes }
-        ensures spread { result ≡ Ok true → (q : List ℕ) × (sources : List Source) × (notes : List NoteView)
-            × Spreads part.old part.new q sources × Sends part.old q sources notes self.old.outboxes self.new.outboxes }
-        ensures none { result ≡ Ok false → (part.new ≡ part.old) × (self.new ≡ self.old) }
+        ensures spread { result ≡ Ok true → SpreadsFirst part.old part.new self.old.outboxes self.new.outboxes }
         ensures due { result ≡ Ok false → IsLeastDue part.old (Some part.old.wave) → ⊥ }
         ensures least { (result ≡ Ok false → ⊥) → IsLeastDue part.old (Some part.old.wave) }
-        ensures same { SameLevel part.old part.new × (length part.new.cells ≡ length part.old.cells) }
-        ensures stays { KeepSettled part.old.start part.old.cells part.new.cells }
-        ensures fresh { AreFresh part.new }
-        ensures numbered { (self.new.outboxes.owner ≡ self.old.outboxes.owner) × (length self.new.outboxes.queues ≡ length self.old.outboxes.queues) }
+        ensures none { result ≡ Ok false → (part.new ≡ part.old) × (self.new ≡ self.old) }
+        ensures place { SamePlace part.old part.new }
         ensures lines { self.new.lines ≡ self.old.lines }
-        ensures err { OnErr result ((part.new ≡ part.old) × (self.new ≡ self.old)) }
         ensures fault { IfErr result (λ fault. ((fault ≡ OwnerFault.Far) × HasFarthest part.old) ⊎ ((fault ≡ OwnerFault.Memory) × (1 < length self.old.outboxes.queues))) }
+        ensures err { OnErr result ((part.new ≡ part.old) × (self.new ≡ self.old)) }
     {
         part.spread_one(&mut self.outboxes)
     }
@@ -68,12 +62,8 @@ impl Sender {
     /// is no batch, or no room on the line.
     pub fn send(&mut self, to: u8) -> bool
         requires { to < length self.old.lines }
-        ensures sent { result ≡ true → (batch : List NoteView) × (rest : List (List NoteView)) × (queue_to self.old.outboxes to ≡ batch ∷ rest)
-            × (self.new ≡ record {
-              outboxes = record self.old.outboxes { queues = slice_set self.old.outboxes.queues to rest };
-              lines = slice_set self.old.lines to (record (slice_index_or self.old.lines to no_line) { batches = (slice_index_or self.old.lines to no_line).batches ++ batch ∷ [] });
-            }) }
-        ensures enabled { IsTrue result ↔ ((queue_to self.old.outboxes to ≢ []) × (length (slice_index_or self.old.lines to no_line).batches < (slice_index_or self.old.lines to no_line).room)) }
+        ensures sent { result ≡ true → MovesBatch self.old self.new to }
+        ensures enabled { IsTrue result ↔ CanSend self.old to }
         ensures kept { result ≡ false → self.new ≡ self.old }
     {
         if !self.lines[to as usize].has_room() {
@@ -90,9 +80,8 @@ impl Sender {
     /// Takes the first batch off the line to this owner.
     pub fn pop(&mut self, to: u8) -> Option<Batch>
         requires { to < length self.old.lines }
-        ensures some { IfSome result (λ batch. (rest : List (List NoteView)) × ((slice_index_or self.old.lines to no_line).batches ≡ batch.items ∷ rest)
-            × (self.new ≡ record self.old { lines = slice_set self.old.lines to (record (slice_index_or self.old.lines to no_line) { batches = rest }) })) }
-        ensures none { IfNone result (((slice_index_or self.old.lines to no_line).batches ≡ []) × (self.new ≡ self.old)) }
+        ensures some { IfSome result (λ batch. PopsBatch batch.items self.old self.new to) }
+        ensures none { IfNone result (((line_to self.old to).batches ≡ []) × (self.new ≡ self.old)) }
     {
         self.lines[to as usize].pop()
     }

@@ -11,6 +11,7 @@ use Rattle.awari_block.specs.Notes.{IsQuietMove, IsNoteOf}
 use Rattle.awari_block.specs.Cells.{IsEither, IsWithin, Fits, FitsBy, is_settled}
 use Rattle.awari_block.specs.Blocks.{Due, due_rank, due_dist, cell_in, times_due, is_settled_in, no_cell, IsDueAs, IsBlock, JoinNewlySettled, KeepSettled}
 use Rattle.awari_block.specs.Part.{Part, InBlock, IsTallied, part_of, stored_at, settled_at, unspread}
+use Rattle.awari_owner.specs.Sound.{SamePlace}
 use Rattle.awari_owner.specs.Spread.{Source, Tells, kind_of, note_to, with_all_own, LeavesFresh, Spreads, SpreadsOne}
 use Rattle.awari_block.specs.declared.cells.Cell.{Cell}
 use Rattle.awari_block.specs.declared.cells.Mark.{Mark}
@@ -137,6 +138,14 @@ module _ (old taken new : Part) (rank : ℕ) (takes : TakesFirst old taken rank)
   -- only the fresh boards differ before
   pub taken_settles : Settles (record old { fresh = taken.fresh }) new
   taken_settles = subst (λ (t : Part). Settles t new) takes.rest settles
+
+  -- the part stands where it did
+  pub taken_place : SamePlace old new
+  taken_place = let same = taken_settles.same in record {
+    level = record { level = same.level; gain = same.gain; wave = same.wave; start = same.start };
+    long = taken_settles.size;
+    stays = taken_settles.stays;
+  }
 
   at_place : part_of (place_of old) new.cells new.fresh ≡ new
   at_place = same_place (record old { fresh = taken.fresh }) new taken_settles.same

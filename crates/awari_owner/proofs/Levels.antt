@@ -19,9 +19,11 @@ use Rattle.awari_block.specs.Cells.{view_of}
 use Rattle.awari_block.specs.Blocks.{Due, no_cell, times_due}
 use Rattle.awari_block.specs.Part.{Part, InBlock, IsTallied, Leaves, cell_at, notes_for, settled_by, IsClosed}
 use Rattle.awari_owner.specs.Spread.{Hears, HearsTruth, HearsOwn, IsSpread, SameBlock}
+use Rattle.awari_owner.specs.Sound.{IsInBlockOf}
 use Rattle.awari_owner.specs.Level.{AreBlocks, AreWhole, all_cells, known_at, AreHeard, AreTold, AreSound, IsShare, no_part, part_at}
 use Rattle.awari_owner.specs.Finish.{IsQuietAt, IsRightAt}
 use Rattle.awari_block.specs.declared.notes.Note.{Note}
+use Rattle.awari_owner.proofs.Expecting.{of_share}
 use Rattle.awari_owner.proofs.RightCells.{quiet_right}
 
 -- ---- blocks one after another
@@ -232,7 +234,7 @@ module _ (value : List ℕ → ℤ) (level : ℕ) (parts : List Part) (coming ta
   whole = shared_whole level (length parts) parts some refl sound.shares
 
   abbrev noted : (j : ℕ) → j < length parts → List Note
-  noted j in_j = (sound.hears j in_j).notes
+  noted j in_j = (sound.sound j in_j).heard
 
   -- a move to a board of another block leaves its own
   leaving : (i j : ℕ) → i < length parts → j < length parts → (i ≡ j → ⊥) → (p : List ℕ) (x : ℕ) (q : List ℕ) → IsBoard p → sum p ≡ (part_at parts j).level
@@ -245,14 +247,14 @@ module _ (value : List ℕ → ℤ) (level : ℕ) (parts : List Part) (coming ta
   true_lines : (i j : ℕ) → i < length parts → (in_j : j < length parts) → HearsTruth (part_at parts i) (part_at parts j) (noted j in_j)
   true_lines i j in_i in_j p x q is stones held_p held_q quiet m has pit = elim (cases_eq i j) [
     | inl same ↦ subst (λ k. (v : ℤ) × (d : ℕ) × IsSpread (part_at parts k) (rank_of q) v d × IsNoteOf q v d p x m) (sym same)
-        ((sound.hears j in_j).own.true_notes p x q is stones held_p (subst (λ k. InBlock (part_at parts k) (rank_of q)) same held_q) quiet m has pit)
+        ((sound.sound j in_j).hears_own.true_notes p x q is stones held_p (subst (λ k. InBlock (part_at parts k) (rank_of q)) same held_q) quiet m has pit)
     | inr apart ↦
         let (heard, target) = has_in (rank_of p) (noted j in_j) m has in
         let leaves = leaving i j in_i in_j apart p x q is stones held_q quiet m.target m.pit target pit in
-        let held_m : InBlock (part_at parts j) m.target = subst (InBlock (part_at parts j)) (sym target) held_p in
-        let (k, in_k, other, took) = ((sound.hears j in_j).others m held_m leaves).0 heard in
-        let (r, v, d, b, y, spread, held_r, is_r, is_b, stones_b, held_b, note) = (sound.given k j in_k in_j other).true_notes m (has_before (taken k j) (coming k j) m took) in
-        let board : b ≡ p = rank_fixes b p is_b.pits is.pits (stones_b ∙ sym stones) (sym note.target ∙ target) in
+        let (k, other, took) = (sound.sound j in_j).heard_taken m heard leaves in
+        let in_k = other.1 in
+        let (b, r, y, v, d, is_b, stones_b, held_r, block, spread, note) = ((sound.sound k in_k).given_notes j ((λ e. other.0 (sym e)), in_j)).true_notes m (has_before (taken k j) (coming k j) m took) in
+        let board : b ≡ p = rank_fixes b p is_b.pits is.pits (stones_b ∙ (sound.shares k in_k).level ∙ sym (sound.shares j in_j).level ∙ sym stones) (sym note.target ∙ target) in
         let from : y ≡ x = sym note.pit ∙ pit in
         let next : r ≡ q = note.quiet.leaves ∙ ap (λ c. next_board c y) board ∙ ap (next_board p) from ∙ sym quiet.leaves in
         let owner : k ≡ i = one_holder level 0 (size_of level) parts whole k i in_k in_i (rank_of q) (subst (λ (c : List ℕ). InBlock (part_at parts k) (rank_of c)) next held_r) held_q in
@@ -265,21 +267,21 @@ module _ (value : List ℕ → ℤ) (level : ℕ) (parts : List Part) (coming ta
   -- at any time what was heard is true
   pub sound_told : AreTold value parts
   sound_told = All-from_get_or (λ (part : Part). (ns : List Note) × IsTallied value part ns × All (λ source. HearsTruth source part ns) parts) parts no_part
-      (λ j in_j. (noted j in_j, (sound.hears j in_j).tallied, All-from_get_or (λ (source : Part). HearsTruth source (part_at parts j) (noted j in_j)) parts no_part (λ i in_i. true_lines i j in_i in_j)))
+      (λ j in_j. (noted j in_j, (sound.sound j in_j).tallied, All-from_get_or (λ (source : Part). HearsTruth source (part_at parts j) (noted j in_j)) parts no_part (λ i in_i. true_lines i j in_i in_j)))
 
   module _ (arrived : (i j : ℕ) → i < length parts → j < length parts → (i ≡ j → ⊥) → coming i j ≡ []) where
     all_lines : (i j : ℕ) → i < length parts → (in_j : j < length parts) → Hears (part_at parts i) (part_at parts j) (noted j in_j)
     all_lines i j in_i in_j = record {
       true_notes = true_lines i j in_i in_j;
       all_notes = λ p x q v d is stones held_p held_q quiet spread. elim (cases_eq i j) [
-        | inl same ↦ (sound.hears j in_j).own.all_notes p x q v d is stones held_p (subst (λ k. InBlock (part_at parts k) (rank_of q)) same held_q) quiet
+        | inl same ↦ (sound.sound j in_j).hears_own.all_notes p x q v d is stones held_p (subst (λ k. InBlock (part_at parts k) (rank_of q)) same held_q) quiet
             (subst (λ k. IsSpread (part_at parts k) (rank_of q) v d) same spread)
         | inr apart ↦
-            let (m, due, note) = (sound.given i j in_i in_j apart).all_notes q v d p x spread held_q is stones held_p quiet in
+            let level = (sound.shares i in_i).level in
+            let block = subst (λ l. IsInBlockOf l (length parts) j (rank_of p)) (sym level) (of_share _ (length parts) j (rank_of p) (part_at parts j) (sound.shares j in_j) held_p) in
+            let (m, due, note) = ((sound.sound i in_i).given_notes j ((λ e. apart (sym e)), in_j)).all_notes p q x v d is (stones ∙ (sound.shares j in_j).level ∙ sym level) held_q block quiet spread in
             let took : Has (taken i j) m = subst (λ (l : List Note). Has l m) (ap (λ l. taken i j ++ l) (arrived i j in_i in_j apart) ∙ append-nil (taken i j)) due in
-            let leaves = leaving i j in_i in_j apart p x q is stones held_q quiet m.target m.pit note.target note.pit in
-            let held_m : InBlock (part_at parts j) m.target = subst (InBlock (part_at parts j)) (sym note.target) held_p in
-            let heard = ((sound.hears j in_j).others m held_m leaves).1 (i, in_i, apart, took) in
+            let heard = (sound.sound j in_j).taken_heard i (apart, in_i) m took in
             (m, has_for (rank_of p) (noted j in_j) m heard note.target, note)
       ];
     }
@@ -287,7 +289,7 @@ module _ (value : List ℕ → ℤ) (level : ℕ) (parts : List Part) (coming ta
     -- and where nothing is on its way all was heard
     pub sound_heard : AreHeard value parts
     sound_heard = All-from_get_or (λ (part : Part). (ns : List Note) × IsTallied value part ns × All (λ source. Hears source part ns) parts) parts no_part
-        (λ j in_j. (noted j in_j, (sound.hears j in_j).tallied, All-from_get_or (λ (source : Part). Hears source (part_at parts j) (noted j in_j)) parts no_part (λ i in_i. all_lines i j in_i in_j)))
+        (λ j in_j. (noted j in_j, (sound.sound j in_j).tallied, All-from_get_or (λ (source : Part). Hears source (part_at parts j) (noted j in_j)) parts no_part (λ i in_i. all_lines i j in_i in_j)))
 
 -- ---- one part
 

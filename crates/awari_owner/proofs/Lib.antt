@@ -30,3 +30,5 @@ pub mod Distances
 pub mod Lists
 pub mod Expecting
 pub mod SpreadNotes
+pub mod Sounding
+pub mod Giving

@@ -1,11 +1,12 @@
 -- Lists of notes, joined end to end, and lists that are written over.
-use Rattle.std.proofs.Common.{◌≡◌, ℕ, ◌⊎◌, inl, inr, Bool, true, false, cond, nat_lt, ◌==◌, ◌||◌, List, [], ◌∷◌, ◌++◌, length, refl, sym, ap, subst, ◌∙◌, append_assoc, append-nil, eqb-true, arith, drop, take}
+use Rattle.std.proofs.Common.{◌≡◌, ℕ, ◌⊎◌, inl, inr, Bool, true, false, cond, nat_lt, ◌==◌, ◌||◌, List, [], ◌∷◌, ◌++◌, length, All, refl, sym, ap, subst, ◌∙◌, append_assoc, append-nil, eqb-true, arith, drop, take}
 use Rattle.std.proofs.lemmas.List.{take_all, drop_all}
+use Rattle.std.proofs.lemmas.List.Elements.{All-cons, All-nil, All-tail}
 use Rattle.awari_block.specs.Notes.{Has, is_heard_at}
 use Rattle.awari_block.specs.Part.{notes_for}
 use Rattle.awari_owner.specs.Outboxes.{put_behind, with_note, with_notes, notes_of}
 use Rattle.awari_block.specs.declared.notes.Note.{Note}
-use Rattle.awari_owner.specs.Level.{AreOfOtherMoves}
+use Rattle.awari_owner.specs.Sound.{AreOfOtherMoves}
 
 pub Has-append_left : (xs ys : List Note) (m : Note) → Has xs m → Has (xs ++ ys) m
 Has-append_left [] ys m h = absurd h
@@ -20,6 +21,22 @@ pub Has-append_cases : (xs ys : List Note) (m : Note) → Has (xs ++ ys) m → H
 Has-append_cases [] ys m h = inr h
 Has-append_cases (x ∷ xs) ys m (inl e) = inl (inl e)
 Has-append_cases (x ∷ xs) ys m (inr h) = elim (Has-append_cases xs ys m h) [ inl left ↦ inl (inr left) | inr right ↦ inr right ]
+
+-- what holds of each note of a list holds of all, and back
+pub all_has : (P : Note → Type 0) (notes : List Note) → ((m : Note) → Has notes m → P m) → All P notes
+all_has P [] each = All-nil P
+all_has P (m ∷ notes) each = All-cons P m notes (each m (inl refl)) (all_has P notes (λ k has. each k (inr has)))
+
+pub has_all : (P : Note → Type 0) (notes : List Note) (m : Note) → All P notes → Has notes m → P m
+has_all P [] m all has = absurd has
+has_all P (x ∷ notes) m all (inl is) = subst P (sym is) (all 0 x (omega arith))
+has_all P (x ∷ notes) m all (inr has) = has_all P notes m (All-tail P x notes all) has
+
+pub all_left : (P : Note → Type 0) (xs ys : List Note) → All P (xs ++ ys) → All P xs
+all_left P xs ys all = all_has P xs (λ m has. has_all P (xs ++ ys) m all (Has-append_left xs ys m has))
+
+pub all_right : (P : Note → Type 0) (xs ys : List Note) → All P (xs ++ ys) → All P ys
+all_right P xs ys all = all_has P ys (λ m has. has_all P (xs ++ ys) m all (Has-append_right xs ys m has))
 
 -- a note for a board is a note, and is for it
 pub Has-notes_for : (r : ℕ) (notes : List Note) (m : Note) → Has (notes_for r notes) m → Has notes m × (m.target ≡ r)
@@ -61,6 +78,9 @@ once_more (x ∷ xs) ys a b apart = (
 pub notes_of-append : (a b : List (List Note)) → notes_of (a ++ b) ≡ notes_of a ++ notes_of b
 notes_of-append [] b = refl
 notes_of-append (x ∷ a) b = ap (λ l. x ++ l) (notes_of-append a b) ∙ sym (append_assoc x (notes_of a) (notes_of b))
+
+pub notes_of-last : (a : List (List Note)) (b : List Note) → notes_of (a ++ b ∷ []) ≡ notes_of a ++ b
+notes_of-last a b = notes_of-append a (b ∷ []) ∙ ap (λ l. notes_of a ++ l) (append-nil b)
 
 notes_of-behind : (b : List Note) (rest : List (List Note)) (m : Note) → notes_of (put_behind b rest m) ≡ (b ++ notes_of rest) ++ m ∷ []
 notes_of-behind b [] m = at (nat_lt (length b) 32)

@@ -6,7 +6,7 @@ use Rattle.std.proofs.lemmas.List.Elements.{All-nil, All-cons, All-tail}
 use Rattle.std.proofs.lemmas.Bool.{cases_lt, cases_eq}
 use Rattle.std.proofs.lemmas.Bool.Decides.{nat_tests}
 use Rattle.awari_rank.specs.Rank.{rank_of}
-use Rattle.awari_owner.specs.Outboxes.{put_behind, with_note, IsBatch, AreBatches}
+use Rattle.awari_owner.specs.Outboxes.{Outboxes, put_behind, queue_to, with_note, AreBatches, AreOutboxes, IsBatch}
 use Rattle.awari_block.specs.Part.{Part}
 use Rattle.awari_owner.specs.Spread.{Source, is_held, note_to, goes_to, with_sent, with_all_sent, PutsAll}
 use Rattle.awari_block.specs.declared.notes.Kind.{Kind}
@@ -154,3 +154,10 @@ all_batches part span kind sources before old new len same puts are to d inside 
     let was : AreBatches (queue_in old to) = subst (λ b. AreBatches (get_or b to [])) (sym same) (are to [] low) in
     subst AreBatches (sym (puts to (omega (arith, low, olds, batches_length before))) ∙ get_or_default (batches_of new) to [] d inside)
     (sent_batches part span to kind sources (queue_in old to) was)
+
+-- the first batch of a queue has a note
+pub first_batch : (o : Outboxes) (to : ℕ) (b : List Note) (rest : List (List Note)) → AreOutboxes o → queue_to o to ≡ b ∷ rest → IsBatch b
+first_batch o to b rest are is = elim (cases_lt to (length o.queues)) [
+  | inl low ↦ subst AreBatches is (are.batches to [] low) 0 b (omega arith)
+  | inr high ↦ (let none : [] ≡ b ∷ rest = sym (get_or_past o.queues to [] high) ∙ is in absurd (cc))
+]

@@ -14,7 +14,7 @@ use Rattle.awari_block.specs.declared.notes.Kind.{Kind}
 use Rattle.awari_block.specs.declared.notes.Kind.TheVariants.{Won, Lost}
 use Rattle.awari_block.specs.declared.notes.Note.{Note}
 use Rattle.awari_owner.proofs.Spreading.{IsInjective}
-use Rattle.awari_owner.specs.Level.{AreOfOtherMoves}
+use Rattle.awari_owner.specs.Sound.{AreOfOtherMoves}
 
 -- ---- notes of a board
 

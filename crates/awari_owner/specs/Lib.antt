@@ -2,6 +2,7 @@ pub mod PartFields
 pub mod Spread
 pub mod Found
 pub mod OwnerFault
+pub mod Sound
 pub mod Level
 pub mod Finish
 pub mod Scan

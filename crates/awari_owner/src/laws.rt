@@ -1,14 +1,15 @@
 //! What follows of a level whose parts heard its notes.
 
-ghost use Rattle.std.specs.Prelude.{◌≡◌, ℕ, ℤ, ◌<◌, ◌≤◌, ◌^◌, ◌-◌, List, [], ◌∷◌, All, true, sum, length};
+ghost use Rattle.std.specs.Prelude.{◌≡◌, ℕ, ℤ, ◌<◌, ◌≤◌, List, [], ◌∷◌, All, sum, length};
 ghost use Rattle.std.specs.List.{AllZip};
 ghost use Rattle.awari_board.specs.Rules.{IsBoard};
 ghost use Rattle.awari_rank.specs.Rank.{rank_of};
-ghost use Rattle.awari_block.specs.Tally.{Cell, has_pit};
+ghost use Rattle.awari_block.specs.Tally.{Cell};
 ghost use Rattle.awari_owner.specs.Finish.{IsQuietAt, IsRightAt};
-ghost use Rattle.awari_owner.specs.Level.{AreHeard, AreSound, AreTold, AreWhole, DistancesFit, NotesFit, known_at, part_at};
-ghost use Rattle.awari_block.specs.Part.{Part, IsClosed, IsExpected, IsTallied, stored_at};
+ghost use Rattle.awari_owner.specs.Level.{AreHeard, AreSound, AreTold, AreWhole, DistancesFit, NotesFit, NothingComes, known_at, part_at};
+ghost use Rattle.awari_block.specs.Part.{Part, IsClosed, IsTallied};
 ghost use Rattle.awari_owner.specs.Scan.{IsScan, IsWhole};
+ghost use Rattle.awari_owner.specs.Sound.{CanTake};
 ghost use Rattle.awari_owner.specs.Spread.{HearsOwn, SameBlock};
 ghost use Rattle.awari_block.specs.declared.notes.Note.{Note};
 ghost use Rattle.awari_owner.specs.declared.queues.TheConstants.{MOST_NOTES};
@@ -47,8 +48,7 @@ pub fn sound_parts_are_told()
     ensures told { (value : List ℕ → ℤ) (level : ℕ) (parts : List Part) (coming taken : ℕ → ℕ → List Note) → 1 ≤ length parts
         → AreSound value level (length parts) (part_at parts) coming taken → AreTold value parts }
     ensures heard { (value : List ℕ → ℤ) (level : ℕ) (parts : List Part) (coming taken : ℕ → ℕ → List Note) → 1 ≤ length parts
-        → AreSound value level (length parts) (part_at parts) coming taken
-        → ((i j : ℕ) → i < length parts → j < length parts → (i ≡ j → ⊥) → coming i j ≡ []) → AreHeard value parts }
+        → AreSound value level (length parts) (part_at parts) coming taken → NothingComes (length parts) coming → AreHeard value parts }
 {}
 
 /// The parts of all owners have all boards of the level once they are scanned, and for as long as
@@ -70,8 +70,7 @@ pub fn one_part_hears_all()
 /// The next note on its way to an owner is never refused.
 pub fn coming_notes_are_expected()
     ensures { (value : List ℕ → ℤ) (n owners : ℕ) (part : ℕ → Part) (coming taken : ℕ → ℕ → List Note) → AreSound value n owners part coming taken
-        → (i j : ℕ) → i < owners → j < owners → (i ≡ j → ⊥) → (m : Note) (rest : List Note) → coming i j ≡ m ∷ rest
-        → IsExpected (part j) m × (has_pit (stored_at (part j) m.target).left m.pit ≡ true) × (m.dist < 2 ^ 32 - 1) }
+        → (i j : ℕ) → i < owners → j < owners → (i ≡ j → ⊥) → (m : Note) (rest : List Note) → coming i j ≡ m ∷ rest → CanTake (part j) m }
 {
     ranks_tell_boards_apart();
 }

@@ -3,8 +3,9 @@
 //! A level is shared out in blocks, and each owner has a [`Part`]: a cell for each board of its block.
 //! Gains are opened from the greatest down to 1, and within a gain distances from 0 on. A settled board
 //! tells the boards whose quiet moves lead to it that its mover won or lost that gain, which may settle
-//! those. Notes to other owners' boards go to the [`Outboxes`]. `specs/Level.antt` says what all parts
-//! together have heard, and `specs/Finish.antt` what is right in the end. Memory is taken by
+//! those. Notes to other owners' boards go to the [`Outboxes`]. `specs/Sound.antt` says what is true of
+//! one owner after each step, `specs/Level.antt` what all parts together have heard, and
+//! `specs/Finish.antt` what is right in the end. Memory is taken by
 //! `scanned_cells`, `Part::scan`, `Part::scan_parallel` and `Outboxes::new`, and by `Part::spread_one`
 //! if there is another owner.
 //!
@@ -23,6 +24,7 @@
 //!     }
 #![tactic(auto)]
 
+mod batches;
 mod faults;
 mod laws;
 mod outboxes;
@@ -35,6 +37,7 @@ mod scans;
 mod spreads;
 mod targets;
 
+pub use batches::take_batch;
 pub use faults::OwnerFault;
 pub use laws::{
     batches_have_32_notes, closed_parts_are_right, coming_notes_are_expected, distances_fit,

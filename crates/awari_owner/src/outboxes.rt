@@ -1,7 +1,7 @@
 //! The notes that an owner has still to send.
 
 ghost use Rattle.std.specs.Prelude.{◌≡◌, ◌≢◌, ◌≤◌, ◌<◌, ◌↔◌, ◌∷◌, [], All, List, IfOk, IfSome, IfNone, IsTrue, replicate, slice_set};
-ghost use Rattle.awari_owner.specs.Outboxes.{AreOutboxes, Outboxes as OutboxesView, queue_to};
+ghost use Rattle.awari_owner.specs.Outboxes.{AreOutboxes, IsBatch, Outboxes as OutboxesView, queue_to};
 ghost use Rattle.awari_block.specs.declared.notes.Note.{Note as NoteView};
 
 use crate::queues::{Batch, Queue};
@@ -56,10 +56,11 @@ impl Outboxes {
         true
     }
 
-    /// A copy of the first batch that is to be sent to this owner. None if nothing is to be sent
-    /// there, or `to` is not the number of another owner.
+    /// A copy of the first batch that is to be sent to this owner, which has 1 to 32 notes. None if
+    /// nothing is to be sent there, or `to` is not the number of another owner.
     pub fn front(&self, to: u8) -> Option<Batch>
         ensures some { IfSome result (λ batch. (rest : List (List NoteView)) × (queue_to self.now to ≡ batch.items ∷ rest)) }
+        ensures batch { IfSome result (λ batch. IsBatch batch.items) }
         ensures none { IfNone result (queue_to self.now to ≡ []) }
         ensures other { queue_to self.now self.now.owner ≡ [] }
     {

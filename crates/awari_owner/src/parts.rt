@@ -1,19 +1,19 @@
 //! One owner's part of a level, and what is asked of it between two spreads.
 
-ghost use Rattle.std.specs.Prelude.{◌≡◌, ◌⊎◌, ℕ, ℤ, ◌+◌, ◌-◌, ◌^◌, ◌<◌, ◌≤◌, ◌∷◌, ◌↔◌, List, IsTrue, OnOk, OnErr, IfOk, IfErr, IfSome, All, true, false, length, []};
+ghost use Rattle.std.specs.Prelude.{◌≡◌, ◌⊎◌, ℕ, ℤ, ◌+◌, ◌-◌, ◌^◌, ◌<◌, ◌≤◌, ◌↔◌, IsTrue, OnOk, OnErr, IfOk, IfErr, IfSome, All, true, false, length, []};
 ghost use Rattle.awari_rank.specs.Rank.{size_of};
-ghost use Rattle.awari_block.specs.Tally.{has_pit};
 ghost use Rattle.awari_block.specs.Cells.{IsWithin, IsBeyond};
-ghost use Rattle.awari_block.specs.Blocks.{due_dist, KeepSettled};
-ghost use Rattle.awari_block.specs.Part.{Part as PartView, InBlock, Leaves, IsExpected, IsTallied, stored_at, PutsCell, SameLevel, JoinsFresh, settled_at, IsLeastDue, AreFresh, HasFarthest, unspread, IsClosed};
+ghost use Rattle.awari_block.specs.Blocks.{due_dist};
+ghost use Rattle.awari_block.specs.Boards.{Settles};
+ghost use Rattle.awari_block.specs.Part.{Part as PartView, InBlock, Leaves, IsExpected, IsTallied, stored_at, settled_at, IsLeastDue, AreFresh, HasFarthest, IsClosed};
 ghost use Rattle.awari_owner.specs.OwnerFault.{IsFaultOf};
 ghost use Rattle.awari_block.specs.Leaving.{IsBlockOf, first_rank};
 ghost use Rattle.awari_owner.specs.Scan.{IsScan, IsScannedBlock, IsWhole};
-ghost use Rattle.awari_owner.specs.Spread.{HearsOwn, IsPartOf, Sends, Source, Spreads};
+ghost use Rattle.awari_owner.specs.Sound.{CanTake, KeepsOwn, KeepsTally, SamePlace, SpreadsFirst, TakesNote};
+ghost use Rattle.awari_owner.specs.Spread.{HearsOwn, IsPartOf};
 ghost use Rattle.awari_table.specs.Images.{table_of};
 ghost use Rattle.awari_table.specs.declared.TheConstants.{HIGHEST_LEVEL};
 ghost use Rattle.awari_owner.specs.declared.faults.OwnerFault.{OwnerFault};
-ghost use Rattle.awari_block.specs.declared.notes.Note.{Note as NoteView};
 
 use crate::faults::OwnerFault;
 use crate::outboxes::Outboxes;
@@ -182,14 +182,9 @@ impl Part {
         requires idle { self.old.fresh ≡ [] }
         requires next { gain + 1 ≡ self.old.gain }
         requires positive { 1 ≤ gain }
-        ensures opened { (value : List ℕ → ℤ) (notes : List NoteView) → IsTallied value self.old notes → IsTallied value self.new notes }
-        ensures hears { (notes : List NoteView) → HearsOwn self.old notes → HearsOwn self.new notes }
-        ensures gain { self.new.gain ≡ gain }
-        ensures wave { self.new.wave ≡ 0 }
-        ensures same { (self.new.level ≡ self.old.level) × (self.new.start ≡ self.old.start) × (length self.new.cells ≡ length self.old.cells) }
-        ensures joins { JoinsFresh self.old self.new }
-        ensures stays { KeepSettled self.old.start self.old.cells self.new.cells }
-        ensures unspread { unspread self.new ≡ unspread self.old }
+        ensures settles { Settles (record self.old { gain = gain; wave = 0 }) self.new }
+        ensures tallied { KeepsTally self.old self.new }
+        ensures own { KeepsOwn self.old self.new }
         ensures fresh { AreFresh self.new }
     {
         self.boards.open_gain(gain);
@@ -199,9 +194,9 @@ impl Part {
     pub fn open_wave(&mut self, dist: u32)
         requires farther { self.old.wave < dist }
         requires nearest { All (λ f. dist ≤ due_dist f) self.old.fresh }
-        ensures opened { (value : List ℕ → ℤ) (notes : List NoteView) → IsTallied value self.old notes → IsTallied value self.new notes }
-        ensures hears { (notes : List NoteView) → HearsOwn self.old notes → HearsOwn self.new notes }
         ensures wave { self.new ≡ record self.old { wave = dist } }
+        ensures tallied { KeepsTally self.old self.new }
+        ensures own { KeepsOwn self.old self.new }
         ensures fresh { AreFresh self.new }
     {
         self.boards.open_wave(dist);
@@ -211,13 +206,9 @@ impl Part {
     /// `Stranger`, else as 31 `Doubled`, else as 32 `Far`, and then nothing changes. It takes no
     /// memory.
     pub fn take(&mut self, note: Note) -> Result<(), OwnerFault>
-        ensures added { OnOk result ((value : List ℕ → ℤ) (notes : List NoteView) → IsTallied value self.old notes → IsTallied value self.new (note ∷ notes)) }
-        ensures hears { OnOk result ((notes : List NoteView) → HearsOwn self.old notes → HearsOwn self.new (note ∷ notes)) }
-        ensures puts { OnOk result (PutsCell self.old self.new note.target) }
-        ensures stays { KeepSettled self.old.start self.old.cells self.new.cells }
-        ensures unspread { unspread self.new ≡ unspread self.old }
+        ensures taken { OnOk result (TakesNote note self.old self.new) }
+        ensures can { OnOk result (CanTake self.old note) }
         ensures fresh { AreFresh self.new }
-        ensures ok { OnOk result (IsExpected self.old note × (has_pit (stored_at self.old note.target).left note.pit ≡ true) × (note.dist < 2 ^ 32 - 1)) }
         ensures refused { IfErr result (IsFaultOf self.old note) }
         ensures err { OnErr result (self.new ≡ self.old) }
     {
@@ -248,20 +239,16 @@ impl Part {
     /// takes no memory.
     pub fn spread_one(&mut self, outboxes: &mut Outboxes) -> Result<bool, OwnerFault>
         requires part { IsPartOf self.old outboxes.old }
-        ensures spread { result ≡ Ok true → (q : List ℕ) × (sources : List Source) × (notes : List NoteView)
-            × Spreads self.old self.new q sources × Sends self.old q sources notes outboxes.old outboxes.new }
-        ensures unspread { result ≡ Ok true → unspread self.new + 1 ≡ unspread self.old }
-        ensures none { result ≡ Ok false → self.new ≡ self.old }
+        ensures spread { result ≡ Ok true → SpreadsFirst self.old self.new outboxes.old outboxes.new }
         ensures due { result ≡ Ok false → IsLeastDue self.old (Some self.old.wave) → ⊥ }
         ensures least { (result ≡ Ok false → ⊥) → IsLeastDue self.old (Some self.old.wave) }
-        ensures same { SameLevel self.old self.new × (length self.new.cells ≡ length self.old.cells) }
-        ensures stays { KeepSettled self.old.start self.old.cells self.new.cells }
+        ensures none { result ≡ Ok false → (self.new ≡ self.old) × (outboxes.new ≡ outboxes.old) }
+        ensures place { SamePlace self.old self.new }
+        ensures owner { (outboxes.new.owner ≡ outboxes.old.owner) × (length outboxes.new.queues ≡ length outboxes.old.queues) }
         ensures fresh { AreFresh self.new }
         ensures fault { IfErr result (λ fault. ((fault ≡ OwnerFault.Far) × (self.old.wave ≡ 2 ^ 32 - 1) × IsLeastDue self.old (Some self.old.wave) × HasFarthest self.old)
             ⊎ ((fault ≡ OwnerFault.Memory) × (self.old.wave < 2 ^ 32 - 1) × (1 < length outboxes.old.queues))) }
         ensures err { OnErr result ((self.new ≡ self.old) × (outboxes.new ≡ outboxes.old)) }
-        ensures kept { result ≡ Ok false → outboxes.new ≡ outboxes.old }
-        ensures owner { (outboxes.new.owner ≡ outboxes.old.owner) × (length outboxes.new.queues ≡ length outboxes.old.queues) }
     {
         let Some(dist) = self.boards.due() else {
             return Ok(false);

@@ -1,17 +1,16 @@
 -- The owners of a level before any gain is open.
 use Rattle.std.proofs.Common.{◌≡◌, ℕ, ◌<◌, ◌≤◌, Option, Some, None, List, [], ◌∷◌, ◌++◌, length, map, All, ℤ, refl, sym, ap, subst, ◌∙◌, arith, get_or}
 use Rattle.std.proofs.lemmas.List.{length-map, map-append}
-use Rattle.std.proofs.lemmas.List.Elements.{All-nil, All-push}
-use Rattle.awari_rank.specs.Rank.{rank_of}
-use Rattle.awari_block.specs.Notes.{Has}
+use Rattle.std.proofs.lemmas.List.Elements.{All-push}
 use Rattle.awari_owner.specs.Outboxes.{notes_of, queue_to}
-use Rattle.awari_lines.specs.Lines.{AllUnused, IsGrid, IsUnused, UnusedOn, Notes, owners_of, received_from, received_on, sent_on, sent_to}
+use Rattle.awari_owner.specs.Sound.{IsScannedPart}
+use Rattle.awari_owner.proofs.Sounding.{sound_scanned}
+use Rattle.awari_lines.specs.Lines.{AllUnused, IsGrid, IsOther, IsUnused, UnusedOn, Notes, owners_of, received_from, received_on, sent_on, sent_to}
 use Rattle.awari_lines.specs.Seats.{seat_of}
 use Rattle.awari_lines.specs.declared.lines.Ends.{Ends}
 use Rattle.awari_lines.specs.declared.lines.Line.{Line}
 use Rattle.awari_phase.specs.declared.owners.Owner.{Owner}
-use Rattle.awari_phase.specs.Sound.{Batches, HoldsNotes, IsOpenBatch, IsOtherOf}
-use Rattle.awari_phase.specs.Owners.{AreFinished, IsScanned, IsSound, all_ends, ends_of, given_to, items_of}
+use Rattle.awari_phase.specs.Owners.{AreFinished, IsScanned, IsSound, all_ends, ends_of, given_to, items_of, notes_boxed, notes_given, notes_taken}
 use Rattle.awari_phase.proofs.Grown.{ends_at}
 
 -- these are the owners of these ends, as they are scanned
@@ -36,26 +35,15 @@ none_sent None u = refl
 none_sent (Some l) u = u.0
 
 -- an owner that was scanned, on lines that are not used, is sound
-sound_scanned : (value : List ℕ → ℤ) (n owners : ℕ) (o : Owner) → IsUnused o.ends → owners_of o.ends ≡ owners → IsScanned value n owners o.ends o → IsSound value o.ends o.part o.outboxes
-sound_scanned value n owners o unused count s = record {
-  heard = [];
-  tallied = s.tallied;
-  hears_own = s.hears;
-  taken_heard = λ j q m has. absurd (subst (λ (l : List Notes). Has (notes_of (map items_of l)) m) (none_received _ (unused (seat_of o.ends.owner j))) has);
-  heard_taken = λ m has. absurd has;
-  given_notes = λ j q. subst (λ (bs : Batches). HoldsNotes (owners_of o.ends) o.part j (notes_of bs)) (sym (given j q)) (record {
-    once = tt;
-    true_notes = λ m has. absurd has;
-    all_notes = λ p q x v d is stones inside block quiet spread. (let none : None ≡ Some (v, d) = sym (s.scan.unsettled (rank_of q) inside) ∙ spread.0 in cc);
-  });
-  opened = λ j q. subst (λ (bs : Batches). All (IsOpenBatch o.part) bs) (sym (none j q)) (All-nil (IsOpenBatch o.part));
-  fresh = s.fresh;
-}
+scanned : (value : List ℕ → ℤ) (n owners : ℕ) (o : Owner) → IsUnused o.ends → owners_of o.ends ≡ owners → IsScanned value n owners o.ends o → IsSound value o.ends o.part o.outboxes
+scanned value n owners o unused count s = sound_scanned value n o.ends.owner (owners_of o.ends) o.ends.owner o.part (notes_taken o.ends) (notes_given o.ends o.outboxes) (notes_boxed o.outboxes)
+    (subst (λ k. IsScannedPart value n k o.ends.owner o.part) (sym count) s.part)
+    (λ j q. ap (λ (l : List Notes). notes_of (map items_of l)) (none_received _ (unused (seat_of o.ends.owner j)))) (λ j q. ap notes_of (given j q)) (λ j q. ap notes_of (none j q))
   where
-    none : (j : ℕ) → IsOtherOf o.ends.owner (owners_of o.ends) j → queue_to o.outboxes j ≡ []
+    none : (j : ℕ) → IsOther o.ends j → queue_to o.outboxes j ≡ []
     none j q = s.sent j [] (let many = o.queues in let low = q.1 in omega (arith, many, low))
 
-    given : (j : ℕ) → IsOtherOf o.ends.owner (owners_of o.ends) j → given_to o.ends o.outboxes j ≡ []
+    given : (j : ℕ) → IsOther o.ends j → given_to o.ends o.outboxes j ≡ []
     given j q = ap (λ (l : List Notes). map items_of l ++ queue_to o.outboxes j) (none_sent _ (unused (seat_of o.ends.owner j))) ∙ none j q
 
 pub finished_scanned : (value : List ℕ → ℤ) (n owners : ℕ) (es : List Ends) (os : List Owner) → 1 ≤ owners → length es ≡ owners → IsGrid es → AllUnused es → ScannedTo value n owners es os → AreFinished value n os
@@ -70,9 +58,9 @@ finished_scanned value n owners es os first count g unused s =
       sent = λ i d h. (s.each i d h).sent;
       received = λ i j d. subst (λ (l : List Ends). i < length l → j < length l → (i ≡ j → ⊥) → received_from (get_or l i d) j ≡ sent_to (get_or l j d) i) (sym s.ends)
           (λ h k n. none_received _ (unused i d h (seat_of (get_or es i d).owner j)) ∙ sym (none_sent _ (unused j d k (seat_of (get_or es j d).owner i))));
-      sound = λ i d h. sound_scanned value n owners (get_or os i d) (subst (λ (e : Ends). IsUnused e) (ends i d h) (unused i d.ends (low i h)))
+      sound = λ i d h. scanned value n owners (get_or os i d) (subst (λ (e : Ends). IsUnused e) (ends i d h) (unused i d.ends (low i h)))
           (ap owners_of (sym (ends i d h)) ∙ (g.owners i d.ends (low i h) ∙ count)) (s.each i d h);
-      level = λ i d h. (s.each i d h).scan.level;
-      gain = λ i d h. (s.each i d h).scan.gain ∙ sym (s.each 0 d one).scan.gain;
-      wave = λ i d h. (s.each i d h).scan.wave ∙ sym (s.each 0 d one).scan.wave;
+      level = λ i d h. (s.each i d h).part.scan.level;
+      gain = λ i d h. (s.each i d h).part.scan.gain ∙ sym (s.each 0 d one).part.scan.gain;
+      wave = λ i d h. (s.each i d h).part.scan.wave ∙ sym (s.each 0 d one).part.scan.wave;
     }

@@ -2,17 +2,16 @@
 use Rattle.std.proofs.Common.{◌≡◌, ℕ, ◌<◌, max, List, [], ◌++◌, length, map, All, ℤ, refl, sym, ap, subst, ◌∙◌, arith, get_or}
 use Rattle.std.proofs.lemmas.List.{append-nil, length-map}
 use Rattle.std.proofs.Math.ListN.{get_or-map}
-use Rattle.awari_owner.specs.Outboxes.{Outboxes, queue_to}
+use Rattle.awari_owner.specs.Outboxes.{Outboxes, notes_of}
+use Rattle.awari_owner.specs.Sound as part
+use Rattle.awari_owner.proofs.Sounding.{place_same, sound_opened, stays_both, wave_opened}
 use Rattle.awari_block.specs.Blocks.{KeepSettled}
-use Rattle.awari_block.specs.Part.{Part, AreFresh, IsTallied}
-use Rattle.awari_owner.specs.Spread.{HearsOwn}
-use Rattle.awari_block.specs.declared.notes.Note.{Note}
-use Rattle.awari_lines.specs.Lines.{Notes, IsGrid, SameLines, SameHistory, owners_of, sent_to, received_from}
+use Rattle.awari_block.specs.Part.{Part}
+use Rattle.awari_lines.specs.Lines.{IsGrid, IsOther, SameLines, SameHistory, owners_of, sent_to, received_from}
 use Rattle.awari_lines.specs.declared.lines.Ends.{Ends}
 use Rattle.awari_phase.specs.declared.owners.Owner.{Owner}
-use Rattle.awari_phase.specs.Sound.{Batches, IsOtherOf, IsOpenBatch, OwnerSound}
-use Rattle.awari_phase.specs.Owners.{items_of, taken_from, given_to, IsSound, Kept, Grown, AllGrown, AreFinished, AreInStep, AreReceived, AreSent, OpensWave, all_ends, ends_of, rest_of}
-use Rattle.awari_phase.proofs.Keeping.{same_lines, lines_then, IsOther-on, prefix_then, OwnerSound-same, moved, same_block, stays_then}
+use Rattle.awari_phase.specs.Owners.{Batches, IsSound, notes_boxed, notes_given, notes_taken, Kept, Grown, AllGrown, AreFinished, AreInStep, AreReceived, AreSent, OpensWave, all_ends, ends_of, rest_of}
+use Rattle.awari_phase.proofs.Keeping.{same_lines, lines_then, IsOther-on, prefix_then, same_sound}
 use Rattle.awari_phase.proofs.Grown.{ends_at, grid_after}
 use Rattle.awari_phase.proofs.Each.{same_ends}
 
@@ -23,7 +22,7 @@ grown_refl a = record {
   gain = refl;
   start = refl;
   long = refl;
-  stays = (same_block a.part).stays;
+  stays = (place_same a.part).stays;
   received = λ j o. ([], append-nil (received_from a.ends j));
   sent = λ j o. ([], append-nil (sent_to a.ends j));
   sound = λ value h. h;
@@ -36,7 +35,7 @@ grown_trans a b c s t = record {
   gain = t.gain ∙ s.gain;
   start = t.start ∙ s.start;
   long = t.long ∙ s.long;
-  stays = stays_then a.part b.part c.part s.start s.stays t.stays;
+  stays = stays_both a.part b.part c.part s.start s.stays t.stays;
   received = λ j o. prefix_then (received_from a.ends j) (received_from b.ends j) (received_from c.ends j) (s.received j o) (t.received j (IsOther-on a.ends b.ends j s.lines o));
   sent = λ j o. prefix_then (sent_to a.ends j) (sent_to b.ends j) (sent_to c.ends j) (s.sent j o) (t.sent j (IsOther-on a.ends b.ends j s.lines o));
   sound = λ value h. t.sound value (s.sound value h);
@@ -65,50 +64,33 @@ grown_looked a b h r =
       gain = ap (λ (p : Part). p.gain) part;
       start = ap (λ (p : Part). p.start) part;
       long = ap (λ (p : Part). length p.cells) part;
-      stays = subst (λ (p : Part). KeepSettled a.part.start a.part.cells p.cells) (sym part) (same_block a.part).stays;
+      stays = subst (λ (p : Part). KeepSettled a.part.start a.part.cells p.cells) (sym part) (place_same a.part).stays;
       received = λ j o. ([], append-nil (received_from a.ends j) ∙ sym (h.received j o.0));
       sent = λ j o. ([], append-nil (sent_to a.ends j) ∙ sym (h.sent j o.0));
       sound = λ value s.
           subst (λ (p : Part). IsSound value b.ends p b.outboxes) (sym part) (subst (λ (o : Outboxes). IsSound value b.ends a.part o) (sym boxes)
-          (moved value a.ends b.ends a.part (taken_from b.ends) (given_to b.ends a.outboxes) (queue_to a.outboxes) h.lines
-          (OwnerSound-same value a.ends.owner (owners_of a.ends) a.part (taken_from a.ends) (taken_from b.ends) (given_to a.ends a.outboxes) (given_to b.ends a.outboxes) (queue_to a.outboxes) (queue_to a.outboxes)
-          (λ j o. ap (map items_of) (h.received j o.0)) (λ j o. ap (λ (l : List Notes). map items_of l ++ queue_to a.outboxes j) (h.sent j o.0)) (λ j o u. u) s)));
+          (same_sound value a.ends b.ends a.part a.outboxes h.lines (λ j o. h.sent j o.0) (λ j o. h.received j o.0) s));
     }
 
--- a greater distance opened, with nothing to be sent
-wave_sound : (value : List ℕ → ℤ) (owner owners d : ℕ) (part : Part) (taken given boxed : ℕ → Batches)
-    → ((notes : List Note) → IsTallied value part notes → IsTallied value (record part { wave = d }) notes)
-    → ((notes : List Note) → HearsOwn part notes → HearsOwn (record part { wave = d }) notes)
-    → ((j : ℕ) → IsOtherOf owner owners j → boxed j ≡ []) → AreFresh (record part { wave = d })
-    → OwnerSound value owner owners part taken given boxed → OwnerSound value owner owners (record part { wave = d }) taken given boxed
-wave_sound value owner owners d part taken given boxed opened hears none fresh s = record {
-  heard = s.heard;
-  tallied = opened s.heard s.tallied;
-  hears_own = hears s.heard s.hears_own;
-  taken_heard = s.taken_heard;
-  heard_taken = s.heard_taken;
-  given_notes = λ j o. (let h = s.given_notes j o in record { once = h.once; true_notes = h.true_notes; all_notes = h.all_notes });
-  opened = λ j o. subst (λ (bs : Batches). All (IsOpenBatch (record part { wave = d })) bs) (sym (none j o)) (λ i x lt. absurd (omega (arith, lt)));
-  fresh = fresh;
-}
+-- nothing is to be sent
+pub none_boxed : (a : Owner) → All (λ (q : Batches). q ≡ []) a.outboxes.queues → (j : ℕ) → IsOther a.ends j → notes_boxed a.outboxes j ≡ []
+none_boxed a none j o = ap notes_of (none j [] (let many = a.queues in let low = o.1 in omega (arith, many, low)))
 
-pub grown_wave : (a b : Owner) (d : ℕ) → b.ends ≡ a.ends → b.outboxes ≡ a.outboxes → b.part ≡ record a.part { wave = d } → All (λ (q : Batches). q ≡ []) a.outboxes.queues
-    → ((value : List ℕ → ℤ) (notes : List Note) → IsTallied value a.part notes → IsTallied value b.part notes)
-    → ((notes : List Note) → HearsOwn a.part notes → HearsOwn b.part notes) → AreFresh b.part → Grown a b
-grown_wave a b d e o p none opened hears fresh = record {
+-- a greater distance opened, with nothing to be sent
+pub grown_wave : (a b : Owner) (d : ℕ) → b.ends ≡ a.ends → b.outboxes ≡ a.outboxes → part.OpensWave d a.part b.part → All (λ (q : Batches). q ≡ []) a.outboxes.queues → Grown a b
+grown_wave a b d e o opens none = let p = opens.wave in record {
   lines = subst (λ (x : Ends). SameLines a.ends x) (sym e) (same_lines a.ends);
   level = ap (λ (x : Part). x.level) p;
   gain = ap (λ (x : Part). x.gain) p;
   start = ap (λ (x : Part). x.start) p;
   long = ap (λ (x : Part). length x.cells) p;
-  stays = subst (λ (x : Part). KeepSettled a.part.start a.part.cells x.cells) (sym p) (same_block a.part).stays;
+  stays = subst (λ (x : Part). KeepSettled a.part.start a.part.cells x.cells) (sym p) (place_same a.part).stays;
   received = λ j q. ([], append-nil (received_from a.ends j) ∙ ap (λ (x : Ends). received_from x j) (sym e));
   sent = λ j q. ([], append-nil (sent_to a.ends j) ∙ ap (λ (x : Ends). sent_to x j) (sym e));
   sound = λ value s.
-      subst (λ (x : Ends). IsSound value x b.part b.outboxes) (sym e) (subst (λ (x : Outboxes). IsSound value a.ends b.part x) (sym o) (subst (λ (x : Part). IsSound value a.ends x a.outboxes) (sym p)
-      (wave_sound value a.ends.owner (owners_of a.ends) d a.part (taken_from a.ends) (given_to a.ends a.outboxes) (queue_to a.outboxes)
-      (λ notes h. subst (λ (x : Part). IsTallied value x notes) p (opened value notes h)) (λ notes h. subst (λ (x : Part). HearsOwn x notes) p (hears notes h))
-      (λ j q. none j [] (let many = a.queues in let low = q.1 in omega (arith, many, low))) (subst AreFresh p fresh) s)));
+      subst (λ (x : Ends). IsSound value x b.part b.outboxes) (sym e) (subst (λ (x : Outboxes). IsSound value a.ends b.part x) (sym o)
+      (sound_opened value a.ends.owner (owners_of a.ends) a.part b.part (notes_taken a.ends) (notes_given a.ends a.outboxes) (notes_boxed a.outboxes)
+      (wave_opened d a.part b.part opens) (none_boxed a none) s));
 }
 
 -- ---- of all owners

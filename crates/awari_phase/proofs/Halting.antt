@@ -12,13 +12,13 @@ use Rattle.awari_owner.specs.declared.faults.OwnerFault.TheVariants.{Far, Memory
 use Rattle.awari_block.specs.declared.notes.Note.{Note}
 use Rattle.awari_lines.specs.Lines.{Notes, IsOther, SameLines, owners_of, sent_to, received_from}
 use Rattle.awari_lines.specs.declared.lines.Ends.{Ends}
-use Rattle.awari_owner.proofs.Lists.{Has-append_right}
+use Rattle.awari_owner.specs.Sound.{IsTimely, OwnerSound, SamePlace, with_taken}
+use Rattle.awari_owner.proofs.Lists.{Has-append_right, notes_of-last}
+use Rattle.awari_owner.proofs.Sounding.{place_both, place_settled, sound_same}
 use Rattle.awari_phase.specs.declared.owners.Owner.{Owner}
-use Rattle.awari_phase.specs.Sound.{Batches, IsOpenBatch, OwnerSound, SamePlace, with_taken}
-use Rattle.awari_phase.specs.Owners.{items_of, taken_from, given_to, IsSound, Kept}
+use Rattle.awari_phase.specs.Owners.{IsOpenBatch, items_of, taken_from, given_to, notes_boxed, notes_given, notes_taken, IsSound, Kept}
 use Rattle.awari_phase.specs.Stops.{HasWorked, StopsAt, StopsTaking, StopsSpreading}
-use Rattle.awari_phase.proofs.Batching.{notes_of-last}
-use Rattle.awari_phase.proofs.Keeping.{OwnerSound-same, block_then, lines_then, moved}
+use Rattle.awari_phase.proofs.Keeping.{lines_then, moved}
 
 -- what is due where the worker had this fault, and these notes of the last batch were not heard
 abbrev pub Due : Ends → Part → (ℕ → List Note) → OwnerFault → Type 0
@@ -28,9 +28,9 @@ Due e part left fault =
     ⊎ ((j : ℕ) × (m : Note) × (after : List Note) × IsOther e j × (left j ≡ m ∷ after) × IsFaultOf part m fault))
 
 -- Since it was this one the owner took and sent batches, and heard what it took but for the notes that are left of the last batch.
-pub record Halts (value : List ℕ → ℤ) (a : Owner) (e : Ends) (part : Part) (o : Outboxes) (told : Option OwnerFault) (taken : ℕ → Batches) (left : ℕ → List Note) : Type 0 where
-  pub sound : OwnerSound value e.owner (owners_of e) part taken (given_to e o) (queue_to o)
-  pub whole : (j : ℕ) → IsOther e j → notes_of (taken_from e j) ≡ notes_of (taken j) ++ left j
+pub record Halts (value : List ℕ → ℤ) (a : Owner) (e : Ends) (part : Part) (o : Outboxes) (told : Option OwnerFault) (taken left : ℕ → List Note) : Type 0 where
+  pub sound : OwnerSound value e.owner (owners_of e) part taken (notes_given e o) (notes_boxed o)
+  pub whole : (j : ℕ) → IsOther e j → notes_taken e j ≡ taken j ++ left j
   pub came : (j : ℕ) → IsOther e j → (more : List Notes) × (received_from e j ≡ received_from a.ends j ++ more) × ((m : Note) → Has (left j) m → Has (notes_of (map items_of more)) m)
   pub sent : (j : ℕ) → IsOther e j → (gone : List Notes) × (sent_to e j ≡ sent_to a.ends j ++ gone) × All (IsOpenBatch a.part) (map items_of gone)
   pub block : SamePlace a.part part
@@ -42,10 +42,10 @@ IsOther-back a b j s o = ((λ e. o.0 (e ∙ sym s.owner)), (let p : vec_len b.li
 
 -- without a fault, or with one and nothing that it changed
 halts_kept : (value : List ℕ → ℤ) (a b : Owner) (told : Option OwnerFault) → Kept a b → ((fault : OwnerFault) → told ≡ Some fault → (fault ≡ Memory) ⊎ ((fault ≡ Far) × HasFarthest b.part))
-    → IsSound value a.ends a.part a.outboxes → Halts value a b.ends b.part b.outboxes told (taken_from b.ends) (λ _. [])
+    → IsSound value a.ends a.part a.outboxes → Halts value a b.ends b.part b.outboxes told (notes_taken b.ends) (λ _. [])
 halts_kept value a b told kept why s = record {
   sound = kept.sound value s;
-  whole = λ j o. sym (append-nil (notes_of (taken_from b.ends j)));
+  whole = λ j o. sym (append-nil (notes_taken b.ends j));
   came = λ j o. (let more = kept.received j (IsOther-back a.ends b.ends j kept.lines o) in (more.0, sym more.1, λ m has. absurd has));
   sent = λ j o. (let gone = kept.sent j (IsOther-back a.ends b.ends j kept.lines o) in (gone.0, gone.1, gone.2 value s));
   block = kept.block;
@@ -55,11 +55,11 @@ halts_kept value a b told kept why s = record {
 
 -- with a fault of a spread
 halts_spreading : (value : List ℕ → ℤ) (a u : Owner) (e : Ends) (part : Part) (o : Outboxes) (fault : OwnerFault) → Kept a u → StopsSpreading u.ends u.part u.outboxes e part o fault
-    → IsSound value a.ends a.part a.outboxes → Halts value a e part o (Some fault) (taken_from e) (λ _. [])
+    → IsSound value a.ends a.part a.outboxes → Halts value a e part o (Some fault) (notes_taken e) (λ _. [])
 halts_spreading value a u e part o fault kept t s =
-    subst (λ (x : Ends). Halts value a x part o (Some fault) (taken_from x) (λ _. [])) (sym t.ends)
-    (subst (λ (x : Part). Halts value a u.ends x o (Some fault) (taken_from u.ends) (λ _. [])) (sym t.cells)
-    (subst (λ (x : Outboxes). Halts value a u.ends u.part x (Some fault) (taken_from u.ends) (λ _. [])) (sym t.outboxes)
+    subst (λ (x : Ends). Halts value a x part o (Some fault) (notes_taken x) (λ _. [])) (sym t.ends)
+    (subst (λ (x : Part). Halts value a u.ends x o (Some fault) (notes_taken u.ends) (λ _. [])) (sym t.cells)
+    (subst (λ (x : Outboxes). Halts value a u.ends u.part x (Some fault) (notes_taken u.ends) (λ _. [])) (sym t.outboxes)
     (halts_kept value a u (Some fault) kept (λ had is. subst (λ (f : OwnerFault). (f ≡ Memory) ⊎ ((f ≡ Far) × HasFarthest u.part)) (same fault had is) t.refused) s)))
   where
     same : (x y : OwnerFault) → Some x ≡ Some y → x ≡ y
@@ -80,8 +80,8 @@ module _ (value : List ℕ → ℤ) (a u : Owner) (e : Ends) (part : Part) (o : 
   abbrev after : List Note
   after = t.refuses.note ∷ t.refuses.after
 
-  abbrev taken : ℕ → Batches
-  taken = with_taken (taken_from u.ends) t.from before
+  abbrev taken : ℕ → List Note
+  taken = with_taken (notes_taken u.ends) t.from before
 
   abbrev left : ℕ → List Note
   left j = cond (j == t.from) after []
@@ -93,20 +93,20 @@ module _ (value : List ℕ → ℤ) (a u : Owner) (e : Ends) (part : Part) (o : 
   given_same j other =
       ap (λ (l : List Notes). map items_of l ++ queue_to o j) (t.sent j other) ∙ ap (λ (b : Outboxes). map items_of (sent_to u.ends j) ++ queue_to b j) t.outboxes
 
-  popped : notes_of (taken_from e t.from) ≡ notes_of (taken_from u.ends t.from ++ before ∷ []) ++ after
+  popped : notes_taken e t.from ≡ (notes_taken u.ends t.from ++ before) ++ after
   popped =
       ap (λ (l : List Notes). notes_of (map items_of l)) t.popped ∙ ap notes_of (map-append items_of (received_from u.ends t.from) (t.batch ∷ []))
-      ∙ notes_of-last (taken_from u.ends t.from) (items_of t.batch) ∙ ap (λ l. notes_of (taken_from u.ends t.from) ++ l) t.refuses.items
-      ∙ sym (append_assoc (notes_of (taken_from u.ends t.from)) before after) ∙ ap (λ l. l ++ after) (sym (notes_of-last (taken_from u.ends t.from) before))
+      ∙ notes_of-last (taken_from u.ends t.from) (items_of t.batch) ∙ ap (λ l. notes_taken u.ends t.from ++ l) t.refuses.items
+      ∙ sym (append_assoc (notes_taken u.ends t.from) before after)
 
-  whole : (j : ℕ) → IsOther e j → notes_of (taken_from e j) ≡ notes_of (taken j) ++ left j
+  whole : (j : ℕ) → IsOther e j → notes_taken e j ≡ taken j ++ left j
   whole j other = at (j == t.from) refl
     where
-      at : (b : Bool) → (j == t.from) ≡ b → notes_of (taken_from e j) ≡ notes_of (cond b (taken_from u.ends j ++ before ∷ []) (taken_from u.ends j)) ++ cond b after []
+      at : (b : Bool) → (j == t.from) ≡ b → notes_taken e j ≡ cond b (notes_taken u.ends j ++ before) (notes_taken u.ends j) ++ cond b after []
       at true is =
-          let P : ℕ → Type 0 = λ k. notes_of (taken_from e k) ≡ notes_of (taken_from u.ends k ++ before ∷ []) ++ after in
+          let P : ℕ → Type 0 = λ k. notes_taken e k ≡ (notes_taken u.ends k ++ before) ++ after in
           subst P (sym (eqb-true j t.from is)) popped
-      at false is = ap (λ (l : List Notes). notes_of (map items_of l)) (t.others j (there j other) (differ j t.from is)) ∙ sym (append-nil (notes_of (taken_from u.ends j)))
+      at false is = ap (λ (l : List Notes). notes_of (map items_of l)) (t.others j (there j other) (differ j t.from is)) ∙ sym (append-nil (notes_taken u.ends j))
 
   came : (j : ℕ) → IsOther e j → (more : List Notes) × (received_from e j ≡ received_from a.ends j ++ more) × ((m : Note) → Has (left j) m → Has (notes_of (map items_of more)) m)
   came j other = at (j == t.from) refl
@@ -126,14 +126,14 @@ module _ (value : List ℕ → ℤ) (a u : Owner) (e : Ends) (part : Part) (o : 
 
   halts_taking : Halts value a e part o (Some fault) taken left
   halts_taking = record {
-    sound = moved value u.ends e part taken (given_to e o) (queue_to o) t.lines
-        (OwnerSound-same value u.ends.owner (owners_of u.ends) part taken taken (given_to u.ends u.outboxes) (given_to e o) (queue_to u.outboxes) (queue_to o)
-        (λ j q. refl) given_same (λ j q h. subst (λ (b : Outboxes). All (IsOpenBatch part) (queue_to b j)) (sym t.outboxes) h)
-        (t.refuses.sound value u.ends.owner (owners_of u.ends) t.from (taken_from u.ends) (given_to u.ends u.outboxes) (queue_to u.outboxes) t.other (kept.sound value s)));
+    sound = moved value u.ends e part taken (notes_given e o) (notes_boxed o) t.lines
+        (sound_same value u.ends.owner (owners_of u.ends) part taken taken (notes_given u.ends u.outboxes) (notes_given e o) (notes_boxed u.outboxes) (notes_boxed o)
+        (λ j q. refl) (λ j q. ap notes_of (given_same j q)) (λ j q h. subst (λ (b : Outboxes). All (IsTimely part) (notes_boxed b j)) (sym t.outboxes) h)
+        (t.refuses.taken.sound value u.ends.owner (owners_of u.ends) t.from (notes_taken u.ends) (notes_given u.ends u.outboxes) (notes_boxed u.outboxes) t.other (kept.sound value s)));
     whole = whole;
     came = came;
     sent = λ j other. (let gone = kept.sent j (IsOther-back a.ends u.ends j kept.lines (there j other)) in (gone.0, t.sent j (there j other) ∙ gone.1, gone.2 value s));
-    block = block_then a.part u.part part kept.block t.block;
+    block = place_both a.part u.part part kept.block (place_settled u.part part t.refuses.taken.settles);
     lines = lines_then a.ends u.ends e kept.lines t.lines;
     due = λ had is. inr (inr (
       t.from,
@@ -153,15 +153,15 @@ module _ (value : List ℕ → ℤ) (a u : Owner) (e : Ends) (part : Part) (o : 
 
 -- whatever became of it
 pub halts : (value : List ℕ → ℤ) (a b : Owner) → HasWorked a b → IsSound value a.ends a.part a.outboxes
-    → (x : (ℕ → Batches) × (ℕ → List Note)) × Halts value a b.ends b.part b.outboxes b.fault x.0 x.1
+    → (x : (ℕ → List Note) × (ℕ → List Note)) × Halts value a b.ends b.part b.outboxes b.fault x.0 x.1
 halts value a b worked s = at b.fault refl
   where
-    stopped : (fault : OwnerFault) → StopsAt a b.ends b.part b.outboxes fault → (x : (ℕ → Batches) × (ℕ → List Note)) × Halts value a b.ends b.part b.outboxes (Some fault) x.0 x.1
+    stopped : (fault : OwnerFault) → StopsAt a b.ends b.part b.outboxes fault → (x : (ℕ → List Note) × (ℕ → List Note)) × Halts value a b.ends b.part b.outboxes (Some fault) x.0 x.1
     stopped fault h = elim h.stops [
       | inl t ↦ ((_, _), halts_taking value a h.until b.ends b.part b.outboxes fault h.kept t s)
       | inr t ↦ ((_, _), halts_spreading value a h.until b.ends b.part b.outboxes fault h.kept t s)
     ]
 
-    at : (told : Option OwnerFault) → b.fault ≡ told → (x : (ℕ → Batches) × (ℕ → List Note)) × Halts value a b.ends b.part b.outboxes told x.0 x.1
+    at : (told : Option OwnerFault) → b.fault ≡ told → (x : (ℕ → List Note) × (ℕ → List Note)) × Halts value a b.ends b.part b.outboxes told x.0 x.1
     at None is = ((_, _), halts_kept value a b None (worked.kept is) (λ fault none. (let e : None ≡ Some fault = none in absurd (cc))) s)
     at (Some fault) is = stopped fault (worked.stopped fault is)

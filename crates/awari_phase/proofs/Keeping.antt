@@ -1,23 +1,23 @@
 -- What a worker's steps keep.
-use Rattle.std.proofs.Common.{◌≡◌, ◌≢◌, ℕ, suc, ◌+◌, ◌==◌, ◌<◌, ◌≤◌, List, [], ◌∷◌, ◌++◌, length, map, All, ℤ, Option, Some, None, Bool, true, false, if◌then◌else◌, refl, sym, ap, subst, subst₂, ◌∙◌, inl, inr, arith, append_assoc, vec_len, get_or}
+use Rattle.std.proofs.Common.{◌≡◌, ◌≢◌, ℕ, suc, ◌+◌, ◌==◌, ◌<◌, ◌≤◌, List, [], ◌∷◌, ◌++◌, length, map, All, ℤ, Option, Some, None, Result, Ok, Bool, true, false, if◌then◌else◌, refl, sym, ap, subst, subst₂, ◌∙◌, inl, inr, arith, append_assoc, vec_len, get_or}
 use Rattle.std.proofs.lemmas.List.{append-nil, map-append}
 use Rattle.std.proofs.lemmas.List.Elements.{All-append}
 use Rattle.std.proofs.lemmas.Bool.{cases_eq, eqb-true}
 use Rattle.std.proofs.lemmas.Bool.Decides.{nat_tests}
 use Rattle.std.specs.List.{slice_get}
 use mathlib.Core.List.{IsPrefix}
-use Rattle.awari_block.specs.Notes.{Has}
-use Rattle.awari_owner.specs.Outboxes.{Outboxes, queue_to, notes_of}
-use Rattle.awari_block.specs.Blocks.{KeepSettled}
-use Rattle.awari_block.specs.Cells.{is_settled}
-use Rattle.awari_block.specs.Part.{Part, unspread}
+use Rattle.awari_owner.specs.Outboxes.{IsBatch, Outboxes, queue_to, notes_of}
+use Rattle.awari_owner.specs.Sound.{IsTimely, OwnerSound, SamePlace, SpreadsFirst, TakesNotes, with_taken}
+use Rattle.awari_owner.specs.declared.faults.OwnerFault.{OwnerFault}
+use Rattle.awari_owner.proofs.Lists.{all_left, all_right, notes_of-append, notes_of-last}
+use Rattle.awari_owner.proofs.Sounding.{place_both, place_same, place_settled, sound_same, timely_all}
+use Rattle.awari_block.specs.Part.{Part}
 use Rattle.awari_lines.specs.declared.lines.Ends.{Ends}
 use Rattle.awari_lines.specs.declared.lines.Line.{Line}
 use Rattle.awari_block.specs.declared.notes.Note.{Note}
 use Rattle.awari_lines.specs.Lines.{Notes, IsOther, SameLines, SameBut, SameRings, sent_to, received_from, sent_on, received_on, line_of, owners_of}
 use Rattle.awari_phase.specs.declared.owners.Owner.{Owner}
-use Rattle.awari_phase.specs.Sound.{Batches, IsOtherOf, HoldsNotes, IsOpenBatch, OwnerSound, with_taken, SamePlace}
-use Rattle.awari_phase.specs.Owners.{items_of, taken_from, given_to, IsSound, Keeps, Kept}
+use Rattle.awari_phase.specs.Owners.{Batches, IsOpenBatch, IsSound, Keeps, Kept, given_to, items_of, notes_boxed, notes_given, notes_taken, taken_from}
 
 -- ---- lines
 
@@ -48,57 +48,27 @@ IsOther-on a b k s o = ((λ e. o.0 (e ∙ s.owner)), (let p : vec_len b.lines �
 pub prefix_then : (xs ys zs : List Notes) → IsPrefix xs ys → IsPrefix ys zs → IsPrefix xs zs
 prefix_then xs ys zs p q = (p.0 ++ q.0, sym (append_assoc xs p.0 q.0) ∙ (ap (λ l. l ++ q.0) p.1 ∙ q.1))
 
--- ---- blocks
-
--- settled boards that kept value and distance, and kept them again
-pub stays_then : (a b c : Part) → b.start ≡ a.start → KeepSettled a.start a.cells b.cells → KeepSettled b.start b.cells c.cells → KeepSettled a.start a.cells c.cells
-stays_then a b c at s t rank low settled =
-    let here : KeepSettled a.start b.cells c.cells = subst (λ (i : ℕ). KeepSettled i b.cells c.cells) at t in
-    let one = s rank low settled in
-    let two = here rank low (ap is_settled one.0 ∙ settled) in
-    (two.0 ∙ one.0, two.1 ∙ one.1, two.2 ∙ one.2)
-
-pub same_block : (a : Part) → SamePlace a a
-same_block a = record { level = record { level = refl; gain = refl; wave = refl; start = refl }; long = refl; stays = λ rank low settled. (refl, refl, refl) }
-
-pub block_then : (a b c : Part) → SamePlace a b → SamePlace b c → SamePlace a c
-block_then a b c s t = record {
-  level = record { level = t.level.level ∙ s.level.level; gain = t.level.gain ∙ s.level.gain; wave = t.level.wave ∙ s.level.wave; start = t.level.start ∙ s.level.start };
-  long = t.long ∙ s.long;
-  stays = stays_then a b c s.level.start s.stays t.stays;
-}
-
 -- a batch of the open gain and distance is so of each part of them
+pub open_place : (a b : Part) → SamePlace a b → (x : List Note) → IsOpenBatch a x → IsOpenBatch b x
+open_place a b s x h = record { whole = h.whole; opened = timely_all a b s.level.level s.level.gain s.level.wave x h.opened }
+
 open_back : (a b : Part) → SamePlace a b → (x : List Note) → IsOpenBatch b x → IsOpenBatch a x
-open_back a b s x h = record {
-  some = h.some;
-  few = h.few;
-  opened = λ k d lt. (let m = h.opened k d lt in (m.0 ∙ s.level.gain, m.1 ∙ s.level.wave, m.2));
-}
+open_back a b s x h = record { whole = h.whole; opened = timely_all b a (sym s.level.level) (sym s.level.gain) (sym s.level.wave) x h.opened }
 
--- ---- soundness, of equal lists
+-- ---- soundness, on the same lines
 
-module _ (value : List ℕ → ℤ) (owner owners : ℕ) (part : Part) where
-  pub OwnerSound-same : (taken taken' given given' boxed boxed' : ℕ → Batches)
-      → ((j : ℕ) → IsOtherOf owner owners j → taken' j ≡ taken j) → ((j : ℕ) → IsOtherOf owner owners j → given' j ≡ given j)
-      → ((j : ℕ) → IsOtherOf owner owners j → All (IsOpenBatch part) (boxed j) → All (IsOpenBatch part) (boxed' j))
-      → OwnerSound value owner owners part taken given boxed → OwnerSound value owner owners part taken' given' boxed'
-  OwnerSound-same taken taken' given given' boxed boxed' t g b s = record {
-    heard = s.heard;
-    tallied = s.tallied;
-    hears_own = s.hears_own;
-    taken_heard = λ j o m h. s.taken_heard j o m (subst (λ (l : Batches). Has (notes_of l) m) (t j o) h);
-    heard_taken = λ m h l. (let e = s.heard_taken m h l in (e.0, e.1, subst (λ (bs : Batches). Has (notes_of bs) m) (sym (t e.0 e.1)) e.2));
-    given_notes = λ j o. subst (λ (bs : Batches). HoldsNotes owners part j (notes_of bs)) (sym (g j o)) (s.given_notes j o);
-    opened = λ j o. b j o (s.opened j o);
-    fresh = s.fresh;
-  }
-
-pub moved : (value : List ℕ → ℤ) (e e' : Ends) (part : Part) (T G B : ℕ → Batches) → SameLines e e'
+pub moved : (value : List ℕ → ℤ) (e e' : Ends) (part : Part) (T G B : ℕ → List Note) → SameLines e e'
     → OwnerSound value e.owner (owners_of e) part T G B → OwnerSound value e'.owner (owners_of e') part T G B
 moved value e e' part T G B s h =
     let many : owners_of e' ≡ owners_of e = ap (λ n. n + 1) s.owners in
     subst (λ n. OwnerSound value e'.owner n part T G B) (sym many) (subst (λ i. OwnerSound value i (owners_of e) part T G B) (sym s.owner) h)
+
+-- the same was taken and given, and the same is to be sent
+pub same_sound : (value : List ℕ → ℤ) (e e' : Ends) (part : Part) (o : Outboxes) → SameLines e e'
+    → ((j : ℕ) → IsOther e j → sent_to e' j ≡ sent_to e j) → ((j : ℕ) → IsOther e j → received_from e' j ≡ received_from e j) → IsSound value e part o → IsSound value e' part o
+same_sound value e e' part o lines s r h = moved value e e' part (notes_taken e') (notes_given e' o) (notes_boxed o) lines
+    (sound_same value e.owner (owners_of e) part (notes_taken e) (notes_taken e') (notes_given e o) (notes_given e' o) (notes_boxed o) (notes_boxed o)
+    (λ k q. ap (λ (l : List Notes). notes_of (map items_of l)) (r k q)) (λ k q. ap (λ (l : List Notes). notes_of (map items_of l ++ queue_to o k)) (s k q)) (λ k q a. a) h)
 
 -- ---- one line
 
@@ -127,63 +97,58 @@ module _ (e e' : Ends) (j : ℕ) (lines : SameLines e e') (others : SameBut e e'
   pub still_keeps : (part : Part) (o : Outboxes) → sent_to e' j ≡ sent_to e j → received_from e' j ≡ received_from e j → Keeps e part o e' part o
   still_keeps part o s r = record {
     lines = lines;
-    block = same_block part;
+    block = place_same part;
     owner = refl;
     owners = refl;
     received = λ k q. ([], append-nil (received_from e k) ∙ sym (received_same r k q));
     sent = λ k q. ([], sent_same s k q ∙ sym (append-nil (sent_to e k)), λ value h i d lt. absurd (omega (arith, lt)));
-    sound = λ value h. moved value e e' part (taken_from e') (given_to e' o) (queue_to o) lines
-        (OwnerSound-same value e.owner (owners_of e) part (taken_from e) (taken_from e') (given_to e o) (given_to e' o) (queue_to o) (queue_to o)
-        (λ k q. ap (map items_of) (received_same r k q)) (λ k q. ap (λ (l : List Notes). map items_of l ++ queue_to o k) (sent_same s k q)) (λ k q a. a) h);
+    sound = λ value h. same_sound value e e' part o lines (sent_same s) (received_same r) h;
     unspread = omega arith;
   }
 
   -- a batch was popped and heard
-  taken_more : (b : Notes) → received_from e' j ≡ received_from e j ++ b ∷ [] → (k : ℕ) → IsOther e k → taken_from e' k ≡ with_taken (taken_from e) j b.items k
+  taken_more : (b : Notes) → received_from e' j ≡ received_from e j ++ b ∷ [] → (k : ℕ) → IsOther e k → notes_taken e' k ≡ with_taken (notes_taken e) j b.items k
   taken_more b h k o = by (k == j) refl
     where
       differ : (x y : ℕ) → (x == y) ≡ false → x ≢ y
       differ x y f = grind (arith, nat_tests)
 
-      by : (t : Bool) → (k == j) ≡ t → taken_from e' k ≡ (if t then taken_from e k ++ b.items ∷ [] else taken_from e k)
+      by : (t : Bool) → (k == j) ≡ t → notes_taken e' k ≡ (if t then notes_taken e k ++ b.items else notes_taken e k)
       by true f =
-          let P : ℕ → Type 0 = λ q. taken_from e' q ≡ taken_from e q ++ b.items ∷ [] in
-          subst P (sym (eqb-true k j f)) (ap (map items_of) h ∙ map-append items_of (received_from e j) (b ∷ []))
-      by false f = ap (λ (l : Option Line). map items_of (received_on l)) (others k (differ k j f) o.0)
+          let P : ℕ → Type 0 = λ q. notes_taken e' q ≡ notes_taken e q ++ b.items in
+          subst P (sym (eqb-true k j f)) (ap (λ (l : List Notes). notes_of (map items_of l)) h ∙ ap notes_of (map-append items_of (received_from e j) (b ∷ [])) ∙ notes_of-last (taken_from e j) b.items)
+      by false f = ap (λ (l : Option Line). notes_of (map items_of (received_on l))) (others k (differ k j f) o.0)
 
-  pub take_keeps : (part part' : Part) (o : Outboxes) (b : Notes) → sent_to e' j ≡ sent_to e j → received_from e' j ≡ received_from e j ++ b ∷ [] → IsOther e j → SamePlace part part'
-      → unspread part' ≡ unspread part
-      → ((value : List ℕ → ℤ) (owner owners from : ℕ) (taken given boxed : ℕ → Batches) → IsOtherOf owner owners from
-      → OwnerSound value owner owners part taken given boxed → OwnerSound value owner owners part' (with_taken taken from b.items) given boxed)
+  pub take_keeps : (part part' : Part) (o : Outboxes) (b : Notes) → sent_to e' j ≡ sent_to e j → received_from e' j ≡ received_from e j ++ b ∷ [] → IsOther e j → TakesNotes b.items part part'
       → Keeps e part o e' part' o
-  take_keeps part part' o b s r other block left hears = record {
+  take_keeps part part' o b s r other takes = record {
     lines = lines;
-    block = block;
+    block = place_settled part part' takes.settles;
     owner = refl;
     owners = refl;
     received = received_grown b r;
     sent = λ k q. ([], sent_same s k q ∙ sym (append-nil (sent_to e k)), λ value h i d lt. absurd (omega (arith, lt)));
-    sound = λ value h. moved value e e' part' (taken_from e') (given_to e' o) (queue_to o) lines
-        (OwnerSound-same value e.owner (owners_of e) part' (with_taken (taken_from e) j b.items) (taken_from e') (given_to e o) (given_to e' o) (queue_to o) (queue_to o)
-        (taken_more b r) (λ k q. ap (λ (l : List Notes). map items_of l ++ queue_to o k) (sent_same s k q)) (λ k q a. a)
-        (hears value e.owner (owners_of e) j (taken_from e) (given_to e o) (queue_to o) other h));
-    unspread = omega (arith, left);
+    sound = λ value h. moved value e e' part' (notes_taken e') (notes_given e' o) (notes_boxed o) lines
+        (sound_same value e.owner (owners_of e) part' (with_taken (notes_taken e) j b.items) (notes_taken e') (notes_given e o) (notes_given e' o) (notes_boxed o) (notes_boxed o)
+        (taken_more b r) (λ k q. ap (λ (l : List Notes). notes_of (map items_of l ++ queue_to o k)) (sent_same s k q)) (λ k q a. a)
+        (takes.sound value e.owner (owners_of e) j (notes_taken e) (notes_given e o) (notes_boxed o) other h));
+    unspread = (let left = takes.settles.unspread in omega (arith, left));
   }
 
   -- the first batch of the queue was pushed
-  pub send_keeps : (part : Part) (o o' : Outboxes) (b : Notes) (rest : Batches) → sent_to e' j ≡ sent_to e j ++ b ∷ [] → received_from e' j ≡ received_from e j → IsOther e j
+  pub send_keeps : (part : Part) (o o' : Outboxes) (b : Notes) (rest : Batches) → sent_to e' j ≡ sent_to e j ++ b ∷ [] → received_from e' j ≡ received_from e j → IsOther e j → IsBatch b.items
       → queue_to o j ≡ b.items ∷ rest → queue_to o' j ≡ rest → ((k : ℕ) → k ≢ j → queue_to o' k ≡ queue_to o k) → o'.owner ≡ o.owner → length o'.queues ≡ length o.queues
       → Keeps e part o e' part o'
-  send_keeps part o o' b rest s r other first left same owner owners = record {
+  send_keeps part o o' b rest s r other whole first left same owner owners = record {
     lines = lines;
-    block = same_block part;
+    block = place_same part;
     owner = owner;
     owners = owners;
     received = λ k q. ([], append-nil (received_from e k) ∙ sym (received_same r k q));
     sent = sent_at;
-    sound = λ value h. moved value e e' part (taken_from e') (given_to e' o') (queue_to o') lines
-        (OwnerSound-same value e.owner (owners_of e) part (taken_from e) (taken_from e') (given_to e o) (given_to e' o') (queue_to o) (queue_to o')
-        (λ k q. ap (map items_of) (received_same r k q)) given_at boxed_at h);
+    sound = λ value h. moved value e e' part (notes_taken e') (notes_given e' o') (notes_boxed o') lines
+        (sound_same value e.owner (owners_of e) part (notes_taken e) (notes_taken e') (notes_given e o) (notes_given e' o') (notes_boxed o) (notes_boxed o')
+        (λ k q. ap (λ (l : List Notes). notes_of (map items_of l)) (received_same r k q)) (λ k q. ap notes_of (given_at k q)) boxed_at h);
     unspread = omega arith;
   }
     where
@@ -198,8 +163,8 @@ module _ (e e' : Ends) (j : ℕ) (lines : SameLines e e') (others : SameBut e e'
               (let Q : ℕ → Type 0 = λ i. sent_to e' i ≡ sent_to e i ++ b ∷ [] in subst Q (sym at) s),
               λ value h i d lt.
                   (let zeroth : i ≡ 0 = omega (arith, lt) in
-                  let head = subst (λ (bs : Batches). All P bs) first (h.opened j other) 0 d (omega arith) in
-                  subst (λ (n : ℕ). P (get_or (b.items ∷ []) n d)) (sym zeroth) head),
+                  let all = subst (All (IsTimely part)) (ap notes_of first) (h.opened j other) in
+                  subst (λ (n : ℕ). P (get_or (b.items ∷ []) n d)) (sym zeroth) (record { whole = whole; opened = all_left (IsTimely part) b.items (notes_of rest) all })),
             )
             | inr n ↦ ([], ap sent_on (others k n q.0) ∙ sym (append-nil (sent_to e k)), λ value h i d lt. absurd (omega (arith, lt)))
           ]
@@ -217,56 +182,72 @@ module _ (e e' : Ends) (j : ℕ) (lines : SameLines e e') (others : SameBut e e'
             | inr n ↦ ap (λ (l : Option Line). map items_of (sent_on l) ++ queue_to o' k) (others k n q.0) ∙ ap (λ (l : Batches). map items_of (sent_to e k) ++ l) (same k n)
           ]
 
-      boxed_at : (k : ℕ) → IsOther e k → All P (queue_to o k) → All P (queue_to o' k)
+      boxed_at : (k : ℕ) → IsOther e k → All (IsTimely part) (notes_boxed o k) → All (IsTimely part) (notes_boxed o' k)
       boxed_at k q h =
           elim (cases_eq k j) [
             | inl at ↦
-                (let Q : ℕ → Type 0 = λ i. All P (queue_to o i) → All P (queue_to o' i) in
+                (let Q : ℕ → Type 0 = λ i. All (IsTimely part) (notes_boxed o i) → All (IsTimely part) (notes_boxed o' i) in
                 subst Q (sym at)
-                (λ a. subst (λ (bs : Batches). All P bs) (sym left) (λ i d lt. subst (λ (bs : Batches). All P bs) first a (suc i) d (omega (arith, lt)))) h)
-            | inr n ↦ subst (λ (bs : Batches). All P bs) (sym (same k n)) h
+                (λ a. subst (λ (bs : Batches). All (IsTimely part) (notes_of bs)) (sym left) (all_right (IsTimely part) b.items (notes_of rest) (subst (All (IsTimely part)) (ap notes_of first) a))) h)
+            | inr n ↦ subst (λ (bs : Batches). All (IsTimely part) (notes_of bs)) (sym (same k n)) h
           ]
 
--- ---- a spread
-
-pub spread_keeps : (e : Ends) (part part' : Part) (o o' : Outboxes) → length o.queues ≡ owners_of e → o.owner ≡ e.owner → SamePlace part part' → o'.owner ≡ o.owner → length o'.queues ≡ length o.queues
-    → unspread part' ≤ unspread part
-    → ((value : List ℕ → ℤ) (taken sent : ℕ → Batches)
-    → OwnerSound value o.owner (length o.queues) part taken (λ j. sent j ++ queue_to o j) (queue_to o)
-    → OwnerSound value o.owner (length o.queues) part' taken (λ j. sent j ++ queue_to o' j) (queue_to o'))
-    → Keeps e part o e part' o'
-spread_keeps e part part' o o' many number block owner owners left spreads = record {
+keeps_refl : (e : Ends) (part : Part) (o : Outboxes) → Keeps e part o e part o
+keeps_refl e part o = record {
   lines = same_lines e;
-  block = block;
-  owner = owner;
-  owners = owners;
-  received = λ k q. ([], append-nil (received_from e k));
-  sent = λ k q. ([], sym (append-nil (sent_to e k)), λ value h i d lt. absurd (omega (arith, lt)));
-  sound = λ value h.
-      subst₂ (λ (i n : ℕ). OwnerSound value i n part' (taken_from e) (λ j. map items_of (sent_to e j) ++ queue_to o' j) (queue_to o')) number many
-      (spreads value (taken_from e) (λ j. map items_of (sent_to e j))
-      (subst₂ (λ (i n : ℕ). OwnerSound value i n part (taken_from e) (λ j. map items_of (sent_to e j) ++ queue_to o j) (queue_to o)) (sym number) (sym many) h));
-  unspread = left;
-}
-
--- ---- one step after another
-
-pub kept_refl : (a : Owner) → Kept a a
-kept_refl a = record {
-  lines = same_lines a.ends;
-  block = same_block a.part;
+  block = place_same part;
   owner = refl;
   owners = refl;
-  received = λ k q. ([], append-nil (received_from a.ends k));
-  sent = λ k q. ([], sym (append-nil (sent_to a.ends k)), λ value h i d lt. absurd (omega (arith, lt)));
+  received = λ k q. ([], append-nil (received_from e k));
+  sent = λ k q. ([], sym (append-nil (sent_to e k)), λ value h i d lt. absurd (omega (arith, lt)));
   sound = λ value h. h;
   unspread = omega arith;
 }
 
+-- ---- a spread
+
+module _ (e : Ends) (part part' : Part) (o o' : Outboxes) (many : length o.queues ≡ owners_of e) (number : o.owner ≡ e.owner) where
+  spread_sound : (value : List ℕ → ℤ) → SpreadsFirst part part' o o' → IsSound value e part o → IsSound value e part' o'
+  spread_sound value spreads h =
+      subst (λ (g : ℕ → List Note). OwnerSound value e.owner (owners_of e) part' (notes_taken e) g (notes_boxed o')) (sym (λ u j. apart o' j u))
+      (subst₂ (λ (i n : ℕ). OwnerSound value i n part' (notes_taken e) (λ j. sent j ++ notes_boxed o' j) (notes_boxed o')) number many
+      (spreads.sound value (notes_taken e) sent (λ _. [])
+      (subst₂ (λ (i n : ℕ). OwnerSound value i n part (notes_taken e) (λ j. sent j ++ notes_boxed o j) (notes_boxed o)) (sym number) (sym many)
+      (subst (λ (g : ℕ → List Note). OwnerSound value e.owner (owners_of e) part (notes_taken e) g (notes_boxed o)) (λ u j. apart o j u) h))))
+    where
+      sent : ℕ → List Note
+      sent j = notes_of (map items_of (sent_to e j))
+
+      apart : (boxes : Outboxes) (j : ℕ) → notes_given e boxes j ≡ sent j ++ notes_boxed boxes j
+      apart boxes j = notes_of-append (map items_of (sent_to e j)) (queue_to boxes j)
+
+  pub spread_keeps : SamePlace part part' → (done : Bool) (result : Result Bool OwnerFault) → result ≡ Ok done → (result ≡ Ok true → SpreadsFirst part part' o o') → (result ≡ Ok false → (part' ≡ part) × (o' ≡ o))
+      → Keeps e part o e part' o'
+  spread_keeps place true result was spread none =
+      let spreads = spread was in
+      record {
+        lines = same_lines e;
+        block = place;
+        owner = spreads.sends.same_owner;
+        owners = spreads.sends.owners;
+        received = λ k q. ([], append-nil (received_from e k));
+        sent = λ k q. ([], sym (append-nil (sent_to e k)), λ value h i d lt. absurd (omega (arith, lt)));
+        sound = λ value h. spread_sound value spreads h;
+        unspread = (let fewer = spreads.fewer in omega (arith, fewer));
+      }
+  spread_keeps place false result was spread none =
+      let same = none was in
+      subst₂ (λ (p : Part) (b : Outboxes). Keeps e part o e p b) (sym same.0) (sym same.1) (keeps_refl e part o)
+
+-- ---- one step after another
+
+pub kept_refl : (a : Owner) → Kept a a
+kept_refl a = keeps_refl a.ends a.part a.outboxes
+
 pub kept_trans : (a b c : Owner) → Kept a b → Kept b c → Kept a c
 kept_trans a b c s t = record {
   lines = lines_then a.ends b.ends c.ends s.lines t.lines;
-  block = block_then a.part b.part c.part s.block t.block;
+  block = place_both a.part b.part c.part s.block t.block;
   owner = t.owner ∙ s.owner;
   owners = t.owners ∙ s.owners;
   received = λ k q. prefix_then (received_from a.ends k) (received_from b.ends k) (received_from c.ends k) (s.received k q) (t.received k (IsOther-on a.ends b.ends k s.lines q));

@@ -7,8 +7,6 @@ pub mod Each
 pub mod Beginning
 pub mod Opening
 pub mod Gaining
-pub mod Batching
-pub mod Giving
 pub mod Together
 pub mod Refusing
 pub mod Looking

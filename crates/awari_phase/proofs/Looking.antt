@@ -4,15 +4,15 @@ use Rattle.std.proofs.lemmas.List.{length-map, map-append}
 use Rattle.std.proofs.lemmas.List.Elements.{All-nil}
 use Rattle.awari_block.specs.Notes.{Has}
 use Rattle.awari_block.specs.declared.notes.Note.{Note}
-use Rattle.awari_owner.specs.Level.{AreSound, IsTimely, part_at}
+use Rattle.awari_owner.specs.Level.{AreSound, part_at}
+use Rattle.awari_owner.specs.Sound.{IsTimely}
 use Rattle.awari_owner.specs.Outboxes.{queue_to, notes_of}
 use Rattle.awari_lines.specs.Lines.{received_from, sent_to, waiting_from}
 use Rattle.awari_lines.specs.declared.lines.Ends.{Ends}
-use Rattle.awari_owner.proofs.Lists.{Has-append_cases, notes_of-append}
+use Rattle.awari_owner.proofs.Lists.{Has-append_cases, all_has, has_all, notes_of-append}
 use Rattle.awari_phase.specs.declared.owners.Owner.{Owner}
-use Rattle.awari_phase.specs.Sound.{IsOpenBatch}
-use Rattle.awari_phase.specs.Owners.{AreLooked, AreTogether, all_ends, coming_notes, ends_of, given_to, items_of, parts_of, taken_from, taken_notes}
-use Rattle.awari_phase.proofs.Refusing.{IsOpen, has_open, open_since}
+use Rattle.awari_phase.specs.Owners.{AreLooked, AreTogether, IsOpenBatch, all_ends, coming_notes, ends_of, items_of, notes_boxed, notes_given, notes_taken, parts_of, taken_from, taken_notes}
+use Rattle.awari_phase.proofs.Refusing.{open_since}
 use Rattle.awari_phase.proofs.Together.{ends_there, many_at, number_at, sound_together}
 
 module _ (value : List ℕ → ℤ) (n : ℕ) (os : List Owner) (d : Owner) (together : AreTogether value n os) (looked : AreLooked os) where
@@ -25,7 +25,7 @@ module _ (value : List ℕ → ℤ) (n : ℕ) (os : List Owner) (d : Owner) (tog
       let in_ends : (k : ℕ) → k < length os → k < length (all_ends os) = λ k h. subst (λ x. k < x) (sym (length-map os ends_of)) h in
       subst₂ (λ (a b : Ends). received_from a i ++ waiting_from a i ≡ sent_to b j) (ends_there os j d) (ends_there os i d) (looked j i d.ends (in_ends j low') (in_ends i low) (λ e. apart (sym e)))
 
-  arrived : (i j : ℕ) → i < length os → j < length os → (i ≡ j → ⊥) → notes_of (given_to (owner i).ends (owner i).outboxes j) ≡ taken_notes os d i j ++ coming_notes os d i j
+  arrived : (i j : ℕ) → i < length os → j < length os → (i ≡ j → ⊥) → notes_given (owner i).ends (owner i).outboxes j ≡ taken_notes os d i j ++ coming_notes os d i j
   arrived i j low low' apart =
       let waits = waiting_from (owner j).ends i in
       let boxed = notes_of (queue_to (owner i).outboxes j) in
@@ -34,32 +34,22 @@ module _ (value : List ℕ → ℤ) (n : ℕ) (os : List Owner) (d : Owner) (tog
       ∙ ap (λ l. l ++ boxed) (ap notes_of (map-append items_of (received_from (owner j).ends i) waits) ∙ notes_of-append (taken_from (owner j).ends i) (map items_of waits))
       ∙ append_assoc (taken_notes os d i j) (notes_of (map items_of waits)) boxed
 
-  -- a note that is open in a part is so in the first
-  timely_at : (i : ℕ) (m : Note) → i < length os → IsOpen (owner i).part m → IsTimely (owner 0).part m
-  timely_at i m low o =
-      let zeroth : 0 < length os = (let s = together.some in omega (arith, s)) in record {
-        gain = o.0 ∙ together.gain i d low;
-        opened = (let l = together.level 0 d zeroth in let h = together.opened 0 d zeroth in omega (arith, l, h));
-        dist = o.1 ∙ together.wave i d low;
-        near = o.2;
-      }
-
-  timely : (i j : ℕ) → i < length os → j < length os → (i ≡ j → ⊥) → (m : Note) → Has (coming_notes os d i j) m → IsTimely (owner 0).part m
+  timely : (i j : ℕ) → i < length os → j < length os → (i ≡ j → ⊥) → (m : Note) → Has (coming_notes os d i j) m → IsTimely (owner i).part m
   timely i j low low' apart m has =
       let received = received_from (owner j).ends i in
       let waits = waiting_from (owner j).ends i in
       let sent = sent_to (owner i).ends j in
       let number = number_at os d together.grid i low in
       let many = many_at os d together.grid i low in
-      elim (Has-append_cases (notes_of (map items_of waits)) (notes_of (queue_to (owner i).outboxes j)) m has) [
-        | inl waiting ↦ timely_at i m low (open_since (owner i).part received sent [] waits [] (together.waits j i d low' low (λ e. apart (sym e)))
-            (ap (λ l. l ++ waits) (append-nil received) ∙ on_line i j low low' apart ∙ sym (append-nil sent)) (All-nil (IsOpenBatch (owner i).part)) m waiting)
-        | inr boxed ↦ timely_at i m low (has_open (owner i).part (queue_to (owner i).outboxes j) m
-            ((together.sound i d low).opened j ((λ e. apart (sym (e ∙ number))), subst (λ k. j < k) (sym many) low')) boxed)
+      elim (Has-append_cases (notes_of (map items_of waits)) (notes_boxed (owner i).outboxes j) m has) [
+        | inl waiting ↦ open_since (owner i).part received sent [] waits [] (together.waits j i d low' low (λ e. apart (sym e)))
+            (ap (λ l. l ++ waits) (append-nil received) ∙ on_line i j low low' apart ∙ sym (append-nil sent)) (All-nil (IsOpenBatch (owner i).part)) m waiting
+        | inr boxed ↦ has_all (IsTimely (owner i).part) (notes_boxed (owner i).outboxes j) m
+            ((together.sound i d low).opened j ((λ e. apart (sym (e ∙ number))), subst (λ k. j < k) (sym many) low')) boxed
       ]
 
   pub sound_looked : AreSound value n (length os) (part_at (parts_of os)) (coming_notes os d) (taken_notes os d)
-  sound_looked = sound_together value n os d (coming_notes os d) (λ j. taken_from (owner j).ends) (record {
+  sound_looked = sound_together value n os d (coming_notes os d) (λ j. notes_taken (owner j).ends) (record {
     some = together.some;
     grid = together.grid;
     level = λ i low. together.level i d low;
@@ -67,5 +57,5 @@ module _ (value : List ℕ → ℤ) (n : ℕ) (os : List Owner) (d : Owner) (tog
     wave = λ i low. together.wave i d low;
     sound = λ i low. together.sound i d low;
     arrived = arrived;
-    timely = timely;
+    timely = λ i j low low' apart. all_has (IsTimely (owner i).part) (coming_notes os d i j) (timely i j low low' apart);
   })

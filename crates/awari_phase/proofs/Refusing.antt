@@ -1,12 +1,12 @@
 -- Owners that were sound together refuse no note.
-use Rattle.std.proofs.Common.{◌≡◌, ◌⊎◌, ℕ, ◌<◌, ◌≤◌, ◌^◌, ◌-◌, Some, None, List, [], ◌∷◌, ◌++◌, length, map, drop, All, ℤ, true, refl, sym, ap, subst, ◌∙◌, inl, inr, arith, get_or, append_assoc, suc}
+use Rattle.std.proofs.Common.{◌≡◌, ◌⊎◌, ℕ, ◌<◌, ◌≤◌, Some, None, List, [], ◌∷◌, ◌++◌, length, map, drop, All, ℤ, refl, sym, ap, subst, ◌∙◌, inl, inr, arith, get_or, append_assoc, suc}
 use Rattle.std.proofs.lemmas.Bool.{cases_lt, false≢true}
 use Rattle.std.proofs.lemmas.List.{append_cancel_left, drop_at, length-map, map-append, get_or_past}
 use Rattle.awari_block.specs.Notes.{Has}
-use Rattle.awari_block.specs.Tally.{has_pit}
 use Rattle.awari_owner.specs.OwnerFault.{IsFaultOf}
-use Rattle.awari_block.specs.Part.{Part, IsExpected, stored_at}
-use Rattle.awari_owner.specs.Level.{AreSound, AreTold, AreWhole, DistancesFit, IsTimely, no_part, part_at}
+use Rattle.awari_block.specs.Part.{Part}
+use Rattle.awari_owner.specs.Level.{AreSound, AreTold, AreWhole, DistancesFit, no_part, part_at}
+use Rattle.awari_owner.specs.Sound.{CanTake, IsTimely}
 use Rattle.awari_owner.specs.declared.faults.OwnerFault.{OwnerFault}
 use Rattle.awari_owner.specs.declared.faults.OwnerFault.TheVariants as owner_fault
 use Rattle.awari_block.specs.declared.notes.Note.{Note}
@@ -15,11 +15,11 @@ use Rattle.awari_lines.specs.Lines.{Notes, IsGrid, IsOther, SameHistory, SameLin
 use Rattle.awari_lines.specs.declared.lines.Ends.{Ends}
 use Rattle.awari_lines.proofs.Grids.{grid_kept}
 use Rattle.awari_owner.specs.Outboxes.{notes_of, queue_to}
-use Rattle.awari_owner.proofs.Lists.{Has-append_cases, Has-append_left, Has-append_right, notes_of-append}
+use Rattle.awari_owner.proofs.Lists.{Has-append_cases, Has-append_left, Has-append_right, all_has, has_all, notes_of-append}
+use Rattle.awari_owner.proofs.Expecting.{timely_still}
 use Rattle.awari_phase.specs.declared.owners.Owner.{Owner}
 use Rattle.awari_phase.specs.declared.faults.PhaseFault.{PhaseFault}
-use Rattle.awari_phase.specs.Sound.{Batches, IsOpenBatch}
-use Rattle.awari_phase.specs.Owners.{AreTogether, OpenBehind, all_ends, ends_of, given_to, items_of, parts_of, taken_from}
+use Rattle.awari_phase.specs.Owners.{AreTogether, Batches, IsOpenBatch, OpenBehind, all_ends, ends_of, items_of, notes_boxed, notes_given, parts_of, taken_from}
 use Rattle.awari_phase.specs.PhaseFault.{IsFirstFault, IsWant, fault_of}
 use Rattle.awari_phase.specs.Stops.{HaveWorked}
 use Rattle.awari_phase.proofs.Grown.{ends_at}
@@ -42,24 +42,16 @@ choice P none n each = ((λ i. pick P none n i each (cases_lt i n)), λ i low. p
 
 -- ---- notes of the open gain and distance
 
-abbrev pub IsOpen : Part → Note → Type 0
-IsOpen part m = (m.gain ≡ part.gain) × (m.dist ≡ part.wave) × (m.dist < 2 ^ 32 - 1)
-
-has_all : (P : Note → Type 0) (xs : List Note) (m : Note) → All P xs → Has xs m → P m
-has_all P [] m all has = absurd has
-has_all P (x ∷ xs) m all (inl is) = subst P (sym is) (all 0 x (omega arith))
-has_all P (x ∷ xs) m all (inr has) = has_all P xs m (λ i d low. all (suc i) d (omega (arith, low))) has
-
-pub has_open : (part : Part) (bs : Batches) (m : Note) → All (IsOpenBatch part) bs → Has (notes_of bs) m → IsOpen part m
+pub has_open : (part : Part) (bs : Batches) (m : Note) → All (IsOpenBatch part) bs → Has (notes_of bs) m → IsTimely part m
 has_open part [] m all has = absurd has
 has_open part (b ∷ bs) m all has = elim (Has-append_cases b (notes_of bs) m has) [
-  | inl here ↦ has_all (IsOpen part) b m (all 0 b (omega arith)).opened here
+  | inl here ↦ has_all (IsTimely part) b m (all 0 b (omega arith)).opened here
   | inr later ↦ has_open part bs m (λ i d low. all (suc i) d (omega (arith, low))) later
 ]
 
 -- what was not received before is open: what came since, and what waits still
 pub open_since : (part : Part) (received sent more waits gone : List Notes) → OpenBehind part received sent → (received ++ more) ++ waits ≡ sent ++ gone → All (IsOpenBatch part) (map items_of gone)
-    → (m : Note) → Has (notes_of (map items_of (more ++ waits))) m → IsOpen part m
+    → (m : Note) → Has (notes_of (map items_of (more ++ waits))) m → IsTimely part m
 open_since part received sent more waits gone o same opens m has =
     let x = o.came.0 in
     let whole : o.before ++ (x ++ (more ++ waits)) ≡ o.before ++ (o.after ++ gone) =
@@ -79,8 +71,7 @@ open_since part received sent more waits gone o same opens m has =
 
 abbrev Expects : Type 0
 Expects = (value : List ℕ → ℤ) (n owners : ℕ) (part : ℕ → Part) (coming taken : ℕ → ℕ → List Note) → AreSound value n owners part coming taken
-    → (i j : ℕ) → i < owners → j < owners → (i ≡ j → ⊥) → (m : Note) (rest : List Note) → coming i j ≡ m ∷ rest
-    → IsExpected (part j) m × (has_pit (stored_at (part j) m.target).left m.pit ≡ true) × (m.dist < 2 ^ 32 - 1)
+    → (i j : ℕ) → i < owners → j < owners → (i ≡ j → ⊥) → (m : Note) (rest : List Note) → coming i j ≡ m ∷ rest → CanTake (part j) m
 
 abbrev Settles : Type 0
 Settles = (value : List ℕ → ℤ) (level : ℕ) (parts : List Part) → AreWhole level parts → level ≤ 24 → AreTold value parts → All DistancesFit parts
@@ -104,13 +95,13 @@ module _ (value : List ℕ → ℤ) (n : ℕ) (os ps : List Owner) (d : Owner) (
   long : length ps ≡ length os
   long = worked.0
 
-  abbrev Known : ℕ → (ℕ → Batches) × (ℕ → List Note) → Type 0
+  abbrev Known : ℕ → (ℕ → List Note) × (ℕ → List Note) → Type 0
   Known i x = Halts value (was i) (now i).ends (now i).part (now i).outboxes (now i).fault x.0 x.1
 
-  known : (f : ℕ → (ℕ → Batches) × (ℕ → List Note)) × ((i : ℕ) → i < length os → Known i (f i))
+  known : (f : ℕ → (ℕ → List Note) × (ℕ → List Note)) × ((i : ℕ) → i < length os → Known i (f i))
   known = choice Known ((λ _. []), (λ _. [])) (length os) (λ i low. halts value (was i) (now i) (worked.1 i d low) (together.sound i d low))
 
-  taken : ℕ → ℕ → Batches
+  taken : ℕ → ℕ → List Note
   taken j = (known.0 j).0
 
   left : ℕ → ℕ → List Note
@@ -121,7 +112,7 @@ module _ (value : List ℕ → ℤ) (n : ℕ) (os ps : List Owner) (d : Owner) (
   has = known.1
 
   coming : ℕ → ℕ → List Note
-  coming i j = drop (length (notes_of (taken j i))) (notes_of (given_to (now i).ends (now i).outboxes j))
+  coming i j = drop (length (taken j i)) (notes_given (now i).ends (now i).outboxes j)
 
   low_ps : (i : ℕ) → i < length os → i < length ps
   low_ps i low = subst (λ k. i < k) (sym long) low
@@ -145,56 +136,43 @@ module _ (value : List ℕ → ℤ) (n : ℕ) (os ps : List Owner) (d : Owner) (
   comes : (i j : ℕ) → i < length os → j < length os → (i ≡ j → ⊥)
       → (waits : List Notes) × (received_from (now j).ends i ++ waits ≡ sent_to (now i).ends j)
       × (coming i j ≡ left j i ++ (notes_of (map items_of waits) ++ notes_of (queue_to (now i).outboxes j)))
-      × (notes_of (given_to (now i).ends (now i).outboxes j) ≡ notes_of (taken j i) ++ coming i j)
+      × (notes_given (now i).ends (now i).outboxes j ≡ taken j i ++ coming i j)
   unfolding coming
   comes i j low low' apart =
       let w = sent j i (low_ps j low') (low_ps i low) (λ e. apart (sym e)) in
       let boxed = notes_of (queue_to (now i).outboxes j) in
       let whole = (has j low').whole i (other j i low' low (λ e. apart (sym e))) in
-      let given : notes_of (given_to (now i).ends (now i).outboxes j) ≡ notes_of (taken j i) ++ (left j i ++ (notes_of (map items_of w.0) ++ boxed)) =
+      let given : notes_given (now i).ends (now i).outboxes j ≡ taken j i ++ (left j i ++ (notes_of (map items_of w.0) ++ boxed)) =
       notes_of-append (map items_of (sent_to (now i).ends j)) (queue_to (now i).outboxes j)
       ∙ ap (λ l. notes_of (map items_of l) ++ boxed) (sym w.1)
       ∙ ap (λ l. l ++ boxed) (ap notes_of (map-append items_of (received_from (now j).ends i) w.0) ∙ notes_of-append (taken_from (now j).ends i) (map items_of w.0) ∙ ap (λ l. l ++ notes_of (map items_of w.0)) whole)
-      ∙ append_assoc (notes_of (taken j i) ++ left j i) (notes_of (map items_of w.0)) boxed
-      ∙ append_assoc (notes_of (taken j i)) (left j i) (notes_of (map items_of w.0) ++ boxed) in
+      ∙ append_assoc (taken j i ++ left j i) (notes_of (map items_of w.0)) boxed
+      ∙ append_assoc (taken j i) (left j i) (notes_of (map items_of w.0) ++ boxed) in
       let is : coming i j ≡ left j i ++ (notes_of (map items_of w.0) ++ boxed) =
-      ap (drop (length (notes_of (taken j i)))) given ∙ drop_at (notes_of (taken j i)) (left j i ++ (notes_of (map items_of w.0) ++ boxed)) (length (notes_of (taken j i))) refl in
-      (w.0, w.1, is, given ∙ ap (λ l. notes_of (taken j i) ++ l) (sym is))
-
-  abbrev first : Part
-  first = (now 0).part
+      ap (drop (length (taken j i))) given ∙ drop_at (taken j i) (left j i ++ (notes_of (map items_of w.0) ++ boxed)) (length (taken j i)) refl in
+      (w.0, w.1, is, given ∙ ap (λ l. taken j i ++ l) (sym is))
 
   zeroth : 0 < length os
   zeroth = let h = together.some in omega (arith, h)
 
-  -- a note that is open in a part is so in the first
-  timely_at : (i : ℕ) (m : Note) → i < length os → IsOpen (was i).part m → IsTimely first m
-  timely_at i m low o =
-      let top = has 0 zeroth in record {
-        gain = o.0 ∙ together.gain i d low ∙ sym top.block.level.gain;
-        opened = (let g = top.block.level.gain in let l = top.block.level.level in let n = together.level 0 d zeroth in let h = together.opened 0 d zeroth in omega (arith, g, l, n, h));
-        dist = o.1 ∙ together.wave i d low ∙ sym top.block.level.wave;
-        near = o.2;
-      }
-
-  timely : (i j : ℕ) → i < length os → j < length os → (i ≡ j → ⊥) → (m : Note) → Has (coming i j) m → IsTimely first m
+  timely : (i j : ℕ) → i < length os → j < length os → (i ≡ j → ⊥) → (m : Note) → Has (coming i j) m → IsTimely (now i).part m
   timely i j low low' apart m here =
       let (waits, on_line, is, given) = comes i j low low' apart in
       let sender = has i low in
+      let place = sender.block.level in
       let came = (has j low').came i (other j i low' low (λ e. apart (sym e))) in
       let gone = sender.sent j (other i j low low' apart) in
-      let on : (x : Note) → Has (notes_of (map items_of (came.0 ++ waits))) x → IsOpen (was i).part x =
+      let on : (x : Note) → Has (notes_of (map items_of (came.0 ++ waits))) x → IsTimely (was i).part x =
       open_since (was i).part (received_from (was j).ends i) (sent_to (was i).ends j) came.0 waits gone.0 (together.waits j i d low' low (λ e. apart (sym e)))
       (ap (λ l. l ++ waits) (sym came.1) ∙ on_line ∙ gone.1) gone.2 in
       let names = ap notes_of (map-append items_of came.0 waits) ∙ notes_of-append (map items_of came.0) (map items_of waits) in
-      let back : (x : Note) → Has (notes_of (map items_of came.0) ++ notes_of (map items_of waits)) x → IsTimely first x = λ x h. timely_at i x low (on x (subst (λ (l : List Note). Has l x) (sym names) h)) in
-      elim (Has-append_cases (left j i) (notes_of (map items_of waits) ++ notes_of (queue_to (now i).outboxes j)) m (subst (λ (l : List Note). Has l m) is here)) [
+      let back : (x : Note) → Has (notes_of (map items_of came.0) ++ notes_of (map items_of waits)) x → IsTimely (now i).part x =
+      λ x h. timely_still (was i).part (now i).part x place.level place.gain place.wave (on x (subst (λ (l : List Note). Has l x) (sym names) h)) in
+      elim (Has-append_cases (left j i) (notes_of (map items_of waits) ++ notes_boxed (now i).outboxes j) m (subst (λ (l : List Note). Has l m) is here)) [
         | inl last ↦ back m (Has-append_left (notes_of (map items_of came.0)) (notes_of (map items_of waits)) m (came.2 m last))
-        | inr later ↦ elim (Has-append_cases (notes_of (map items_of waits)) (notes_of (queue_to (now i).outboxes j)) m later) [
+        | inr later ↦ elim (Has-append_cases (notes_of (map items_of waits)) (notes_boxed (now i).outboxes j) m later) [
           | inl waiting ↦ back m (Has-append_right (notes_of (map items_of came.0)) (notes_of (map items_of waits)) m waiting)
-          | inr boxed ↦
-              let o = has_open (now i).part (queue_to (now i).outboxes j) m (sender.sound.opened j (other i j low low' apart)) boxed in
-              timely_at i m low (o.0 ∙ sender.block.level.gain, o.1 ∙ sender.block.level.wave, o.2)
+          | inr boxed ↦ has_all (IsTimely (now i).part) (notes_boxed (now i).outboxes j) m (sender.sound.opened j (other i j low low' apart)) boxed
         ]
       ]
 
@@ -207,7 +185,7 @@ module _ (value : List ℕ → ℤ) (n : ℕ) (os ps : List Owner) (d : Owner) (
     wave = λ i low. (let at = low_os i low in (has i at).block.level.wave ∙ together.wave i d at ∙ sym (has 0 zeroth).block.level.wave);
     sound = λ i low. (has i (low_os i low)).sound;
     arrived = λ i j low low' apart. (comes i j (low_os i low) (low_os j low') apart).3;
-    timely = λ i j low low' apart. timely i j (low_os i low) (low_os j low') apart;
+    timely = λ i j low low' apart. all_has (IsTimely (now i).part) (coming i j) (timely i j (low_os i low) (low_os j low') apart);
   }
     where
       low_os : (i : ℕ) → i < length ps → i < length os
@@ -217,24 +195,24 @@ module _ (value : List ℕ → ℤ) (n : ℕ) (os ps : List Owner) (d : Owner) (
   abbrev parts : List Part
   parts = parts_of ps
 
-  sound : AreSound value n (length parts) (part_at parts) coming (λ i j. notes_of (taken j i))
-  sound = subst (λ k. AreSound value n k (part_at parts) coming (λ i j. notes_of (taken j i))) (sym (as_many ps)) (sound_together value n ps d coming taken met)
+  sound : AreSound value n (length parts) (part_at parts) coming (λ i j. taken j i)
+  sound = subst (λ k. AreSound value n k (part_at parts) coming (λ i j. taken j i)) (sym (as_many ps)) (sound_together value n ps d coming taken met)
 
   abbrev Fit : Type 0
   Fit = (k : ℕ) → k < length os → DistancesFit (now k).part
 
-  refuted : (part : Part) (m : Note) (fault : OwnerFault) → IsFaultOf part m fault → IsExpected part m × (has_pit (stored_at part m.target).left m.pit ≡ true) × (m.dist < 2 ^ 32 - 1) → ⊥
-  refuted part m owner_fault.Stranger refused known = refused known.0
-  refuted part m owner_fault.Doubled refused known = absurd (false≢true (sym refused.1 ∙ known.1))
-  refuted part m owner_fault.Far refused known = let near = known.2 in let far = refused.2 in omega (arith, near, far)
-  refuted part m owner_fault.Memory refused known = refused
+  refuted : (part : Part) (m : Note) (fault : OwnerFault) → IsFaultOf part m fault → CanTake part m → ⊥
+  refuted part m owner_fault.Stranger refused can = refused can.expected
+  refuted part m owner_fault.Doubled refused can = absurd (false≢true (sym refused.1 ∙ can.unheard))
+  refuted part m owner_fault.Far refused can = let near = can.near in let far = refused.2 in omega (arith, near, far)
+  refuted part m owner_fault.Memory refused can = refused
 
   -- only memory is wanting
   fit : Settles → OfSound (λ v l p. AreWhole l p) → OfSound (λ v l p. AreTold v p) → n ≤ 24 → Fit
   fit settles whole told small k low =
       let first : 1 ≤ length parts = subst (λ x. 1 ≤ x) (sym (as_many ps ∙ long)) together.some in
       subst DistancesFit (sym (part_there ps k d (low_ps k low)))
-      (settles value n parts (whole value n parts coming (λ i j. notes_of (taken j i)) first sound) small (told value n parts coming (λ i j. notes_of (taken j i)) first sound) k no_part
+      (settles value n parts (whole value n parts coming (λ i j. taken j i) first sound) small (told value n parts coming (λ i j. taken j i) first sound) k no_part
       (subst (λ x. k < x) (sym (as_many ps)) (low_ps k low)))
 
   only_memory : Expects → Fit → (k : ℕ) → k < length os → (fault : OwnerFault) → (now k).fault ≡ Some fault → fault ≡ owner_fault.Memory
@@ -247,9 +225,9 @@ module _ (value : List ℕ → ℤ) (n : ℕ) (os ps : List Owner) (d : Owner) (
           let apart : j ≡ k → ⊥ = λ e. from.0 (e ∙ sym (number_at ps d grid k (low_ps k low))) in
           let low' : j < length ps = subst (λ x. j < x) (many_at ps d grid k (low_ps k low)) from.1 in
           let next = (comes j k (subst (λ x. j < x) long low') low apart).2 ∙ ap (λ l. l ++ (notes_of (map items_of (comes j k (subst (λ x. j < x) long low') low apart).0) ++ notes_of (queue_to (now j).outboxes k))) is in
-          let known = expects value n (length parts) (part_at parts) coming (λ a b. notes_of (taken b a)) sound j k (subst (λ x. j < x) (sym (as_many ps)) low') (subst (λ x. k < x) (sym (as_many ps)) (low_ps k low)) apart m _ next in
+          let known = expects value n (length parts) (part_at parts) coming (λ a b. taken b a) sound j k (subst (λ x. j < x) (sym (as_many ps)) low') (subst (λ x. k < x) (sym (as_many ps)) (low_ps k low)) apart m _ next in
           absurd (refuted (now k).part m fault refused
-          (subst (λ (p : Part). IsExpected p m × (has_pit (stored_at p m.target).left m.pit ≡ true) × (m.dist < 2 ^ 32 - 1)) (sym (part_there ps k d (low_ps k low))) known))
+          (subst (λ (p : Part). CanTake p m) (sym (part_there ps k d (low_ps k low))) known))
     ]
   ]
 

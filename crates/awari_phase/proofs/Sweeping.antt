@@ -1,21 +1,15 @@
 -- What sweeps do, line by line and sweep by sweep.
-use Rattle.std.proofs.Common.{◌≡◌, ℕ, ◌+◌, ◌<◌, ◌≤◌, List, length, Bool, true, false, Result, Ok, Some, ap, sym, subst, ◌∙◌, inl, inr, arith, length-append}
+use Rattle.std.proofs.Common.{◌≡◌, ℕ, ◌+◌, ◌<◌, ◌≤◌, List, length, Some, ap, sym, subst, ◌∙◌, inl, inr, arith, length-append}
 use Rattle.std.proofs.lemmas.Bool.{cases_eq}
 use mathlib.Core.List.{IsPrefix}
 use Rattle.awari_lines.specs.declared.lines.Ends.{Ends}
 use Rattle.awari_lines.specs.Lines.{Notes, IsOther, sent_to, received_from, received_on, waiting_from, waiting_on, free_to}
 use Rattle.awari_block.specs.Part.{Part, IsLeastDue, unspread}
-use Rattle.awari_owner.specs.declared.faults.OwnerFault.{OwnerFault}
 use Rattle.awari_phase.specs.declared.owners.Owner.{Owner}
 use Rattle.awari_owner.specs.Outboxes.{queue_to}
 use Rattle.awari_phase.specs.Owners.{HasSent, HasSpread, HasTaken, Kept, Swept}
 use Rattle.awari_phase.specs.Steps.{SendsAt, TakesAt, TakesNothing}
 use Rattle.awari_phase.proofs.Keeping.{IsOther-on, kept_trans}
-
--- a spread leaves no board more to be spread
-pub left_after : (done : Bool) (result : Result Bool OwnerFault) (a b : Part) → result ≡ Ok done → (result ≡ Ok true → unspread b + 1 ≡ unspread a) → (result ≡ Ok false → b ≡ a) → unspread b ≤ unspread a
-left_after true result a b is fewer none = let less = fewer is in omega (arith, less)
-left_after false result a b is fewer none = let same = ap unspread (none is) in omega (arith, same)
 
 -- ---- batches that were taken
 

@@ -1,31 +1,19 @@
 -- Owners that are each sound are so together, once nothing is on its way.
 use Rattle.std.proofs.Common.{◌≡◌, ℕ, zero, suc, ◌+◌, ◌<◌, ◌≤◌, List, [], ◌∷◌, ◌++◌, length, map, All, get_or, ℤ, refl, sym, ap, subst, subst₂, ◌∙◌, arith, append-nil}
 use Rattle.std.proofs.lemmas.List.{get_or_default, length-map}
-use Rattle.awari_board.proofs.Keeping.{IsBoard-next}
-use Rattle.awari_rank.specs.Rank.{rank_of, size_of}
-use Rattle.awari_block.specs.Notes.{Has}
-use Rattle.awari_block.specs.Part.{Part, InBlock, IsClosed}
+use Rattle.std.proofs.lemmas.List.Elements.{All-nil}
+use Rattle.awari_rank.specs.Rank.{size_of}
+use Rattle.awari_block.specs.Part.{Part, IsClosed}
 use Rattle.awari_block.specs.Leaving.{first_rank}
-use Rattle.awari_owner.specs.Level.{AreSound, AreSpreadNotes, HearsTaken, IsShare, IsTimely, no_part, part_at}
+use Rattle.awari_owner.specs.Level.{AreSound, IsShare, no_part, part_at}
+use Rattle.awari_owner.specs.Sound.{IsTimely, OwnerSound}
+use Rattle.awari_owner.proofs.Sounding.{sound_same}
 use Rattle.awari_block.specs.declared.notes.Note.{Note}
 use Rattle.awari_lines.specs.Lines.{IsGrid, owners_of, sent_to, received_from}
 use Rattle.awari_lines.specs.declared.lines.Ends.{Ends}
 use Rattle.awari_owner.specs.Outboxes.{notes_of, queue_to}
-use Rattle.awari_phase.specs.Sound.{Batches, IsInBlockOf, HoldsNotes, OwnerSound}
-use Rattle.awari_phase.specs.Owners.{items_of, taken_from, given_to, AreFinished, AreIdle, all_ends, ends_of, parts_of, taken_notes}
+use Rattle.awari_phase.specs.Owners.{Batches, items_of, notes_boxed, notes_given, notes_taken, AreFinished, AreIdle, all_ends, ends_of, parts_of, taken_notes}
 use Rattle.awari_phase.specs.declared.owners.Owner.{Owner}
-
--- the same parts are sound
-sound_same : (value : List ℕ → ℤ) (n owners : ℕ) (part part' : ℕ → Part) (coming taken : ℕ → ℕ → List Note) → 1 ≤ owners → ((i : ℕ) → i < owners → part i ≡ part' i)
-    → AreSound value n owners part coming taken → AreSound value n owners part' coming taken
-sound_same value n owners part part' coming taken some same s = record {
-  shares = λ i low. subst (IsShare n owners i) (same i low) (s.shares i low);
-  gain = λ i low. ap (λ (p : Part). p.gain) (sym (same i low)) ∙ s.gain i low ∙ ap (λ (p : Part). p.gain) (same 0 some);
-  wave = λ i low. ap (λ (p : Part). p.wave) (sym (same i low)) ∙ s.wave i low ∙ ap (λ (p : Part). p.wave) (same 0 some);
-  hears = λ j low. subst (λ (p : Part). HearsTaken value p (λ m. (i : ℕ) × (i < owners) × (i ≡ j → ⊥) × Has (taken i j) m)) (same j low) (s.hears j low);
-  given = λ i j low low' apart. subst₂ (λ (a b : Part). AreSpreadNotes a b (taken i j ++ coming i j)) (same i low) (same j low') (s.given i j low low' apart);
-  timely = λ i j low low' apart m has. subst (λ (p : Part). IsTimely p m) (same 0 some) (s.timely i j low low' apart m has);
-}
 
 pub part_there : (os : List Owner) (i : ℕ) (d : Owner) → i < length os → (get_or os i d).part ≡ part_at (parts_of os) i
 part_there [] i d low = absurd (omega (arith, low))
@@ -39,16 +27,16 @@ ends_there (o ∷ os) (suc i) d = ends_there os i d
 
 -- Owners that stand on a grid, over the batches that each took and the notes that come to it: what an owner gave to another is
 -- what that one took and what comes.
-pub record AreMet (value : List ℕ → ℤ) (n : ℕ) (os : List Owner) (d : Owner) (coming : ℕ → ℕ → List Note) (taken : ℕ → ℕ → Batches) : Type 0 where
+pub record AreMet (value : List ℕ → ℤ) (n : ℕ) (os : List Owner) (d : Owner) (coming taken : ℕ → ℕ → List Note) : Type 0 where
   pub some : 1 ≤ length os
   pub grid : IsGrid (all_ends os)
   pub level : (i : ℕ) → i < length os → (get_or os i d).part.level ≡ n
   pub gain : (i : ℕ) → i < length os → (get_or os i d).part.gain ≡ (get_or os 0 d).part.gain
   pub wave : (i : ℕ) → i < length os → (get_or os i d).part.wave ≡ (get_or os 0 d).part.wave
   pub sound : (i : ℕ) → i < length os
-      → OwnerSound value (get_or os i d).ends.owner (owners_of (get_or os i d).ends) (get_or os i d).part (taken i) (given_to (get_or os i d).ends (get_or os i d).outboxes) (queue_to (get_or os i d).outboxes)
-  pub arrived : (i j : ℕ) → i < length os → j < length os → (i ≡ j → ⊥) → notes_of (given_to (get_or os i d).ends (get_or os i d).outboxes j) ≡ notes_of (taken j i) ++ coming i j
-  pub timely : (i j : ℕ) → i < length os → j < length os → (i ≡ j → ⊥) → (m : Note) → Has (coming i j) m → IsTimely (get_or os 0 d).part m
+      → OwnerSound value (get_or os i d).ends.owner (owners_of (get_or os i d).ends) (get_or os i d).part (taken i) (notes_given (get_or os i d).ends (get_or os i d).outboxes) (notes_boxed (get_or os i d).outboxes)
+  pub arrived : (i j : ℕ) → i < length os → j < length os → (i ≡ j → ⊥) → notes_given (get_or os i d).ends (get_or os i d).outboxes j ≡ taken j i ++ coming i j
+  pub timely : (i j : ℕ) → i < length os → j < length os → (i ≡ j → ⊥) → All (IsTimely (get_or os i d).part) (coming i j)
 
 -- the ends of each have its number, and are of as many owners
 pub number_at : (os : List Owner) (d : Owner) → IsGrid (all_ends os) → (i : ℕ) → i < length os → (get_or os i d).ends.owner ≡ i
@@ -57,7 +45,7 @@ number_at os d grid i low = ap (λ (e : Ends). e.owner) (sym (ends_there os i d)
 pub many_at : (os : List Owner) (d : Owner) → IsGrid (all_ends os) → (i : ℕ) → i < length os → owners_of (get_or os i d).ends ≡ length os
 many_at os d grid i low = ap (λ (e : Ends). owners_of e) (sym (ends_there os i d)) ∙ grid.owners i d.ends (subst (λ k. i < k) (sym (length-map os ends_of)) low) ∙ length-map os ends_of
 
-module _ (value : List ℕ → ℤ) (n : ℕ) (os : List Owner) (d : Owner) (coming : ℕ → ℕ → List Note) (taken : ℕ → ℕ → Batches) (met : AreMet value n os d coming taken) where
+module _ (value : List ℕ → ℤ) (n : ℕ) (os : List Owner) (d : Owner) (coming taken : ℕ → ℕ → List Note) (met : AreMet value n os d coming taken) where
   abbrev owner : ℕ → Owner
   owner i = get_or os i d
 
@@ -69,11 +57,6 @@ module _ (value : List ℕ → ℤ) (n : ℕ) (os : List Owner) (d : Owner) (com
 
   many : (i : ℕ) → i < length os → owners_of (owner i).ends ≡ length os
   many = many_at os d met.grid
-
-  sound : (i : ℕ) → i < length os → OwnerSound value i (length os) (part i) (taken i) (given_to (owner i).ends (owner i).outboxes) (queue_to (owner i).outboxes)
-  sound i low =
-      subst₂ (λ (a b : ℕ). OwnerSound value a b (part i) (taken i) (given_to (owner i).ends (owner i).outboxes) (queue_to (owner i).outboxes)) (number i low) (many i low)
-      (met.sound i low)
 
   share : (i : ℕ) → i < length os → IsShare n (length os) i (part i)
   share i low =
@@ -92,66 +75,32 @@ module _ (value : List ℕ → ℤ) (n : ℕ) (os : List Owner) (d : Owner) (com
           ap (λ l. f (size_of l) (length (owner i).outboxes.queues) (owner i).outboxes.owner) (met.level i low)
           ∙ ap (λ k. f (size_of n) k (owner i).outboxes.owner) queues ∙ ap (f (size_of n) (length os)) own
 
-  in_share : (j r : ℕ) → j < length os → IsInBlockOf n (length os) j r → InBlock (part j) r
-  in_share j r low inside =
-      let s = share j low in
-      let start = s.start in let end = s.end in let a = inside.0 in let b = inside.1 in
-      (omega (arith, start, a), omega (arith, start, end, a, b))
+  sound : (i : ℕ) → i < length os → OwnerSound value i (length os) (part i) (taken i) (λ j. taken j i ++ coming i j) (coming i)
+  sound i low = sound_same value i (length os) (part i) (taken i) (taken i) (notes_given (owner i).ends (owner i).outboxes) (λ j. taken j i ++ coming i j) (notes_boxed (owner i).outboxes) (coming i)
+      (λ j o. refl) (λ j o. sym (met.arrived i j low o.1 (λ e. o.0 (sym e)))) (λ j o h. met.timely i j low o.1 (λ e. o.0 (sym e)))
+      (subst₂ (λ (a b : ℕ). OwnerSound value a b (part i) (taken i) (notes_given (owner i).ends (owner i).outboxes) (notes_boxed (owner i).outboxes)) (number i low) (many i low) (met.sound i low))
 
-  of_share : (j r : ℕ) → j < length os → InBlock (part j) r → IsInBlockOf n (length os) j r
-  of_share j r low inside =
-      let s = share j low in
-      let start = s.start in let end = s.end in let a = inside.0 in let b = inside.1 in
-      (omega (arith, start, a), omega (arith, start, end, a, b))
+  -- the parts, as they stand in their list
+  there : (i : ℕ) → i < length os → part i ≡ part_at (parts_of os) i
+  there i low = part_there os i d low
 
-  given : (i j : ℕ) → i < length os → j < length os → (i ≡ j → ⊥) → AreSpreadNotes (part i) (part j) (notes_of (taken j i) ++ coming i j)
-  given i j low low' apart = subst (AreSpreadNotes (part i) (part j)) (met.arrived i j low low' apart) (record {
-    true_notes = λ m has.
-        let (p, q, x, v, e, is_p, stones, in_q, in_j, spread, note) = holds.true_notes m has in (
-          q,
-          v,
-          e,
-          p,
-          x,
-          spread,
-          in_q,
-          IsBoard-next p x 0 q is_p note.quiet,
-          is_p,
-          stones ∙ met.level i low ∙ sym (met.level j low'),
-          in_share j (rank_of p) low' (subst (λ l. IsInBlockOf l (length os) j (rank_of p)) (met.level i low) in_j),
-          note,
-        );
-    all_notes = λ q v e p x spread in_q is_p stones in_p quiet.
-        holds.all_notes p q x v e is_p (stones ∙ met.level j low' ∙ sym (met.level i low)) in_q
-        (subst (λ l. IsInBlockOf l (length os) j (rank_of p)) (sym (met.level i low)) (of_share j (rank_of p) low' in_p)) quiet spread;
-    once = holds.once;
-  })
-    where
-      holds : HoldsNotes (length os) (part i) j (notes_of (given_to (owner i).ends (owner i).outboxes j))
-      holds = (sound i low).given_notes j ((λ e. apart (sym e)), low')
+  first : part 0 ≡ part_at (parts_of os) 0
+  first = there 0 met.some
 
-  pub sound_together : AreSound value n (length os) (part_at (parts_of os)) coming (λ i j. notes_of (taken j i))
-  sound_together = sound_same value n (length os) part (part_at (parts_of os)) coming (λ i j. notes_of (taken j i)) met.some (λ i low. part_there os i d low) (record {
-    shares = share;
-    gain = met.gain;
-    wave = met.wave;
-    hears = λ j low. let s = sound j low in record {
-      notes = s.heard;
-      tallied = s.tallied;
-      own = s.hears_own;
-      others = λ m inside leaves. (
-        λ has. let (i, other, took) = s.heard_taken m has leaves in (i, other.1, other.0, took),
-        λ took. s.taken_heard took.0 (took.2, took.1) m took.3,
-      );
+  pub sound_together : AreSound value n (length os) (part_at (parts_of os)) coming (λ i j. taken j i)
+  sound_together = record {
+    shares = λ i low. subst (IsShare n (length os) i) (there i low) (share i low);
+    step = record {
+      gain = λ i low. ap (λ (p : Part). p.gain) (sym (there i low)) ∙ met.gain i low ∙ ap (λ (p : Part). p.gain) first;
+      wave = λ i low. ap (λ (p : Part). p.wave) (sym (there i low)) ∙ met.wave i low ∙ ap (λ (p : Part). p.wave) first;
     };
-    given = given;
-    timely = met.timely;
-  })
+    sound = λ i low. subst (λ (p : Part). OwnerSound value i (length os) p (taken i) (λ j. taken j i ++ coming i j) (coming i)) (there i low) (sound i low);
+  }
 
 -- owners without anything on its way are met so
 module _ (value : List ℕ → ℤ) (n : ℕ) (os : List Owner) (finished : AreFinished value n os) (d : Owner) where
   -- what an owner gave to another the other took
-  arrived : (i j : ℕ) → i < length os → j < length os → (i ≡ j → ⊥) → notes_of (given_to (get_or os i d).ends (get_or os i d).outboxes j) ≡ taken_notes os d i j ++ []
+  arrived : (i j : ℕ) → i < length os → j < length os → (i ≡ j → ⊥) → notes_given (get_or os i d).ends (get_or os i d).outboxes j ≡ taken_notes os d i j ++ []
   arrived i j low low' apart =
       let queues : length (get_or os i d).outboxes.queues ≡ length os = (get_or os i d).queues ∙ many_at os d finished.grid i low in
       let none : queue_to (get_or os i d).outboxes j ≡ [] = finished.sent i d low j [] (omega (arith, queues, low')) in
@@ -162,7 +111,7 @@ module _ (value : List ℕ → ℤ) (n : ℕ) (os : List Owner) (finished : AreF
       ∙ ap (λ l. notes_of (map items_of l)) (sym came) ∙ sym (append-nil (taken_notes os d i j))
 
   pub sound_finished : AreSound value n (length os) (part_at (parts_of os)) (λ _ _. []) (taken_notes os d)
-  sound_finished = sound_together value n os d (λ _ _. []) (λ j. taken_from (get_or os j d).ends) (record {
+  sound_finished = sound_together value n os d (λ _ _. []) (λ j. notes_taken (get_or os j d).ends) (record {
     some = finished.some;
     grid = finished.grid;
     level = λ i low. finished.level i d low;
@@ -170,7 +119,7 @@ module _ (value : List ℕ → ℤ) (n : ℕ) (os : List Owner) (finished : AreF
     wave = λ i low. finished.wave i d low;
     sound = λ i low. finished.sound i d low;
     arrived = arrived;
-    timely = λ i j low low' apart m has. absurd has;
+    timely = λ i j low low' apart. All-nil (IsTimely (get_or os i d).part);
   })
 
 -- and some owner is there

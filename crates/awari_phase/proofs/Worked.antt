@@ -10,13 +10,11 @@ use Rattle.awari_block.specs.Part.{Part}
 use Rattle.awari_owner.specs.declared.faults.OwnerFault.{OwnerFault}
 use Rattle.awari_block.specs.declared.notes.Note.{Note}
 use Rattle.awari_phase.specs.declared.owners.Owner.{Owner}
-use Rattle.awari_phase.specs.Sound.{IsOpenBatch}
-use Rattle.awari_phase.specs.Owners.{AllGrown, AreFinished, AreReceived, AreTogether, Kept, OpenBehind, OpensWave, all_ends, ends_of, items_of, rest_of}
+use Rattle.awari_phase.specs.Owners.{AllGrown, AreFinished, AreReceived, AreTogether, IsOpenBatch, Kept, OpenBehind, OpensWave, all_ends, ends_of, items_of, rest_of}
 use Rattle.awari_phase.specs.PhaseFault.{AreWell}
 use Rattle.awari_phase.specs.Stops.{HasWorked, HaveWorked}
-use Rattle.awari_phase.proofs.Batching.{open_still}
 use Rattle.awari_phase.proofs.Grown.{grid_after, grid_lines}
-use Rattle.awari_phase.proofs.Keeping.{lines_then}
+use Rattle.awari_phase.proofs.Keeping.{lines_then, open_place}
 use Rattle.awari_owner.proofs.Lists.{written}
 use Rattle.awari_phase.proofs.Together.{ends_there, many_at, number_at}
 use Rattle.awari_phase.proofs.Gaining.{all_grown_waves, same_rest}
@@ -77,7 +75,6 @@ together_kept value n os ps long kept t = record {
   sound = λ i d h. (kept i d (low i h)).sound value (t.sound i d (low i h));
   level = λ i d h. (kept i d (low i h)).block.level.level ∙ t.level i d (low i h);
   gain = λ i d h. (kept i d (low i h)).block.level.gain ∙ t.gain i d (low i h) ∙ sym (kept 0 d first).block.level.gain;
-  opened = λ i d h. (let g = (kept i d (low i h)).block.level.gain in let o = t.opened i d (low i h) in omega (arith, g, o));
   wave = λ i d h. (kept i d (low i h)).block.level.wave ∙ t.wave i d (low i h) ∙ sym (kept 0 d first).block.level.wave;
   waits = waits;
 }
@@ -101,7 +98,7 @@ together_kept value n os ps long kept t = record {
           came = (o.came.0 ++ came.0, sym (append_assoc o.before o.came.0 came.0) ∙ ap (λ l. l ++ came.0) o.came.1 ∙ came.1);
           went = gone.1 ∙ ap (λ l. l ++ gone.0) o.went ∙ append_assoc o.before o.after gone.0;
           opened = subst (λ (bs : List (List Note)). All (IsOpenBatch (get_or ps j d).part) bs) (sym (map-append items_of o.after gone.0))
-              (All-weaker (IsOpenBatch there.part) (IsOpenBatch (get_or ps j d).part) (open_still there.part (get_or ps j d).part (kept j d (low j h')).block.level) (map items_of o.after ++ map items_of gone.0)
+              (All-weaker (IsOpenBatch there.part) (IsOpenBatch (get_or ps j d).part) (open_place there.part (get_or ps j d).part (kept j d (low j h')).block) (map items_of o.after ++ map items_of gone.0)
               (All-append (IsOpenBatch there.part) (map items_of o.after) (map items_of gone.0) o.opened (gone.2 value (t.sound j d (low j h')))));
         }
 
@@ -126,7 +123,6 @@ together_grown value n os ps grown waits t =
       sound = λ i d h. (grown.each i d (low i h)).sound value (t.sound i d (low i h));
       level = λ i d h. (grown.each i d (low i h)).level ∙ t.level i d (low i h);
       gain = λ i d h. (grown.each i d (low i h)).gain ∙ t.gain i d (low i h) ∙ sym (grown.each 0 d first).gain;
-      opened = λ i d h. (let g = (grown.each i d (low i h)).gain in let o = t.opened i d (low i h) in omega (arith, g, o));
       wave = grown.wave t.wave;
       waits = waits;
     }
@@ -187,15 +183,14 @@ together_waves value n os ps dist many opens grid received t =
     together_received value n os ps (all_grown_waves os ps dist many opens grid)
     (λ i j d. subst (λ (l : List Ends). i < length l → j < length l → (i ≡ j → ⊥) → received_from (get_or l i d) j ≡ sent_to (get_or l j d) i) (sym same) (received i j d)) t
 
--- as owners are between two gains, once one is open
-pub together_finished : (value : List ℕ → ℤ) (n : ℕ) (os : List Owner) → ((i : ℕ) (d : Owner) → i < length os → (get_or os i d).part.gain ≤ n) → AreFinished value n os → AreTogether value n os
-together_finished value n os opened f = record {
+-- as owners are between two gains
+pub together_finished : (value : List ℕ → ℤ) (n : ℕ) (os : List Owner) → AreFinished value n os → AreTogether value n os
+together_finished value n os f = record {
   some = f.some;
   grid = f.grid;
   sound = f.sound;
   level = f.level;
   gain = f.gain;
-  opened = opened;
   wave = f.wave;
   waits = none_waits os f.received;
 }

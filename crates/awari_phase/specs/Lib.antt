@@ -1,4 +1,3 @@
-pub mod Sound
 pub mod Owners
 pub mod PhaseFault
 pub mod Stops

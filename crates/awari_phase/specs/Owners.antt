@@ -4,13 +4,14 @@ use mathlib.Core.List.{IsPrefix}
 use Rattle.awari_lines.specs.Lines.{Notes, IsOther, IsGrid, SameLines, owners_of, sent_to, received_from, waiting_from, free_to}
 use Rattle.awari_lines.specs.declared.lines.Ends.{Ends}
 use Rattle.awari_block.specs.declared.notes.Note.{Note}
-use Rattle.awari_owner.specs.Outboxes.{Outboxes, queue_to, notes_of}
+use Rattle.awari_owner.specs.Outboxes.{IsBatch, Outboxes, queue_to, notes_of}
 use Rattle.awari_block.specs.Blocks.{KeepSettled}
-use Rattle.awari_block.specs.Part.{Part, AreFresh, IsLeastDue, IsTallied, unspread}
-use Rattle.awari_owner.specs.Scan.{IsScan}
-use Rattle.awari_owner.specs.Spread.{HearsOwn, IsSeenAs}
-use Rattle.awari_phase.specs.Sound.{Batches, OwnerSound, SamePlace, IsOpenBatch}
+use Rattle.awari_block.specs.Part.{Part, IsLeastDue, unspread}
+use Rattle.awari_owner.specs.Sound.{IsScannedPart, IsTimely, OpensGain, OwnerSound, SamePlace}
 use Rattle.awari_phase.specs.declared.owners.Owner.{Owner}
+
+abbrev pub Batches : Type 0
+Batches = List (List Note)
 
 abbrev pub items_of : Notes → List Note
 items_of b = b.items
@@ -23,8 +24,23 @@ taken_from e j = map items_of (received_from e j)
 abbrev pub given_to : Ends → Outboxes → ℕ → Batches
 given_to e o j = map items_of (sent_to e j) ++ queue_to o j
 
+-- the notes of these, and of what is still to be sent
+abbrev pub notes_taken : Ends → ℕ → List Note
+notes_taken e j = notes_of (taken_from e j)
+
+abbrev pub notes_given : Ends → Outboxes → ℕ → List Note
+notes_given e o j = notes_of (given_to e o j)
+
+abbrev pub notes_boxed : Outboxes → ℕ → List Note
+notes_boxed o j = notes_of (queue_to o j)
+
 abbrev pub IsSound : (List ℕ → ℤ) → Ends → Part → Outboxes → Type 0
-IsSound value e part o = OwnerSound value e.owner (owners_of e) part (taken_from e) (given_to e o) (queue_to o)
+IsSound value e part o = OwnerSound value e.owner (owners_of e) part (notes_taken e) (notes_given e o) (notes_boxed o)
+
+-- a batch of 1 to 32 notes of the open gain and distance
+pub record IsOpenBatch (part : Part) (b : List Note) : Type 0 where
+  pub whole : IsBatch b
+  pub opened : All (IsTimely part) b
 
 -- The owner on the same lines, with the same block, gain and distance, is sound where it was; what it took and sent has only
 -- grown, and what it sent is of the open gain and distance where what it had to send was. It has no board more to spread.
@@ -100,18 +116,12 @@ pub record OpensWave (dist : ℕ) (a b : Owner) : Type 0 where
   pub ends : b.ends ≡ a.ends
   pub wave : b.part.wave ≡ max a.part.wave dist
 
--- The next smaller gain is open in the part, at distance 0. Settled boards keep value and distance, the same boards are spread,
--- and nothing was taken or sent.
+-- The next smaller gain is open in the part, and nothing was taken or sent.
 pub record OpensNext (a b : Owner) : Type 0 where
   pub ends : b.ends ≡ a.ends
   pub outboxes : b.outboxes ≡ a.outboxes
   pub gain : b.part.gain + 1 ≡ a.part.gain
-  pub wave : b.part.wave ≡ 0
-  pub seen : IsSeenAs a.part b.part
-  pub stays : KeepSettled a.part.start a.part.cells b.part.cells
-  pub fresh : AreFresh b.part
-  pub tallied : (value : List ℕ → ℤ) (notes : List Note) → IsTallied value a.part notes → IsTallied value b.part notes
-  pub hears : (notes : List Note) → HearsOwn a.part notes → HearsOwn b.part notes
+  pub opens : OpensGain b.part.gain a.part b.part
 
 -- no board is fresh
 abbrev pub AreIdle : List Owner → Type 0
@@ -132,11 +142,11 @@ AreLooked os = (i j : ℕ) (d : Ends) → i < length (all_ends os) → j < lengt
 
 -- the notes that owner j took from owner i
 abbrev pub taken_notes : List Owner → Owner → ℕ → ℕ → List Note
-taken_notes os d i j = notes_of (taken_from (slice_index_or os j d).ends i)
+taken_notes os d i j = notes_taken (slice_index_or os j d).ends i
 
 -- the notes on their way from owner i to owner j: those that are known to wait on the line, and then those that are to be sent
 abbrev pub coming_notes : List Owner → Owner → ℕ → ℕ → List Note
-coming_notes os d i j = notes_of (map items_of (waiting_from (slice_index_or os j d).ends i)) ++ notes_of (queue_to (slice_index_or os i d).outboxes j)
+coming_notes os d i j = notes_of (map items_of (waiting_from (slice_index_or os j d).ends i)) ++ notes_boxed (slice_index_or os i d).outboxes j
 
 -- the parts of the owners, in order
 abbrev pub parts_of : List Owner → List Part
@@ -146,10 +156,7 @@ parts_of os = map (λ (o : Owner). o.part) os
 -- nothing to send.
 pub record IsScanned (value : List ℕ → ℤ) (n owners : ℕ) (e : Ends) (o : Owner) : Type 0 where
   pub ends : o.ends ≡ e
-  pub scan : IsScan n owners e.owner o.part
-  pub tallied : IsTallied value o.part []
-  pub hears : HearsOwn o.part []
-  pub fresh : AreFresh o.part
+  pub part : IsScannedPart value n owners e.owner o.part
   pub sent : All (λ q. q ≡ []) o.outboxes.queues
 
 -- of these batches that were sent, those that are not among these received ones are of the open gain and distance
@@ -168,7 +175,6 @@ pub record AreTogether (value : List ℕ → ℤ) (n : ℕ) (os : List Owner) : 
   pub sound : (i : ℕ) (d : Owner) → i < length os → IsSound value (slice_index_or os i d).ends (slice_index_or os i d).part (slice_index_or os i d).outboxes
   pub level : (i : ℕ) (d : Owner) → i < length os → (slice_index_or os i d).part.level ≡ n
   pub gain : (i : ℕ) (d : Owner) → i < length os → (slice_index_or os i d).part.gain ≡ (slice_index_or os 0 d).part.gain
-  pub opened : (i : ℕ) (d : Owner) → i < length os → (slice_index_or os i d).part.gain ≤ n
   pub wave : AreInStep os
   pub waits : (i j : ℕ) (d : Owner) → i < length os → j < length os → i ≢ j
       → OpenBehind (slice_index_or os j d).part (received_from (slice_index_or os i d).ends j) (sent_to (slice_index_or os j d).ends i)

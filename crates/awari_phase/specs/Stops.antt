@@ -1,28 +1,15 @@
 -- How a worker comes to a fault, and what became of owners that worked. What the public contracts say of a refused round goes by
 -- this.
-use Rattle.std.specs.Prelude.{◌≡◌, ◌≢◌, ◌⊎◌, ℕ, ℤ, List, [], ◌∷◌, ◌++◌, ◌<◌, None, Some, length, slice_index_or}
+use Rattle.std.specs.Prelude.{◌≡◌, ◌≢◌, ◌⊎◌, ℕ, List, [], ◌∷◌, ◌++◌, ◌<◌, None, Some, length, slice_index_or}
 use Rattle.awari_lines.specs.Lines.{Notes, IsOther, SameLines, sent_to, received_from}
 use Rattle.awari_lines.specs.declared.lines.Ends.{Ends}
 use Rattle.awari_owner.specs.Outboxes.{Outboxes}
-use Rattle.awari_owner.specs.OwnerFault.{IsFaultOf}
+use Rattle.awari_owner.specs.Sound.{RefusesNote}
 use Rattle.awari_block.specs.Part.{Part, HasFarthest}
 use Rattle.awari_owner.specs.declared.faults.OwnerFault.{OwnerFault}
 use Rattle.awari_owner.specs.declared.faults.OwnerFault.TheVariants.{Far, Memory}
-use Rattle.awari_block.specs.declared.notes.Note.{Note}
-use Rattle.awari_phase.specs.Sound.{Batches, IsOtherOf, OwnerSound, SamePlace, with_taken}
 use Rattle.awari_phase.specs.Owners.{Kept, Swept}
 use Rattle.awari_phase.specs.declared.owners.Owner.{Owner}
-
--- The part heard the notes of this batch up to one, which it refused.
-pub record RefusesNote (old new : Part) (batch : List Note) (fault : OwnerFault) : Type 0 where
-  pub before : List Note
-  pub note : Note
-  pub after : List Note
-  pub items : batch ≡ before ++ note ∷ after
-  pub refused : IsFaultOf new note fault
-  pub sound : (value : List ℕ → ℤ) (owner owners from : ℕ) (taken given boxed : ℕ → Batches) → IsOtherOf owner owners from
-      → OwnerSound value owner owners old taken given boxed
-      → OwnerSound value owner owners new (with_taken taken from before) given boxed
 
 -- One batch was taken off a line, and a note of it was refused; nothing else was done.
 pub record StopsTaking (e : Ends) (part : Part) (o : Outboxes) (e' : Ends) (part' : Part) (o' : Outboxes) (fault : OwnerFault) : Type 0 where
@@ -34,8 +21,7 @@ pub record StopsTaking (e : Ends) (part : Part) (o : Outboxes) (e' : Ends) (part
   pub popped : received_from e' from ≡ received_from e from ++ batch ∷ []
   pub others : (j : ℕ) → IsOther e j → j ≢ from → received_from e' j ≡ received_from e j
   pub outboxes : o' ≡ o
-  pub block : SamePlace part part'
-  pub refuses : RefusesNote part part' batch.items fault
+  pub refuses : RefusesNote batch.items part part' fault
 
 -- Nothing was done: memory is wanting, or the next board to be spread has the greatest distance that can be stored.
 pub record StopsSpreading (e : Ends) (part : Part) (o : Outboxes) (e' : Ends) (part' : Part) (o' : Outboxes) (fault : OwnerFault) : Type 0 where

@@ -21,7 +21,6 @@
 
 mod faults;
 mod gates;
-mod hearing;
 mod laws;
 mod making;
 mod openings;
@@ -30,7 +29,6 @@ mod phases;
 mod progress;
 mod rounding;
 mod settling;
-mod spreading;
 mod starting;
 
 pub use faults::PhaseFault;

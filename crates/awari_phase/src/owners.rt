@@ -17,10 +17,8 @@ ghost use Rattle.awari_lines.specs.Lines.{owners_of};
 ghost use Rattle.awari_owner.specs.Spread.{IsPartOf};
 
 use crate::gates::Gate;
-use crate::hearing::take_batch;
-use crate::spreading::spread_one;
 use awari_lines::Ends;
-use awari_owner::{Outboxes, OwnerFault, Part};
+use awari_owner::{Outboxes, OwnerFault, Part, take_batch};
 
 /// The most boards that a sweep spreads.
 pub const MOST_SPREADS: u32 = 64;
@@ -146,7 +144,7 @@ impl Owner {
         ensures none { result ≡ Ok false → IsLeastDue self.new.part (Some self.new.part.wave) → ⊥ }
         ensures stopped { IfErr result (Stopped self.old self.new) }
     {
-        let done = spread_one(&mut self.part, &mut self.outboxes)?;
+        let done = self.part.spread_one(&mut self.outboxes)?;
         self.boards_spread = self.boards_spread.saturating_add(usize::from(done));
         Ok(done)
     }

@@ -5,7 +5,7 @@ use Rattle.awari_build.proofs.alone.settled_part.Goals as goal
 
 pub spread_all-requires-clause-sound : goal.spread_all-requires-clause-sound
 spread_all-requires-clause-sound g c =
-    ((table_of c.args.shelf.now).value, sound_opened _ _ _ c.open_gain.ensures.opened c.open_gain.ensures.hears c.loop-part.invariant.sound)
+    ((table_of c.args.shelf.now).value, sound_opened _ _ _ c.open_gain.ensures.tallied c.open_gain.ensures.own c.loop-part.invariant.sound)
 
 pub loop-part-preserved : goal.loop-part-preserved
 loop-part-preserved g c =
@@ -13,8 +13,8 @@ loop-part-preserved g c =
     let spread = c.in_ok-spread.ensures in
     record {
       whole = spread.whole.0;
-      level = spread.whole.1 ∙ c.open_gain.ensures.same.0 ∙ before.level;
+      level = spread.whole.1 ∙ c.open_gain.ensures.settles.same.level ∙ before.level;
       alone = spread.alone;
       idle = spread.idle;
-      sound = spread.sound _ (sound_opened _ _ _ c.open_gain.ensures.opened c.open_gain.ensures.hears before.sound);
+      sound = spread.sound _ (sound_opened _ _ _ c.open_gain.ensures.tallied c.open_gain.ensures.own before.sound);
     }

@@ -37,8 +37,8 @@ spread_one-requires c =
 pub returns-clause-sound : goal.returns-clause-sound
 returns-clause-sound c = λ value sound.
     let opened : IsSound value c.if-wave-dist.part = elim c.if-wave-dist.branch [
-      | then-wave-dist w ↦ subst (λ (p : Part). IsSound value p) (sym w.part-is) (sound_opened value _ _ w.open_wave.ensures.opened w.open_wave.ensures.hears sound)
+      | then-wave-dist w ↦ subst (λ (p : Part). IsSound value p) (sym w.part-is) (sound_opened value _ _ w.open_wave.ensures.tallied w.open_wave.ensures.own sound)
       | else-wave-dist w ↦ subst (λ (p : Part). IsSound value p) (sym w.part-is) sound
     ] in
-    let (q, sources, notes, spreads, sends) = c.in-Ok-true.ensures.spread (ap Ok c.in-Ok-true.field-0-test) in
-    sound_spread value _ _ q sources spreads opened
+    let does = c.in-Ok-true.ensures.spread (ap Ok c.in-Ok-true.field-0-test) in
+    sound_spread value _ _ does.board does.sources does.spreads opened

@@ -2,7 +2,8 @@ use Rattle.std.proofs.Common.{length, ap, sym, subst, ◌∙◌, inl, inr}
 use Rattle.awari_owner.proofs.Lists.{written}
 use Rattle.awari_lines.specs.Lines.{IsGrid}
 use Rattle.awari_phase.specs.Owners.{AreFinished, AreTogether, all_ends}
-use Rattle.awari_build.proofs.Gains.{next_open, opened_together, phase_ends}
+use Rattle.awari_phase.proofs.Worked.{together_finished}
+use Rattle.awari_build.proofs.Gains.{next_open, phase_ends}
 use Rattle.awari_build.proofs.owned.closed_gain.Goals as goal
 
 pub gain_phase_with_progress-requires-clause-grid : goal.gain_phase_with_progress-requires-clause-grid
@@ -22,8 +23,8 @@ pub returns-in-Err-clause-phase : goal.returns-in-Err-clause-phase
 returns-in-Err-clause-phase g c =
     let same = written c.open_gain.new.owners c.args.owners.items c.args.owners.len (c.open_gain.auto.owners ∙ ap length c.as_mut_slice.ensures.value ∙ sym c.args.owners.ok.0) (sym c.args.owners.ok.0) in
     let rest = c.requires.rest in
-    elim (c.in-Err.ensures.wanting rest.0 rest.1 rest.6
-    (subst (AreTogether rest.0 rest.1) (sym same) (opened_together rest.0 rest.1 rest.2 c.args.owners.items c.as_mut_slice.result.now c.open_gain.new.owners c.as_mut_slice.ensures.value c.open_gain.auto.owners c.open_gain.ensures.finished (λ i d h. (c.open_gain.ensures.each i d h).gain) rest.4 rest.5))) [
+    elim (c.in-Err.ensures.wanting rest.0 rest.1 rest.5
+    (subst (AreTogether rest.0 rest.1) (sym same) (together_finished rest.0 rest.1 c.open_gain.new.owners (c.open_gain.ensures.finished rest.0 rest.1 (subst (AreFinished rest.0 rest.1) (sym c.as_mut_slice.ensures.value) rest.4.finished))))) [
       | inl want ↦ inl (c.of_phase.ensures.wanting want)
       | inr stop ↦ inr (c.of_phase.ensures.stopped stop.0, stop.1)
     ]

@@ -1,5 +1,5 @@
-use Rattle.awari_core.proofs.Opening.{sound_opened}
+use Rattle.awari_core.proofs.Sounding.{opened_sound}
 use Rattle.awari_core.proofs.laws.opening_keeps_owners_sound.Goals as goal
 
 pub returns : goal.returns
-returns c = sound_opened
+returns c = opened_sound

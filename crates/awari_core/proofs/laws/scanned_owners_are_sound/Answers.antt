@@ -1,5 +1,5 @@
-use Rattle.awari_core.proofs.Opening.{sound_none}
+use Rattle.awari_core.proofs.Sounding.{scanned_sound}
 use Rattle.awari_core.proofs.laws.scanned_owners_are_sound.Goals as goal
 
 pub returns : goal.returns
-returns c = sound_none
+returns c = scanned_sound

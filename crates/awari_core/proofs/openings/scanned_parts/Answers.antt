@@ -2,9 +2,8 @@ use Rattle.std.proofs.Common.{◌≡◌, ◌<◌, ◌+◌, ◌++◌, ◌∷◌, 
 use Rattle.std.proofs.lemmas.List.{length_push}
 use Rattle.awari_table.specs.Images.{table_of}
 use Rattle.awari_owner.specs.Level.{no_part}
-use Rattle.awari_block.specs.Part.{AreFresh, IsTallied, Part}
-use Rattle.awari_owner.specs.Scan.{IsScan}
-use Rattle.awari_owner.specs.Spread.{HearsOwn}
+use Rattle.awari_owner.specs.Sound.{IsScannedPart}
+use Rattle.awari_block.specs.Part.{Part}
 use Rattle.awari_core.proofs.Rounds.{more_push}
 use Rattle.awari_core.proofs.openings.scanned_parts.Goals as goal
 
@@ -13,14 +12,10 @@ loop-owner-preserved c =
     let items : List Part = c.loop-owner.parts.items in
     let pushed : items ++ c.in-Ok.part ∷ [] ≡ c.push.new.self.items = sym c.in_ok-push.ensures.items in
     let before = c.loop-owner.invariant in
+    let found = c.in-Ok.ensures in
     record {
       count = ap (λ (l : List Part). length l) (sym pushed) ∙ (let one = length_push items c.in-Ok.part in let n = before.count in omega (arith, one, n));
-      scanned = subst (λ (l : List Part). (k : ℕ) → k < c.loop-owner.owner + 1 → IsScan (length c.args.shelf.now) c.args.owners k (get_or l k no_part)) pushed
-          (more_push (λ k (p : Part). IsScan (length c.args.shelf.now) c.args.owners k p) items no_part c.in-Ok.part c.loop-owner.owner before.count before.scanned c.in-Ok.ensures.scanned);
-      tallied = subst (λ (l : List Part). (k : ℕ) → k < c.loop-owner.owner + 1 → IsTallied (table_of c.args.shelf.now).value (get_or l k no_part) []) pushed
-          (more_push (λ k (p : Part). IsTallied (table_of c.args.shelf.now).value p []) items no_part c.in-Ok.part c.loop-owner.owner before.count before.tallied c.in-Ok.ensures.tallied);
-      fresh = subst (λ (l : List Part). (k : ℕ) → k < c.loop-owner.owner + 1 → AreFresh (get_or l k no_part)) pushed
-          (more_push (λ k (p : Part). AreFresh p) items no_part c.in-Ok.part c.loop-owner.owner before.count before.fresh c.in-Ok.ensures.fresh);
-      hears = subst (λ (l : List Part). (k : ℕ) → k < c.loop-owner.owner + 1 → HearsOwn (get_or l k no_part) []) pushed
-          (more_push (λ k (p : Part). HearsOwn p []) items no_part c.in-Ok.part c.loop-owner.owner before.count before.hears c.in-Ok.ensures.hears);
+      scanned = subst (λ (l : List Part). (k : ℕ) → k < c.loop-owner.owner + 1 → IsScannedPart (table_of c.args.shelf.now).value (length c.args.shelf.now) c.args.owners k (get_or l k no_part)) pushed
+          (more_push (λ k (p : Part). IsScannedPart (table_of c.args.shelf.now).value (length c.args.shelf.now) c.args.owners k p) items no_part c.in-Ok.part c.loop-owner.owner before.count before.scanned
+          (record { scan = found.scanned; tallied = found.tallied; own = found.hears; fresh = found.fresh }));
     }

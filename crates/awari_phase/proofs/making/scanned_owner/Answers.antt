@@ -2,9 +2,9 @@ use Rattle.std.proofs.Common.{◌≡◌, [], All, List, length, refl, sym, subst
 use Rattle.std.proofs.lemmas.List.Elements.{All-replicate}
 use Rattle.awari_table.specs.Images.{table_of}
 use Rattle.awari_owner.specs.Outboxes.{Outboxes}
-use Rattle.awari_block.specs.Part.{Part, AreFresh, IsTallied}
+use Rattle.awari_block.specs.Part.{Part}
 use Rattle.awari_owner.specs.Scan.{IsScan}
-use Rattle.awari_owner.specs.Spread.{HearsOwn}
+use Rattle.awari_owner.specs.Sound.{IsScannedPart}
 use Rattle.awari_block.specs.declared.notes.Note.{Note}
 use Rattle.awari_phase.proofs.making.scanned_owner.Goals as goal
 
@@ -14,9 +14,11 @@ returns g c =
     let boxes = sym (c.new-2.ensures.outboxes ∙ c.in_ok-outboxes.ensures) in
     record {
       ends = c.new-2.ensures.ends;
-      scan = subst (λ (p : Part). IsScan (length c.args.shelf.now) c.args.owners c.args.ends.owner p) part (subst (λ i. IsScan (length c.args.shelf.now) c.args.owners i c.in-Ok.part) c.owner-number.ensures c.in-Ok.ensures.scanned);
-      tallied = subst (λ (p : Part). IsTallied (table_of c.args.shelf.now).value p []) part c.in-Ok.ensures.tallied;
-      hears = subst (λ (p : Part). HearsOwn p []) part c.in-Ok.ensures.hears;
-      fresh = subst AreFresh part c.in-Ok.ensures.fresh;
+      part = subst (λ (p : Part). IsScannedPart (table_of c.args.shelf.now).value (length c.args.shelf.now) c.args.owners c.args.ends.owner p) part (record {
+        scan = subst (λ i. IsScan (length c.args.shelf.now) c.args.owners i c.in-Ok.part) c.owner-number.ensures c.in-Ok.ensures.scanned;
+        tallied = c.in-Ok.ensures.tallied;
+        own = c.in-Ok.ensures.hears;
+        fresh = c.in-Ok.ensures.fresh;
+      });
       sent = subst (λ (o : Outboxes). All (λ (q : List (List Note)). q ≡ []) o.queues) boxes (All-replicate (λ (q : List (List Note)). q ≡ []) c.args.owners [] refl);
     }

@@ -15,7 +15,7 @@ loop-part-preserved c =
     let at : get_or parts c.loop-part.part-index no_part ≡ c.part-item.result =
     get_or_default parts c.loop-part.part-index no_part c.part-item.result low ∙ sym (c.part-item.is ∙ ap (λ (l : List Part). get_or l c.loop-part.part-index c.part-item.result) items) in
     let waves : (get_or parts c.loop-part.part-index no_part).wave ≡ (get_or parts 0 no_part).wave =
-    subst (λ (l : List Part). (get_or l c.loop-part.part-index no_part).wave ≡ (get_or l 0 no_part).wave) same (c.self.invariant.sound.wave c.loop-part.part-index (search (rules, low, same))) in
+    subst (λ (l : List Part). (get_or l c.loop-part.part-index no_part).wave ≡ (get_or l 0 no_part).wave) same (c.self.invariant.sound.step.wave c.loop-part.part-index (search (rules, low, same))) in
     record {
       least = least_more parts c.loop-part.part-index c.part-item.result c.loop-part.least c.due.result c.nearer-least.result at c.loop-part.invariant.least c.due.ensures.least c.nearer-least.ensures;
       timely = nearer_bound c.loop-part.least c.due.result c.nearer-least.result (get_or parts 0 no_part).wave c.loop-part.invariant.timely

@@ -1,5 +1,6 @@
 use Rattle.std.proofs.Common.{rules, ◌≡◌, ◌<◌, ◌≤◌, ℕ, Option, Some, None, IfSome, length, sym, subst, refl, arith, ◌∙◌}
 use Rattle.awari_core.specs.Core.{Core, IsAllTaken, IsLeastOf, part_at}
+use Rattle.awari_core.proofs.Effects.{core_of}
 use Rattle.awari_core.proofs.Rounds.{none_due, none_near, other_dist, same_dist, sound_wave, wave_due}
 use Rattle.awari_core.proofs.cores.Core.next_wave.Goals as goal
 
@@ -27,12 +28,10 @@ returns-clause-done c =
 
 pub invariant_of-self : goal.invariant_of-self
 invariant_of-self c =
-    let old : Core = record { shelf = c.self.inside.shelf; room = c.self.inside.room; gain = c.self.inside.gain; parts = c.self.inside.parts.items; senders = c.self.inside.senders.items } in
+    let old = core_of c.self.inside in
     let count : length c.open_waves.new.parts.items ≡ length c.self.inside.parts.items = search rules in
     let taken : IsAllTaken old = subst IsAllTaken (sym c.self.view_is) (c.is_all_taken.ensures.0 (search rules)) in
-    let done = c.open_waves.ensures in
-    sound_wave old c.in-Some.dist c.open_waves.new.parts.items c.self.invariant taken count (λ i low. done.opened i (search (rules, low))) (λ i low. done.tallied i (search (rules, low))) (λ i low. done.hears i (search (rules, low)))
-    (λ i low. done.fresh i (search (rules, low)))
+    sound_wave old c.in-Some.dist c.open_waves.new.parts.items c.self.invariant taken count (λ i low. c.open_waves.ensures.opened i (search (rules, low)))
 
 pub returns-clause-sound : goal.returns-clause-sound
 returns-clause-sound c = invariant_of-self c

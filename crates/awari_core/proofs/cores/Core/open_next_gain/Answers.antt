@@ -1,23 +1,25 @@
 use Rattle.std.proofs.Common.{rules, ◌≡◌, ◌-◌, ◌<◌, ℕ, length, get_or, refl, sym, subst, arith}
 use Rattle.awari_owner.specs.Level.{no_part}
-use Rattle.awari_core.specs.Core.{Core, IsQuiet, OpensGain, OpensNextGain, part_at}
+use Rattle.awari_core.specs.Core.{Core, IsQuiet, OpensNextGain, part_at}
+use Rattle.awari_owner.specs.Sound.{OpensGain}
+use Rattle.awari_core.proofs.Effects.{core_of}
 use Rattle.awari_core.proofs.Rounds.{sound_gain}
 use Rattle.awari_core.proofs.cores.Core.open_next_gain.Goals as goal
 
 pub invariant_of-self-2 : goal.invariant_of-self-2
 invariant_of-self-2 c =
-    let old : Core = record { shelf = c.self.inside.shelf; room = c.self.inside.room; gain = c.self.inside.gain; parts = c.self.inside.parts.items; senders = c.self.inside.senders.items } in
+    let old = core_of c.self.inside in
     let more = c.if-self-le1.false in
     let count : length c.open_gains.new.parts.items ≡ length c.self.inside.parts.items = search rules in
     let each : (i : ℕ) → i < length old.parts → OpensGain (c.self.inside.gain - 1) (part_at old i) (get_or c.open_gains.new.parts.items i no_part) = λ i low. c.open_gains.ensures.opened i (search (rules, low)) in
-    sound_gain old (c.self.inside.gain - 1) c.open_gains.new.parts.items c.self.invariant (subst IsQuiet (sym c.self.view_is) c.requires) (omega (arith, more)) count each (λ i low. c.open_gains.ensures.fresh i (search (rules, low)))
+    sound_gain old (c.self.inside.gain - 1) c.open_gains.new.parts.items c.self.invariant (subst IsQuiet (sym c.self.view_is) c.requires) (omega (arith, more)) count each
 
 pub returns-clause-sound : goal.returns-clause-sound
 returns-clause-sound c = invariant_of-self-2 c
 
 pub returns-clause-opened : goal.returns-clause-opened
 returns-clause-opened c =
-    let old : Core = record { shelf = c.self.inside.shelf; room = c.self.inside.room; gain = c.self.inside.gain; parts = c.self.inside.parts.items; senders = c.self.inside.senders.items } in
+    let old = core_of c.self.inside in
     let more = c.if-self-le1.false in
     let count : length c.open_gains.new.parts.items ≡ length c.self.inside.parts.items = search rules in
     let each : (i : ℕ) → i < length old.parts → OpensGain (c.self.inside.gain - 1) (part_at old i) (get_or c.open_gains.new.parts.items i no_part) = λ i low. c.open_gains.ensures.opened i (search (rules, low)) in

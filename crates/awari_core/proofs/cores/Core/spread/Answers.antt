@@ -1,24 +1,34 @@
-use Rattle.std.proofs.Common.{rules, ◌<◌, Ok, Some, inl, inr, length, ap, sym, subst, arith, ◌∙◌, get_or-set_same}
-use Rattle.awari_owner.specs.Level.{no_part}
-use Rattle.awari_block.specs.Part.{AreFresh, IsLeastDue, Part}
-use Rattle.awari_core.specs.Core.{Core, Sound, DoesSpread, part_at}
-use Rattle.awari_core.proofs.Effects.{as_many, both_same, due_here, never_far, part_was, sender_was, spread_does, with_both}
-use Rattle.awari_core.proofs.Steps.{spread_step}
+use Rattle.std.proofs.Common.{rules, ◌<◌, Ok, Some, inl, inr, length, ap, sym, subst, subst₂, arith, ◌∙◌}
+use Rattle.awari_block.specs.Part.{IsLeastDue, Part}
+use Rattle.awari_core.specs.Core.{Core, Sender, Sound, DoesSpread, part_at, sender_at}
+use Rattle.awari_core.proofs.Effects.{as_many, both_same, core_of, due_here, never_far, part_was, sender_was, spread_does, with_both}
+use Rattle.awari_owner.specs.Spread.{IsPartOf}
+use Rattle.awari_core.proofs.Steps.{part_linked, spread_step}
 use Rattle.awari_core.proofs.cores.Core.spread.Goals as goal
 
 pub unreachable-requires : goal.unreachable-requires
 unreachable-requires c =
-    let old : Core = record { shelf = c.self.inside.shelf; room = c.self.inside.room; gain = c.self.inside.gain; parts = c.self.inside.parts.items; senders = c.self.inside.senders.items } in
+    let old = core_of c.self.inside in
     let high : c.args.owner < length c.self.inside.parts.items = search rules in
     elim c.in-Err-Far.ensures.fault [
       | inl far ↦ never_far old.parts c.args.owner c.index_mut-2.result.now high c.index_mut-2.ensures.value (c.sound_cores_are_told.ensures.fit old c.self.invariant) far.1
       | inr memory ↦ (let wrong = sym memory.0 ∙ c.in-Err-Far.field-0-is in cc)
     ]
 
+pub spread-requires : goal.spread-requires
+spread-requires c =
+    let old = core_of c.self.inside in
+    let high : c.args.owner < length c.self.inside.parts.items = search rules in
+    record {
+      part = subst₂ (λ (p : Part) (s : Sender). IsPartOf p s.outboxes) (part_was old.parts c.args.owner c.index_mut-2.result.now high c.index_mut-2.ensures.value)
+          (sender_was old.senders c.args.owner c.index_mut.result.now (as_many old c.args.owner c.self.invariant high) c.index_mut.ensures.value)
+          (part_linked (length old.shelf) (length old.parts) old.room c.args.owner (part_at old c.args.owner) (sender_at old c.args.owner) high (c.self.invariant.sound.shares c.args.owner high) (c.self.invariant.linked c.args.owner high));
+    }
+
 -- a board that is not spread changes nothing
 pub invariant_of-self : goal.invariant_of-self
 invariant_of-self c =
-    let old : Core = record { shelf = c.self.inside.shelf; room = c.self.inside.room; gain = c.self.inside.gain; parts = c.self.inside.parts.items; senders = c.self.inside.senders.items } in
+    let old = core_of c.self.inside in
     let high : c.args.owner < length c.self.inside.parts.items = search rules in
     let kept = c.in-Ok-false.ensures.none (ap Ok c.in-Ok-false.field-0-test) in
     subst Sound (sym (both_same old c.args.owner c.index_mut-2.result.now c.spread.new.part c.index_mut.result.now c.spread.new.self high (as_many old c.args.owner c.self.invariant high)
@@ -29,7 +39,7 @@ returns-in-Ok-false-clause-sound c = invariant_of-self c
 
 pub returns-in-Ok-false-clause-refused : goal.returns-in-Ok-false-clause-refused
 returns-in-Ok-false-clause-refused c =
-    let old : Core = record { shelf = c.self.inside.shelf; room = c.self.inside.room; gain = c.self.inside.gain; parts = c.self.inside.parts.items; senders = c.self.inside.senders.items } in
+    let old = core_of c.self.inside in
     let high : c.args.owner < length c.self.inside.parts.items = search rules in
     let was = part_was old.parts c.args.owner c.index_mut-2.result.now high c.index_mut-2.ensures.value in
     subst (λ (o : Core). (c.args.owner < length o.parts) × IsLeastDue (part_at o c.args.owner) (Some (part_at o c.args.owner).wave) → ⊥) c.self.view_is
@@ -37,7 +47,7 @@ returns-in-Ok-false-clause-refused c =
 
 pub invariant_of-self-in-Err : goal.invariant_of-self-in-Err
 invariant_of-self-in-Err c =
-    let old : Core = record { shelf = c.self.inside.shelf; room = c.self.inside.room; gain = c.self.inside.gain; parts = c.self.inside.parts.items; senders = c.self.inside.senders.items } in
+    let old = core_of c.self.inside in
     let high : c.args.owner < length c.self.inside.parts.items = search rules in
     let kept = c.in-Err.ensures.err in
     subst Sound (sym (both_same old c.args.owner c.index_mut-2.result.now c.spread.new.part c.index_mut.result.now c.spread.new.self high (as_many old c.args.owner c.self.invariant high)
@@ -48,7 +58,7 @@ returns-in-Err-clause-sound c = invariant_of-self-in-Err c
 
 pub returns-in-Err-clause-refused : goal.returns-in-Err-clause-refused
 returns-in-Err-clause-refused c =
-    let old : Core = record { shelf = c.self.inside.shelf; room = c.self.inside.room; gain = c.self.inside.gain; parts = c.self.inside.parts.items; senders = c.self.inside.senders.items } in
+    let old = core_of c.self.inside in
     let high : c.args.owner < length c.self.inside.parts.items = search rules in
     let high' = as_many old c.args.owner c.self.invariant high in
     let linked = c.self.invariant.linked c.args.owner high in
@@ -61,42 +71,26 @@ returns-in-Err-clause-refused c =
       ],
     )
 
-pub invariant_of-self-2 : goal.invariant_of-self-2
-invariant_of-self-2 c =
-    let old : Core = record { shelf = c.self.inside.shelf; room = c.self.inside.room; gain = c.self.inside.gain; parts = c.self.inside.parts.items; senders = c.self.inside.senders.items } in
+-- a board is spread
+does : (c : goal.In-Ok-true) → DoesSpread (core_of c.self.inside) (with_both (core_of c.self.inside) c.args.owner c.spread.new.part c.spread.new.self) c.args.owner
+does c =
+    let old = core_of c.self.inside in
     let high : c.args.owner < length c.self.inside.parts.items = search rules in
-    spread_step c.ranks_tell_boards_apart.ensures
-    (λ p x r is quiet. (c.moves_keep_boards.ensures.board p r x 0 is quiet, (let kept = c.moves_keep_boards.ensures.stones p r x 0 is quiet in omega (arith, kept))))
-    old (with_both old c.args.owner c.spread.new.part c.spread.new.self) c.args.owner high
-    (spread_does old c.args.owner c.index_mut-2.result.now c.spread.new.part c.index_mut.result.now c.spread.new.self high (as_many old c.args.owner c.self.invariant high)
-    c.index_mut-2.ensures.value c.index_mut.ensures.value (record {
-      lines = c.spread.ensures.lines;
-      numbered = c.spread.ensures.numbered;
-      same = c.spread.ensures.same;
-      stays = c.spread.ensures.stays;
-      spreads = c.in-Ok-true.ensures.spread (ap Ok c.in-Ok-true.field-0-test);
-    })) (subst AreFresh (sym (get_or-set_same old.parts c.args.owner c.spread.new.part no_part high)) c.spread.ensures.fresh) c.self.invariant
+    spread_does old c.args.owner c.index_mut-2.result.now c.spread.new.part c.index_mut.result.now c.spread.new.self high (as_many old c.args.owner c.self.invariant high)
+    c.index_mut-2.ensures.value c.index_mut.ensures.value c.spread.ensures.lines c.spread.ensures.place (c.in-Ok-true.ensures.spread (ap Ok c.in-Ok-true.field-0-test))
+
+pub invariant_of-self-2 : goal.invariant_of-self-2
+invariant_of-self-2 c = spread_step (core_of c.self.inside) (with_both (core_of c.self.inside) c.args.owner c.spread.new.part c.spread.new.self) c.args.owner (search rules) (does c) c.self.invariant
 
 pub returns-clause-sound : goal.returns-clause-sound
 returns-clause-sound c = invariant_of-self-2 c
 
 pub returns-clause-done : goal.returns-clause-done
-returns-clause-done c =
-    let old : Core = record { shelf = c.self.inside.shelf; room = c.self.inside.room; gain = c.self.inside.gain; parts = c.self.inside.parts.items; senders = c.self.inside.senders.items } in
-    let high : c.args.owner < length c.self.inside.parts.items = search rules in
-    subst (λ (o : Core). DoesSpread o (with_both old c.args.owner c.spread.new.part c.spread.new.self) c.args.owner) c.self.view_is
-    (spread_does old c.args.owner c.index_mut-2.result.now c.spread.new.part c.index_mut.result.now c.spread.new.self high (as_many old c.args.owner c.self.invariant high)
-    c.index_mut-2.ensures.value c.index_mut.ensures.value (record {
-      lines = c.spread.ensures.lines;
-      numbered = c.spread.ensures.numbered;
-      same = c.spread.ensures.same;
-      stays = c.spread.ensures.stays;
-      spreads = c.in-Ok-true.ensures.spread (ap Ok c.in-Ok-true.field-0-test);
-    }))
+returns-clause-done c = subst (λ (o : Core). DoesSpread o (with_both (core_of c.self.inside) c.args.owner c.spread.new.part c.spread.new.self) c.args.owner) c.self.view_is (does c)
 
 pub returns-clause-enabled : goal.returns-clause-enabled
 returns-clause-enabled c =
-    let old : Core = record { shelf = c.self.inside.shelf; room = c.self.inside.room; gain = c.self.inside.gain; parts = c.self.inside.parts.items; senders = c.self.inside.senders.items } in
+    let old = core_of c.self.inside in
     let high : c.args.owner < length c.self.inside.parts.items = search rules in
     subst (λ (o : Core). (c.args.owner < length o.parts) × IsLeastDue (part_at o c.args.owner) (Some (part_at o c.args.owner).wave)) c.self.view_is
     (high, due_here old.parts c.args.owner c.index_mut-2.result.now high c.index_mut-2.ensures.value (c.in-Ok-true.ensures.least (λ e. let wrong = c.in-Ok-true.field-0-test in cc)))

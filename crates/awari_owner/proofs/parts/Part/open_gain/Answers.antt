@@ -1,7 +1,6 @@
 use Rattle.std.proofs.Common.{◌≡◌, ◌+◌, subst, sym, ap, ◌∙◌, arith}
 use Rattle.awari_block.specs.Boards.{Settles}
-use Rattle.awari_block.specs.Blocks.{KeepSettled}
-use Rattle.awari_block.specs.Part.{Part, IsTallied, JoinsFresh}
+use Rattle.awari_block.specs.Part.{Part, IsTallied}
 use Rattle.awari_owner.specs.Spread.{HearsOwn}
 use Rattle.awari_owner.proofs.Gains.{opened}
 use Rattle.awari_owner.proofs.Hearing.{hears_still}
@@ -19,8 +18,8 @@ invariant_of-self c =
       targets = c.self.invariant.targets;
     }
 
-pub returns-clause-opened : goal.returns-clause-opened
-returns-clause-opened c = λ value notes.
+pub returns-clause-tallied : goal.returns-clause-tallied
+returns-clause-tallied c = λ value notes.
     let old : Part = c.self.inside.boards in
     let new : Part = c.open_gain.new.self in
     let next : c.args.gain + 1 ≡ old.gain = c.requires.next ∙ sym (ap (λ (v : Part). v.gain) c.self.view_is) in
@@ -29,20 +28,13 @@ returns-clause-opened c = λ value notes.
     (λ tallied. subst (λ (n : Part). IsTallied value n notes) (same_place (record old { gain = c.args.gain; wave = 0 }) new settles.same)
     (opened value notes old new.cells new.fresh c.args.gain c.requires.positive next settles.size c.open_gain.ensures.cells tallied))
 
-pub returns-clause-hears : goal.returns-clause-hears
-returns-clause-hears c = λ notes.
+pub returns-clause-own : goal.returns-clause-own
+returns-clause-own c = λ notes.
     let old : Part = c.self.inside.boards in
     let new : Part = c.open_gain.new.self in
     let settles : Settles (record old { gain = c.args.gain; wave = 0 }) new = c.open_gain.ensures.settles in
     subst (λ (o : Part). HearsOwn o notes → HearsOwn new notes) c.self.view_is
     (λ own. hears_still old new notes own settles.same.level settles.same.start settles.size settles.stays settles.joins)
 
-pub returns-clause-joins : goal.returns-clause-joins
-returns-clause-joins c =
-    let settles : Settles (record c.self.inside.boards { gain = c.args.gain; wave = 0 }) c.open_gain.new.self = c.open_gain.ensures.settles in
-    subst (λ (o : Part). JoinsFresh o c.open_gain.new.self) c.self.view_is settles.joins
-
-pub returns-clause-stays : goal.returns-clause-stays
-returns-clause-stays c =
-    let settles : Settles (record c.self.inside.boards { gain = c.args.gain; wave = 0 }) c.open_gain.new.self = c.open_gain.ensures.settles in
-    subst (λ (o : Part). KeepSettled o.start o.cells c.open_gain.new.self.cells) c.self.view_is settles.stays
+pub returns-clause-settles : goal.returns-clause-settles
+returns-clause-settles c = subst (λ (o : Part). Settles (record o { gain = c.args.gain; wave = 0 }) c.open_gain.new.self) c.self.view_is c.open_gain.ensures.settles

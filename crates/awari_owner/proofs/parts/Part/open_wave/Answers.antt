@@ -20,7 +20,7 @@ waved : (value : List ℕ → ℤ) (notes : List Note) (old : Part) (dist : ℕ)
 waved value notes old dist farther tallied p is stones inside =
     wave_tally value (cell_at old (rank_of p)) p (notes_for (rank_of p) notes) old.gain old.wave dist (omega (arith, farther)) (tallied p is stones inside)
 
-pub returns-clause-opened : goal.returns-clause-opened
-returns-clause-opened c = λ value notes tallied.
+pub returns-clause-tallied : goal.returns-clause-tallied
+returns-clause-tallied c = λ value notes tallied.
     subst (λ (n : Part). IsTallied value n notes) (sym (c.open_wave.ensures.wave ∙ ap (λ (o : Part). record o { wave = c.args.dist }) c.self.view_is))
     (waved value notes c.args.self.now c.args.dist c.requires.farther tallied)

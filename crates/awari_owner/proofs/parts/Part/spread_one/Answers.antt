@@ -1,14 +1,14 @@
-use Rattle.std.proofs.Common.{◌≡◌, ◌+◌, ◌-◌, ◌/◌, ◌<◌, ◌≤◌, ◌∙◌, ℕ, false, List, Some, length, ap, subst, subst₂, sym, rules, arith}
+use Rattle.std.proofs.Common.{◌≡◌, ◌+◌, ◌-◌, ◌/◌, ◌<◌, ◌≤◌, ◌∙◌, ℕ, false, Some, length, ap, subst, subst₂, sym, rules, arith}
 use Rattle.awari_rank.specs.Rank.{size_of}
-use Rattle.awari_block.specs.Blocks.{KeepSettled}
 use Rattle.awari_block.specs.Boards.{TakesFirst, place_of}
-use Rattle.awari_block.specs.Part.{Part, unspread, IsLeastDue}
-use Rattle.awari_owner.specs.Spread.{Source, Spreads, PutsAll, IsPartOf, Sends, is_held}
+use Rattle.awari_block.specs.Part.{Part, IsLeastDue}
+use Rattle.awari_owner.specs.Spread.{Spreads, PutsAll, IsPartOf, is_held}
 use Rattle.awari_owner.specs.Outboxes.{Outboxes}
+use Rattle.awari_owner.specs.Sound.{SamePlace, SpreadsFirst}
 use Rattle.awari_owner.specs.Queues.{batches_of, room_in}
-use Rattle.awari_block.specs.declared.notes.Note.{Note}
 use Rattle.awari_block.specs.declared.places.Place.{Place}
-use Rattle.awari_owner.proofs.Firsts.{fewer_unspread, spread_first, taken_low, taken_settles, IsTold}
+use Rattle.awari_owner.proofs.Firsts.{fewer_unspread, spread_first, taken_low, taken_place, taken_settles, IsTold}
+use Rattle.awari_owner.proofs.Giving.{sound_spread}
 use Rattle.awari_owner.proofs.Sending.{batches_length, all_batches}
 use Rattle.awari_block.proofs.Settling.{leaving_still}
 use Rattle.awari_owner.proofs.Sharing.{outboxes_of, own_stays, room_for, sends_by}
@@ -107,15 +107,21 @@ returns-clause-spread c = λ _.
     let after : length c.tell_all.new.queues.items ≡ length c.outboxes.inside.queues.items = search rules in
     let sends = sends_by old c.board-board.result told.0 c.kind_of-kind.result c.block_length-span.result c.outboxes.inside.owner c.outboxes.inside.queues.items c.reserve_others.new.queues.items c.tell_all.new.queues.items
     c.self.invariant.opened both.1 made many spans after c.in_ok-reserve_others.ensures.same puts in
-    subst₂ (λ (o : Part) (b : Outboxes). (q : List ℕ) × (sources : List Source) × (notes : List Note) × Spreads o c.tell_all.new.boards q sources × Sends o q sources notes b (outboxes_of c.outboxes.inside.owner c.tell_all.new.queues.items)) c.self.view_is c.outboxes.view_is
-    (c.board-board.result, told.0, _, both.0, sends)
+    let does : SpreadsFirst old c.tell_all.new.boards (outboxes_of c.outboxes.inside.owner c.outboxes.inside.queues.items) (outboxes_of c.outboxes.inside.owner c.tell_all.new.queues.items) = record {
+      board = c.board-board.result;
+      sources = told.0;
+      notes = _;
+      spreads = both.0;
+      sends = sends;
+      fewer = fewer_unspread old c.take_first-rank.new.self c.tell_all.new.boards c.take_first-rank.result takes c.tell_all.ensures.settles;
+      sound = λ value taken sent coming.
+          sound_spread c.ranks_tell_boards_apart.ensures
+          (λ p x r is move. (c.moves_keep_boards.ensures.board p r x 0 is move, (let kept = c.moves_keep_boards.ensures.stones p r x 0 is move in omega (arith, kept))))
+          value old c.tell_all.new.boards _ _ taken sent coming c.board-board.result told.0 _ both.0 sends (taken_place old c.take_first-rank.new.self c.tell_all.new.boards c.take_first-rank.result takes c.tell_all.ensures.settles) (c.tell_all.ensures.settles.fresh c.take_first-rank.ensures.fresh);
+    } in
+    subst₂ (λ (o : Part) (b : Outboxes). SpreadsFirst o c.tell_all.new.boards b (outboxes_of c.outboxes.inside.owner c.tell_all.new.queues.items)) c.self.view_is c.outboxes.view_is does
 
-pub returns-clause-unspread : goal.returns-clause-unspread
-returns-clause-unspread c = λ _.
-    subst (λ (o : Part). unspread c.tell_all.new.boards + 1 ≡ unspread o) c.self.view_is
-    (fewer_unspread c.self.inside.boards c.take_first-rank.new.self c.tell_all.new.boards c.take_first-rank.result c.take_first-rank.ensures.first c.tell_all.ensures.settles)
-
-pub returns-clause-stays : goal.returns-clause-stays
-returns-clause-stays c =
-    let settles = taken_settles c.self.inside.boards c.take_first-rank.new.self c.tell_all.new.boards c.take_first-rank.result c.take_first-rank.ensures.first c.tell_all.ensures.settles in
-    subst (λ (o : Part). KeepSettled o.start o.cells c.tell_all.new.boards.cells) c.self.view_is settles.stays
+pub returns-clause-place : goal.returns-clause-place
+returns-clause-place c =
+    subst (λ (o : Part). SamePlace o c.tell_all.new.boards) c.self.view_is
+    (taken_place c.self.inside.boards c.take_first-rank.new.self c.tell_all.new.boards c.take_first-rank.result c.take_first-rank.ensures.first c.tell_all.ensures.settles)

@@ -1,9 +1,8 @@
-use Rattle.std.proofs.Common.{◌≡◌, true, ◌∷◌, subst, sym, ap, ◌∙◌, rules, arith}
+use Rattle.std.proofs.Common.{◌≡◌, true, subst, sym, ap, ◌∙◌, rules, arith}
 use Rattle.awari_block.specs.Boards.{Settles}
-use Rattle.awari_block.specs.Blocks.{KeepSettled}
 use Rattle.awari_block.specs.Tally.{has_pit}
-use Rattle.awari_block.specs.Part.{Part, stored_at, IsExpected, IsTallied, PutsCell}
-use Rattle.awari_owner.specs.Spread.{HearsOwn}
+use Rattle.awari_block.specs.Part.{Part, stored_at, IsExpected}
+use Rattle.awari_owner.specs.Sound.{TakesNote}
 use Rattle.awari_block.specs.declared.cells.Cell.{Cell}
 use Rattle.awari_owner.proofs.Hearing.{hears_kept}
 use Rattle.awari_block.proofs.Settling.{leaving_still}
@@ -21,30 +20,17 @@ invariant_of-self c =
       targets = c.self.invariant.targets;
     }
 
-pub returns-clause-added : goal.returns-clause-added
-returns-clause-added c = λ value notes.
+pub returns-clause-taken : goal.returns-clause-taken
+returns-clause-taken c =
     let old : Part = c.self.inside.boards in
+    let new : Part = c.hear.new.self in
+    let settles : Settles old new = c.hear.ensures.settles in
     let due : IsExpected old c.args.note = subst (λ (o : Part). IsExpected o c.args.note) (sym c.self.view_is) (search rules) in
     let silent : has_pit (stored_at old c.args.note.target).left c.args.note.pit ≡ true = ap (λ (d : Cell). has_pit d.left c.args.note.pit) (sym c.cell.ensures.stored) ∙ sym c.if-not-has_left.ensures in
-    subst (λ (o : Part). IsTallied value o notes → IsTallied value c.hear.new.self (c.args.note ∷ notes)) c.self.view_is
-    (added_heard value notes old c.hear.new.self c.args.note c.self.invariant.opened (expected_takeable old c.args.note due) silent c.hear.ensures.settles.same c.hear.ensures.hears)
-
-pub returns-clause-hears : goal.returns-clause-hears
-returns-clause-hears c = λ notes.
-    let old : Part = c.self.inside.boards in
-    let settles : Settles old c.hear.new.self = c.hear.ensures.settles in
-    let due : IsExpected old c.args.note = subst (λ (o : Part). IsExpected o c.args.note) (sym c.self.view_is) (search rules) in
-    subst (λ (o : Part). HearsOwn o notes → HearsOwn c.hear.new.self (c.args.note ∷ notes)) c.self.view_is
-    (λ own. hears_kept old c.hear.new.self notes c.args.note own due.leaves settles.same.level settles.same.start settles.size settles.stays settles.joins)
-
-pub returns-clause-stays : goal.returns-clause-stays
-returns-clause-stays c = subst (λ (o : Part). KeepSettled o.start o.cells c.hear.new.self.cells) c.self.view_is c.hear.ensures.settles.stays
-
-pub returns-clause-puts : goal.returns-clause-puts
-returns-clause-puts c =
-    let puts : PutsCell c.self.inside.boards c.hear.new.self c.args.note.target = record {
-      same = c.hear.ensures.settles.same;
+    let takes : TakesNote c.args.note old new = record {
+      settles = settles;
       cells = c.hear.ensures.hears.cells;
-      joins = c.hear.ensures.settles.joins;
+      tallied = λ value notes. added_heard value notes old new c.args.note c.self.invariant.opened (expected_takeable old c.args.note due) silent settles.same c.hear.ensures.hears;
+      own = λ notes own. hears_kept old new notes c.args.note own due.leaves settles.same.level settles.same.start settles.size settles.stays settles.joins;
     } in
-    subst (λ (o : Part). PutsCell o c.hear.new.self c.args.note.target) c.self.view_is puts
+    subst (λ (o : Part). TakesNote c.args.note o new) c.self.view_is takes

@@ -2,7 +2,7 @@ use Rattle.std.proofs.Common.{◌≡◌, ◌<◌, ◌∷◌, [], List, length, g
 use Rattle.std.proofs.lemmas.List.{get_or-set_same, get_or-set_other}
 use Rattle.awari_block.specs.declared.notes.Note.{Note}
 use Rattle.awari_owner.specs.Outboxes.{Outboxes, queue_to}
-use Rattle.awari_phase.specs.Sound.{Batches}
+use Rattle.awari_phase.specs.Owners.{Batches}
 use Rattle.awari_phase.proofs.Keeping.{still_keeps, send_keeps}
 use Rattle.awari_phase.proofs.owners.Owner.send_to.Goals as goal
 
@@ -19,7 +19,7 @@ returns-in-Ok-clause-kept c =
     let many = c.args.self.now.queues in
     let low = c.requires.1 in
     let inside : c.args.to < length o.queues = omega (arith, many, low) in
-    send_keeps _ _ c.args.to c.push.ensures.only.lines c.push.ensures.only.others _ o _ c.in-Some.batch dropped.1 c.in-Ok.ensures.ok.0 c.push.ensures.only.received c.requires
+    send_keeps _ _ c.args.to c.push.ensures.only.lines c.push.ensures.only.others _ o _ c.in-Some.batch dropped.1 c.in-Ok.ensures.ok.0 c.push.ensures.only.received c.requires c.in-Some.ensures.batch
     first
     (ap (λ (u : Outboxes). queue_to u c.args.to) dropped.3 ∙ get_or-set_same o.queues c.args.to dropped.1 [] inside)
     (λ k n. ap (λ (u : Outboxes). queue_to u k) dropped.3 ∙ get_or-set_other o.queues c.args.to k dropped.1 [] n)

@@ -9,8 +9,7 @@ returns-in_default-clause-kept c = still_keeps _ _ c.args.from c.in_default.ensu
 
 pub returns-clause-kept : goal.returns-clause-kept
 returns-clause-kept c =
-    take_keeps _ _ c.args.from c.in-Some.ensures.only.lines c.in-Some.ensures.only.others _ _ _ c.in-Some.batch c.in-Some.ensures.only.sent c.in-Some.ensures.some.0 c.requires
-    c.take_batch.ensures.block c.take_batch.ensures.unspread c.in_ok-take_batch.ensures.sound
+    take_keeps _ _ c.args.from c.in-Some.ensures.only.lines c.in-Some.ensures.only.others _ _ _ c.in-Some.batch c.in-Some.ensures.only.sent c.in-Some.ensures.some.0 c.requires c.in_ok-take_batch.ensures.taken
 
 pub returns-in_err-take_batch-clause-stopped : goal.returns-in_err-take_batch-clause-stopped
 returns-in_err-take_batch-clause-stopped c =
@@ -24,6 +23,5 @@ returns-in_err-take_batch-clause-stopped c =
       popped = c.in-Some.ensures.some.0;
       others = others_received _ _ c.args.from c.in-Some.ensures.only.lines c.in-Some.ensures.only.others;
       outboxes = refl;
-      block = c.take_batch.ensures.block;
       refuses = c.in_err-take_batch.ensures.refused;
     })))

@@ -1,52 +1,20 @@
 -- What the spread of a board keeps of its owner.
-use Rattle.std.proofs.Common.{◌≡◌, ℕ, ◌+◌, ◌-◌, ◌^◌, ◌<◌, ◌≤◌, ◌&&◌, inl, inr, Bool, true, false, cond, nat_le, nat_lt, List, [], ◌∷◌, ◌++◌, length, get_or, filter, sum, ℤ, All, suc, refl, sym, ap, subst, subst₂, ◌∙◌, arith, append_assoc, length-append}
+use Rattle.std.proofs.Common.{◌≡◌, ℕ, ◌+◌, ◌<◌, ◌≤◌, ◌&&◌, inl, inr, Bool, true, nat_le, nat_lt, List, ◌++◌, length, get_or, filter, sum, ℤ, All, sym, ap, subst, subst₂, ◌∙◌, arith, append_assoc}
 use Rattle.std.proofs.lemmas.Bool.Decides.{nat_tests}
-use Rattle.std.proofs.lemmas.List.Elements.{All-cons, All-nil, All-push, All-weaker}
+use Rattle.std.proofs.lemmas.List.Elements.{All-append}
 use Rattle.awari_board.specs.Rules.{IsBoard, next_board}
 use Rattle.awari_rank.specs.Rank.{rank_of, size_of}
 use Rattle.awari_block.specs.Notes.{IsQuietMove, Has, IsNoteOf}
-use Rattle.awari_owner.specs.Outboxes.{Outboxes, put_behind, with_note, with_notes, queue_to, notes_of}
-use Rattle.awari_block.specs.Part.{Part, AreFresh, InBlock, Leaves, SameLevel, stored_at}
+use Rattle.awari_block.specs.Part.{Part, AreFresh, InBlock, Leaves, stored_at}
 use Rattle.awari_block.specs.Leaving.{first_rank}
-use Rattle.awari_owner.specs.Spread.{Source, IsSpread, Sends, Spreads, is_in_block, kind_of, note_to, with_all_own}
 use Rattle.awari_block.specs.declared.notes.Note.{Note}
+use Rattle.awari_owner.specs.Outboxes.{Outboxes, notes_of, queue_to}
+use Rattle.awari_owner.specs.Sound.{HoldsNotes, IsInBlockOf, IsOtherOf, IsTimely, OwnerSound, SamePlace}
+use Rattle.awari_owner.specs.Spread.{Source, IsSpread, Sends, Spreads, is_in_block, kind_of, note_to, with_all_own}
+use Rattle.awari_owner.proofs.Lists.{Has-append_left, Has-append_right, Has-append_cases, all_has, notes_of-with_notes, once_more}
+use Rattle.awari_owner.proofs.Sounding.{timely_all}
 use Rattle.awari_owner.proofs.Spreading.{IsInjective, AreSources, sources_of}
-use Rattle.awari_owner.proofs.Lists.{Has-append_left, Has-append_right, Has-append_cases, notes_of-append, notes_of-with_notes, once_more}
 use Rattle.awari_owner.proofs.SpreadNotes.{source_of, note_of, notes_once, Has-filter, Has-chosen, filter_once, own_before, own_cases, gain_is}
-use Rattle.awari_phase.specs.Sound.{Batches, IsInBlockOf, HoldsNotes, IsOpenBatch, IsOtherOf, OwnerSound}
-use Rattle.awari_phase.proofs.Batching.{open_still}
-
--- ---- batches of the open gain and distance
-
-abbrev IsOpen : Part → Note → Type 0
-IsOpen part m = (m.gain ≡ part.gain) × (m.dist ≡ part.wave) × (m.dist < 2 ^ 32 - 1)
-
-below : (n : ℕ) → nat_lt n 32 ≡ true → n < 32
-below n e = grind (arith, nat_tests)
-
-module _ (part : Part) where
-  one_batch : (m : Note) → IsOpen part m → IsOpenBatch part (m ∷ [])
-  one_batch m o = record { some = omega arith; few = omega arith; opened = All-cons (IsOpen part) m [] o (All-nil (IsOpen part)) }
-
-  open_behind : (b : List Note) (rest : Batches) (m : Note) → IsOpenBatch part b → All (IsOpenBatch part) rest → IsOpen part m → All (IsOpenBatch part) (put_behind b rest m)
-  open_behind b [] m h all o = at (nat_lt (length b) 32) refl
-    where
-      at : (t : Bool) → nat_lt (length b) 32 ≡ t → All (IsOpenBatch part) (cond t ((b ++ m ∷ []) ∷ []) (b ∷ (m ∷ []) ∷ []))
-      at true e =
-          let low = below (length b) e in
-          let long = length-append b (m ∷ []) in
-          All-cons (IsOpenBatch part) (b ++ m ∷ []) [] (record { some = omega (arith, long); few = omega (arith, long, low); opened = All-push (IsOpen part) b m h.opened o }) (All-nil (IsOpenBatch part))
-      at false e = All-cons (IsOpenBatch part) b ((m ∷ []) ∷ []) h (All-cons (IsOpenBatch part) (m ∷ []) [] (one_batch m o) (All-nil (IsOpenBatch part)))
-  open_behind b (c ∷ rest) m h all o =
-      All-cons (IsOpenBatch part) b (put_behind c rest m) h (open_behind c rest m (all 0 c (omega arith)) (λ i d lt. all (suc i) d (omega (arith, lt))) o)
-
-  open_note : (queue : Batches) (m : Note) → All (IsOpenBatch part) queue → IsOpen part m → All (IsOpenBatch part) (with_note queue m)
-  open_note [] m all o = All-cons (IsOpenBatch part) (m ∷ []) [] (one_batch m o) (All-nil (IsOpenBatch part))
-  open_note (b ∷ rest) m all o = open_behind b rest m (all 0 b (omega arith)) (λ i d lt. all (suc i) d (omega (arith, lt))) o
-
-  open_notes : (queue : Batches) (notes : List Note) → All (IsOpenBatch part) queue → ((k : Note) → Has notes k → IsOpen part k) → All (IsOpenBatch part) (with_notes queue notes)
-  open_notes queue [] all each = all
-  open_notes queue (m ∷ notes) all each = open_notes (with_note queue m) notes (open_note queue m all (each m (inl refl))) (λ k has. each k (inr has))
 
 -- ---- the block of another owner, by the test
 
@@ -65,9 +33,9 @@ to_test a b r low high = grind (arith, nat_tests)
 -- ---- the step
 
 module _ (injective : IsInjective) (moves : (p : List ℕ) (x : ℕ) (r : List ℕ) → IsBoard p → IsQuietMove p x r → IsBoard r × (sum r ≡ sum p))
-    (value : List ℕ → ℤ) (part part' : Part) (o o' : Outboxes) (taken sent : ℕ → Batches) (q : List ℕ) (sources : List Source) (notes : List Note)
-    (spreads : Spreads part part' q sources) (sends : Sends part q sources notes o o') (level : SameLevel part part') (len : length part'.cells ≡ length part.cells) (fresh : AreFresh part')
-    (s : OwnerSound value o.owner (length o.queues) part taken (λ j. sent j ++ queue_to o j) (queue_to o)) where
+    (value : List ℕ → ℤ) (part part' : Part) (o o' : Outboxes) (taken sent coming : ℕ → List Note) (q : List ℕ) (sources : List Source) (notes : List Note)
+    (spreads : Spreads part part' q sources) (sends : Sends part q sources notes o o') (place : SamePlace part part') (fresh : AreFresh part')
+    (s : OwnerSound value o.owner (length o.queues) part taken (λ j. sent j ++ notes_of (queue_to o j)) (λ j. coming j ++ notes_of (queue_to o j))) where
   abbrev score : ℤ
   score = (stored_at part (rank_of q)).score
 
@@ -81,17 +49,17 @@ module _ (injective : IsInjective) (moves : (p : List ℕ) (x : ℕ) (r : List �
   are = sources_of q sources (λ p x is quiet. let kept = moves p x q is quiet in omega (arith, kept.1)) spreads.predecessors
 
   in_new : (r : ℕ) → InBlock part r → InBlock part' r
-  in_new r h = let a = h.0 in let b = h.1 in (omega (arith, a, level.start), omega (arith, b, level.start, len))
+  in_new r h = let a = h.0 in let b = h.1 in (omega (arith, a, place.level.start), omega (arith, b, place.level.start, place.long))
 
   in_old : (r : ℕ) → InBlock part' r → InBlock part r
-  in_old r h = let a = h.0 in let b = h.1 in (omega (arith, a, level.start), omega (arith, b, level.start, len))
+  in_old r h = let a = h.0 in let b = h.1 in (omega (arith, a, place.level.start), omega (arith, b, place.level.start, place.long))
 
   unspread : (u : ℤ) (e : ℕ) → IsSpread part (rank_of q) u e → ⊥
   unspread u e spread = let none = spread.1 in let some = spreads.first.fresh in omega (arith, none, some)
 
   leaves_old : (target pit : ℕ) → Leaves part' target pit → Leaves part target pit
   leaves_old target pit leaves p is stones at =
-      let there = leaves p is (stones ∙ sym level.level) at in
+      let there = leaves p is (stones ∙ sym place.level.level) at in
       (there.0, there.1, λ inside. there.2 (in_new (rank_of there.0) inside))
 
   -- a note of the block is of no move that leaves it
@@ -105,20 +73,17 @@ module _ (injective : IsInjective) (moves : (p : List ℕ) (x : ℕ) (r : List �
       let same : there.0 ≡ q = there.1.leaves ∙ ap (next_board y.0) pit ∙ sym each.2.leaves in
       there.2 (subst (λ (b : List ℕ). InBlock part (rank_of b)) (sym same) spreads.first.inside)
 
-  -- what is given grows by the notes of the board
-  grown : (j : ℕ) → IsOtherOf o.owner (length o.queues) j → notes_of (sent j ++ queue_to o' j) ≡ notes_of (sent j ++ queue_to o j) ++ more j
-  grown j other =
-      notes_of-append (sent j) (queue_to o' j)
-      ∙ ap (λ l. notes_of (sent j) ++ l) (ap notes_of (sends.sent j other.1 other.0) ∙ notes_of-with_notes (queue_to o j) (more j))
-      ∙ sym (append_assoc (notes_of (sent j)) (notes_of (queue_to o j)) (more j))
-      ∙ ap (λ l. l ++ more j) (sym (notes_of-append (sent j) (queue_to o j)))
+  -- one list behind another grows by the notes of the board
+  grown : (list : List Note) (j : ℕ) → IsOtherOf o.owner (length o.queues) j → list ++ notes_of (queue_to o' j) ≡ (list ++ notes_of (queue_to o j)) ++ more j
+  grown list j other =
+      ap (λ l. list ++ l) (ap notes_of (sends.sent j other.1 other.0) ∙ notes_of-with_notes (queue_to o j) (more j)) ∙ sym (append_assoc list (notes_of (queue_to o j)) (more j))
 
-  given' : (j : ℕ) → IsOtherOf o.owner (length o.queues) j → HoldsNotes (length o.queues) part' j (notes_of (sent j ++ queue_to o' j))
-  given' j other = subst (HoldsNotes (length o.queues) part' j) (sym (grown j other)) (record {
-    true_notes = λ m has. elim (Has-append_cases (notes_of (sent j ++ queue_to o j)) (more j) m has) [
+  given' : (j : ℕ) → IsOtherOf o.owner (length o.queues) j → HoldsNotes (length o.queues) part' j (sent j ++ notes_of (queue_to o' j))
+  given' j other = subst (HoldsNotes (length o.queues) part' j) (sym (grown (sent j) j other)) (record {
+    true_notes = λ m has. elim (Has-append_cases (sent j ++ notes_of (queue_to o j)) (more j) m has) [
       | inl before ↦ (
           let (p, r, x, u, e, is_p, stones, in_r, in_j, spread, note) = old.true_notes m before in
-          (p, r, x, u, e, is_p, stones ∙ sym level.level, in_new (rank_of r) in_r, subst (λ n. IsInBlockOf n (length o.queues) j (rank_of p)) (sym level.level) in_j, spreads.becomes.forth (rank_of r) u e in_r spread, note))
+          (p, r, x, u, e, is_p, stones ∙ sym place.level.level, in_new (rank_of r) in_r, subst (λ n. IsInBlockOf n (length o.queues) j (rank_of p)) (sym place.level.level) in_j, spreads.becomes.forth (rank_of r) u e in_r spread, note))
       | inr later ↦ (
           let chosen = Has-filter (for_other j) notes m later in
           let (k, at, is) = source_of q score part.wave sources notes sends.gives m chosen.0 in
@@ -133,34 +98,34 @@ module _ (injective : IsInjective) (moves : (p : List ℕ) (x : ℕ) (r : List �
             score,
             part.wave,
             each.0,
-            each.1 ∙ spreads.stones ∙ sym level.level,
+            each.1 ∙ spreads.stones ∙ sym place.level.level,
             in_new (rank_of q) spreads.first.inside,
-            subst (λ n. IsInBlockOf n (length o.queues) j (rank_of y.0)) (sym level.level) held,
+            subst (λ n. IsInBlockOf n (length o.queues) j (rank_of y.0)) (sym place.level.level) held,
             spreads.becomes.now,
             note,
           ))
     ];
     all_notes = λ p r x u e is stones in_r in_j quiet spread. elim (spreads.becomes.back (rank_of r) u e (in_old (rank_of r) in_r) spread) [
       | inl before ↦ (
-          let (m, has, note) = old.all_notes p r x u e is (stones ∙ level.level) (in_old (rank_of r) in_r) (subst (λ n. IsInBlockOf n (length o.queues) j (rank_of p)) level.level in_j) quiet before in
-          (m, Has-append_left (notes_of (sent j ++ queue_to o j)) (more j) m has, note))
+          let (m, has, note) = old.all_notes p r x u e is (stones ∙ place.level.level) (in_old (rank_of r) in_r) (subst (λ n. IsInBlockOf n (length o.queues) j (rank_of p)) place.level.level in_j) quiet before in
+          (m, Has-append_left (sent j ++ notes_of (queue_to o j)) (more j) m has, note))
       | inr here ↦ (
           let there = moves p x r is quiet in
-          let same : r ≡ q = injective r q there.0 spreads.board (there.1 ∙ stones ∙ level.level ∙ sym spreads.stones) here.0 in
+          let same : r ≡ q = injective r q there.0 spreads.board (there.1 ∙ stones ∙ place.level.level ∙ sym spreads.stones) here.0 in
           let to_q : IsQuietMove p x q = subst (IsQuietMove p x) same quiet in
           let found = are.every p x is to_q in
           let (m, has, note) = note_of q score part.wave sources notes sends.gives found.0 (p, x) found.1 in
           let at_p : IsNoteOf q score part.wave p x m = subst (λ (z : Source). IsNoteOf q score part.wave z.0 z.1 m) found.2 note in
-          let held : IsInBlockOf part.level (length o.queues) j (rank_of p) = subst (λ n. IsInBlockOf n (length o.queues) j (rank_of p)) level.level in_j in
+          let held : IsInBlockOf part.level (length o.queues) j (rank_of p) = subst (λ n. IsInBlockOf n (length o.queues) j (rank_of p)) place.level.level in_j in
           let tested : is_in_block (size_of part.level) (length o.queues) j (rank_of p) ≡ true =
           to_test (first_rank (size_of part.level) (length o.queues) j) (first_rank (size_of part.level) (length o.queues) (j + 1)) (rank_of p) held.0 held.1 in
           let chosen : for_other j m ≡ true = subst (λ t. is_in_block (size_of part.level) (length o.queues) j t ≡ true) (sym at_p.target) tested in (
             m,
-            Has-append_right (notes_of (sent j ++ queue_to o j)) (more j) m (Has-chosen (for_other j) notes m has chosen),
+            Has-append_right (sent j ++ notes_of (queue_to o j)) (more j) m (Has-chosen (for_other j) notes m has chosen),
             subst₂ (λ (w : ℤ) (f : ℕ). IsNoteOf r w f p x m) (sym here.1) (sym here.2) (subst (λ (c : List ℕ). IsNoteOf c score part.wave p x m) (sym same) at_p),
           ))
     ];
-    once = once_more (notes_of (sent j ++ queue_to o j)) (more j) old.once (filter_once (for_other j) notes (notes_once injective q score part.wave sources notes sends.gives are.each spreads.predecessors.ordered))
+    once = once_more (sent j ++ notes_of (queue_to o j)) (more j) old.once (filter_once (for_other j) notes (notes_once injective q score part.wave sources notes sends.gives are.each spreads.predecessors.ordered))
         (λ k m has later target pit.
         let (p, r, x, u, e, is_p, stones, in_r, in_j, spread, note) = old.true_notes k has in
         let (i, at, is) = source_of q score part.wave sources notes sends.gives m (Has-filter (for_other j) notes m later).0 in
@@ -173,24 +138,23 @@ module _ (injective : IsInjective) (moves : (p : List ℕ) (x : ℕ) (r : List �
         unspread u e (subst (λ (c : List ℕ). IsSpread part (rank_of c) u e) leads spread));
   })
     where
-      old : HoldsNotes (length o.queues) part j (notes_of (sent j ++ queue_to o j))
+      old : HoldsNotes (length o.queues) part j (sent j ++ notes_of (queue_to o j))
       old = s.given_notes j other
 
   -- what is put to the outboxes is of the open gain and distance
-  opened' : (j : ℕ) → IsOtherOf o.owner (length o.queues) j → All (IsOpenBatch part') (queue_to o' j)
-  opened' j other =
-      All-weaker (IsOpenBatch part) (IsOpenBatch part') (open_still part part' level) (queue_to o' j)
-      (subst (All (IsOpenBatch part)) (sym (sends.sent j other.1 other.0)) (open_notes part (queue_to o j) (more j) (s.opened j other) each))
+  opened' : (j : ℕ) → IsOtherOf o.owner (length o.queues) j → All (IsTimely part') (coming j ++ notes_of (queue_to o' j))
+  opened' j other = timely_all part part' place.level.level place.level.gain place.level.wave (coming j ++ notes_of (queue_to o' j))
+      (subst (All (IsTimely part)) (sym (grown (coming j) j other)) (All-append (IsTimely part) (coming j ++ notes_of (queue_to o j)) (more j) (s.opened j other) (all_has (IsTimely part) (more j) each)))
     where
-      each : (k : Note) → Has (more j) k → IsOpen part k
+      each : (k : Note) → Has (more j) k → IsTimely part k
       each k has =
           let (i, at, is) = source_of q score part.wave sources notes sends.gives k (Has-filter (for_other j) notes k has).0 in
           let note = is (q, 0) in
           let near = spreads.near in
           let d = note.same_dist in
-          (gain_is part.gain k.gain score k.kind spreads.valued note.kind note.gain, d, omega (arith, near, d))
+          record { gain = gain_is part.gain k.gain score k.kind spreads.valued note.kind note.gain; opened = spreads.opened; dist = d; near = omega (arith, near, d) }
 
-  pub sound_spread : OwnerSound value o.owner (length o.queues) part' taken (λ j. sent j ++ queue_to o' j) (queue_to o')
+  pub sound_spread : OwnerSound value o.owner (length o.queues) part' taken (λ j. sent j ++ notes_of (queue_to o' j)) (λ j. coming j ++ notes_of (queue_to o' j))
   sound_spread = record {
     heard = with_all_own part (kind_of score) s.heard sources;
     tallied = spreads.told value s.heard s.hears_own s.tallied;
