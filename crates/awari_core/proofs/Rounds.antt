@@ -1,5 +1,5 @@
 -- What is done with all parts, one after the other.
-use Rattle.std.proofs.Common.{◌≡◌, ℕ, ◌+◌, ◌<◌, ◌≤◌, ◌⊎◌, ◌==◌, inl, inr, Bool, true, false, min, max, Option, Some, None, IfSome, List, [], ◌∷◌, ◌++◌, All, Any, length, get_or, set, ℤ, refl, sym, ap, subst, subst₂, ◌∙◌, arith, get_or-set_same, get_or-set_other, eqb-true}
+use Rattle.std.proofs.Common.{◌≡◌, ℕ, ◌+◌, ◌<◌, ◌≤◌, ◌⊎◌, ◌==◌, inl, inr, Bool, true, false, min, max, Option, Some, None, IfSome, List, [], ◌∷◌, ◌++◌, All, Any, length, get_or, set, sym, ap, subst, subst₂, ◌∙◌, arith, get_or-set_same, get_or-set_other, eqb-true}
 use Rattle.std.specs.Option.{option_eq}
 use Rattle.std.specs.Prelude.{nat_eq}
 use Rattle.std.proofs.lemmas.Bool.{cases_eq, cases_lt, eq-eqb}

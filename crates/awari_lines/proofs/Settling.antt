@@ -1,9 +1,9 @@
 -- How far a settling has come.
-use Rattle.std.proofs.Common.{◌≡◌, ◌≢◌, ℕ, ◌+◌, ◌<◌, ◌≤◌, List, [], ◌∷◌, ◌++◌, length, Option, refl, sym, subst, ◌∙◌, inl, inr, arith, get_or, IsTrue, ◌↔◌, Bool, ◌⊎◌}
+use Rattle.std.proofs.Common.{◌≡◌, ℕ, ◌+◌, ◌<◌, ◌≤◌, List, [], ◌∷◌, ◌++◌, length, Option, refl, sym, subst, ◌∙◌, inl, inr, arith, get_or, IsTrue, ◌↔◌, Bool, ◌⊎◌}
 use Rattle.std.proofs.lemmas.Bool.{cases_eq, cases_lt}
 use Rattle.awari_lines.specs.declared.lines.Ends.{Ends}
 use Rattle.awari_lines.specs.declared.lines.Line.{Line}
-use Rattle.awari_lines.specs.Lines.{LookedAt, NothingWaits, IsGrid, SameHistory, sent_to, received_from, waiting_from, sent_on, received_on, waiting_on, line_of}
+use Rattle.awari_lines.specs.Lines.{AreExact, EachTo, LookedAt, NoneWait, NothingWaits, IsGrid, SameHistory, sent_on, received_on, waiting_on, line_of}
 use Rattle.awari_lines.proofs.Grids.{history_then}
 
 abbrev pub ExactOn : Option Line → Option Line → Type 0
@@ -22,8 +22,7 @@ IsDone j i x y = (y < j) ⊎ ((y ≡ j) × (x < i))
 
 pub record SettledTo (es fs : List Ends) (empty : Bool) (j i : ℕ) : Type 0 where
   pub grid : IsGrid fs
-  pub long : length fs ≡ length es
-  pub same : (k : ℕ) (d : Ends) → k < length es → SameHistory (get_or es k d) (get_or fs k d)
+  pub same : EachTo SameHistory es fs
   pub exact : (x y : ℕ) (d : Ends) → x < y → y < length es → IsDone j i x y → Between ExactOn fs x y d
   pub flag : IsTrue empty ↔ ((x y : ℕ) (d : Ends) → x < y → y < length es → IsDone j i x y → Between QuietOn fs x y d)
 
@@ -41,7 +40,6 @@ settled_row es fs empty j i e s =
     let on : (x y : ℕ) → IsDone j i x y → IsDone (j + 1) 0 x y = λ x y w. elim w [ inl p ↦ inl (omega arith) | inr p ↦ inl (let q : y ≡ j = p.0 in omega arith) ] in
     record {
       grid = s.grid;
-      long = s.long;
       same = s.same;
       exact = λ x y d l h w. s.exact x y d l h (back x y l w);
       flag = ((λ t x y d l h w. s.flag.0 t x y d l h (back x y l w)), (λ a. s.flag.1 (λ x y d l h w. a x y d l h (on x y w))));
@@ -50,10 +48,10 @@ settled_row es fs empty j i e s =
 module _ (es fs hs : List Ends) (empty quiet empty' : Bool) (j i : ℕ) (lt : i < j) (fits : j < length es) (s : SettledTo es fs empty j i) (long : length hs ≡ length fs) (w : LookedAt fs hs i j)
     (flag : (d : Ends) → IsTrue quiet ↔ NothingWaits (get_or hs i d) (get_or hs j d)) (both : IsTrue empty' ↔ (IsTrue empty × IsTrue quiet)) where
   owner_i : (d : Ends) → (get_or hs i d).owner ≡ i
-  owner_i d = w.grid.owner i d (let p : length hs ≡ length fs = long in let q : length fs ≡ length es = s.long in omega arith)
+  owner_i d = w.grid.owner i d (let p : length hs ≡ length fs = long in let q : length fs ≡ length es = s.same.many in omega arith)
 
   owner_j : (d : Ends) → (get_or hs j d).owner ≡ j
-  owner_j d = w.grid.owner j d (let p : length hs ≡ length fs = long in let q : length fs ≡ length es = s.long in omega arith)
+  owner_j d = w.grid.owner j d (let p : length hs ≡ length fs = long in let q : length fs ≡ length es = s.same.many in omega arith)
 
   here_exact : (d : Ends) → Between ExactOn hs i j d
   here_exact d =
@@ -74,7 +72,7 @@ module _ (es fs hs : List Ends) (empty quiet empty' : Bool) (j i : ℕ) (lt : i 
   -- the lines of a pair that was looked at before
   stays : (R : Option Line → Option Line → Type 0) (x y : ℕ) (d : Ends) → x < y → y < length es → IsDone j i x y → Between R fs x y d → Between R hs x y d
   stays R x y d l h done r =
-      let q : length fs ≡ length es = s.long in
+      let q : length fs ≡ length es = s.same.many in
       let apart : ¬ ((x ≡ i) × (y ≡ j)) = λ e. elim done [ inl p ↦ absurd (let a : y ≡ j = e.1 in omega arith) | inr p ↦ absurd (let a : x ≡ i = e.0 in let b : x < i = p.1 in omega arith) ] in
       let across : ¬ ((x ≡ j) × (y ≡ i)) = λ e. absurd (let a : x ≡ j = e.0 in let b : y ≡ i = e.1 in omega arith) in
       let one : line_of (get_or hs x d) y ≡ line_of (get_or fs x d) y = w.others x y d (omega arith) (λ e. absurd (omega (arith, e))) apart across in
@@ -83,7 +81,7 @@ module _ (es fs hs : List Ends) (empty quiet empty' : Bool) (j i : ℕ) (lt : i 
 
   stayed : (R : Option Line → Option Line → Type 0) (x y : ℕ) (d : Ends) → x < y → y < length es → IsDone j i x y → Between R hs x y d → Between R fs x y d
   stayed R x y d l h done r =
-      let q : length fs ≡ length es = s.long in
+      let q : length fs ≡ length es = s.same.many in
       let apart : ¬ ((x ≡ i) × (y ≡ j)) = λ e. elim done [ inl p ↦ absurd (let a : y ≡ j = e.1 in omega arith) | inr p ↦ absurd (let a : x ≡ i = e.0 in let b : x < i = p.1 in omega arith) ] in
       let across : ¬ ((x ≡ j) × (y ≡ i)) = λ e. absurd (let a : x ≡ j = e.0 in let b : y ≡ i = e.1 in omega arith) in
       let one : line_of (get_or hs x d) y ≡ line_of (get_or fs x d) y = w.others x y d (omega arith) (λ e. absurd (omega (arith, e))) apart across in
@@ -106,8 +104,10 @@ module _ (es fs hs : List Ends) (empty quiet empty' : Bool) (j i : ℕ) (lt : i 
   pub settled_more : SettledTo es hs empty' j (i + 1)
   settled_more = record {
     grid = w.grid;
-    long = long ∙ s.long;
-    same = λ k d h. history_then (get_or es k d) (get_or fs k d) (get_or hs k d) (s.same k d h) (w.same k d (let q : length fs ≡ length es = s.long in omega arith));
+    same = record {
+      many = long ∙ s.same.many;
+      each = λ k d h. history_then (get_or es k d) (get_or fs k d) (get_or hs k d) (s.same.each k d h) (w.same k d (let q : length fs ≡ length es = s.same.many in omega arith));
+    };
     exact = λ x y d l h done. elim (done_cases x y done) [
       | inl e ↦ at_last ExactOn x y d e.0 e.1 (here_exact d)
       | inr before ↦ stays ExactOn x y d l h before (s.exact x y d l h before)
@@ -125,19 +125,20 @@ module _ (es fs hs : List Ends) (empty quiet empty' : Bool) (j i : ℕ) (lt : i 
   }
 
 -- all rows are done
-pub settled_exact : (es fs : List Ends) (empty : Bool) (j : ℕ) → length es ≤ j → SettledTo es fs empty j 0 → (x y : ℕ) (d : Ends) → x < length es → y < length es → x ≢ y
-    → received_from (get_or fs x d) y ++ waiting_from (get_or fs x d) y ≡ sent_to (get_or fs y d) x
+pub settled_exact : (es fs : List Ends) (empty : Bool) (j : ℕ) → length es ≤ j → SettledTo es fs empty j 0 → AreExact fs
 settled_exact es fs empty j long s x y d hx hy n =
+    let many = s.same.many in
     elim (cases_lt x y) [
-      | inl l ↦ (s.exact x y d l hy (inl (omega arith))).0
-      | inr l ↦ (s.exact y x d (omega (arith, n)) hx (inl (omega arith))).1
+      | inl l ↦ (s.exact x y d l (omega (arith, hy, many)) (inl (omega arith))).0
+      | inr l ↦ (s.exact y x d (omega (arith, n)) (omega (arith, hx, many)) (inl (omega arith))).1
     ]
 
-pub settled_flag : (es fs : List Ends) (empty : Bool) (j : ℕ) → length es ≤ j → SettledTo es fs empty j 0 → IsTrue empty ↔ ((x y : ℕ) (d : Ends) → x < length es → y < length es → x ≢ y → waiting_from (get_or fs x d) y ≡ [])
-settled_flag es fs empty j long s = (
-  (λ t x y d hx hy n. elim (cases_lt x y) [
-    | inl l ↦ (s.flag.0 t x y d l hy (inl (omega arith))).0
-    | inr l ↦ (s.flag.0 t y x d (omega (arith, n)) hx (inl (omega arith))).1
-  ]),
-  (λ all. s.flag.1 (λ x y d l h w. (all x y d (omega arith) h (λ e. absurd (omega (arith, e))), all y x d h (omega arith) (λ e. absurd (omega (arith, e)))))),
-)
+pub settled_flag : (es fs : List Ends) (empty : Bool) (j : ℕ) → length es ≤ j → SettledTo es fs empty j 0 → IsTrue empty ↔ NoneWait fs
+settled_flag es fs empty j long s =
+    let many = s.same.many in (
+      (λ t x y d hx hy n. elim (cases_lt x y) [
+        | inl l ↦ (s.flag.0 t x y d l (omega (arith, hy, many)) (inl (omega arith))).0
+        | inr l ↦ (s.flag.0 t y x d (omega (arith, n)) (omega (arith, hx, many)) (inl (omega arith))).1
+      ]),
+      (λ all. s.flag.1 (λ x y d l h w. (all x y d (omega (arith, h, many)) (omega (arith, h, many)) (λ e. absurd (omega (arith, e))), all y x d (omega (arith, h, many)) (omega (arith, h, many)) (λ e. absurd (omega (arith, e)))))),
+    )

@@ -1,7 +1,7 @@
 //! What all lines hold, once all ends are in one thread.
 
-ghost use Rattle.std.specs.Prelude.{◌≡◌, ◌≢◌, ◌+◌, ◌<◌, ◌++◌, ◌↔◌, ℕ, [], length, slice_index_or, IsTrue};
-ghost use Rattle.awari_lines.specs.Lines.{IsGrid, LookedAt, NothingWaits, SameHistory, received_from, waiting_from, sent_to};
+ghost use Rattle.std.specs.Prelude.{◌<◌, ◌↔◌, length, slice_index_or, IsTrue};
+ghost use Rattle.awari_lines.specs.Lines.{AreExact, EachTo, IsGrid, LookedAt, NoneWait, NothingWaits, SameHistory};
 ghost use Rattle.awari_lines.specs.declared.lines.Ends.{Ends as AnEnds};
 
 use crate::lines::Ends;
@@ -12,9 +12,9 @@ use crate::lines::Ends;
 pub fn settle(all: &mut [Ends]) -> bool
     requires { IsGrid all.old }
     ensures grid { IsGrid all.new }
-    ensures same { (i : ℕ) (d : AnEnds) → i < length all.old → SameHistory (slice_index_or all.old i d) (slice_index_or all.new i d) }
-    ensures exact { (i j : ℕ) (d : AnEnds) → i < length all.old → j < length all.old → i ≢ j → received_from (slice_index_or all.new i d) j ++ waiting_from (slice_index_or all.new i d) j ≡ sent_to (slice_index_or all.new j d) i }
-    ensures flag { IsTrue result ↔ ((i j : ℕ) (d : AnEnds) → i < length all.old → j < length all.old → i ≢ j → waiting_from (slice_index_or all.new i d) j ≡ []) }
+    ensures same { EachTo SameHistory all.old all.new }
+    ensures exact { AreExact all.new }
+    ensures flag { IsTrue result ↔ NoneWait all.new }
 {
     let mut empty = true;
     for j in 0..all.len() {

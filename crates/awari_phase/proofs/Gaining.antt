@@ -1,5 +1,5 @@
 -- What the rounds of a gain keep.
-use Rattle.std.proofs.Common.{◌≡◌, ℕ, ◌<◌, max, List, [], ◌++◌, length, map, All, ℤ, refl, sym, ap, subst, ◌∙◌, arith, get_or}
+use Rattle.std.proofs.Common.{◌≡◌, ℕ, ◌<◌, max, List, [], length, map, All, ℤ, refl, sym, ap, subst, ◌∙◌, arith, get_or}
 use Rattle.std.proofs.lemmas.List.{append-nil, length-map}
 use Rattle.std.proofs.Math.ListN.{get_or-map}
 use Rattle.awari_owner.specs.Outboxes.{Outboxes, notes_of}
@@ -7,7 +7,7 @@ use Rattle.awari_owner.specs.Sound as part
 use Rattle.awari_owner.proofs.Sounding.{place_same, sound_opened, stays_both, wave_opened}
 use Rattle.awari_block.specs.Blocks.{KeepSettled}
 use Rattle.awari_block.specs.Part.{Part}
-use Rattle.awari_lines.specs.Lines.{IsGrid, IsOther, SameLines, SameHistory, owners_of, sent_to, received_from}
+use Rattle.awari_lines.specs.Lines.{EachTo, IsGrid, IsOther, SameLines, SameHistory, owners_of, sent_to, received_from}
 use Rattle.awari_lines.specs.declared.lines.Ends.{Ends}
 use Rattle.awari_phase.specs.declared.owners.Owner.{Owner}
 use Rattle.awari_phase.specs.Owners.{Batches, IsSound, notes_boxed, notes_given, notes_taken, Kept, Grown, AllGrown, AreFinished, AreInStep, AreReceived, AreSent, OpensWave, all_ends, ends_of, rest_of}
@@ -112,29 +112,25 @@ all_grown_trans os ps qs s t = record {
   wave = λ step. t.wave (s.wave step);
 }
 
-pub all_grown_kept : (os ps : List Owner) → length ps ≡ length os → ((i : ℕ) (d : Owner) → i < length os → Kept (get_or os i d) (get_or ps i d)) → IsGrid (all_ends os) → AllGrown os ps
-all_grown_kept os ps many kept g = record {
-  many = many;
-  each = λ i d h. grown_kept (get_or os i d) (get_or ps i d) (kept i d h);
-  grid = grid_after os ps many kept g;
-  wave = λ step. step_then os ps many (λ i d h. (kept i d h).block.level.wave) step;
+pub all_grown_kept : (os ps : List Owner) → EachTo Kept os ps → IsGrid (all_ends os) → AllGrown os ps
+all_grown_kept os ps kept g = record {
+  many = kept.many;
+  each = λ i d h. grown_kept (get_or os i d) (get_or ps i d) (kept.each i d h);
+  grid = grid_after os ps kept g;
+  wave = λ step. step_then os ps kept.many (λ i d h. (kept.each i d h).block.level.wave) step;
 }
 
 pub same_rest : (os ps : List Owner) → map rest_of ps ≡ map rest_of os → (i : ℕ) (d : Owner) → rest_of (get_or ps i d) ≡ rest_of (get_or os i d)
 same_rest os ps rest i d = sym (get_or-map rest_of ps i d) ∙ (ap (λ l. get_or l i (rest_of d)) rest ∙ get_or-map rest_of os i d)
 
-pub all_grown_round : (os ps : List Owner) (n m : ℕ) → n ≡ length os → m ≡ length ps → m ≡ n → ((i : ℕ) (d : Owner) → i < n → Kept (get_or os i d) (get_or ps i d)) → IsGrid (all_ends os) → AllGrown os ps
-all_grown_round os ps n m was now many kept g = all_grown_kept os ps (omega (arith, was, now, many)) (λ i d h. kept i d (omega (arith, was, h))) g
-
-pub all_grown_looked : (os ps : List Owner) → length ps ≡ length os → IsGrid (all_ends ps) → map rest_of ps ≡ map rest_of os
-    → ((i : ℕ) (e : Ends) → i < length (all_ends os) → SameHistory (get_or (all_ends os) i e) (get_or (all_ends ps) i e)) → AllGrown os ps
+pub all_grown_looked : (os ps : List Owner) → length ps ≡ length os → IsGrid (all_ends ps) → map rest_of ps ≡ map rest_of os → EachTo SameHistory (all_ends os) (all_ends ps) → AllGrown os ps
 all_grown_looked os ps many g rest same = record {
   many = many;
   each = λ i d h.
       (let lo = length-map os ends_of in
       let old = ends_at os i d.ends d h in
       let new = ends_at ps i d.ends d (omega (arith, h, many)) in
-      let seen = same i d.ends (omega (arith, h, lo)) in
+      let seen = same.each i d.ends (omega (arith, h, lo)) in
       grown_looked (get_or os i d) (get_or ps i d)
       (subst (λ (u : Ends). SameHistory u (get_or ps i d).ends) old (subst (λ (u : Ends). SameHistory (get_or (all_ends os) i d.ends) u) new seen))
       (same_rest os ps rest i d));

@@ -2,7 +2,7 @@
 use Rattle.std.proofs.Common.{◌≡◌, ℕ, ◌<◌, List, [], ◌∷◌, length, get_or, sym, subst, ◌∙◌, arith}
 use Rattle.std.proofs.lemmas.List.{length-map, get_or_default}
 use Rattle.std.proofs.Math.ListN.{get_or-map}
-use Rattle.awari_lines.specs.Lines.{IsGrid, SameLines}
+use Rattle.awari_lines.specs.Lines.{EachTo, IsGrid, SameLines}
 use Rattle.awari_lines.specs.declared.lines.Ends.{Ends}
 use Rattle.awari_lines.proofs.Grids.{grid_kept}
 use Rattle.awari_phase.specs.declared.owners.Owner.{Owner}
@@ -32,5 +32,5 @@ grid_lines os ps long lines g =
         subst (λ (u : Ends). SameLines u (get_or (all_ends ps) x e)) (sym (ends_at os x e d h))
         (subst (λ (u : Ends). SameLines (get_or os x d).ends u) (sym (ends_at ps x e d (omega (arith, h, long)))) (lines x d h))
 
-pub grid_after : (os ps : List Owner) → length ps ≡ length os → ((i : ℕ) (d : Owner) → i < length os → Kept (get_or os i d) (get_or ps i d)) → IsGrid (all_ends os) → IsGrid (all_ends ps)
-grid_after os ps long kept g = grid_lines os ps long (λ i d h. (kept i d h).lines) g
+pub grid_after : (os ps : List Owner) → EachTo Kept os ps → IsGrid (all_ends os) → IsGrid (all_ends ps)
+grid_after os ps kept g = grid_lines os ps kept.many (λ i d h. (kept.each i d h).lines) g

@@ -1,5 +1,5 @@
 -- What a worker's steps keep.
-use Rattle.std.proofs.Common.{◌≡◌, ◌≢◌, ℕ, suc, ◌+◌, ◌==◌, ◌<◌, ◌≤◌, List, [], ◌∷◌, ◌++◌, length, map, All, ℤ, Option, Some, None, Result, Ok, Bool, true, false, if◌then◌else◌, refl, sym, ap, subst, subst₂, ◌∙◌, inl, inr, arith, append_assoc, vec_len, get_or}
+use Rattle.std.proofs.Common.{◌≡◌, ◌≢◌, ℕ, ◌+◌, ◌==◌, ◌<◌, List, [], ◌∷◌, ◌++◌, length, map, All, ℤ, Option, Some, None, Result, Ok, Bool, true, false, if◌then◌else◌, refl, sym, ap, subst, subst₂, ◌∙◌, inl, inr, arith, append_assoc, vec_len, get_or}
 use Rattle.std.proofs.lemmas.List.{append-nil, map-append}
 use Rattle.std.proofs.lemmas.List.Elements.{All-append}
 use Rattle.std.proofs.lemmas.Bool.{cases_eq, eqb-true}

@@ -1,5 +1,5 @@
 -- Owners that are sound together, and whose lines were looked at, are sound with what each took and what is on its way.
-use Rattle.std.proofs.Common.{◌≡◌, ℕ, ◌<◌, List, [], ◌++◌, length, map, ℤ, sym, ap, subst, subst₂, ◌∙◌, inl, inr, arith, get_or, append_assoc, append-nil}
+use Rattle.std.proofs.Common.{◌≡◌, ℕ, ◌<◌, List, [], ◌++◌, length, map, ℤ, sym, ap, subst, subst₂, ◌∙◌, inl, inr, get_or, append_assoc, append-nil}
 use Rattle.std.proofs.lemmas.List.{length-map, map-append}
 use Rattle.std.proofs.lemmas.List.Elements.{All-nil}
 use Rattle.awari_block.specs.Notes.{Has}

@@ -2,7 +2,7 @@
 use Rattle.std.proofs.Common.{◌≡◌, ℕ, ◌<◌, List, [], length, All, ℤ, sym, subst, ◌∙◌, arith, get_or}
 use Rattle.awari_owner.specs.Outboxes.{Outboxes}
 use Rattle.awari_owner.proofs.Sounding.{gain_opened, sound_opened}
-use Rattle.awari_lines.specs.Lines.{IsGrid, owners_of, received_from, sent_to}
+use Rattle.awari_lines.specs.Lines.{EachTo, IsGrid, owners_of, received_from, sent_to}
 use Rattle.awari_lines.specs.declared.lines.Ends.{Ends}
 use Rattle.awari_phase.specs.declared.owners.Owner.{Owner}
 use Rattle.awari_phase.specs.Owners.{AreFinished, Batches, IsSound, OpensNext, all_ends, notes_boxed, notes_given, notes_taken}
@@ -15,8 +15,10 @@ owner_next value a b opens none s =
     (sound_opened value a.ends.owner (owners_of a.ends) a.part b.part (notes_taken a.ends) (notes_given a.ends a.outboxes) (notes_boxed a.outboxes)
     (gain_opened b.part.gain a.part b.part opens.opens) (none_boxed a none) s))
 
-pub finished_next : (value : List ℕ → ℤ) (n : ℕ) (os ps : List Owner) → length ps ≡ length os → ((i : ℕ) (d : Owner) → i < length os → OpensNext (get_or os i d) (get_or ps i d)) → AreFinished value n os → AreFinished value n ps
-finished_next value n os ps many opens f =
+pub finished_next : (value : List ℕ → ℤ) (n : ℕ) (os ps : List Owner) → EachTo OpensNext os ps → AreFinished value n os → AreFinished value n ps
+finished_next value n os ps all f =
+    let many = all.many in
+    let opens = all.each in
     let ends : all_ends ps ≡ all_ends os = same_ends os ps many (λ i d h. (opens i d h).ends) in
     let low : (i : ℕ) → i < length ps → i < length os = λ i h. omega (arith, h, many) in
     let first : 0 < length os = (let s = f.some in omega (arith, s)) in

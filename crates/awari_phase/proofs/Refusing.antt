@@ -11,7 +11,7 @@ use Rattle.awari_owner.specs.declared.faults.OwnerFault.{OwnerFault}
 use Rattle.awari_owner.specs.declared.faults.OwnerFault.TheVariants as owner_fault
 use Rattle.awari_block.specs.declared.notes.Note.{Note}
 use Rattle.awari_table.specs.declared.TheConstants.{HIGHEST_LEVEL}
-use Rattle.awari_lines.specs.Lines.{Notes, IsGrid, IsOther, SameHistory, SameLines, sent_to, received_from, waiting_from}
+use Rattle.awari_lines.specs.Lines.{EachTo, Notes, IsGrid, IsOther, SameHistory, SameLines, sent_to, received_from, waiting_from}
 use Rattle.awari_lines.specs.declared.lines.Ends.{Ends}
 use Rattle.awari_lines.proofs.Grids.{grid_kept}
 use Rattle.awari_owner.specs.Outboxes.{notes_of, queue_to}
@@ -19,7 +19,7 @@ use Rattle.awari_owner.proofs.Lists.{Has-append_cases, Has-append_left, Has-appe
 use Rattle.awari_owner.proofs.Expecting.{timely_still}
 use Rattle.awari_phase.specs.declared.owners.Owner.{Owner}
 use Rattle.awari_phase.specs.declared.faults.PhaseFault.{PhaseFault}
-use Rattle.awari_phase.specs.Owners.{AreTogether, Batches, IsOpenBatch, OpenBehind, all_ends, ends_of, items_of, notes_boxed, notes_given, parts_of, taken_from}
+use Rattle.awari_phase.specs.Owners.{AreLooked, AreTogether, Batches, IsOpenBatch, OpenBehind, all_ends, ends_of, items_of, notes_boxed, notes_given, parts_of, taken_from}
 use Rattle.awari_phase.specs.PhaseFault.{IsFirstFault, IsWant, fault_of}
 use Rattle.awari_phase.specs.Stops.{HaveWorked}
 use Rattle.awari_phase.proofs.Grown.{ends_at}
@@ -93,13 +93,13 @@ module _ (value : List ℕ → ℤ) (n : ℕ) (os ps : List Owner) (d : Owner) (
   was i = get_or os i d
 
   long : length ps ≡ length os
-  long = worked.0
+  long = worked.many
 
   abbrev Known : ℕ → (ℕ → List Note) × (ℕ → List Note) → Type 0
   Known i x = Halts value (was i) (now i).ends (now i).part (now i).outboxes (now i).fault x.0 x.1
 
   known : (f : ℕ → (ℕ → List Note) × (ℕ → List Note)) × ((i : ℕ) → i < length os → Known i (f i))
-  known = choice Known ((λ _. []), (λ _. [])) (length os) (λ i low. halts value (was i) (now i) (worked.1 i d low) (together.sound i d low))
+  known = choice Known ((λ _. []), (λ _. [])) (length os) (λ i low. halts value (was i) (now i) (worked.each i d low) (together.sound i d low))
 
   taken : ℕ → ℕ → List Note
   taken j = (known.0 j).0
@@ -234,22 +234,20 @@ module _ (value : List ℕ → ℤ) (n : ℕ) (os ps : List Owner) (d : Owner) (
 -- ---- the fault that is told
 
 -- a look at all lines shows what had been sent
-sent_before : (ps qs : List Owner) (d : Owner) → IsGrid (all_ends ps)
-    → ((i : ℕ) (e : Ends) → i < length (all_ends ps) → SameHistory (get_or (all_ends ps) i e) (get_or (all_ends qs) i e))
-    → ((i j : ℕ) (e : Ends) → i < length (all_ends ps) → j < length (all_ends ps) → (i ≡ j → ⊥)
-    → received_from (get_or (all_ends qs) i e) j ++ waiting_from (get_or (all_ends qs) i e) j ≡ sent_to (get_or (all_ends qs) j e) i)
-    → WereSent ps d
+sent_before : (ps qs : List Owner) (d : Owner) → IsGrid (all_ends ps) → EachTo SameHistory (all_ends ps) (all_ends qs) → AreLooked qs → WereSent ps d
 sent_before ps qs d grid same exact i j low low' apart =
+    let many = same.many in
+    let there_in : (k : ℕ) → k < length (all_ends ps) → k < length (all_ends qs) = λ k h. omega (arith, h, many) in
     let in_ends : (k : ℕ) → k < length ps → k < length (all_ends ps) = λ k h. subst (λ x. k < x) (sym (length-map ps ends_of)) h in
     let there : (k : ℕ) → get_or (all_ends ps) k d.ends ≡ (get_or ps k d).ends = λ k. ends_there ps k d in
-    let here = same i d.ends (in_ends i low) in
-    let from = same j d.ends (in_ends j low') in
+    let here = same.each i d.ends (in_ends i low) in
+    let from = same.each j d.ends (in_ends j low') in
     let number : (k : ℕ) → k < length ps → (get_or (all_ends ps) k d.ends).owner ≡ k = λ k h. grid.owner k d.ends (in_ends k h) in
     let received = here.received j (λ e. apart (sym (e ∙ number i low))) in
     let sent = from.sent i (λ e. apart (e ∙ number j low')) in (
       waiting_from (get_or (all_ends qs) i d.ends) j,
       ap (λ (e : Ends). received_from e j ++ waiting_from (get_or (all_ends qs) i d.ends) j) (sym (there i)) ∙ ap (λ l. l ++ waiting_from (get_or (all_ends qs) i d.ends) j) (sym received)
-          ∙ exact i j d.ends (in_ends i low) (in_ends j low') apart ∙ sent ∙ ap (λ (e : Ends). sent_to e i) (there j),
+          ∙ exact i j d.ends (there_in i (in_ends i low)) (there_in j (in_ends j low')) apart ∙ sent ∙ ap (λ (e : Ends). sent_to e i) (there j),
     )
 
 -- an owner that had a fault stands in the list
@@ -266,9 +264,7 @@ want_of owner had fault is told = subst IsWant (sym (told ∙ ap (fault_of owner
 
 pub wanting : Expects → Settles → OfSound (λ v l p. AreWhole l p) → OfSound (λ v l p. AreTold v p)
     → (ps qs : List Owner) (fault : PhaseFault) → IsGrid (all_ends ps) → IsFirstFault ps fault
-    → ((i : ℕ) (e : Ends) → i < length (all_ends ps) → SameHistory (get_or (all_ends ps) i e) (get_or (all_ends qs) i e))
-    → ((i j : ℕ) (e : Ends) → i < length (all_ends ps) → j < length (all_ends ps) → (i ≡ j → ⊥)
-    → received_from (get_or (all_ends qs) i e) j ++ waiting_from (get_or (all_ends qs) i e) j ≡ sent_to (get_or (all_ends qs) j e) i)
+    → EachTo SameHistory (all_ends ps) (all_ends qs) → AreLooked qs
     → (value : List ℕ → ℤ) (n : ℕ) (before : List Owner) → n ≤ HIGHEST_LEVEL → AreTogether value n before → HaveWorked before ps → IsWant fault
 wanting expects settles whole told ps qs fault grid first same exact value n before small together worked =
     let d = first.owner in
@@ -277,4 +273,4 @@ wanting expects settles whole told ps qs fault grid first same exact value n bef
     let fits = fit value n before ps d together worked were settles whole told (omega (arith, small)) in
     let fault_there : (get_or ps first.place d).fault ≡ Some first.had = ap (λ (o : Owner). o.fault) (first.of_owner d) ∙ first.came in
     want_of d.ends.owner first.had fault
-    (only_memory value n before ps d together worked were expects fits first.place (subst (λ k. first.place < k) worked.0 low) first.had fault_there) first.told
+    (only_memory value n before ps d together worked were expects fits first.place (subst (λ k. first.place < k) worked.many low) first.had fault_there) first.told

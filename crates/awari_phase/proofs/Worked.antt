@@ -1,16 +1,16 @@
 -- Owners that worked, each up to its fault if it had one.
-use Rattle.std.proofs.Common.{◌≡◌, ℕ, ◌<◌, ◌≤◌, inl, inr, List, [], ◌∷◌, ◌++◌, take, drop, Option, Some, None, All, map, ℤ, length, get_or, refl, sym, subst, subst₂, ap, append-nil, ◌∙◌, arith, append_assoc, length-append}
+use Rattle.std.proofs.Common.{◌≡◌, ℕ, ◌<◌, inl, inr, List, [], ◌∷◌, ◌++◌, take, drop, Option, Some, None, All, map, ℤ, length, get_or, refl, sym, subst, subst₂, ap, append-nil, ◌∙◌, arith, append_assoc, length-append}
 use Rattle.std.proofs.lemmas.List.{get_or_append_left, length-map, map-append}
 use Rattle.std.proofs.lemmas.List.Elements.{All-append, All-weaker}
 use Rattle.std.proofs.lemmas.Bool.{cases_lt}
 use Rattle.std.proofs.Math.Seq.{get_or-append_seam}
-use Rattle.awari_lines.specs.Lines.{IsGrid, SameHistory, SameLines, received_from, sent_to}
+use Rattle.awari_lines.specs.Lines.{EachTo, IsGrid, SameHistory, SameLines, received_from, sent_to}
 use Rattle.awari_lines.specs.declared.lines.Ends.{Ends}
 use Rattle.awari_block.specs.Part.{Part}
 use Rattle.awari_owner.specs.declared.faults.OwnerFault.{OwnerFault}
 use Rattle.awari_block.specs.declared.notes.Note.{Note}
 use Rattle.awari_phase.specs.declared.owners.Owner.{Owner}
-use Rattle.awari_phase.specs.Owners.{AllGrown, AreFinished, AreReceived, AreTogether, IsOpenBatch, Kept, OpenBehind, OpensWave, all_ends, ends_of, items_of, rest_of}
+use Rattle.awari_phase.specs.Owners.{AllGrown, AreFinished, AreReceived, AreTogether, IsOpenBatch, Kept, OpenBehind, OpensWave, Swept, all_ends, ends_of, items_of, rest_of}
 use Rattle.awari_phase.specs.PhaseFault.{AreWell}
 use Rattle.awari_phase.specs.Stops.{HasWorked, HaveWorked}
 use Rattle.awari_phase.proofs.Grown.{grid_after, grid_lines}
@@ -35,25 +35,25 @@ worked_lines a b worked = at b.fault refl
         ]
 
 pub worked_grid : (os ps : List Owner) → HaveWorked os ps → IsGrid (all_ends os) → IsGrid (all_ends ps)
-worked_grid os ps worked g = grid_lines os ps worked.0 (λ i d h. worked_lines (get_or os i d) (get_or ps i d) (worked.1 i d h)) g
+worked_grid os ps worked g = grid_lines os ps worked.many (λ i d h. worked_lines (get_or os i d) (get_or ps i d) (worked.each i d h)) g
 
 -- one owner more at the end, of which the same holds
 pub pushed_worked : (rest bs all : List Owner) (owner last : Owner) → all ≡ bs ++ last ∷ [] → HaveWorked rest bs → HasWorked owner last → HaveWorked (rest ++ owner ∷ []) all
-pushed_worked rest bs all owner last is each end = subst (HaveWorked (rest ++ owner ∷ [])) (sym is) (many, at)
+pushed_worked rest bs all owner last is each end = subst (HaveWorked (rest ++ owner ∷ [])) (sym is) (record { many = many; each = at })
   where
     many : length (bs ++ last ∷ []) ≡ length (rest ++ owner ∷ [])
-    many = let a = length-append bs (last ∷ []) in let b = length-append rest (owner ∷ []) in let e = each.0 in omega (arith, a, b, e)
+    many = let a = length-append bs (last ∷ []) in let b = length-append rest (owner ∷ []) in let e = each.many in omega (arith, a, b, e)
 
     at : (i : ℕ) (d : Owner) → i < length (rest ++ owner ∷ []) → HasWorked (get_or (rest ++ owner ∷ []) i d) (get_or (bs ++ last ∷ []) i d)
     at i d low = elim (cases_lt i (length rest)) [
       | inl less ↦
           let left = get_or_append_left rest (owner ∷ []) d i less in
-          let e = each.0 in
+          let e = each.many in
           let right = get_or_append_left bs (last ∷ []) d i (omega (arith, less, e)) in
-          subst (λ (u : Owner). HasWorked u (get_or (bs ++ last ∷ []) i d)) (sym left) (subst (λ (u : Owner). HasWorked (get_or rest i d) u) (sym right) (each.1 i d less))
+          subst (λ (u : Owner). HasWorked u (get_or (bs ++ last ∷ []) i d)) (sym left) (subst (λ (u : Owner). HasWorked (get_or rest i d) u) (sym right) (each.each i d less))
       | inr more ↦
           let b = length-append rest (owner ∷ []) in
-          let e = each.0 in
+          let e = each.many in
           let here : i ≡ length rest = omega (arith, more, low, b) in
           let there : i ≡ length bs = omega (arith, here, e) in
           let left : get_or (rest ++ owner ∷ []) i d ≡ owner = ap (λ k. get_or (rest ++ owner ∷ []) k d) here ∙ get_or-append_seam rest owner [] d in
@@ -62,25 +62,30 @@ pushed_worked rest bs all owner last is each end = subst (HaveWorked (rest ++ ow
     ]
 
 -- without a fault
-pub well_kept : (os ps qs : List Owner) → qs ≡ ps → HaveWorked os ps → AreWell qs → (i : ℕ) (d : Owner) → i < length os → Kept (get_or os i d) (get_or ps i d)
-well_kept os ps qs same worked well i d h =
-    let w = worked.0 in
-    (worked.1 i d h).kept (subst (λ (l : List Owner). (get_or l i d).fault ≡ None) same (well i d (let long = ap length same in omega (arith, h, w, long))))
+module _ (os ps qs : List Owner) (same : qs ≡ ps) (worked : HaveWorked os ps) (well : AreWell qs) where
+  none : (i : ℕ) (d : Owner) → i < length os → (get_or ps i d).fault ≡ None
+  none i d h = let w = worked.many in let long = ap length same in subst (λ (l : List Owner). (get_or l i d).fault ≡ None) same (well i d (omega (arith, h, w, long)))
+
+  pub well_kept : EachTo Kept os ps
+  well_kept = record { many = worked.many; each = λ i d h. (worked.each i d h).kept (none i d h) }
+
+  pub well_swept : EachTo Swept os ps
+  well_swept = record { many = worked.many; each = λ i d h. (worked.each i d h).swept (none i d h) }
 
 -- owners that kept what a worker keeps are sound together where they were
-pub together_kept : (value : List ℕ → ℤ) (n : ℕ) (os ps : List Owner) → length ps ≡ length os → ((i : ℕ) (d : Owner) → i < length os → Kept (get_or os i d) (get_or ps i d)) → AreTogether value n os → AreTogether value n ps
-together_kept value n os ps long kept t = record {
-  some = (let s = t.some in omega (arith, s, long));
-  grid = grid_after os ps long kept t.grid;
-  sound = λ i d h. (kept i d (low i h)).sound value (t.sound i d (low i h));
-  level = λ i d h. (kept i d (low i h)).block.level.level ∙ t.level i d (low i h);
-  gain = λ i d h. (kept i d (low i h)).block.level.gain ∙ t.gain i d (low i h) ∙ sym (kept 0 d first).block.level.gain;
-  wave = λ i d h. (kept i d (low i h)).block.level.wave ∙ t.wave i d (low i h) ∙ sym (kept 0 d first).block.level.wave;
+pub together_kept : (value : List ℕ → ℤ) (n : ℕ) (os ps : List Owner) → EachTo Kept os ps → AreTogether value n os → AreTogether value n ps
+together_kept value n os ps all t = record {
+  some = (let s = t.some in let long = all.many in omega (arith, s, long));
+  grid = grid_after os ps all t.grid;
+  sound = λ i d h. (all.each i d (low i h)).sound value (t.sound i d (low i h));
+  level = λ i d h. (all.each i d (low i h)).block.level.level ∙ t.level i d (low i h);
+  gain = λ i d h. (all.each i d (low i h)).block.level.gain ∙ t.gain i d (low i h) ∙ sym (all.each 0 d first).block.level.gain;
+  wave = λ i d h. (all.each i d (low i h)).block.level.wave ∙ t.wave i d (low i h) ∙ sym (all.each 0 d first).block.level.wave;
   waits = waits;
 }
   where
     low : (i : ℕ) → i < length ps → i < length os
-    low i h = omega (arith, h, long)
+    low i h = let long = all.many in omega (arith, h, long)
 
     first : 0 < length os
     first = let s = t.some in omega (arith, s)
@@ -90,22 +95,22 @@ together_kept value n os ps long kept t = record {
         let o = t.waits i j d (low i h) (low j h') apart in
         let here = get_or os i d in
         let there = get_or os j d in
-        let came = (kept i d (low i h)).received j ((λ e. apart (sym (e ∙ number_at os d t.grid i (low i h)))), (let m = many_at os d t.grid i (low i h) in let l = low j h' in omega (arith, m, l))) in
-        let gone = (kept j d (low j h')).sent i ((λ e. apart (e ∙ number_at os d t.grid j (low j h'))), (let m = many_at os d t.grid j (low j h') in let l = low i h in omega (arith, m, l))) in
+        let came = (all.each i d (low i h)).received j ((λ e. apart (sym (e ∙ number_at os d t.grid i (low i h)))), (let m = many_at os d t.grid i (low i h) in let l = low j h' in omega (arith, m, l))) in
+        let gone = (all.each j d (low j h')).sent i ((λ e. apart (e ∙ number_at os d t.grid j (low j h'))), (let m = many_at os d t.grid j (low j h') in let l = low i h in omega (arith, m, l))) in
         record {
           before = o.before;
           after = o.after ++ gone.0;
           came = (o.came.0 ++ came.0, sym (append_assoc o.before o.came.0 came.0) ∙ ap (λ l. l ++ came.0) o.came.1 ∙ came.1);
           went = gone.1 ∙ ap (λ l. l ++ gone.0) o.went ∙ append_assoc o.before o.after gone.0;
           opened = subst (λ (bs : List (List Note)). All (IsOpenBatch (get_or ps j d).part) bs) (sym (map-append items_of o.after gone.0))
-              (All-weaker (IsOpenBatch there.part) (IsOpenBatch (get_or ps j d).part) (open_place there.part (get_or ps j d).part (kept j d (low j h')).block) (map items_of o.after ++ map items_of gone.0)
+              (All-weaker (IsOpenBatch there.part) (IsOpenBatch (get_or ps j d).part) (open_place there.part (get_or ps j d).part (all.each j d (low j h')).block) (map items_of o.after ++ map items_of gone.0)
               (All-append (IsOpenBatch there.part) (map items_of o.after) (map items_of gone.0) o.opened (gone.2 value (t.sound j d (low j h')))));
         }
 
 -- what a slice that worked writes back
 pub written_worked : (os now new : List Owner) (n : ℕ) → n ≡ length os → now ≡ os → HaveWorked now new → HaveWorked os (take n (new ++ drop (length new) os))
 written_worked os now new n count is worked =
-    let w = worked.0 in
+    let w = worked.many in
     let same = ap length is in
     subst (HaveWorked os) (sym (written new os n (omega (arith, w, same, count)) (sym count))) (subst (λ (l : List Owner). HaveWorked l new) is worked)
 
@@ -129,7 +134,7 @@ together_grown value n os ps grown waits t =
 
 -- after a look at all lines
 pub together_looked : (value : List ℕ → ℤ) (n : ℕ) (os ps : List Owner) → AllGrown os ps → map rest_of ps ≡ map rest_of os
-    → ((i : ℕ) (e : Ends) → i < length (all_ends os) → SameHistory (get_or (all_ends os) i e) (get_or (all_ends ps) i e)) → AreTogether value n os → AreTogether value n ps
+    → EachTo SameHistory (all_ends os) (all_ends ps) → AreTogether value n os → AreTogether value n ps
 together_looked value n os ps grown rest same t = together_grown value n os ps grown waits t
   where
     many : length ps ≡ length os
@@ -141,7 +146,7 @@ together_looked value n os ps grown rest same t = together_grown value n os ps g
     history : (i : ℕ) (d : Owner) → i < length ps → SameHistory (get_or os i d).ends (get_or ps i d).ends
     history i d h =
         subst (λ (u : Ends). SameHistory u (get_or ps i d).ends) (ends_there os i d)
-        (subst (λ (u : Ends). SameHistory (get_or (all_ends os) i d.ends) u) (ends_there ps i d) (same i d.ends (subst (λ k. i < k) (sym (length-map os ends_of)) (low i h))))
+        (subst (λ (u : Ends). SameHistory (get_or (all_ends os) i d.ends) u) (ends_there ps i d) (same.each i d.ends (subst (λ k. i < k) (sym (length-map os ends_of)) (low i h))))
 
     waits : (i j : ℕ) (d : Owner) → i < length ps → j < length ps → (i ≡ j → ⊥) → OpenBehind (get_or ps j d).part (received_from (get_or ps i d).ends j) (sent_to (get_or ps j d).ends i)
     waits i j d h h' apart =

@@ -1,7 +1,7 @@
 -- What a worker keeps of its owner.
 use Rattle.std.specs.Prelude.{◌≡◌, ◌≢◌, ◌⊎◌, ℕ, ◌+◌, ◌<◌, ◌≤◌, max, List, [], ◌++◌, length, map, All, ℤ, Some, slice_index_or}
 use mathlib.Core.List.{IsPrefix}
-use Rattle.awari_lines.specs.Lines.{Notes, IsOther, IsGrid, SameLines, owners_of, sent_to, received_from, waiting_from, free_to}
+use Rattle.awari_lines.specs.Lines.{AreExact, Notes, IsOther, IsGrid, SameLines, owners_of, sent_to, received_from, waiting_from, free_to}
 use Rattle.awari_lines.specs.declared.lines.Ends.{Ends}
 use Rattle.awari_block.specs.declared.notes.Note.{Note}
 use Rattle.awari_owner.specs.Outboxes.{IsBatch, Outboxes, queue_to, notes_of}
@@ -125,11 +125,11 @@ pub record OpensNext (a b : Owner) : Type 0 where
 
 -- no board is fresh
 abbrev pub AreIdle : List Owner → Type 0
-AreIdle os = (i : ℕ) (d : Owner) → i < length os → (slice_index_or os i d).part.fresh ≡ []
+AreIdle os = All (λ (o : Owner). o.part.fresh ≡ []) os
 
 -- nothing is to be sent
 abbrev pub AreSent : List Owner → Type 0
-AreSent os = (i : ℕ) (d : Owner) → i < length os → All (λ q. q ≡ []) (slice_index_or os i d).outboxes.queues
+AreSent os = All (λ (o : Owner). All (λ q. q ≡ []) o.outboxes.queues) os
 
 -- on each line what was sent was received
 abbrev pub AreReceived : List Owner → Type 0
@@ -137,8 +137,7 @@ AreReceived os = (i j : ℕ) (d : Ends) → i < length (all_ends os) → j < len
 
 -- on each line what was received, and then what is known to wait, is what was sent
 abbrev pub AreLooked : List Owner → Type 0
-AreLooked os = (i j : ℕ) (d : Ends) → i < length (all_ends os) → j < length (all_ends os) → i ≢ j
-    → received_from (slice_index_or (all_ends os) i d) j ++ waiting_from (slice_index_or (all_ends os) i d) j ≡ sent_to (slice_index_or (all_ends os) j d) i
+AreLooked os = AreExact (all_ends os)
 
 -- the notes that owner j took from owner i
 abbrev pub taken_notes : List Owner → Owner → ℕ → ℕ → List Note
@@ -172,8 +171,8 @@ pub record OpenBehind (part : Part) (received sent : List Notes) : Type 0 where
 pub record AreTogether (value : List ℕ → ℤ) (n : ℕ) (os : List Owner) : Type 0 where
   pub some : 1 ≤ length os
   pub grid : IsGrid (all_ends os)
-  pub sound : (i : ℕ) (d : Owner) → i < length os → IsSound value (slice_index_or os i d).ends (slice_index_or os i d).part (slice_index_or os i d).outboxes
-  pub level : (i : ℕ) (d : Owner) → i < length os → (slice_index_or os i d).part.level ≡ n
+  pub sound : All (λ (o : Owner). IsSound value o.ends o.part o.outboxes) os
+  pub level : All (λ (o : Owner). o.part.level ≡ n) os
   pub gain : (i : ℕ) (d : Owner) → i < length os → (slice_index_or os i d).part.gain ≡ (slice_index_or os 0 d).part.gain
   pub wave : AreInStep os
   pub waits : (i j : ℕ) (d : Owner) → i < length os → j < length os → i ≢ j
@@ -186,7 +185,7 @@ pub record AreFinished (value : List ℕ → ℤ) (n : ℕ) (os : List Owner) : 
   pub grid : IsGrid (all_ends os)
   pub sent : AreSent os
   pub received : AreReceived os
-  pub sound : (i : ℕ) (d : Owner) → i < length os → IsSound value (slice_index_or os i d).ends (slice_index_or os i d).part (slice_index_or os i d).outboxes
-  pub level : (i : ℕ) (d : Owner) → i < length os → (slice_index_or os i d).part.level ≡ n
+  pub sound : All (λ (o : Owner). IsSound value o.ends o.part o.outboxes) os
+  pub level : All (λ (o : Owner). o.part.level ≡ n) os
   pub gain : (i : ℕ) (d : Owner) → i < length os → (slice_index_or os i d).part.gain ≡ (slice_index_or os 0 d).part.gain
   pub wave : AreInStep os

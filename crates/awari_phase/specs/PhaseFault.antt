@@ -1,5 +1,5 @@
 -- Why a round is refused: the faults' numbers, what is printed of them, and which is told.
-use Rattle.std.specs.Prelude.{◌≡◌, ℕ, ◌<◌, List, ◌++◌, Some, None, codes, length, slice_index_or}
+use Rattle.std.specs.Prelude.{◌≡◌, ℕ, ◌<◌, List, ◌++◌, All, Some, None, codes, slice_index_or}
 use Rattle.std.specs.Fmt.{decimal}
 use Rattle.awari_owner.specs.OwnerFault.{fault_text as owner_fault_text}
 use Rattle.awari_owner.specs.declared.faults.OwnerFault.{OwnerFault}
@@ -33,7 +33,7 @@ fault_of owner owner_fault.Far = BadNote owner owner_fault.Far
 
 -- no owner had a fault
 abbrev pub AreWell : List Owner → Type 0
-AreWell owners = (i : ℕ) (d : Owner) → i < length owners → (slice_index_or owners i d).fault ≡ None
+AreWell owners = All (λ (o : Owner). o.fault ≡ None) owners
 
 -- the fault of the first owner that had one
 pub record IsFirstFault (owners : List Owner) (fault : PhaseFault) : Type 0 where

@@ -1,7 +1,7 @@
 -- How a worker comes to a fault, and what became of owners that worked. What the public contracts say of a refused round goes by
 -- this.
-use Rattle.std.specs.Prelude.{◌≡◌, ◌≢◌, ◌⊎◌, ℕ, List, [], ◌∷◌, ◌++◌, ◌<◌, None, Some, length, slice_index_or}
-use Rattle.awari_lines.specs.Lines.{Notes, IsOther, SameLines, sent_to, received_from}
+use Rattle.std.specs.Prelude.{◌≡◌, ◌≢◌, ◌⊎◌, ℕ, List, [], ◌∷◌, ◌++◌, None, Some}
+use Rattle.awari_lines.specs.Lines.{EachTo, Notes, IsOther, SameLines, sent_to, received_from}
 use Rattle.awari_lines.specs.declared.lines.Ends.{Ends}
 use Rattle.awari_owner.specs.Outboxes.{Outboxes}
 use Rattle.awari_owner.specs.Sound.{RefusesNote}
@@ -48,4 +48,4 @@ pub record HasWorked (a b : Owner) : Type 0 where
 
 -- so it is of each of these owners
 abbrev pub HaveWorked : List Owner → List Owner → Type 0
-HaveWorked os ps = (length ps ≡ length os) × ((i : ℕ) (d : Owner) → i < length os → HasWorked (slice_index_or os i d) (slice_index_or ps i d))
+HaveWorked os ps = EachTo HasWorked os ps

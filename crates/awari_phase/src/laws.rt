@@ -1,6 +1,6 @@
 //! What follows of owners that are each sound: at any time, and once they have nothing more to do.
 
-ghost use Rattle.std.specs.Prelude.{◌≡◌, ◌<◌, ℕ, ℤ, All, List, length, slice_index_or, sum};
+ghost use Rattle.std.specs.Prelude.{◌≡◌, ℕ, ℤ, All, List, length, sum};
 ghost use Rattle.awari_board.specs.Rules.{IsBoard};
 ghost use Rattle.awari_rank.specs.Rank.{rank_of};
 ghost use Rattle.awari_owner.specs.Finish.{IsRightAt};
@@ -25,7 +25,7 @@ pub fn owners_together_are_sound()
 /// a table.
 pub fn finished_owners_are_right()
     ensures heard { (value : List ℕ → ℤ) (n : ℕ) (os : List Owner) → AreFinished value n os → AreWhole n (parts_of os) × AreHeard value (parts_of os) }
-    ensures closed { (os : List Owner) → AreIdle os → ((i : ℕ) (d : Owner) → i < length os → (slice_index_or os i d).part.gain ≡ 1) → All IsClosed (parts_of os) }
+    ensures closed { (os : List Owner) → AreIdle os → All (λ (o : Owner). o.part.gain ≡ 1) os → All IsClosed (parts_of os) }
     ensures right { (value : List ℕ → ℤ) (n : ℕ) (os : List Owner) → AreFinished value n os → All IsClosed (parts_of os)
         → (p : List ℕ) → IsBoard p → sum p ≡ n → IsRightAt value (λ q. known_at (parts_of os) (rank_of q)) p }
 {

@@ -1,7 +1,7 @@
 //! The next gain, or the next distance, opened in all parts.
 
-ghost use Rattle.std.specs.Prelude.{◌≡◌, ◌+◌, ◌<◌, ◌≤◌, ℕ, ℤ, All, List, [], length, slice_index_or};
-ghost use Rattle.awari_lines.specs.Lines.{IsGrid};
+ghost use Rattle.std.specs.Prelude.{◌≡◌, ◌≤◌, ℕ, ℤ, All, List, []};
+ghost use Rattle.awari_lines.specs.Lines.{EachTo, IsGrid};
 ghost use Rattle.awari_block.specs.Blocks.{due_dist};
 ghost use Rattle.awari_phase.specs.Owners.{AllGrown, AreFinished, AreIdle, AreReceived, AreSent, AreTogether, OpensNext, OpensWave, all_ends};
 ghost use Rattle.awari_phase.specs.declared.owners.Owner.{Owner as AnOwner};
@@ -17,9 +17,9 @@ pub fn open_gain<R: Threads + Sync>(rt: &R, owners: &mut [Owner])
     requires idle { AreIdle owners.old }
     requires sent { AreSent owners.old }
     requires received { AreReceived owners.old }
-    requires greater { (i : ℕ) (d : AnOwner) → i < length owners.old → 2 ≤ (slice_index_or owners.old i d).part.gain }
+    requires greater { All (λ (o : AnOwner). 2 ≤ o.part.gain) owners.old }
     ensures finished { (value : List ℕ → ℤ) (n : ℕ) → AreFinished value n owners.old → AreFinished value n owners.new }
-    ensures each { (i : ℕ) (d : AnOwner) → i < length owners.old → OpensNext (slice_index_or owners.old i d) (slice_index_or owners.new i d) }
+    ensures each { EachTo OpensNext owners.old owners.new }
 {
     par_for_each_mut(
         rt,
@@ -46,7 +46,7 @@ pub(crate) fn open_waves(owners: &mut [Owner], dist: u32)
     requires grid { IsGrid (all_ends owners.old) }
     requires sent { AreSent owners.old }
     requires received { AreReceived owners.old }
-    requires nearest { (i : ℕ) (d : AnOwner) → i < length owners.old → All (λ f. dist ≤ due_dist f) (slice_index_or owners.old i d).part.fresh }
+    requires nearest { All (λ (o : AnOwner). All (λ f. dist ≤ due_dist f) o.part.fresh) owners.old }
     ensures grown { AllGrown owners.old owners.new }
     ensures together { (value : List ℕ → ℤ) (n : ℕ) → AreTogether value n owners.old → AreTogether value n owners.new }
 {

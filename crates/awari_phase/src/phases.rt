@@ -1,7 +1,7 @@
 //! Rounds, until a gain is closed.
 
-ghost use Rattle.std.specs.Prelude.{◌≡◌, ◌⊎◌, ◌<◌, ◌≤◌, ℕ, ℤ, All, List, IsTrue, IsNone, IfSome, IfOk, IfErr, length, slice_index_or, vec_len, []};
-ghost use Rattle.awari_lines.specs.Lines.{IsGrid};
+ghost use Rattle.std.specs.Prelude.{◌≡◌, ◌⊎◌, ◌≤◌, ℕ, ℤ, All, List, IsTrue, IsNone, IfSome, IfOk, IfErr, []};
+ghost use Rattle.awari_lines.specs.Lines.{EachTo, IsGrid};
 ghost use Rattle.awari_block.specs.Blocks.{due_dist};
 ghost use Rattle.awari_phase.specs.Owners.{AllGrown, AreFinished, AreIdle, AreReceived, AreSent, AreTogether, Kept, all_ends};
 ghost use Rattle.awari_phase.specs.PhaseFault.{IsPhaseRefusal, IsRefusal, IsStop, IsWant};
@@ -129,8 +129,7 @@ fn next_round<R: Threads + Wait + Sync, G: Gate + Sync>(
 ) -> Result<Vec<Owner>, PhaseFault>
     requires sweeps { (1 ≤ sweeps) × (sweeps ≤ 1000) }
     requires grid { IsGrid (all_ends owners.items) }
-    ensures len { IfOk result (λ all. vec_len all ≡ vec_len owners) }
-    ensures kept { IfOk result (λ all. (i : ℕ) (d : AnOwner) → i < vec_len owners → Kept (slice_index_or owners.items i d) (slice_index_or all.items i d)) }
+    ensures kept { IfOk result (λ all. EachTo Kept owners.items all.items) }
     ensures grid { IfOk result (λ all. IsGrid (all_ends all.items)) }
     ensures together { IfOk result (λ all. (value : List ℕ → ℤ) (n : ℕ) → AreTogether value n owners.items → AreTogether value n all.items) }
     ensures refused { IfErr result (IsRefusal owners.items) }
@@ -201,7 +200,7 @@ fn is_spread(owner: &Owner) -> bool
 /// The least distance of a fresh board of any owner.
 fn least_due(owners: &[Owner]) -> Option<u32>
     ensures none { IsNone result → AreIdle owners.now }
-    ensures some { IfSome result (λ dist. (i : ℕ) (d : AnOwner) → i < length owners.now → All (λ f. dist ≤ due_dist f) (slice_index_or owners.now i d).part.fresh) }
+    ensures some { IfSome result (λ dist. All (λ (o : AnOwner). All (λ f. dist ≤ due_dist f) o.part.fresh) owners.now) }
 {
     let mut least = None;
     for owner in owners {

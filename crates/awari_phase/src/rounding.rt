@@ -1,7 +1,7 @@
 //! Rounds: all owners work, each in a thread of its own, or one after the other.
 
-ghost use Rattle.std.specs.Prelude.{◌≡◌, ◌<◌, ◌≤◌, ℕ, ℤ, List, IsNone, IfOk, IfErr, IfSome, slice_index_or, vec_len};
-ghost use Rattle.awari_lines.specs.Lines.{IsGrid};
+ghost use Rattle.std.specs.Prelude.{◌≡◌, ◌≤◌, ℕ, ℤ, List, IsNone, IfOk, IfErr, IfSome};
+ghost use Rattle.awari_lines.specs.Lines.{EachTo, IsGrid};
 ghost use Rattle.awari_table.specs.declared.TheConstants.{HIGHEST_LEVEL};
 ghost use Rattle.awari_phase.specs.Owners.{AreTogether, Kept, Swept, all_ends};
 ghost use Rattle.awari_phase.specs.PhaseFault.{AreWell, IsFirstFault, IsRefusal, IsWant, fault_of};
@@ -40,9 +40,8 @@ pub fn round<R: Threads + Wait + Sync, G: Gate + Sync>(
 ) -> Result<Vec<Owner>, PhaseFault>
     requires sweeps { (1 ≤ sweeps) × (sweeps ≤ 1000) }
     requires grid { IsGrid (all_ends owners.items) }
-    ensures len { IfOk result (λ all. vec_len all ≡ vec_len owners) }
-    ensures kept { IfOk result (λ all. (i : ℕ) (d : AnOwner) → i < vec_len owners → Kept (slice_index_or owners.items i d) (slice_index_or all.items i d)) }
-    ensures swept { IfOk result (λ all. (i : ℕ) (d : AnOwner) → i < vec_len owners → Swept (slice_index_or owners.items i d) (slice_index_or all.items i d)) }
+    ensures kept { IfOk result (λ all. EachTo Kept owners.items all.items) }
+    ensures swept { IfOk result (λ all. EachTo Swept owners.items all.items) }
     ensures grid { IfOk result (λ all. IsGrid (all_ends all.items)) }
     ensures together { IfOk result (λ all. (value : List ℕ → ℤ) (n : ℕ) → AreTogether value n owners.items → AreTogether value n all.items) }
     ensures refused { IfErr result (IsRefusal owners.items) }
@@ -64,9 +63,8 @@ pub(crate) fn round_in_turn<G: Gate>(
 ) -> Result<Vec<Owner>, PhaseFault>
     requires sweeps { (1 ≤ sweeps) × (sweeps ≤ 1000) }
     requires grid { IsGrid (all_ends owners.items) }
-    ensures len { IfOk result (λ all. vec_len all ≡ vec_len owners) }
-    ensures kept { IfOk result (λ all. (i : ℕ) (d : AnOwner) → i < vec_len owners → Kept (slice_index_or owners.items i d) (slice_index_or all.items i d)) }
-    ensures swept { IfOk result (λ all. (i : ℕ) (d : AnOwner) → i < vec_len owners → Swept (slice_index_or owners.items i d) (slice_index_or all.items i d)) }
+    ensures kept { IfOk result (λ all. EachTo Kept owners.items all.items) }
+    ensures swept { IfOk result (λ all. EachTo Swept owners.items all.items) }
     ensures grid { IfOk result (λ all. IsGrid (all_ends all.items)) }
     ensures together { IfOk result (λ all. (value : List ℕ → ℤ) (n : ℕ) → AreTogether value n owners.items → AreTogether value n all.items) }
     ensures refused { IfErr result (IsRefusal owners.items) }

@@ -1,9 +1,9 @@
 //! What the lines hold, once all owners are in one thread.
 
-ghost use Rattle.std.specs.Prelude.{◌≡◌, ◌≢◌, ◌<◌, ◌++◌, ◌↔◌, ℕ, [], length, map, slice_index_or, IsTrue};
-ghost use Rattle.awari_lines.specs.Lines.{IsGrid, LookedAt, NothingWaits, SameHistory, received_from, waiting_from, sent_to};
+ghost use Rattle.std.specs.Prelude.{◌≡◌, ◌<◌, ◌↔◌, length, map, slice_index_or, IsTrue};
+ghost use Rattle.awari_lines.specs.Lines.{EachTo, IsGrid, LookedAt, NoneWait, NothingWaits, SameHistory};
 ghost use Rattle.awari_lines.specs.declared.lines.Ends.{Ends as AnEnds};
-ghost use Rattle.awari_phase.specs.Owners.{all_ends, rest_of};
+ghost use Rattle.awari_phase.specs.Owners.{AreLooked, all_ends, rest_of};
 
 use crate::owners::Owner;
 
@@ -13,10 +13,10 @@ use crate::owners::Owner;
 pub fn settle_owners(all: &mut [Owner]) -> bool
     requires { IsGrid (all_ends all.old) }
     ensures grid { IsGrid (all_ends all.new) }
-    ensures same { (i : ℕ) (d : AnEnds) → i < length (all_ends all.old) → SameHistory (slice_index_or (all_ends all.old) i d) (slice_index_or (all_ends all.new) i d) }
+    ensures same { EachTo SameHistory (all_ends all.old) (all_ends all.new) }
     ensures rest { map rest_of all.new ≡ map rest_of all.old }
-    ensures exact { (i j : ℕ) (d : AnEnds) → i < length (all_ends all.old) → j < length (all_ends all.old) → i ≢ j → received_from (slice_index_or (all_ends all.new) i d) j ++ waiting_from (slice_index_or (all_ends all.new) i d) j ≡ sent_to (slice_index_or (all_ends all.new) j d) i }
-    ensures flag { IsTrue result ↔ ((i j : ℕ) (d : AnEnds) → i < length (all_ends all.old) → j < length (all_ends all.old) → i ≢ j → waiting_from (slice_index_or (all_ends all.new) i d) j ≡ []) }
+    ensures exact { AreLooked all.new }
+    ensures flag { IsTrue result ↔ NoneWait (all_ends all.new) }
 {
     let mut empty = true;
     for j in 0..all.len() {

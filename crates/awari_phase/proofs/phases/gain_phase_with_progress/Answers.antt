@@ -1,14 +1,13 @@
-use Rattle.std.proofs.Common.{◌≡◌, length, refl, ap, arith, inl}
+use Rattle.std.proofs.Common.{refl, inl}
 use Rattle.std.proofs.lemmas.Result.{err_from_is_err_and}
 use Rattle.awari_phase.specs.Owners.{AllGrown}
-use Rattle.awari_phase.proofs.Gaining.{all_grown_round, all_grown_trans, finished_grown}
+use Rattle.awari_phase.proofs.Gaining.{all_grown_kept, all_grown_trans, finished_grown}
 use Rattle.awari_phase.proofs.Worked.{written_back}
 use Rattle.awari_phase.proofs.phases.gain_phase_with_progress.Goals as goal
 
 pub loop-init : goal.loop-init
 loop-init g c = record {
-  grown =
-      all_grown_round c.args.owners.items c.in_ok-all.all.items c.args.owners.len c.in_ok-all.all.len c.args.owners.ok.0 c.in_ok-all.all.ok.0 c.in_ok-all.ensures.len c.in_ok-all.ensures.kept c.requires.grid;
+  grown = all_grown_kept c.args.owners.items c.in_ok-all.all.items c.in_ok-all.ensures.kept c.requires.grid;
   together = λ value n t. c.in_ok-all.ensures.together value n t;
 }
 
@@ -33,14 +32,12 @@ returns-in_default-clause-finished g c = λ value n finished.
 pub loop-preserved : goal.loop-preserved
 loop-preserved g c =
     let back = written_back c.loop.all.items c.as_mut_slice.result.now c.look_ahead.new.owners c.loop.all.len c.loop.all.ok.0 c.as_mut_slice.ensures.value c.look_ahead.auto.owners in
-    let same = ap length c.as_mut_slice.ensures.value in
     let looked : AllGrown c.loop.all.items c.look_ahead.new.owners = rw c.as_mut_slice.ensures.value at c.look_ahead.ensures.grown in
-    let many : c.loop.all.len ≡ length c.look_ahead.new.owners = omega (arith, same, c.loop.all.ok.0, c.look_ahead.auto.owners) in
     record {
       grown =
           all_grown_trans c.args.owners.items c.look_ahead.new.owners c.in_ok-all-2.all.items
           (all_grown_trans c.args.owners.items c.loop.all.items c.look_ahead.new.owners c.loop.invariant.grown looked)
-          (all_grown_round c.look_ahead.new.owners c.in_ok-all-2.all.items c.loop.all.len c.in_ok-all-2.all.len many c.in_ok-all-2.all.ok.0 c.in_ok-all-2.ensures.len (rw back at c.in_ok-all-2.ensures.kept) looked.grid);
+          (all_grown_kept c.look_ahead.new.owners c.in_ok-all-2.all.items (rw back at c.in_ok-all-2.ensures.kept) looked.grid);
       together = λ value n t. c.in_ok-all-2.ensures.together value n (rw back (c.look_ahead.ensures.together value n (rw c.as_mut_slice.ensures.value (c.loop.invariant.together value n t))));
     }
 

@@ -1,5 +1,5 @@
 use Rattle.std.proofs.Common.{refl}
-use Rattle.awari_phase.proofs.Worked.{together_kept, well_kept, worked_grid, written_worked}
+use Rattle.awari_phase.proofs.Worked.{together_kept, well_kept, well_swept, worked_grid, written_worked}
 use Rattle.awari_phase.proofs.rounding.round_in_turn.Goals as goal
 
 pub refused-requires-clause-grid : goal.refused-requires-clause-grid
@@ -10,10 +10,16 @@ pub returns-in-None-clause-grid : goal.returns-in-None-clause-grid
 returns-in-None-clause-grid g c =
     worked_grid c.args.owners.items _ (written_worked c.args.owners.items c.as_mut_slice.result.now c.work_in_turn.new.owners c.args.owners.len c.args.owners.ok.0 c.as_mut_slice.ensures.value c.work_in_turn.ensures) c.requires.grid
 
+pub returns-in-None-clause-kept : goal.returns-in-None-clause-kept
+returns-in-None-clause-kept g c =
+    well_kept c.args.owners.items _ c.as_slice.result.now c.as_slice.ensures.value (written_worked c.args.owners.items c.as_mut_slice.result.now c.work_in_turn.new.owners c.args.owners.len c.args.owners.ok.0 c.as_mut_slice.ensures.value c.work_in_turn.ensures) (c.in-None.ensures.none refl)
+
+pub returns-in-None-clause-swept : goal.returns-in-None-clause-swept
+returns-in-None-clause-swept g c =
+    well_swept c.args.owners.items _ c.as_slice.result.now c.as_slice.ensures.value (written_worked c.args.owners.items c.as_mut_slice.result.now c.work_in_turn.new.owners c.args.owners.len c.args.owners.ok.0 c.as_mut_slice.ensures.value c.work_in_turn.ensures) (c.in-None.ensures.none refl)
+
 pub returns-in-None-clause-together : goal.returns-in-None-clause-together
-returns-in-None-clause-together g c = λ value n together.
-    let worked = written_worked c.args.owners.items c.as_mut_slice.result.now c.work_in_turn.new.owners c.args.owners.len c.args.owners.ok.0 c.as_mut_slice.ensures.value c.work_in_turn.ensures in
-    together_kept value n c.args.owners.items _ worked.0 (well_kept c.args.owners.items _ c.as_slice.result.now c.as_slice.ensures.value worked (c.in-None.ensures.none refl)) together
+returns-in-None-clause-together g c = λ value n together. together_kept value n c.args.owners.items _ (returns-in-None-clause-kept g c) together
 
 pub returns-in-Some-clause-wanting : goal.returns-in-Some-clause-wanting
 returns-in-Some-clause-wanting g c = λ value n small together.

@@ -12,4 +12,4 @@ loop-i-preserved g c =
 pub returns : goal.returns
 returns g c =
     let high = c.loop-i-test.false in
-    (c.loop-i.invariant.many, done_all HasWorked c.args.owners.now c.loop-i.owners c.loop-i.i (omega (arith, high)) c.loop-i.invariant)
+    record { many = c.loop-i.invariant.many; each = done_all HasWorked c.args.owners.now c.loop-i.owners c.loop-i.i (omega (arith, high)) c.loop-i.invariant }

@@ -1,5 +1,5 @@
-use Rattle.std.proofs.Common.{rules, ◌≡◌, List, get_or, set, ap, sym, subst}
-use Rattle.awari_core.specs.Core.{CanSend, Core, MovesBatch, Sender, Sound, DoesSend, IsBetween, no_sender, sender_at}
+use Rattle.std.proofs.Common.{rules, List, set, sym, subst}
+use Rattle.awari_core.specs.Core.{CanSend, Core, MovesBatch, Sender, Sound, DoesSend, IsBetween, sender_at}
 use Rattle.awari_core.proofs.Effects.{as_many, core_of, not_true, same_sender, send_does, sender_was}
 use Rattle.awari_core.proofs.Steps.{send_step}
 use Rattle.awari_core.proofs.cores.Core.send.Goals as goal

@@ -1,4 +1,4 @@
-use Rattle.std.proofs.Common.{rules, ◌≡◌, List, length, set, sym, subst}
+use Rattle.std.proofs.Common.{rules, List, length, set, sym, subst}
 use Rattle.awari_table.specs.Images.{table_of}
 use Rattle.awari_block.specs.Part.{Part}
 use Rattle.awari_owner.specs.Sound.{RefusesNote, TakesNotes}
