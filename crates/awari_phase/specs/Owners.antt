@@ -189,3 +189,10 @@ pub record AreFinished (value : List ℕ → ℤ) (n : ℕ) (os : List Owner) : 
   pub level : All (λ (o : Owner). o.part.level ≡ n) os
   pub gain : (i : ℕ) (d : Owner) → i < length os → (slice_index_or os i d).part.gain ≡ (slice_index_or os 0 d).part.gain
   pub wave : AreInStep os
+
+-- owners that were together so are so still, and those that were finished
+abbrev pub StayTogether : List Owner → List Owner → Type 0
+StayTogether os ps = (value : List ℕ → ℤ) (n : ℕ) → AreTogether value n os → AreTogether value n ps
+
+abbrev pub StayFinished : List Owner → List Owner → Type 0
+StayFinished os ps = (value : List ℕ → ℤ) (n : ℕ) → AreFinished value n os → AreFinished value n ps

@@ -1,13 +1,14 @@
 -- Why a round is refused: the faults' numbers, what is printed of them, and which is told.
-use Rattle.std.specs.Prelude.{◌≡◌, ℕ, ◌<◌, List, ◌++◌, All, Some, None, codes, slice_index_or}
+use Rattle.std.specs.Prelude.{◌≡◌, ℕ, ℤ, ◌<◌, ◌≤◌, List, ◌++◌, All, Some, None, codes, slice_index_or}
 use Rattle.std.specs.Fmt.{decimal}
 use Rattle.awari_owner.specs.OwnerFault.{fault_text as owner_fault_text}
 use Rattle.awari_owner.specs.declared.faults.OwnerFault.{OwnerFault}
 use Rattle.awari_owner.specs.declared.faults.OwnerFault.TheVariants as owner_fault
+use Rattle.awari_table.specs.declared.TheConstants.{HIGHEST_LEVEL}
 use Rattle.awari_phase.specs.declared.owners.Owner.{Owner}
 use Rattle.awari_phase.specs.declared.faults.PhaseFault.{PhaseFault}
 use Rattle.awari_phase.specs.declared.faults.PhaseFault.TheVariants.{NotStarted, Memory, BadNote, Stopped}
-use Rattle.awari_phase.specs.Owners.{AllGrown}
+use Rattle.awari_phase.specs.Owners.{AllGrown, AreTogether}
 use Rattle.awari_phase.specs.Stops.{HaveWorked}
 
 -- the number of each fault
@@ -51,6 +52,10 @@ IsWant NotStarted = Unit {0}
 IsWant Memory = Unit {0}
 IsWant (BadNote owner fault) = ⊥
 IsWant Stopped = ⊥
+
+-- this holds of the fault if these owners of a level were sound together
+abbrev pub IfTogether : List Owner → (PhaseFault → Type 0) → PhaseFault → Type 0
+IfTogether owners Holds fault = (value : List ℕ → ℤ) (n : ℕ) → n ≤ HIGHEST_LEVEL → AreTogether value n owners → Holds fault
 
 -- the level was not wanted any more, for which this holds
 abbrev pub IsStop : Type 0 → PhaseFault → Type 0

@@ -1,9 +1,9 @@
 //! The next gain, or the next distance, opened in all parts.
 
-ghost use Rattle.std.specs.Prelude.{◌≡◌, ◌≤◌, ℕ, ℤ, All, List, []};
+ghost use Rattle.std.specs.Prelude.{◌≡◌, ◌≤◌, All, []};
 ghost use Rattle.awari_lines.specs.Lines.{EachTo, IsGrid};
 ghost use Rattle.awari_block.specs.Blocks.{due_dist};
-ghost use Rattle.awari_phase.specs.Owners.{AllGrown, AreFinished, AreIdle, AreReceived, AreSent, AreTogether, OpensNext, OpensWave, all_ends};
+ghost use Rattle.awari_phase.specs.Owners.{AllGrown, AreIdle, AreReceived, AreSent, OpensNext, OpensWave, StayFinished, StayTogether, all_ends};
 ghost use Rattle.awari_phase.specs.declared.owners.Owner.{Owner as AnOwner};
 
 use crate::owners::Owner;
@@ -18,7 +18,7 @@ pub fn open_gain<R: Threads + Sync>(rt: &R, owners: &mut [Owner])
     requires sent { AreSent owners.old }
     requires received { AreReceived owners.old }
     requires greater { All (λ (o : AnOwner). 2 ≤ o.part.gain) owners.old }
-    ensures finished { (value : List ℕ → ℤ) (n : ℕ) → AreFinished value n owners.old → AreFinished value n owners.new }
+    ensures finished { StayFinished owners.old owners.new }
     ensures each { EachTo OpensNext owners.old owners.new }
 {
     par_for_each_mut(
@@ -48,7 +48,7 @@ pub(crate) fn open_waves(owners: &mut [Owner], dist: u32)
     requires received { AreReceived owners.old }
     requires nearest { All (λ (o : AnOwner). All (λ f. dist ≤ due_dist f) o.part.fresh) owners.old }
     ensures grown { AllGrown owners.old owners.new }
-    ensures together { (value : List ℕ → ℤ) (n : ℕ) → AreTogether value n owners.old → AreTogether value n owners.new }
+    ensures together { StayTogether owners.old owners.new }
 {
     for i in 0..owners.len() {
         open_wave(&mut owners[i], dist);

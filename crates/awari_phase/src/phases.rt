@@ -1,13 +1,12 @@
 //! Rounds, until a gain is closed.
 
-ghost use Rattle.std.specs.Prelude.{◌≡◌, ◌⊎◌, ◌≤◌, ℕ, ℤ, All, List, IsTrue, IsNone, IfSome, IfOk, IfErr, []};
+ghost use Rattle.std.specs.Prelude.{◌≡◌, ◌⊎◌, ◌≤◌, All, IsTrue, IsNone, IfSome, IfOk, IfErr, []};
 ghost use Rattle.awari_lines.specs.Lines.{EachTo, IsGrid};
 ghost use Rattle.awari_block.specs.Blocks.{due_dist};
-ghost use Rattle.awari_phase.specs.Owners.{AllGrown, AreFinished, AreIdle, AreReceived, AreSent, AreTogether, Kept, all_ends};
-ghost use Rattle.awari_phase.specs.PhaseFault.{IsPhaseRefusal, IsRefusal, IsStop, IsWant};
+ghost use Rattle.awari_phase.specs.Owners.{AllGrown, AreIdle, AreReceived, AreSent, Kept, StayFinished, StayTogether, all_ends};
+ghost use Rattle.awari_phase.specs.PhaseFault.{IfTogether, IsPhaseRefusal, IsRefusal, IsStop, IsWant};
 ghost use Rattle.awari_phase.specs.declared.owners.Owner.{Owner as AnOwner};
 ghost use Rattle.awari_phase.specs.declared.phases.Standing.{Standing};
-ghost use Rattle.awari_table.specs.declared.TheConstants.{HIGHEST_LEVEL};
 
 use crate::faults::PhaseFault;
 use crate::gates::Gate;
@@ -55,9 +54,9 @@ pub fn gain_phase<R: Threads + Wait + Sync, G: Gate + Sync>(
     ensures idle { IfOk result (λ all. AreIdle all.items) }
     ensures sent { IfOk result (λ all. AreSent all.items) }
     ensures received { IfOk result (λ all. AreReceived all.items) }
-    ensures finished { IfOk result (λ all. (value : List ℕ → ℤ) (n : ℕ) → AreFinished value n owners.items → AreFinished value n all.items) }
+    ensures finished { IfOk result (λ all. StayFinished owners.items all.items) }
     ensures refused { IfErr result (IsPhaseRefusal owners.items) }
-    ensures wanting { IfErr result (λ fault. (value : List ℕ → ℤ) (n : ℕ) → n ≤ HIGHEST_LEVEL → AreTogether value n owners.items → IsWant fault) }
+    ensures wanting { IfErr result (IfTogether owners.items IsWant) }
 {
     gain_phase_with_progress(rt, owners, gate, sweeps, &mut Silent)
 }
@@ -77,9 +76,9 @@ pub fn gain_phase_with_progress<R: Threads + Wait + Sync, G: Gate + Sync, P: Pro
     ensures idle { IfOk result (λ all. AreIdle all.items) }
     ensures sent { IfOk result (λ all. AreSent all.items) }
     ensures received { IfOk result (λ all. AreReceived all.items) }
-    ensures finished { IfOk result (λ all. (value : List ℕ → ℤ) (n : ℕ) → AreFinished value n owners.items → AreFinished value n all.items) }
+    ensures finished { IfOk result (λ all. StayFinished owners.items all.items) }
     ensures refused { IfErr result (λ fault. IsPhaseRefusal owners.items fault ⊎ IsStop P.stops fault) }
-    ensures wanting { IfErr result (λ fault. (value : List ℕ → ℤ) (n : ℕ) → n ≤ HIGHEST_LEVEL → AreTogether value n owners.items → IsWant fault ⊎ IsStop P.stops fault) }
+    ensures wanting { IfErr result (IfTogether owners.items (λ fault. IsWant fault ⊎ IsStop P.stops fault)) }
 {
     let mut all = next_round(rt, owners, gate, sweeps, false)?;
     let mut in_turn = false;
@@ -103,7 +102,7 @@ pub fn gain_phase_with_progress<R: Threads + Wait + Sync, G: Gate + Sync, P: Pro
 fn look_ahead(owners: &mut [Owner], in_turn: bool) -> Option<bool>
     requires { IsGrid (all_ends owners.old) }
     ensures grown { AllGrown owners.old owners.new }
-    ensures together { (value : List ℕ → ℤ) (n : ℕ) → AreTogether value n owners.old → AreTogether value n owners.new }
+    ensures together { StayTogether owners.old owners.new }
     ensures idle { IsNone result → AreIdle owners.new }
     ensures sent { IsNone result → AreSent owners.new }
     ensures received { IsNone result → AreReceived owners.new }
@@ -131,9 +130,9 @@ fn next_round<R: Threads + Wait + Sync, G: Gate + Sync>(
     requires grid { IsGrid (all_ends owners.items) }
     ensures kept { IfOk result (λ all. EachTo Kept owners.items all.items) }
     ensures grid { IfOk result (λ all. IsGrid (all_ends all.items)) }
-    ensures together { IfOk result (λ all. (value : List ℕ → ℤ) (n : ℕ) → AreTogether value n owners.items → AreTogether value n all.items) }
+    ensures together { IfOk result (λ all. StayTogether owners.items all.items) }
     ensures refused { IfErr result (IsRefusal owners.items) }
-    ensures wanting { IfErr result (λ fault. (value : List ℕ → ℤ) (n : ℕ) → n ≤ HIGHEST_LEVEL → AreTogether value n owners.items → IsWant fault) }
+    ensures wanting { IfErr result (IfTogether owners.items IsWant) }
 {
     if in_turn || owners.len() == 1 {
         return round_in_turn(owners, gate, sweeps.min(SWEEPS_IN_TURN));
@@ -169,7 +168,7 @@ fn settled_boards(owners: &[Owner]) -> usize {
 fn look(owners: &mut [Owner]) -> Standing
     requires { IsGrid (all_ends owners.old) }
     ensures grown { AllGrown owners.old owners.new }
-    ensures together { (value : List ℕ → ℤ) (n : ℕ) → AreTogether value n owners.old → AreTogether value n owners.new }
+    ensures together { StayTogether owners.old owners.new }
     ensures sent { result ≡ Standing.Done → AreSent owners.new }
     ensures received { result ≡ Standing.Done → AreReceived owners.new }
 {

@@ -3,8 +3,8 @@
 ghost use Rattle.std.specs.Prelude.{◌≡◌, ◌≤◌, ℕ, ℤ, List, IsNone, IfOk, IfErr, IfSome};
 ghost use Rattle.awari_lines.specs.Lines.{EachTo, IsGrid};
 ghost use Rattle.awari_table.specs.declared.TheConstants.{HIGHEST_LEVEL};
-ghost use Rattle.awari_phase.specs.Owners.{AreTogether, Kept, Swept, all_ends};
-ghost use Rattle.awari_phase.specs.PhaseFault.{AreWell, IsFirstFault, IsRefusal, IsWant, fault_of};
+ghost use Rattle.awari_phase.specs.Owners.{AreTogether, Kept, StayTogether, Swept, all_ends};
+ghost use Rattle.awari_phase.specs.PhaseFault.{AreWell, IfTogether, IsFirstFault, IsRefusal, IsWant, fault_of};
 ghost use Rattle.awari_phase.specs.Stops.{HaveWorked};
 ghost use Rattle.awari_phase.specs.declared.owners.Owner.{Owner as AnOwner};
 
@@ -43,9 +43,9 @@ pub fn round<R: Threads + Wait + Sync, G: Gate + Sync>(
     ensures kept { IfOk result (λ all. EachTo Kept owners.items all.items) }
     ensures swept { IfOk result (λ all. EachTo Swept owners.items all.items) }
     ensures grid { IfOk result (λ all. IsGrid (all_ends all.items)) }
-    ensures together { IfOk result (λ all. (value : List ℕ → ℤ) (n : ℕ) → AreTogether value n owners.items → AreTogether value n all.items) }
+    ensures together { IfOk result (λ all. StayTogether owners.items all.items) }
     ensures refused { IfErr result (IsRefusal owners.items) }
-    ensures wanting { IfErr result (λ fault. (value : List ℕ → ℤ) (n : ℕ) → n ≤ HIGHEST_LEVEL → AreTogether value n owners.items → IsWant fault) }
+    ensures wanting { IfErr result (IfTogether owners.items IsWant) }
 {
     let all = start_each(rt, owners, gate, sweeps)?;
     match first_fault(all.as_slice()) {
@@ -66,9 +66,9 @@ pub(crate) fn round_in_turn<G: Gate>(
     ensures kept { IfOk result (λ all. EachTo Kept owners.items all.items) }
     ensures swept { IfOk result (λ all. EachTo Swept owners.items all.items) }
     ensures grid { IfOk result (λ all. IsGrid (all_ends all.items)) }
-    ensures together { IfOk result (λ all. (value : List ℕ → ℤ) (n : ℕ) → AreTogether value n owners.items → AreTogether value n all.items) }
+    ensures together { IfOk result (λ all. StayTogether owners.items all.items) }
     ensures refused { IfErr result (IsRefusal owners.items) }
-    ensures wanting { IfErr result (λ fault. (value : List ℕ → ℤ) (n : ℕ) → n ≤ HIGHEST_LEVEL → AreTogether value n owners.items → IsWant fault) }
+    ensures wanting { IfErr result (IfTogether owners.items IsWant) }
 {
     work_in_turn(owners.as_mut_slice(), gate, sweeps);
     match first_fault(owners.as_slice()) {

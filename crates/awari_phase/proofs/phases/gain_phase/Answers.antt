@@ -1,15 +1,8 @@
-use Rattle.std.proofs.Common.{◌⊎◌, ℕ, ℤ, ◌≤◌, List, inl, inr}
+use Rattle.std.proofs.Common.{◌⊎◌, inl, inr}
 use Rattle.std.proofs.lemmas.Result.{IfErr-weaker}
-use Rattle.awari_phase.specs.Owners.{AreTogether}
-use Rattle.awari_phase.specs.PhaseFault.{IsStop, IsWant}
+use Rattle.awari_phase.specs.PhaseFault.{IfTogether, IsStop, IsWant}
 use Rattle.awari_phase.specs.declared.faults.PhaseFault.{PhaseFault}
-use Rattle.awari_phase.specs.declared.owners.Owner.{Owner}
-use Rattle.awari_table.specs.declared.TheConstants.{HIGHEST_LEVEL}
 use Rattle.awari_phase.proofs.phases.gain_phase.Goals as goal
-
--- what is said of a refusal if the owners were sound together
-abbrev IfTogether : List Owner → (PhaseFault → Type 0) → PhaseFault → Type 0
-IfTogether owners K fault = (value : List ℕ → ℤ) (n : ℕ) → n ≤ HIGHEST_LEVEL → AreTogether value n owners → K fault
 
 never : (K : Type 0) (fault : PhaseFault) → K ⊎ IsStop ⊥ fault → K
 never K fault (inl told) = told
