@@ -14,8 +14,6 @@ mod documents;
 #[cfg(test)]
 mod examples;
 #[cfg(test)]
-mod expect;
-#[cfg(test)]
 mod files;
 #[cfg(test)]
 mod levels;

@@ -9,8 +9,6 @@ mod calls;
 #[cfg(test)]
 mod examples;
 #[cfg(test)]
-mod expect;
-#[cfg(test)]
 mod folders;
 #[cfg(test)]
 mod levels;

@@ -16,8 +16,6 @@ mod drawing;
 #[cfg(test)]
 mod examples;
 #[cfg(test)]
-mod expect;
-#[cfg(test)]
 mod grids;
 #[cfg(test)]
 mod lines;

@@ -7,8 +7,6 @@ mod deceits;
 #[cfg(test)]
 mod examples;
 #[cfg(test)]
-mod expect;
-#[cfg(test)]
 mod moves;
 #[cfg(test)]
 mod numbering;
