@@ -2,3 +2,4 @@ pub mod JudgeLaws
 pub mod FolderLaws
 pub mod TextLaws
 pub mod PrintLaws
+pub mod LevelLineLaws

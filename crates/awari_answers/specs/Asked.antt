@@ -1,4 +1,4 @@
--- The commands that ask the levels in a folder about one board.
+-- The levels in a folder, and the commands that ask them about one board.
 use Rattle.std.specs.Prelude.{◌≡◌, ℕ, List, Option, min, sum}
 use Rattle.awari_board.specs.BoardFault.{fault_text as board_fault_text}
 use Rattle.awari_board.specs.Rules.{IsBoard}
@@ -13,12 +13,15 @@ use Rattle.awari_table.specs.declared.images.Image.{Image}
 use Rattle.awari_answers.specs.declared.asked.NoAnswer.{NoAnswer}
 use Rattle.awari_answers.specs.declared.asked.NoAnswer.TheVariants.{Board, Folder, NotYet, Line}
 
--- The text spells this board, and these are right levels: those up to the board's that the folder stores, where it is known what
--- its names have.
-pub record IsAsked (stands : ℕ → Option (Option (List ℕ))) (text : List ℕ) (images : List Image) (board : List ℕ) : Type 0 where
+-- These are right levels: those up to this one that the folder stores, where it is known what its names have.
+pub record AreLevelsTo (most : ℕ) (stands : ℕ → Option (Option (List ℕ))) (images : List Image) : Type 0 where
   pub digest : List ℕ
-  pub stored : IsStoredToIn (min (sum board) HIGHEST_LEVEL) stands images digest
+  pub stored : IsStoredToIn most stands images digest
   pub right : IsShelf images
+
+-- The text spells this board, and these are the levels up to the board's.
+pub record IsAsked (stands : ℕ → Option (Option (List ℕ))) (text : List ℕ) (images : List Image) (board : List ℕ) : Type 0 where
+  pub levels : AreLevelsTo (min (sum board) HIGHEST_LEVEL) stands images
   pub whole : IsBoard board
   pub spelled : text ≡ text_of board
 

@@ -5,3 +5,4 @@ pub mod Folders
 pub mod Lines
 pub mod Worths
 pub mod Texts
+pub mod LevelLines

@@ -8,10 +8,11 @@ ghost use Rattle.awari_folder.specs.Contents.{Same};
 ghost use Rattle.awari_answers.specs.Asked.{IsAsked};
 ghost use Rattle.awari_answers.specs.declared.asked.NoAnswer.TheVariants as no_answer;
 
+use crate::levels::load_levels;
 use awari_board::{Board, BoardFault, one_board_fault_is_due};
-use awari_folder::{Folder, FolderFault, Together, load};
+use awari_folder::{Folder, FolderFault};
 use awari_play::LineFault;
-use awari_table::{HIGHEST_LEVEL, NotYet, Shelf};
+use awari_table::{NotYet, Shelf};
 use std::alloc::Global;
 use std::fmt;
 use std::thread::Threads;
@@ -86,7 +87,7 @@ impl fmt::Display for NoAnswer {
 
 /// The board that `text` spells, and the levels in the folder up to the board's. Files of higher levels
 /// are not read. The text is read before the folder. If it is not a board, it is refused for that,
-/// whatever the folder holds. It takes the memory that `load` takes.
+/// whatever the folder holds. It takes the memory that [`load_levels`] takes.
 pub fn ask_folder<T: Threads + Sync, F: Folder>(
     rt: &T,
     folder: &mut F,
@@ -100,9 +101,6 @@ pub fn ask_folder<T: Threads + Sync, F: Folder>(
     // Ghost: a text has at most one fault.
     one_board_fault_is_due();
     let board = Board::parse(text)?;
-    let most = board.stones().min(HIGHEST_LEVEL);
-    let shelf = load(&Together(rt), alloc, folder, most)?.shelf;
-    // For the proof: the levels are a shelf.
-    let _levels = shelf.levels();
+    let shelf = load_levels(rt, folder, alloc, board.stones())?;
     Ok(Asked { board, shelf })
 }

@@ -18,16 +18,20 @@
 mod asked;
 mod folders;
 mod judgements;
+mod levels;
 mod lines;
 mod playing;
 mod printing;
+mod telling;
 mod texts;
 mod worths;
 
 pub use folders::{Summary, run_ask, run_verify};
 pub use judgements::{JudgeFault, Judgement, judge};
+pub use levels::load_levels;
 pub use lines::run_line;
 pub use playing::{PlayFault, Played, play_on};
 pub use printing::{Refused, print, print_bytes, refuse, status_of};
+pub use telling::{LevelLine, line_of_level};
 pub use texts::run_text;
 pub use worths::run_moves;

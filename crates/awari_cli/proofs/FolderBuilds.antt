@@ -8,7 +8,8 @@ use Rattle.awari_folder.specs.Migration.{KeepsFiles}
 use Rattle.awari_play.specs.Least.{HasLowestPlans}
 use Rattle.awari_table.specs.Shelves.{IsShelf}
 use Rattle.awari_table.specs.declared.images.Image.{Image}
-use Rattle.awari_cli.specs.Building.{KeepsLevels, PrintsAllLevels, PrintsLevels, SameOutside, LeavesFiles, level_lines}
+use Rattle.awari_answers.specs.LevelLines.{level_lines}
+use Rattle.awari_cli.specs.Building.{KeepsLevels, PrintsAllLevels, PrintsLevels, SameOutside, LeavesFiles}
 
 name_is : (stand : Option (Option (List ℕ))) (name : Option (List ℕ)) (P : Option (List ℕ) → Type 0) → stand ≡ Some name → IfSome stand P → P name
 name_is None name P is holds = absurd cc

@@ -1,48 +1,16 @@
 -- The command `build`: what is printed of the levels that were built.
-use Rattle.std.specs.Prelude.{◌≡◌, ◌<◌, ◌≤◌, ◌⊎◌, ◌+◌, ℕ, List, ◌++◌, ◌∷◌, [], length, codes, Option, Some, None}
-use Rattle.std.specs.Fmt.{decimal}
-use Rattle.std.specs.List.{flat_map}
+use Rattle.std.specs.Prelude.{◌≡◌, ◌<◌, ◌≤◌, ◌⊎◌, ◌+◌, ℕ, List, ◌++◌, length, Option, Some, None}
 use Rattle.std.specs.Io.KnownBytes.{Appends}
+use Rattle.awari_answers.specs.LevelLines.{level_lines}
 use Rattle.awari_build.specs.BuildFault.{fault_text as build_fault_text}
 use Rattle.awari_folder.specs.FolderFault.{fault_text as folder_fault_text}
-use Rattle.awari_table.specs.Images.{won_boards, even_boards, lost_boards}
 use Rattle.awari_play.specs.Least.{HasLowestPlans}
 use Rattle.awari_table.specs.Shelves.{IsShelf}
-use Rattle.awari_table.specs.declared.images.Counts.{Counts}
 use Rattle.awari_table.specs.declared.images.Image.{Image}
 use Rattle.awari_folder.specs.Contents.{AreNames, HoldsIn, IsStored, LeavesNoMore, Same, nothing_known}
 use Rattle.awari_folder.specs.Migration.{IsWholeFile}
-use Rattle.awari_cli.specs.declared.building.BuiltLevel.{BuiltLevel}
 use Rattle.awari_cli.specs.declared.building.BuildingFault.{BuildingFault}
 use Rattle.awari_cli.specs.declared.building.BuildingFault.TheVariants.{Build, Folder}
-
--- what is told of a level
-pub record IsToldOf (image : Image) (told : BuiltLevel) : Type 0 where
-  pub level : told.level ≡ image.level
-  pub boards : told.boards ≡ length image.entries
-  pub won : told.counts.won ≡ won_boards image.entries
-  pub even : told.counts.even ≡ even_boards image.entries
-  pub lost : told.counts.lost ≡ lost_boards image.entries
-  pub limit : told.limit ≡ image.limit
-
-abbrev pub shares_text : Counts → List ℕ
-shares_text counts = codes "won " ++ decimal counts.won ++ codes " even " ++ decimal counts.even ++ codes " lost " ++ decimal counts.lost
-
-abbrev pub told_text : BuiltLevel → List ℕ
-told_text told = codes "level " ++ decimal told.level ++ codes " boards " ++ decimal told.boards ++ codes " " ++ shares_text told.counts ++ codes " limit " ++ decimal told.limit
-
--- the line of a level
-unfoldable pub level_line : Image → List ℕ
-level_line image = told_text (record {
-  level = image.level;
-  boards = length image.entries;
-  counts = record { won = won_boards image.entries; even = even_boards image.entries; lost = lost_boards image.entries };
-  limit = image.limit;
-})
-
--- the lines of levels, each ended by a line feed
-abbrev pub level_lines : List Image → List ℕ
-level_lines images = flat_map (λ image. level_line image ++ 10 ∷ []) images
 
 -- the fault inside it
 abbrev pub building_fault_text : BuildingFault → List ℕ

@@ -9,16 +9,16 @@ ghost use Rattle.awari_play.specs.Least.{HasLowestPlans, IsPlannedLowest};
 ghost use Rattle.awari_table.specs.Shelves.{Consistent, IsShelf};
 ghost use Rattle.awari_folder.specs.Contents.{AreNames, HoldsIn, Same, SameBut};
 ghost use Rattle.awari_folder.specs.Migration.{KeepsFiles};
-ghost use Rattle.awari_cli.specs.Building.{IsToldOf, KeepsLevels, LeavesFiles, PrintsAllLevels, PrintsLevels, SameOutside, level_lines};
+ghost use Rattle.awari_answers.specs.LevelLines.{IsToldOf, level_lines};
+ghost use Rattle.awari_cli.specs.Building.{KeepsLevels, LeavesFiles, PrintsAllLevels, PrintsLevels, SameOutside};
 ghost use Rattle.awari_cli.specs.declared.building.BuildingFault.TheVariants as building_fault;
 
-use awari_answers::{Refused, print, refuse};
+use awari_answers::{LevelLine, Refused, line_of_level, print, refuse};
 use awari_build::{BuildFault, Pace, build_level_with_progress, build_together_with_progress};
 use awari_folder::{Folder, FolderFault, Together, load, save_or_keep};
 use awari_phase::{Open, Progress};
 use awari_play::lowest_plans_stay;
-use awari_rank::size;
-use awari_table::{Counts, HIGHEST_LEVEL, Level, Shelf};
+use awari_table::{HIGHEST_LEVEL, Level, Shelf};
 use std::alloc::{AllocFailed, Global};
 use std::fmt;
 use std::io::Write;
@@ -34,49 +34,6 @@ pub struct Builder<'a, T, P> {
     pub threads: usize,
     pub pace: Pace,
     pub progress: &'a mut P,
-}
-
-/// What is printed of a level that was built: its line, without the line feed.
-#[derive(Clone, Copy)]
-struct BuiltLevel {
-    level: u8,
-    boards: u32,
-    counts: Counts,
-    limit: u32,
-}
-
-impl fmt::Display for BuiltLevel {
-    ghost use Rattle.std.specs.Prelude.{Some};
-    ghost use Rattle.awari_cli.specs.Building.{told_text};
-
-    ghost output = { λ told. Some (told_text told) };
-
-    fn fmt<W: fmt::Write>(&self, f: &mut fmt::Formatter<W>) -> fmt::Result {
-        let BuiltLevel {
-            level,
-            boards,
-            counts,
-            limit,
-        } = *self;
-        let shares = Shares(counts);
-        write!(f, "level {level} boards {boards} {shares} limit {limit}")
-    }
-}
-
-/// How many boards are won, even and lost.
-#[derive(Clone, Copy)]
-struct Shares(Counts);
-
-impl fmt::Display for Shares {
-    ghost use Rattle.std.specs.Prelude.{Some};
-    ghost use Rattle.awari_cli.specs.Building.{shares_text};
-
-    ghost output = { λ shares. Some (shares_text shares.0) };
-
-    fn fmt<W: fmt::Write>(&self, f: &mut fmt::Formatter<W>) -> fmt::Result {
-        let Counts { won, even, lost } = self.0;
-        write!(f, "won {won} even {even} lost {lost}")
-    }
 }
 
 /// Why a level is not built, or not saved. It is printed as the fault inside it.
@@ -239,14 +196,14 @@ fn build_up_in<T: Threads + Wait + Sync, P: Progress, F: Folder, W: Write>(
 fn build_next<T: Threads + Wait + Sync, P: Progress>(
     builder: &mut Builder<'_, T, P>,
     shelf: &mut Shelf,
-) -> Result<BuiltLevel, BuildingFault>
+) -> Result<LevelLine, BuildingFault>
     ensures built { IfOk result (λ told. (image : Image) × (shelf.new ≡ shelf.old ++ image ∷ []) × IsToldOf image told) }
     ensures planned { OnOk result (HasLowestPlans shelf.old → HasLowestPlans shelf.new) }
 {
     // Ghost: the plans stay the lowest.
     lowest_plans_stay();
     let level = built_level(builder, shelf)?;
-    let told = told_of(&level);
+    let told = line_of_level(&level);
     shelf.push(level);
     Ok(told)
 }
@@ -258,7 +215,7 @@ fn save_next<T: Threads + Wait + Sync, P: Progress, F: Folder>(
     folder: &mut F,
     shelf: &mut Shelf,
     digest: &mut [u8; 32],
-) -> Result<BuiltLevel, BuildingFault>
+) -> Result<LevelLine, BuildingFault>
     ensures built { IfOk result (λ told. (image : Image) × (shelf.new ≡ shelf.old ++ image ∷ []) × IsToldOf image told) }
     ensures planned { OnOk result (HasLowestPlans shelf.old → HasLowestPlans shelf.new) }
     ensures holds { HoldsIn (F.state folder.old).stands shelf.old digest.old → OnOk result (HoldsIn (F.state folder.new).stands shelf.new digest.new) }
@@ -273,7 +230,7 @@ fn save_next<T: Threads + Wait + Sync, P: Progress, F: Folder>(
     let level = built_level(builder, shelf)?;
     let own = save_or_keep(folder, &level, *digest)?;
     *digest = own;
-    let told = told_of(&level);
+    let told = line_of_level(&level);
     shelf.push(level);
     Ok(told)
 }
@@ -302,16 +259,4 @@ fn built_level<T: Threads + Wait + Sync, P: Progress>(
     };
     let shared = Arc::new(builder.alloc, level)?;
     Ok(shared)
-}
-
-/// What is printed of the level.
-fn told_of(level: &Level) -> BuiltLevel
-    ensures { IsToldOf level.now result }
-{
-    BuiltLevel {
-        level: level.number(),
-        boards: size(level.number()),
-        counts: level.counts(),
-        limit: level.limit(),
-    }
 }

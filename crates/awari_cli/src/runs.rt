@@ -25,6 +25,9 @@ use awari_build::Pace;
 use awari_check::check_input;
 use awari_folder::HostFolder;
 use awari_phase::{Progress, Silent};
+use awari_questions::{
+    BoardsQuery, run_all_boards, run_board, run_boards, run_counts, run_plays, run_rank,
+};
 use awari_table::Counted;
 use awari_words::{Request, request_of};
 use rayon::current_num_threads;
@@ -117,9 +120,21 @@ fn run_request<
             let mut folder = folder_to_read(rt, alloc, folder, errors);
             run_verify(rt, &mut folder, alloc, writer)
         }
-        Request::Text { folder, level } => {
+        Request::Text {
+            folder,
+            level,
+            boards: false,
+        } => {
             let mut folder = folder_to_read(rt, alloc, folder, errors);
             run_text(rt, &mut folder, alloc, level, writer)
+        }
+        Request::Text {
+            folder,
+            level,
+            boards: true,
+        } => {
+            let mut folder = folder_to_read(rt, alloc, folder, errors);
+            run_all_boards(rt, &mut folder, alloc, level, writer)
         }
         Request::Migrate { from, to } => {
             let mut from = folder_to_read(rt, alloc, from, errors);
@@ -145,6 +160,33 @@ fn run_request<
         } => {
             let mut folder = folder_to_read(rt, alloc, folder, errors);
             run_serve(rt, &mut folder, alloc, top, owners, reader, writer)
+        }
+        Request::Rank { board } => run_rank(board, writer),
+        Request::Board { level, rank } => run_board(level, rank, writer),
+        Request::Plays { board, plies } => run_plays(board, plies, writer),
+        Request::Counts { folder, level } => {
+            let mut folder = folder_to_read(rt, alloc, folder, errors);
+            run_counts(rt, &mut folder, alloc, level, writer)
+        }
+        Request::Boards {
+            folder,
+            level,
+            value,
+            distance,
+            farthest,
+            every,
+            count,
+        } => {
+            let mut folder = folder_to_read(rt, alloc, folder, errors);
+            let query = BoardsQuery {
+                level,
+                value,
+                distance,
+                farthest,
+                every,
+                count,
+            };
+            run_boards(rt, &mut folder, alloc, &query, writer)
         }
     }
 }

@@ -4,7 +4,7 @@
 //! |---|---|
 //! | `PLAYED` | docs/RULES.md; the last also docs/MANUAL.md |
 //! | `JUDGED` | docs/RULES.md; the second also docs/MANUAL.md |
-//! | `RANKED`, `SIZES` | docs/RULES.md |
+//! | `RANKED`, `SIZES`, `COUNTED` | docs/RULES.md |
 //! | `README` | README.md; the first build and `moves` also docs/MANUAL.md |
 //!
 //! What else docs/MANUAL.md shows is tested by `commands`, `levels`, `files`, `texts`, `migrations`,
@@ -20,6 +20,8 @@ use awari_table::HIGHEST_LEVEL;
 use std::io;
 use std::process::Abort;
 use std::test::Fail;
+
+const START: &str = "4,4,4,4,4,4/4,4,4,4,4,4";
 
 /// Boards of docs/RULES.md, and a pit that is played there. The pictures show the boards before they
 /// are turned.
@@ -154,4 +156,59 @@ const README: [Line; 4] = [
 #[test]
 fn the_readme_is_right_of_its_board(rt: HostRuntime) -> io::Result<()> {
     expect_in_folder(&rt, FOLDER, &README)
+}
+
+/// How many plays there are from the board at the start, of which a program that shares nothing with
+/// this one says the same.
+const COUNTED: [Line; 9] = [
+    (
+        &["awari", "plays", START, "0"],
+        "plays 1 captures 0 ends 0\n",
+        0,
+    ),
+    (
+        &["awari", "plays", START, "1"],
+        "plays 6 captures 0 ends 0\n",
+        0,
+    ),
+    (
+        &["awari", "plays", START, "2"],
+        "plays 36 captures 0 ends 0\n",
+        0,
+    ),
+    (
+        &["awari", "plays", START, "3"],
+        "plays 190 captures 0 ends 0\n",
+        0,
+    ),
+    (
+        &["awari", "plays", START, "4"],
+        "plays 1014 captures 89 ends 0\n",
+        0,
+    ),
+    (
+        &["awari", "plays", START, "5"],
+        "plays 5219 captures 401 ends 0\n",
+        0,
+    ),
+    (
+        &["awari", "plays", START, "6"],
+        "plays 27332 captures 5264 ends 0\n",
+        0,
+    ),
+    (
+        &["awari", "plays", START, "7"],
+        "plays 139157 captures 23308 ends 0\n",
+        0,
+    ),
+    (
+        &["awari", "plays", START, "8"],
+        "plays 711414 captures 134359 ends 0\n",
+        0,
+    ),
+];
+
+#[test]
+fn plays_are_counted_as_the_rules_say(rt: HostRuntime) {
+    expect_lines(&rt, rt.alloc(), &COUNTED);
 }

@@ -26,6 +26,8 @@ mod plays;
 #[cfg(test)]
 mod progress;
 #[cfg(test)]
+mod questions;
+#[cfg(test)]
 mod refusals;
 #[cfg(test)]
 mod services;

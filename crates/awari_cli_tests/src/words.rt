@@ -121,8 +121,9 @@ fn usage_goes_to_the_error_stream(rt: HostRuntime) {
     );
 }
 
-const COMMANDS: [&str; 11] = [
-    "check", "move", "judge", "build", "verify", "text", "migrate", "ask", "moves", "line", "serve",
+const COMMANDS: [&str; 16] = [
+    "check", "move", "judge", "build", "verify", "text", "migrate", "ask", "moves", "line",
+    "serve", "rank", "board", "plays", "counts", "boards",
 ];
 
 /// Whether the help of this command is its own, of at most 24 lines of at most 80 characters.

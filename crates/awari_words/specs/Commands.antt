@@ -67,12 +67,12 @@ build_command = command (codes "build") (top ∷ option (codes "folder") ∷ fla
 abbrev pub verify_command : Shape
 verify_command = command (codes "verify") (folder ∷ [])
 
--- the one level to print
+-- the one level to tell of
 abbrev pub level : Rule
 level = record (new_rule (codes "LEVEL")) { parser = Some levels }
 
 abbrev pub text_command : Shape
-text_command = command (codes "text") (folder ∷ level ∷ [])
+text_command = command (codes "text") (folder ∷ level ∷ flag (codes "boards") ∷ [])
 
 abbrev pub migrate_command : Shape
 migrate_command = command (codes "migrate") (word (codes "FROM") ∷ word (codes "TO") ∷ [])
@@ -83,6 +83,25 @@ look_up_command name = command name (folder ∷ board ∷ [])
 
 abbrev pub serve_command : Shape
 serve_command = command (codes "serve") (folder ∷ top ∷ number (codes "OWNERS") (Unsigned 0 16) ∷ [])
+
+abbrev pub rank_command : Shape
+rank_command = command (codes "rank") (board ∷ [])
+
+abbrev pub board_command : Shape
+board_command = command (codes "board") (number (codes "LEVEL") (Signed (pos 0) (pos 255)) ∷ number (codes "RANK") (Signed (pos 0) (pos 4294967295)) ∷ [])
+
+abbrev pub plays_command : Shape
+plays_command = command (codes "plays") (board ∷ number (codes "PLIES") (Signed (pos 0) (pos 255)) ∷ [])
+
+abbrev pub counts_command : Shape
+counts_command = command (codes "counts") (folder ∷ level ∷ [])
+
+-- which boards of a level are wanted
+abbrev pub wishes : List Rule
+wishes = option (codes "value") ∷ option (codes "distance") ∷ flag (codes "farthest") ∷ number_option (codes "every") (Unsigned 1 4294967295) (codes "1") ∷ flag (codes "count") ∷ []
+
+abbrev pub boards_command : Shape
+boards_command = command (codes "boards") (folder ∷ number (codes "LEVEL") levels ∷ wishes)
 
 -- the program with no command: the first word is its own name, and a command has to follow
 abbrev pub awari : Shape
@@ -97,5 +116,9 @@ abbrev pub folder_commands : List Shape
 folder_commands = build_command ∷ verify_command ∷ text_command ∷ migrate_command
     ∷ look_up_command (codes "ask") ∷ look_up_command (codes "moves") ∷ look_up_command (codes "line") ∷ serve_command ∷ []
 
+-- the commands that answer what analysts ask
+abbrev pub question_commands : List Shape
+question_commands = rank_command ∷ board_command ∷ plays_command ∷ counts_command ∷ boards_command ∷ []
+
 abbrev pub awari_commands : App
-awari_commands = record { top = record awari { is_leaf = false }; subs = play_commands ++ folder_commands }
+awari_commands = record { top = record awari { is_leaf = false }; subs = play_commands ++ folder_commands ++ question_commands }

@@ -6,7 +6,7 @@ use Rattle.clap.specs.Walk.{Row, first_of, one_of, rows_of}
 use Rattle.clap.specs.declared.parser.matches.ArgMatches.{ArgMatches}
 use Rattle.awari_block.specs.declared.paces.Pace.{Pace}
 use Rattle.awari_words.specs.declared.requests.Request.{Request}
-use Rattle.awari_words.specs.declared.requests.Request.TheVariants.{Check, Move, Judge, Build, Verify, Text, Migrate, Ask, Moves, Line, Serve}
+use Rattle.awari_words.specs.declared.requests.Request.TheVariants.{Check, Move, Judge, Build, Verify, Text, Migrate, Ask, Moves, Line, Serve, Rank, Board, Plays, Counts, Boards}
 
 -- the values that `clap` found, by name
 abbrev pub values : ArgMatches → List Row
@@ -55,12 +55,19 @@ IsRequestOf name given (Judge board limit moves) = (name ≡ codes "judge") × G
 IsRequestOf name given (Build top folder threads pace progress) = (name ≡ codes "build") × Spells given (codes "TOP") top × (option_map (λ f. f.now) folder ≡ first_of (codes "folder") given)
     × SpellsOr given (codes "threads") threads × IsPaceOf given pace × IsFlagOf given (codes "progress") progress
 IsRequestOf name given (Verify folder) = (name ≡ codes "verify") × Gives given (codes "FOLDER") folder.now
-IsRequestOf name given (Text folder level) = (name ≡ codes "text") × Gives given (codes "FOLDER") folder.now × SpellsOr given (codes "LEVEL") level
+IsRequestOf name given (Text folder level boards) = (name ≡ codes "text") × Gives given (codes "FOLDER") folder.now × SpellsOr given (codes "LEVEL") level × IsFlagOf given (codes "boards") boards
 IsRequestOf name given (Migrate from to) = (name ≡ codes "migrate") × Gives given (codes "FROM") from.now × Gives given (codes "TO") to.now
 IsRequestOf name given (Ask folder board) = (name ≡ codes "ask") × Gives given (codes "FOLDER") folder.now × Gives given (codes "BOARD") board.now
 IsRequestOf name given (Moves folder board) = (name ≡ codes "moves") × Gives given (codes "FOLDER") folder.now × Gives given (codes "BOARD") board.now
 IsRequestOf name given (Line folder board) = (name ≡ codes "line") × Gives given (codes "FOLDER") folder.now × Gives given (codes "BOARD") board.now
 IsRequestOf name given (Serve folder top owners) = (name ≡ codes "serve") × Gives given (codes "FOLDER") folder.now × Spells given (codes "TOP") top × Spells given (codes "OWNERS") owners
+IsRequestOf name given (Rank board) = (name ≡ codes "rank") × Gives given (codes "BOARD") board.now
+IsRequestOf name given (Board level rank) = (name ≡ codes "board") × Spells given (codes "LEVEL") level × Spells given (codes "RANK") rank
+IsRequestOf name given (Plays board plies) = (name ≡ codes "plays") × Gives given (codes "BOARD") board.now × Spells given (codes "PLIES") plies
+IsRequestOf name given (Counts folder level) = (name ≡ codes "counts") × Gives given (codes "FOLDER") folder.now × SpellsOr given (codes "LEVEL") level
+IsRequestOf name given (Boards folder level value distance farthest every count) = (name ≡ codes "boards") × Gives given (codes "FOLDER") folder.now × Spells given (codes "LEVEL") level
+    × (option_map (λ t. t.now) value ≡ first_of (codes "value") given) × (option_map (λ t. t.now) distance ≡ first_of (codes "distance") given)
+    × IsFlagOf given (codes "farthest") farthest × Spells given (codes "every") every × IsFlagOf given (codes "count") count
 
 -- The name is no command's, or a value that its command needs is not there.
 pub record IsNoRequest (name : List ℕ) (given : List Row) : Type 0 where
@@ -75,6 +82,11 @@ pub record IsNoRequest (name : List ℕ) (given : List Row) : Type 0 where
   pub moves : name ≡ codes "moves" → Lacks given (codes "FOLDER") ⊎ Lacks given (codes "BOARD")
   pub line : name ≡ codes "line" → Lacks given (codes "FOLDER") ⊎ Lacks given (codes "BOARD")
   pub serve : name ≡ codes "serve" → Lacks given (codes "FOLDER") ⊎ SpellsNone 8 given (codes "TOP") ⊎ SpellsNone 8 given (codes "OWNERS")
+  pub rank : name ≡ codes "rank" → Lacks given (codes "BOARD")
+  pub board : name ≡ codes "board" → SpellsNone 8 given (codes "LEVEL") ⊎ SpellsNone 32 given (codes "RANK")
+  pub plays : name ≡ codes "plays" → Lacks given (codes "BOARD") ⊎ SpellsNone 8 given (codes "PLIES")
+  pub counts : name ≡ codes "counts" → Lacks given (codes "FOLDER")
+  pub boards : name ≡ codes "boards" → Lacks given (codes "FOLDER") ⊎ SpellsNone 8 given (codes "LEVEL") ⊎ SpellsNone 32 given (codes "every")
 
 -- The words have no fault, and the request is that of the command that they name.
 abbrev pub IsAsked : Option (List ℕ × List Row) → Option Request → Type 0

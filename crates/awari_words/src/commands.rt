@@ -8,9 +8,12 @@ ghost use Rattle.awari_words.specs.Commands.{
   awari,
   awari_commands,
   board,
+  board_command,
+  boards_command,
   build_command,
   check_command,
   command,
+  counts_command,
   flag,
   folder,
   folder_commands,
@@ -25,18 +28,23 @@ ghost use Rattle.awari_words.specs.Commands.{
   option,
   pace,
   play_commands,
+  plays_command,
+  question_commands,
+  rank_command,
   serve_command,
   text_command,
   threads,
   top,
   verify_command,
+  wishes,
   word,
 };
 ghost use Rattle.awari_words.specs.Making.{IsArg, IsCommand, MakesApp, MakesCommand, with_subcommands, with_words};
 
 use crate::helps::{
-    ASK_HELP, AWARI_HELP, BUILD_HELP, CHECK_HELP, JUDGE_HELP, LINE_HELP, MIGRATE_HELP, MOVE_HELP,
-    MOVES_HELP, SERVE_HELP, TEXT_HELP, VERIFY_HELP, VERSION,
+    ASK_HELP, AWARI_HELP, BOARD_HELP, BOARDS_HELP, BUILD_HELP, CHECK_HELP, COUNTS_HELP, JUDGE_HELP,
+    LINE_HELP, MIGRATE_HELP, MOVE_HELP, MOVES_HELP, PLAYS_HELP, RANK_HELP, SERVE_HELP, TEXT_HELP,
+    VERIFY_HELP, VERSION,
 };
 use awari_block::{MOST_OWNERS, MOST_ROOM, MOST_SWEEPS};
 use awari_table::HIGHEST_LEVEL;
@@ -51,7 +59,8 @@ const MOST_THREADS: u64 = 64;
 pub(crate) fn commands<'a>(alloc: Global) -> Result<Command<'a>, AllocError>
     ensures { MakesApp result awari_commands }
 {
-    with_folders(alloc, with_plays(alloc, Ok(awari_command(alloc))))
+    let awari = with_plays(alloc, Ok(awari_command(alloc)));
+    with_questions(alloc, with_folders(alloc, awari))
 }
 
 /// The program, with no command yet.
@@ -93,6 +102,20 @@ fn with_folders<'a>(
     let awari = with_command(awari, moves_command(alloc));
     let awari = with_command(awari, line_command(alloc));
     with_command(awari, serve_command(alloc))
+}
+
+/// The program with the commands that answer what analysts ask.
+fn with_questions<'a>(
+    alloc: Global,
+    awari: Result<Command<'a>, AllocError>,
+) -> Result<Command<'a>, AllocError>
+    ensures { (app : App) → MakesApp awari.entry app → MakesApp result (with_subcommands app question_commands) }
+{
+    let awari = with_command(awari, rank_command(alloc));
+    let awari = with_command(awari, board_command(alloc));
+    let awari = with_command(awari, plays_command(alloc));
+    let awari = with_command(awari, counts_command(alloc));
+    with_command(awari, boards_command(alloc))
 }
 
 /// The program with one more command, if there was room to make both.
@@ -309,7 +332,17 @@ fn text_command<'a>(alloc: Global) -> Result<Command<'a>, AllocError>
         TEXT_HELP,
     );
     let command = with_word(command, folder(alloc));
-    with_word(command, level(alloc))
+    let command = with_word(command, level(alloc));
+    with_word(command, with_boards(alloc))
+}
+
+fn with_boards<'a>(alloc: Global) -> Arg<'a>
+    ensures { IsArg result (flag (codes "boards")) }
+{
+    Arg::new(alloc, "boards")
+        .long("boards")
+        .action(ArgAction::SetTrue)
+        .help("Put each board before its line, and leave out the headers")
 }
 
 fn level<'a>(alloc: Global) -> Arg<'a>
@@ -317,7 +350,7 @@ fn level<'a>(alloc: Global) -> Arg<'a>
 {
     Arg::new(alloc, "LEVEL")
         .value_parser(ValueParser::unsigned(0, u64::from(HIGHEST_LEVEL)))
-        .help("The one level to print, 0 to 24; without it all are")
+        .help("The one level to tell of, 0 to 24; without it all are")
 }
 
 fn migrate_command<'a>(alloc: Global) -> Result<Command<'a>, AllocError>
@@ -426,6 +459,168 @@ fn served_owners<'a>(alloc: Global) -> Arg<'a>
         .required(true)
         .value_parser(ValueParser::unsigned(0, u64::from(MOST_OWNERS)))
         .help("Owners of a level, 0 to 16; with 0 all threads build it together")
+}
+
+fn rank_command<'a>(alloc: Global) -> Result<Command<'a>, AllocError>
+    ensures { MakesCommand result rank_command }
+{
+    let command = new_command(
+        alloc,
+        "rank",
+        "Says which number a board has in its level",
+        RANK_HELP,
+    );
+    with_word(command, board(alloc))
+}
+
+fn board_command<'a>(alloc: Global) -> Result<Command<'a>, AllocError>
+    ensures { MakesCommand result board_command }
+{
+    let command = new_command(
+        alloc,
+        "board",
+        "Prints the board that has this number in a level",
+        BOARD_HELP,
+    );
+    let command = with_word(command, ranked_level(alloc));
+    with_word(command, rank(alloc))
+}
+
+fn ranked_level<'a>(alloc: Global) -> Arg<'a>
+    ensures { IsArg result (number (codes "LEVEL") (Signed (pos 0) (pos 255))) }
+{
+    Arg::new(alloc, "LEVEL")
+        .required(true)
+        .value_parser(value_parser!(u8))
+        .help("The stones on the board, 0 to 24")
+}
+
+fn rank<'a>(alloc: Global) -> Arg<'a>
+    ensures { IsArg result (number (codes "RANK") (Signed (pos 0) (pos 4294967295))) }
+{
+    Arg::new(alloc, "RANK")
+        .required(true)
+        .value_parser(value_parser!(u32))
+        .help("The number of the board, from 0 on")
+}
+
+fn plays_command<'a>(alloc: Global) -> Result<Command<'a>, AllocError>
+    ensures { MakesCommand result plays_command }
+{
+    let command = new_command(
+        alloc,
+        "plays",
+        "Counts the plays of so many plies from a board",
+        PLAYS_HELP,
+    );
+    let command = with_word(command, board(alloc));
+    with_word(command, plies(alloc))
+}
+
+fn plies<'a>(alloc: Global) -> Arg<'a>
+    ensures { IsArg result (number (codes "PLIES") (Signed (pos 0) (pos 255))) }
+{
+    Arg::new(alloc, "PLIES")
+        .required(true)
+        .value_parser(value_parser!(u8))
+        .help("The length of the plays, 0 to 255")
+}
+
+fn counts_command<'a>(alloc: Global) -> Result<Command<'a>, AllocError>
+    ensures { MakesCommand result counts_command }
+{
+    let command = new_command(
+        alloc,
+        "counts",
+        "Says how many boards of the levels in a folder are won and lost",
+        COUNTS_HELP,
+    );
+    let command = with_word(command, folder(alloc));
+    with_word(command, level(alloc))
+}
+
+fn boards_command<'a>(alloc: Global) -> Result<Command<'a>, AllocError>
+    ensures { MakesCommand result boards_command }
+{
+    let command = new_command(
+        alloc,
+        "boards",
+        "Prints the boards of a level that have what is asked for",
+        BOARDS_HELP,
+    );
+    let command = with_word(command, folder(alloc));
+    let command = with_word(command, listed_level(alloc));
+    with_wishes(alloc, command)
+}
+
+fn listed_level<'a>(alloc: Global) -> Arg<'a>
+    ensures { IsArg result (number (codes "LEVEL") levels) }
+{
+    Arg::new(alloc, "LEVEL")
+        .required(true)
+        .value_parser(ValueParser::unsigned(0, u64::from(HIGHEST_LEVEL)))
+        .help("The stones on each board, 0 to 24")
+}
+
+/// The command with the options that say which boards are wanted.
+fn with_wishes<'a>(
+    alloc: Global,
+    command: Result<Command<'a>, AllocError>,
+) -> Result<Command<'a>, AllocError>
+    ensures { (app : App) → MakesApp command.entry app → MakesApp result (with_words app wishes) }
+{
+    let command = with_word(command, value(alloc));
+    let command = with_word(command, distance(alloc));
+    let command = with_word(command, farthest(alloc));
+    let command = with_word(command, every(alloc));
+    with_word(command, count(alloc))
+}
+
+fn value<'a>(alloc: Global) -> Arg<'a>
+    ensures { IsArg result (option (codes "value")) }
+{
+    Arg::new(alloc, "value")
+        .long("value")
+        .value_name("A..B")
+        .help("Boards of these values, as --value=-3..2")
+}
+
+fn distance<'a>(alloc: Global) -> Arg<'a>
+    ensures { IsArg result (option (codes "distance")) }
+{
+    Arg::new(alloc, "distance")
+        .long("distance")
+        .value_name("A..B")
+        .help("Boards of these distances, as --distance 5..9")
+}
+
+fn farthest<'a>(alloc: Global) -> Arg<'a>
+    ensures { IsArg result (flag (codes "farthest")) }
+{
+    Arg::new(alloc, "farthest")
+        .long("farthest")
+        .action(ArgAction::SetTrue)
+        .help("Boards of the level's greatest distance")
+}
+
+fn every<'a>(alloc: Global) -> Arg<'a>
+    ensures { IsArg result (number_option (codes "every") (Unsigned 1 4294967295) (codes "1")) }
+{
+    Arg::new(alloc, "every")
+        .long("every")
+        .value_name("K")
+        .value_parser(ValueParser::unsigned(1, u64::from(u32::MAX)))
+        .default_value("1")
+        .help("Each K-th of these")
+}
+
+fn count<'a>(alloc: Global) -> Arg<'a>
+    ensures { IsArg result (flag (codes "count")) }
+{
+    Arg::new(alloc, "count")
+        .long("count")
+        .action(ArgAction::SetTrue)
+        .help("Print how many these are, and no board")
 }
 
 fn folder<'a>(alloc: Global) -> Arg<'a>

@@ -1,5 +1,5 @@
-//! What `awari --version` and `awari help` say. A help is at most a screen of 24 lines. docs/MANUAL.md
-//! has more of each command, and docs/FORMATS.md the numbers of its refusals.
+//! What `awari --version` and `awari help` say. The help of a command is at most a screen of 24 lines.
+//! docs/MANUAL.md has more of each, and docs/FORMATS.md the numbers of its refusals.
 
 use awari_table::HIGHEST_LEVEL;
 
@@ -82,11 +82,10 @@ It prints the levels of the folder as text, in order; with LEVEL that one alone:
     V P D              for each board, by rank: its value, a pit to play (0 to
                        5, or - if the play has ended), and its distance
 
-The levels are verified first, so `awari text FOLDER | awari check` says yes. A
-folder with no level prints nothing.
-
-The status is 0, or 1 for a refusal, as `refused 59 NotYet levels M` if the
-folder has only levels 0 to M - 1. docs/FORMATS.md lists them.";
+The levels are verified first, so `awari text FOLDER | awari check` says yes. It
+does not with --boards. The status is 0, or 1 for a refusal, as `refused 59
+NotYet levels M` if the folder has only levels 0 to M - 1. docs/FORMATS.md lists
+them.";
 
 pub const MIGRATE_HELP: &str = "\
 FROM is only read, and TO has to be there. Each level is verified by the rules
@@ -147,3 +146,57 @@ in order. So `awari serve FOLDER 0 0` answers a million: examples/ask_many.py.
 
 It ends at `quit` or with the input, once the thread has ended, whose refusal is
 printed. The status is 0, or 1 for a refusal. docs/FORMATS.md lists them.";
+
+pub const RANK_HELP: &str = "\
+It prints `L R`: the board has L stones, and R is its number among the boards of
+as many. These are numbered from 0 on, in lexicographic order of their pits 0 to
+11. `awari board L R` gives the board back.
+
+The status is 0, or 1 for a refusal, as `refused 59 NotYet levels 25` if the
+board has more than 24 stones. docs/FORMATS.md lists them.";
+
+pub const BOARD_HELP: &str = "\
+It prints the board: the one of LEVEL stones with this number. The boards of as
+many stones are numbered from 0 on, in lexicographic order of their pits.
+
+The status is 0, or 1 for a refusal. There is no level above 24, as `refused 59
+NotYet levels 25` says; `refused 93 NoRank boards N` says that the level has
+only the numbers 0 to N - 1. docs/FORMATS.md lists all refusals.";
+
+pub const PLAYS_HELP: &str = "\
+It prints one line, of all plays that have PLIES plies, each ply a legal move:
+
+    plays N captures C ends E
+
+There are N such plays. The last ply of C of them captures, and after E of them
+the play has ended. A play that has ended sooner has fewer plies, so it counts
+for none of these. From the board at the start, 4,4,4,4,4,4/4,4,4,4,4,4, there
+are 6 plays of one ply, 36 of two and 1014 of four: docs/RULES.md has more, by
+which any two programs can compare their rules.
+
+Each ply takes some four times as long. The status is 0, or 1 for a refusal, as
+`refused 94 Overflow` if N is 2^64 or more. docs/FORMATS.md lists them.";
+
+pub const COUNTS_HELP: &str = "\
+It prints a line for each level of the folder, the lowest first, as build does:
+
+    level L boards S won A even B lost C limit K
+
+With LEVEL it prints the line of this level alone, and then, in ascending order,
+a line for each value and each distance that some of its boards have:
+
+    value V boards N       N boards have the value V for their mover
+    distance D boards N    N boards have the distance D
+
+The levels are verified first. The status is 0, or 1 for a refusal, as `refused
+59 NotYet levels M` if the folder has only levels 0 to M - 1. docs/FORMATS.md
+lists them.";
+
+pub const BOARDS_HELP: &str = "\
+It prints a line for each board that has all that is asked for, by rank:
+
+    BOARD V P D    the board, its value, a pit to play or -, and its distance
+
+A..B are the numbers from A to B. The levels are verified first. The status is
+0, or 1 for a refusal, as `refused 59 NotYet levels M` if the folder has only
+levels 0 to M - 1, or `refused 95 Span` if A..B is no such word.";

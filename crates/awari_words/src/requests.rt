@@ -54,10 +54,11 @@ pub enum Request<'a> {
     Verify {
         folder: &'a str,
     },
-    /// `text FOLDER [LEVEL]`: the text of the levels in a folder, or of one.
+    /// `text FOLDER [LEVEL] [--boards]`: the text of the levels in a folder, or of one.
     Text {
         folder: &'a str,
         level: Option<u8>,
+        boards: bool,
     },
     /// `migrate FROM TO`: the levels of a folder brought over into another one.
     Migrate {
@@ -84,6 +85,36 @@ pub enum Request<'a> {
         folder: &'a str,
         top: u8,
         owners: u8,
+    },
+    /// `rank BOARD`: a board's number in its level.
+    Rank {
+        board: &'a str,
+    },
+    /// `board LEVEL RANK`: the board of a number.
+    Board {
+        level: u8,
+        rank: u32,
+    },
+    /// `plays BOARD PLIES`: how many plays of a length there are.
+    Plays {
+        board: &'a str,
+        plies: u8,
+    },
+    /// `counts FOLDER [LEVEL]`: the levels in a folder in numbers, or one.
+    Counts {
+        folder: &'a str,
+        level: Option<u8>,
+    },
+    /// `boards FOLDER LEVEL [--value A..B] [--distance A..B] [--farthest] [--every K] [--count]`: the boards
+    /// of a level.
+    Boards {
+        folder: &'a str,
+        level: u8,
+        value: Option<&'a str>,
+        distance: Option<&'a str>,
+        farthest: bool,
+        every: u32,
+        count: bool,
     },
 }
 
@@ -128,6 +159,11 @@ fn requested<'a>(name: &str, given: &ArgMatches<'a>) -> Option<Request<'a>>
         "moves" => moves_request(given),
         "line" => line_request(given),
         "serve" => serve_request(given),
+        "rank" => rank_request(given),
+        "board" => board_request(given),
+        "plays" => plays_request(given),
+        "counts" => counts_request(given),
+        "boards" => boards_request(given),
         _ => None,
     }
 }
@@ -182,6 +218,7 @@ fn text_request<'a>(given: &ArgMatches<'a>) -> Option<Request<'a>>
     Some(Request::Text {
         folder: text(given, "FOLDER")?,
         level: byte(given, "LEVEL"),
+        boards: flag(given, "boards"),
     })
 }
 
@@ -233,6 +270,60 @@ fn serve_request<'a>(given: &ArgMatches<'a>) -> Option<Request<'a>>
         folder: text(given, "FOLDER")?,
         top: byte(given, "TOP")?,
         owners: byte(given, "OWNERS")?,
+    })
+}
+
+fn rank_request<'a>(given: &ArgMatches<'a>) -> Option<Request<'a>>
+    ensures asked { IfSome result (IsRequestOf (codes "rank") (values given.now)) }
+    ensures none { IsNone result → Lacks (values given.now) (codes "BOARD") }
+{
+    Some(Request::Rank {
+        board: text(given, "BOARD")?,
+    })
+}
+
+fn board_request<'a>(given: &ArgMatches<'a>) -> Option<Request<'a>>
+    ensures asked { IfSome result (IsRequestOf (codes "board") (values given.now)) }
+    ensures none { IsNone result → SpellsNone 8 (values given.now) (codes "LEVEL") ⊎ SpellsNone 32 (values given.now) (codes "RANK") }
+{
+    Some(Request::Board {
+        level: byte(given, "LEVEL")?,
+        rank: number(given, "RANK")?,
+    })
+}
+
+fn plays_request<'a>(given: &ArgMatches<'a>) -> Option<Request<'a>>
+    ensures asked { IfSome result (IsRequestOf (codes "plays") (values given.now)) }
+    ensures none { IsNone result → Lacks (values given.now) (codes "BOARD") ⊎ SpellsNone 8 (values given.now) (codes "PLIES") }
+{
+    Some(Request::Plays {
+        board: text(given, "BOARD")?,
+        plies: byte(given, "PLIES")?,
+    })
+}
+
+fn counts_request<'a>(given: &ArgMatches<'a>) -> Option<Request<'a>>
+    ensures asked { IfSome result (IsRequestOf (codes "counts") (values given.now)) }
+    ensures none { IsNone result → Lacks (values given.now) (codes "FOLDER") }
+{
+    Some(Request::Counts {
+        folder: text(given, "FOLDER")?,
+        level: byte(given, "LEVEL"),
+    })
+}
+
+fn boards_request<'a>(given: &ArgMatches<'a>) -> Option<Request<'a>>
+    ensures asked { IfSome result (IsRequestOf (codes "boards") (values given.now)) }
+    ensures none { IsNone result → Lacks (values given.now) (codes "FOLDER") ⊎ SpellsNone 8 (values given.now) (codes "LEVEL") ⊎ SpellsNone 32 (values given.now) (codes "every") }
+{
+    Some(Request::Boards {
+        folder: text(given, "FOLDER")?,
+        level: byte(given, "LEVEL")?,
+        value: text(given, "value"),
+        distance: text(given, "distance"),
+        farthest: flag(given, "farthest"),
+        every: number(given, "every")?,
+        count: flag(given, "count"),
     })
 }
 

@@ -1,0 +1,178 @@
+-- The boards of a level, taken one by one in order of rank.
+use Rattle.std.proofs.Common.{◌≡◌, ℕ, ◌+◌, ◌%◌, ◌==◌, ◌<◌, ◌≤◌, Bool, true, false, cond, ◌&&◌, List, [], ◌∷◌, ◌++◌, length, take, filter, sum, Some, None, slice_get, refl, sym, ◌∙◌, ap, subst, arith}
+use Rattle.std.proofs.lemmas.Bool.Decides.{nat_tests}
+use Rattle.std.proofs.lemmas.List.{append-nil, length-append, take_all}
+use Rattle.std.proofs.lemmas.List.Elements.{filter-append}
+use Rattle.std.proofs.lemmas.Option.{get_or_from_slice_get}
+use Rattle.awari_board.specs.Rules.{IsBoard}
+use Rattle.awari_rank.proofs.Ranking.{listed_board}
+use Rattle.awari_rank.proofs.Reaching.{board_reached}
+use Rattle.awari_rank.specs.Rank.{rank_of, size_of}
+use Rattle.awari_rank.specs.Tuples.{tuples}
+use Rattle.awari_table.proofs.ShelfLemmas.{entry_of-read, take-read}
+use Rattle.awari_table.specs.Images.{entry_of, no_image}
+use Rattle.awari_table.specs.declared.images.Entry.{Entry}
+use Rattle.awari_table.specs.declared.images.Image.{Image}
+use Rattle.awari_questions.specs.Listing.{each, limit_of, passes, passing, wanted_boards}
+use Rattle.awari_questions.specs.declared.listing.Wanted.{Wanted}
+
+-- one more at the end of a list
+each-push : {A : Type 0} (k before : ℕ) (xs : List A) (x : A) → each k before (xs ++ x ∷ []) ≡ each k before xs ++ cond ((before + (length xs + 1)) % k == 0) (x ∷ []) []
+each-push k before [] x = go ((before + 1) % k == 0)
+  where
+    go : (b : Bool) → cond b (x ∷ []) [] ≡ [] ++ cond b (x ∷ []) []
+    go true = refl
+    go false = refl
+each-push k before (y ∷ ys) x =
+    let moved : before + 1 + (length ys + 1) ≡ before + (length (y ∷ ys) + 1) = omega arith in
+    let rest = each-push k (before + 1) ys x ∙ ap (λ n. each k (before + 1) ys ++ cond (n % k == 0) (x ∷ []) []) moved in
+    go ((before + 1) % k == 0) rest
+  where
+    go : (b : Bool) → each k (before + 1) (ys ++ x ∷ []) ≡ each k (before + 1) ys ++ cond ((before + (length (y ∷ ys) + 1)) % k == 0) (x ∷ []) []
+        → cond b (y ∷ each k (before + 1) (ys ++ x ∷ [])) (each k (before + 1) (ys ++ x ∷ []))
+        ≡ cond b (y ∷ each k (before + 1) ys) (each k (before + 1) ys) ++ cond ((before + (length (y ∷ ys) + 1)) % k == 0) (x ∷ []) []
+    go true rest = ap (λ t. y ∷ t) rest
+    go false rest = rest
+
+-- the board of a rank of a level, in the list of its boards and on the shelf
+pub record IsAt (images : List Image) (level rank : ℕ) (board : List ℕ) (e : Entry) : Type 0 where
+  pub listed : slice_get (tuples 12 level) rank ≡ Some board
+  pub entry : e ≡ entry_of images board
+
+pub is_at : (images : List Image) (level rank : ℕ) (image : Image) (board : List ℕ) (e : Entry) → slice_get images level ≡ Some image → slice_get image.entries rank ≡ Some e
+    → IsBoard board → sum board ≡ level → rank_of board ≡ rank → IsAt images level rank board e
+is_at images level rank image board e found read whole stones ranked = record {
+  listed = rw (stones, ranked) at (listed_board board whole.pits);
+  entry = entry_of-read images board image e (rw stones found) (rw ranked read);
+}
+
+-- some board has each rank
+pub some_at : (images : List Image) (level rank : ℕ) (image : Image) (e : Entry) → slice_get images level ≡ Some image → slice_get image.entries rank ≡ Some e
+    → level ≤ 24 → rank < size_of level → (board : List ℕ) × IsAt images level rank board e
+some_at images level rank image e found read low inside =
+    let (board, whole, stones, ranked) = board_reached level rank low inside in
+    (board, is_at images level rank image board e found read whole stones ranked)
+
+-- how many of the boards up to a rank pass, and which of these are due
+pub record Chosen (wanted : Wanted) (images : List Image) (level rank passed : ℕ) (boards : List (List ℕ)) : Type 0 where
+  pub count : passed ≡ length (passing wanted images level (take rank (tuples 12 level)))
+  pub list : boards ≡ each wanted.every 0 (passing wanted images level (take rank (tuples 12 level)))
+
+pub chosen-none : (wanted : Wanted) (images : List Image) (level : ℕ) → Chosen wanted images level 0 0 []
+chosen-none wanted images level = record { count = refl; list = refl }
+
+pick : {A : Type 0} (k passed next : ℕ) (front : List A) (x : A) (passes due : Bool) → passed ≡ length front → next ≡ passed + cond passes 1 0 → due ≡ (passes && (next % k == 0))
+    → (next ≡ length (front ++ cond passes (x ∷ []) [])) × (each k 0 front ++ cond due (x ∷ []) [] ≡ each k 0 (front ++ cond passes (x ∷ []) []))
+pick k passed next front x false due before count is = (
+  omega (arith, before, count, ap length (append-nil front)),
+  ap (λ b. each k 0 front ++ cond b (x ∷ []) []) is ∙ append-nil (each k 0 front) ∙ ap (each k 0) (sym (append-nil front)),
+)
+pick k passed next front x true due before count is =
+    let place : next ≡ 0 + (length front + 1) = omega (arith, before, count) in (
+      omega (arith, before, count, length-append front (x ∷ [])),
+      ap (λ b. each k 0 front ++ cond b (x ∷ []) []) (is ∙ ap (λ n. n % k == 0) place) ∙ sym (each-push k 0 front x),
+    )
+
+pub limit_is : (images : List Image) (level : ℕ) (image : Image) (limit : ℕ) → slice_get images level ≡ Some image → limit ≡ image.limit → limit ≡ limit_of images level
+limit_is images level image limit found is = is ∙ ap (λ (m : Image). m.limit) (sym (get_or_from_slice_get images level image no_image found))
+
+-- what is known of the board of a rank: whether it passes is counted, and whether it is due
+pub record Weighs (wanted : Wanted) (images : List Image) (level passed next : ℕ) (e : Entry) (due : Bool) : Type 0 where
+  pub count : next ≡ passed + cond (passes wanted (limit_of images level) e) 1 0
+  pub is : due ≡ (passes wanted (limit_of images level) e && (next % wanted.every == 0))
+
+pub weighs : (wanted : Wanted) (images : List Image) (level passed next limit : ℕ) (e : Entry) (due : Bool) → limit ≡ limit_of images level → next ≡ passed + cond (passes wanted limit e) 1 0
+    → due ≡ (passes wanted limit e && (next % wanted.every == 0)) → Weighs wanted images level passed next e due
+weighs wanted images level passed next limit e due limited count is = record {
+  count = count ∙ ap (λ l. passed + cond (passes wanted l e) 1 0) limited;
+  is = is ∙ ap (λ l. passes wanted l e && (next % wanted.every == 0)) limited;
+}
+
+-- no more pass than there are
+pub weighs-few : (wanted : Wanted) (images : List Image) (level rank passed next : ℕ) (e : Entry) (due : Bool) → Weighs wanted images level passed next e due → passed ≤ rank → next ≤ rank + 1
+weighs-few wanted images level rank passed next e due weighed few = go (passes wanted (limit_of images level) e) weighed.count
+  where
+    go : (b : Bool) → next ≡ passed + cond b 1 0 → next ≤ rank + 1
+    go true is = omega (arith, is, few)
+    go false is = omega (arith, is, few)
+
+pub chosen-more : (wanted : Wanted) (images : List Image) (level rank passed next : ℕ) (boards : List (List ℕ)) (board : List ℕ) (e : Entry) (due : Bool) → Chosen wanted images level rank passed boards
+    → IsAt images level rank board e → Weighs wanted images level passed next e due
+    → Chosen wanted images level (rank + 1) next (boards ++ cond due (board ∷ []) [])
+chosen-more wanted images level rank passed next boards board e due so_far at weighed = record {
+  count = picked.0 ∙ ap length (sym front);
+  list = ap (λ bs. bs ++ cond due (board ∷ []) []) so_far.list ∙ picked.1 ∙ ap (each wanted.every 0) (sym front);
+}
+  where
+    test : List ℕ → Bool
+    test b = passes wanted (limit_of images level) (entry_of images b)
+
+    picked : (next ≡ length (passing wanted images level (take rank (tuples 12 level)) ++ cond (passes wanted (limit_of images level) e) (board ∷ []) []))
+        × (each wanted.every 0 (passing wanted images level (take rank (tuples 12 level))) ++ cond due (board ∷ []) []
+        ≡ each wanted.every 0 (passing wanted images level (take rank (tuples 12 level)) ++ cond (passes wanted (limit_of images level) e) (board ∷ []) []))
+    picked = pick wanted.every passed next (passing wanted images level (take rank (tuples 12 level))) board (passes wanted (limit_of images level) e) due so_far.count weighed.count weighed.is
+
+    front : passing wanted images level (take (rank + 1) (tuples 12 level)) ≡ passing wanted images level (take rank (tuples 12 level)) ++ cond (passes wanted (limit_of images level) e) (board ∷ []) []
+    front =
+        ap (passing wanted images level) (take-read (tuples 12 level) rank board at.listed)
+        ∙ filter-append test (take rank (tuples 12 level)) (board ∷ [])
+        ∙ ap (λ x. passing wanted images level (take rank (tuples 12 level)) ++ cond (passes wanted (limit_of images level) x) (board ∷ []) []) (sym at.entry)
+
+pub chosen-all : (wanted : Wanted) (images : List Image) (level rank passed : ℕ) (boards : List (List ℕ)) → Chosen wanted images level rank passed boards → rank ≡ size_of level
+    → boards ≡ wanted_boards wanted images level
+unfolding size_of wanted_boards
+chosen-all wanted images level rank passed boards all is =
+    all.list ∙ ap (λ bs. each wanted.every 0 (passing wanted images level bs)) (take_all rank (tuples 12 level) (omega (arith, is)))
+
+-- how many are due so far
+pub record Numbered (wanted : Wanted) (images : List Image) (level rank passed count : ℕ) : Type 0 where
+  pub boards : List (List ℕ)
+  pub chosen : Chosen wanted images level rank passed boards
+  pub many : count ≡ length boards
+
+pub numbered-none : (wanted : Wanted) (images : List Image) (level : ℕ) → Numbered wanted images level 0 0 0
+numbered-none wanted images level = record { boards = []; chosen = chosen-none wanted images level; many = refl }
+
+pub numbered-skip : (wanted : Wanted) (images : List Image) (level rank passed next count : ℕ) (board : List ℕ) (e : Entry) (due : Bool) → Numbered wanted images level rank passed count
+    → IsAt images level rank board e → Weighs wanted images level passed next e due → due ≡ false → Numbered wanted images level (rank + 1) next count
+numbered-skip wanted images level rank passed next count board e due so_far at weighed none = record {
+  boards = so_far.boards;
+  chosen =
+      subst (Chosen wanted images level (rank + 1) next) (ap (λ b. so_far.boards ++ cond b (board ∷ []) []) none ∙ append-nil so_far.boards)
+      (chosen-more wanted images level rank passed next so_far.boards board e due so_far.chosen at weighed);
+  many = so_far.many;
+}
+
+pub numbered-more : (wanted : Wanted) (images : List Image) (level rank passed next count : ℕ) (board : List ℕ) (e : Entry) (due : Bool) → Numbered wanted images level rank passed count
+    → IsAt images level rank board e → Weighs wanted images level passed next e due → due ≡ true → Numbered wanted images level (rank + 1) next (count + 1)
+numbered-more wanted images level rank passed next count board e due so_far at weighed some = record {
+  boards = so_far.boards ++ board ∷ [];
+  chosen =
+      subst (Chosen wanted images level (rank + 1) next) (ap (λ b. so_far.boards ++ cond b (board ∷ []) []) some)
+      (chosen-more wanted images level rank passed next so_far.boards board e due so_far.chosen at weighed);
+  many = omega (arith, so_far.many, length-append so_far.boards (board ∷ []));
+}
+
+pub numbered-all : (wanted : Wanted) (images : List Image) (level rank passed count : ℕ) → Numbered wanted images level rank passed count → rank ≡ size_of level
+    → count ≡ length (wanted_boards wanted images level)
+numbered-all wanted images level rank passed count all is = all.many ∙ ap length (chosen-all wanted images level rank passed all.boards all.chosen is)
+
+-- ---- all boards
+
+filter-all : {A : Type 0} (p : A → Bool) → ((x : A) → p x ≡ true) → (xs : List A) → filter p xs ≡ xs
+filter-all p passed [] = refl
+filter-all p passed (x ∷ xs) = ap (λ b. cond b (x ∷ filter p xs) (filter p xs)) (passed x) ∙ ap (λ t. x ∷ t) (filter-all p passed xs)
+
+each-one : {A : Type 0} (before : ℕ) (xs : List A) → each 1 before xs ≡ xs
+each-one before [] = refl
+each-one before (x ∷ xs) =
+    let due : ((before + 1) % 1 == 0) ≡ true = grind (arith, nat_tests) in
+    ap (λ b. cond b (x ∷ each 1 (before + 1) xs) (each 1 (before + 1) xs)) due ∙ ap (λ t. x ∷ t) (each-one (before + 1) xs)
+
+all_pass : (limit : ℕ) (e : Entry) → passes (record { values = None; distances = None; farthest = false; every = 1 }) limit e ≡ true
+unfolding passes
+all_pass limit e = refl
+
+pub all_wanted : (images : List Image) (level : ℕ) → wanted_boards (record { values = None; distances = None; farthest = false; every = 1 }) images level ≡ tuples 12 level
+unfolding wanted_boards
+all_wanted images level = each-one 0 _ ∙ filter-all _ (λ b. all_pass (limit_of images level) (entry_of images b)) (tuples 12 level)

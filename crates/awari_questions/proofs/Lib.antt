@@ -1,0 +1,6 @@
+pub mod PlayLaws
+pub mod ChoiceLaws
+pub mod ListingLaws
+pub mod ShareLaws
+pub mod CountLaws
+pub mod SpanLaws

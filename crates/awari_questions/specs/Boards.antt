@@ -1,0 +1,71 @@
+-- The commands `boards` and `text --boards`: what is printed of the boards of a level.
+use Rattle.std.specs.Prelude.{◌≡◌, ℕ, max, Bool, true, false, List, ◌++◌, ◌∷◌, [], length, codes, ℤ, Option, Some, None, FitsSigned}
+use Rattle.std.specs.Fmt.{decimal}
+use Rattle.std.specs.Int.{w64}
+use Rattle.std.specs.Io.KnownBytes.{Appends}
+use Rattle.std.specs.List.{flat_map, range_with_len}
+use Rattle.std.specs.Borrow.{Bor}
+use Rattle.std.specs.Str.Parse.{IsNumeral, signed_digits_value, without_leading_sign}
+use Rattle.awari_answers.specs.Asked.{AreLevelsTo}
+use Rattle.awari_rank.specs.Tuples.{tuples}
+use Rattle.awari_table.specs.declared.TheConstants.{HIGHEST_LEVEL}
+use Rattle.awari_table.specs.declared.images.Image.{Image}
+use Rattle.awari_questions.specs.Listing.{board_lines, wanted_boards}
+use Rattle.awari_questions.specs.Loads.{HasLevel}
+use Rattle.awari_questions.specs.declared.boards.BoardsQuery.{BoardsQuery}
+use Rattle.awari_questions.specs.declared.listing.Span.{Span}
+use Rattle.awari_questions.specs.declared.listing.Wanted.{Wanted}
+
+-- the text is a decimal number of at most 64 bits, with a sign or not
+pub record SpellsNumber (text : List ℕ) (number : ℤ) : Type 0 where
+  pub numeral : IsNumeral 10 (without_leading_sign text)
+  pub value : number ≡ signed_digits_value 10 text
+  pub fits : FitsSigned w64 number
+
+-- the text is two numbers with two dots between them
+pub record IsSpan (text : List ℕ) (span : Span) : Type 0 where
+  pub low : List ℕ
+  pub high : List ℕ
+  pub parts : text ≡ low ++ (codes ".." ++ high)
+  pub lowest : SpellsNumber low span.low
+  pub highest : SpellsNumber high span.high
+
+-- the span that a text asks for, if there is one
+abbrev pub AsksFor : Option (Bor (List ℕ)) → Option Span → Type 0
+AsksFor None None = Unit {0}
+AsksFor None (Some span) = ⊥
+AsksFor (Some text) None = ⊥
+AsksFor (Some text) (Some span) = IsSpan text.now span
+
+-- a text asks for a span that no numbers have
+abbrev pub AsksForNone : Option (Bor (List ℕ)) → Type 0
+AsksForNone None = ⊥
+AsksForNone (Some text) = (span : Span) → IsSpan text.now span → ⊥
+
+-- the boards that are asked for; each 0th counts as each
+pub record IsWanted (query : BoardsQuery) (wanted : Wanted) : Type 0 where
+  pub values : AsksFor query.value wanted.values
+  pub distances : AsksFor query.distance wanted.distances
+  pub farthest : wanted.farthest ≡ query.farthest
+  pub every : wanted.every ≡ max 1 query.every
+
+-- What was written is how many boards of the level are wanted, or a line for each of them.
+abbrev pub AppendsWanted : Bool → List Image → ℕ → Wanted → Option (List ℕ) → Option (List ℕ) → Type 0
+AppendsWanted true images level wanted before after = Appends before after (decimal (length (wanted_boards wanted images level)) ++ 10 ∷ [])
+AppendsWanted false images level wanted before after = Appends before after (board_lines images (wanted_boards wanted images level))
+
+-- Where it is known what the writer holds, that was written of the boards that the query asks for, by right levels: those up to
+-- the query's that the folder stores, where it is known what its names have.
+abbrev pub PrintsBoards : (ℕ → Option (Option (List ℕ))) → BoardsQuery → Option (List ℕ) → Option (List ℕ) → Type 0
+PrintsBoards stands query before after = (images : List Image) × (wanted : Wanted) × HasLevel query.level stands images × IsWanted query wanted
+    × AppendsWanted query.count images query.level wanted before after
+
+-- the boards of all levels: `tuples 12 level` are the boards of so many stones in lexicographic order
+abbrev pub all_lines : List Image → List ℕ
+all_lines images = flat_map (λ level. board_lines images (tuples 12 level)) (range_with_len 0 (length images))
+
+-- Where it is known what the writer holds, what was written are the lines of all boards of right levels, or of the one of this
+-- number. The levels are those that the folder stores, where it is known what its names have.
+abbrev pub PrintsAllBoards : (ℕ → Option (Option (List ℕ))) → Option ℕ → Option (List ℕ) → Option (List ℕ) → Type 0
+PrintsAllBoards stands None before after = (images : List Image) × AreLevelsTo HIGHEST_LEVEL stands images × Appends before after (all_lines images)
+PrintsAllBoards stands (Some level) before after = (images : List Image) × HasLevel level stands images × Appends before after (board_lines images (tuples 12 level))

@@ -1,0 +1,65 @@
+//! The levels in a folder, up to one that has to be there.
+
+ghost use Rattle.std.specs.Prelude.{◌≡◌, IfOk};
+ghost use Rattle.awari_folder.specs.Contents.{Same};
+ghost use Rattle.awari_questions.specs.Loads.{HasLevel};
+ghost use Rattle.awari_questions.specs.declared.loads.LevelFault.TheVariants as level_fault;
+
+use awari_answers::load_levels;
+use awari_folder::{Folder, FolderFault};
+use awari_table::{NotYet, Shelf};
+use std::alloc::Global;
+use std::fmt;
+use std::thread::Threads;
+
+/// Why a folder gives no answer about a level. It is printed as the fault inside it.
+#[derive(Clone, Copy, Debug, PartialEq, Eq)]
+pub enum LevelFault {
+    /// The folder is not loaded.
+    Folder { fault: FolderFault },
+    /// 59: the folder does not have the level.
+    NotYet { fault: NotYet },
+}
+
+impl From<FolderFault> for LevelFault {
+    ghost from_gives = { λ fault e. e ≡ level_fault.Folder fault };
+
+    fn from(fault: FolderFault) -> Self {
+        LevelFault::Folder { fault }
+    }
+}
+
+impl fmt::Display for LevelFault {
+    ghost use Rattle.std.specs.Prelude.{Some};
+    ghost use Rattle.awari_questions.specs.Loads.{level_fault_text};
+
+    ghost output = { λ fault. Some (level_fault_text fault) };
+
+    fn fmt<W: fmt::Write>(&self, f: &mut fmt::Formatter<W>) -> fmt::Result {
+        match *self {
+            LevelFault::Folder { fault } => write!(f, "{fault}"),
+            LevelFault::NotYet { fault } => write!(f, "{fault}"),
+        }
+    }
+}
+
+/// The levels in a folder up to this one. It is refused as [`load_levels`] is, or as 59 if the level is
+/// not there.
+pub(crate) fn load_to<T: Threads + Sync, F: Folder>(
+    rt: &T,
+    folder: &mut F,
+    alloc: Global,
+    level: u8,
+) -> Result<Shelf, LevelFault>
+    ensures levels { IfOk result (HasLevel level (F.state folder.old).stands) }
+    ensures same { Same (F.state folder.old).stands (F.state folder.new).stands }
+{
+    let shelf = load_levels(rt, folder, alloc, level)?;
+    let levels = shelf.levels();
+    if level >= levels {
+        return Err(LevelFault::NotYet {
+            fault: NotYet { levels },
+        });
+    }
+    Ok(shelf)
+}
