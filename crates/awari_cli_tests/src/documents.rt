@@ -8,7 +8,7 @@
 //! | `README` | README.md; the first build and `moves` also docs/MANUAL.md |
 //!
 //! What else docs/MANUAL.md shows is tested by `commands`, `levels`, `files`, `texts`, `migrations`,
-//! `progress` and `services`, and the files of docs/FORMATS.md by the crate `awari_file_tests`.
+//! `progress`, `questions` and `services`, and the files of docs/FORMATS.md by the crate `awari_file_tests`.
 
 use crate::commands::{Line, expect_lines};
 use crate::levels::{LEVELS_0_TO_2, expect_in_folder};

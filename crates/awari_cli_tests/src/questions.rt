@@ -6,7 +6,7 @@ use crate::levels::{LEVELS_0_TO_2, NO_LEVELS, expect_in_folder};
 use std::io;
 
 /// Places of boards, and boards of places, also of none.
-const PLACES: [Line; 14] = [
+const PLACES: [Line; 15] = [
     (&["awari", "rank", "0,0,0,0,0,0/0,0,0,0,0,0"], "0 0\n", 0),
     (&["awari", "rank", "0,0,0,0,0,1/0,0,0,0,0,0"], "1 6\n", 0),
     (
@@ -28,6 +28,11 @@ const PLACES: [Line; 14] = [
     (
         &["awari", "board", "0", "0"],
         "0,0,0,0,0,0/0,0,0,0,0,0\n",
+        0,
+    ),
+    (
+        &["awari", "board", "1", "6"],
+        "0,0,0,0,0,1/0,0,0,0,0,0\n",
         0,
     ),
     (
@@ -181,7 +186,7 @@ fn levels_are_counted(rt: HostRuntime) -> io::Result<()> {
 const LISTED: &str = "awari_cli_test_boards";
 
 /// Boards of a level: all, those of some values and distances, some of these, and how many.
-const BOARDS: [Line; 16] = [
+const BOARDS: [Line; 17] = [
     (
         &["awari", "build", "2", "--folder", LISTED],
         LEVELS_0_TO_2,
@@ -235,6 +240,19 @@ const BOARDS: [Line; 16] = [
             "--count",
         ],
         "2\n",
+        0,
+    ),
+    (
+        &[
+            "awari",
+            "boards",
+            LISTED,
+            "2",
+            "--value=-2..0",
+            "--distance",
+            "9..9",
+        ],
+        "0,0,1,0,0,1/0,0,0,0,0,0 -2 5 9\n0,1,0,0,0,0/1,0,0,0,0,0 -2 1 9\n",
         0,
     ),
     (&["awari", "boards", LISTED, "2", "--count"], "78\n", 0),
