@@ -1,5 +1,5 @@
 -- A board of which no note was heard is open before any gain is.
-use Rattle.std.proofs.Common.{◌≡◌, ℕ, zero, suc, ◌+◌, ◌<◌, ◌≤◌, ◌==◌, ◌⊎◌, inl, inr, Bool, true, false, not, ◌&&◌, if◌then◌else◌, is_some, All, List, [], ◌∷◌, ◌++◌, ◌-◌, ◌≢◌, length, get_or, length-append, subst₂, sum, take, count_by, ℤ, Option, Some, None, pos, neg_ℤ, ◌-ℤ◌, ◌<ℤ◌, ◌≤ℤ◌, refl, sym, ap, subst, ◌∙◌, arith, eqb-true}
+use Rattle.std.proofs.Common.{◌≡◌, ℕ, zero, suc, ◌+◌, ◌<◌, ◌≤◌, ◌==◌, ◌⊎◌, inl, inr, Bool, true, false, not, ◌&&◌, is_some, All, List, [], ◌∷◌, ◌++◌, ◌-◌, ◌≢◌, length, get_or, length-append, subst₂, sum, take, count_by, ℤ, Option, Some, None, pos, neg_ℤ, ◌-ℤ◌, ◌<ℤ◌, ◌≤ℤ◌, refl, sym, ap, subst, ◌∙◌, arith, eqb-true}
 use Rattle.std.proofs.lemmas.Bool.Decides.{nat_tests}
 use Rattle.std.proofs.lemmas.Int.{ints}
 use Rattle.std.proofs.lemmas.List.{get_or_append_left, get_or_default}
@@ -16,10 +16,12 @@ use Rattle.awari_block.specs.declared.cells.Cell.{Cell}
 use Rattle.awari_block.specs.declared.cells.Mark.{Mark}
 use Rattle.awari_block.specs.declared.cells.Mark.TheVariants.{Ended, Quiet, Capturing, Noted, Settled}
 use Rattle.awari_block.specs.declared.places.Place.{Place}
-use Rattle.awari_owner.specs.Scan.{IsRanged, IsBestBelow, IsCounted, IsScanned, AreScanned, AreScannedTo}
-use Rattle.awari_rank.specs.Rank.{rank_of}
-use Rattle.awari_block.specs.Blocks.{Due, due_rank, cell_in, no_cell, times_due, is_settled_in, IsDueAs, IsBlock}
-use Rattle.awari_block.specs.Part.{Part, InBlock, settled_by, settled_at}
+use Rattle.awari_owner.specs.Scan.{IsRanged, IsBestBelow, IsCounted, IsScanned, IsScannedPart, AreScanned, AreScannedTo}
+use Rattle.awari_rank.specs.Rank.{rank_of, size_of}
+use Rattle.awari_rank.proofs.Reaching.{board_reached}
+use Rattle.awari_block.proofs.Freshness.{fresh_of_block}
+use Rattle.awari_block.specs.Blocks.{cell_in, no_cell, IsBlock}
+use Rattle.awari_block.specs.Part.{Part, AreFresh, InBlock, part_of, settled_by, settled_at}
 use Rattle.awari_owner.specs.Spread.{HearsOwn}
 use Rattle.std.proofs.lemmas.Bool.{false≢true}
 use Rattle.awari_owner.proofs.Basics.{below_six, count_by-none, count_by-some}
@@ -264,31 +266,20 @@ module _ (value : List ℕ → ℤ) (n start : ℕ) where
 
 -- ---- the block
 
-module _ (value : List ℕ → ℤ) (n start end : ℕ) (cells : List Cell) (long : start + length cells ≡ end)
-    (onto : (r : ℕ) → r < end → (p : List ℕ) × IsBoard p × (sum p ≡ n) × (rank_of p ≡ r)) (scanned_all : AreScanned value n start end cells) where
+module _ (value : List ℕ → ℤ) (n first last : ℕ) (cells : List Cell) (low : n ≤ 24) (within : last ≤ size_of n) (long : first + length cells ≡ last) (scanned_all : AreScanned value n first last cells) where
   -- each cell is that of a board
   scanned_at : (k : ℕ) → k < length cells → (p : List ℕ) × (sum p ≡ n) × IsScanned value p (get_or cells k no_cell)
   scanned_at k h =
-      let board = onto (start + k) (omega (arith, h, long)) in
-      let at : rank_of board.0 - start ≡ k = omega (arith, board.3) in
+      let board = board_reached n (first + k) low (omega (arith, h, long, within)) in
+      let at : rank_of board.0 - first ≡ k = omega (arith, board.3) in
       (board.0, board.2, subst (λ j. IsScanned value board.0 (get_or cells j no_cell)) at (scanned_all board.0 board.1 board.2 (omega (arith, board.3)) (omega (arith, board.3, h, long))))
 
-  pub scanned_block : (place : Place) (fresh : List Due) → place.level ≡ n → fresh ≡ [] → IsBlock place cells fresh
-  scanned_block place fresh level none = record {
-    fit = λ k d h.
-        let at = scanned_at k h in
-        let same : get_or cells k d ≡ get_or cells k no_cell = get_or_default cells k d no_cell h in
-        subst (Fits place) (sym same) (subst (λ m. FitsBy (get_or cells k no_cell).mark m place.gain (get_or cells k no_cell).score (get_or cells k no_cell).dist) (at.1 ∙ sym level) (at.2.fits place.gain));
-    settled = λ r. subst (λ (fs : List Due). times_due fs r ≤ (if is_settled_in place.start cells r then 1 else 0)) (sym none) (omega arith);
-    due = subst (λ (fs : List Due). All (λ f. IsDueAs place f (cell_in place.start cells (due_rank f))) fs) (sym none) (λ k d h. absurd (omega (arith, h)));
-  }
-
   -- no board is settled
-  pub scanned_unsettled : (r : ℕ) → start ≤ r → r - start < length cells → settled_by (status_of (cell_in start cells r)) ≡ None
-  scanned_unsettled r low high = at (cell_in start cells r).mark (scanned_at (r - start) high).2.unsettled
+  scanned_unsettled : (r : ℕ) → r - first < length cells → settled_by (status_of (cell_in first cells r)) ≡ None
+  scanned_unsettled r high = at (cell_in first cells r).mark (scanned_at (r - first) high).2.unsettled
     where
       c : Cell
-      c = cell_in start cells r
+      c = cell_in first cells r
 
       at : (m : Mark) → is_settled m ≡ false → settled_by (status_by m c.score c.plans c.dist) ≡ None
       at Settled e = absurd (false≢true (sym e))
@@ -296,6 +287,42 @@ module _ (value : List ℕ → ℤ) (n start end : ℕ) (cells : List Cell) (lon
       at Capturing e = refl
       at Noted e = refl
       at Ended e = refl
+
+  module _ (level : ℕ) (is : level ≡ n) where
+    abbrev pub place : Place
+    place = record { level = level; gain = level + 1; wave = 0; start = first }
+
+    block : IsBlock place cells []
+    block = record {
+      fit = λ k d h.
+          let at = scanned_at k h in
+          let same : get_or cells k d ≡ get_or cells k no_cell = get_or_default cells k d no_cell h in
+          subst (Fits place) (sym same) (subst (λ m. FitsBy (get_or cells k no_cell).mark m place.gain (get_or cells k no_cell).score (get_or cells k no_cell).dist) (at.1 ∙ sym is) (at.2.fits place.gain));
+      settled = λ r. omega arith;
+      due = λ k d h. absurd (omega (arith, h));
+    }
+
+    pub unopened_fits : All (λ (c : Cell). FitsBy c.mark level (level + 1) c.score c.dist) cells
+    unopened_fits = block.fit
+
+    module _ (part : Part) (seen : part ≡ part_of place cells []) where
+      pub unopened_fresh : AreFresh part
+      unopened_fresh = subst AreFresh (sym seen) (fresh_of_block place cells [] block)
+
+      pub unopened_scanned : IsScannedPart value n first last part
+      unopened_scanned = subst (IsScannedPart value n first last) (sym seen) (record {
+        level = is;
+        gain = ap (λ m. m + 1) is;
+        wave = refl;
+        start = refl;
+        end = long;
+        fresh = refl;
+        unsettled = λ r inside. scanned_unsettled r inside.1;
+        tallied = λ p board stones inside.
+            let above = inside.0 in
+            let below = inside.1 in
+            scanned_tally value p (cell_in first cells (rank_of p)) (level + 1) 0 (omega (arith, stones)) (scanned_all p board (stones ∙ is) above (omega (arith, above, below, long)));
+      })
 
 -- of no notes there is nothing to hear where no board is settled
 pub hears_none : (part : Part) → ((r : ℕ) → InBlock part r → settled_at part r ≡ None) → HearsOwn part []

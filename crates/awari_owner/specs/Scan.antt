@@ -10,7 +10,7 @@ use Rattle.awari_block.specs.Tally.{CapturesFrom}
 use Rattle.awari_block.specs.Cells.{view_of, is_settled, IsWithin, FitsBy}
 use Rattle.awari_block.specs.Blocks.{cell_in}
 use Rattle.awari_block.specs.Leaving.{AreLeaving, IsBlockOf, first_rank}
-use Rattle.awari_block.specs.Part.{Part, InBlock, settled_at}
+use Rattle.awari_block.specs.Part.{Part, InBlock, IsTallied, settled_at}
 use Rattle.awari_table.specs.declared.TheConstants.{HIGHEST_LEVEL}
 use Rattle.awari_block.specs.declared.cells.Cell.{Cell}
 use Rattle.awari_block.specs.declared.places.Block.{Block}
@@ -103,3 +103,15 @@ pub record IsPiece (value : List ℕ → ℤ) (n : ℕ) (block : Block) (first b
 -- those of all boards of the block
 pub record IsScannedBlock (value : List ℕ → ℤ) (n : ℕ) (block : Block) (found : ScannedBlock) : Type 0 where
   pub piece : IsPiece value n block block.start (block.end - block.start) found.cells.items found.leaving.items
+
+-- The boards of n stones from rank `first` up to, not including, rank `last`, with no gain open: no note was heard, and no board is
+-- settled.
+pub record IsScannedPart (value : List ℕ → ℤ) (n first last : ℕ) (part : Part) : Type 0 where
+  pub level : part.level ≡ n
+  pub gain : part.gain ≡ n + 1
+  pub wave : part.wave ≡ 0
+  pub start : part.start ≡ first
+  pub end : part.start + length part.cells ≡ last
+  pub fresh : part.fresh ≡ []
+  pub unsettled : (rank : ℕ) → InBlock part rank → settled_at part rank ≡ None
+  pub tallied : IsTallied value part []

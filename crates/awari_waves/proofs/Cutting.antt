@@ -1,21 +1,15 @@
 -- A level is scanned, a block after the other.
-use Rattle.std.proofs.Common.{◌≡◌, ℕ, zero, suc, ◌+◌, ◌*◌, ◌-◌, ◌^◌, ◌<◌, ◌≤◌, min, All, List, [], ◌∷◌, ◌++◌, length, get_or, length-append, sum, ℤ, None, is_some, refl, sym, ap, subst, ◌∙◌, inl, inr, arith}
+use Rattle.std.proofs.Common.{◌≡◌, ℕ, zero, suc, ◌+◌, ◌*◌, ◌-◌, ◌^◌, ◌<◌, ◌≤◌, min, List, [], ◌∷◌, ◌++◌, length, get_or, length-append, ℤ, None, is_some, refl, sym, ap, subst, ◌∙◌, inl, inr, arith}
 use Rattle.std.proofs.lemmas.Bool.{cases_lt, false≢true}
 use Rattle.std.proofs.lemmas.List.{get_or_append_left, get_or_default}
 use Rattle.std.proofs.Math.Seq.{get_or-append_seam}
 use Rattle.std.proofs.Math.Nat.{suc-mul}
-use Rattle.awari_board.specs.Rules.{IsBoard}
 use Rattle.awari_rank.specs.Rank.{rank_of, size_of}
 use Rattle.awari_rank.proofs.Examples.{highest}
-use Rattle.awari_rank.proofs.Reaching.{board_reached, size_of-grows}
-use Rattle.awari_block.specs.Cells.{FitsBy}
-use Rattle.awari_block.specs.Blocks.{IsBlock, cell_in}
+use Rattle.awari_rank.proofs.Reaching.{size_of-grows}
 use Rattle.awari_block.specs.Part.{Part, InBlock, IsTallied, settled_at}
-use Rattle.awari_block.specs.declared.cells.Cell.{Cell}
-use Rattle.awari_owner.specs.Scan.{AreScanned}
 use Rattle.awari_owner.specs.Spread.{Hears}
 use Rattle.awari_owner.specs.Level.{AreBlocks, AreHeard, AreWhole, no_part, part_at}
-use Rattle.awari_owner.proofs.Scanning.{scanned_block, scanned_tally, scanned_unsettled}
 use Rattle.awari_waves.specs.Each.{AreIdle}
 use Rattle.awari_waves.specs.Scanned.{IsScannedPart}
 use Rattle.awari_waves.specs.Waves.{IsGrid}
@@ -23,38 +17,6 @@ use Rattle.awari_waves.proofs.Spans.{grid_of}
 
 pub level_few : (n : ℕ) → n ≤ 24 → size_of n ≤ 2 ^ 29
 level_few n low = omega (arith, size_of-grows n 24 low, highest)
-
--- ---- one block
-
-module _ (value : List ℕ → ℤ) (n first last : ℕ) (cells : List Cell) (low : n ≤ 24) (within : last ≤ size_of n) (long : first + length cells ≡ last)
-    (scanned : AreScanned value n first last cells) where
-  unopened : Part
-  unopened = record { level = n; gain = n + 1; wave = 0; start = first; cells = cells; fresh = [] }
-
-  onto : (r : ℕ) → r < last → (p : List ℕ) × IsBoard p × (sum p ≡ n) × (rank_of p ≡ r)
-  onto r h = board_reached n r low (omega (arith, h, within))
-
-  pub unopened_fits : All (λ c. FitsBy c.mark n (n + 1) c.score c.dist) cells
-  unopened_fits =
-      let block : IsBlock (record { level = n; gain = n + 1; wave = 0; start = first }) cells [] = scanned_block value n first last cells long onto scanned (record { level = n; gain = n + 1; wave = 0; start = first }) [] refl refl in
-      block.fit
-
-  pub unopened_scanned : IsScannedPart value n first last (record { level = n; gain = n + 1; wave = 0; start = first; cells = cells; fresh = [] })
-  unopened_scanned = record {
-    level = refl;
-    gain = refl;
-    wave = refl;
-    start = refl;
-    end = long;
-    fresh = refl;
-    unsettled = λ r inside. scanned_unsettled value n first last cells long onto scanned r inside.0 inside.1;
-    tallied = λ p is stones inside.
-        let above = inside.0 in
-        let below = inside.1 in
-        scanned_tally value p (cell_in first cells (rank_of p)) (n + 1) 0 (omega (arith, stones)) (scanned p is stones above (omega (arith, above, below, long)));
-  }
-
--- ---- one after the other
 
 -- the boards up to, not including, this rank are in these blocks
 pub record AreScannedTo (value : List ℕ → ℤ) (n span reached : ℕ) (parts : List Part) : Type 0 where

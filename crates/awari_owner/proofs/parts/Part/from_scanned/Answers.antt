@@ -1,95 +1,59 @@
-use Rattle.std.proofs.Common.{◌≡◌, ◌+◌, ◌-◌, ◌≤◌, [], length, refl, ap, sym, subst, subst₂, ◌∙◌, rules, arith}
-use Rattle.awari_rank.proofs.Reaching.{board_reached}
-use Rattle.awari_table.specs.Images.{table_of}
-use Rattle.awari_block.specs.Leaving.{AreLeaving}
-use Rattle.awari_rank.specs.Rank.{rank_of}
-use Rattle.awari_block.specs.Part.{Part, AreFresh, IsTallied, stored_at}
-use Rattle.awari_owner.specs.Scan.{AreScanned, IsScan}
-use Rattle.awari_owner.specs.Spread.{HearsOwn}
-use Rattle.awari_block.proofs.Freshness.{fresh_of_block}
-use Rattle.awari_owner.proofs.Scanning.{scanned_block, scanned_tally, scanned_unsettled, hears_none}
+use Rattle.std.proofs.Common.{◌≡◌, ◌+◌, ◌-◌, ◌≤◌, ℕ, ℤ, List, [], All, length, ap, sym, subst, subst₂, ◌∙◌, rules, arith}
+use Rattle.awari_block.specs.Cells.{FitsBy}
+use Rattle.awari_block.specs.Leaving.{AreLeaving, IsBlockOf}
+use Rattle.awari_block.specs.Part.{Part, AreFresh}
+use Rattle.awari_block.specs.declared.cells.Cell.{Cell}
+use Rattle.awari_block.specs.declared.places.Block.{Block}
+use Rattle.awari_owner.specs.Scan.{AreScanned, IsScannedBlock, IsScannedPart}
+use Rattle.awari_owner.specs.declared.scans.ScannedBlock.{ScannedBlock}
+use Rattle.awari_owner.proofs.Scanning.{hears_none, unopened_fits, unopened_fresh, unopened_scanned}
 use Rattle.awari_owner.proofs.parts.Part.from_scanned.Goals as goal
 
+-- what was found of a block, as cells of the boards of a level of so many stones
+module _ (value : List ℕ → ℤ) (n : ℕ) (block : Block) (found : ScannedBlock) (low : n ≤ 24) (sound : IsBlockOf n block) (is : IsScannedBlock value n block found) (level : ℕ) (same : level ≡ n) where
+  long : block.start + length found.cells.items ≡ block.end
+  long = let order = sound.order in let len = is.piece.len in omega (arith, order, len)
+
+  all : AreScanned value n block.start block.end found.cells.items
+  all = let behind : block.start + (block.end - block.start) ≡ block.end = (let order = sound.order in omega (arith, order)) in
+      subst (λ e. AreScanned value n block.start e found.cells.items) behind is.piece.scanned
+
+  fits : All (λ (c : Cell). FitsBy c.mark level (level + 1) c.score c.dist) found.cells.items
+  fits = unopened_fits value n block.start block.end found.cells.items low sound.within long all level same
+
+  module _ (part : Part) (seen : part ≡ record { level = level; gain = level + 1; wave = 0; start = block.start; cells = found.cells.items; fresh = [] }) where
+    scanned : IsScannedPart value n block.start block.end part
+    scanned = unopened_scanned value n block.start block.end found.cells.items low sound.within long all level same part seen
+
+    fresh : AreFresh part
+    fresh = unopened_fresh value n block.start block.end found.cells.items low sound.within long all level same part seen
+
+    leaves : AreLeaving part.level part.start (length part.cells) part.start found.leaving.items
+    leaves = subst (λ (o : Part). AreLeaving o.level o.start (length o.cells) o.start found.leaving.items) (sym seen)
+        (subst₂ (λ m b. AreLeaving m block.start b block.start found.leaving.items) (sym same) (sym is.piece.len) is.piece.leaves)
+
 pub unopened-requires-clause-fit : goal.unopened-requires-clause-fit
-unopened-requires-clause-fit c =
-    let found = c.requires.found in
-    let order = c.requires.block.order in
-    let len : c.args.block.start + length c.args.found.cells.items ≡ c.args.block.end = omega (arith, order, found.piece.len) in
-    let behind : c.args.block.start + (c.args.block.end - c.args.block.start) ≡ c.args.block.end = omega (arith, order) in
-    let scanned_all = subst (λ e. AreScanned (table_of c.args.shelf.now).value (length c.args.shelf.now) c.args.block.start e c.args.found.cells.items) behind found.piece.scanned in
-    let n = length c.args.shelf.now in
-    let few : n ≤ 24 = omega (arith, c.requires.low) in
-    let block = scanned_block (table_of c.args.shelf.now).value n c.args.block.start c.args.block.end c.args.found.cells.items len
-    (λ r h. board_reached n r few (omega (arith, h, c.requires.block.within)))
-    scanned_all (record { level = c.levels.result; gain = c.levels.result + 1; wave = 0; start = c.args.block.start }) [] c.levels.ensures.levels refl in
-    block.fit
+unopened-requires-clause-fit c = fits _ _ c.args.block c.args.found (omega (arith, c.requires.low)) c.requires.block c.requires.found c.levels.result c.levels.ensures.levels
 
 pub invariant_of-result : goal.invariant_of-result
-invariant_of-result c =
-    let found = c.requires.found in
-    let order = c.requires.block.order in
-    let len : c.args.block.start + length c.args.found.cells.items ≡ c.args.block.end = omega (arith, order, found.piece.len) in
-    let behind : c.args.block.start + (c.args.block.end - c.args.block.start) ≡ c.args.block.end = omega (arith, order) in
-    let scanned_all = subst (λ e. AreScanned (table_of c.args.shelf.now).value (length c.args.shelf.now) c.args.block.start e c.args.found.cells.items) behind found.piece.scanned in
-    let n = length c.args.shelf.now in
-    let few : n ≤ 24 = omega (arith, c.requires.low) in
-    let boards : c.args.block.end - c.args.block.start ≡ length c.args.found.cells.items = sym found.piece.len in
-    record {
-      opened = (let gain = ap (λ (p : Part). p.gain) c.in_ok-boards.ensures in omega (arith, gain));
-      each = search rules;
-      leaving = subst (λ (o : Part). AreLeaving o.level o.start (length o.cells) o.start c.args.found.leaving.items) (sym c.in_ok-boards.ensures)
-          (subst₂ (λ m b. AreLeaving m c.args.block.start b c.args.block.start c.args.found.leaving.items) (sym c.levels.ensures.levels) boards found.piece.leaves);
-      fresh = subst AreFresh (sym c.in_ok-boards.ensures)
-          (fresh_of_block (record { level = c.levels.result; gain = c.levels.result + 1; wave = 0; start = c.args.block.start }) c.args.found.cells.items []
-          (scanned_block (table_of c.args.shelf.now).value n c.args.block.start c.args.block.end c.args.found.cells.items len (λ r h. board_reached n r few (omega (arith, h, c.requires.block.within)))
-          scanned_all (record { level = c.levels.result; gain = c.levels.result + 1; wave = 0; start = c.args.block.start }) [] c.levels.ensures.levels refl));
-      targets = search rules;
-    }
+invariant_of-result c = record {
+  opened = (let gain = ap (λ (p : Part). p.gain) c.in_ok-boards.ensures in omega (arith, gain));
+  each = search rules;
+  leaving = leaves _ _ c.args.block c.args.found (omega (arith, c.requires.low)) c.requires.block c.requires.found c.levels.result c.levels.ensures.levels c.in_ok-boards.boards c.in_ok-boards.ensures;
+  fresh = fresh _ _ c.args.block c.args.found (omega (arith, c.requires.low)) c.requires.block c.requires.found c.levels.result c.levels.ensures.levels c.in_ok-boards.boards c.in_ok-boards.ensures;
+  targets = search rules;
+}
 
 pub returns-clause-scanned : goal.returns-clause-scanned
 returns-clause-scanned c =
-    let found = c.requires.found in
-    let order = c.requires.block.order in
-    let len : c.args.block.start + length c.args.found.cells.items ≡ c.args.block.end = omega (arith, order, found.piece.len) in
-    let behind : c.args.block.start + (c.args.block.end - c.args.block.start) ≡ c.args.block.end = omega (arith, order) in
-    let scanned_all = subst (λ e. AreScanned (table_of c.args.shelf.now).value (length c.args.shelf.now) c.args.block.start e c.args.found.cells.items) behind found.piece.scanned in
-    let n = length c.args.shelf.now in
-    let few : n ≤ 24 = omega (arith, c.requires.low) in
-    subst (IsScan n c.args.owners c.args.owner) (sym c.in_ok-boards.ensures) (record {
-      level = c.levels.ensures.levels;
-      gain = ap (λ m. m + 1) c.levels.ensures.levels;
-      wave = refl;
-      start = c.requires.start;
-      end = len ∙ c.requires.end;
-      unsettled = λ r inside. scanned_unsettled (table_of c.args.shelf.now).value n c.args.block.start c.args.block.end c.args.found.cells.items len
-          (λ r h. board_reached n r few (omega (arith, h, c.requires.block.within))) scanned_all r inside.0 inside.1;
-      fresh = refl;
-    })
+    let part = scanned _ _ c.args.block c.args.found (omega (arith, c.requires.low)) c.requires.block c.requires.found c.levels.result c.levels.ensures.levels c.in_ok-boards.boards c.in_ok-boards.ensures in
+    record { level = part.level; gain = part.gain; wave = part.wave; start = part.start ∙ c.requires.start; end = part.end ∙ c.requires.end; unsettled = part.unsettled; fresh = part.fresh }
 
 pub returns-clause-hears : goal.returns-clause-hears
 returns-clause-hears c =
-    let found = c.requires.found in
-    let order = c.requires.block.order in
-    let len : c.args.block.start + length c.args.found.cells.items ≡ c.args.block.end = omega (arith, order, found.piece.len) in
-    let behind : c.args.block.start + (c.args.block.end - c.args.block.start) ≡ c.args.block.end = omega (arith, order) in
-    let scanned_all = subst (λ e. AreScanned (table_of c.args.shelf.now).value (length c.args.shelf.now) c.args.block.start e c.args.found.cells.items) behind found.piece.scanned in
-    let n = length c.args.shelf.now in
-    let few : n ≤ 24 = omega (arith, c.requires.low) in
-    subst (λ (o : Part). HearsOwn o []) (sym c.in_ok-boards.ensures)
-    (hears_none _ (λ r inside. scanned_unsettled (table_of c.args.shelf.now).value n c.args.block.start c.args.block.end c.args.found.cells.items len
-    (λ r h. board_reached n r few (omega (arith, h, c.requires.block.within))) scanned_all r inside.0 inside.1))
+    hears_none c.in_ok-boards.boards
+    (scanned _ _ c.args.block c.args.found (omega (arith, c.requires.low)) c.requires.block c.requires.found c.levels.result c.levels.ensures.levels c.in_ok-boards.boards c.in_ok-boards.ensures).unsettled
 
 pub returns-clause-tallied : goal.returns-clause-tallied
 returns-clause-tallied c =
-    let part : Part = record { level = c.levels.result; gain = c.levels.result + 1; wave = 0; start = c.args.block.start; cells = c.args.found.cells.items; fresh = [] } in
-    let found = c.requires.found in
-    let order = c.requires.block.order in
-    let len : c.args.block.start + length c.args.found.cells.items ≡ c.args.block.end = omega (arith, order, found.piece.len) in
-    let behind : c.args.block.start + (c.args.block.end - c.args.block.start) ≡ c.args.block.end = omega (arith, order) in
-    let scanned_all = subst (λ e. AreScanned (table_of c.args.shelf.now).value (length c.args.shelf.now) c.args.block.start e c.args.found.cells.items) behind found.piece.scanned in
-    let tallied : IsTallied (table_of c.args.shelf.now).value part [] = λ p is stones inside.
-    let low = inside.0 in
-    let high = inside.1 in
-    scanned_tally (table_of c.args.shelf.now).value p (stored_at part (rank_of p)) (c.levels.result + 1) 0 (omega (arith, stones))
-    (scanned_all p is (stones ∙ c.levels.ensures.levels) low (omega (arith, low, high, len))) in
-    subst (λ (o : Part). IsTallied (table_of c.args.shelf.now).value o []) (sym c.in_ok-boards.ensures) tallied
+    (scanned _ _ c.args.block c.args.found (omega (arith, c.requires.low)) c.requires.block c.requires.found c.levels.result c.levels.ensures.levels c.in_ok-boards.boards c.in_ok-boards.ensures).tallied
