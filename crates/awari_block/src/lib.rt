@@ -4,7 +4,7 @@
 //! keep a [`Cell`] for each of them, with what is known of the board. A board is *settled* once its
 //! value and distance are known, and *fresh* until it is also spread. A [`Note`] says that a quiet move
 //! leads to a settled board. `specs/Tally.antt` defines what a cell knows of the notes that its board
-//! heard. `Boards::unopened` takes all memory; no other call takes any. A [`Pace`] says how many owners
+//! heard. `Boards::unopened` takes all memory that the boards ever need. A [`Pace`] says how many owners
 //! share a level, and how they work.
 //!
 //! The cells of a block of which nothing is known yet, in `crates/awari_owner/src/scans.rt`:

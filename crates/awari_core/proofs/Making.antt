@@ -7,7 +7,7 @@ use Rattle.awari_table.specs.Images.{table_of}
 use Rattle.awari_table.specs.Shelves.{IsShelf}
 use Rattle.awari_owner.specs.Level.{no_part}
 use Rattle.awari_owner.specs.Outboxes.{AreBatches, IsBatch}
-use Rattle.awari_owner.specs.Sound.{IsScannedPart, IsTimely}
+use Rattle.awari_owner.specs.Sound.{IsScannedOwner, IsTimely}
 use Rattle.awari_owner.proofs.Sounding.{sound_same}
 use Rattle.awari_block.specs.declared.notes.Note.{Note}
 use Rattle.awari_core.specs.Core.{Core, IsAllTaken, IsLinked, IsSilent, Line, Sender, Sound, coming, no_line, no_sender, part_at}
@@ -35,7 +35,7 @@ new_linked owners owner room s is = subst (IsLinked owners room owner) (sym is) 
 -- scanned parts with nothing on its way are sound
 pub sound_new : (core : Core) → IsShelf core.shelf → length core.shelf ≤ HIGHEST_LEVEL → 0 < length core.parts → length core.parts ≤ 16 → length core.senders ≡ length core.parts
     → ((i : ℕ) → i < length core.parts → IsLinked (length core.parts) core.room i (get_or core.senders i no_sender)) → core.gain ≡ length core.shelf + 1 → IsAllTaken core
-    → ((i : ℕ) → i < length core.parts → IsScannedPart (table_of core.shelf).value (length core.shelf) (length core.parts) i (get_or core.parts i no_part)) → Sound core
+    → ((i : ℕ) → i < length core.parts → IsScannedOwner (table_of core.shelf).value (length core.shelf) (length core.parts) i (get_or core.parts i no_part)) → Sound core
 sound_new core shelf low some few senders linked gain taken scanned = record {
   shelf = shelf;
   low = low;

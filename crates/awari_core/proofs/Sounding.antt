@@ -6,7 +6,7 @@ use Rattle.awari_block.specs.Part.{Part}
 use Rattle.awari_block.specs.declared.notes.Note.{Note}
 use Rattle.awari_owner.specs.Level.{AreInStep, AreSound, IsShare, NothingComes}
 use Rattle.awari_owner.specs.OwnerFault.{IsFaultOf}
-use Rattle.awari_owner.specs.Sound.{CanTake, IsOpened, IsScannedPart, IsTimely, OwnerSound, RefusesNote, TakesNotes, with_taken}
+use Rattle.awari_owner.specs.Sound.{CanTake, IsOpened, IsScannedOwner, IsTimely, OwnerSound, RefusesNote, TakesNotes, with_taken}
 use Rattle.awari_owner.specs.declared.faults.OwnerFault.{OwnerFault}
 use Rattle.awari_owner.specs.declared.faults.OwnerFault.TheVariants.{Stranger, Doubled, Far, Memory}
 use Rattle.awari_owner.proofs.Expecting.{share_still}
@@ -14,7 +14,7 @@ use Rattle.awari_owner.proofs.Lists.{all_right}
 use Rattle.awari_owner.proofs.Sounding.{place_settled, share_place, sound_opened, sound_same, sound_scanned}
 
 -- parts that were scanned, with nothing on its way
-pub scanned_sound : (value : List ℕ → ℤ) (n owners : ℕ) (part : ℕ → Part) → 0 < owners → ((i : ℕ) → i < owners → IsScannedPart value n owners i (part i)) → AreSound value n owners part (λ _ _. []) (λ _ _. [])
+pub scanned_sound : (value : List ℕ → ℤ) (n owners : ℕ) (part : ℕ → Part) → 0 < owners → ((i : ℕ) → i < owners → IsScannedOwner value n owners i (part i)) → AreSound value n owners part (λ _ _. []) (λ _ _. [])
 scanned_sound value n owners part some scanned = record {
   shares = λ i low. let scan = (scanned i low).scan in record { level = scan.level; start = scan.start; end = scan.end };
   step = record {

@@ -4,7 +4,7 @@ ghost use Rattle.std.specs.Prelude.{ℕ, ℤ, ◌<◌, [], All, List, length};
 ghost use Rattle.awari_block.specs.Part.{Part};
 ghost use Rattle.awari_block.specs.declared.notes.Note.{Note};
 ghost use Rattle.awari_owner.specs.Level.{AreHeard, AreInStep, AreSound, AreWhole, DistancesFit, NothingComes};
-ghost use Rattle.awari_owner.specs.Sound.{IsOpened, IsScannedPart};
+ghost use Rattle.awari_owner.specs.Sound.{IsOpened, IsScannedOwner};
 ghost use Rattle.awari_table.specs.Images.{table_of};
 ghost use Rattle.awari_core.specs.Core.{Core, Sound, IsAllTaken};
 
@@ -12,7 +12,7 @@ use awari_owner::{distances_fit, sound_parts_are_told};
 
 /// Parts that were just scanned are sound, with nothing on its way.
 pub fn scanned_owners_are_sound()
-    ensures { (value : List ℕ → ℤ) (n owners : ℕ) (part : ℕ → Part) → 0 < owners → ((i : ℕ) → i < owners → IsScannedPart value n owners i (part i))
+    ensures { (value : List ℕ → ℤ) (n owners : ℕ) (part : ℕ → Part) → 0 < owners → ((i : ℕ) → i < owners → IsScannedOwner value n owners i (part i))
         → AreSound value n owners part (λ _ _. []) (λ _ _. []) }
 {}
 

@@ -4,7 +4,7 @@ ghost use Rattle.std.specs.Prelude.{◌≡◌, ◌↔◌, ◌+◌, ◌<◌, ◌�
 ghost use Rattle.awari_block.specs.Blocks.{due_dist};
 ghost use Rattle.awari_owner.specs.Level.{no_part};
 ghost use Rattle.awari_block.specs.Part.{Part as PartView};
-ghost use Rattle.awari_owner.specs.Sound.{IsScannedPart, OpensGain, OpensWave};
+ghost use Rattle.awari_owner.specs.Sound.{IsScannedOwner, OpensGain, OpensWave};
 ghost use Rattle.awari_table.specs.Images.{table_of};
 ghost use Rattle.awari_table.specs.declared.TheConstants.{HIGHEST_LEVEL};
 ghost use Rattle.awari_core.specs.Core.{IsNearer};
@@ -18,7 +18,7 @@ pub fn scanned_parts(alloc: Global, shelf: &Shelf, owners: u8) -> Result<Vec<Par
     requires owners { (1 ≤ owners) × (owners ≤ 16) }
     requires low { length shelf.now ≤ HIGHEST_LEVEL }
     ensures count { IfOk result (λ parts. vec_len parts ≡ owners) }
-    ensures scanned { IfOk result (λ parts. (i : ℕ) → i < owners → IsScannedPart (table_of shelf.now).value (length shelf.now) owners i (slice_index_or parts.items i no_part)) }
+    ensures scanned { IfOk result (λ parts. (i : ℕ) → i < owners → IsScannedOwner (table_of shelf.now).value (length shelf.now) owners i (slice_index_or parts.items i no_part)) }
 {
     let mut parts = Vec::with_capacity(alloc, owners as usize)?;
     for owner in 0..owners {

@@ -61,7 +61,3 @@ IsFinding-more pairs old now found count seen left more y t before is at = recor
   listed = λ front are. subst (Lists (set now count t) (count + 1)) (append_assoc front seen (y ∷ []))
       (Lists-more now count (front ++ seen) y t (IsFinding-place pairs old now found count seen left more y before is) at (before.listed front are));
 }
-
--- at the end all are seen
-pub IsFinding-end : (pairs : List Source) (old now : List Target) (found count : ℕ) (seen left : List Source) → IsFinding pairs old now found count seen left → left ≡ [] → seen ≡ pairs
-IsFinding-end pairs old now found count seen left all none = sym (all.whole ∙ ap (λ l. seen ++ l) none ∙ append-nil seen)

@@ -14,7 +14,7 @@ use Rattle.awari_block.specs.declared.notes.Note.{Note}
 use Rattle.awari_block.proofs.BlockLemmas.{keeps_both}
 use Rattle.awari_block.proofs.Settling.{settles_both, settles_none}
 use Rattle.awari_owner.specs.Level.{IsShare}
-use Rattle.awari_owner.specs.Sound.{HoldsNotes, IsInBlockOf, IsOpened, IsOtherOf, IsScannedPart, IsTimely, OpensGain, OpensWave, OwnerSound, SamePlace, TakesNote, TakesNotes, with_taken}
+use Rattle.awari_owner.specs.Sound.{HoldsNotes, IsInBlockOf, IsOpened, IsOtherOf, IsScannedOwner, IsTimely, OpensGain, OpensWave, OwnerSound, SamePlace, TakesNote, TakesNotes, with_taken}
 use Rattle.awari_owner.specs.Spread.{IsSeenAs}
 use Rattle.awari_owner.proofs.Expecting.{inside_new, inside_old, leaves_old, seen_kept, timely_still}
 use Rattle.awari_owner.proofs.Lists.{Has-append_cases, Has-append_left, Has-append_right}
@@ -51,7 +51,7 @@ sound_same value owner owners part taken taken' given given' coming coming' t g 
 }
 
 -- a part that was scanned, with nothing taken, given or on its way
-pub sound_scanned : (value : List ℕ → ℤ) (n owner owners number : ℕ) (part : Part) (taken given coming : ℕ → List Note) → IsScannedPart value n owners number part
+pub sound_scanned : (value : List ℕ → ℤ) (n owner owners number : ℕ) (part : Part) (taken given coming : ℕ → List Note) → IsScannedOwner value n owners number part
     → ((j : ℕ) → IsOtherOf owner owners j → taken j ≡ []) → ((j : ℕ) → IsOtherOf owner owners j → given j ≡ []) → ((j : ℕ) → IsOtherOf owner owners j → coming j ≡ [])
     → OwnerSound value owner owners part taken given coming
 sound_scanned value n owner owners number part taken given coming s t g c = record {

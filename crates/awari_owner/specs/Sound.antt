@@ -67,7 +67,7 @@ pub record OwnerSound (value : List ℕ → ℤ) (owner owners : ℕ) (part : Pa
   pub fresh : AreFresh part
 
 -- owner i's part as it is scanned: no gain is open, and no note was heard
-pub record IsScannedPart (value : List ℕ → ℤ) (n owners i : ℕ) (part : Part) : Type 0 where
+pub record IsScannedOwner (value : List ℕ → ℤ) (n owners i : ℕ) (part : Part) : Type 0 where
   pub scan : IsScan n owners i part
   pub tallied : IsTallied value part []
   pub own : HearsOwn part []

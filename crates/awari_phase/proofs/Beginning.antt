@@ -3,7 +3,7 @@ use Rattle.std.proofs.Common.{◌≡◌, ℕ, ◌<◌, ◌≤◌, Option, Some, 
 use Rattle.std.proofs.lemmas.List.{length-map, map-append}
 use Rattle.std.proofs.lemmas.List.Elements.{All-push}
 use Rattle.awari_owner.specs.Outboxes.{notes_of, queue_to}
-use Rattle.awari_owner.specs.Sound.{IsScannedPart}
+use Rattle.awari_owner.specs.Sound.{IsScannedOwner}
 use Rattle.awari_owner.proofs.Sounding.{sound_scanned}
 use Rattle.awari_lines.specs.Lines.{AllUnused, IsGrid, IsOther, IsUnused, UnusedOn, Notes, owners_of, received_from, received_on, sent_on, sent_to}
 use Rattle.awari_lines.specs.Seats.{seat_of}
@@ -37,7 +37,7 @@ none_sent (Some l) u = u.0
 -- an owner that was scanned, on lines that are not used, is sound
 scanned : (value : List ℕ → ℤ) (n owners : ℕ) (o : Owner) → IsUnused o.ends → owners_of o.ends ≡ owners → IsScanned value n owners o.ends o → IsSound value o.ends o.part o.outboxes
 scanned value n owners o unused count s = sound_scanned value n o.ends.owner (owners_of o.ends) o.ends.owner o.part (notes_taken o.ends) (notes_given o.ends o.outboxes) (notes_boxed o.outboxes)
-    (subst (λ k. IsScannedPart value n k o.ends.owner o.part) (sym count) s.part)
+    (subst (λ k. IsScannedOwner value n k o.ends.owner o.part) (sym count) s.part)
     (λ j q. ap (λ (l : List Notes). notes_of (map items_of l)) (none_received _ (unused (seat_of o.ends.owner j)))) (λ j q. ap notes_of (given j q)) (λ j q. ap notes_of (none j q))
   where
     none : (j : ℕ) → IsOther o.ends j → queue_to o.outboxes j ≡ []

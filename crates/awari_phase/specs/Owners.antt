@@ -7,7 +7,7 @@ use Rattle.awari_block.specs.declared.notes.Note.{Note}
 use Rattle.awari_owner.specs.Outboxes.{IsBatch, Outboxes, queue_to, notes_of}
 use Rattle.awari_block.specs.Blocks.{KeepSettled}
 use Rattle.awari_block.specs.Part.{Part, IsLeastDue, unspread}
-use Rattle.awari_owner.specs.Sound.{IsScannedPart, IsTimely, OpensGain, OwnerSound, SamePlace}
+use Rattle.awari_owner.specs.Sound.{IsScannedOwner, IsTimely, OpensGain, OwnerSound, SamePlace}
 use Rattle.awari_phase.specs.declared.owners.Owner.{Owner}
 
 abbrev pub Batches : Type 0
@@ -155,7 +155,7 @@ parts_of os = map (λ (o : Owner). o.part) os
 -- nothing to send.
 pub record IsScanned (value : List ℕ → ℤ) (n owners : ℕ) (e : Ends) (o : Owner) : Type 0 where
   pub ends : o.ends ≡ e
-  pub part : IsScannedPart value n owners e.owner o.part
+  pub part : IsScannedOwner value n owners e.owner o.part
   pub sent : All (λ q. q ≡ []) o.outboxes.queues
 
 -- of these batches that were sent, those that are not among these received ones are of the open gain and distance

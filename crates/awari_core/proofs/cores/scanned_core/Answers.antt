@@ -2,7 +2,7 @@ use Rattle.std.proofs.Common.{rules, ◌≡◌, ◌+◌, ◌<◌, ℕ, List, len
 use Rattle.awari_table.specs.declared.images.Image.{Image}
 use Rattle.awari_table.specs.Images.{table_of}
 use Rattle.awari_owner.specs.Level as level
-use Rattle.awari_owner.specs.Sound.{IsScannedPart}
+use Rattle.awari_owner.specs.Sound.{IsScannedOwner}
 use Rattle.awari_core.specs.Core as core
 use Rattle.awari_core.specs.Core.{Core, Sound}
 use Rattle.awari_core.proofs.Making.{sound_new}
@@ -18,7 +18,7 @@ invariant_of-result c =
     c.levels.ensures.shelf c.requires.low (let s = c.requires.owners.0 in omega (arith, s, count)) (let f = c.requires.owners.1 in omega (arith, f, count)) (sent ∙ count)
     (subst (λ n. (i : ℕ) → i < n → core.IsLinked n c.args.room i (get_or c.in_ok-senders.senders.items i core.no_sender)) count c.in_ok-senders.ensures.linked)
     (ap (λ n. n + 1) c.levels.ensures.levels) c.in_ok-senders.ensures.silent
-    (subst (λ n. (i : ℕ) → i < n → IsScannedPart (table_of c.args.shelf.now).value (length c.args.shelf.now) n i (get_or c.in_ok-parts.parts.items i level.no_part)) count c.in_ok-parts.ensures.scanned))
+    (subst (λ n. (i : ℕ) → i < n → IsScannedOwner (table_of c.args.shelf.now).value (length c.args.shelf.now) n i (get_or c.in_ok-parts.parts.items i level.no_part)) count c.in_ok-parts.ensures.scanned))
 
 pub returns-clause-sound : goal.returns-clause-sound
 returns-clause-sound c = invariant_of-result c

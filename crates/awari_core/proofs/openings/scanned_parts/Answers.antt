@@ -2,7 +2,7 @@ use Rattle.std.proofs.Common.{◌≡◌, ◌<◌, ◌+◌, ◌++◌, ◌∷◌, 
 use Rattle.std.proofs.lemmas.List.{length_push}
 use Rattle.awari_table.specs.Images.{table_of}
 use Rattle.awari_owner.specs.Level.{no_part}
-use Rattle.awari_owner.specs.Sound.{IsScannedPart}
+use Rattle.awari_owner.specs.Sound.{IsScannedOwner}
 use Rattle.awari_block.specs.Part.{Part}
 use Rattle.awari_core.proofs.Rounds.{more_push}
 use Rattle.awari_core.proofs.openings.scanned_parts.Goals as goal
@@ -15,7 +15,7 @@ loop-owner-preserved c =
     let found = c.in-Ok.ensures in
     record {
       count = ap (λ (l : List Part). length l) (sym pushed) ∙ (let one = length_push items c.in-Ok.part in let n = before.count in omega (arith, one, n));
-      scanned = subst (λ (l : List Part). (k : ℕ) → k < c.loop-owner.owner + 1 → IsScannedPart (table_of c.args.shelf.now).value (length c.args.shelf.now) c.args.owners k (get_or l k no_part)) pushed
-          (more_push (λ k (p : Part). IsScannedPart (table_of c.args.shelf.now).value (length c.args.shelf.now) c.args.owners k p) items no_part c.in-Ok.part c.loop-owner.owner before.count before.scanned
+      scanned = subst (λ (l : List Part). (k : ℕ) → k < c.loop-owner.owner + 1 → IsScannedOwner (table_of c.args.shelf.now).value (length c.args.shelf.now) c.args.owners k (get_or l k no_part)) pushed
+          (more_push (λ k (p : Part). IsScannedOwner (table_of c.args.shelf.now).value (length c.args.shelf.now) c.args.owners k p) items no_part c.in-Ok.part c.loop-owner.owner before.count before.scanned
           (record { scan = found.scanned; tallied = found.tallied; own = found.hears; fresh = found.fresh }));
     }

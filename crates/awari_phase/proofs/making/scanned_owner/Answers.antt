@@ -4,7 +4,7 @@ use Rattle.awari_table.specs.Images.{table_of}
 use Rattle.awari_owner.specs.Outboxes.{Outboxes}
 use Rattle.awari_block.specs.Part.{Part}
 use Rattle.awari_owner.specs.Scan.{IsScan}
-use Rattle.awari_owner.specs.Sound.{IsScannedPart}
+use Rattle.awari_owner.specs.Sound.{IsScannedOwner}
 use Rattle.awari_block.specs.declared.notes.Note.{Note}
 use Rattle.awari_phase.proofs.making.scanned_owner.Goals as goal
 
@@ -14,7 +14,7 @@ returns g c =
     let boxes = sym (c.new-2.ensures.outboxes ∙ c.in_ok-outboxes.ensures) in
     record {
       ends = c.new-2.ensures.ends;
-      part = subst (λ (p : Part). IsScannedPart (table_of c.args.shelf.now).value (length c.args.shelf.now) c.args.owners c.args.ends.owner p) part (record {
+      part = subst (λ (p : Part). IsScannedOwner (table_of c.args.shelf.now).value (length c.args.shelf.now) c.args.owners c.args.ends.owner p) part (record {
         scan = subst (λ i. IsScan (length c.args.shelf.now) c.args.owners i c.in-Ok.part) c.owner-number.ensures c.in-Ok.ensures.scanned;
         tallied = c.in-Ok.ensures.tallied;
         own = c.in-Ok.ensures.hears;
