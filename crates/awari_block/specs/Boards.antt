@@ -1,4 +1,4 @@
--- What becomes of the boards of a block, and what is needed for it. The contracts of `Boards` go by this; those of a part do not.
+-- What becomes of the boards of a block, and what is needed for it. The steps of owners and of segments go by this too.
 use Rattle.std.specs.Prelude.{◌≡◌, ℕ, ◌-◌, ◌^◌, ◌<◌, ◌≤◌, ◌⊎◌, ◌∷◌, length, All, slice_index_or, slice_set}
 use Rattle.std.specs.List.Sorted.{IsPermutation}
 use Rattle.awari_block.specs.Awaited.{AwaitsNoMore}

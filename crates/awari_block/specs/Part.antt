@@ -1,5 +1,5 @@
 -- One owner's part of a level, and what it keeps of the notes that it heard.
-use Rattle.std.specs.Prelude.{◌≡◌, ℕ, ◌+◌, ◌-◌, ◌^◌, ◌<◌, ◌≤◌, ◌==◌, List, [], length, filter, sum, ℤ, Option, Some, None, All, Any, slice_set}
+use Rattle.std.specs.Prelude.{◌≡◌, ℕ, ◌+◌, ◌-◌, ◌^◌, ◌<◌, ◌≤◌, ◌==◌, List, [], length, filter, sum, ℤ, Option, Some, None, All, Any}
 use Rattle.awari_board.specs.Rules.{IsBoard}
 use Rattle.awari_rank.specs.Rank.{rank_of}
 use Rattle.awari_block.specs.Notes.{IsQuietMove}
@@ -102,12 +102,6 @@ IsClosed part = (part.gain ≡ 1) × (part.fresh ≡ [])
 -- how many boards are not spread: those that are not settled, and the fresh ones
 abbrev pub unspread : Part → ℕ
 unspread part = length part.fresh + unsettled part.cells
-
--- only the cell of this rank changes, and its board joins the fresh where it is newly settled
-pub record PutsCell (old new : Part) (rank : ℕ) : Type 0 where
-  pub same : SameLevel old new
-  pub cells : new.cells ≡ slice_set old.cells (rank - old.start) (stored_at new rank)
-  pub joins : JoinsFresh old new
 
 -- a part at this place
 abbrev pub part_of : Place → List Cell → List Due → Part
