@@ -1,7 +1,7 @@
 //! The commands on a folder in memory, of which one call is refused.
 
+use crate::expect::{expect, expect_equal};
 use crate::plain::{asked, build, has_draft, lined, memory_folder, refuse, refuse_files, verified};
-use awari_expect::{expect, expect_equal};
 use awari_folder::{Draft, Folder, MemoryFolder};
 use awari_table::HIGHEST_LEVEL;
 use std::alloc::Global;

@@ -1,8 +1,8 @@
 //! The commands of the program, on words and streams in memory.
 
+use crate::expect::{expect, expect_equal};
 use awari_board::Board;
 use awari_cli::{check, run};
-use awari_expect::{expect, expect_equal};
 use awari_rank::successor;
 use awari_table::{Entry, Shelf};
 use std::alloc::{AllocError, Global};

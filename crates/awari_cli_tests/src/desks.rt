@@ -1,9 +1,9 @@
 //! The calls of a desk: its readers, what is published, and what is told.
 
+use crate::expect::expect_equal;
 use crate::services::{desk_of_one, publish_next, publish_two};
 use awari_board::Board;
 use awari_desk::{AskFault, DeskFault, Publisher, Reader, Weighed, desk};
-use awari_expect::expect_equal;
 use awari_play::MoveWorth;
 use awari_table::Entry;
 use std::alloc::Global;

@@ -11,10 +11,10 @@
 //! `progress`, `questions` and `services`, and the files of docs/FORMATS.md by the crate `awari_file_tests`.
 
 use crate::commands::{Line, expect_lines};
+use crate::expect::expect_equal;
 use crate::levels::{LEVELS_0_TO_2, expect_in_folder};
 use crate::worths::LEVELS_3_TO_4;
 use awari_board::Board;
-use awari_expect::expect_equal;
 use awari_rank::{rank, size};
 use awari_table::HIGHEST_LEVEL;
 use std::io;

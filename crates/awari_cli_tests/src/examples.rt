@@ -1,6 +1,6 @@
 //! An example that stands whole at the head of the library it calls.
 
-use awari_expect::expect_equal;
+use crate::expect::expect_equal;
 use awari_words::{Request, request_of};
 use std::test::Fail;
 

@@ -14,6 +14,8 @@ mod documents;
 #[cfg(test)]
 mod examples;
 #[cfg(test)]
+mod expect;
+#[cfg(test)]
 mod files;
 #[cfg(test)]
 mod levels;

@@ -2,7 +2,7 @@
 //! brought over from older files.
 
 use crate::commands::{NOWHERE, expect_run};
-use awari_expect::expect;
+use crate::expect::expect;
 use sha2::{Digest, Sha256};
 use std::alloc::Global;
 use std::fs::File;

@@ -1,9 +1,9 @@
 //! How far a build is, as `build --progress` tells it.
 
+use crate::expect::{expect, expect_equal};
 use crate::levels::LEVELS_0_TO_2;
 use crate::plain::build_telling;
 use awari_cli::run;
-use awari_expect::{expect, expect_equal};
 use std::cell::Cell;
 use std::fs::File;
 use std::process::Abort;

@@ -3,10 +3,10 @@
 //! refused, for each growth in turn. A `?` stands for what is made before the call, whose refusal is
 //! no wrong answer.
 
+use crate::expect::expect_equal;
 use crate::services::desk_of_one;
 use awari_build::build_alone;
 use awari_desk::{DeskFault, Publisher, Reader, desk};
-use awari_expect::expect_equal;
 use std::alloc::Global;
 use std::process::Abort;
 use std::sync::{Arc, Wait};

@@ -3,12 +3,12 @@
 ghost use Rattle.std.specs.Prelude.{◌≡◌, IfOk};
 
 use crate::commands::{Line, expect_lines, expect_run};
+use crate::expect::{expect, expect_equal};
 use crate::levels::{LEVELS_0_TO_1, LEVELS_0_TO_2, empty_folder};
 use crate::worths::LEVELS_3_TO_4;
 use awari_build::build_alone;
 use awari_cli::run;
 use awari_desk::{Publisher, Reader, ServeFault, desk, serve};
-use awari_expect::{expect, expect_equal};
 use awari_table::Counted;
 use std::alloc::Global;
 use std::fs::File;

@@ -1,8 +1,8 @@
 //! The command `serve` beside its builder, and how what is answered and printed comes to its stream.
 
 use crate::commands::Broken;
+use crate::expect::expect_equal;
 use crate::plain::{build, lined, memory_folder, served, texted, verified, weighed};
-use awari_expect::expect_equal;
 use awari_folder::MemoryFolder;
 use std::alloc::Global;
 use std::cell::Cell;

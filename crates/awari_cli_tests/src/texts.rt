@@ -1,10 +1,10 @@
 //! The text of the levels in a folder, as `text` prints it.
 
 use crate::commands::{Broken, Line, NOWHERE, expect_lines, expect_run, levels_0_to_2};
+use crate::expect::expect_equal;
 use crate::levels::{LEVELS_0_TO_2, empty_folder, expect_in_folder};
 use crate::worths::LEVELS_3_TO_4;
 use awari_cli::run;
-use awari_expect::expect_equal;
 use sha2::{Digest, Sha256};
 use std::alloc::Global;
 use std::fs;

@@ -1,9 +1,9 @@
 //! Words in unusual forms, the text of `clap`, and a `build` whose lines can't be written.
 
 use crate::commands::{Broken, Line, NOWHERE, expect_lines};
+use crate::expect::{expect, expect_equal};
 use crate::levels::{LEVELS_0_TO_1, empty_folder};
 use awari_cli::run;
-use awari_expect::{expect, expect_equal};
 use std::alloc::Global;
 use std::fs::File;
 use std::process::Abort;

@@ -1,9 +1,9 @@
 //! Levels that are built, compared with what was worked out by hand, and put to the command `check`.
 
 use crate::commands::{expect_run, level_2_entry, next_board, push_entry};
+use crate::expect::expect_equal;
 use awari_board::Board;
 use awari_build::build_alone;
-use awari_expect::expect_equal;
 use awari_rank::{size, successor};
 use awari_table::{HIGHEST_LEVEL, Level, Shelf};
 use std::alloc::{AllocError, Global};

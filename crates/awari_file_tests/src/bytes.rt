@@ -1,8 +1,8 @@
 //! The bytes of files, and what is answered where some are changed, missing or too many.
 
+use crate::expect::{expect, expect_equal};
 use crate::levels::{changed, digest_in, digested, right_file, right_shelf};
 use crate::plain::{compare, level_of, put_on, read, verdict};
-use awari_expect::{expect, expect_equal};
 use awari_file::{FileFault, Loaded};
 use awari_table::{Counted, Level, Shelf};
 use awari_verify::{Rule, VerifyFault};

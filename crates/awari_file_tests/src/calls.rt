@@ -1,11 +1,11 @@
 //! Folders in memory, of which one call is refused.
 
+use crate::expect::{expect, expect_equal};
 use crate::levels::{digest_in, right_file, right_shelf, save_two};
 use crate::memory::MemoryFolder;
 use crate::plain::{
     has_draft, keep_in, level_of, load_from, memory_folder, open, refuse, refuse_files, save_into,
 };
-use awari_expect::{expect, expect_equal};
 use awari_file::FileFault;
 use awari_folder::FolderFault;
 use awari_table::Level;

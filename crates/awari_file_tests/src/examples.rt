@@ -1,7 +1,7 @@
 //! Examples that stand whole at the head of the libraries they call.
 
+use crate::expect::expect_equal;
 use crate::memory::MemoryFolder;
-use awari_expect::expect_equal;
 use awari_file::{read_image, write_level};
 use awari_folder::{Alone, load, save};
 use awari_table::{Counted, HIGHEST_LEVEL, Shelf, TableText};

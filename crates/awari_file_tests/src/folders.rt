@@ -1,8 +1,8 @@
 //! Folders of level files, right and wrong.
 
+use crate::expect::{expect, expect_equal};
 use crate::levels::{digest_in, digested, file_of, right_file, right_shelf, save_two};
 use crate::plain::{level_of, load_from, save_into};
-use awari_expect::{expect, expect_equal};
 use awari_file::FileFault;
 use awari_folder::{FolderFault, HostFolder};
 use awari_table::Level;

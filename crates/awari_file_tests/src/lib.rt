@@ -9,6 +9,8 @@ mod calls;
 #[cfg(test)]
 mod examples;
 #[cfg(test)]
+mod expect;
+#[cfg(test)]
 mod folders;
 #[cfg(test)]
 mod levels;

@@ -4,9 +4,9 @@
 //! refusal is no wrong answer.
 
 use crate::bytes::HEADER_24;
+use crate::expect::expect_equal;
 use crate::levels::{digest_in, right_file, right_shelf};
 use crate::plain::{level_of, load_from, read, save_into};
-use awari_expect::expect_equal;
 use awari_file::FileFault;
 use awari_folder::{FolderFault, HostFolder};
 use awari_table::{Counted, Level};

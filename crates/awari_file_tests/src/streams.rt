@@ -2,9 +2,9 @@
 
 ghost use Rattle.std.specs.Prelude.{◌≡◌, IfOk};
 
+use crate::expect::expect_equal;
 use crate::levels::{changed, digest_in, right_file, right_shelf};
 use crate::plain::{level_of, read, write};
-use awari_expect::expect_equal;
 use awari_table::{Counted, Level};
 use std::alloc::Global;
 use std::io::{self, Error, ErrorKind, Read, Write};

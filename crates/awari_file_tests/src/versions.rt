@@ -1,10 +1,10 @@
 //! Files of version 1: what is read of them, and how their levels are brought over.
 
 use crate::bytes::expect_fault;
+use crate::expect::{expect, expect_equal};
 use crate::levels::{digest_in, digested, right_file};
 use crate::memory::MemoryFolder;
 use crate::plain::{bring_over, load_from, memory_folder, open, refuse};
-use awari_expect::{expect, expect_equal};
 use awari_folder::{Draft, Folder, FolderFault, Limits, Migrated};
 use awari_table::HIGHEST_LEVEL;
 use awari_verify::{Rule, VerifyFault};

@@ -7,9 +7,9 @@ ghost use Rattle.awari_block.specs.Part.{IsClosed};
 ghost use Rattle.awari_owner.specs.Level.{AreWhole};
 ghost use Rattle.awari_phase.specs.Owners.{AllGrown, OpensWave, all_ends, parts_of};
 
+use crate::expect::{expect, expect_equal};
 use crate::rounds::{after_two_rounds, next_round};
 use crate::shelves::one_level;
-use awari_expect::{expect, expect_equal};
 use awari_lines::{Ends, settle};
 use awari_owner::Part;
 use awari_phase::Owner;

@@ -4,9 +4,9 @@
 ghost use Rattle.std.specs.Prelude.{IfOk};
 ghost use Rattle.awari_table.specs.Shelves.{Consistent};
 
+use crate::expect::expect_equal;
 use crate::shelves::expect_limit;
 use awari_build::build_alone;
-use awari_expect::expect_equal;
 use awari_plan::least;
 use awari_table::{Entries, Image, Level, Shelf};
 use awari_verify::{verify, verify_old};

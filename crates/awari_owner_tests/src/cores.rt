@@ -1,9 +1,9 @@
 //! Levels built by several owners, as lists of events.
 
+use crate::expect::{expect, expect_equal};
 use crate::shelves::{levels_below, one_level};
 use awari_build::build_alone;
 use awari_core::{Core, CoreFault, Event, Ran};
-use awari_expect::{expect, expect_equal};
 use awari_table::Shelf;
 use std::alloc::{AllocError, Global};
 use std::process::Abort;

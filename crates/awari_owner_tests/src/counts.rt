@@ -1,9 +1,9 @@
 //! Levels counted: how many boards are won, even and lost, and the limit, as two other programs, which
 //! share nothing, have counted them.
 
+use crate::expect::expect_equal;
 use crate::shelves::levels_below;
 use awari_build::{Pace, build_alone, build_level, build_together};
-use awari_expect::expect_equal;
 use awari_phase::Open;
 use awari_table::{Counts, Level, Shelf};
 use std::alloc::Global;

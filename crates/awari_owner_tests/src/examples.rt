@@ -1,6 +1,6 @@
 //! Examples that stand whole at the head of the library they call.
 
-use awari_expect::{expect, expect_equal};
+use crate::expect::{expect, expect_equal};
 use awari_lines::{grid, settle};
 use awari_table::Shelf;
 use awari_waves::Analysis;

@@ -1,6 +1,6 @@
 //! The lines among owners, as they are made.
 
-use awari_expect::{expect, expect_equal};
+use crate::expect::{expect, expect_equal};
 use awari_lines::{Ends, grid, settle};
 use awari_owner::Batch;
 use std::alloc::Global;

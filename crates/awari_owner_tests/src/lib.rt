@@ -16,6 +16,8 @@ mod drawing;
 #[cfg(test)]
 mod examples;
 #[cfg(test)]
+mod expect;
+#[cfg(test)]
 mod grids;
 #[cfg(test)]
 mod lines;

@@ -1,8 +1,8 @@
 //! Lines of play by the plans of both sides.
 
+use crate::expect::expect_equal;
 use crate::shelves::levels_below;
 use awari_board::Board;
-use awari_expect::expect_equal;
 use awari_plan::{LineFault, best_line};
 use awari_table::Shelf;
 use std::alloc::Global;

@@ -3,9 +3,9 @@
 
 ghost use Rattle.std.specs.Prelude.{◌≡◌, ◌<◌, IfOk};
 
+use crate::expect::expect_equal;
 use crate::shelves::one_level;
 use awari_block::{Kind, Note};
-use awari_expect::expect_equal;
 use awari_owner::{OwnerFault, Part};
 use std::alloc::Global;
 use std::process::Abort;

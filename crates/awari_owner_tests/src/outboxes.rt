@@ -3,10 +3,10 @@
 
 ghost use Rattle.awari_owner.specs.Spread.{IsPartOf};
 
+use crate::expect::{expect, expect_equal};
 use crate::notes::NOTE;
 use crate::parts::{expect_none_due, open_gain_1, spread_next};
 use crate::shelves::one_level;
-use awari_expect::{expect, expect_equal};
 use awari_owner::{Outboxes, Part};
 use std::process::Abort;
 use std::test::Fail;

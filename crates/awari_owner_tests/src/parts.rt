@@ -3,8 +3,8 @@
 ghost use Rattle.std.specs.Prelude.{◌≡◌};
 ghost use Rattle.awari_owner.specs.Spread.{IsPartOf};
 
+use crate::expect::expect_equal;
 use crate::shelves::one_level;
-use awari_expect::expect_equal;
 use awari_owner::{Outboxes, Part};
 use awari_table::Shelf;
 use std::alloc::Global;

@@ -1,8 +1,8 @@
 //! Levels that are verified in pieces, and parts that are scanned in pieces, by several threads.
 
+use crate::expect::{expect, expect_equal};
 use crate::shelves::levels_below;
 use awari_build::build_alone;
-use awari_expect::{expect, expect_equal};
 use awari_owner::Part;
 use awari_table::{Entries, HIGHEST_LEVEL, Image, Level, Shelf};
 use awari_verify::{Rule, VerifyFault, verify, verify_parallel};

@@ -9,12 +9,12 @@ ghost use Rattle.awari_owner.specs.Spread.{IsPartOf};
 ghost use Rattle.awari_phase.specs.Owners.{all_ends};
 
 use crate::cores::{all_events, expect_closed};
+use crate::expect::{expect, expect_equal};
 use crate::parts::open_gain_1;
 use crate::rounds::three_owners;
 use crate::shelves::{expect_limit, levels_below, one_level};
 use awari_build::{BuildFault, Pace, build_level};
 use awari_core::{Core, CoreFault, Event};
-use awari_expect::{expect, expect_equal};
 use awari_owner::{Outboxes, OwnerFault, Part};
 use awari_phase::{Open, Owner, PhaseFault, gain_phase, round};
 use awari_table::{Entries, Entry, Image, Level, Shelf, TableFault, TableText};

@@ -7,9 +7,9 @@ ghost use Rattle.awari_owner.specs.Level.{AreWhole};
 ghost use Rattle.awari_phase.specs.Owners.{AllGrown, all_ends, parts_of};
 
 use crate::built::expect_verified;
+use crate::expect::{expect, expect_equal};
 use crate::shelves::{expect_limit, levels_below, one_level};
 use awari_build::{BuildFault, Pace, build_alone, build_level};
-use awari_expect::{expect, expect_equal};
 use awari_phase::{
     Gate, Open, Owner, PhaseFault, finished_owners_are_right, gain_phase, open_gain, round,
     scanned_owners, settle_owners,

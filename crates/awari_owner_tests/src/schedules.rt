@@ -7,9 +7,9 @@
 ghost use Rattle.std.specs.Prelude.{◌<◌, ◌≤◌};
 
 use crate::drawing::Numbers;
+use crate::expect::expect_equal;
 use awari_build::build_alone;
 use awari_core::Core;
-use awari_expect::expect_equal;
 use awari_table::{Image, Level, Shelf};
 use std::alloc::{AllocError, Global};
 use std::io;

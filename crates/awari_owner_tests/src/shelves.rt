@@ -2,8 +2,8 @@
 
 ghost use Rattle.std.specs.Prelude.{◌≡◌, IfOk, length};
 
+use crate::expect::expect_equal;
 use awari_build::build_alone;
-use awari_expect::expect_equal;
 use awari_table::Shelf;
 use std::alloc::Global;
 use std::process::Abort;

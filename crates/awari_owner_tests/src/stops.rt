@@ -2,9 +2,9 @@
 
 ghost use Rattle.std.specs.Prelude.{⊤};
 
+use crate::expect::{expect, expect_equal};
 use crate::shelves::levels_below;
 use awari_build::{BuildFault, Pace, build_alone_with_progress, build_level_with_progress};
-use awari_expect::{expect, expect_equal};
 use awari_phase::{Open, PhaseFault, Progress};
 use awari_table::{Level, Shelf};
 use std::alloc::Global;

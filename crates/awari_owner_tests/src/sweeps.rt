@@ -4,12 +4,12 @@ ghost use Rattle.std.specs.Prelude.{IfOk};
 ghost use Rattle.awari_lines.specs.Lines.{IsGrid, SameLines};
 ghost use Rattle.awari_phase.specs.Owners.{all_ends};
 
+use crate::expect::{expect, expect_equal};
 use crate::notes::NOTE;
 use crate::rounds::three_owners;
 use crate::shelves::{levels_below, one_level};
 use awari_block::Note;
 use awari_build::{Pace, build_level};
-use awari_expect::{expect, expect_equal};
 use awari_owner::{Batch, OwnerFault};
 use awari_phase::{
     Gate, Open, Owner, PhaseFault, Progress, gain_phase, gain_phase_with_progress, open_gain,

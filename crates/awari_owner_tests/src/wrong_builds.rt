@@ -1,9 +1,9 @@
 //! Levels 5 and 6 as wrong builders make them, over right levels below, put to both verifiers. The
 //! plain builder here is wrong by one slip at most. What it makes with none is right.
 
+use crate::expect::expect_equal;
 use crate::shelves::levels_below;
 use awari_board::{Board, MoveFault, Moved, SIDE};
-use awari_expect::expect_equal;
 use awari_rank::{rank, size, unrank};
 use awari_table::{Entries, Entry, HIGHEST_LEVEL, Image, Shelf};
 use awari_unmove::Unmoves;

@@ -1,9 +1,9 @@
 //! Tables of level 2 made to deceive a verifier, put to each: of the boards of two stones with a legal
 //! move none has a second one, so that a wrong value has to be wrong along the whole way.
 
+use crate::expect::expect_equal;
 use crate::tables::{Lie, entry, fault_found, image, level_2, lie_of, refused, two_levels};
 use awari_board::Board;
-use awari_expect::expect_equal;
 use awari_rank::{size, unrank};
 use awari_table::{Entry, Shelf};
 use awari_verify::{Rule, VerifyFault, verify_old, verify_parallel};

@@ -1,7 +1,7 @@
 //! Examples that stand whole at the head of the libraries they call.
 
+use crate::expect::expect_equal;
 use awari_board::{Board, Moved};
-use awari_expect::expect_equal;
 use awari_game::Game;
 use awari_index::Index;
 use awari_packed::PackedBoard;

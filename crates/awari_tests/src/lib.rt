@@ -7,6 +7,8 @@ mod deceits;
 #[cfg(test)]
 mod examples;
 #[cfg(test)]
+mod expect;
+#[cfg(test)]
 mod moves;
 #[cfg(test)]
 mod numbering;

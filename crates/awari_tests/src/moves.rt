@@ -1,7 +1,7 @@
 //! The rules at worked positions.
 
+use crate::expect::expect_equal;
 use awari_board::{Board, BoardFault, MoveFault, Moved};
-use awari_expect::expect_equal;
 use std::process::Abort;
 
 /// What a play shows, the board before it, the pit, the board after it, and what is captured.

@@ -1,7 +1,7 @@
 //! Worked plays: where they stand, and their outcomes.
 
+use crate::expect::expect_equal;
 use awari_board::{Board, MoveFault};
-use awari_expect::expect_equal;
 use awari_game::Game;
 use std::process::Abort;
 

@@ -1,7 +1,7 @@
 //! Boards as text, the pits that can be played, and quiet moves backward.
 
+use crate::expect::expect_equal;
 use awari_board::{Board, BoardFault};
-use awari_expect::expect_equal;
 use awari_unmove::Unmoves;
 use std::process::Abort;
 use std::test::Fail;

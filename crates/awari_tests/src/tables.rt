@@ -4,8 +4,8 @@
 ghost use Rattle.std.specs.Prelude.{IfOk};
 ghost use Rattle.awari_table.specs.Shelves.{Consistent};
 
+use crate::expect::expect_equal;
 use awari_board::Board;
-use awari_expect::expect_equal;
 use awari_rank::{size, unrank};
 use awari_table::{Counts, Entries, Entry, HIGHEST_LEVEL, Image, Level, NotYet, Shelf};
 use awari_verify::{Rule, VerifyFault, fault_of, verify};

@@ -1,6 +1,6 @@
 //! The text of tables, read level by level.
 
-use awari_expect::{expect, expect_equal};
+use crate::expect::{expect, expect_equal};
 use awari_table::{Entry, Image, TableFault, TableText};
 use std::alloc::Global;
 use std::process::Abort;
