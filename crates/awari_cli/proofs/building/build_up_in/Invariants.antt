@@ -8,18 +8,17 @@ use Rattle.awari_cli.proofs.building.build_up_in.Given as goal
 
 abbrev pub invariant-loop-builder : goal.invariant-loop-builder
 invariant-loop-builder g l =
-    let stands = λ folder. (g.F.Folder.state folder).stands in
-    let may_leave = λ folder. (g.F.Folder.state folder).may_leave in
+    let state = g.F.Folder.state in
     record {
       built : IsBuilt l.fn.shelf l.shelf (g.W.Write.contents l.fn.writer) (g.W.Write.contents l.writer);
       planned : HasLowestPlans l.fn.shelf → HasLowestPlans l.shelf;
-      holds : HoldsIn (stands l.fn.folder) l.fn.shelf l.fn.digest → HoldsIn (stands l.folder) l.shelf l.digest;
+      holds : HoldsIn (state l.fn.folder).stands l.fn.shelf l.fn.digest → HoldsIn (state l.folder).stands l.shelf l.digest;
       longer : length l.fn.shelf ≤ length l.shelf;
       high : (n : ℕ) → l.top < n → length l.fn.shelf ≤ n → length l.shelf ≤ n;
-      below : (n : ℕ) → n < length l.fn.shelf → stands l.folder n ≡ stands l.fn.folder n;
-      above : (n : ℕ) → length l.shelf ≤ n → stands l.folder n ≡ stands l.fn.folder n;
-      kept : KeepsFiles (stands l.fn.folder) (stands l.folder);
-      crash : (names : ℕ → Option (List ℕ)) → AreNames (stands l.fn.folder) names → LeavesFiles (length l.fn.shelf) names (may_leave l.fn.folder) (may_leave l.folder);
+      below : (n : ℕ) → n < length l.fn.shelf → (state l.folder).stands n ≡ (state l.fn.folder).stands n;
+      above : (n : ℕ) → length l.shelf ≤ n → (state l.folder).stands n ≡ (state l.fn.folder).stands n;
+      kept : KeepsFiles (state l.fn.folder).stands (state l.folder).stands;
+      crash : (names : ℕ → Option (List ℕ)) → AreNames (state l.fn.folder).stands names → LeavesFiles (length l.fn.shelf) names (state l.fn.folder).may_leave (state l.folder).may_leave;
     }
 
 abbrev pub decreases-loop-builder : goal.decreases-loop-builder
