@@ -2,7 +2,8 @@
 
 use crate::expect::{expect, expect_equal};
 use crate::plain::{asked, build, has_draft, lined, memory_folder, refuse, refuse_files, verified};
-use awari_folder::{Draft, Folder, MemoryFolder};
+use awari_file_tests::MemoryFolder;
+use awari_folder::{Draft, Folder};
 use awari_table::HIGHEST_LEVEL;
 use std::alloc::Global;
 use std::io::{Read, Write};

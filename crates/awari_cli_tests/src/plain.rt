@@ -7,7 +7,7 @@ use awari_cli::{
     Builder, ProgressLines, run_ask, run_build_in, run_line, run_moves, run_serve, run_text,
     run_verify,
 };
-use awari_folder::MemoryFolder;
+use awari_file_tests::MemoryFolder;
 use awari_phase::{Progress, Silent};
 use std::alloc::Global;
 use std::io::{Read, Write};

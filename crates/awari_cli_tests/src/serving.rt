@@ -3,7 +3,7 @@
 use crate::commands::Broken;
 use crate::expect::expect_equal;
 use crate::plain::{build, lined, memory_folder, served, texted, verified, weighed};
-use awari_folder::MemoryFolder;
+use awari_file_tests::MemoryFolder;
 use std::alloc::Global;
 use std::cell::Cell;
 use std::io::{self, ErrorKind, Read, Write};
