@@ -152,7 +152,7 @@ module _ (place : Place) (cells : List Cell) (fresh : Fresh) (sound : IsBlock pl
   abbrev seen : Part
   seen = part_of place cells (fresh_of place.start cells fresh)
 
-  -- a marked board is settled, and not nearer than the open distance
+  -- a marked board is settled, and not nearer than the open wave
   due_at : (k : ℕ) → is_marked fresh.words.items k ≡ true → IsDueAs place (dist_at cells k, place.start + k) (cell_in place.start cells (place.start + k))
   due_at k marked =
       let among = fresh_among place.start cells fresh.words.items k marked (marks.marked.inside k marked) in
@@ -188,14 +188,14 @@ module _ (place : Place) (cells : List Cell) (fresh : Fresh) (sound : IsBlock pl
           later j here (inr more) = more
       by None None none all = record { least = none_fresh place.start cells fresh.words.items (λ k marked. apart none k marked (all k marked)); timely = tt; settled = tt }
 
-  -- where none is of the open distance, none is due there
+  -- where none is of the open wave, none is due there
   pub none_due : fresh.first ≡ None → Any (λ (f : Due). due_dist f ≡ place.wave) (fresh_of place.start cells fresh) → ⊥
   none_due none some =
       let clear = subst (IsFirst fresh.near.items) none marks.noted.is_first in
       let all = all_due place.start cells fresh.words.items (λ (f : Due). due_dist f ≡ place.wave → ⊥) (λ k marked near. clear k ((marks.noted.here k).1 (marked, near))) in
       all some.0 some.1 some.2 (ap due_dist some.3 ∙ some.4)
 
-  -- where all are farther than the open distance, none is of it
+  -- where all are farther than the open wave, none is of it
   pub near_none : (dist : ℕ) → place.wave < dist → All (λ (f : Due). dist ≤ due_dist f) (fresh_of place.start cells fresh) → (k : ℕ) → is_marked fresh.near.items k ≡ true → ⊥
   near_none dist farther all k near =
       let both = (marks.noted.here k).0 near in

@@ -1,4 +1,4 @@
--- What is kept of the boards of the open distance, and of the others, as boards come and go.
+-- What is kept of the boards of the open wave, and of the others, as boards come and go.
 use Rattle.std.proofs.Common.{◌≡◌, ◌≢◌, ℕ, ◌+◌, ◌<◌, ◌≤◌, ◌⊎◌, inl, inr, min, true, List, Option, Some, None, sym, ap, subst, subst₂, ◌∙◌, arith}
 use Rattle.std.proofs.lemmas.Bool.{cases_eq, cases_lt, false≢true}
 use Rattle.awari_block.specs.declared.cells.Cell.{Cell}
@@ -66,7 +66,7 @@ module _ (cells : List Cell) (P Q : ℕ → Type 0) (wave : ℕ) where
       by (Some d) ((k, is, apart, at), least) = ((k, there k is, apart, at), λ j here. least j (back j here))
 
   module _ (place : ℕ) (adds : Adds P Q place) where
-    -- one more of the open distance
+    -- one more of the open wave
     noted_near : (near after : List ℕ) (first next : Option ℕ) → dist_at cells place ≡ wave → MarksOne place near after → AreNoted cells P wave near first next
         → AreNoted cells Q wave after (Some (lesser first place)) next
     noted_near near after first next at marks noted = record {
@@ -202,7 +202,7 @@ noted_idle cells P wave other near first next none noted = record {
     by None all = λ k is. absurd (none k is)
     by (Some d) ((k, is, apart, far), least) = absurd (none k is)
 
--- the first of the open distance is there no longer
+-- the first of the open wave is there no longer
 pub noted_less : (cells : List Cell) (wave place : ℕ) (words words' near near' : List ℕ) (first next : Option ℕ)
     → AreNoted cells (λ k. is_marked words k ≡ true) wave near (Some place) next → UnmarksOne place words words' → UnmarksOne place near near' → IsFirst near' first
     → AreNoted cells (λ k. is_marked words' k ≡ true) wave near' first next

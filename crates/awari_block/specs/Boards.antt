@@ -38,7 +38,7 @@ pub record CanPut (part : Part) (rank : ℕ) (cell : Cell) : Type 0 where
   pub timely : SettlesTimely (place_of part) (stored_at part rank) cell
   pub awaits : AwaitsNoMore (stored_at part rank) cell
 
--- a note of this pit, of the open gain and distance, may be heard for the board of this rank
+-- a note of this pit, of the open gain and wave, may be heard for the board of this rank
 pub record CanHear (part : Part) (target pit : ℕ) : Type 0 where
   pub held : InBlock part target
   pub own : pit < 6
@@ -50,7 +50,7 @@ pub record HearsNote (old new : Part) (target pit : ℕ) (kind : Kind) : Type 0 
   pub cells : new.cells ≡ slice_set old.cells (target - old.start) (stored_at new target)
   pub cell : view_of (stored_at new target) ≡ cell_after_note (view_of (stored_at old target)) kind pit old.gain old.wave
 
--- The first fresh board is of the open distance and of this rank, and is fresh no longer.
+-- The first fresh board is of the open wave and of this rank, and is fresh no longer.
 pub record TakesFirst (old new : Part) (rank : ℕ) : Type 0 where
   pub rest : new ≡ record old { fresh = new.fresh }
   pub moved : IsPermutation ((old.wave, rank) ∷ new.fresh) old.fresh

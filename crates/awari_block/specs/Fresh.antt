@@ -24,7 +24,7 @@ due_of start cells words = map (λ k. (dist_at cells k, start + k)) (marked_of c
 abbrev pub fresh_of : ℕ → List Cell → Fresh → List Due
 fresh_of start cells fresh = due_of start cells fresh.words.items
 
--- ---- those of the open distance, and the others
+-- ---- those of the open wave, and the others
 
 -- the lesser of a number and the one that there may be
 abbrev pub lesser : Option ℕ → ℕ → ℕ
@@ -65,7 +65,7 @@ pub record IsFresh (wave : ℕ) (cells : List Cell) (fresh : Fresh) : Type 0 whe
   pub marked : AreMarked cells fresh
   pub noted : AreNoted cells (λ k. is_marked fresh.words.items k ≡ true) wave fresh.near.items fresh.first fresh.next
 
--- the least distance of a fresh board, given the place of the first of the open distance and the least distance of the others
+-- the least distance of a fresh board, given the place of the first of the open wave and the least distance of the others
 abbrev pub nearest_of : ℕ → Option ℕ → Option ℕ → Option ℕ
 nearest_of wave (Some b) next = Some wave
 nearest_of wave None next = next

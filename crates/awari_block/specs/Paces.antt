@@ -6,6 +6,6 @@ use Rattle.awari_block.specs.declared.paces.Pace.{Pace}
 abbrev pub HasOwners : Pace → Type 0
 HasOwners pace = (1 ≤ pace.owners) × (pace.owners ≤ 16)
 
--- a line has room for 1 to 256 batches, and a round has 1 to 1000 sweeps
+-- a ring has room for 1 to 256 batches, and a round has 1 to 1000 sweeps
 abbrev pub IsPaced : Pace → Type 0
 IsPaced pace = (1 ≤ pace.room) × (pace.room ≤ 256) × (1 ≤ pace.sweeps) × (pace.sweeps ≤ 1000)

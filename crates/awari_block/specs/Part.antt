@@ -10,7 +10,7 @@ use Rattle.awari_block.specs.declared.cells.Cell.{Cell}
 use Rattle.awari_block.specs.declared.places.Place.{Place}
 use Rattle.awari_block.specs.declared.notes.Note.{Note}
 
--- The stones on the boards of the level, the open gain and distance, the rank of the block's first board, the cells of its
+-- The stones on the boards of the level, the open gain and wave, the rank of the block's first board, the cells of its
 -- boards in order of rank, and the fresh boards.
 pub record Part : Type 0 where
   pub level : ℕ
@@ -82,7 +82,7 @@ abbrev pub IsLeastDue : Part → Option ℕ → Type 0
 IsLeastDue part None = part.fresh ≡ []
 IsLeastDue part (Some dist) = Any (λ f. due_dist f ≡ dist) part.fresh × All (λ f. dist ≤ due_dist f) part.fresh
 
--- a fresh board: a settled board of the block, of the open gain, either way, and not nearer than the open distance
+-- a fresh board: a settled board of the block, of the open gain, either way, and not nearer than the open wave
 abbrev pub IsFreshIn : Part → Due → Type 0
 IsFreshIn part f = (v : ℤ) × InBlock part (due_rank f) × IsEither part.gain v × (settled_at part (due_rank f) ≡ Some (v, due_dist f)) × (part.wave ≤ due_dist f)
 

@@ -84,7 +84,7 @@ IsStatus value p notes t (Ended gain) = IsPlain value p notes t (plain.Ended gai
 IsStatus value p notes t (Open best plans far) = IsOpenStatus value p notes t best plans far
 IsStatus value p notes t (Settled v dist plans) = IsSettledStatus value p notes t v dist plans
 
--- The cell of p tells what these notes say of p and its plans, at the open gain t and the open distance w. The gains were opened
+-- The cell of p tells what these notes say of p and its plans, at the open gain t and the open wave w. The gains were opened
 -- downward: no note is of a lesser one than t. Within a gain the distances were opened upward: no note of gain t is farther than w.
 pub record IsTally (value : List ℕ → ℤ) (cell : Cell) (p : List ℕ) (notes : List Note) (t w : ℕ) : Type 0 where
   pub once : AreOfOtherPits notes

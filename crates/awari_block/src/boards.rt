@@ -164,7 +164,7 @@ impl Boards {
     }
 
     /// Makes the first fresh board fresh no longer, and gives its rank. Conditions: a board is fresh,
-    /// and the first has the open distance.
+    /// and the first is of the open wave.
     pub fn take_first(&mut self) -> u32
         requires due { IsLeastDue self.old (Some self.old.wave) }
         ensures first { TakesFirst self.old self.new result }
@@ -177,7 +177,7 @@ impl Boards {
         self.place.start + index
     }
 
-    /// A note of the open gain and distance, for the board of this rank in this block or another.
+    /// A note of the open gain and wave, for the board of this rank in this block or another.
     #[inline(always)]
     pub fn note(&self, target: u32, pit: u8, kind: Kind) -> Note
         ensures { result ≡ record { level = self.now.level; target = target; pit = pit; kind = kind; gain = self.now.gain; dist = self.now.wave } }
@@ -193,8 +193,8 @@ impl Boards {
     }
 
     /// The board of this rank hears that its quiet move from `pit` leads to a board that is won or
-    /// lost, at the open gain and distance. This may settle it. Conditions: the board is in the
-    /// block, the pit is below 6, a gain is open, and the open distance is not the greatest u32.
+    /// lost, at the open gain and wave. This may settle it. Conditions: the board is in the
+    /// block, the pit is below 6, a gain is open, and the open wave is not the greatest u32.
     #[inline(always)]
     pub fn hear(&mut self, target: u32, pit: u8, kind: Kind)
         requires { CanHear self.old target pit }
@@ -224,7 +224,7 @@ impl Boards {
         self.open_cells();
     }
 
-    /// Opens a greater distance. Condition: no fresh board has a smaller one.
+    /// Opens the wave of a greater distance. Condition: no fresh board has a smaller one.
     pub fn open_wave(&mut self, dist: u32)
         requires farther { self.old.wave < dist }
         requires nearest { All (λ f. dist ≤ due_dist f) self.old.fresh }

@@ -76,8 +76,8 @@ impl Cell {
         self.left & (1 << pit) != 0
     }
 
-    /// Hears the note of this pit and kind, of the open gain and distance. Conditions: the pit is below
-    /// 6, a gain is open, and the open distance is not the greatest u32.
+    /// Hears the note of this pit and kind, of the open gain and wave. Conditions: the pit is below
+    /// 6, a gain is open, and the open wave is not the greatest u32.
     ///
     /// A lost board gives the gain at once, and another that is as near serves as a plan as well. A
     /// won one leaves one quiet move less that might do better. The last of them settles the board,

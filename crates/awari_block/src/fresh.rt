@@ -14,16 +14,16 @@ use crate::words::{next_bit, with_bit, without_bit};
 use std::alloc::{AllocError, Global};
 
 /// Which boards of a block are fresh, by their places in it, and which of them come first: those of
-/// the open distance, in order of rank. Their distances stand in the cells.
+/// the open wave, in order of rank. Their distances stand in the cells.
 #[derive(Drop)]
 pub struct Fresh {
     /// A bit for each board, 64 in a word: whether it is fresh.
     words: Vec<u64>,
-    /// A bit for each board: whether it is fresh and of the open distance.
+    /// A bit for each board: whether it is fresh and of the open wave.
     near: Vec<u64>,
     /// How many boards are fresh.
     count: usize,
-    /// The place of the first board of the open distance.
+    /// The place of the first board of the open wave.
     first: Option<u32>,
     /// The least distance of the other fresh boards.
     next: Option<u32>,
@@ -80,7 +80,7 @@ impl Fresh {
         self.note(wave, cells[place as usize].dist, place);
     }
 
-    /// Makes the first board of the open distance fresh no longer, and gives its place. None if there
+    /// Makes the first board of the open wave fresh no longer, and gives its place. None if there
     /// is no such board.
     #[inline(always)]
     pub fn take_first(&mut self) -> Option<u32>

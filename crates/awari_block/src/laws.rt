@@ -29,7 +29,7 @@ pub fn worked_examples()
     ensures empty_block { first_rank 12 16 12 ≡ 12 }
 {}
 
-/// A level has at most 16 owners. A line has room for at most 256 batches, and a round has at most
+/// A level has at most 16 owners. A ring has room for at most 256 batches, and a round has at most
 /// 1000 sweeps of an owner.
 pub fn paces_have_limits()
     ensures { (MOST_OWNERS ≡ 16) × (MOST_ROOM ≡ 256) × (MOST_SWEEPS ≡ 1000) }

@@ -7,7 +7,7 @@ ghost use Rattle.std.specs.Prelude.{◌≡◌};
 pub struct Pace {
     /// How many owners share the boards of the level, 1 to 16.
     pub owners: u8,
-    /// How many batches a line between two owners has room for, 1 to 256.
+    /// How many batches a ring between two owners has room for, 1 to 256.
     pub room: u32,
     /// How many sweeps an owner makes in a round at most, 1 to 1000.
     pub sweeps: u32,
@@ -16,7 +16,7 @@ pub struct Pace {
 /// The most owners of a level.
 pub const MOST_OWNERS: u8 = 16;
 
-/// The greatest room of a line, in batches.
+/// The greatest room of a ring, in batches.
 pub const MOST_ROOM: u32 = 256;
 
 /// The greatest number of sweeps of an owner in a round.

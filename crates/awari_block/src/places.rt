@@ -8,7 +8,7 @@ ghost use Rattle.awari_block.specs.Leaving.{IsAmong, IsBlockOf, first_rank};
 use awari_packed::PackedBoard;
 use awari_rank::size;
 
-/// Where the analysis of a block stands: the level, the open gain and distance, and the block's first
+/// Where the analysis of a block stands: the level, the open gain and wave, and the block's first
 /// rank.
 #[derive(Clone, Copy)]
 pub struct Place {
@@ -16,7 +16,7 @@ pub struct Place {
     pub level: u8,
     /// The open gain in stones, one more than the level if none was opened yet.
     pub gain: u8,
-    /// The open distance in plies.
+    /// The open wave in plies.
     pub wave: u32,
     /// The rank of the first board of the block.
     pub start: u32,

@@ -15,7 +15,7 @@ use thiserror::Error;
 pub enum BuildFault {
     /// 50: there is no owner, or there are more than 16.
     Owners,
-    /// 55: a line has room for no batch or for more than 256, or a round has no sweep or more than
+    /// 55: a ring has room for no batch or for more than 256, or a round has no sweep or more than
     /// 1000.
     Pace,
     /// 51: the shelf has all levels up to the highest.

@@ -6,7 +6,7 @@ ghost use Rattle.awari_table.specs.Images.{table_of};
 ghost use Rattle.awari_table.specs.Shelves.{Consistent, IsShelf};
 ghost use Rattle.awari_table.specs.declared.TheConstants.{HIGHEST_LEVEL};
 ghost use Rattle.awari_theory.specs.Truth.{TellsTruth};
-ghost use Rattle.awari_lines.specs.Lines.{HaveRoom};
+ghost use Rattle.awari_lines.specs.Rings.{HaveRoom};
 ghost use Rattle.awari_phase.specs.Owners.{all_ends};
 ghost use Rattle.awari_phase.specs.PhaseFault.{IsStop, IsWant};
 ghost use Rattle.awari_phase.specs.declared.faults.PhaseFault.{PhaseFault};
@@ -29,7 +29,7 @@ use std::thread::Threads;
 
 /// The shelf's next level, built by several owners, each in a thread of its own, that work as `pace`
 /// says. Each enters the gate at the start of each of its sweeps. It takes memory for the parts, a
-/// little more than ten bytes a board, for the lines and for the entries.
+/// little more than ten bytes a board, for the rings and for the entries.
 ///
 /// It is refused in this order:
 ///
@@ -148,7 +148,7 @@ fn settled_owners<R: Threads + Wait + Sync, G: Gate + Sync, P: Progress>(
     Ok(owners)
 }
 
-/// As many owners of the shelf's next level as `pace` says, on lines with room for as much, before
+/// As many owners of the shelf's next level as `pace` says, on rings with room for as much, before
 /// any gain is open.
 fn begun_owners<R: Threads + Sync>(
     rt: &R,

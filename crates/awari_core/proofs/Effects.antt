@@ -45,15 +45,15 @@ both_same core i p q s t high high' at at' same same' =
     ∙ ap (λ (l : List Sender). record core { senders = l }) (same_sender core.senders i s t high' at' same')
 
 pub spread_does : (old : Core) (i : ℕ) (p q : Part) (s t : Sender) → i < length old.parts → i < length old.senders → p ≡ get_or old.parts i p → s ≡ get_or old.senders i s
-    → t.lines ≡ s.lines → SamePlace p q → SpreadsFirst p q s.outboxes t.outboxes → DoesSpread old (with_both old i q t) i
-spread_does old i p q s t high high' at at' lines place spreads =
+    → t.rings ≡ s.rings → SamePlace p q → SpreadsFirst p q s.outboxes t.outboxes → DoesSpread old (with_both old i q t) i
+spread_does old i p q s t high high' at at' rings place spreads =
     let part = sym (get_or-set_same old.parts i q no_part high) in
     let sender = sym (get_or-set_same old.senders i t no_sender high') in
     let was = sym (part_was old.parts i p high at) in
     let had = sym (sender_was old.senders i s high' at') in
     record {
       changes = record { shelf = refl; room = refl; gain = refl; parts = ap (set old.parts i) part; senders = ap (set old.senders i) sender };
-      lines = subst₂ (λ (a b : Sender). b.lines ≡ a.lines) had sender lines;
+      rings = subst₂ (λ (a b : Sender). b.rings ≡ a.rings) had sender rings;
       place = subst₂ SamePlace was part place;
       spreads = subst₂ (λ (a b : Part). SpreadsFirst a b (sender_at old i).outboxes (sender_at (with_both old i q t) i).outboxes) was part
           (subst₂ (λ (a b : Sender). SpreadsFirst p q a.outboxes b.outboxes) had sender spreads);

@@ -10,26 +10,26 @@ use Rattle.awari_owner.specs.Outboxes.{AreBatches, IsBatch}
 use Rattle.awari_owner.specs.Sound.{IsScannedOwner, IsTimely}
 use Rattle.awari_owner.proofs.Sounding.{sound_same}
 use Rattle.awari_block.specs.declared.notes.Note.{Note}
-use Rattle.awari_core.specs.Core.{Core, IsAllTaken, IsLinked, IsSilent, Line, Sender, Sound, coming, no_line, no_sender, part_at}
+use Rattle.awari_core.specs.Core.{Core, IsAllTaken, IsLinked, IsSilent, Ring, Sender, Sound, coming, no_ring, no_sender, part_at}
 use Rattle.awari_core.proofs.Sounding.{scanned_sound}
 use Rattle.awari_core.proofs.Telling.{nothing_comes}
 
 abbrev pub new_sender : ℕ → ℕ → ℕ → Sender
-new_sender owners owner room = record { outboxes = record { owner = owner; queues = replicate owners [] }; lines = replicate owners (record { batches = []; room = room }) }
+new_sender owners owner room = record { outboxes = record { owner = owner; queues = replicate owners [] }; rings = replicate owners (record { batches = []; room = room }) }
 
 pub new_silent : (owners owner room : ℕ) (s : Sender) → s ≡ new_sender owners owner room → IsSilent s
 new_silent owners owner room s is = subst IsSilent (sym is) (record {
   outboxes = All-replicate (λ (q : List (List Note)). q ≡ []) owners [] refl;
-  lines = All-replicate (λ (l : Line). l.batches ≡ []) owners (record { batches = []; room = room }) refl;
+  rings = All-replicate (λ (l : Ring). l.batches ≡ []) owners (record { batches = []; room = room }) refl;
 })
 
 pub new_linked : (owners owner room : ℕ) (s : Sender) → s ≡ new_sender owners owner room → IsLinked owners room owner s
 new_linked owners owner room s is = subst (IsLinked owners room owner) (sym is) (record {
   owner = refl;
   queues = length-replicate owners [];
-  lines = length-replicate owners (record { batches = []; room = room });
-  rooms = λ j low. ap (λ (l : Line). l.room) (get_or-replicate owners j (record { batches = []; room = room }) no_line low);
-  batches = λ j low. subst (λ (l : Line). AreBatches l.batches) (sym (get_or-replicate owners j (record { batches = []; room = room }) no_line low)) (All-nil IsBatch);
+  rings = length-replicate owners (record { batches = []; room = room });
+  rooms = λ j low. ap (λ (l : Ring). l.room) (get_or-replicate owners j (record { batches = []; room = room }) no_ring low);
+  batches = λ j low. subst (λ (l : Ring). AreBatches l.batches) (sym (get_or-replicate owners j (record { batches = []; room = room }) no_ring low)) (All-nil IsBatch);
 })
 
 -- scanned parts with nothing on its way are sound

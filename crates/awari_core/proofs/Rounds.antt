@@ -125,7 +125,7 @@ nearer_bound None b least w one other near = subst (λ (o : Option ℕ). IfSome 
 nearer_bound (Some a) None least w one other near = subst (λ (o : Option ℕ). IfSome o (λ d. w ≤ d)) (sym near) one
 nearer_bound (Some a) (Some b) least w one other near = subst (λ (o : Option ℕ). IfSome o (λ d. w ≤ d)) (sym near) (let l : w ≤ min a b = omega (arith, one, other) in l)
 
--- ---- whether a fresh board has the open distance
+-- ---- whether a fresh board is of the open wave
 
 pub same_dist : (o : Option ℕ) (w : ℕ) → option_eq nat_eq o (Some w) ≡ true → o ≡ Some w
 same_dist None w e = absurd cc

@@ -13,7 +13,7 @@ use Rattle.awari_owner.specs.Sound.{IsTimely, OwnerSound, SamePlace, SpreadsFirs
 use Rattle.awari_owner.specs.Spread.{IsPartOf}
 use Rattle.awari_owner.proofs.Lists.{notes_of-last}
 use Rattle.awari_owner.proofs.Sounding.{place_same, place_settled, share_place, sound_same}
-use Rattle.awari_core.specs.Core.{Core, DoesSpread, IsLinked, Line, MovesBatch, PopsBatch, Sender, Sound, coming, coming_to, line_at, line_to, no_line, no_sender, part_at, sender_at}
+use Rattle.awari_core.specs.Core.{Core, DoesSpread, IsLinked, Ring, MovesBatch, PopsBatch, Sender, Sound, coming, coming_to, ring_at, ring_to, no_ring, no_sender, part_at, sender_at}
 use Rattle.awari_core.proofs.Sounding.{list_from, list_here, list_to, part_here, part_other, taken_sound, with_list, with_more, with_part}
 
 -- ---- one owner changes
@@ -70,31 +70,31 @@ part_linked n owners room i p s high share linked =
       end = (let end = share.end in cc);
     }
 
-module _ (value : List ℕ → ℤ) (owners room i : ℕ) (taken : ℕ → ℕ → List Note) (p q : Part) (s t : Sender) (lines : t.lines ≡ s.lines) (spreads : SpreadsFirst p q s.outboxes t.outboxes) where
+module _ (value : List ℕ → ℤ) (owners room i : ℕ) (taken : ℕ → ℕ → List Note) (p q : Part) (s t : Sender) (rings : t.rings ≡ s.rings) (spreads : SpreadsFirst p q s.outboxes t.outboxes) where
   linked_spread : IsLinked owners room i s → IsLinked owners room i t
   linked_spread was = record {
     owner = spreads.sends.same_owner ∙ was.owner;
     queues = spreads.sends.owners ∙ was.queues;
-    lines = ap (λ (l : List Line). length l) lines ∙ was.lines;
-    rooms = λ j low. ap (λ (l : List Line). (get_or l j no_line).room) lines ∙ was.rooms j low;
-    batches = λ j low. subst (λ (l : List Line). AreBatches (get_or l j no_line).batches) (sym lines) (was.batches j low);
+    rings = ap (λ (l : List Ring). length l) rings ∙ was.rings;
+    rooms = λ j low. ap (λ (l : List Ring). (get_or l j no_ring).room) rings ∙ was.rooms j low;
+    batches = λ j low. subst (λ (l : List Ring). AreBatches (get_or l j no_ring).batches) (sym rings) (was.batches j low);
   }
 
   sound_spread : IsLinked owners room i s → IsSoundAt value owners taken i p s → IsSoundAt value owners taken i q t
   sound_spread was sound =
-      subst (λ (l : List Line). OwnerSound value i owners q (λ j. taken j i) (λ j. taken i j ++ (notes_of (get_or l j no_line).batches ++ notes_of (queue_to t.outboxes j)))
-      (λ j. notes_of (get_or l j no_line).batches ++ notes_of (queue_to t.outboxes j))) (sym lines)
-      (subst₂ (λ (a b : ℕ). OwnerSound value a b q (λ j. taken j i) (λ j. taken i j ++ (line j ++ notes_of (queue_to t.outboxes j))) (λ j. line j ++ notes_of (queue_to t.outboxes j))) was.owner was.queues
-      (subst (λ (g : ℕ → List Note). OwnerSound value s.outboxes.owner (length s.outboxes.queues) q (λ j. taken j i) g (λ j. line j ++ notes_of (queue_to t.outboxes j))) (λ u j. regroup t.outboxes j u)
-      (spreads.sound value (λ j. taken j i) (λ j. taken i j ++ line j) line
+      subst (λ (l : List Ring). OwnerSound value i owners q (λ j. taken j i) (λ j. taken i j ++ (notes_of (get_or l j no_ring).batches ++ notes_of (queue_to t.outboxes j)))
+      (λ j. notes_of (get_or l j no_ring).batches ++ notes_of (queue_to t.outboxes j))) (sym rings)
+      (subst₂ (λ (a b : ℕ). OwnerSound value a b q (λ j. taken j i) (λ j. taken i j ++ (ring j ++ notes_of (queue_to t.outboxes j))) (λ j. ring j ++ notes_of (queue_to t.outboxes j))) was.owner was.queues
+      (subst (λ (g : ℕ → List Note). OwnerSound value s.outboxes.owner (length s.outboxes.queues) q (λ j. taken j i) g (λ j. ring j ++ notes_of (queue_to t.outboxes j))) (λ u j. regroup t.outboxes j u)
+      (spreads.sound value (λ j. taken j i) (λ j. taken i j ++ ring j) ring
       (subst (λ (g : ℕ → List Note). OwnerSound value s.outboxes.owner (length s.outboxes.queues) p (λ j. taken j i) g (coming_to s)) (sym (λ u j. regroup s.outboxes j u))
       (subst₂ (λ (a b : ℕ). OwnerSound value a b p (λ j. taken j i) (λ j. taken i j ++ coming_to s j) (coming_to s)) (sym was.owner) (sym was.queues) sound)))))
     where
-      line : ℕ → List Note
-      line j = notes_of (line_to s j).batches
+      ring : ℕ → List Note
+      ring j = notes_of (ring_to s j).batches
 
-      regroup : (boxes : Outboxes) (j : ℕ) → (taken i j ++ line j) ++ notes_of (queue_to boxes j) ≡ taken i j ++ (line j ++ notes_of (queue_to boxes j))
-      regroup boxes j = append_assoc (taken i j) (line j) (notes_of (queue_to boxes j))
+      regroup : (boxes : Outboxes) (j : ℕ) → (taken i j ++ ring j) ++ notes_of (queue_to boxes j) ≡ taken i j ++ (ring j ++ notes_of (queue_to boxes j))
+      regroup boxes j = append_assoc (taken i j) (ring j) (notes_of (queue_to boxes j))
 
 pub spread_step : (old new : Core) (i : ℕ) → i < length old.parts → DoesSpread old new i → Sound old → Sound new
 spread_step old new i high does sound =
@@ -103,9 +103,9 @@ spread_step old new i high does sound =
     sound_of old new sound.taken sound does.changes.shelf does.changes.room does.changes.gain
     (ap (λ (l : List Part). length l) does.changes.parts ∙ length-set old.parts i (part_at new i)) (ap (λ (l : List Sender). length l) does.changes.senders ∙ length-set old.senders i (sender_at new i))
     (both (λ k p s. SamePlace (part_at old k) p) does.place (λ k low. place_same (part_at old k)))
-    (both (λ k p s. IsLinked owners old.room k s) (linked_spread value owners old.room i sound.taken (part_at old i) (part_at new i) (sender_at old i) (sender_at new i) does.lines does.spreads (sound.linked i high)) sound.linked)
+    (both (λ k p s. IsLinked owners old.room k s) (linked_spread value owners old.room i sound.taken (part_at old i) (part_at new i) (sender_at old i) (sender_at new i) does.rings does.spreads (sound.linked i high)) sound.linked)
     (both (IsSoundAt value owners sound.taken)
-    (sound_spread value owners old.room i sound.taken (part_at old i) (part_at new i) (sender_at old i) (sender_at new i) does.lines does.spreads (sound.linked i high) (sound.sound.sound i high)) sound.sound.sound)
+    (sound_spread value owners old.room i sound.taken (part_at old i) (part_at new i) (sender_at old i) (sender_at new i) does.rings does.spreads (sound.linked i high) (sound.sound.sound i high)) sound.sound.sound)
   where
     both_set : (P : ℕ → Part → Sender → Type 0) (parts : List Part) (senders : List Sender) (n i : ℕ) (p : Part) (s : Sender) → length parts ≡ n → length senders ≡ n → i < n → P i p s
         → ((k : ℕ) → k < n → P k (get_or parts k no_part) (get_or senders k no_sender)) → (k : ℕ) → k < n → P k (get_or (set parts i p) k no_part) (get_or (set senders i s) k no_sender)
@@ -120,34 +120,34 @@ spread_step old new i high does sound =
     both P here all k low = subst₂ (λ (l : List Part) (m : List Sender). P k (get_or l k no_part) (get_or m k no_sender)) (sym does.changes.parts) (sym does.changes.senders)
         (both_set P old.parts old.senders (length old.parts) i (part_at new i) (sender_at new i) refl sound.senders high here all k low)
 
--- ---- a batch moves to the line
+-- ---- a batch moves to the ring
 
 module _ (owners room i j : ℕ) (s : Sender) (linked : IsLinked owners room i s) (high' : j < owners) (batch : List Note) (rest : List (List Note)) (whole : IsBatch batch) (first : queue_to s.outboxes j ≡ batch ∷ rest) where
-  abbrev line : Line
-  line = record (line_to s j) { batches = (line_to s j).batches ++ batch ∷ [] }
+  abbrev ring : Ring
+  ring = record (ring_to s j) { batches = (ring_to s j).batches ++ batch ∷ [] }
 
   abbrev sent : Sender
-  sent = record { outboxes = record s.outboxes { queues = set s.outboxes.queues j rest }; lines = set s.lines j line }
+  sent = record { outboxes = record s.outboxes { queues = set s.outboxes.queues j rest }; rings = set s.rings j ring }
 
-  line_now : line_to sent j ≡ line
-  line_now = get_or-set_same s.lines j line no_line (let l = linked.lines in omega (arith, high', l))
+  ring_now : ring_to sent j ≡ ring
+  ring_now = get_or-set_same s.rings j ring no_ring (let l = linked.rings in omega (arith, high', l))
 
-  line_still : (b : ℕ) → (b ≡ j → ⊥) → line_to sent b ≡ line_to s b
-  line_still b apart = get_or-set_other s.lines j b line no_line apart
+  ring_still : (b : ℕ) → (b ≡ j → ⊥) → ring_to sent b ≡ ring_to s b
+  ring_still b apart = get_or-set_other s.rings j b ring no_ring apart
 
   linked_sent : IsLinked owners room i sent
   linked_sent = record {
     owner = linked.owner;
     queues = length-set s.outboxes.queues j rest ∙ linked.queues;
-    lines = length-set s.lines j line ∙ linked.lines;
+    rings = length-set s.rings j ring ∙ linked.rings;
     rooms = λ b low. elim (cases_eq b j) [
-      | inl same ↦ subst (λ a. (line_to sent a).room ≡ room) (sym same) (ap (λ (l : Line). l.room) line_now ∙ linked.rooms j high')
-      | inr apart ↦ ap (λ (l : Line). l.room) (line_still b apart) ∙ linked.rooms b low
+      | inl same ↦ subst (λ a. (ring_to sent a).room ≡ room) (sym same) (ap (λ (l : Ring). l.room) ring_now ∙ linked.rooms j high')
+      | inr apart ↦ ap (λ (l : Ring). l.room) (ring_still b apart) ∙ linked.rooms b low
     ];
     batches = λ b low. elim (cases_eq b j) [
-      | inl same ↦ subst (λ a. AreBatches (line_to sent a).batches) (sym same)
-          (subst (λ (l : Line). AreBatches l.batches) (sym line_now) (All-push IsBatch (line_to s j).batches batch (linked.batches j high') whole))
-      | inr apart ↦ subst (λ (l : Line). AreBatches l.batches) (sym (line_still b apart)) (linked.batches b low)
+      | inl same ↦ subst (λ a. AreBatches (ring_to sent a).batches) (sym same)
+          (subst (λ (l : Ring). AreBatches l.batches) (sym ring_now) (All-push IsBatch (ring_to s j).batches batch (linked.batches j high') whole))
+      | inr apart ↦ subst (λ (l : Ring). AreBatches l.batches) (sym (ring_still b apart)) (linked.batches b low)
     ];
   }
 
@@ -155,12 +155,12 @@ module _ (owners room i j : ℕ) (s : Sender) (linked : IsLinked owners room i s
   same_coming : (b : ℕ) → coming_to sent b ≡ coming_to s b
   same_coming b = elim (cases_eq b j) [
     | inl same ↦ subst (λ a. coming_to sent a ≡ coming_to s a) (sym same)
-        (ap (λ (l : Line). notes_of l.batches ++ notes_of (queue_to sent.outboxes j)) line_now
-        ∙ ap (λ (q : List (List Note)). notes_of line.batches ++ notes_of q) (get_or-set_same s.outboxes.queues j rest [] (let q = linked.queues in omega (arith, high', q)))
-        ∙ ap (λ l. l ++ notes_of rest) (notes_of-last (line_to s j).batches batch)
-        ∙ append_assoc (notes_of (line_to s j).batches) batch (notes_of rest) ∙ ap (λ (q : List (List Note)). notes_of (line_to s j).batches ++ notes_of q) (sym first))
-    | inr apart ↦ ap (λ (l : Line). notes_of l.batches ++ notes_of (queue_to sent.outboxes b)) (line_still b apart)
-        ∙ ap (λ (q : List (List Note)). notes_of (line_to s b).batches ++ notes_of q) (get_or-set_other s.outboxes.queues j b rest [] apart)
+        (ap (λ (l : Ring). notes_of l.batches ++ notes_of (queue_to sent.outboxes j)) ring_now
+        ∙ ap (λ (q : List (List Note)). notes_of ring.batches ++ notes_of q) (get_or-set_same s.outboxes.queues j rest [] (let q = linked.queues in omega (arith, high', q)))
+        ∙ ap (λ l. l ++ notes_of rest) (notes_of-last (ring_to s j).batches batch)
+        ∙ append_assoc (notes_of (ring_to s j).batches) batch (notes_of rest) ∙ ap (λ (q : List (List Note)). notes_of (ring_to s j).batches ++ notes_of q) (sym first))
+    | inr apart ↦ ap (λ (l : Ring). notes_of l.batches ++ notes_of (queue_to sent.outboxes b)) (ring_still b apart)
+        ∙ ap (λ (q : List (List Note)). notes_of (ring_to s b).batches ++ notes_of q) (get_or-set_other s.outboxes.queues j b rest [] apart)
   ]
 
 pub send_step : (old : Core) (i j : ℕ) (t : Sender) → i < length old.parts → j < length old.parts → MovesBatch (sender_at old i) t j → Sound old → Sound (record old { senders = set old.senders i t })
@@ -185,35 +185,35 @@ module _ (old : Core) (i j : ℕ) (high : i < length old.parts) (high' : j < len
   abbrev pub left : List Note
   left = notes_of pops.rest ++ notes_of (queue_to (sender_at old i).outboxes j)
 
-  -- what is first on the line is next
+  -- what is first on the ring is next
   pub next_of : coming old i j ≡ batch ++ left
   next_of = ap (λ l. notes_of l ++ notes_of (queue_to (sender_at old i).outboxes j)) pops.first ∙ append_assoc batch (notes_of pops.rest) (notes_of (queue_to (sender_at old i).outboxes j))
 
-  abbrev shorter : Line
-  shorter = record (line_at old i j) { batches = pops.rest }
+  abbrev shorter : Ring
+  shorter = record (ring_at old i j) { batches = pops.rest }
 
   was : IsLinked (length old.parts) old.room i (sender_at old i)
   was = sound.linked i high
 
-  shorter_now : line_to t j ≡ shorter
-  shorter_now = ap (λ (s : Sender). line_to s j) pops.pops ∙ get_or-set_same (sender_at old i).lines j shorter no_line (let l = was.lines in omega (arith, high', l))
+  shorter_now : ring_to t j ≡ shorter
+  shorter_now = ap (λ (s : Sender). ring_to s j) pops.pops ∙ get_or-set_same (sender_at old i).rings j shorter no_ring (let l = was.rings in omega (arith, high', l))
 
-  shorter_still : (b : ℕ) → (b ≡ j → ⊥) → line_to t b ≡ line_at old i b
-  shorter_still b other = ap (λ (s : Sender). line_to s b) pops.pops ∙ get_or-set_other (sender_at old i).lines j b shorter no_line other
+  shorter_still : (b : ℕ) → (b ≡ j → ⊥) → ring_to t b ≡ ring_at old i b
+  shorter_still b other = ap (λ (s : Sender). ring_to s b) pops.pops ∙ get_or-set_other (sender_at old i).rings j b shorter no_ring other
 
   linked_popped : IsLinked (length old.parts) old.room i t
   linked_popped = record {
     owner = ap (λ (s : Sender). s.outboxes.owner) pops.pops ∙ was.owner;
     queues = ap (λ (s : Sender). length s.outboxes.queues) pops.pops ∙ was.queues;
-    lines = ap (λ (s : Sender). length s.lines) pops.pops ∙ length-set (sender_at old i).lines j shorter ∙ was.lines;
+    rings = ap (λ (s : Sender). length s.rings) pops.pops ∙ length-set (sender_at old i).rings j shorter ∙ was.rings;
     rooms = λ b low. elim (cases_eq b j) [
-      | inl same ↦ subst (λ a. (line_to t a).room ≡ old.room) (sym same) (ap (λ (l : Line). l.room) shorter_now ∙ was.rooms j high')
-      | inr other ↦ ap (λ (l : Line). l.room) (shorter_still b other) ∙ was.rooms b low
+      | inl same ↦ subst (λ a. (ring_to t a).room ≡ old.room) (sym same) (ap (λ (l : Ring). l.room) shorter_now ∙ was.rooms j high')
+      | inr other ↦ ap (λ (l : Ring). l.room) (shorter_still b other) ∙ was.rooms b low
     ];
     batches = λ b low. elim (cases_eq b j) [
-      | inl same ↦ subst (λ a. AreBatches (line_to t a).batches) (sym same)
-          (subst (λ (l : Line). AreBatches l.batches) (sym shorter_now) (All-tail IsBatch batch pops.rest (subst AreBatches pops.first (was.batches j high'))))
-      | inr other ↦ subst (λ (l : Line). AreBatches l.batches) (sym (shorter_still b other)) (was.batches b low)
+      | inl same ↦ subst (λ a. AreBatches (ring_to t a).batches) (sym same)
+          (subst (λ (l : Ring). AreBatches l.batches) (sym shorter_now) (All-tail IsBatch batch pops.rest (subst AreBatches pops.first (was.batches j high'))))
+      | inr other ↦ subst (λ (l : Ring). AreBatches l.batches) (sym (shorter_still b other)) (was.batches b low)
     ];
   }
 
@@ -221,10 +221,10 @@ module _ (old : Core) (i j : ℕ) (high : i < length old.parts) (high' : j < len
   comes_from : (b : ℕ) → coming_to t b ≡ with_list (coming old) i j left i b
   comes_from b = elim (cases_eq b j) [
     | inl same ↦ subst (λ c. coming_to t c ≡ with_list (coming old) i j left i c) (sym same)
-        (ap (λ (l : Line). notes_of l.batches ++ notes_of (queue_to t.outboxes j)) shorter_now ∙ ap (λ (s : Sender). notes_of pops.rest ++ notes_of (queue_to s.outboxes j)) pops.pops
+        (ap (λ (l : Ring). notes_of l.batches ++ notes_of (queue_to t.outboxes j)) shorter_now ∙ ap (λ (s : Sender). notes_of pops.rest ++ notes_of (queue_to s.outboxes j)) pops.pops
         ∙ sym (list_here (coming old) i j left))
-    | inr other ↦ ap (λ (l : Line). notes_of l.batches ++ notes_of (queue_to t.outboxes b)) (shorter_still b other)
-        ∙ ap (λ (s : Sender). notes_of (line_at old i b).batches ++ notes_of (queue_to s.outboxes b)) pops.pops ∙ sym (list_to (coming old) i j left i b other)
+    | inr other ↦ ap (λ (l : Ring). notes_of l.batches ++ notes_of (queue_to t.outboxes b)) (shorter_still b other)
+        ∙ ap (λ (s : Sender). notes_of (ring_at old i b).batches ++ notes_of (queue_to s.outboxes b)) pops.pops ∙ sym (list_to (coming old) i j left i b other)
   ]
 
   pub take_step : (q : Part) → TakesNotes batch (part_at old j) q → Sound (record old { parts = set old.parts j q; senders = set old.senders i t })

@@ -17,17 +17,17 @@ use Rattle.awari_core.specs.declared.events.Event.TheVariants.{Spread, Send, Tak
 use Rattle.awari_core.specs.declared.faults.CoreFault.{CoreFault}
 use Rattle.awari_core.specs.declared.faults.CoreFault.TheVariants.{NotEnabled, Owners, Room, TooHigh, Memory}
 
--- the batches on a line, the first to be taken at the front, and for how many it has room
-pub record Line : Type 0 where
+-- the batches on a ring, the first to be taken at the front, and for how many it has room
+pub record Ring : Type 0 where
   pub batches : List (List Note)
   pub room : ℕ
 
--- an owner's outboxes, and its lines to each owner
+-- an owner's outboxes, and its rings to each owner
 pub record Sender : Type 0 where
   pub outboxes : Outboxes
-  pub lines : List Line
+  pub rings : List Ring
 
--- The shelf over which the level is built, the room of each line, the open gain, which is 0 where all are closed, and for each
+-- The shelf over which the level is built, the room of each ring, the open gain, which is 0 where all are closed, and for each
 -- owner its part and what it sends by.
 pub record Core : Type 0 where
   pub shelf : List Image
@@ -36,11 +36,11 @@ pub record Core : Type 0 where
   pub parts : List Part
   pub senders : List Sender
 
-abbrev pub no_line : Line
-no_line = record { batches = []; room = 0 }
+abbrev pub no_ring : Ring
+no_ring = record { batches = []; room = 0 }
 
 abbrev pub no_sender : Sender
-no_sender = record { outboxes = record { owner = 0; queues = [] }; lines = [] }
+no_sender = record { outboxes = record { owner = 0; queues = [] }; rings = [] }
 
 abbrev pub part_at : Core → ℕ → Part
 part_at core i = slice_index_or core.parts i no_part
@@ -48,28 +48,28 @@ part_at core i = slice_index_or core.parts i no_part
 abbrev pub sender_at : Core → ℕ → Sender
 sender_at core i = slice_index_or core.senders i no_sender
 
--- the line to one owner, and that from one to another
-abbrev pub line_to : Sender → ℕ → Line
-line_to sender j = slice_index_or sender.lines j no_line
+-- the ring to one owner, and that from one to another
+abbrev pub ring_to : Sender → ℕ → Ring
+ring_to sender j = slice_index_or sender.rings j no_ring
 
-abbrev pub line_at : Core → ℕ → ℕ → Line
-line_at core i j = line_to (sender_at core i) j
+abbrev pub ring_at : Core → ℕ → ℕ → Ring
+ring_at core i j = ring_to (sender_at core i) j
 
--- the notes on their way to one owner: on the line, and behind that in the outbox
+-- the notes on their way to one owner: on the ring, and behind that in the outbox
 abbrev pub coming_to : Sender → ℕ → List Note
-coming_to sender j = notes_of (line_to sender j).batches ++ notes_of (queue_to sender.outboxes j)
+coming_to sender j = notes_of (ring_to sender j).batches ++ notes_of (queue_to sender.outboxes j)
 
 abbrev pub coming : Core → ℕ → ℕ → List Note
 coming core i j = coming_to (sender_at core i) j
 
--- What owner i of so many sends by: it has its number, and a queue and a line of this room for each owner. Batches on a line have
+-- What owner i of so many sends by: it has its number, and a queue and a ring of this room for each owner. Batches on a ring have
 -- 1 to 32 notes, as those in outboxes have.
 pub record IsLinked (owners room i : ℕ) (sender : Sender) : Type 0 where
   pub owner : sender.outboxes.owner ≡ i
   pub queues : length sender.outboxes.queues ≡ owners
-  pub lines : length sender.lines ≡ owners
-  pub rooms : (j : ℕ) → j < owners → (line_to sender j).room ≡ room
-  pub batches : (j : ℕ) → j < owners → AreBatches (line_to sender j).batches
+  pub rings : length sender.rings ≡ owners
+  pub rooms : (j : ℕ) → j < owners → (ring_to sender j).room ≡ room
+  pub batches : (j : ℕ) → j < owners → AreBatches (ring_to sender j).batches
 
 -- The core is sound: there are lists of taken notes, for each ordered pair of owners, with which all that the owners gave and heard
 -- is what was due.
@@ -86,10 +86,10 @@ pub record Sound (core : Core) : Type 0 where
 
 -- ---- when the owners rest
 
--- nothing waits in these outboxes and lines
+-- nothing waits in these outboxes and rings
 pub record IsSilent (sender : Sender) : Type 0 where
   pub outboxes : All (λ queue. queue ≡ []) sender.outboxes.queues
-  pub lines : All (λ (line : Line). line.batches ≡ []) sender.lines
+  pub rings : All (λ (ring : Ring). ring.batches ≡ []) sender.rings
 
 -- nothing is on its way
 abbrev pub IsAllTaken : Core → Type 0
@@ -99,7 +99,7 @@ IsAllTaken core = All IsSilent core.senders
 abbrev pub IsQuiet : Core → Type 0
 IsQuiet core = All (λ (part : Part). part.fresh ≡ []) core.parts × IsAllTaken core
 
--- nothing is on its way, and no fresh board has the open distance
+-- nothing is on its way, and no fresh board is of the open wave
 abbrev pub IsWaveDone : Core → Type 0
 IsWaveDone core = All (λ (part : Part). Any (λ f. due_dist f ≡ part.wave) part.fresh → ⊥) core.parts × IsAllTaken core
 
@@ -197,11 +197,11 @@ pub record ChangesSender (old new : Core) (i : ℕ) : Type 0 where
   pub rest : new ≡ record old { senders = new.senders }
   pub senders : new.senders ≡ slice_set old.senders i (sender_at new i)
 
--- a batch for j can be sent: there is one, and room on the line for it
+-- a batch for j can be sent: there is one, and room on the ring for it
 abbrev pub CanSend : Sender → ℕ → Type 0
-CanSend sender j = (queue_to sender.outboxes j ≢ []) × (length (line_to sender j).batches < (line_to sender j).room)
+CanSend sender j = (queue_to sender.outboxes j ≢ []) × (length (ring_to sender j).batches < (ring_to sender j).room)
 
--- The first batch of the outbox for j moves to the end of the line to j.
+-- The first batch of the outbox for j moves to the end of the ring to j.
 pub record MovesBatch (old new : Sender) (j : ℕ) : Type 0 where
   pub batch : List Note
   pub rest : List (List Note)
@@ -209,27 +209,27 @@ pub record MovesBatch (old new : Sender) (j : ℕ) : Type 0 where
   pub first : queue_to old.outboxes j ≡ batch ∷ rest
   pub moves : new ≡ record {
     outboxes = record old.outboxes { queues = slice_set old.outboxes.queues j rest };
-    lines = slice_set old.lines j (record (line_to old j) { batches = (line_to old j).batches ++ batch ∷ [] });
+    rings = slice_set old.rings j (record (ring_to old j) { batches = (ring_to old j).batches ++ batch ∷ [] });
   }
 
--- This batch is the first on the line to j, and is taken off.
+-- This batch is the first on the ring to j, and is taken off.
 pub record PopsBatch (batch : List Note) (old new : Sender) (j : ℕ) : Type 0 where
   pub rest : List (List Note)
-  pub first : (line_to old j).batches ≡ batch ∷ rest
-  pub pops : new ≡ record old { lines = slice_set old.lines j (record (line_to old j) { batches = rest }) }
+  pub first : (ring_to old j).batches ≡ batch ∷ rest
+  pub pops : new ≡ record old { rings = slice_set old.rings j (record (ring_to old j) { batches = rest }) }
 
 -- The first fresh board of owner i is spread.
 pub record DoesSpread (old new : Core) (i : ℕ) : Type 0 where
   pub changes : ChangesOwner old new i
-  pub lines : (sender_at new i).lines ≡ (sender_at old i).lines
+  pub rings : (sender_at new i).rings ≡ (sender_at old i).rings
   pub place : SamePlace (part_at old i) (part_at new i)
   pub spreads : SpreadsFirst (part_at old i) (part_at new i) (sender_at old i).outboxes (sender_at new i).outboxes
 
--- A batch moves from the outbox of i for j to the line from i to j.
+-- A batch moves from the outbox of i for j to the ring from i to j.
 abbrev pub DoesSend : Core → Core → ℕ → ℕ → Type 0
 DoesSend old new i j = ChangesSender old new i × MovesBatch (sender_at old i) (sender_at new i) j
 
--- The first batch on the line from i to j is taken off, and owner j's part hears its notes.
+-- The first batch on the ring from i to j is taken off, and owner j's part hears its notes.
 pub record DoesTake (old new : Core) (i j : ℕ) : Type 0 where
   pub batch : List Note
   pub rest : new ≡ record old { parts = slice_set old.parts j (part_at new j); senders = slice_set old.senders i (sender_at new i) }
@@ -246,7 +246,7 @@ IsBetween core i j = (i < length core.parts) × (j < length core.parts) × (i �
 abbrev pub IsEnabled : Core → Event → Type 0
 IsEnabled core (Spread i) = (i < length core.parts) × IsLeastDue (part_at core i) (Some (part_at core i).wave)
 IsEnabled core (Send i j) = IsBetween core i j × CanSend (sender_at core i) j
-IsEnabled core (Take i j) = IsBetween core i j × ((line_at core i j).batches ≡ [] → ⊥)
+IsEnabled core (Take i j) = IsBetween core i j × ((ring_at core i j).batches ≡ [] → ⊥)
 
 -- what it does
 abbrev pub Does : Core → Core → Event → Type 0

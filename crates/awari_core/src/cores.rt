@@ -31,7 +31,7 @@ pub struct Ran {
     pub refused: usize,
 }
 
-/// All owners of the next level of a shelf, with the lines between them. At any time, what each has
+/// All owners of the next level of a shelf, with the rings between them. At any time, what each has
 /// given and heard is what was due.
 #[derive(Drop)]
 pub struct Core {
@@ -54,8 +54,8 @@ impl Model for Core {
 
 impl Core {
     /// The owners of the shelf's next level, with nothing under way. The greatest gain is open, which
-    /// is the number of stones; at level 0 there is none. Each line has room for `room` batches. It
-    /// takes memory for the parts and the lines, and for a share of the shelf.
+    /// is the number of stones; at level 0 there is none. Each ring has room for `room` batches. It
+    /// takes memory for the parts and the rings, and for a share of the shelf.
     ///
     /// It is refused as the first of these that is due:
     ///
@@ -121,7 +121,7 @@ impl Core {
         ran
     }
 
-    /// Whether no board is fresh, and nothing waits in outboxes and on lines.
+    /// Whether no board is fresh, and nothing waits in outboxes and on rings.
     pub fn quiet(&self) -> bool
         ensures quiet { IsTrue result ↔ IsQuiet self.now }
         ensures sound { Sound self.now }
@@ -136,7 +136,7 @@ impl Core {
         self.gain
     }
 
-    /// The open distance in plies, which is that of each part.
+    /// The open wave in plies, which is that of each part.
     pub fn wave(&self) -> u32
         ensures { (i : ℕ) → i < length self.now.parts → result ≡ (part_at self.now i).wave }
     {
@@ -162,7 +162,7 @@ impl Core {
     }
 
     /// Opens the least distance of a fresh board in all parts and gives it in plies, or None if no
-    /// board is fresh. Refused as 39 `NotQuiet` if a fresh board has the open distance or something
+    /// board is fresh. Refused as 39 `NotQuiet` if a fresh board is of the open wave or something
     /// is under way, and then nothing changes. It takes no memory.
     pub fn next_wave(&mut self) -> Result<Option<u32>, CoreFault>
         ensures sound { Sound self.new }
@@ -225,7 +225,7 @@ impl Core {
         Ok(())
     }
 
-    /// Puts a batch on the line between these owners.
+    /// Puts a batch on the ring between these owners.
     fn send(&mut self, from: u8, to: u8) -> Result<(), CoreFault>
         ensures sound { Sound self.new }
         ensures done { OnOk result (DoesSend self.old self.new from to) }
@@ -242,7 +242,7 @@ impl Core {
         Ok(())
     }
 
-    /// Takes a batch off the line between these owners, which the second hears.
+    /// Takes a batch off the ring between these owners, which the second hears.
     fn take(&mut self, from: u8, to: u8) -> Result<(), CoreFault>
         ensures sound { Sound self.new }
         ensures done { OnOk result (DoesTake self.old self.new from to) }
@@ -297,7 +297,7 @@ impl Core {
         least
     }
 
-    /// Whether nothing waits in outboxes and on lines.
+    /// Whether nothing waits in outboxes and on rings.
     fn is_all_taken(&self) -> bool
         ensures { IsTrue result ↔ IsAllTaken self.now }
     {

@@ -16,7 +16,7 @@ pub enum CoreFault {
     NotEnabled,
     /// 35: there is no owner, or there are more than 16.
     Owners,
-    /// 36: a line has room for no batch or for more than 256.
+    /// 36: a ring has room for no batch or for more than 256.
     Room,
     /// 37: the shelf has all levels.
     TooHigh,

@@ -19,7 +19,7 @@ mod cores;
 mod events;
 mod faults;
 mod laws;
-mod lines;
+mod rings;
 mod openings;
 mod senders;
 

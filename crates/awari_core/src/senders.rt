@@ -5,18 +5,18 @@ ghost use Rattle.awari_block.specs.Part.{IsLeastDue, HasFarthest};
 ghost use Rattle.awari_owner.specs.Sound.{SamePlace, SpreadsFirst};
 ghost use Rattle.awari_owner.specs.Spread.{IsPartOf};
 ghost use Rattle.awari_owner.specs.declared.faults.OwnerFault.{OwnerFault};
-ghost use Rattle.awari_core.specs.Core.{CanSend, IsLinked, IsSilent, MovesBatch, PopsBatch, Sender as SenderView, line_to, no_sender};
+ghost use Rattle.awari_core.specs.Core.{CanSend, IsLinked, IsSilent, MovesBatch, PopsBatch, Sender as SenderView, ring_to, no_sender};
 
-use crate::lines::Line;
+use crate::rings::Ring;
 use awari_owner::{Batch, Outboxes, OwnerFault, Part};
 use std::alloc::{AllocError, Global};
 use std::marker::Model;
 
-/// An owner's outboxes, and its lines to all owners.
+/// An owner's outboxes, and its rings to all owners.
 #[derive(Drop)]
 pub struct Sender {
     outboxes: Outboxes,
-    lines: Vec<Line>,
+    rings: Vec<Ring>,
 }
 
 impl Model for Sender {
@@ -24,23 +24,23 @@ impl Model for Sender {
 
     ghost Value = { SenderView };
 
-    ghost view = { λ s. record { outboxes = s.outboxes; lines = s.lines.items } };
+    ghost view = { λ s. record { outboxes = s.outboxes; rings = s.rings.items } };
 }
 
 impl Sender {
-    /// The outboxes and lines of this owner, one of `owners`, with nothing to send. Each line has
+    /// The outboxes and rings of this owner, one of `owners`, with nothing to send. Each ring has
     /// room for `room` batches, which is taken here.
     pub fn new(alloc: Global, owners: u8, owner: u8, room: u32) -> Result<Sender, AllocError>
         requires owners { (1 ≤ owners) × (owners ≤ 16) }
         requires owner { owner < owners }
-        ensures { IfOk result (λ sender. sender ≡ record { outboxes = record { owner = owner; queues = replicate owners [] }; lines = replicate owners (record { batches = []; room = room }) }) }
+        ensures { IfOk result (λ sender. sender ≡ record { outboxes = record { owner = owner; queues = replicate owners [] }; rings = replicate owners (record { batches = []; room = room }) }) }
     {
         let outboxes = Outboxes::new(alloc, owners, owner)?;
-        let mut lines = Vec::with_capacity(alloc, owners as usize)?;
+        let mut rings = Vec::with_capacity(alloc, owners as usize)?;
         for _to in 0..owners {
-            lines.push(Line::new(alloc, room)?)?;
+            rings.push(Ring::new(alloc, room)?)?;
         }
-        Ok(Sender { outboxes, lines })
+        Ok(Sender { outboxes, rings })
     }
 
     /// Spreads the first fresh board of the owner's part, if its distance is the open one.
@@ -51,57 +51,57 @@ impl Sender {
         ensures least { (result ≡ Ok false → ⊥) → IsLeastDue part.old (Some part.old.wave) }
         ensures none { result ≡ Ok false → (part.new ≡ part.old) × (self.new ≡ self.old) }
         ensures place { SamePlace part.old part.new }
-        ensures lines { self.new.lines ≡ self.old.lines }
+        ensures rings { self.new.rings ≡ self.old.rings }
         ensures fault { IfErr result (λ fault. ((fault ≡ OwnerFault.Far) × HasFarthest part.old) ⊎ ((fault ≡ OwnerFault.Memory) × (1 < length self.old.outboxes.queues))) }
         ensures err { OnErr result ((part.new ≡ part.old) × (self.new ≡ self.old)) }
     {
         part.spread_one(&mut self.outboxes)
     }
 
-    /// Puts the first batch of the outbox for this owner at the end of the line to it. False if there
-    /// is no batch, or no room on the line.
+    /// Puts the first batch of the outbox for this owner at the end of the ring to it. False if there
+    /// is no batch, or no room on the ring.
     pub fn send(&mut self, to: u8) -> bool
-        requires { to < length self.old.lines }
+        requires { to < length self.old.rings }
         ensures sent { result ≡ true → MovesBatch self.old self.new to }
         ensures enabled { IsTrue result ↔ CanSend self.old to }
         ensures kept { result ≡ false → self.new ≡ self.old }
     {
-        if !self.lines[to as usize].has_room() {
+        if !self.rings[to as usize].has_room() {
             return false;
         }
         let Some(batch) = self.outboxes.front(to) else {
             return false;
         };
         self.outboxes.drop_front(to);
-        self.lines[to as usize].push(batch);
+        self.rings[to as usize].push(batch);
         true
     }
 
-    /// Takes the first batch off the line to this owner.
+    /// Takes the first batch off the ring to this owner.
     pub fn pop(&mut self, to: u8) -> Option<Batch>
-        requires { to < length self.old.lines }
+        requires { to < length self.old.rings }
         ensures some { IfSome result (λ batch. PopsBatch batch.items self.old self.new to) }
-        ensures none { IfNone result (((line_to self.old to).batches ≡ []) × (self.new ≡ self.old)) }
+        ensures none { IfNone result (((ring_to self.old to).batches ≡ []) × (self.new ≡ self.old)) }
     {
-        self.lines[to as usize].pop()
+        self.rings[to as usize].pop()
     }
 
-    /// Whether nothing waits in the outboxes and on the lines.
+    /// Whether nothing waits in the outboxes and on the rings.
     pub fn is_silent(&self) -> bool
         ensures { IsTrue result ↔ IsSilent self.now }
     {
-        self.outboxes.is_empty() && self.lines.iter().all(Line::is_empty)
+        self.outboxes.is_empty() && self.rings.iter().all(Ring::is_empty)
     }
 }
 
-/// Whether nothing waits in the outboxes and on the lines of all these owners.
+/// Whether nothing waits in the outboxes and on the rings of all these owners.
 pub fn are_silent(senders: &[Sender]) -> bool
     ensures { IsTrue result ↔ All IsSilent senders.now }
 {
     senders.iter().all(Sender::is_silent)
 }
 
-/// The outboxes and lines of so many owners, with nothing to send.
+/// The outboxes and rings of so many owners, with nothing to send.
 pub fn silent_senders(alloc: Global, owners: u8, room: u32) -> Result<Vec<Sender>, AllocError>
     requires owners { (1 ≤ owners) × (owners ≤ 16) }
     ensures count { IfOk result (λ senders. vec_len senders ≡ owners) }

@@ -1,16 +1,16 @@
--- Grids: what a look at two lines keeps, and what one more owner keeps.
+-- Grids: what a look at two rings keeps, and what one more owner keeps.
 use Rattle.std.proofs.Common.{◌≡◌, ◌≢◌, ℕ, zero, suc, ◌+◌, ◌<◌, List, [], ◌∷◌, ◌++◌, length, Option, Some, None, refl, sym, ap, subst, ◌∙◌, inl, inr, arith, set, get_or, take, drop, length-set}
 use Rattle.std.proofs.lemmas.List.{get_or-set_same, get_or-set_other, get_or_default, get_or-take, get_or-drop}
 use Rattle.std.proofs.Common.{add-zero, IsTrue, ◌↔◌, Bool}
 use Rattle.std.proofs.lemmas.Bool.{cases_eq}
 use Rattle.std.specs.List.{slice_get}
 use Rattle.awari_lines.specs.Seats.{seat_of}
-use Rattle.awari_lines.specs.declared.lines.Ends.{Ends}
-use Rattle.awari_lines.specs.declared.lines.Line.{Line}
-use Rattle.awari_lines.specs.Lines.{SameLines, SameRings, PairedOn, Paired, Looked, LookedAt, IsExact, NothingWaits, IsGrid, SameHistory, sent_to, received_from, sent_on, received_on, line_of}
+use Rattle.awari_lines.specs.declared.ends.Ends.{Ends}
+use Rattle.awari_lines.specs.declared.ends.RingPair.{RingPair}
+use Rattle.awari_lines.specs.Rings.{SamePairs, SameRings, PairedOn, Paired, Looked, LookedAt, IsExact, NothingWaits, IsGrid, SameHistory, sent_to, received_from, sent_on, received_on, pair_of}
 
 -- the same ends of the same two rings are paired as they were
-pub paired_kept : (l m l' m' : Option Line) → SameRings l l' → SameRings m m' → PairedOn l m → PairedOn l' m'
+pub paired_kept : (l m l' m' : Option RingPair) → SameRings l l' → SameRings m m' → PairedOn l m → PairedOn l' m'
 paired_kept None m l' m' p q h = absurd h
 paired_kept (Some l) None l' m' p q h = absurd h
 paired_kept (Some l) (Some m) None m' p q h = absurd p
@@ -20,25 +20,25 @@ paired_kept (Some l) (Some m) (Some l') (Some m') p q h = (
   (p.1.0.0 ∙ (h.1.0 ∙ sym q.0.0.0), p.1.0.1 ∙ (h.1.1 ∙ sym q.0.0.1), p.1.0.2 ∙ (h.1.2 ∙ sym q.0.0.2), p.1.0.3 ∙ (h.1.3 ∙ sym q.0.0.3)),
 )
 
-pub same_rings : (l : Option Line) → SameRings l l
+pub same_rings : (l : Option RingPair) → SameRings l l
 same_rings None = tt
 same_rings (Some l) = (((refl, refl, refl, refl), refl), ((refl, refl, refl, refl), refl))
 
-pub same_lines : (a : Ends) → SameLines a a
-same_lines a = record { owner = refl; owners = refl; rings = λ k. same_rings (slice_get a.lines.items k) }
+pub same_pairs : (a : Ends) → SamePairs a a
+same_pairs a = record { owner = refl; owners = refl; rings = λ k. same_rings (slice_get a.pairs.items k) }
 
 pub same_history : (a : Ends) → SameHistory a a
-same_history a = record { lines = same_lines a; sent = λ j n. refl; received = λ j n. refl }
+same_history a = record { pairs = same_pairs a; sent = λ j n. refl; received = λ j n. refl }
 
-pub pair_kept : (a b a' b' : Ends) → SameLines a a' → SameLines b b' → Paired a b → Paired a' b'
+pub pair_kept : (a b a' b' : Ends) → SamePairs a a' → SamePairs b b' → Paired a b → Paired a' b'
 pair_kept a b a' b' s t h =
-    let la : (k : ℕ) → slice_get a'.lines.items (seat_of a'.owner k) ≡ slice_get a'.lines.items (seat_of a.owner k) = λ k. ap (λ o. slice_get a'.lines.items (seat_of o k)) s.owner in
-    let P : Ends → Ends → ℕ → ℕ → Type 0 = λ x y i j. PairedOn (slice_get x.lines.items (seat_of i j)) (slice_get y.lines.items (seat_of j i)) in
+    let la : (k : ℕ) → slice_get a'.pairs.items (seat_of a'.owner k) ≡ slice_get a'.pairs.items (seat_of a.owner k) = λ k. ap (λ o. slice_get a'.pairs.items (seat_of o k)) s.owner in
+    let P : Ends → Ends → ℕ → ℕ → Type 0 = λ x y i j. PairedOn (slice_get x.pairs.items (seat_of i j)) (slice_get y.pairs.items (seat_of j i)) in
     let kept : P a' b' a.owner b.owner = paired_kept _ _ _ _ (s.rings (seat_of a.owner b.owner)) (t.rings (seat_of b.owner a.owner)) h in
     subst (λ (i : ℕ). P a' b' i b'.owner) (sym s.owner) (subst (λ (j : ℕ). P a' b' a.owner j) (sym t.owner) kept)
 
 -- the same ends at each place make a grid of a grid
-pub grid_kept : (es fs : List Ends) → length fs ≡ length es → ((x : ℕ) (d : Ends) → x < length es → SameLines (get_or es x d) (get_or fs x d)) → IsGrid es → IsGrid fs
+pub grid_kept : (es fs : List Ends) → length fs ≡ length es → ((x : ℕ) (d : Ends) → x < length es → SamePairs (get_or es x d) (get_or fs x d)) → IsGrid es → IsGrid fs
 grid_kept es fs n same g = record {
   owner = λ i d h. (let l : i < length es = omega (arith, n) in (same i d l).owner ∙ g.owner i d l);
   owners = λ i d h. (let l : i < length es = omega (arith, n) in ap (λ k. k + 1) (same i d l).owners ∙ (g.owners i d l ∙ sym n));
@@ -47,7 +47,7 @@ grid_kept es fs n same g = record {
 
 pub history_from_look : (a b : Ends) (j : ℕ) → Looked a b j → SameHistory a b
 history_from_look a b j w = record {
-  lines = w.lines;
+  pairs = w.pairs;
   sent = λ k n. elim (cases_eq k j) [
     | inl e ↦ (let P : ℕ → Type 0 = λ q. sent_to b q ≡ sent_to a q in subst P (sym e) w.sent)
     | inr m ↦ ap sent_on (w.others k m n)
@@ -89,18 +89,18 @@ module _ (es : List Ends) (i j : ℕ) (a b a' b' : Ends) (lt : i < j) (fits : j 
 
   pub looked_at : IsGrid es → Looked a a' j → Looked b b' i → IsExact a' b' → LookedAt es written i j
   looked_at g la lb ex = record {
-    grid = grid_kept es written length-written (λ x d h. written_each SameLines la.lines lb.lines same_lines x d) g;
+    grid = grid_kept es written length-written (λ x d h. written_each SamePairs la.pairs lb.pairs same_pairs x d) g;
     same = λ k d h. written_each SameHistory (history_from_look a a' j la) (history_from_look b b' i lb) same_history k d;
     others = λ x y d h n m k. elim (cases_eq x i) [
       | inl e ↦
-          (let P : ℕ → Type 0 = λ z. line_of (get_or written z d) y ≡ line_of (get_or es z d) y in
-          subst P (sym e) (ap (λ u. line_of u y) (written_i d) ∙ (la.others y (λ q. m (e, q)) (λ q. n (e ∙ (sym (g.owner i d (omega arith)) ∙ (ap (λ (u : Ends). u.owner) (at_i d) ∙ sym q)))) ∙ ap (λ u. line_of u y) (sym (at_i d)))))
+          (let P : ℕ → Type 0 = λ z. pair_of (get_or written z d) y ≡ pair_of (get_or es z d) y in
+          subst P (sym e) (ap (λ u. pair_of u y) (written_i d) ∙ (la.others y (λ q. m (e, q)) (λ q. n (e ∙ (sym (g.owner i d (omega arith)) ∙ (ap (λ (u : Ends). u.owner) (at_i d) ∙ sym q)))) ∙ ap (λ u. pair_of u y) (sym (at_i d)))))
       | inr p ↦
           elim (cases_eq x j) [
             | inl e ↦
-                (let P : ℕ → Type 0 = λ z. line_of (get_or written z d) y ≡ line_of (get_or es z d) y in
-                subst P (sym e) (ap (λ u. line_of u y) (written_j d) ∙ (lb.others y (λ q. k (e, q)) (λ q. n (e ∙ (sym (g.owner j d fits) ∙ (ap (λ (u : Ends). u.owner) (at_j d) ∙ sym q)))) ∙ ap (λ u. line_of u y) (sym (at_j d)))))
-            | inr q ↦ ap (λ u. line_of u y) (written_else x d p q)
+                (let P : ℕ → Type 0 = λ z. pair_of (get_or written z d) y ≡ pair_of (get_or es z d) y in
+                subst P (sym e) (ap (λ u. pair_of u y) (written_j d) ∙ (lb.others y (λ q. k (e, q)) (λ q. n (e ∙ (sym (g.owner j d fits) ∙ (ap (λ (u : Ends). u.owner) (at_j d) ∙ sym q)))) ∙ ap (λ u. pair_of u y) (sym (at_j d)))))
+            | inr q ↦ ap (λ u. pair_of u y) (written_else x d p q)
           ]
     ];
     exact = λ d. subst (λ (u : Ends). IsExact u (get_or written j d)) (sym (written_i d)) (subst (λ (u : Ends). IsExact a' u) (sym (written_j d)) ex);
@@ -150,7 +150,7 @@ module _ (es front back : List Ends) (i j : ℕ) (x y : Ends) (f : front ≡ tak
       let at_j : get_or (set front i a ++ set back 0 b) j d ≡ b = ap (λ l. get_or l j d) (parts_written a b) ∙ written_j es i j (get_or front i x) (get_or back 0 y) a b lt fits front_at back_at d in
       subst (λ (u : Ends). IsTrue r ↔ NothingWaits u (get_or (set front i a ++ set back 0 b) j d)) (sym at_i) (subst (λ (u : Ends). IsTrue r ↔ NothingWaits a u) (sym at_j) h)
 
-rings_then : (l m n : Option Line) → SameRings l m → SameRings m n → SameRings l n
+rings_then : (l m n : Option RingPair) → SameRings l m → SameRings m n → SameRings l n
 rings_then None None None p q = tt
 rings_then None None (Some n) p q = q
 rings_then None (Some m) n p q = absurd p
@@ -163,7 +163,7 @@ rings_then (Some l) (Some m) (Some n) p q = (
 
 pub history_then : (a b c : Ends) → SameHistory a b → SameHistory b c → SameHistory a c
 history_then a b c s t = record {
-  lines = record { owner = t.lines.owner ∙ s.lines.owner; owners = t.lines.owners ∙ s.lines.owners; rings = λ k. rings_then (slice_get a.lines.items k) (slice_get b.lines.items k) (slice_get c.lines.items k) (s.lines.rings k) (t.lines.rings k) };
-  sent = λ j n. t.sent j (λ e. n (e ∙ s.lines.owner)) ∙ s.sent j n;
-  received = λ j n. t.received j (λ e. n (e ∙ s.lines.owner)) ∙ s.received j n;
+  pairs = record { owner = t.pairs.owner ∙ s.pairs.owner; owners = t.pairs.owners ∙ s.pairs.owners; rings = λ k. rings_then (slice_get a.pairs.items k) (slice_get b.pairs.items k) (slice_get c.pairs.items k) (s.pairs.rings k) (t.pairs.rings k) };
+  sent = λ j n. t.sent j (λ e. n (e ∙ s.pairs.owner)) ∙ s.sent j n;
+  received = λ j n. t.received j (λ e. n (e ∙ s.pairs.owner)) ∙ s.received j n;
 }

@@ -1,20 +1,20 @@
 -- How far a settling has come.
 use Rattle.std.proofs.Common.{◌≡◌, ℕ, ◌+◌, ◌<◌, ◌≤◌, List, [], ◌∷◌, ◌++◌, length, Option, refl, sym, subst, ◌∙◌, inl, inr, arith, get_or, IsTrue, ◌↔◌, Bool, ◌⊎◌}
 use Rattle.std.proofs.lemmas.Bool.{cases_eq, cases_lt}
-use Rattle.awari_lines.specs.declared.lines.Ends.{Ends}
-use Rattle.awari_lines.specs.declared.lines.Line.{Line}
-use Rattle.awari_lines.specs.Lines.{AreExact, EachTo, LookedAt, NoneWait, NothingWaits, IsGrid, SameHistory, sent_on, received_on, waiting_on, line_of}
+use Rattle.awari_lines.specs.declared.ends.Ends.{Ends}
+use Rattle.awari_lines.specs.declared.ends.RingPair.{RingPair}
+use Rattle.awari_lines.specs.Rings.{AreExact, EachTo, LookedAt, NoneWait, NothingWaits, IsGrid, SameHistory, sent_on, received_on, waiting_on, pair_of}
 use Rattle.awari_lines.proofs.Grids.{history_then}
 
-abbrev pub ExactOn : Option Line → Option Line → Type 0
+abbrev pub ExactOn : Option RingPair → Option RingPair → Type 0
 ExactOn l m = (received_on l ++ waiting_on l ≡ sent_on m) × (received_on m ++ waiting_on m ≡ sent_on l)
 
-abbrev pub QuietOn : Option Line → Option Line → Type 0
+abbrev pub QuietOn : Option RingPair → Option RingPair → Type 0
 QuietOn l m = (waiting_on l ≡ []) × (waiting_on m ≡ [])
 
--- R holds of the lines between the owners x and y
-abbrev pub Between : (Option Line → Option Line → Type 0) → List Ends → ℕ → ℕ → Ends → Type 0
-Between R es x y d = R (line_of (get_or es x d) y) (line_of (get_or es y d) x)
+-- R holds of the rings between the owners x and y
+abbrev pub Between : (Option RingPair → Option RingPair → Type 0) → List Ends → ℕ → ℕ → Ends → Type 0
+Between R es x y d = R (pair_of (get_or es x d) y) (pair_of (get_or es y d) x)
 
 -- the pairs that were looked at
 abbrev pub IsDone : ℕ → ℕ → ℕ → ℕ → Type 0
@@ -55,38 +55,38 @@ module _ (es fs hs : List Ends) (empty quiet empty' : Bool) (j i : ℕ) (lt : i 
 
   here_exact : (d : Ends) → Between ExactOn hs i j d
   here_exact d =
-      subst (λ (m : ℕ). ExactOn (line_of (get_or hs i d) m) (line_of (get_or hs j d) i)) (owner_j d)
-      (subst (λ (m : ℕ). ExactOn (line_of (get_or hs i d) (get_or hs j d).owner) (line_of (get_or hs j d) m)) (owner_i d) (w.exact d))
+      subst (λ (m : ℕ). ExactOn (pair_of (get_or hs i d) m) (pair_of (get_or hs j d) i)) (owner_j d)
+      (subst (λ (m : ℕ). ExactOn (pair_of (get_or hs i d) (get_or hs j d).owner) (pair_of (get_or hs j d) m)) (owner_i d) (w.exact d))
 
   -- nothing waits between i and j, by the numbers
   quiet_on : (d : Ends) → NothingWaits (get_or hs i d) (get_or hs j d) → Between QuietOn hs i j d
   quiet_on d h =
-      subst (λ (m : ℕ). QuietOn (line_of (get_or hs i d) m) (line_of (get_or hs j d) i)) (owner_j d)
-      (subst (λ (m : ℕ). QuietOn (line_of (get_or hs i d) (get_or hs j d).owner) (line_of (get_or hs j d) m)) (owner_i d) h)
+      subst (λ (m : ℕ). QuietOn (pair_of (get_or hs i d) m) (pair_of (get_or hs j d) i)) (owner_j d)
+      (subst (λ (m : ℕ). QuietOn (pair_of (get_or hs i d) (get_or hs j d).owner) (pair_of (get_or hs j d) m)) (owner_i d) h)
 
   quiet_back : (d : Ends) → Between QuietOn hs i j d → NothingWaits (get_or hs i d) (get_or hs j d)
   quiet_back d h =
-      subst (λ (m : ℕ). QuietOn (line_of (get_or hs i d) (get_or hs j d).owner) (line_of (get_or hs j d) m)) (sym (owner_i d))
-      (subst (λ (m : ℕ). QuietOn (line_of (get_or hs i d) m) (line_of (get_or hs j d) i)) (sym (owner_j d)) h)
+      subst (λ (m : ℕ). QuietOn (pair_of (get_or hs i d) (get_or hs j d).owner) (pair_of (get_or hs j d) m)) (sym (owner_i d))
+      (subst (λ (m : ℕ). QuietOn (pair_of (get_or hs i d) m) (pair_of (get_or hs j d) i)) (sym (owner_j d)) h)
 
-  -- the lines of a pair that was looked at before
-  stays : (R : Option Line → Option Line → Type 0) (x y : ℕ) (d : Ends) → x < y → y < length es → IsDone j i x y → Between R fs x y d → Between R hs x y d
+  -- the rings of a pair that was looked at before
+  stays : (R : Option RingPair → Option RingPair → Type 0) (x y : ℕ) (d : Ends) → x < y → y < length es → IsDone j i x y → Between R fs x y d → Between R hs x y d
   stays R x y d l h done r =
       let q : length fs ≡ length es = s.same.many in
       let apart : ¬ ((x ≡ i) × (y ≡ j)) = λ e. elim done [ inl p ↦ absurd (let a : y ≡ j = e.1 in omega arith) | inr p ↦ absurd (let a : x ≡ i = e.0 in let b : x < i = p.1 in omega arith) ] in
       let across : ¬ ((x ≡ j) × (y ≡ i)) = λ e. absurd (let a : x ≡ j = e.0 in let b : y ≡ i = e.1 in omega arith) in
-      let one : line_of (get_or hs x d) y ≡ line_of (get_or fs x d) y = w.others x y d (omega arith) (λ e. absurd (omega (arith, e))) apart across in
-      let two : line_of (get_or hs y d) x ≡ line_of (get_or fs y d) x = w.others y x d (omega arith) (λ e. absurd (omega (arith, e))) (λ e. across (e.1, e.0)) (λ e. apart (e.1, e.0)) in
-      subst (λ (u : Option Line). R u (line_of (get_or hs y d) x)) (sym one) (subst (λ (u : Option Line). R (line_of (get_or fs x d) y) u) (sym two) r)
+      let one : pair_of (get_or hs x d) y ≡ pair_of (get_or fs x d) y = w.others x y d (omega arith) (λ e. absurd (omega (arith, e))) apart across in
+      let two : pair_of (get_or hs y d) x ≡ pair_of (get_or fs y d) x = w.others y x d (omega arith) (λ e. absurd (omega (arith, e))) (λ e. across (e.1, e.0)) (λ e. apart (e.1, e.0)) in
+      subst (λ (u : Option RingPair). R u (pair_of (get_or hs y d) x)) (sym one) (subst (λ (u : Option RingPair). R (pair_of (get_or fs x d) y) u) (sym two) r)
 
-  stayed : (R : Option Line → Option Line → Type 0) (x y : ℕ) (d : Ends) → x < y → y < length es → IsDone j i x y → Between R hs x y d → Between R fs x y d
+  stayed : (R : Option RingPair → Option RingPair → Type 0) (x y : ℕ) (d : Ends) → x < y → y < length es → IsDone j i x y → Between R hs x y d → Between R fs x y d
   stayed R x y d l h done r =
       let q : length fs ≡ length es = s.same.many in
       let apart : ¬ ((x ≡ i) × (y ≡ j)) = λ e. elim done [ inl p ↦ absurd (let a : y ≡ j = e.1 in omega arith) | inr p ↦ absurd (let a : x ≡ i = e.0 in let b : x < i = p.1 in omega arith) ] in
       let across : ¬ ((x ≡ j) × (y ≡ i)) = λ e. absurd (let a : x ≡ j = e.0 in let b : y ≡ i = e.1 in omega arith) in
-      let one : line_of (get_or hs x d) y ≡ line_of (get_or fs x d) y = w.others x y d (omega arith) (λ e. absurd (omega (arith, e))) apart across in
-      let two : line_of (get_or hs y d) x ≡ line_of (get_or fs y d) x = w.others y x d (omega arith) (λ e. absurd (omega (arith, e))) (λ e. across (e.1, e.0)) (λ e. apart (e.1, e.0)) in
-      subst (λ (u : Option Line). R u (line_of (get_or fs y d) x)) one (subst (λ (u : Option Line). R (line_of (get_or hs x d) y) u) two r)
+      let one : pair_of (get_or hs x d) y ≡ pair_of (get_or fs x d) y = w.others x y d (omega arith) (λ e. absurd (omega (arith, e))) apart across in
+      let two : pair_of (get_or hs y d) x ≡ pair_of (get_or fs y d) x = w.others y x d (omega arith) (λ e. absurd (omega (arith, e))) (λ e. across (e.1, e.0)) (λ e. apart (e.1, e.0)) in
+      subst (λ (u : Option RingPair). R u (pair_of (get_or fs y d) x)) one (subst (λ (u : Option RingPair). R (pair_of (get_or hs x d) y) u) two r)
 
   -- a pair is done now where it is the last one or was done before
   done_cases : (x y : ℕ) → IsDone j (i + 1) x y → ((x ≡ i) × (y ≡ j)) ⊎ IsDone j i x y
@@ -98,7 +98,7 @@ module _ (es fs hs : List Ends) (empty quiet empty' : Bool) (j i : ℕ) (lt : i 
   done_more : (x y : ℕ) → IsDone j i x y → IsDone j (i + 1) x y
   done_more x y done = elim done [ inl p ↦ inl p | inr p ↦ inr (p.0, (let a : x < i = p.1 in omega arith)) ]
 
-  at_last : (R : Option Line → Option Line → Type 0) (x y : ℕ) (d : Ends) → x ≡ i → y ≡ j → Between R hs i j d → Between R hs x y d
+  at_last : (R : Option RingPair → Option RingPair → Type 0) (x y : ℕ) (d : Ends) → x ≡ i → y ≡ j → Between R hs i j d → Between R hs x y d
   at_last R x y d e f r = subst (λ (a : ℕ). Between R hs a y d) (sym e) (subst (λ (b : ℕ). Between R hs i b d) (sym f) r)
 
   pub settled_more : SettledTo es hs empty' j (i + 1)

@@ -1,13 +1,13 @@
-//! Lines among the owners of a level: a ring of batches for each ordered pair of different owners.
+//! Rings among the owners of a level: a ring of batches for each ordered pair of different owners.
 //!
-//! [`grid`] makes the [`Ends`] of all owners, and takes all memory that the lines will ever need. Each
+//! [`grid`] makes the [`Ends`] of all owners, and takes all memory that the rings will ever need. Each
 //! owner sends by its own ends and receives by them, in any thread. Once all ends are in one thread
 //! again, [`settle`] looks whether anything still waits.
 //!
-//! Three owners whose lines have room for one batch each, in
+//! Three owners whose rings have room for one batch each, in
 //! `crates/awari_owner_tests/src/examples.rt`:
 //!
-//!     fn lines_begin_empty(rt: HostRuntime) -> Result<(), Fail> {
+//!     fn rings_begin_empty(rt: HostRuntime) -> Result<(), Fail> {
 //!         let mut all = grid(rt.alloc(), 3, 1)?;
 //!         expect_equal(&rt, "owners", all.len(), 3);
 //!         expect(&rt, "nothing waits", settle(all.as_mut_slice()));
@@ -15,10 +15,10 @@
 //!     }
 #![tactic(auto)]
 
-mod lines;
+mod ends;
 mod looks;
 mod making;
 
-pub use lines::{Ends, Line};
+pub use ends::{Ends, RingPair};
 pub use looks::settle;
 pub use making::grid;

@@ -1,12 +1,12 @@
-//! What all lines hold, once all ends are in one thread.
+//! What all rings hold, once all ends are in one thread.
 
 ghost use Rattle.std.specs.Prelude.{◌<◌, ◌↔◌, length, slice_index_or, IsTrue};
-ghost use Rattle.awari_lines.specs.Lines.{AreExact, EachTo, IsGrid, LookedAt, NoneWait, NothingWaits, SameHistory};
-ghost use Rattle.awari_lines.specs.declared.lines.Ends.{Ends as AnEnds};
+ghost use Rattle.awari_lines.specs.Rings.{AreExact, EachTo, IsGrid, LookedAt, NoneWait, NothingWaits, SameHistory};
+ghost use Rattle.awari_lines.specs.declared.ends.Ends.{Ends as AnEnds};
 
-use crate::lines::Ends;
+use crate::ends::Ends;
 
-/// Looks at every line of a grid. All ends are here, in the order of their owners. On each line, what
+/// Looks at every ring of a grid. All ends are here, in the order of their owners. On each ring, what
 /// was received and then what waits is what was sent. True if nothing waits on any. It takes no
 /// memory.
 pub fn settle(all: &mut [Ends]) -> bool
@@ -26,7 +26,7 @@ pub fn settle(all: &mut [Ends]) -> bool
     empty
 }
 
-/// Looks at the two lines between two owners. True if nothing waits on them.
+/// Looks at the two rings between two owners. True if nothing waits on them.
 fn settle_pair(all: &mut [Ends], i: usize, j: usize) -> bool
     requires grid { IsGrid all.old }
     requires pair { (i < j) × (j < length all.old) }

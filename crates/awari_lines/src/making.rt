@@ -1,14 +1,14 @@
-//! The ends of all lines.
+//! The ends of all rings.
 
 ghost use Rattle.std.specs.Prelude.{◌≡◌, ◌+◌, ◌<◌, ◌≤◌, vec_len, IfOk, OnOk};
-ghost use Rattle.awari_lines.specs.Lines.{AllUnused, HaveRoom, IsGrid};
+ghost use Rattle.awari_lines.specs.Rings.{AllUnused, HaveRoom, IsGrid};
 
-use crate::lines::Ends;
+use crate::ends::Ends;
 use std::alloc::{AllocError, Global};
 
-/// The ends of all lines among 1 to 16 owners, in the order of their numbers. There is a line for
+/// The ends of all rings among 1 to 16 owners, in the order of their numbers. There is a ring for
 /// each ordered pair of different owners, with room for `room` batches, 1 to 256. It takes all the
-/// memory that the lines will ever need, and is refused only if that runs out.
+/// memory that the rings will ever need, and is refused only if that runs out.
 pub fn grid(alloc: Global, owners: u8, room: u16) -> Result<Vec<Ends>, AllocError>
     requires owners { (1 ≤ owners) × (owners ≤ 16) }
     requires room { (1 ≤ room) × (room ≤ 256) }
@@ -24,18 +24,18 @@ pub fn grid(alloc: Global, owners: u8, room: u16) -> Result<Vec<Ends>, AllocErro
     Ok(all)
 }
 
-/// One more owner, with lines between it and each of the others.
+/// One more owner, with rings between it and each of the others.
 fn add_owner(alloc: Global, all: &mut Vec<Ends>, owner: u8, room: usize) -> Result<(), AllocError>
     requires owner { owner ≡ vec_len all.old }
     requires grid { IsGrid all.old.items × AllUnused all.old.items × HaveRoom room all.old.items }
     ensures owners { OnOk result (vec_len all.new ≡ vec_len all.old + 1) }
     ensures grid { OnOk result (IsGrid all.new.items × AllUnused all.new.items × HaveRoom room all.new.items) }
 {
-    let mut lines = Vec::with_capacity(alloc, all.len())?;
+    let mut pairs = Vec::with_capacity(alloc, all.len())?;
     for other in all.iter_mut() {
-        let line = other.connect(alloc, room)?;
-        lines.push(line)?;
+        let pair = other.connect(alloc, room)?;
+        pairs.push(pair)?;
     }
-    all.push(Ends { owner, lines })?;
+    all.push(Ends { owner, pairs })?;
     Ok(())
 }

@@ -46,7 +46,7 @@ first_of x fresh wave rank near at least =
     All-weaker (λ y. (due_dist x ≤ due_dist y) × (due_dist y ≡ due_dist x → due_rank x ≤ due_rank y)) (λ f. (wave ≤ due_dist f) × (due_dist f ≡ wave → rank ≤ due_rank f))
     (λ y later. (let n = later.0 in omega (arith, n, near), λ same. let n = later.1 (same ∙ sym near) in omega (arith, n, at))) fresh least
 
--- The board is settled at the open gain and distance, and its sources hear of this kind.
+-- The board is settled at the open gain and wave, and its sources hear of this kind.
 pub record IsTold (part : Part) (q : List ℕ) (sources : List Source) (kind : Kind) : Type 0 where
   pub either : IsEither part.gain (stored_at part (rank_of q)).score
   pub settled : settled_at part (rank_of q) ≡ Some ((stored_at part (rank_of q)).score, part.wave)

@@ -141,7 +141,7 @@ module _ (injective : IsInjective) (moves : (p : List ℕ) (x : ℕ) (r : List �
       old : HoldsNotes (length o.queues) part j (sent j ++ notes_of (queue_to o j))
       old = s.given_notes j other
 
-  -- what is put to the outboxes is of the open gain and distance
+  -- what is put to the outboxes is of the open gain and wave
   opened' : (j : ℕ) → IsOtherOf o.owner (length o.queues) j → All (IsTimely part') (coming j ++ notes_of (queue_to o' j))
   opened' j other = timely_all part part' place.level.level place.level.gain place.level.wave (coming j ++ notes_of (queue_to o' j))
       (subst (All (IsTimely part)) (sym (grown (coming j) j other)) (All-append (IsTimely part) (coming j ++ notes_of (queue_to o j)) (more j) (s.opened j other) (all_has (IsTimely part) (more j) each)))

@@ -115,7 +115,7 @@ known_low value p notes t best low gains some below test least u (inr note) =
 
 -- ---- a new note and the status
 
--- a note is of a quiet move that was not heard, of the open gain and the open distance
+-- a note is of a quiet move that was not heard, of the open gain and wave
 pub record IsNew (p : List ℕ) (notes : List Note) (t w : ℕ) (m : Note) : Type 0 where
   pub quiet : (q : List ℕ) × IsQuietMove p m.pit q
   pub unheard : is_heard_at notes m.pit ≡ false

@@ -19,7 +19,7 @@ use Rattle.awari_owner.proofs.Statuses.{IsNew}
 use Rattle.awari_owner.proofs.PlannedTallies.{note_tally, unheard_told}
 use Rattle.awari_block.proofs.BlockLemmas.{cell_in-other}
 
--- a note for a board of the block, of one of its quiet moves, of the open gain and distance
+-- a note for a board of the block, of one of its quiet moves, of the open gain and wave
 pub record IsTakeable (part : Part) (note : Note) : Type 0 where
   pub gain : note.gain ≡ part.gain
   pub dist : note.dist ≡ part.wave

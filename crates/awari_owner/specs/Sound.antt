@@ -43,7 +43,7 @@ pub record HoldsNotes (owners : ℕ) (part : Part) (j : ℕ) (notes : List Note)
   pub all_notes : (p q : List ℕ) (x : ℕ) (v : ℤ) (d : ℕ) → IsBoard p → sum p ≡ part.level → InBlock part (rank_of q) → IsInBlockOf part.level owners j (rank_of p)
       → IsQuietMove p x q → IsSpread part (rank_of q) v d → (m : Note) × Has notes m × IsNoteOf q v d p x m
 
--- a note that is on its way is of the open gain and distance, and the distance can be one more
+-- a note that is on its way is of the open gain and wave, and the distance can be one more
 pub record IsTimely (part : Part) (m : Note) : Type 0 where
   pub gain : m.gain ≡ part.gain
   pub opened : part.gain ≤ part.level
@@ -61,7 +61,7 @@ pub record OwnerSound (value : List ℕ → ℤ) (owner owners : ℕ) (part : Pa
   pub heard_taken : (m : Note) → Has heard m → Leaves part m.target m.pit → (j : ℕ) × IsOtherOf owner owners j × Has (taken j) m
   -- what was given is the notes of the boards that were spread
   pub given_notes : (j : ℕ) → IsOtherOf owner owners j → HoldsNotes owners part j (given j)
-  -- what is on its way is of the open gain and distance
+  -- what is on its way is of the open gain and wave
   pub opened : (j : ℕ) → IsOtherOf owner owners j → All (IsTimely part) (coming j)
   -- the fresh boards are settled ones of the open gain, each once
   pub fresh : AreFresh part

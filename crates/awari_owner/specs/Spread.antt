@@ -22,7 +22,7 @@ Source = List ℕ × ℕ
 abbrev pub is_held : Part → ℕ → Bool
 is_held part rank = nat_le part.start rank && nat_lt (rank - part.start) (length part.cells)
 
--- the note of the open gain and distance for this board and pit
+-- the note of the open gain and wave for this board and pit
 abbrev pub note_to : Part → Kind → Source → Note
 note_to part kind y = record { level = part.level; target = rank_of y.0; pit = y.1; kind = kind; gain = part.gain; dist = part.wave }
 
@@ -74,7 +74,7 @@ HearsOwn part notes = Hears part part notes
 abbrev pub kind_of : ℤ → Kind
 kind_of score = if int_lt (pos 0) score then Won else Lost
 
--- the fresh board that comes first: of the open distance, to which none is nearer, and of least rank among those
+-- the fresh board that comes first: of the open wave, to which none is nearer, and of least rank among those
 pub record IsFirst (part : Part) (rank : ℕ) : Type 0 where
   pub fresh : 0 < times_due part.fresh rank
   pub inside : InBlock part rank

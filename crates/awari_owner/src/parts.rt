@@ -144,7 +144,7 @@ impl Part {
         self.boards.place().gain
     }
 
-    /// The open distance in plies.
+    /// The open wave in plies.
     pub fn wave(&self) -> u32
         ensures { result ≡ self.now.wave }
     {
@@ -190,7 +190,7 @@ impl Part {
         self.boards.open_gain(gain);
     }
 
-    /// Opens a greater distance. Condition: no fresh board has a smaller one. It takes no memory.
+    /// Opens the wave of a greater distance. Condition: no fresh board has a smaller one. It takes no memory.
     pub fn open_wave(&mut self, dist: u32)
         requires farther { self.old.wave < dist }
         requires nearest { All (λ f. dist ≤ due_dist f) self.old.fresh }

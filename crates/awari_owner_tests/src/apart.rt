@@ -1,8 +1,8 @@
 //! Three owners of level 1 at the end of gain 1, taken apart into their parts and the ends of their
-//! lines.
+//! rings.
 
 ghost use Rattle.std.specs.Prelude.{◌≡◌, All, IfOk, length};
-ghost use Rattle.awari_lines.specs.Lines.{IsGrid};
+ghost use Rattle.awari_lines.specs.Rings.{IsGrid};
 ghost use Rattle.awari_block.specs.Part.{IsClosed};
 ghost use Rattle.awari_owner.specs.Level.{AreWhole};
 ghost use Rattle.awari_phase.specs.Owners.{AllGrown, OpensWave, all_ends, parts_of};
@@ -62,7 +62,7 @@ fn expect_at_rest(rt: &impl Abort, owners: &[Owner]) {
     }
 }
 
-/// The parts of owners, and their ends of the lines, both in the order of the owners.
+/// The parts of owners, and their ends of the rings, both in the order of the owners.
 #[derive(Drop)]
 struct Apart {
     parts: Vec<Part>,
@@ -120,7 +120,7 @@ fn expect_level_1(rt: &impl Abort, alloc: Global, image: &Image) -> Result<(), A
     Ok(())
 }
 
-/// Nothing is on the lines, and the parts make level 1.
+/// Nothing is on the rings, and the parts make level 1.
 fn expect_finished(
     rt: &impl Abort,
     alloc: Global,

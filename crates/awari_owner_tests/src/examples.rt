@@ -7,7 +7,7 @@ use awari_waves::Analysis;
 use std::test::Fail;
 
 #[test]
-fn lines_begin_empty(rt: HostRuntime) -> Result<(), Fail> {
+fn rings_begin_empty(rt: HostRuntime) -> Result<(), Fail> {
     let mut all = grid(rt.alloc(), 3, 1)?;
     expect_equal(&rt, "owners", all.len(), 3);
     expect(&rt, "nothing waits", settle(all.as_mut_slice()));

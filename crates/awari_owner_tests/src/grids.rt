@@ -1,4 +1,4 @@
-//! The lines among owners, as they are made.
+//! The rings among owners, as they are made.
 
 use crate::expect::{expect, expect_equal};
 use awari_lines::{Ends, grid, settle};
@@ -23,7 +23,7 @@ fn expect_nothing_comes(rt: &impl Abort, ends: &mut Ends) {
     expect(rt, "from 2", ends.pop(2).is_none());
 }
 
-/// The ends of one owner alone, who has no lines.
+/// The ends of one owner alone, who has no rings.
 fn expect_one(rt: &impl Abort, alloc: Global) -> Result<(), Fail> {
     let mut all = grid(alloc, 1, 256)?;
     expect_ends(rt, &all, 1);
@@ -31,7 +31,7 @@ fn expect_one(rt: &impl Abort, alloc: Global) -> Result<(), Fail> {
     Ok(())
 }
 
-/// The ends of three owners, with nothing on the lines.
+/// The ends of three owners, with nothing on the rings.
 fn expect_three(rt: &impl Abort, alloc: Global) -> Result<(), Fail> {
     let mut all = grid(alloc, 3, 1)?;
     expect_ends(rt, &all, 3);
@@ -47,7 +47,7 @@ fn owners_get_their_ends(rt: HostRuntime) -> Result<(), Fail> {
 }
 
 /// What the first of two owners sends is there for the second at once, and then there is room again at
-/// once. For that each has to look at the other's end of the line.
+/// once. For that each has to look at the other's end of the ring.
 fn expect_passed(rt: &impl Abort, one: &mut Ends, other: &mut Ends) {
     assert!(rt; one.owner() == 0 && one.owners() == 2);
     assert!(rt; other.owner() == 1 && other.owners() == 2);
@@ -58,7 +58,7 @@ fn expect_passed(rt: &impl Abort, one: &mut Ends, other: &mut Ends) {
 }
 
 #[test]
-fn lines_are_looked_at(rt: HostRuntime) -> Result<(), Fail> {
+fn rings_are_looked_at(rt: HostRuntime) -> Result<(), Fail> {
     let mut all = grid(rt.alloc(), 2, 1)?;
     assert!(rt; all.len() == 2);
     let (front, back) = all.as_mut_slice().split_at_mut(1);

@@ -20,7 +20,7 @@ mod expect;
 #[cfg(test)]
 mod grids;
 #[cfg(test)]
-mod lines;
+mod best_lines;
 #[cfg(test)]
 mod notes;
 #[cfg(test)]

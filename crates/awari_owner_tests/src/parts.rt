@@ -49,7 +49,7 @@ pub(crate) fn open_gain_1(rt: &impl Abort, part: &mut Part, outboxes: &Outboxes)
     expect_equal(rt, "gain, wave and due", standing, (1, 0, Some(0)));
 }
 
-/// Spreads the first fresh board, which has the open distance.
+/// Spreads the first fresh board, which is of the open wave.
 pub(crate) fn spread_next(rt: &impl Abort, part: &mut Part, outboxes: &mut Outboxes)
     requires made { IsPartOf part.old outboxes.old }
     ensures made { IsPartOf part.new outboxes.new }
@@ -58,7 +58,7 @@ pub(crate) fn spread_next(rt: &impl Abort, part: &mut Part, outboxes: &mut Outbo
     expect_equal(rt, "a board", part.spread_one(outboxes), Ok(true));
 }
 
-/// No board is due at the open distance.
+/// No board is due at the open wave.
 pub(crate) fn expect_none_due(rt: &impl Abort, part: &mut Part, outboxes: &mut Outboxes)
     requires made { IsPartOf part.old outboxes.old }
     ensures made { IsPartOf part.new outboxes.new }

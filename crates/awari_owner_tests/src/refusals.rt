@@ -4,7 +4,7 @@
 //! well. A `?` stands for what is made before the call, whose refusal is no wrong answer.
 
 ghost use Rattle.std.specs.Prelude.{◌≡◌, IfOk, length};
-ghost use Rattle.awari_lines.specs.Lines.{IsGrid};
+ghost use Rattle.awari_lines.specs.Rings.{IsGrid};
 ghost use Rattle.awari_owner.specs.Spread.{IsPartOf};
 ghost use Rattle.awari_phase.specs.Owners.{all_ends};
 

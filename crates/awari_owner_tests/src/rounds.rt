@@ -1,7 +1,7 @@
 //! Rounds of owners in threads, and the levels that owners build together.
 
 ghost use Rattle.std.specs.Prelude.{IfOk};
-ghost use Rattle.awari_lines.specs.Lines.{IsGrid};
+ghost use Rattle.awari_lines.specs.Rings.{IsGrid};
 ghost use Rattle.awari_table.specs.Shelves.{Consistent};
 ghost use Rattle.awari_owner.specs.Level.{AreWhole};
 ghost use Rattle.awari_phase.specs.Owners.{AllGrown, all_ends, parts_of};
@@ -23,7 +23,7 @@ use std::test::Fail;
 use std::thread;
 use std::thread::Threads;
 
-/// Three owners of level 1, with room for one batch on each line and gain 1 open.
+/// Three owners of level 1, with room for one batch on each ring and gain 1 open.
 pub(crate) fn three_owners<R: Threads + Sync>(rt: &R, alloc: Global) -> Result<Vec<Owner>, Fail>
     ensures grid { IfOk result (λ owners. IsGrid (all_ends owners.items)) }
     ensures whole { IfOk result (λ owners. AreWhole 1 (parts_of owners.items)) }

@@ -1,6 +1,6 @@
 //! Levels built by owners who take events by chance, each compared with what one part builds.
 //!
-//! Each schedule is of the next level above 1 to 4 that are there, of 1 to 16 owners, and of lines with
+//! Each schedule is of the next level above 1 to 4 that are there, of 1 to 16 owners, and of rings with
 //! room for 1 to 3 batches. Which events come, and in which order, is drawn as well, and the same in each
 //! run.
 

@@ -1,7 +1,7 @@
 //! How often workers sweep, as a gate counts it.
 
 ghost use Rattle.std.specs.Prelude.{IfOk};
-ghost use Rattle.awari_lines.specs.Lines.{IsGrid, SameLines};
+ghost use Rattle.awari_lines.specs.Rings.{IsGrid, SamePairs};
 ghost use Rattle.awari_phase.specs.Owners.{all_ends};
 
 use crate::expect::{expect, expect_equal};
@@ -114,9 +114,9 @@ fn a_busy_owner_makes_all_its_sweeps(rt: HostRuntime) -> Result<(), Fail> {
 /// A note for a board of the first owner.
 const STRANGER: Note = Note { target: 0, ..NOTE };
 
-/// Fills the line to the second of three owners, if this is another, with a batch that it refuses.
-fn fill_line(rt: &impl Abort, owner: &mut Owner)
-    ensures { SameLines owner.old.ends owner.new.ends }
+/// Fills the ring to the second of three owners, if this is another, with a batch that it refuses.
+fn fill_ring(rt: &impl Abort, owner: &mut Owner)
+    ensures { SamePairs owner.old.ends owner.new.ends }
 {
     assert!(rt; owner.ends.owners() == 3);
     if owner.ends.owner() == 1 {
@@ -127,34 +127,34 @@ fn fill_line(rt: &impl Abort, owner: &mut Owner)
     expect(rt, "sent", owner.ends.push(1, batch).is_ok());
 }
 
-/// Fills the lines to the second owner.
-fn fill_lines(rt: &impl Abort, owners: &mut [Owner])
+/// Fills the rings to the second owner.
+fn fill_rings(rt: &impl Abort, owners: &mut [Owner])
     requires { IsGrid (all_ends owners.old) }
     ensures { IsGrid (all_ends owners.new) }
 {
     for i in 0..owners.len() {
-        fill_line(rt, &mut owners[i]);
+        fill_ring(rt, &mut owners[i]);
     }
 }
 
-/// Three owners, the lines to the second of which are full.
-fn owners_with_full_lines<R: Threads + Sync + Abort>(
+/// Three owners, the rings to the second of which are full.
+fn owners_with_full_rings<R: Threads + Sync + Abort>(
     rt: &R,
     alloc: Global,
 ) -> Result<Vec<Owner>, Fail>
     ensures { IfOk result (λ owners. IsGrid (all_ends owners.items)) }
 {
     let mut owners = three_owners(rt, alloc)?;
-    fill_lines(rt, owners.as_mut_slice());
+    fill_rings(rt, owners.as_mut_slice());
     Ok(owners)
 }
 
 /// The third owner spreads its four boards in one sweep, and has a note for the second, who stops at
-/// the batch of the first. So the line stays full, and the second sweep of the third finds nothing
+/// the batch of the first. So the ring stays full, and the second sweep of the third finds nothing
 /// that it can do.
 #[test]
-fn a_full_line_ends_a_worker(rt: HostRuntime) -> Result<(), Fail> {
-    let owners = owners_with_full_lines(&rt, rt.alloc())?;
+fn a_full_ring_ends_a_worker(rt: HostRuntime) -> Result<(), Fail> {
+    let owners = owners_with_full_rings(&rt, rt.alloc())?;
     let gate = Counting::new();
     let fault = round(&rt, owners, &gate, 5).err();
     let stranger = PhaseFault::BadNote {

@@ -5,10 +5,10 @@ use Rattle.std.proofs.lemmas.List.Elements.{All-push}
 use Rattle.awari_owner.specs.Outboxes.{notes_of, queue_to}
 use Rattle.awari_owner.specs.Sound.{IsScannedOwner}
 use Rattle.awari_owner.proofs.Sounding.{sound_scanned}
-use Rattle.awari_lines.specs.Lines.{AllUnused, IsGrid, IsOther, IsUnused, UnusedOn, Notes, owners_of, received_from, received_on, sent_on, sent_to}
+use Rattle.awari_lines.specs.Rings.{AllUnused, IsGrid, IsOther, IsUnused, UnusedOn, Notes, owners_of, received_from, received_on, sent_on, sent_to}
 use Rattle.awari_lines.specs.Seats.{seat_of}
-use Rattle.awari_lines.specs.declared.lines.Ends.{Ends}
-use Rattle.awari_lines.specs.declared.lines.Line.{Line}
+use Rattle.awari_lines.specs.declared.ends.Ends.{Ends}
+use Rattle.awari_lines.specs.declared.ends.RingPair.{RingPair}
 use Rattle.awari_phase.specs.declared.owners.Owner.{Owner}
 use Rattle.awari_phase.specs.Owners.{AreFinished, IsScanned, IsSound, all_ends, ends_of, given_to, items_of, notes_boxed, notes_given, notes_taken}
 use Rattle.awari_phase.proofs.Grown.{ends_at}
@@ -25,16 +25,16 @@ module _ (value : List ℕ → ℤ) (n owners : ℕ) where
     each = All-push (λ (o : Owner). IsScanned value n owners o.ends o) os o s.each (subst (λ (u : Ends). IsScanned value n owners u o) (sym more.ends) more);
   }
 
--- nothing was sent or received on a line that is not used
-none_received : (l : Option Line) → UnusedOn l → received_on l ≡ []
+-- nothing was sent or received on a ring that is not used
+none_received : (l : Option RingPair) → UnusedOn l → received_on l ≡ []
 none_received None u = refl
 none_received (Some l) u = u.1
 
-none_sent : (l : Option Line) → UnusedOn l → sent_on l ≡ []
+none_sent : (l : Option RingPair) → UnusedOn l → sent_on l ≡ []
 none_sent None u = refl
 none_sent (Some l) u = u.0
 
--- an owner that was scanned, on lines that are not used, is sound
+-- an owner that was scanned, on rings that are not used, is sound
 scanned : (value : List ℕ → ℤ) (n owners : ℕ) (o : Owner) → IsUnused o.ends → owners_of o.ends ≡ owners → IsScanned value n owners o.ends o → IsSound value o.ends o.part o.outboxes
 scanned value n owners o unused count s = sound_scanned value n o.ends.owner (owners_of o.ends) o.ends.owner o.part (notes_taken o.ends) (notes_given o.ends o.outboxes) (notes_boxed o.outboxes)
     (subst (λ k. IsScannedOwner value n k o.ends.owner o.part) (sym count) s.part)

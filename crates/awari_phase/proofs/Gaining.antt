@@ -7,17 +7,17 @@ use Rattle.awari_owner.specs.Sound as part
 use Rattle.awari_owner.proofs.Sounding.{place_same, sound_opened, stays_both, wave_opened}
 use Rattle.awari_block.specs.Blocks.{KeepSettled}
 use Rattle.awari_block.specs.Part.{Part}
-use Rattle.awari_lines.specs.Lines.{EachTo, IsGrid, IsOther, SameLines, SameHistory, owners_of, sent_to, received_from}
-use Rattle.awari_lines.specs.declared.lines.Ends.{Ends}
+use Rattle.awari_lines.specs.Rings.{EachTo, IsGrid, IsOther, SamePairs, SameHistory, owners_of, sent_to, received_from}
+use Rattle.awari_lines.specs.declared.ends.Ends.{Ends}
 use Rattle.awari_phase.specs.declared.owners.Owner.{Owner}
 use Rattle.awari_phase.specs.Owners.{Batches, IsSound, notes_boxed, notes_given, notes_taken, Kept, Grown, AllGrown, AreFinished, AreInStep, AreReceived, AreSent, OpensWave, all_ends, ends_of, rest_of}
-use Rattle.awari_phase.proofs.Keeping.{same_lines, lines_then, IsOther-on, prefix_then, same_sound}
+use Rattle.awari_phase.proofs.Keeping.{same_pairs, pairs_then, IsOther-on, prefix_then, same_sound}
 use Rattle.awari_phase.proofs.Grown.{ends_at, grid_after}
 use Rattle.awari_phase.proofs.Each.{same_ends}
 
 pub grown_refl : (a : Owner) → Grown a a
 grown_refl a = record {
-  lines = same_lines a.ends;
+  pairs = same_pairs a.ends;
   level = refl;
   gain = refl;
   start = refl;
@@ -30,20 +30,20 @@ grown_refl a = record {
 
 pub grown_trans : (a b c : Owner) → Grown a b → Grown b c → Grown a c
 grown_trans a b c s t = record {
-  lines = lines_then a.ends b.ends c.ends s.lines t.lines;
+  pairs = pairs_then a.ends b.ends c.ends s.pairs t.pairs;
   level = t.level ∙ s.level;
   gain = t.gain ∙ s.gain;
   start = t.start ∙ s.start;
   long = t.long ∙ s.long;
   stays = stays_both a.part b.part c.part s.start s.stays t.stays;
-  received = λ j o. prefix_then (received_from a.ends j) (received_from b.ends j) (received_from c.ends j) (s.received j o) (t.received j (IsOther-on a.ends b.ends j s.lines o));
-  sent = λ j o. prefix_then (sent_to a.ends j) (sent_to b.ends j) (sent_to c.ends j) (s.sent j o) (t.sent j (IsOther-on a.ends b.ends j s.lines o));
+  received = λ j o. prefix_then (received_from a.ends j) (received_from b.ends j) (received_from c.ends j) (s.received j o) (t.received j (IsOther-on a.ends b.ends j s.pairs o));
+  sent = λ j o. prefix_then (sent_to a.ends j) (sent_to b.ends j) (sent_to c.ends j) (s.sent j o) (t.sent j (IsOther-on a.ends b.ends j s.pairs o));
   sound = λ value h. t.sound value (s.sound value h);
 }
 
 pub grown_kept : (a b : Owner) → Kept a b → Grown a b
 grown_kept a b k = record {
-  lines = k.lines;
+  pairs = k.pairs;
   level = k.block.level.level;
   gain = k.block.level.gain;
   start = k.block.level.start;
@@ -54,12 +54,12 @@ grown_kept a b k = record {
   sound = k.sound;
 }
 
--- a look at the lines
+-- a look at the rings
 pub grown_looked : (a b : Owner) → SameHistory a.ends b.ends → rest_of b ≡ rest_of a → Grown a b
 grown_looked a b h r =
     let part : b.part ≡ a.part = ap (λ (p : Part × Outboxes). p.0) r in
     let boxes : b.outboxes ≡ a.outboxes = ap (λ (p : Part × Outboxes). p.1) r in record {
-      lines = h.lines;
+      pairs = h.pairs;
       level = ap (λ (p : Part). p.level) part;
       gain = ap (λ (p : Part). p.gain) part;
       start = ap (λ (p : Part). p.start) part;
@@ -69,7 +69,7 @@ grown_looked a b h r =
       sent = λ j o. ([], append-nil (sent_to a.ends j) ∙ sym (h.sent j o.0));
       sound = λ value s.
           subst (λ (p : Part). IsSound value b.ends p b.outboxes) (sym part) (subst (λ (o : Outboxes). IsSound value b.ends a.part o) (sym boxes)
-          (same_sound value a.ends b.ends a.part a.outboxes h.lines (λ j o. h.sent j o.0) (λ j o. h.received j o.0) s));
+          (same_sound value a.ends b.ends a.part a.outboxes h.pairs (λ j o. h.sent j o.0) (λ j o. h.received j o.0) s));
     }
 
 -- nothing is to be sent
@@ -79,7 +79,7 @@ none_boxed a none j o = ap notes_of (none j [] (let many = a.queues in let low =
 -- a greater distance opened, with nothing to be sent
 pub grown_wave : (a b : Owner) (d : ℕ) → b.ends ≡ a.ends → b.outboxes ≡ a.outboxes → part.OpensWave d a.part b.part → All (λ (q : Batches). q ≡ []) a.outboxes.queues → Grown a b
 grown_wave a b d e o opens none = let p = opens.wave in record {
-  lines = subst (λ (x : Ends). SameLines a.ends x) (sym e) (same_lines a.ends);
+  pairs = subst (λ (x : Ends). SamePairs a.ends x) (sym e) (same_pairs a.ends);
   level = ap (λ (x : Part). x.level) p;
   gain = ap (λ (x : Part). x.gain) p;
   start = ap (λ (x : Part). x.start) p;

@@ -2,8 +2,8 @@
 use Rattle.std.proofs.Common.{◌≡◌, ℕ, ◌<◌, List, [], ◌∷◌, length, get_or, sym, subst, ◌∙◌, arith}
 use Rattle.std.proofs.lemmas.List.{length-map, get_or_default}
 use Rattle.std.proofs.Math.ListN.{get_or-map}
-use Rattle.awari_lines.specs.Lines.{EachTo, IsGrid, SameLines}
-use Rattle.awari_lines.specs.declared.lines.Ends.{Ends}
+use Rattle.awari_lines.specs.Rings.{EachTo, IsGrid, SamePairs}
+use Rattle.awari_lines.specs.declared.ends.Ends.{Ends}
 use Rattle.awari_lines.proofs.Grids.{grid_kept}
 use Rattle.awari_phase.specs.declared.owners.Owner.{Owner}
 use Rattle.awari_phase.specs.Owners.{Kept, all_ends, ends_of}
@@ -19,18 +19,18 @@ ends_at os x e d h =
     let long = length-map os ends_of in
     get_or_default (all_ends os) x e d.ends (omega (arith, h, long)) ∙ get_or-map ends_of os x d
 
--- owners on the same lines stand on a grid where they did
-pub grid_lines : (os ps : List Owner) → length ps ≡ length os → ((i : ℕ) (d : Owner) → i < length os → SameLines (get_or os i d).ends (get_or ps i d).ends) → IsGrid (all_ends os) → IsGrid (all_ends ps)
-grid_lines os ps long lines g =
+-- owners on the same rings stand on a grid where they did
+pub grid_pairs : (os ps : List Owner) → length ps ≡ length os → ((i : ℕ) (d : Owner) → i < length os → SamePairs (get_or os i d).ends (get_or ps i d).ends) → IsGrid (all_ends os) → IsGrid (all_ends ps)
+grid_pairs os ps long pairs g =
     let lo = length-map os ends_of in
     let lp = length-map ps ends_of in
     grid_kept (all_ends os) (all_ends ps) (lp ∙ long ∙ sym lo) (λ x e h. at x e (omega (arith, h, lo))) g
   where
-    at : (x : ℕ) (e : Ends) → x < length os → SameLines (get_or (all_ends os) x e) (get_or (all_ends ps) x e)
+    at : (x : ℕ) (e : Ends) → x < length os → SamePairs (get_or (all_ends os) x e) (get_or (all_ends ps) x e)
     at x e h =
         let d = some os (omega (arith, h)) in
-        subst (λ (u : Ends). SameLines u (get_or (all_ends ps) x e)) (sym (ends_at os x e d h))
-        (subst (λ (u : Ends). SameLines (get_or os x d).ends u) (sym (ends_at ps x e d (omega (arith, h, long)))) (lines x d h))
+        subst (λ (u : Ends). SamePairs u (get_or (all_ends ps) x e)) (sym (ends_at os x e d h))
+        (subst (λ (u : Ends). SamePairs (get_or os x d).ends u) (sym (ends_at ps x e d (omega (arith, h, long)))) (pairs x d h))
 
 pub grid_after : (os ps : List Owner) → EachTo Kept os ps → IsGrid (all_ends os) → IsGrid (all_ends ps)
-grid_after os ps kept g = grid_lines os ps kept.many (λ i d h. (kept.each i d h).lines) g
+grid_after os ps kept g = grid_pairs os ps kept.many (λ i d h. (kept.each i d h).pairs) g

@@ -10,15 +10,15 @@ use Rattle.awari_block.specs.Part.{Part, HasFarthest}
 use Rattle.awari_owner.specs.declared.faults.OwnerFault.{OwnerFault}
 use Rattle.awari_owner.specs.declared.faults.OwnerFault.TheVariants.{Far, Memory}
 use Rattle.awari_block.specs.declared.notes.Note.{Note}
-use Rattle.awari_lines.specs.Lines.{Notes, IsOther, SameLines, owners_of, sent_to, received_from}
-use Rattle.awari_lines.specs.declared.lines.Ends.{Ends}
+use Rattle.awari_lines.specs.Rings.{Notes, IsOther, SamePairs, owners_of, sent_to, received_from}
+use Rattle.awari_lines.specs.declared.ends.Ends.{Ends}
 use Rattle.awari_owner.specs.Sound.{IsTimely, OwnerSound, SamePlace, with_taken}
 use Rattle.awari_owner.proofs.Lists.{Has-append_right, notes_of-last}
 use Rattle.awari_owner.proofs.Sounding.{place_both, place_settled, sound_same}
 use Rattle.awari_phase.specs.declared.owners.Owner.{Owner}
 use Rattle.awari_phase.specs.Owners.{IsOpenBatch, items_of, taken_from, given_to, notes_boxed, notes_given, notes_taken, IsSound, Kept}
 use Rattle.awari_phase.specs.Stops.{HasWorked, StopsAt, StopsTaking, StopsSpreading}
-use Rattle.awari_phase.proofs.Keeping.{lines_then, moved}
+use Rattle.awari_phase.proofs.Keeping.{pairs_then, moved}
 
 -- what is due where the worker had this fault, and these notes of the last batch were not heard
 abbrev pub Due : Ends → Part → (ℕ → List Note) → OwnerFault → Type 0
@@ -34,11 +34,11 @@ pub record Halts (value : List ℕ → ℤ) (a : Owner) (e : Ends) (part : Part)
   pub came : (j : ℕ) → IsOther e j → (more : List Notes) × (received_from e j ≡ received_from a.ends j ++ more) × ((m : Note) → Has (left j) m → Has (notes_of (map items_of more)) m)
   pub sent : (j : ℕ) → IsOther e j → (gone : List Notes) × (sent_to e j ≡ sent_to a.ends j ++ gone) × All (IsOpenBatch a.part) (map items_of gone)
   pub block : SamePlace a.part part
-  pub lines : SameLines a.ends e
+  pub pairs : SamePairs a.ends e
   pub due : (fault : OwnerFault) → told ≡ Some fault → Due e part left fault
 
-pub IsOther-back : (a b : Ends) (j : ℕ) → SameLines a b → IsOther b j → IsOther a j
-IsOther-back a b j s o = ((λ e. o.0 (e ∙ sym s.owner)), (let p : vec_len b.lines ≡ vec_len a.lines = s.owners in let q : j < vec_len b.lines + 1 = o.1 in omega arith))
+pub IsOther-back : (a b : Ends) (j : ℕ) → SamePairs a b → IsOther b j → IsOther a j
+IsOther-back a b j s o = ((λ e. o.0 (e ∙ sym s.owner)), (let p : vec_len b.pairs ≡ vec_len a.pairs = s.owners in let q : j < vec_len b.pairs + 1 = o.1 in omega arith))
 
 -- without a fault, or with one and nothing that it changed
 halts_kept : (value : List ℕ → ℤ) (a b : Owner) (told : Option OwnerFault) → Kept a b → ((fault : OwnerFault) → told ≡ Some fault → (fault ≡ Memory) ⊎ ((fault ≡ Far) × HasFarthest b.part))
@@ -46,10 +46,10 @@ halts_kept : (value : List ℕ → ℤ) (a b : Owner) (told : Option OwnerFault)
 halts_kept value a b told kept why s = record {
   sound = kept.sound value s;
   whole = λ j o. sym (append-nil (notes_taken b.ends j));
-  came = λ j o. (let more = kept.received j (IsOther-back a.ends b.ends j kept.lines o) in (more.0, sym more.1, λ m has. absurd has));
-  sent = λ j o. (let gone = kept.sent j (IsOther-back a.ends b.ends j kept.lines o) in (gone.0, gone.1, gone.2 value s));
+  came = λ j o. (let more = kept.received j (IsOther-back a.ends b.ends j kept.pairs o) in (more.0, sym more.1, λ m has. absurd has));
+  sent = λ j o. (let gone = kept.sent j (IsOther-back a.ends b.ends j kept.pairs o) in (gone.0, gone.1, gone.2 value s));
   block = kept.block;
-  lines = kept.lines;
+  pairs = kept.pairs;
   due = λ fault is. elim (why fault is) [ inl want ↦ inl want | inr far ↦ inr (inl far) ];
 }
 
@@ -87,7 +87,7 @@ module _ (value : List ℕ → ℤ) (a u : Owner) (e : Ends) (part : Part) (o : 
   left j = cond (j == t.from) after []
 
   there : (j : ℕ) → IsOther e j → IsOther u.ends j
-  there j other = IsOther-back u.ends e j t.lines other
+  there j other = IsOther-back u.ends e j t.pairs other
 
   given_same : (j : ℕ) → IsOther u.ends j → given_to e o j ≡ given_to u.ends u.outboxes j
   given_same j other =
@@ -112,7 +112,7 @@ module _ (value : List ℕ → ℤ) (a u : Owner) (e : Ends) (part : Part) (o : 
   came j other = at (j == t.from) refl
     where
       first : IsPrefix (received_from a.ends j) (received_from u.ends j)
-      first = kept.received j (IsOther-back a.ends u.ends j kept.lines (there j other))
+      first = kept.received j (IsOther-back a.ends u.ends j kept.pairs (there j other))
 
       at : (b : Bool) → (j == t.from) ≡ b → (more : List Notes) × (received_from e j ≡ received_from a.ends j ++ more) × ((m : Note) → Has (cond b after []) m → Has (notes_of (map items_of more)) m)
       at true is = (
@@ -126,15 +126,15 @@ module _ (value : List ℕ → ℤ) (a u : Owner) (e : Ends) (part : Part) (o : 
 
   halts_taking : Halts value a e part o (Some fault) taken left
   halts_taking = record {
-    sound = moved value u.ends e part taken (notes_given e o) (notes_boxed o) t.lines
+    sound = moved value u.ends e part taken (notes_given e o) (notes_boxed o) t.pairs
         (sound_same value u.ends.owner (owners_of u.ends) part taken taken (notes_given u.ends u.outboxes) (notes_given e o) (notes_boxed u.outboxes) (notes_boxed o)
         (λ j q. refl) (λ j q. ap notes_of (given_same j q)) (λ j q h. subst (λ (b : Outboxes). All (IsTimely part) (notes_boxed b j)) (sym t.outboxes) h)
         (t.refuses.taken.sound value u.ends.owner (owners_of u.ends) t.from (notes_taken u.ends) (notes_given u.ends u.outboxes) (notes_boxed u.outboxes) t.other (kept.sound value s)));
     whole = whole;
     came = came;
-    sent = λ j other. (let gone = kept.sent j (IsOther-back a.ends u.ends j kept.lines (there j other)) in (gone.0, t.sent j (there j other) ∙ gone.1, gone.2 value s));
+    sent = λ j other. (let gone = kept.sent j (IsOther-back a.ends u.ends j kept.pairs (there j other)) in (gone.0, t.sent j (there j other) ∙ gone.1, gone.2 value s));
     block = place_both a.part u.part part kept.block (place_settled u.part part t.refuses.taken.settles);
-    lines = lines_then a.ends u.ends e kept.lines t.lines;
+    pairs = pairs_then a.ends u.ends e kept.pairs t.pairs;
     due = λ had is. inr (inr (
       t.from,
       t.refuses.note,
@@ -149,7 +149,7 @@ module _ (value : List ℕ → ℤ) (a u : Owner) (e : Ends) (part : Part) (o : 
       same x y is = cc
 
       from_there : IsOther e t.from
-      from_there = ((λ k. t.other.0 (k ∙ t.lines.owner)), (let p : vec_len e.lines ≡ vec_len u.ends.lines = t.lines.owners in let q : t.from < vec_len u.ends.lines + 1 = t.other.1 in omega arith))
+      from_there = ((λ k. t.other.0 (k ∙ t.pairs.owner)), (let p : vec_len e.pairs ≡ vec_len u.ends.pairs = t.pairs.owners in let q : t.from < vec_len u.ends.pairs + 1 = t.other.1 in omega arith))
 
 -- whatever became of it
 pub halts : (value : List ℕ → ℤ) (a b : Owner) → HasWorked a b → IsSound value a.ends a.part a.outboxes

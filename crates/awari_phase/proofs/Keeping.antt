@@ -12,20 +12,20 @@ use Rattle.awari_owner.specs.declared.faults.OwnerFault.{OwnerFault}
 use Rattle.awari_owner.proofs.Lists.{all_left, all_right, notes_of-append, notes_of-last}
 use Rattle.awari_owner.proofs.Sounding.{place_both, place_same, place_settled, sound_same, timely_all}
 use Rattle.awari_block.specs.Part.{Part}
-use Rattle.awari_lines.specs.declared.lines.Ends.{Ends}
-use Rattle.awari_lines.specs.declared.lines.Line.{Line}
+use Rattle.awari_lines.specs.declared.ends.Ends.{Ends}
+use Rattle.awari_lines.specs.declared.ends.RingPair.{RingPair}
 use Rattle.awari_block.specs.declared.notes.Note.{Note}
-use Rattle.awari_lines.specs.Lines.{Notes, IsOther, SameLines, SameBut, SameRings, sent_to, received_from, sent_on, received_on, line_of, owners_of}
+use Rattle.awari_lines.specs.Rings.{Notes, IsOther, SamePairs, SameBut, SameRings, sent_to, received_from, sent_on, received_on, pair_of, owners_of}
 use Rattle.awari_phase.specs.declared.owners.Owner.{Owner}
 use Rattle.awari_phase.specs.Owners.{Batches, IsOpenBatch, IsSound, Keeps, Kept, given_to, items_of, notes_boxed, notes_given, notes_taken, taken_from}
 
--- ---- lines
+-- ---- rings
 
-same_rings : (l : Option Line) → SameRings l l
+same_rings : (l : Option RingPair) → SameRings l l
 same_rings None = tt
 same_rings (Some l) = record { 0 = record { 0 = (refl, refl, refl, refl); 1 = refl }; 1 = record { 0 = (refl, refl, refl, refl); 1 = refl } }
 
-rings_then : (l m n : Option Line) → SameRings l m → SameRings m n → SameRings l n
+rings_then : (l m n : Option RingPair) → SameRings l m → SameRings m n → SameRings l n
 rings_then None None None p q = tt
 rings_then None None (Some n) p q = q
 rings_then None (Some m) n p q = absurd p
@@ -36,49 +36,49 @@ rings_then (Some l) (Some m) (Some n) p q = (
   ((q.1.0.0 ∙ p.1.0.0, q.1.0.1 ∙ p.1.0.1, q.1.0.2 ∙ p.1.0.2, q.1.0.3 ∙ p.1.0.3), q.1.1 ∙ p.1.1),
 )
 
-pub same_lines : (a : Ends) → SameLines a a
-same_lines a = record { owner = refl; owners = refl; rings = λ k. same_rings (slice_get a.lines.items k) }
+pub same_pairs : (a : Ends) → SamePairs a a
+same_pairs a = record { owner = refl; owners = refl; rings = λ k. same_rings (slice_get a.pairs.items k) }
 
-pub lines_then : (a b c : Ends) → SameLines a b → SameLines b c → SameLines a c
-lines_then a b c s t = record { owner = t.owner ∙ s.owner; owners = t.owners ∙ s.owners; rings = λ k. rings_then (slice_get a.lines.items k) (slice_get b.lines.items k) (slice_get c.lines.items k) (s.rings k) (t.rings k) }
+pub pairs_then : (a b c : Ends) → SamePairs a b → SamePairs b c → SamePairs a c
+pairs_then a b c s t = record { owner = t.owner ∙ s.owner; owners = t.owners ∙ s.owners; rings = λ k. rings_then (slice_get a.pairs.items k) (slice_get b.pairs.items k) (slice_get c.pairs.items k) (s.rings k) (t.rings k) }
 
-pub IsOther-on : (a b : Ends) (k : ℕ) → SameLines a b → IsOther a k → IsOther b k
-IsOther-on a b k s o = ((λ e. o.0 (e ∙ s.owner)), (let p : vec_len b.lines ≡ vec_len a.lines = s.owners in let q : k < vec_len a.lines + 1 = o.1 in omega arith))
+pub IsOther-on : (a b : Ends) (k : ℕ) → SamePairs a b → IsOther a k → IsOther b k
+IsOther-on a b k s o = ((λ e. o.0 (e ∙ s.owner)), (let p : vec_len b.pairs ≡ vec_len a.pairs = s.owners in let q : k < vec_len a.pairs + 1 = o.1 in omega arith))
 
 pub prefix_then : (xs ys zs : List Notes) → IsPrefix xs ys → IsPrefix ys zs → IsPrefix xs zs
 prefix_then xs ys zs p q = (p.0 ++ q.0, sym (append_assoc xs p.0 q.0) ∙ (ap (λ l. l ++ q.0) p.1 ∙ q.1))
 
--- a batch of the open gain and distance is so of each part of them
+-- a batch of the open gain and wave is so of each part of them
 pub open_place : (a b : Part) → SamePlace a b → (x : List Note) → IsOpenBatch a x → IsOpenBatch b x
 open_place a b s x h = record { whole = h.whole; opened = timely_all a b s.level.level s.level.gain s.level.wave x h.opened }
 
 open_back : (a b : Part) → SamePlace a b → (x : List Note) → IsOpenBatch b x → IsOpenBatch a x
 open_back a b s x h = record { whole = h.whole; opened = timely_all b a (sym s.level.level) (sym s.level.gain) (sym s.level.wave) x h.opened }
 
--- ---- soundness, on the same lines
+-- ---- soundness, on the same rings
 
-pub moved : (value : List ℕ → ℤ) (e e' : Ends) (part : Part) (T G B : ℕ → List Note) → SameLines e e'
+pub moved : (value : List ℕ → ℤ) (e e' : Ends) (part : Part) (T G B : ℕ → List Note) → SamePairs e e'
     → OwnerSound value e.owner (owners_of e) part T G B → OwnerSound value e'.owner (owners_of e') part T G B
 moved value e e' part T G B s h =
     let many : owners_of e' ≡ owners_of e = ap (λ n. n + 1) s.owners in
     subst (λ n. OwnerSound value e'.owner n part T G B) (sym many) (subst (λ i. OwnerSound value i (owners_of e) part T G B) (sym s.owner) h)
 
 -- the same was taken and given, and the same is to be sent
-pub same_sound : (value : List ℕ → ℤ) (e e' : Ends) (part : Part) (o : Outboxes) → SameLines e e'
+pub same_sound : (value : List ℕ → ℤ) (e e' : Ends) (part : Part) (o : Outboxes) → SamePairs e e'
     → ((j : ℕ) → IsOther e j → sent_to e' j ≡ sent_to e j) → ((j : ℕ) → IsOther e j → received_from e' j ≡ received_from e j) → IsSound value e part o → IsSound value e' part o
-same_sound value e e' part o lines s r h = moved value e e' part (notes_taken e') (notes_given e' o) (notes_boxed o) lines
+same_sound value e e' part o pairs s r h = moved value e e' part (notes_taken e') (notes_given e' o) (notes_boxed o) pairs
     (sound_same value e.owner (owners_of e) part (notes_taken e) (notes_taken e') (notes_given e o) (notes_given e' o) (notes_boxed o) (notes_boxed o)
     (λ k q. ap (λ (l : List Notes). notes_of (map items_of l)) (r k q)) (λ k q. ap (λ (l : List Notes). notes_of (map items_of l ++ queue_to o k)) (s k q)) (λ k q a. a) h)
 
--- ---- one line
+-- ---- one ring
 
-module _ (e e' : Ends) (j : ℕ) (lines : SameLines e e') (others : SameBut e e' j) where
-  -- what holds of line j before and after holds of all, where it holds of a line that is the same
-  at_each : (P : Option Line → Option Line → Type 0) → ((l : Option Line) → P l l) → P (line_of e j) (line_of e' j) → (k : ℕ) → IsOther e k → P (line_of e k) (line_of e' k)
+module _ (e e' : Ends) (j : ℕ) (pairs : SamePairs e e') (others : SameBut e e' j) where
+  -- what holds of ring j before and after holds of all, where it holds of a ring that is the same
+  at_each : (P : Option RingPair → Option RingPair → Type 0) → ((l : Option RingPair) → P l l) → P (pair_of e j) (pair_of e' j) → (k : ℕ) → IsOther e k → P (pair_of e k) (pair_of e' k)
   at_each P same here k o =
       elim (cases_eq k j) [
-        | inl q ↦ subst (λ (i : ℕ). P (line_of e i) (line_of e' i)) (sym q) here
-        | inr n ↦ subst (λ (l : Option Line). P (line_of e k) l) (sym (others k n o.0)) (same (line_of e k))
+        | inl q ↦ subst (λ (i : ℕ). P (pair_of e i) (pair_of e' i)) (sym q) here
+        | inr n ↦ subst (λ (l : Option RingPair). P (pair_of e k) l) (sym (others k n o.0)) (same (pair_of e k))
       ]
 
   pub sent_same : sent_to e' j ≡ sent_to e j → (k : ℕ) → IsOther e k → sent_to e' k ≡ sent_to e k
@@ -96,13 +96,13 @@ module _ (e e' : Ends) (j : ℕ) (lines : SameLines e e') (others : SameBut e e'
   -- nothing was popped
   pub still_keeps : (part : Part) (o : Outboxes) → sent_to e' j ≡ sent_to e j → received_from e' j ≡ received_from e j → Keeps e part o e' part o
   still_keeps part o s r = record {
-    lines = lines;
+    pairs = pairs;
     block = place_same part;
     owner = refl;
     owners = refl;
     received = λ k q. ([], append-nil (received_from e k) ∙ sym (received_same r k q));
     sent = λ k q. ([], sent_same s k q ∙ sym (append-nil (sent_to e k)), λ value h i d lt. absurd (omega (arith, lt)));
-    sound = λ value h. same_sound value e e' part o lines (sent_same s) (received_same r) h;
+    sound = λ value h. same_sound value e e' part o pairs (sent_same s) (received_same r) h;
     unspread = omega arith;
   }
 
@@ -117,18 +117,18 @@ module _ (e e' : Ends) (j : ℕ) (lines : SameLines e e') (others : SameBut e e'
       by true f =
           let P : ℕ → Type 0 = λ q. notes_taken e' q ≡ notes_taken e q ++ b.items in
           subst P (sym (eqb-true k j f)) (ap (λ (l : List Notes). notes_of (map items_of l)) h ∙ ap notes_of (map-append items_of (received_from e j) (b ∷ [])) ∙ notes_of-last (taken_from e j) b.items)
-      by false f = ap (λ (l : Option Line). notes_of (map items_of (received_on l))) (others k (differ k j f) o.0)
+      by false f = ap (λ (l : Option RingPair). notes_of (map items_of (received_on l))) (others k (differ k j f) o.0)
 
   pub take_keeps : (part part' : Part) (o : Outboxes) (b : Notes) → sent_to e' j ≡ sent_to e j → received_from e' j ≡ received_from e j ++ b ∷ [] → IsOther e j → TakesNotes b.items part part'
       → Keeps e part o e' part' o
   take_keeps part part' o b s r other takes = record {
-    lines = lines;
+    pairs = pairs;
     block = place_settled part part' takes.settles;
     owner = refl;
     owners = refl;
     received = received_grown b r;
     sent = λ k q. ([], sent_same s k q ∙ sym (append-nil (sent_to e k)), λ value h i d lt. absurd (omega (arith, lt)));
-    sound = λ value h. moved value e e' part' (notes_taken e') (notes_given e' o) (notes_boxed o) lines
+    sound = λ value h. moved value e e' part' (notes_taken e') (notes_given e' o) (notes_boxed o) pairs
         (sound_same value e.owner (owners_of e) part' (with_taken (notes_taken e) j b.items) (notes_taken e') (notes_given e o) (notes_given e' o) (notes_boxed o) (notes_boxed o)
         (taken_more b r) (λ k q. ap (λ (l : List Notes). notes_of (map items_of l ++ queue_to o k)) (sent_same s k q)) (λ k q a. a)
         (takes.sound value e.owner (owners_of e) j (notes_taken e) (notes_given e o) (notes_boxed o) other h));
@@ -140,13 +140,13 @@ module _ (e e' : Ends) (j : ℕ) (lines : SameLines e e') (others : SameBut e e'
       → queue_to o j ≡ b.items ∷ rest → queue_to o' j ≡ rest → ((k : ℕ) → k ≢ j → queue_to o' k ≡ queue_to o k) → o'.owner ≡ o.owner → length o'.queues ≡ length o.queues
       → Keeps e part o e' part o'
   send_keeps part o o' b rest s r other whole first left same owner owners = record {
-    lines = lines;
+    pairs = pairs;
     block = place_same part;
     owner = owner;
     owners = owners;
     received = λ k q. ([], append-nil (received_from e k) ∙ sym (received_same r k q));
     sent = sent_at;
-    sound = λ value h. moved value e e' part (notes_taken e') (notes_given e' o') (notes_boxed o') lines
+    sound = λ value h. moved value e e' part (notes_taken e') (notes_given e' o') (notes_boxed o') pairs
         (sound_same value e.owner (owners_of e) part (notes_taken e) (notes_taken e') (notes_given e o) (notes_given e' o') (notes_boxed o) (notes_boxed o')
         (λ k q. ap (λ (l : List Notes). notes_of (map items_of l)) (received_same r k q)) (λ k q. ap notes_of (given_at k q)) boxed_at h);
     unspread = omega arith;
@@ -179,7 +179,7 @@ module _ (e e' : Ends) (j : ℕ) (lines : SameLines e e') (others : SameBut e e'
                 ∙ ap (λ (l : Batches). l ++ rest) (map-append items_of (sent_to e j) (b ∷ []))
                 ∙ append_assoc (map items_of (sent_to e j)) (b.items ∷ []) rest
                 ∙ ap (λ (l : Batches). map items_of (sent_to e j) ++ l) (sym first)))
-            | inr n ↦ ap (λ (l : Option Line). map items_of (sent_on l) ++ queue_to o' k) (others k n q.0) ∙ ap (λ (l : Batches). map items_of (sent_to e k) ++ l) (same k n)
+            | inr n ↦ ap (λ (l : Option RingPair). map items_of (sent_on l) ++ queue_to o' k) (others k n q.0) ∙ ap (λ (l : Batches). map items_of (sent_to e k) ++ l) (same k n)
           ]
 
       boxed_at : (k : ℕ) → IsOther e k → All (IsTimely part) (notes_boxed o k) → All (IsTimely part) (notes_boxed o' k)
@@ -194,7 +194,7 @@ module _ (e e' : Ends) (j : ℕ) (lines : SameLines e e') (others : SameBut e e'
 
 keeps_refl : (e : Ends) (part : Part) (o : Outboxes) → Keeps e part o e part o
 keeps_refl e part o = record {
-  lines = same_lines e;
+  pairs = same_pairs e;
   block = place_same part;
   owner = refl;
   owners = refl;
@@ -226,7 +226,7 @@ module _ (e : Ends) (part part' : Part) (o o' : Outboxes) (many : length o.queue
   spread_keeps place true result was spread none =
       let spreads = spread was in
       record {
-        lines = same_lines e;
+        pairs = same_pairs e;
         block = place;
         owner = spreads.sends.same_owner;
         owners = spreads.sends.owners;
@@ -246,14 +246,14 @@ kept_refl a = keeps_refl a.ends a.part a.outboxes
 
 pub kept_trans : (a b c : Owner) → Kept a b → Kept b c → Kept a c
 kept_trans a b c s t = record {
-  lines = lines_then a.ends b.ends c.ends s.lines t.lines;
+  pairs = pairs_then a.ends b.ends c.ends s.pairs t.pairs;
   block = place_both a.part b.part c.part s.block t.block;
   owner = t.owner ∙ s.owner;
   owners = t.owners ∙ s.owners;
-  received = λ k q. prefix_then (received_from a.ends k) (received_from b.ends k) (received_from c.ends k) (s.received k q) (t.received k (IsOther-on a.ends b.ends k s.lines q));
+  received = λ k q. prefix_then (received_from a.ends k) (received_from b.ends k) (received_from c.ends k) (s.received k q) (t.received k (IsOther-on a.ends b.ends k s.pairs q));
   sent = λ k q.
       (let first = s.sent k q in
-      let next = t.sent k (IsOther-on a.ends b.ends k s.lines q) in (
+      let next = t.sent k (IsOther-on a.ends b.ends k s.pairs q) in (
         first.0 ++ next.0,
         next.1 ∙ (ap (λ (l : List Notes). l ++ next.0) first.1 ∙ append_assoc (sent_to a.ends k) first.0 next.0),
         λ value h. subst (λ (bs : Batches). All (IsOpenBatch a.part) bs) (sym (map-append items_of first.0 next.0))
@@ -265,6 +265,6 @@ kept_trans a b c s t = record {
 }
 
 pub kept_owners : (a b : Owner) → Kept a b → owners_of b.ends ≡ owners_of a.ends
-kept_owners a b s = ap (λ n. n + 1) s.lines.owners
+kept_owners a b s = ap (λ n. n + 1) s.pairs.owners
 
 pub ruleset keeping = (kept_refl, kept_trans, kept_owners)

@@ -4,13 +4,13 @@ use Rattle.std.proofs.lemmas.List.{map-set, get_or-take, get_or-drop, length-map
 use Rattle.std.proofs.Math.ListN.{get_or-map}
 use Rattle.std.specs.List.{take-map, drop-map}
 use Rattle.std.proofs.lemmas.List.{map-append}
-use Rattle.awari_lines.specs.Lines.{IsGrid, IsOther, Paired, Looked, LookedAt, IsExact, NothingWaits, owners_of}
-use Rattle.awari_lines.specs.declared.lines.Ends.{Ends}
+use Rattle.awari_lines.specs.Rings.{IsGrid, IsOther, Paired, Looked, LookedAt, IsExact, NothingWaits, owners_of}
+use Rattle.awari_lines.specs.declared.ends.Ends.{Ends}
 use Rattle.awari_phase.specs.declared.owners.Owner.{Owner}
 use Rattle.awari_phase.specs.Owners.{all_ends, ends_of, rest_of}
 use Rattle.awari_lines.proofs.Grids.{parts_paired, parts_looked, parts_flag}
 
--- a write that leaves all but the lines as it was
+-- a write that leaves all but the rings as it was
 same_rest : (xs : List Owner) (i : ℕ) (a d : Owner) → rest_of a ≡ rest_of (get_or xs i d) → map rest_of (set xs i a) ≡ map rest_of xs
 same_rest [] i a d e = refl
 same_rest (x ∷ xs) zero a d e = ap (λ r. r ∷ map rest_of xs) e
@@ -82,7 +82,7 @@ module _ (os front back : List Owner) (i j : ℕ) (x y : Owner) (f : front ≡ t
   owners_flag r a b h d =
       subst (λ (l : List Ends). IsTrue r ↔ NothingWaits (get_or l i d) (get_or l j d)) (sym (written a b)) (parts_flag (all_ends os) (all_ends front) (all_ends back) i j x.ends y.ends ff kk lt fits_ends g r a.ends b.ends h d)
 
-  -- all but the lines is as it was
+  -- all but the rings is as it was
   pub rest_written : (a b : Owner) → rest_of a ≡ rest_of (get_or front i x) → rest_of b ≡ rest_of (get_or back 0 y) → map rest_of (set front i a ++ set back 0 b) ≡ map rest_of os
   rest_written a b p q =
       map-append rest_of (set front i a) (set back 0 b)

@@ -11,8 +11,8 @@ use Rattle.awari_owner.specs.declared.faults.OwnerFault.{OwnerFault}
 use Rattle.awari_owner.specs.declared.faults.OwnerFault.TheVariants as owner_fault
 use Rattle.awari_block.specs.declared.notes.Note.{Note}
 use Rattle.awari_table.specs.declared.TheConstants.{HIGHEST_LEVEL}
-use Rattle.awari_lines.specs.Lines.{EachTo, Notes, IsGrid, IsOther, SameHistory, SameLines, sent_to, received_from, waiting_from}
-use Rattle.awari_lines.specs.declared.lines.Ends.{Ends}
+use Rattle.awari_lines.specs.Rings.{EachTo, Notes, IsGrid, IsOther, SameHistory, SamePairs, sent_to, received_from, waiting_from}
+use Rattle.awari_lines.specs.declared.ends.Ends.{Ends}
 use Rattle.awari_lines.proofs.Grids.{grid_kept}
 use Rattle.awari_owner.specs.Outboxes.{notes_of, queue_to}
 use Rattle.awari_owner.proofs.Lists.{Has-append_cases, Has-append_left, Has-append_right, all_has, has_all, notes_of-append}
@@ -40,7 +40,7 @@ picked P none n i each (inr high) h = absurd (omega (arith, h, high))
 choice : {X : Type 0} (P : ℕ → X → Type 0) (none : X) (n : ℕ) → ((k : ℕ) → k < n → (x : X) × P k x) → (f : ℕ → X) × ((i : ℕ) → i < n → P i (f i))
 choice P none n each = ((λ i. pick P none n i each (cases_lt i n)), λ i low. picked P none n i each (cases_lt i n) low)
 
--- ---- notes of the open gain and distance
+-- ---- notes of the open gain and wave
 
 pub has_open : (part : Part) (bs : Batches) (m : Note) → All (IsOpenBatch part) bs → Has (notes_of bs) m → IsTimely part m
 has_open part [] m all has = absurd has
@@ -81,7 +81,7 @@ OfSound P = (value : List ℕ → ℤ) (level : ℕ) (parts : List Part) (coming
 
 -- ---- all owners
 
--- what was received on a line had been sent
+-- what was received on a ring had been sent
 abbrev pub WereSent : List Owner → Owner → Type 0
 WereSent os d = (i j : ℕ) → i < length os → j < length os → (i ≡ j → ⊥) → (waits : List Notes) × (received_from (get_or os i d).ends j ++ waits ≡ sent_to (get_or os j d).ends i)
 
@@ -120,11 +120,11 @@ module _ (value : List ℕ → ℤ) (n : ℕ) (os ps : List Owner) (d : Owner) (
   grid : IsGrid (all_ends ps)
   grid = grid_kept (all_ends os) (all_ends ps) (length-map ps ends_of ∙ long ∙ sym (length-map os ends_of)) at together.grid
     where
-      at : (x : ℕ) (e : Ends) → x < length (all_ends os) → SameLines (get_or (all_ends os) x e) (get_or (all_ends ps) x e)
+      at : (x : ℕ) (e : Ends) → x < length (all_ends os) → SamePairs (get_or (all_ends os) x e) (get_or (all_ends ps) x e)
       at x e low =
           let inside : x < length os = subst (λ k. x < k) (length-map os ends_of) low in
-          subst (λ (u : Ends). SameLines u (get_or (all_ends ps) x e)) (sym (ends_at os x e d inside))
-          (subst (λ (u : Ends). SameLines (was x).ends u) (sym (ends_at ps x e d (low_ps x inside))) (has x inside).lines)
+          subst (λ (u : Ends). SamePairs u (get_or (all_ends ps) x e)) (sym (ends_at os x e d inside))
+          (subst (λ (u : Ends). SamePairs (was x).ends u) (sym (ends_at ps x e d (low_ps x inside))) (has x inside).pairs)
 
   other : (i j : ℕ) → i < length os → j < length os → (i ≡ j → ⊥) → IsOther (now i).ends j
   other i j low low' apart = (
@@ -132,7 +132,7 @@ module _ (value : List ℕ → ℤ) (n : ℕ) (os ps : List Owner) (d : Owner) (
     subst (λ k. j < k) (sym (many_at ps d grid i (low_ps i low))) (low_ps j low'),
   )
 
-  -- what is left of the last batch of owner j, what waits on the line, and what is to be sent
+  -- what is left of the last batch of owner j, what waits on the ring, and what is to be sent
   comes : (i j : ℕ) → i < length os → j < length os → (i ≡ j → ⊥)
       → (waits : List Notes) × (received_from (now j).ends i ++ waits ≡ sent_to (now i).ends j)
       × (coming i j ≡ left j i ++ (notes_of (map items_of waits) ++ notes_of (queue_to (now i).outboxes j)))
@@ -157,14 +157,14 @@ module _ (value : List ℕ → ℤ) (n : ℕ) (os ps : List Owner) (d : Owner) (
 
   timely : (i j : ℕ) → i < length os → j < length os → (i ≡ j → ⊥) → (m : Note) → Has (coming i j) m → IsTimely (now i).part m
   timely i j low low' apart m here =
-      let (waits, on_line, is, given) = comes i j low low' apart in
+      let (waits, on_ring, is, given) = comes i j low low' apart in
       let sender = has i low in
       let place = sender.block.level in
       let came = (has j low').came i (other j i low' low (λ e. apart (sym e))) in
       let gone = sender.sent j (other i j low low' apart) in
       let on : (x : Note) → Has (notes_of (map items_of (came.0 ++ waits))) x → IsTimely (was i).part x =
       open_since (was i).part (received_from (was j).ends i) (sent_to (was i).ends j) came.0 waits gone.0 (together.waits j i d low' low (λ e. apart (sym e)))
-      (ap (λ l. l ++ waits) (sym came.1) ∙ on_line ∙ gone.1) gone.2 in
+      (ap (λ l. l ++ waits) (sym came.1) ∙ on_ring ∙ gone.1) gone.2 in
       let names = ap notes_of (map-append items_of came.0 waits) ∙ notes_of-append (map items_of came.0) (map items_of waits) in
       let back : (x : Note) → Has (notes_of (map items_of came.0) ++ notes_of (map items_of waits)) x → IsTimely (now i).part x =
       λ x h. timely_still (was i).part (now i).part x place.level place.gain place.wave (on x (subst (λ (l : List Note). Has l x) (sym names) h)) in
@@ -233,7 +233,7 @@ module _ (value : List ℕ → ℤ) (n : ℕ) (os ps : List Owner) (d : Owner) (
 
 -- ---- the fault that is told
 
--- a look at all lines shows what had been sent
+-- a look at all rings shows what had been sent
 sent_before : (ps qs : List Owner) (d : Owner) → IsGrid (all_ends ps) → EachTo SameHistory (all_ends ps) (all_ends qs) → AreLooked qs → WereSent ps d
 sent_before ps qs d grid same exact i j low low' apart =
     let many = same.many in

@@ -1,7 +1,7 @@
 -- How a worker's fault is kept, from the step that was refused.
 use Rattle.std.proofs.Common.{◌≡◌, ◌⊎◌, Option, Some, None, Result, Ok, Err, OnOk, IfErr, sym, subst, ◌∙◌}
 use Rattle.std.specs.Result.{result_err}
-use Rattle.awari_lines.specs.declared.lines.Ends.{Ends}
+use Rattle.awari_lines.specs.declared.ends.Ends.{Ends}
 use Rattle.awari_owner.specs.Outboxes.{Outboxes}
 use Rattle.awari_block.specs.Part.{Part}
 use Rattle.awari_owner.specs.declared.faults.OwnerFault.{OwnerFault}

@@ -1,9 +1,9 @@
--- What sweeps do, line by line and sweep by sweep.
+-- What sweeps do, ring by ring and sweep by sweep.
 use Rattle.std.proofs.Common.{◌≡◌, ℕ, ◌+◌, ◌<◌, ◌≤◌, List, length, Some, ap, sym, subst, ◌∙◌, inl, inr, arith, length-append}
 use Rattle.std.proofs.lemmas.Bool.{cases_eq}
 use mathlib.Core.List.{IsPrefix}
-use Rattle.awari_lines.specs.declared.lines.Ends.{Ends}
-use Rattle.awari_lines.specs.Lines.{Notes, IsOther, sent_to, received_from, received_on, waiting_from, waiting_on, free_to}
+use Rattle.awari_lines.specs.declared.ends.Ends.{Ends}
+use Rattle.awari_lines.specs.Rings.{Notes, IsOther, sent_to, received_from, received_on, waiting_from, waiting_on, free_to}
 use Rattle.awari_block.specs.Part.{Part, IsLeastDue, unspread}
 use Rattle.awari_phase.specs.declared.owners.Owner.{Owner}
 use Rattle.awari_owner.specs.Outboxes.{queue_to}
@@ -32,7 +32,7 @@ taken_still a s t j received waiting h =
 
 pub taken_more : (a s t : Owner) (p : ℕ) → Kept a s → TakesAt s t p → ((j : ℕ) → j < p → IsOther a.ends j → HasTaken a s j) → (j : ℕ) → j < p + 1 → IsOther a.ends j → HasTaken a t j
 taken_more a s t p kept step before j low other =
-    let there = IsOther-on a.ends s.ends j kept.lines other in
+    let there = IsOther-on a.ends s.ends j kept.pairs other in
     elim (cases_eq j p) [
       | inl at ↦ taken_after a s t j kept other (subst (λ (k : ℕ). IsOther s.ends k → HasTaken s t k) (sym at) step.took there)
       | inr apart ↦
@@ -71,18 +71,18 @@ sent_still a s t j sent free queue h =
 
 pub sent_more : (a s t : Owner) (p : ℕ) → Kept a s → SendsAt s t p → ((j : ℕ) → j < p → IsOther a.ends j → HasSent a s j) → (j : ℕ) → j < p + 1 → IsOther a.ends j → HasSent a t j
 sent_more a s t p kept step before j low other =
-    let there = IsOther-on a.ends s.ends j kept.lines other in
+    let there = IsOther-on a.ends s.ends j kept.pairs other in
     elim (cases_eq j p) [
       | inl at ↦ sent_after a s t j kept other (subst (λ (k : ℕ). IsOther s.ends k → HasSent s t k) (sym at) step.sent there)
       | inr apart ↦
-          let line = step.lines j there apart in
-          sent_still a s t j line.0 line.1 (step.queues j apart) (before j (omega (arith, low, apart)) other)
+          let pair = step.pairs j there apart in
+          sent_still a s t j pair.0 pair.1 (step.queues j apart) (before j (omega (arith, low, apart)) other)
     ]
 
 pub nothing_more : (a s t : Owner) → Kept a s → TakesNothing a s → TakesNothing s t → TakesNothing a t
 nothing_more a s t kept one more j other =
     let x = one j other in
-    let y = more j (IsOther-on a.ends s.ends j kept.lines other) in
+    let y = more j (IsOther-on a.ends s.ends j kept.pairs other) in
     (y.0 ∙ x.0, y.1 ∙ x.1)
 
 -- ---- sweeps
@@ -92,14 +92,14 @@ pub swept_of : (a b c d : Owner) → Kept a b → ((j : ℕ) → IsOther a.ends 
     → d.part ≡ c.part → TakesNothing c d → ((j : ℕ) → IsOther c.ends j → HasSent c d j) → Swept a d
 swept_of a b c d taking took spreading ends spread part received sent = record {
   took = λ j other.
-      (let same = received j (IsOther-on a.ends c.ends j kept.lines other) in
+      (let same = received j (IsOther-on a.ends c.ends j kept.pairs other) in
       taken_still a c d j same.0 same.1 (taken_still a b c j (ap (λ (e : Ends). received_from e j) ends) (ap (λ (e : Ends). waiting_from e j) ends) (took j other)));
   spread = λ due.
       (let more = spread (subst (λ (p : Part). IsLeastDue p (Some p.wave)) part due) in
       let same = ap unspread part in
       let left = taking.unspread in
       omega (arith, more, same, left));
-  sent = λ j other. sent_after a c d j kept other (sent j (IsOther-on a.ends c.ends j kept.lines other));
+  sent = λ j other. sent_after a c d j kept other (sent j (IsOther-on a.ends c.ends j kept.pairs other));
 }
   where
     kept : Kept a c
@@ -107,7 +107,7 @@ swept_of a b c d taking took spreading ends spread part received sent = record {
 
 pub swept_then : (a b c : Owner) → Kept a b → Swept b c → Swept a c
 swept_then a b c kept swept = record {
-  took = λ j other. taken_after a b c j kept other (swept.took j (IsOther-on a.ends b.ends j kept.lines other));
+  took = λ j other. taken_after a b c j kept other (swept.took j (IsOther-on a.ends b.ends j kept.pairs other));
   spread = λ due. (let more = swept.spread due in let left = kept.unspread in omega (arith, more, left));
-  sent = λ j other. sent_after a b c j kept other (swept.sent j (IsOther-on a.ends b.ends j kept.lines other));
+  sent = λ j other. sent_after a b c j kept other (swept.sent j (IsOther-on a.ends b.ends j kept.pairs other));
 }

@@ -9,8 +9,8 @@ use Rattle.awari_owner.specs.Level.{AreSound, IsShare, no_part, part_at}
 use Rattle.awari_owner.specs.Sound.{IsTimely, OwnerSound}
 use Rattle.awari_owner.proofs.Sounding.{sound_same}
 use Rattle.awari_block.specs.declared.notes.Note.{Note}
-use Rattle.awari_lines.specs.Lines.{IsGrid, owners_of, sent_to, received_from}
-use Rattle.awari_lines.specs.declared.lines.Ends.{Ends}
+use Rattle.awari_lines.specs.Rings.{IsGrid, owners_of, sent_to, received_from}
+use Rattle.awari_lines.specs.declared.ends.Ends.{Ends}
 use Rattle.awari_owner.specs.Outboxes.{notes_of, queue_to}
 use Rattle.awari_phase.specs.Owners.{Batches, items_of, notes_boxed, notes_given, notes_taken, AreFinished, AreIdle, all_ends, ends_of, parts_of, taken_notes}
 use Rattle.awari_phase.specs.declared.owners.Owner.{Owner}

@@ -4,8 +4,8 @@ use Rattle.std.proofs.lemmas.List.{get_or_append_left, length-map, map-append}
 use Rattle.std.proofs.lemmas.List.Elements.{All-append, All-weaker}
 use Rattle.std.proofs.lemmas.Bool.{cases_lt}
 use Rattle.std.proofs.Math.Seq.{get_or-append_seam}
-use Rattle.awari_lines.specs.Lines.{EachTo, IsGrid, SameHistory, SameLines, received_from, sent_to}
-use Rattle.awari_lines.specs.declared.lines.Ends.{Ends}
+use Rattle.awari_lines.specs.Rings.{EachTo, IsGrid, SameHistory, SamePairs, received_from, sent_to}
+use Rattle.awari_lines.specs.declared.ends.Ends.{Ends}
 use Rattle.awari_block.specs.Part.{Part}
 use Rattle.awari_owner.specs.declared.faults.OwnerFault.{OwnerFault}
 use Rattle.awari_block.specs.declared.notes.Note.{Note}
@@ -13,29 +13,29 @@ use Rattle.awari_phase.specs.declared.owners.Owner.{Owner}
 use Rattle.awari_phase.specs.Owners.{AllGrown, AreFinished, AreReceived, AreTogether, IsOpenBatch, Kept, OpenBehind, OpensWave, Swept, all_ends, ends_of, items_of, rest_of}
 use Rattle.awari_phase.specs.PhaseFault.{AreWell}
 use Rattle.awari_phase.specs.Stops.{HasWorked, HaveWorked}
-use Rattle.awari_phase.proofs.Grown.{grid_after, grid_lines}
-use Rattle.awari_phase.proofs.Keeping.{lines_then, open_place}
+use Rattle.awari_phase.proofs.Grown.{grid_after, grid_pairs}
+use Rattle.awari_phase.proofs.Keeping.{pairs_then, open_place}
 use Rattle.awari_owner.proofs.Lists.{written}
 use Rattle.awari_phase.proofs.Together.{ends_there, many_at, number_at}
 use Rattle.awari_phase.proofs.Gaining.{all_grown_waves, same_rest}
 use Rattle.awari_phase.proofs.Each.{same_ends}
 use Rattle.awari_owner.specs.Outboxes.{Outboxes}
 
--- on the same lines
-worked_lines : (a b : Owner) → HasWorked a b → SameLines a.ends b.ends
-worked_lines a b worked = at b.fault refl
+-- on the same rings
+worked_pairs : (a b : Owner) → HasWorked a b → SamePairs a.ends b.ends
+worked_pairs a b worked = at b.fault refl
   where
-    at : (told : Option OwnerFault) → b.fault ≡ told → SameLines a.ends b.ends
-    at None is = (worked.kept is).lines
+    at : (told : Option OwnerFault) → b.fault ≡ told → SamePairs a.ends b.ends
+    at None is = (worked.kept is).pairs
     at (Some fault) is =
         let h = worked.stopped fault is in
         elim h.stops [
-          | inl t ↦ lines_then a.ends h.until.ends b.ends h.kept.lines t.lines
-          | inr t ↦ subst (λ (e : Ends). SameLines a.ends e) (sym t.ends) h.kept.lines
+          | inl t ↦ pairs_then a.ends h.until.ends b.ends h.kept.pairs t.pairs
+          | inr t ↦ subst (λ (e : Ends). SamePairs a.ends e) (sym t.ends) h.kept.pairs
         ]
 
 pub worked_grid : (os ps : List Owner) → HaveWorked os ps → IsGrid (all_ends os) → IsGrid (all_ends ps)
-worked_grid os ps worked g = grid_lines os ps worked.many (λ i d h. worked_lines (get_or os i d) (get_or ps i d) (worked.each i d h)) g
+worked_grid os ps worked g = grid_pairs os ps worked.many (λ i d h. worked_pairs (get_or os i d) (get_or ps i d) (worked.each i d h)) g
 
 -- one owner more at the end, of which the same holds
 pub pushed_worked : (rest bs all : List Owner) (owner last : Owner) → all ≡ bs ++ last ∷ [] → HaveWorked rest bs → HasWorked owner last → HaveWorked (rest ++ owner ∷ []) all
@@ -114,7 +114,7 @@ written_worked os now new n count is worked =
     let same = ap length is in
     subst (HaveWorked os) (sym (written new os n (omega (arith, w, same, count)) (sym count))) (subst (λ (l : List Owner). HaveWorked l new) is worked)
 
--- what grew is sound together where it was, if what waits is of the open gain and distance
+-- what grew is sound together where it was, if what waits is of the open gain and wave
 together_grown : (value : List ℕ → ℤ) (n : ℕ) (os ps : List Owner) → AllGrown os ps
     → ((i j : ℕ) (d : Owner) → i < length ps → j < length ps → (i ≡ j → ⊥) → OpenBehind (get_or ps j d).part (received_from (get_or ps i d).ends j) (sent_to (get_or ps j d).ends i))
     → AreTogether value n os → AreTogether value n ps
@@ -132,7 +132,7 @@ together_grown value n os ps grown waits t =
       waits = waits;
     }
 
--- after a look at all lines
+-- after a look at all rings
 pub together_looked : (value : List ℕ → ℤ) (n : ℕ) (os ps : List Owner) → AllGrown os ps → map rest_of ps ≡ map rest_of os
     → EachTo SameHistory (all_ends os) (all_ends ps) → AreTogether value n os → AreTogether value n ps
 together_looked value n os ps grown rest same t = together_grown value n os ps grown waits t

@@ -1,8 +1,8 @@
 -- What a worker keeps of its owner.
 use Rattle.std.specs.Prelude.{◌≡◌, ◌≢◌, ◌⊎◌, ℕ, ◌+◌, ◌<◌, ◌≤◌, max, List, [], ◌++◌, length, map, All, ℤ, Some, slice_index_or}
 use mathlib.Core.List.{IsPrefix}
-use Rattle.awari_lines.specs.Lines.{AreExact, Notes, IsOther, IsGrid, SameLines, owners_of, sent_to, received_from, waiting_from, free_to}
-use Rattle.awari_lines.specs.declared.lines.Ends.{Ends}
+use Rattle.awari_lines.specs.Rings.{AreExact, Notes, IsOther, IsGrid, SamePairs, owners_of, sent_to, received_from, waiting_from, free_to}
+use Rattle.awari_lines.specs.declared.ends.Ends.{Ends}
 use Rattle.awari_block.specs.declared.notes.Note.{Note}
 use Rattle.awari_owner.specs.Outboxes.{IsBatch, Outboxes, queue_to, notes_of}
 use Rattle.awari_block.specs.Blocks.{KeepSettled}
@@ -37,15 +37,15 @@ notes_boxed o j = notes_of (queue_to o j)
 abbrev pub IsSound : (List ℕ → ℤ) → Ends → Part → Outboxes → Type 0
 IsSound value e part o = OwnerSound value e.owner (owners_of e) part (notes_taken e) (notes_given e o) (notes_boxed o)
 
--- a batch of 1 to 32 notes of the open gain and distance
+-- a batch of 1 to 32 notes of the open gain and wave
 pub record IsOpenBatch (part : Part) (b : List Note) : Type 0 where
   pub whole : IsBatch b
   pub opened : All (IsTimely part) b
 
--- The owner on the same lines, with the same block, gain and distance, is sound where it was; what it took and sent has only
--- grown, and what it sent is of the open gain and distance where what it had to send was. It has no board more to spread.
+-- The owner on the same rings, with the same block, gain and distance, is sound where it was; what it took and sent has only
+-- grown, and what it sent is of the open gain and wave where what it had to send was. It has no board more to spread.
 pub record Keeps (e : Ends) (part : Part) (o : Outboxes) (e' : Ends) (part' : Part) (o' : Outboxes) : Type 0 where
-  pub lines : SameLines e e'
+  pub pairs : SamePairs e e'
   pub block : SamePlace part part'
   pub owner : o'.owner ≡ o.owner
   pub owners : length o'.queues ≡ length o.queues
@@ -61,11 +61,11 @@ Kept a b = Keeps a.ends a.part a.outboxes b.ends b.part b.outboxes
 abbrev pub HasTaken : Owner → Owner → ℕ → Type 0
 HasTaken a b j = (waiting_from b.ends j ≡ []) ⊎ (length (received_from a.ends j) < length (received_from b.ends j))
 
--- 64 boards were spread, or none of the open distance is fresh
+-- 64 boards were spread, or none of the open wave is fresh
 abbrev pub HasSpread : Owner → Owner → Type 0
 HasSpread a b = IsLeastDue b.part (Some b.part.wave) → unspread b.part + 64 ≤ unspread a.part
 
--- a batch was sent to owner j, or there is none to send, or no room is known on the line
+-- a batch was sent to owner j, or there is none to send, or no room is known on the ring
 abbrev pub HasSent : Owner → Owner → ℕ → Type 0
 HasSent a b j = (queue_to b.outboxes j ≡ []) ⊎ ((free_to b.ends j ≡ 0) ⊎ (length (sent_to a.ends j) < length (sent_to b.ends j)))
 
@@ -82,14 +82,14 @@ ends_of o = o.ends
 abbrev pub all_ends : List Owner → List Ends
 all_ends os = map ends_of os
 
--- what a look at the lines leaves as it is
+-- what a look at the rings leaves as it is
 abbrev pub rest_of : Owner → Part × Outboxes
 rest_of o = (o.part, o.outboxes)
 
--- The owner on the same lines, with the same block and gain, is sound where it was, and what it took and sent has only grown.
+-- The owner on the same rings, with the same block and gain, is sound where it was, and what it took and sent has only grown.
 -- Settled boards keep value and distance.
 pub record Grown (a b : Owner) : Type 0 where
-  pub lines : SameLines a.ends b.ends
+  pub pairs : SamePairs a.ends b.ends
   pub level : b.part.level ≡ a.part.level
   pub gain : b.part.gain ≡ a.part.gain
   pub start : b.part.start ≡ a.part.start
@@ -131,11 +131,11 @@ AreIdle os = All (λ (o : Owner). o.part.fresh ≡ []) os
 abbrev pub AreSent : List Owner → Type 0
 AreSent os = All (λ (o : Owner). All (λ q. q ≡ []) o.outboxes.queues) os
 
--- on each line what was sent was received
+-- on each ring what was sent was received
 abbrev pub AreReceived : List Owner → Type 0
 AreReceived os = (i j : ℕ) (d : Ends) → i < length (all_ends os) → j < length (all_ends os) → i ≢ j → received_from (slice_index_or (all_ends os) i d) j ≡ sent_to (slice_index_or (all_ends os) j d) i
 
--- on each line what was received, and then what is known to wait, is what was sent
+-- on each ring what was received, and then what is known to wait, is what was sent
 abbrev pub AreLooked : List Owner → Type 0
 AreLooked os = AreExact (all_ends os)
 
@@ -143,7 +143,7 @@ AreLooked os = AreExact (all_ends os)
 abbrev pub taken_notes : List Owner → Owner → ℕ → ℕ → List Note
 taken_notes os d i j = notes_taken (slice_index_or os j d).ends i
 
--- the notes on their way from owner i to owner j: those that are known to wait on the line, and then those that are to be sent
+-- the notes on their way from owner i to owner j: those that are known to wait on the ring, and then those that are to be sent
 abbrev pub coming_notes : List Owner → Owner → ℕ → ℕ → List Note
 coming_notes os d i j = notes_of (map items_of (waiting_from (slice_index_or os j d).ends i)) ++ notes_boxed (slice_index_or os i d).outboxes j
 
@@ -158,7 +158,7 @@ pub record IsScanned (value : List ℕ → ℤ) (n owners : ℕ) (e : Ends) (o :
   pub part : IsScannedOwner value n owners e.owner o.part
   pub sent : All (λ q. q ≡ []) o.outboxes.queues
 
--- of these batches that were sent, those that are not among these received ones are of the open gain and distance
+-- of these batches that were sent, those that are not among these received ones are of the open gain and wave
 pub record OpenBehind (part : Part) (received sent : List Notes) : Type 0 where
   pub before : List Notes
   pub after : List Notes
@@ -167,7 +167,7 @@ pub record OpenBehind (part : Part) (received sent : List Notes) : Type 0 where
   pub opened : All (IsOpenBatch part) (map items_of after)
 
 -- Each owner is sound, they stand on a grid, and all parts are of one level with the same gain and distance open, of which is all
--- that waits on a line.
+-- that waits on a ring.
 pub record AreTogether (value : List ℕ → ℤ) (n : ℕ) (os : List Owner) : Type 0 where
   pub some : 1 ≤ length os
   pub grid : IsGrid (all_ends os)
@@ -178,7 +178,7 @@ pub record AreTogether (value : List ℕ → ℤ) (n : ℕ) (os : List Owner) : 
   pub waits : (i j : ℕ) (d : Owner) → i < length os → j < length os → i ≢ j
       → OpenBehind (slice_index_or os j d).part (received_from (slice_index_or os i d).ends j) (sent_to (slice_index_or os j d).ends i)
 
--- Each owner is sound, they stand on a grid, nothing is to be sent or waits on a line, and all parts are of one level with the
+-- Each owner is sound, they stand on a grid, nothing is to be sent or waits on a ring, and all parts are of one level with the
 -- same gain and distance open.
 pub record AreFinished (value : List ℕ → ℤ) (n : ℕ) (os : List Owner) : Type 0 where
   pub some : 1 ≤ length os

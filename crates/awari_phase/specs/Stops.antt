@@ -1,8 +1,8 @@
 -- How a worker comes to a fault, and what became of owners that worked. What the public contracts say of a refused round goes by
 -- this.
 use Rattle.std.specs.Prelude.{◌≡◌, ◌≢◌, ◌⊎◌, ℕ, List, [], ◌∷◌, ◌++◌, None, Some}
-use Rattle.awari_lines.specs.Lines.{EachTo, Notes, IsOther, SameLines, sent_to, received_from}
-use Rattle.awari_lines.specs.declared.lines.Ends.{Ends}
+use Rattle.awari_lines.specs.Rings.{EachTo, Notes, IsOther, SamePairs, sent_to, received_from}
+use Rattle.awari_lines.specs.declared.ends.Ends.{Ends}
 use Rattle.awari_owner.specs.Outboxes.{Outboxes}
 use Rattle.awari_owner.specs.Sound.{RefusesNote}
 use Rattle.awari_block.specs.Part.{Part, HasFarthest}
@@ -11,12 +11,12 @@ use Rattle.awari_owner.specs.declared.faults.OwnerFault.TheVariants.{Far, Memory
 use Rattle.awari_phase.specs.Owners.{Kept, Swept}
 use Rattle.awari_phase.specs.declared.owners.Owner.{Owner}
 
--- One batch was taken off a line, and a note of it was refused; nothing else was done.
+-- One batch was taken off a ring, and a note of it was refused; nothing else was done.
 pub record StopsTaking (e : Ends) (part : Part) (o : Outboxes) (e' : Ends) (part' : Part) (o' : Outboxes) (fault : OwnerFault) : Type 0 where
   pub from : ℕ
   pub batch : Notes
   pub other : IsOther e from
-  pub lines : SameLines e e'
+  pub pairs : SamePairs e e'
   pub sent : (j : ℕ) → IsOther e j → sent_to e' j ≡ sent_to e j
   pub popped : received_from e' from ≡ received_from e from ++ batch ∷ []
   pub others : (j : ℕ) → IsOther e j → j ≢ from → received_from e' j ≡ received_from e j

@@ -12,7 +12,7 @@ ghost use Rattle.awari_phase.specs.declared.owners.TheConstants.{MOST_SPREADS};
 
 use awari_owner::{closed_parts_are_right, sound_parts_are_told};
 
-/// Owners that are sound together, and whose lines `settle_owners` looked at, are sound as
+/// Owners that are sound together, and whose rings `settle_owners` looked at, are sound as
 /// `specs/Level.antt` of `awari_owner` defines it. The notes are those that each took from each other
 /// one, and those that are on their way to it.
 pub fn owners_together_are_sound()
@@ -20,7 +20,7 @@ pub fn owners_together_are_sound()
         → AreSound value n (length os) (part_at (parts_of os)) (coming_notes os d) (taken_notes os d) }
 {}
 
-/// Owners that are each sound, with nothing to be sent and nothing on the lines, heard all notes of
+/// Owners that are each sound, with nothing to be sent and nothing on the rings, heard all notes of
 /// each other. Once gain 1 is open and no board is fresh, each board of the level keeps the rules of
 /// a table.
 pub fn finished_owners_are_right()

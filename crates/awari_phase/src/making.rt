@@ -1,7 +1,7 @@
 //! The owners of a level, before any gain is open, and their parts at the end.
 
 ghost use Rattle.std.specs.Prelude.{◌≡◌, ◌+◌, ◌<◌, ◌≤◌, ℕ, All, IfOk, length, slice_index_or, vec_len};
-ghost use Rattle.awari_lines.specs.Lines.{HaveRoom, owners_of};
+ghost use Rattle.awari_lines.specs.Rings.{HaveRoom, owners_of};
 ghost use Rattle.awari_block.specs.Part.{IsClosed};
 ghost use Rattle.awari_table.specs.Images.{table_of};
 ghost use Rattle.awari_table.specs.declared.TheConstants.{HIGHEST_LEVEL};
@@ -16,10 +16,10 @@ use awari_table::Shelf;
 use std::alloc::{AllocError, Global};
 use std::thread::Threads;
 
-/// The owners of the shelf's next level, 1 to 16, on one grid whose lines have room for 1 to 256
+/// The owners of the shelf's next level, 1 to 16, on one grid whose rings have room for 1 to 256
 /// batches. No gain is open, no board is fresh, and nothing is on its way. The parts are scanned one
 /// after the other, each by as many threads as there are processors. Condition: the shelf has at most
-/// `HIGHEST_LEVEL` levels. It takes memory for the parts and the lines, and is refused only if that
+/// `HIGHEST_LEVEL` levels. It takes memory for the parts and the rings, and is refused only if that
 /// runs out.
 pub fn scanned_owners<R: Threads + Sync>(
     rt: &R,
@@ -37,9 +37,9 @@ pub fn scanned_owners<R: Threads + Sync>(
     ensures room { IfOk result (λ all. HaveRoom room (all_ends all.items)) }
     ensures gain { IfOk result (λ all. (i : ℕ) (d : AnOwner) → i < owners → (slice_index_or all.items i d).part.gain ≡ length shelf.now + 1) }
 {
-    let lines = grid(alloc, owners, room)?;
-    let mut all = Vec::with_capacity(alloc, lines.len())?;
-    for ends in lines {
+    let grid = grid(alloc, owners, room)?;
+    let mut all = Vec::with_capacity(alloc, grid.len())?;
+    for ends in grid {
         let owner = scanned_owner(rt, alloc, shelf, owners, ends)?;
         all.push(owner)?;
     }

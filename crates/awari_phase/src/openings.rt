@@ -1,7 +1,7 @@
 //! The next gain, or the next distance, opened in all parts.
 
 ghost use Rattle.std.specs.Prelude.{◌≡◌, ◌≤◌, All, []};
-ghost use Rattle.awari_lines.specs.Lines.{EachTo, IsGrid};
+ghost use Rattle.awari_lines.specs.Rings.{EachTo, IsGrid};
 ghost use Rattle.awari_block.specs.Blocks.{due_dist};
 ghost use Rattle.awari_phase.specs.Owners.{AllGrown, AreIdle, AreReceived, AreSent, OpensNext, OpensWave, StayFinished, StayTogether, all_ends};
 ghost use Rattle.awari_phase.specs.declared.owners.Owner.{Owner as AnOwner};
@@ -11,7 +11,7 @@ use rayon::prelude::*;
 use std::thread::Threads;
 
 /// Opens the next smaller gain in each part, several parts at a time, at distance 0. Conditions: no board is fresh,
-/// nothing is to be sent or waits on a line, and the open gain is at least 2. It takes memory for
+/// nothing is to be sent or waits on a ring, and the open gain is at least 2. It takes memory for
 /// threads alone. If no thread can be started, it opens the parts one after the other.
 pub fn open_gain<R: Threads + Sync>(rt: &R, owners: &mut [Owner])
     requires idle { AreIdle owners.old }

@@ -1,19 +1,19 @@
 //! One owner, with all that its worker works on.
 //!
 //! How to think of it. During a round an owner is alone in its thread: it sees its part, its outboxes
-//! and its own ends of the lines, and nothing of the others. So each contract here speaks of one
+//! and its own ends of the rings, and nothing of the others. So each contract here speaks of one
 //! owner. `Kept` says that an owner that was sound stays so over the batches that it took and gave.
 //! These are lists that only grow, whatever the others do meanwhile. `Swept` says that it took,
 //! spread and sent, or knows of nothing to take, to spread or to send, or of no room. Whether the
 //! lists of two owners fit together is looked at later, by `settle_owners`, once all ends are in one
 //! thread again.
 //!
-//! A sweep never waits. It passes over a line with nothing on it, and if a line is full it leaves the
+//! A sweep never waits. It passes over a ring with nothing on it, and if a ring is full it leaves the
 //! batch in the outbox. A step that is refused stops the worker, and the owner carries the fault
 //! until all threads are joined.
 
 ghost use Rattle.std.specs.Prelude.{◌≡◌, ◌≤◌, length};
-ghost use Rattle.awari_lines.specs.Lines.{owners_of};
+ghost use Rattle.awari_lines.specs.Rings.{owners_of};
 ghost use Rattle.awari_owner.specs.Spread.{IsPartOf};
 
 use crate::gates::Gate;
@@ -23,12 +23,12 @@ use awari_owner::{Outboxes, OwnerFault, Part, take_batch};
 /// The most boards that a sweep spreads.
 pub const MOST_SPREADS: u32 = 64;
 
-/// One owner: its part of the level, its ends of the lines, and what it has still to send.
+/// One owner: its part of the level, its ends of the rings, and what it has still to send.
 #[derive(Drop)]
 pub struct Owner {
     /// Its block of the level's boards, and what is known of them.
     pub part: Part,
-    /// Its ends of the lines to the other owners.
+    /// Its ends of the rings to the other owners.
     pub ends: Ends,
     /// The notes that it has still to send.
     pub outboxes: Outboxes,
@@ -44,13 +44,13 @@ pub struct Owner {
 
 impl Owner {
     ghost use Rattle.std.specs.Prelude.{◌≡◌, ◌+◌, ◌<◌, ◌≤◌, ℕ, None, Ok, Some, IfErr, OnOk, false, true};
-    ghost use Rattle.awari_lines.specs.Lines.{IsOther, owners_of};
+    ghost use Rattle.awari_lines.specs.Rings.{IsOther, owners_of};
     ghost use Rattle.awari_block.specs.Part.{IsLeastDue, unspread};
     ghost use Rattle.awari_phase.specs.Owners.{HasSent, HasSpread, HasTaken, Kept, Swept};
     ghost use Rattle.awari_phase.specs.Steps.{SendsAt, TakesAt, TakesNothing};
     ghost use Rattle.awari_phase.specs.Stops.{HasWorked, Stopped};
 
-    /// The owner of this part of a level, with these ends of its lines to the others and these
+    /// The owner of this part of a level, with these ends of its rings to the others and these
     /// outboxes. Condition: all three are those of one owner, one of as many.
     pub fn new(part: Part, ends: Ends, outboxes: Outboxes) -> Owner
         requires queues { length outboxes.queues ≡ owners_of ends }

@@ -1,7 +1,7 @@
 //! Rounds, until a gain is closed.
 
 ghost use Rattle.std.specs.Prelude.{◌≡◌, ◌⊎◌, ◌≤◌, All, IsTrue, IsNone, IfSome, IfOk, IfErr, []};
-ghost use Rattle.awari_lines.specs.Lines.{EachTo, IsGrid};
+ghost use Rattle.awari_lines.specs.Rings.{EachTo, IsGrid};
 ghost use Rattle.awari_block.specs.Blocks.{due_dist};
 ghost use Rattle.awari_phase.specs.Owners.{AllGrown, AreIdle, AreReceived, AreSent, Kept, StayFinished, StayTogether, all_ends};
 ghost use Rattle.awari_phase.specs.PhaseFault.{IfTogether, IsPhaseRefusal, IsRefusal, IsStop, IsWant};
@@ -26,16 +26,16 @@ const SWEEPS_IN_TURN: u32 = 16;
 
 /// Where owners stand after a round.
 enum Standing {
-    /// No board of the open distance is fresh, and nothing is to be sent or waits on a line.
+    /// No board of the open wave is fresh, and nothing is to be sent or waits on a ring.
     Done,
-    /// Batches wait on lines, and nothing else is to be done.
+    /// Batches wait on rings, and nothing else is to be done.
     Waiting,
-    /// A board of the open distance is fresh, or something is to be sent.
+    /// A board of the open wave is fresh, or something is to be sent.
     Busy,
 }
 
-/// Makes rounds, one open distance after another from the least on, until no board is fresh and
-/// nothing is to be sent or waits on a line. An owner makes at most `sweeps` sweeps a round.
+/// Makes rounds, one wave after another from the least on, until no board is fresh and
+/// nothing is to be sent or waits on a ring. An owner makes at most `sweeps` sweeps a round.
 /// Conditions: `sweeps` is 1 to 1000, and the owners stand on one grid. It takes memory as a round
 /// does, and is refused as one is; then the owners are gone. If the owners were sound together, 42
 /// cannot occur.
@@ -97,7 +97,7 @@ pub fn gain_phase_with_progress<R: Threads + Wait + Sync, G: Gate + Sync, P: Pro
 }
 
 /// Whether the next round is to be made in turn, given whether the last one was. If nothing is left
-/// of the open distance, it opens the least one that is due. None if no board is fresh, so that no
+/// of the open wave, it opens the least one that is due. None if no board is fresh, so that no
 /// round is left.
 fn look_ahead(owners: &mut [Owner], in_turn: bool) -> Option<bool>
     requires { IsGrid (all_ends owners.old) }
@@ -164,7 +164,7 @@ fn settled_boards(owners: &[Owner]) -> usize {
     )
 }
 
-/// Looks at all owners and at every line.
+/// Looks at all owners and at every ring.
 fn look(owners: &mut [Owner]) -> Standing
     requires { IsGrid (all_ends owners.old) }
     ensures grown { AllGrown owners.old owners.new }
@@ -182,14 +182,14 @@ fn look(owners: &mut [Owner]) -> Standing
     Standing::Done
 }
 
-/// Whether nothing is to be sent, and no board of the open distance is fresh.
+/// Whether nothing is to be sent, and no board of the open wave is fresh.
 fn are_spread(owners: &[Owner]) -> bool
     ensures { IsTrue result → AreSent owners.now }
 {
     owners.iter().all(is_spread)
 }
 
-/// Whether the owner has nothing to send, and no fresh board of the open distance.
+/// Whether the owner has nothing to send, and no fresh board of the open wave.
 fn is_spread(owner: &Owner) -> bool
     ensures { IsTrue result → All (λ q. q ≡ []) owner.now.outboxes.queues }
 {

@@ -1,7 +1,7 @@
 //! Rounds: all owners work, each in a thread of its own, or one after the other.
 
 ghost use Rattle.std.specs.Prelude.{◌≡◌, ◌≤◌, ℕ, ℤ, List, IsNone, IfOk, IfErr, IfSome};
-ghost use Rattle.awari_lines.specs.Lines.{EachTo, IsGrid};
+ghost use Rattle.awari_lines.specs.Rings.{EachTo, IsGrid};
 ghost use Rattle.awari_table.specs.declared.TheConstants.{HIGHEST_LEVEL};
 ghost use Rattle.awari_phase.specs.Owners.{AreTogether, Kept, StayTogether, Swept, all_ends};
 ghost use Rattle.awari_phase.specs.PhaseFault.{AreWell, IfTogether, IsFirstFault, IsRefusal, IsWant, fault_of};
@@ -22,8 +22,8 @@ use std::thread::Threads;
 /// It takes memory for the threads, and each owner takes it for the notes that it has to send.
 ///
 /// Each owner makes at least one sweep. So from each other owner it took a batch, or none is known to
-/// wait. It spread 64 boards, or all fresh ones of the open distance. To each other owner it sent a
-/// batch, or had none to send, or no room is known on the line.
+/// wait. It spread 64 boards, or all fresh ones of the open wave. To each other owner it sent a
+/// batch, or had none to send, or no room is known on the ring.
 ///
 /// All threads that were started are joined before anything is answered. After a refusal the owners
 /// are gone:
@@ -89,7 +89,7 @@ fn work_in_turn<G: Gate>(owners: &mut [Owner], gate: &G, sweeps: u32)
 
 /// Gives this fault of owners that came back from their work, the first among them.
 ///
-/// It looks at both ends of each line first. Only so is it known that a note that was refused had
+/// It looks at both ends of each ring first. Only so is it known that a note that was refused had
 /// been sent by another owner. None of those is refused if the owners were sound together.
 fn refused(mut all: Vec<Owner>, fault: PhaseFault) -> PhaseFault
     requires grid { IsGrid (all_ends all.items) }

@@ -1,13 +1,13 @@
-//! What the lines hold, once all owners are in one thread.
+//! What the rings hold, once all owners are in one thread.
 
 ghost use Rattle.std.specs.Prelude.{◌≡◌, ◌<◌, ◌↔◌, length, map, slice_index_or, IsTrue};
-ghost use Rattle.awari_lines.specs.Lines.{EachTo, IsGrid, LookedAt, NoneWait, NothingWaits, SameHistory};
-ghost use Rattle.awari_lines.specs.declared.lines.Ends.{Ends as AnEnds};
+ghost use Rattle.awari_lines.specs.Rings.{EachTo, IsGrid, LookedAt, NoneWait, NothingWaits, SameHistory};
+ghost use Rattle.awari_lines.specs.declared.ends.Ends.{Ends as AnEnds};
 ghost use Rattle.awari_phase.specs.Owners.{AreLooked, all_ends, rest_of};
 
 use crate::owners::Owner;
 
-/// Looks at every line among owners that stand on one grid, and changes nothing else. On each line,
+/// Looks at every ring among owners that stand on one grid, and changes nothing else. On each ring,
 /// what was received and then what waits is what was sent. True if nothing waits on any. It takes no
 /// memory.
 pub fn settle_owners(all: &mut [Owner]) -> bool
@@ -28,7 +28,7 @@ pub fn settle_owners(all: &mut [Owner]) -> bool
     empty
 }
 
-/// Looks at the two lines between two owners. True if nothing waits on them.
+/// Looks at the two rings between two owners. True if nothing waits on them.
 fn settle_pair(all: &mut [Owner], i: usize, j: usize) -> bool
     requires grid { IsGrid (all_ends all.old) }
     requires pair { (i < j) × (j < length all.old) }

@@ -115,7 +115,7 @@ module _ (a : Inside) (sound : IsSegment a) where
     sound.won k d h,
   )
 
-  -- such a board of the open distance
+  -- such a board of the open wave
   mine_is : (P : ℤ → Type 0) (v : ℤ) (r : ℕ) → ((s : ℤ) → IsEither a.place.gain s → P s → s ≡ v) → IsMine a.place a.cells.items P (a.place.wave, r) → InBlock (seen a) r × (settled_at (seen a) r ≡ Some (v, a.place.wave))
   mine_is P v r sign (settled, due, score) =
       let inside = settled_inside a.place.start a.cells.items r settled in
@@ -130,7 +130,7 @@ module _ (a : Inside) (sound : IsSegment a) where
   above_is s (inl up) high = up
   above_is s (inr down) high = absurd (omega (arith, ints, down, high))
 
-  -- a fresh board of the open distance, if it is one, has this value
+  -- a fresh board of the open wave, if it is one, has this value
   abbrev IsLeft : Kind → Due → Type 0
   IsLeft kind f = due_dist f ≡ a.place.wave → settled_at (seen a) (due_rank f) ≡ Some (value_by kind a.place.gain, a.place.wave)
 

@@ -52,7 +52,7 @@ pub record CanOpenWave (dist : ℕ) (parts : List Part) : Type 0 where
 abbrev pub OpensWave : ℕ → Part → Part → Type 0
 OpensWave dist old new = new ≡ record old { wave = dist }
 
--- where this cell newly settles the board of this rank, it is farther than the open distance
+-- where this cell newly settles the board of this rank, it is farther than the open wave
 abbrev pub IsFarther : Part → ℕ → Cell → Type 0
 IsFarther part rank cell = is_settled (stored_at part rank).mark ≡ false → is_settled cell.mark ≡ true → part.wave < cell.dist
 

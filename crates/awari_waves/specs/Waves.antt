@@ -23,7 +23,7 @@ code_by rank pit = rank * 8 + pit
 abbrev pub code_of : Source → ℕ
 code_of y = code_by (rank_of y.0) y.1
 
--- the note of this code at the open gain and distance
+-- the note of this code at the open gain and wave
 abbrev pub note_by : Place → Kind → ℕ → Note
 note_by place kind code = record { level = place.level; target = code / 8; pit = code % 8; kind = kind; gain = place.gain; dist = place.wave }
 
@@ -54,11 +54,11 @@ abbrev pub Tells : Place → Kind → List ℕ → Part → Part → Type 0
 Tells place kind codes old new =
     (value : List ℕ → ℤ) (notes : List Note) → AreNew place.level codes notes → IsTallied value old notes → IsTallied value new (heard_by place kind codes notes)
 
--- a gain is open, and the open distance is not the greatest that can be stored
+-- a gain is open, and the open wave is not the greatest that can be stored
 abbrev pub IsReady : Part → Type 0
 IsReady part = (part.gain ≤ part.level) × (part.wave < 2 ^ 32 - 1)
 
--- all fresh boards are farther than the open distance
+-- all fresh boards are farther than the open wave
 abbrev pub IsPassed : Part → Type 0
 IsPassed part = All (λ f. part.wave < due_dist f) part.fresh
 
@@ -146,7 +146,7 @@ pub record AreSpans (place : Place) (span : ℕ) (parts : List Part) : Type 0 wh
   pub end : (i : ℕ) → i < length parts → (part_at parts i).start + length (part_at parts i).cells ≡ min ((i + 1) * span) (size_of place.level)
   pub all : size_of place.level ≤ length parts * span
 
--- a board that was taken from the fresh ones and is not spread yet: settled at the open gain and distance
+-- a board that was taken from the fresh ones and is not spread yet: settled at the open gain and wave
 pub record IsPending (place : Place) (span : ℕ) (parts : List Part) (kind : Kind) (rank : ℕ) : Type 0 where
   pub inside : rank < size_of place.level
   pub settled : settled_at (part_at parts (rank / span)) rank ≡ Some (value_by kind place.gain, place.wave)
@@ -169,7 +169,7 @@ abbrev pub other : Kind → Kind
 other Won = Lost
 other Lost = Won
 
--- The part gives these fresh boards away, all of the open distance and of this kind, and is else as it was.
+-- The part gives these fresh boards away, all of the open wave and of this kind, and is else as it was.
 pub record GivesFresh (kind : Kind) (old new : Part) (given : List ℕ) : Type 0 where
   pub rest : new ≡ record old { fresh = new.fresh }
   pub moved : IsPermutation (map (λ rank. (old.wave, rank)) given ++ new.fresh) old.fresh
@@ -182,7 +182,7 @@ pub record SettlesAll (old new : List Part) : Type 0 where
   pub settles : (i : ℕ) → i < length old → Settles (part_at old i) (part_at new i)
   pub passed : (i : ℕ) → i < length old → StaysPassed (part_at old i) (part_at new i)
 
--- A wave while it is spread: of the first k blocks no fresh board of the open distance is left. These boards were taken from
+-- A wave while it is spread: of the first k blocks no fresh board of the open wave is left. These boards were taken from
 -- the fresh ones and are not spread yet, and count as fresh.
 pub record IsWaving (place : Place) (span k : ℕ) (old now : List Part) (lost won : List ℕ) : Type 0 where
   pub blocks : length now ≡ length old

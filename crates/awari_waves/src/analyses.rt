@@ -108,7 +108,7 @@ impl Analysis {
         self.front.place.gain
     }
 
-    /// The open distance in plies.
+    /// The open wave in plies.
     pub fn wave(&self) -> u32
         ensures { result ≡ self.now.wave }
     {
@@ -167,7 +167,7 @@ impl Analysis {
     }
 
     /// Spreads all fresh boards of this distance, which is opened first if a smaller one is open.
-    /// Conditions: a gain is open, the open distance is not greater, no fresh board is nearer, and the
+    /// Conditions: a gain is open, the open wave is not greater, no fresh board is nearer, and the
     /// distance is below the greatest u32. Refused if memory runs out; then the level is lost.
     pub fn spread<R: Threads + Sync>(self, rt: &R, dist: u32) -> Result<Analysis, AllocError>
         requires opened { self.gain ≤ self.level }
@@ -185,7 +185,7 @@ impl Analysis {
         Ok(after)
     }
 
-    /// Spreads all fresh boards of the open distance.
+    /// Spreads all fresh boards of the open wave.
     fn spread_open<R: Threads + Sync>(self, rt: &R) -> Result<Analysis, AllocError>
         requires opened { self.gain ≤ self.level }
         requires near { self.wave < 2 ^ 32 - 1 }

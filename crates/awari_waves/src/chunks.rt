@@ -56,7 +56,7 @@ struct Finder<'a> {
     log: u32,
 }
 
-/// Spreads the boards of the chunk, which are of the open gain and distance and were taken from the
+/// Spreads the boards of the chunk, which are of the open gain and wave and were taken from the
 /// fresh ones of the segments. Their notes are found first, each row by a thread, and laid into a
 /// list for each segment. Then they are heard, each segment by one thread. Refused if memory runs
 /// out; then the level is lost.

@@ -54,7 +54,7 @@ fn open_all(gain: u8, segments: &mut [Segment]) -> Result<(), AllocError>
     Ok(())
 }
 
-/// Opens a greater distance in all segments. Condition: no fresh board has a smaller one.
+/// Opens the wave of a greater distance in all segments. Condition: no fresh board has a smaller one.
 pub fn open_waves(dist: u32, segments: &mut [Segment])
     requires can { CanOpenWave dist segments.old }
     ensures opened { Each (OpensWave dist) segments.old segments.new }

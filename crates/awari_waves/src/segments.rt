@@ -78,7 +78,7 @@ impl Segment {
         })
     }
 
-    /// Opens a greater distance. It needs no fresh board to have a smaller one.
+    /// Opens the wave of a greater distance. It needs no fresh board to have a smaller one.
     pub fn open_wave(&mut self, dist: u32)
         requires farther { self.old.wave < dist }
         requires nearest { All (λ f. dist ≤ due_dist f) self.old.fresh }
@@ -157,7 +157,7 @@ impl Segment {
         ClosedPart::new(self.place, self.cells)
     }
 
-    /// Moves the fresh boards of the open distance that are lost, or those that are won, behind others: those
+    /// Moves the fresh boards of the open wave that are lost, or those that are won, behind others: those
     /// whose notes are of this kind. Refused where there is no room for them there, and then nothing changes.
     pub fn give(&mut self, kind: Kind, to: &mut Vec<u32>) -> Result<(), AllocError>
         ensures given { OnOk result ((given : List ℕ) × (to.new.items ≡ to.old.items ++ given) × GivesFresh kind self.old self.new given) }

@@ -1,4 +1,4 @@
-//! A wave: all fresh boards of the open distance are spread, a chunk after the other.
+//! A wave: all fresh boards of the open wave are spread, a chunk after the other.
 
 ghost use Rattle.std.specs.Prelude.{◌≡◌, ℕ, ℤ, ◌+◌, ◌^◌, ◌<◌, ◌≤◌, [], List, All, OnOk, length};
 ghost use Rattle.awari_block.specs.Part.{Part as PartView};
@@ -18,7 +18,7 @@ use std::thread::Threads;
 /// A chunk is spread once it has as many boards of a kind.
 const CHUNK: usize = 262144;
 
-/// Spreads the fresh boards of the open distance, of all segments. Those of a chunk are moved into
+/// Spreads the fresh boards of the open wave, of all segments. Those of a chunk are moved into
 /// the room. Refused if memory runs out; then the level is lost.
 pub fn spread_wave<R: Threads + Sync>(
     rt: &R,

@@ -1,5 +1,5 @@
 use Rattle.std.proofs.Common.{◌≡◌, vec_len}
-use Rattle.awari_lines.specs.Lines.{AllUnused, HaveRoom, IsGrid}
+use Rattle.awari_lines.specs.Rings.{AllUnused, HaveRoom, IsGrid}
 use Rattle.awari_lines.proofs.making.grid.Given as goal
 
 abbrev pub invariant-loop-owner : goal.invariant-loop-owner

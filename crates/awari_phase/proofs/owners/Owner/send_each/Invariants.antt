@@ -1,5 +1,5 @@
 use Rattle.std.proofs.Common.{◌≡◌, ℕ, ◌<◌}
-use Rattle.awari_lines.specs.Lines.{IsOther, owners_of}
+use Rattle.awari_lines.specs.Rings.{IsOther, owners_of}
 use Rattle.awari_phase.specs.Owners.{HasSent, Kept}
 use Rattle.awari_phase.specs.Steps.{TakesNothing}
 use Rattle.awari_phase.proofs.owners.Owner.send_each.Given as goal

@@ -7,7 +7,7 @@ use Rattle.awari_phase.proofs.Keeping.{still_keeps, send_keeps}
 use Rattle.awari_phase.proofs.owners.Owner.send_to.Goals as goal
 
 pub returns-in-Err-clause-kept : goal.returns-in-Err-clause-kept
-returns-in-Err-clause-kept c = still_keeps _ _ c.args.to c.push.ensures.only.lines c.push.ensures.only.others _ _ c.in-Err.ensures.full.1 c.push.ensures.only.received
+returns-in-Err-clause-kept c = still_keeps _ _ c.args.to c.push.ensures.only.pairs c.push.ensures.only.others _ _ c.in-Err.ensures.full.1 c.push.ensures.only.received
 
 pub returns-in-Ok-clause-kept : goal.returns-in-Ok-clause-kept
 returns-in-Ok-clause-kept c =
@@ -19,7 +19,7 @@ returns-in-Ok-clause-kept c =
     let many = c.args.self.now.queues in
     let low = c.requires.1 in
     let inside : c.args.to < length o.queues = omega (arith, many, low) in
-    send_keeps _ _ c.args.to c.push.ensures.only.lines c.push.ensures.only.others _ o _ c.in-Some.batch dropped.1 c.in-Ok.ensures.ok.0 c.push.ensures.only.received c.requires c.in-Some.ensures.batch
+    send_keeps _ _ c.args.to c.push.ensures.only.pairs c.push.ensures.only.others _ o _ c.in-Some.batch dropped.1 c.in-Ok.ensures.ok.0 c.push.ensures.only.received c.requires c.in-Some.ensures.batch
     first
     (ap (λ (u : Outboxes). queue_to u c.args.to) dropped.3 ∙ get_or-set_same o.queues c.args.to dropped.1 [] inside)
     (λ k n. ap (λ (u : Outboxes). queue_to u k) dropped.3 ∙ get_or-set_other o.queues c.args.to k dropped.1 [] n)

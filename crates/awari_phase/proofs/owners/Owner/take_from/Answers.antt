@@ -5,11 +5,11 @@ use Rattle.awari_phase.proofs.Stopping.{stops_here}
 use Rattle.awari_phase.proofs.owners.Owner.take_from.Goals as goal
 
 pub returns-in_default-clause-kept : goal.returns-in_default-clause-kept
-returns-in_default-clause-kept c = still_keeps _ _ c.args.from c.in_default.ensures.only.lines c.in_default.ensures.only.others _ _ c.in_default.ensures.only.sent c.in_default.ensures.none.0
+returns-in_default-clause-kept c = still_keeps _ _ c.args.from c.in_default.ensures.only.pairs c.in_default.ensures.only.others _ _ c.in_default.ensures.only.sent c.in_default.ensures.none.0
 
 pub returns-clause-kept : goal.returns-clause-kept
 returns-clause-kept c =
-    take_keeps _ _ c.args.from c.in-Some.ensures.only.lines c.in-Some.ensures.only.others _ _ _ c.in-Some.batch c.in-Some.ensures.only.sent c.in-Some.ensures.some.0 c.requires c.in_ok-take_batch.ensures.taken
+    take_keeps _ _ c.args.from c.in-Some.ensures.only.pairs c.in-Some.ensures.only.others _ _ _ c.in-Some.batch c.in-Some.ensures.only.sent c.in-Some.ensures.some.0 c.requires c.in_ok-take_batch.ensures.taken
 
 pub returns-in_err-take_batch-clause-stopped : goal.returns-in_err-take_batch-clause-stopped
 returns-in_err-take_batch-clause-stopped c =
@@ -18,10 +18,10 @@ returns-in_err-take_batch-clause-stopped c =
       from = c.args.from;
       batch = c.in-Some.batch;
       other = c.requires;
-      lines = c.in-Some.ensures.only.lines;
-      sent = sent_same _ _ c.args.from c.in-Some.ensures.only.lines c.in-Some.ensures.only.others c.in-Some.ensures.only.sent;
+      pairs = c.in-Some.ensures.only.pairs;
+      sent = sent_same _ _ c.args.from c.in-Some.ensures.only.pairs c.in-Some.ensures.only.others c.in-Some.ensures.only.sent;
       popped = c.in-Some.ensures.some.0;
-      others = others_received _ _ c.args.from c.in-Some.ensures.only.lines c.in-Some.ensures.only.others;
+      others = others_received _ _ c.args.from c.in-Some.ensures.only.pairs c.in-Some.ensures.only.others;
       outboxes = refl;
       refuses = c.in_err-take_batch.ensures.refused;
     })))

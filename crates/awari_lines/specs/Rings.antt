@@ -1,8 +1,8 @@
 -- What a contract sees of an owner's ends.
 use Rattle.std.specs.Prelude.{◌≡◌, ◌≢◌, ℕ, ◌+◌, ◌<◌, List, [], ◌∷◌, ◌++◌, length, Option, Some, None, slice_get, slice_index_or, vec_len}
 use Rattle.rtrb.specs.Ring.{sent, received, known_free, known_items, producer_capacity, consumer_capacity, SameProducer, SameConsumer, IsPair}
-use Rattle.awari_lines.specs.declared.lines.Line.{Line}
-use Rattle.awari_lines.specs.declared.lines.Ends.{Ends}
+use Rattle.awari_lines.specs.declared.ends.RingPair.{RingPair}
+use Rattle.awari_lines.specs.declared.ends.Ends.{Ends}
 use Rattle.awari_block.specs.declared.notes.Note.{Note}
 use Rattle.arrayvec.specs.ArrayVec.{ArrayVec}
 use Rattle.awari_lines.specs.Seats.{seat_of}
@@ -11,127 +11,127 @@ use Rattle.awari_lines.specs.Seats.{seat_of}
 abbrev pub Notes : Type 0
 Notes = ArrayVec Note
 
--- how many owners the lines are among
+-- how many owners the rings are among
 abbrev pub owners_of : Ends → ℕ
-owners_of e = vec_len e.lines + 1
+owners_of e = vec_len e.pairs + 1
 
 -- the number of an owner other than this one
 abbrev pub IsOther : Ends → ℕ → Type 0
 IsOther e j = (j ≢ e.owner) × (j < owners_of e)
 
--- the line to the owner j
-abbrev pub line_of : Ends → ℕ → Option Line
-line_of e j = slice_get e.lines.items (seat_of e.owner j)
+-- the ring to the owner j
+abbrev pub pair_of : Ends → ℕ → Option RingPair
+pair_of e j = slice_get e.pairs.items (seat_of e.owner j)
 
-abbrev pub sent_on : Option Line → List Notes
+abbrev pub sent_on : Option RingPair → List Notes
 sent_on None = []
 sent_on (Some l) = sent l.producer
 
-abbrev pub received_on : Option Line → List Notes
+abbrev pub received_on : Option RingPair → List Notes
 received_on None = []
 received_on (Some l) = received l.consumer
 
-abbrev pub waiting_on : Option Line → List Notes
+abbrev pub waiting_on : Option RingPair → List Notes
 waiting_on None = []
 waiting_on (Some l) = known_items l.consumer
 
-abbrev pub free_on : Option Line → ℕ
+abbrev pub free_on : Option RingPair → ℕ
 free_on None = 0
 free_on (Some l) = known_free l.producer
 
 -- every batch that was sent to the owner j, oldest first
 abbrev pub sent_to : Ends → ℕ → List Notes
-sent_to e j = sent_on (line_of e j)
+sent_to e j = sent_on (pair_of e j)
 
 -- every batch that was received from the owner j, oldest first
 abbrev pub received_from : Ends → ℕ → List Notes
-received_from e j = received_on (line_of e j)
+received_from e j = received_on (pair_of e j)
 
--- the batches that are known to wait on the line from the owner j: they come next
+-- the batches that are known to wait on the ring from the owner j: they come next
 abbrev pub waiting_from : Ends → ℕ → List Notes
-waiting_from e j = waiting_on (line_of e j)
+waiting_from e j = waiting_on (pair_of e j)
 
--- for how many more batches the line to the owner j is known to have room
+-- for how many more batches the ring to the owner j is known to have room
 abbrev pub free_to : Ends → ℕ → ℕ
-free_to e j = free_on (line_of e j)
+free_to e j = free_on (pair_of e j)
 
 -- the same ends of the same two rings
-abbrev pub SameRings : Option Line → Option Line → Type 0
+abbrev pub SameRings : Option RingPair → Option RingPair → Type 0
 SameRings None None = Unit {0}
 SameRings None (Some m) = ⊥
 SameRings (Some l) None = ⊥
 SameRings (Some l) (Some m) = SameProducer l.producer m.producer × SameConsumer l.consumer m.consumer
 
 -- nothing was sent or received, and more may be known to wait
-pub record LineLooked (l m : Line) : Type 0 where
+pub record PairLooked (l m : RingPair) : Type 0 where
   pub producer : SameProducer l.producer m.producer
   pub consumer : SameConsumer l.consumer m.consumer
   pub sent : sent m.producer ≡ sent l.producer
   pub received : received m.consumer ≡ received l.consumer
 
--- the same owner's ends of the same lines
-pub record SameLines (a b : Ends) : Type 0 where
+-- the same owner's ends of the same rings
+pub record SamePairs (a b : Ends) : Type 0 where
   pub owner : b.owner ≡ a.owner
-  pub owners : vec_len b.lines ≡ vec_len a.lines
-  pub rings : (k : ℕ) → SameRings (slice_get a.lines.items k) (slice_get b.lines.items k)
+  pub owners : vec_len b.pairs ≡ vec_len a.pairs
+  pub rings : (k : ℕ) → SameRings (slice_get a.pairs.items k) (slice_get b.pairs.items k)
 
--- nothing has changed on the lines of other owners than j
+-- nothing has changed on the rings of other owners than j
 abbrev pub SameBut : Ends → Ends → ℕ → Type 0
-SameBut a b j = (k : ℕ) → k ≢ j → k ≢ a.owner → line_of b k ≡ line_of a k
+SameBut a b j = (k : ℕ) → k ≢ j → k ≢ a.owner → pair_of b k ≡ pair_of a k
 
 -- nothing has changed but what was sent to the owner j, and for how much more there is room
 pub record SendsOnly (a b : Ends) (j : ℕ) : Type 0 where
-  pub lines : SameLines a b
+  pub pairs : SamePairs a b
   pub others : SameBut a b j
   pub received : received_from b j ≡ received_from a j
   pub waiting : waiting_from b j ≡ waiting_from a j
 
 -- nothing has changed but what was received from the owner j, and what waits
 pub record TakesOnly (a b : Ends) (j : ℕ) : Type 0 where
-  pub lines : SameLines a b
+  pub pairs : SamePairs a b
   pub others : SameBut a b j
   pub sent : sent_to b j ≡ sent_to a j
   pub free : free_to b j ≡ free_to a j
 
 -- the two ends of each of the two rings between two owners
-abbrev pub PairedOn : Option Line → Option Line → Type 0
+abbrev pub PairedOn : Option RingPair → Option RingPair → Type 0
 PairedOn None m = ⊥
 PairedOn (Some l) None = ⊥
 PairedOn (Some l) (Some m) = IsPair l.producer m.consumer × IsPair m.producer l.consumer
 
 abbrev pub Paired : Ends → Ends → Type 0
-Paired a b = PairedOn (line_of a b.owner) (line_of b a.owner)
+Paired a b = PairedOn (pair_of a b.owner) (pair_of b a.owner)
 
 -- nothing was sent or received, and all room is known to be free
-abbrev pub UnusedOn : Option Line → Type 0
+abbrev pub UnusedOn : Option RingPair → Type 0
 UnusedOn None = Unit {0}
 UnusedOn (Some l) = (sent l.producer ≡ []) × (received l.consumer ≡ []) × (known_items l.consumer ≡ []) × (known_free l.producer ≡ producer_capacity l.producer)
 
 abbrev pub IsUnused : Ends → Type 0
-IsUnused e = (k : ℕ) → UnusedOn (slice_get e.lines.items k)
+IsUnused e = (k : ℕ) → UnusedOn (slice_get e.pairs.items k)
 
--- both rings of a line have room for so many batches
-abbrev pub HasRoomOn : ℕ → Option Line → Type 0
+-- both rings of a ring have room for so many batches
+abbrev pub HasRoomOn : ℕ → Option RingPair → Type 0
 HasRoomOn room None = Unit {0}
 HasRoomOn room (Some l) = (producer_capacity l.producer ≡ room) × (consumer_capacity l.consumer ≡ room)
 
 abbrev pub HasRoom : ℕ → Ends → Type 0
-HasRoom room e = (k : ℕ) → HasRoomOn room (slice_get e.lines.items k)
+HasRoom room e = (k : ℕ) → HasRoomOn room (slice_get e.pairs.items k)
 
--- the ends a became b by a line at the end with so much room, whose other owner has m for it
-pub record Connected (space : ℕ) (a b : Ends) (m : Line) : Type 0 where
+-- the ends a became b by a ring at the end with so much room, whose other owner has m for it
+pub record Connected (space : ℕ) (a b : Ends) (m : RingPair) : Type 0 where
   pub owner : b.owner ≡ a.owner
-  pub line : Line
-  pub added : b.lines.items ≡ a.lines.items ++ line ∷ []
-  pub paired : PairedOn (Some line) (Some m)
-  pub unused : UnusedOn (Some line)
+  pub pair : RingPair
+  pub added : b.pairs.items ≡ a.pairs.items ++ pair ∷ []
+  pub paired : PairedOn (Some pair) (Some m)
+  pub unused : UnusedOn (Some pair)
   pub unused_there : UnusedOn (Some m)
-  pub room : HasRoomOn space (Some line)
+  pub room : HasRoomOn space (Some pair)
   pub room_there : HasRoomOn space (Some m)
 
--- on the line to the owner j nothing was sent or received, and more may be known to wait
+-- on the ring to the owner j nothing was sent or received, and more may be known to wait
 pub record Looked (a b : Ends) (j : ℕ) : Type 0 where
-  pub lines : SameLines a b
+  pub pairs : SamePairs a b
   pub others : SameBut a b j
   pub sent : sent_to b j ≡ sent_to a j
   pub received : received_from b j ≡ received_from a j
@@ -159,7 +159,7 @@ HaveRoom room es = (i : ℕ) (d : Ends) → i < length es → HasRoom room (slic
 
 -- the same ends with the same history
 pub record SameHistory (a b : Ends) : Type 0 where
-  pub lines : SameLines a b
+  pub pairs : SamePairs a b
   pub sent : (j : ℕ) → j ≢ a.owner → sent_to b j ≡ sent_to a j
   pub received : (j : ℕ) → j ≢ a.owner → received_from b j ≡ received_from a j
 
@@ -168,12 +168,12 @@ pub record EachTo {X : Type 0} (R : X → X → Type 0) (xs ys : List X) : Type 
   pub many : length ys ≡ length xs
   pub each : (i : ℕ) (d : X) → i < length xs → R (slice_index_or xs i d) (slice_index_or ys i d)
 
--- on each line what was received, and then what is known to wait, is what was sent
+-- on each ring what was received, and then what is known to wait, is what was sent
 abbrev pub AreExact : List Ends → Type 0
 AreExact es = (i j : ℕ) (d : Ends) → i < length es → j < length es → i ≢ j
     → received_from (slice_index_or es i d) j ++ waiting_from (slice_index_or es i d) j ≡ sent_to (slice_index_or es j d) i
 
--- nothing is known to wait on any line
+-- nothing is known to wait on any ring
 abbrev pub NoneWait : List Ends → Type 0
 NoneWait es = (i j : ℕ) (d : Ends) → i < length es → j < length es → i ≢ j → waiting_from (slice_index_or es i d) j ≡ []
 
@@ -181,5 +181,5 @@ NoneWait es = (i j : ℕ) (d : Ends) → i < length es → j < length es → i �
 pub record LookedAt (es fs : List Ends) (i j : ℕ) : Type 0 where
   pub grid : IsGrid fs
   pub same : (k : ℕ) (d : Ends) → k < length es → SameHistory (slice_index_or es k d) (slice_index_or fs k d)
-  pub others : (x y : ℕ) (d : Ends) → x < length es → x ≢ y → ¬ ((x ≡ i) × (y ≡ j)) → ¬ ((x ≡ j) × (y ≡ i)) → line_of (slice_index_or fs x d) y ≡ line_of (slice_index_or es x d) y
+  pub others : (x y : ℕ) (d : Ends) → x < length es → x ≢ y → ¬ ((x ≡ i) × (y ≡ j)) → ¬ ((x ≡ j) × (y ≡ i)) → pair_of (slice_index_or fs x d) y ≡ pair_of (slice_index_or es x d) y
   pub exact : (d : Ends) → IsExact (slice_index_or fs i d) (slice_index_or fs j d)

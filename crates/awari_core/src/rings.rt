@@ -1,38 +1,38 @@
 //! Batches that are on their way from one owner to another.
 
 ghost use Rattle.std.specs.Prelude.{◌≡◌, ◌<◌, ◌∷◌, ◌++◌, [], IfOk, IfSome, IfNone, IsTrue, ◌↔◌, length};
-ghost use Rattle.awari_core.specs.Core.{Line as LineView};
+ghost use Rattle.awari_core.specs.Core.{Ring as RingView};
 
 use awari_owner::Batch;
 use std::alloc::{AllocError, Global};
 use std::collections::VecDeque;
 use std::marker::Model;
 
-/// A line from one owner to another, with room for so many batches.
+/// A ring from one owner to another, with room for so many batches.
 #[derive(Drop)]
-pub struct Line {
+pub struct Ring {
     batches: VecDeque<Batch>,
     room: u32,
 }
 
-impl Model for Line {
+impl Model for Ring {
     ghost use Rattle.std.specs.Prelude.{◌≤◌, map};
     ghost use Rattle.std.specs.VecDeque.{deque_capacity};
-    ghost use Rattle.awari_core.specs.Core.{Line as LineView};
+    ghost use Rattle.awari_core.specs.Core.{Ring as RingView};
 
-    ghost Value = { LineView };
+    ghost Value = { RingView };
 
     ghost view = { λ l. record { batches = map (λ b. b.items) l.batches.items; room = l.room } };
 
     ghost invariant = { λ l. l.room ≤ deque_capacity l.batches };
 }
 
-impl Line {
-    /// A line with nothing on it. Its room is taken here.
-    pub fn new(alloc: Global, room: u32) -> Result<Line, AllocError>
-        ensures { IfOk result (λ line. line ≡ record { batches = []; room = room }) }
+impl Ring {
+    /// A ring with nothing on it. Its room is taken here.
+    pub fn new(alloc: Global, room: u32) -> Result<Ring, AllocError>
+        ensures { IfOk result (λ ring. ring ≡ record { batches = []; room = room }) }
     {
-        Ok(Line {
+        Ok(Ring {
             batches: VecDeque::with_capacity(alloc, room as usize)?,
             room,
         })

@@ -1,5 +1,5 @@
 use Rattle.std.proofs.Common.{refl, sym, ◌∙◌}
-use Rattle.awari_lines.proofs.lines.Ends.connect.Goals as goal
+use Rattle.awari_lines.proofs.ends.Ends.connect.Goals as goal
 
 pub returns : goal.returns
 returns c =
@@ -7,7 +7,7 @@ returns c =
     let far = c.in_ok-theirs_out.ensures in
     record {
       owner = refl;
-      line = record { producer = c.in_ok-out.out; consumer = c.in_ok-theirs_out.back };
+      pair = record { producer = c.in_ok-out.out; consumer = c.in_ok-theirs_out.back };
       added = c.in_ok-push.ensures.items;
       paired = (near.pair, far.pair);
       unused = (near.producer.0, far.consumer.0, far.consumer.1, near.producer.1 ∙ sym near.producer.2);

@@ -1,4 +1,4 @@
-//! One owner's ends of its lines to the others.
+//! One owner's ends of its rings to the others.
 
 ghost use Rattle.std.specs.Prelude.{◌≤◌, vec_len};
 
@@ -9,23 +9,23 @@ use std::alloc::{AllocError, Global};
 /// The two rings between an owner and another one: the end that sends to it, and the end that
 /// receives from it.
 #[derive(Drop)]
-pub struct Line {
+pub struct RingPair {
     pub(crate) producer: Producer<Batch>,
     pub(crate) consumer: Consumer<Batch>,
 }
 
-/// One owner's ends of its lines to the other owners, in the order of their numbers.
+/// One owner's ends of its rings to the other owners, in the order of their numbers.
 #[derive(Drop)]
 pub struct Ends {
     pub(crate) owner: u8,
-    pub(crate) lines: Vec<Line>,
-    ghost numbered: { owner ≤ vec_len lines },
+    pub(crate) pairs: Vec<RingPair>,
+    ghost numbered: { owner ≤ vec_len pairs },
 }
 
 impl Ends {
     ghost use Rattle.std.specs.Prelude.{◌≡◌, ◌+◌, ◌<◌, ◌≤◌, ◌++◌, ◌∷◌, [], length, IfOk, IfErr, OnOk, IfSome, IfNone, IsOk, IsSome, IsTrue, ◌↔◌};
     ghost use mathlib.Core.List.{IsPrefix};
-    ghost use Rattle.awari_lines.specs.Lines.{IsOther, owners_of, sent_to, received_from, waiting_from, free_to, SendsOnly, TakesOnly, Paired, Connected, Looked, IsExact, NothingWaits};
+    ghost use Rattle.awari_lines.specs.Rings.{IsOther, owners_of, sent_to, received_from, waiting_from, free_to, SendsOnly, TakesOnly, Paired, Connected, Looked, IsExact, NothingWaits};
 
     /// The owner's number.
     pub fn owner(&self) -> u8
@@ -34,15 +34,15 @@ impl Ends {
         self.owner
     }
 
-    /// How many owners the lines are among.
+    /// How many owners the rings are among.
     pub fn owners(&self) -> usize
         ensures { result ≡ owners_of self.now }
     {
-        self.lines.len() + 1
+        self.pairs.len() + 1
     }
 
     /// Sends a batch to another owner of the grid, or hands it back if no room is known even after a
-    /// look at the line. If room was known before, it is sent. It takes no memory.
+    /// look at the ring. If room was known before, it is sent. It takes no memory.
     pub fn push(&mut self, to: u8, batch: Batch) -> Result<(), Batch>
         requires { IsOther self.old to }
         ensures only { SendsOnly self.old self.new to }
@@ -51,15 +51,15 @@ impl Ends {
         ensures succeeds { 0 < free_to self.old to → IsOk result }
     {
         let place = seat(self.owner, to);
-        let line = &mut self.lines[place];
-        match line.producer.push(batch) {
+        let pair = &mut self.pairs[place];
+        match pair.producer.push(batch) {
             Ok(()) => Ok(()),
             Err(PushError::Full(back)) => Err(back),
         }
     }
 
     /// The next batch from another owner of the grid, or None if none is known to wait even after a
-    /// look at the line. What was known before comes next. It takes no memory.
+    /// look at the ring. What was known before comes next. It takes no memory.
     pub fn pop(&mut self, from: u8) -> Option<Batch>
         requires { IsOther self.old from }
         ensures only { TakesOnly self.old self.new from }
@@ -68,25 +68,25 @@ impl Ends {
         ensures succeeds { 0 < length (waiting_from self.old from) → IsSome result }
     {
         let place = seat(self.owner, from);
-        let line = &mut self.lines[place];
-        match line.consumer.pop() {
+        let pair = &mut self.pairs[place];
+        match pair.consumer.pop() {
             Ok(batch) => Some(batch),
             Err(_) => None,
         }
     }
 
-    /// One more line at the end, to a new owner, with room for `room` batches. Gives that owner's
-    /// line. It is refused only if memory runs out.
-    pub(crate) fn connect(&mut self, alloc: Global, room: usize) -> Result<Line, AllocError>
+    /// Two more rings at the end, to a new owner and from it, with room for `room` batches each. Gives
+    /// that owner's ends of them. It is refused only if memory runs out.
+    pub(crate) fn connect(&mut self, alloc: Global, room: usize) -> Result<RingPair, AllocError>
         ensures { IfOk result (λ theirs. Connected room self.old self.new theirs) }
     {
         let (out, theirs_in) = RingBuffer::new(alloc, room)?;
         let (theirs_out, back) = RingBuffer::new(alloc, room)?;
-        self.lines.push(Line {
+        self.pairs.push(RingPair {
             producer: out,
             consumer: back,
         })?;
-        Ok(Line {
+        Ok(RingPair {
             producer: theirs_out,
             consumer: theirs_in,
         })
@@ -105,21 +105,21 @@ impl Ends {
     {
         let place = seat(self.owner, other.owner);
         let their_place = seat(other.owner, self.owner);
-        let mine = &mut self.lines[place];
-        mine.look_beside(&mut other.lines[their_place])
+        let mine = &mut self.pairs[place];
+        mine.look_beside(&mut other.pairs[their_place])
     }
 }
 
-impl Line {
+impl RingPair {
     ghost use Rattle.std.specs.Prelude.{◌≡◌, ◌++◌, [], Some, IsTrue, ◌↔◌};
     ghost use Rattle.rtrb.specs.Ring.{sent, received, known_items};
-    ghost use Rattle.awari_lines.specs.Lines.{PairedOn, LineLooked};
+    ghost use Rattle.awari_lines.specs.Rings.{PairedOn, PairLooked};
 
     /// Looks at both rings. True if nothing waits on them.
-    fn look_beside(&mut self, other: &mut Line) -> bool
+    fn look_beside(&mut self, other: &mut RingPair) -> bool
         requires { PairedOn (Some self.old) (Some other.old) }
-        ensures here { LineLooked self.old self.new }
-        ensures there { LineLooked other.old other.new }
+        ensures here { PairLooked self.old self.new }
+        ensures there { PairLooked other.old other.new }
         ensures exact_here { received self.new.consumer ++ known_items self.new.consumer ≡ sent other.new.producer }
         ensures exact_there { received other.new.consumer ++ known_items other.new.consumer ≡ sent self.new.producer }
         ensures flag { IsTrue result ↔ ((known_items self.new.consumer ≡ []) × (known_items other.new.consumer ≡ [])) }
@@ -133,7 +133,7 @@ impl Line {
 ghost use Rattle.std.specs.Prelude.{◌≡◌, ◌≢◌};
 ghost use Rattle.awari_lines.specs.Seats.{seat_of};
 
-/// The place of the line to another owner.
+/// The place of the rings between an owner and another one.
 fn seat(own: u8, other: u8) -> usize
     requires { other ≢ own }
     ensures { result ≡ seat_of own other }
