@@ -11,7 +11,7 @@ use lib.Seq.{get_or-take}
 use Rattle.awari_block.specs.declared.cells.Cell.{Cell}
 use Rattle.awari_block.specs.declared.cells.Mark.{Mark}
 use Rattle.awari_block.specs.declared.cells.Mark.TheVariants as mark
-use Rattle.awari_block.specs.declared.places.Place.{Place}
+use Rattle.awari_block.specs.declared.stakes.Stake.{Stake}
 use Rattle.awari_block.specs.Awaited.{AwaitsNoMore, MayOpen, NoneAwait, TellAwaited}
 use Rattle.awari_block.specs.Blocks.{Due, no_cell}
 use Rattle.awari_block.specs.Boards.{OpensCells}
@@ -63,22 +63,22 @@ awaited_put n i cells gains c inside no_more tell = record {
   ];
 }
 
--- boards that do not await the gain of the place stay as they are
-module _ (place : Place) (cells : List Cell) (fresh : List Due) (awaits : List ℕ) (tell : TellAwaited place.level cells awaits) (part : Part) (view : part_of place cells fresh ≡ part) (from : ℕ) where
-  opens_none : (to : ℕ) → NoneAwait place.gain awaits from to → OpensCells part part from to
+-- boards that do not await the gain of the stake stay as they are
+module _ (stake : Stake) (start : ℕ) (cells : List Cell) (fresh : List Due) (awaits : List ℕ) (tell : TellAwaited stake.level cells awaits) (part : Part) (view : part_of stake start cells fresh ≡ part) (from : ℕ) where
+  opens_none : (to : ℕ) → NoneAwait stake.gain awaits from to → OpensCells part part from to
   opens_none to none =
       subst (λ (p : Part). OpensCells p p from to) view
-      (opens_still (part_of place cells fresh) (part_of place cells fresh) from to
-      (λ k inside low high. still (get_or cells k no_cell) place.level place.gain (λ may. none k (let many = tell.boards in omega (arith, many, inside)) low high (tell.only k place.gain inside may))))
+      (opens_still (part_of stake start cells fresh) (part_of stake start cells fresh) from to
+      (λ k inside low high. still (get_or cells k no_cell) stake.level stake.gain (λ may. none k (let many = tell.boards in omega (arith, many, inside)) low high (tell.only k stake.gain inside may))))
 
   same : length awaits ≡ length part.cells
   same = tell.boards ∙ ap (λ (p : Part). length p.cells) view
 
-  pub awaiting_some : (o : Option ℕ) → IfSome o (λ i. (from ≤ i) × (i < length awaits) × NoneAwait place.gain awaits from i) → IfSome o (λ i. (from ≤ i) × (i < length part.cells) × OpensCells part part from i)
+  pub awaiting_some : (o : Option ℕ) → IfSome o (λ i. (from ≤ i) × (i < length awaits) × NoneAwait stake.gain awaits from i) → IfSome o (λ i. (from ≤ i) × (i < length part.cells) × OpensCells part part from i)
   awaiting_some None found = tt
   awaiting_some (Some i) (later, inside, none) = (later, (let many = same in omega (arith, many, inside)), opens_none i none)
 
-  pub awaiting_none : (o : Option ℕ) → IfNone o (NoneAwait place.gain awaits from (length awaits)) → IfNone o (OpensCells part part from (length part.cells))
+  pub awaiting_none : (o : Option ℕ) → IfNone o (NoneAwait stake.gain awaits from (length awaits)) → IfNone o (OpensCells part part from (length part.cells))
   awaiting_none None none = subst (λ n. OpensCells part part from n) same (opens_none (length awaits) none)
   awaiting_none (Some i) found = tt
 

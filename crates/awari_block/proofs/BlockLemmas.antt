@@ -11,7 +11,7 @@ use Rattle.std.proofs.Math.ListN.{get_or-eq_default}
 use Rattle.std.specs.List.Sorted.{IsPermutation}
 use Rattle.awari_block.specs.declared.cells.Cell.{Cell}
 use Rattle.awari_block.specs.Cells.{is_settled, Fits, IsEither, IsTimely, Keeps}
-use Rattle.awari_block.specs.declared.places.Place.{Place}
+use Rattle.awari_block.specs.declared.stakes.Stake.{Stake}
 use Rattle.awari_block.specs.Blocks.{Due, due_rank, due_dist, no_cell, cell_in, is_settled_in, times_due, unsettled, IsDueAs, IsBlock, JoinNewlySettled}
 
 abbrev pub one_if : Bool → ℕ
@@ -110,99 +110,99 @@ settled_inside start cells r e = let (low, settled) = parts start r (is_settled 
     ]
 
 -- the cell of a fresh board may change while it is kept
-kept_due : (place : Place) (f : Due) (a b : Cell) → b.score ≡ a.score → b.dist ≡ a.dist → IsDueAs place f a → IsDueAs place f b
-kept_due place f a b score dist due = record {
+kept_due : (stake : Stake) (f : Due) (a b : Cell) → b.score ≡ a.score → b.dist ≡ a.dist → IsDueAs stake f a → IsDueAs stake f b
+kept_due stake f a b score dist due = record {
   near = dist ∙ due.near;
   timely = let t = due.timely in omega (arith, dist);
-  valued = subst (IsEither place.gain) (sym score) due.valued;
+  valued = subst (IsEither stake.gain) (sym score) due.valued;
 }
 
-module _ (place : Place) (cells : List Cell) (fresh : List Due) (rank : ℕ) (c : Cell) (low : place.start ≤ rank) (high : rank - place.start < length cells)
-    (sound : IsBlock place cells fresh) where
+module _ (stake : Stake) (start : ℕ) (cells : List Cell) (fresh : List Due) (rank : ℕ) (c : Cell) (low : start ≤ rank) (high : rank - start < length cells)
+    (sound : IsBlock stake start cells fresh) where
   -- the cells of the fresh boards stay
-  due_still : Keeps (cell_in place.start cells rank) c → All (λ (f : Due). IsDueAs place f (cell_in place.start (set cells (rank - place.start) c) (due_rank f))) fresh
+  due_still : Keeps (cell_in start cells rank) c → All (λ (f : Due). IsDueAs stake f (cell_in start (set cells (rank - start) c) (due_rank f))) fresh
   due_still keeps =
-      All-from_recursion _ fresh (all_both (λ (f : Due). is_settled_in place.start cells (due_rank f) ≡ true) (λ (f : Due). IsDueAs place f (cell_in place.start cells (due_rank f))) _ fresh one
-      (due_settled (is_settled_in place.start cells) fresh sound.settled) (recursion_from_All _ fresh sound.due))
+      All-from_recursion _ fresh (all_both (λ (f : Due). is_settled_in start cells (due_rank f) ≡ true) (λ (f : Due). IsDueAs stake f (cell_in start cells (due_rank f))) _ fresh one
+      (due_settled (is_settled_in start cells) fresh sound.settled) (recursion_from_All _ fresh sound.due))
     where
-      one : (f : Due) → is_settled_in place.start cells (due_rank f) ≡ true → IsDueAs place f (cell_in place.start cells (due_rank f))
-          → IsDueAs place f (cell_in place.start (set cells (rank - place.start) c) (due_rank f))
+      one : (f : Due) → is_settled_in start cells (due_rank f) ≡ true → IsDueAs stake f (cell_in start cells (due_rank f))
+          → IsDueAs stake f (cell_in start (set cells (rank - start) c) (due_rank f))
       one f settled due =
-          let inside = settled_inside place.start cells (due_rank f) settled in
+          let inside = settled_inside start cells (due_rank f) settled in
           elim (cases_eq (due_rank f) rank) [
             | inl same ↦
-                let was : is_settled (cell_in place.start cells rank).mark ≡ true = subst (λ r. is_settled (cell_in place.start cells r).mark ≡ true) same inside.2 in
+                let was : is_settled (cell_in start cells rank).mark ≡ true = subst (λ r. is_settled (cell_in start cells r).mark ≡ true) same inside.2 in
                 let kept = keeps was in
-                subst (λ r. IsDueAs place f (cell_in place.start (set cells (rank - place.start) c) r)) (sym same)
-                (subst (IsDueAs place f) (sym (cell_in-same place.start cells rank c high))
-                (kept_due place f (cell_in place.start cells rank) c kept.1 kept.2 (subst (λ r. IsDueAs place f (cell_in place.start cells r)) same due)))
-            | inr other ↦ subst (IsDueAs place f) (sym (cell_in-other place.start cells rank (due_rank f) c low inside.0 other)) due
+                subst (λ r. IsDueAs stake f (cell_in start (set cells (rank - start) c) r)) (sym same)
+                (subst (IsDueAs stake f) (sym (cell_in-same start cells rank c high))
+                (kept_due stake f (cell_in start cells rank) c kept.1 kept.2 (subst (λ r. IsDueAs stake f (cell_in start cells r)) same due)))
+            | inr other ↦ subst (IsDueAs stake f) (sym (cell_in-other start cells rank (due_rank f) c low inside.0 other)) due
           ]
 
   -- a cell that is not newly settled
-  pub put_kept : Fits place c → Keeps (cell_in place.start cells rank) c → is_settled c.mark ≡ is_settled (cell_in place.start cells rank).mark
-      → IsBlock place (set cells (rank - place.start) c) fresh
+  pub put_kept : Fits stake c → Keeps (cell_in start cells rank) c → is_settled c.mark ≡ is_settled (cell_in start cells rank).mark
+      → IsBlock stake start (set cells (rank - start) c) fresh
   put_kept fits keeps same = record {
-    fit = All-set (Fits place) cells (rank - place.start) c fits sound.fit;
+    fit = All-set (Fits stake) cells (rank - start) c fits sound.fit;
     settled = λ r. elim (cases_eq r rank) [
       | inl here ↦
-          subst (λ z. times_due fresh z ≤ (if is_settled_in place.start (set cells (rank - place.start) c) z then 1 else 0)) (sym here)
-          (subst (λ z. times_due fresh rank ≤ (if z then 1 else 0)) (is_settled_in-here place.start cells rank low ∙ sym same ∙ sym (is_settled_in-same place.start cells rank c low high)) (sound.settled rank))
-      | inr other ↦ subst (λ z. times_due fresh r ≤ (if z then 1 else 0)) (sym (is_settled_in-other place.start cells rank r c low other)) (sound.settled r)
+          subst (λ z. times_due fresh z ≤ (if is_settled_in start (set cells (rank - start) c) z then 1 else 0)) (sym here)
+          (subst (λ z. times_due fresh rank ≤ (if z then 1 else 0)) (is_settled_in-here start cells rank low ∙ sym same ∙ sym (is_settled_in-same start cells rank c low high)) (sound.settled rank))
+      | inr other ↦ subst (λ z. times_due fresh r ≤ (if z then 1 else 0)) (sym (is_settled_in-other start cells rank r c low other)) (sound.settled r)
     ];
     due = due_still keeps;
   }
 
   -- a newly settled cell, whose board joins the fresh
-  pub put_joined : (f : Due) (after : List Due) → Fits place c → IsTimely place c → Keeps (cell_in place.start cells rank) c → is_settled c.mark ≡ true → is_settled (cell_in place.start cells rank).mark ≡ false
+  pub put_joined : (f : Due) (after : List Due) → Fits stake c → IsTimely stake c → Keeps (cell_in start cells rank) c → is_settled c.mark ≡ true → is_settled (cell_in start cells rank).mark ≡ false
       → due_rank f ≡ rank → due_dist f ≡ c.dist → IsPermutation (f ∷ fresh) after
-      → IsBlock place (set cells (rank - place.start) c) after
+      → IsBlock stake start (set cells (rank - start) c) after
   put_joined f after fits timely keeps new old at dist moved = record {
-    fit = All-set (Fits place) cells (rank - place.start) c fits sound.fit;
+    fit = All-set (Fits stake) cells (rank - start) c fits sound.fit;
     settled = λ r. elim (cases_eq r rank) [
       | inl here ↦
-          let none = subst (λ z. times_due fresh rank ≤ (if z then 1 else 0)) (is_settled_in-here place.start cells rank low ∙ old) (sound.settled rank) in
+          let none = subst (λ z. times_due fresh rank ≤ (if z then 1 else 0)) (is_settled_in-here start cells rank low ∙ old) (sound.settled rank) in
           let count = times_due-permuted (f ∷ fresh) after rank moved ∙ times_due-cons f fresh rank in
           let one : one_if (due_rank f == rank) ≡ 1 = subst (λ z. one_if (z == rank) ≡ 1) (sym at) (ap one_if (eqb_self rank)) in
-          subst (λ z. times_due after z ≤ (if is_settled_in place.start (set cells (rank - place.start) c) z then 1 else 0)) (sym here)
-          (subst (λ z. times_due after rank ≤ (if z then 1 else 0)) (sym (is_settled_in-same place.start cells rank c low high ∙ new)) (omega (arith, none, count, one)))
+          subst (λ z. times_due after z ≤ (if is_settled_in start (set cells (rank - start) c) z then 1 else 0)) (sym here)
+          (subst (λ z. times_due after rank ≤ (if z then 1 else 0)) (sym (is_settled_in-same start cells rank c low high ∙ new)) (omega (arith, none, count, one)))
       | inr other ↦
           let count = times_due-permuted (f ∷ fresh) after r moved ∙ times_due-cons f fresh r in
           let none : one_if (due_rank f == r) ≡ 0 = subst (λ z. one_if (z == r) ≡ 0) (sym at) (ap one_if (eqb_apart rank r (λ e. other (sym e)))) in
-          subst (λ z. times_due after r ≤ (if z then 1 else 0)) (sym (is_settled_in-other place.start cells rank r c low other)) (omega (arith, count, none, sound.settled r))
+          subst (λ z. times_due after r ≤ (if z then 1 else 0)) (sym (is_settled_in-other start cells rank r c low other)) (omega (arith, count, none, sound.settled r))
     ];
-    due = All-permutation (λ (g : Due). IsDueAs place g (cell_in place.start (set cells (rank - place.start) c) (due_rank g))) (f ∷ fresh) after moved
-        (All-cons (λ (g : Due). IsDueAs place g (cell_in place.start (set cells (rank - place.start) c) (due_rank g))) f fresh
-        (subst (λ r. IsDueAs place f (cell_in place.start (set cells (rank - place.start) c) r)) (sym at)
-        (subst (IsDueAs place f) (sym (cell_in-same place.start cells rank c high)) (record { near = sym dist; timely = timely.1; valued = timely.0 })))
+    due = All-permutation (λ (g : Due). IsDueAs stake g (cell_in start (set cells (rank - start) c) (due_rank g))) (f ∷ fresh) after moved
+        (All-cons (λ (g : Due). IsDueAs stake g (cell_in start (set cells (rank - start) c) (due_rank g))) f fresh
+        (subst (λ r. IsDueAs stake f (cell_in start (set cells (rank - start) c) r)) (sym at)
+        (subst (IsDueAs stake f) (sym (cell_in-same start cells rank c high)) (record { near = sym dist; timely = timely.1; valued = timely.0 })))
         (due_still keeps));
   }
 
   -- the fresh boards gain the newly settled board
-  pub put_joins : (after : List Due) → Keeps (cell_in place.start cells rank) c → Joins (cell_in place.start cells rank) c rank fresh after
-      → JoinNewlySettled place.start cells fresh (set cells (rank - place.start) c) after
-  put_joins after keeps joins r = by (is_settled c.mark) (is_settled (cell_in place.start cells rank).mark) refl refl joins
+  pub put_joins : (after : List Due) → Keeps (cell_in start cells rank) c → Joins (cell_in start cells rank) c rank fresh after
+      → JoinNewlySettled start cells fresh (set cells (rank - start) c) after
+  put_joins after keeps joins r = by (is_settled c.mark) (is_settled (cell_in start cells rank).mark) refl refl joins
     where
-      here : is_settled_in place.start (set cells (rank - place.start) c) rank ≡ is_settled c.mark
-      here = is_settled_in-same place.start cells rank c low high
+      here : is_settled_in start (set cells (rank - start) c) rank ≡ is_settled c.mark
+      here = is_settled_in-same start cells rank c low high
 
-      there : r ≢ rank → is_settled_in place.start (set cells (rank - place.start) c) r ≡ is_settled_in place.start cells r
-      there other = is_settled_in-other place.start cells rank r c low other
+      there : r ≢ rank → is_settled_in start (set cells (rank - start) c) r ≡ is_settled_in start cells r
+      there other = is_settled_in-other start cells rank r c low other
 
-      same_marks : (after ≡ fresh) → is_settled c.mark ≡ is_settled (cell_in place.start cells rank).mark
-          → times_due after r + one_if (is_settled_in place.start cells r) ≡ times_due fresh r + one_if (is_settled_in place.start (set cells (rank - place.start) c) r)
+      same_marks : (after ≡ fresh) → is_settled c.mark ≡ is_settled (cell_in start cells rank).mark
+          → times_due after r + one_if (is_settled_in start cells r) ≡ times_due fresh r + one_if (is_settled_in start (set cells (rank - start) c) r)
       same_marks e marks = let count = ap (λ (l : List Due). times_due l r) e in omega (arith, count, settled)
         where
-          settled : one_if (is_settled_in place.start cells r) ≡ one_if (is_settled_in place.start (set cells (rank - place.start) c) r)
+          settled : one_if (is_settled_in start cells r) ≡ one_if (is_settled_in start (set cells (rank - start) c) r)
           settled = elim (cases_eq r rank) [
             | inl same ↦
-                subst (λ z. one_if (is_settled_in place.start cells z) ≡ one_if (is_settled_in place.start (set cells (rank - place.start) c) z)) (sym same)
-                (ap one_if (is_settled_in-here place.start cells rank low ∙ sym marks ∙ sym here))
+                subst (λ z. one_if (is_settled_in start cells z) ≡ one_if (is_settled_in start (set cells (rank - start) c) z)) (sym same)
+                (ap one_if (is_settled_in-here start cells rank low ∙ sym marks ∙ sym here))
             | inr other ↦ ap one_if (sym (there other))
           ]
 
-      by : (a b : Bool) → is_settled c.mark ≡ a → is_settled (cell_in place.start cells rank).mark ≡ b → JoinsIf (is_settled c.mark && not (is_settled (cell_in place.start cells rank).mark)) c rank fresh after
-          → times_due after r + one_if (is_settled_in place.start cells r) ≡ times_due fresh r + one_if (is_settled_in place.start (set cells (rank - place.start) c) r)
+      by : (a b : Bool) → is_settled c.mark ≡ a → is_settled (cell_in start cells rank).mark ≡ b → JoinsIf (is_settled c.mark && not (is_settled (cell_in start cells rank).mark)) c rank fresh after
+          → times_due after r + one_if (is_settled_in start cells r) ≡ times_due fresh r + one_if (is_settled_in start (set cells (rank - start) c) r)
       by true true ea eb j = same_marks (subst₂ (λ x y. JoinsIf (x && not y) c rank fresh after) ea eb j) (ea ∙ sym eb)
       by false true ea eb j = absurd (false≢true (sym ea ∙ subst is_settled_by (sym (keeps eb).0) eb))
         where
@@ -214,12 +214,12 @@ module _ (place : Place) (cells : List Cell) (fresh : List Due) (rank : ℕ) (c 
           at joined.0 joined.1 (times_due-permuted (joined.0 ∷ fresh) after r joined.3 ∙ times_due-cons joined.0 fresh r)
         where
           at : (f : Due) → due_rank f ≡ rank → times_due after r ≡ one_if (due_rank f == r) + times_due fresh r
-              → times_due after r + one_if (is_settled_in place.start cells r) ≡ times_due fresh r + one_if (is_settled_in place.start (set cells (rank - place.start) c) r)
+              → times_due after r + one_if (is_settled_in start cells r) ≡ times_due fresh r + one_if (is_settled_in start (set cells (rank - start) c) r)
           at f e count = elim (cases_eq r rank) [
             | inl same ↦
                 let one : one_if (due_rank f == r) ≡ 1 = subst₂ (λ x y. one_if (x == y) ≡ 1) (sym e) (sym same) (ap one_if (eqb_self rank)) in
-                let was : one_if (is_settled_in place.start cells r) ≡ 0 = subst (λ z. one_if (is_settled_in place.start cells z) ≡ 0) (sym same) (ap one_if (is_settled_in-here place.start cells rank low ∙ eb)) in
-                let is : one_if (is_settled_in place.start (set cells (rank - place.start) c) r) ≡ 1 = subst (λ z. one_if (is_settled_in place.start (set cells (rank - place.start) c) z) ≡ 1) (sym same) (ap one_if (here ∙ ea)) in
+                let was : one_if (is_settled_in start cells r) ≡ 0 = subst (λ z. one_if (is_settled_in start cells z) ≡ 0) (sym same) (ap one_if (is_settled_in-here start cells rank low ∙ eb)) in
+                let is : one_if (is_settled_in start (set cells (rank - start) c) r) ≡ 1 = subst (λ z. one_if (is_settled_in start (set cells (rank - start) c) z) ≡ 1) (sym same) (ap one_if (here ∙ ea)) in
                 omega (arith, one, was, is, count)
             | inr other ↦
                 let none : one_if (due_rank f == r) ≡ 0 = subst (λ x. one_if (x == r) ≡ 0) (sym e) (ap one_if (eqb_apart rank r (λ same. other (sym same)))) in
@@ -237,14 +237,14 @@ put_unspread start cells fresh after rank c high step =
 -- ---- the first of the fresh boards
 
 -- it is a settled board of the block, with its distance
-pub first_due : (place : Place) (cells : List Cell) (fresh rest : List Due) (f : Due) → IsBlock place cells fresh → IsPermutation (f ∷ rest) fresh
-    → (place.start ≤ due_rank f) × (due_rank f - place.start < length cells) × IsDueAs place f (cell_in place.start cells (due_rank f)) × (0 < times_due fresh (due_rank f))
-    × (is_settled (cell_in place.start cells (due_rank f)).mark ≡ true)
-first_due place cells fresh rest f sound moved =
-    let inside = settled_inside place.start cells (due_rank f) (settled (is_settled_in place.start cells (due_rank f)) (sound.settled (due_rank f))) in (
+pub first_due : (stake : Stake) (start : ℕ) (cells : List Cell) (fresh rest : List Due) (f : Due) → IsBlock stake start cells fresh → IsPermutation (f ∷ rest) fresh
+    → (start ≤ due_rank f) × (due_rank f - start < length cells) × IsDueAs stake f (cell_in start cells (due_rank f)) × (0 < times_due fresh (due_rank f))
+    × (is_settled (cell_in start cells (due_rank f)).mark ≡ true)
+first_due stake start cells fresh rest f sound moved =
+    let inside = settled_inside start cells (due_rank f) (settled (is_settled_in start cells (due_rank f)) (sound.settled (due_rank f))) in (
       inside.0,
       inside.1,
-      (All-permutation (λ (g : Due). IsDueAs place g (cell_in place.start cells (due_rank g))) fresh (f ∷ rest) (IsPermutation-sym (f ∷ rest) fresh moved) sound.due) 0 f (omega arith),
+      (All-permutation (λ (g : Due). IsDueAs stake g (cell_in start cells (due_rank g))) fresh (f ∷ rest) (IsPermutation-sym (f ∷ rest) fresh moved) sound.due) 0 f (omega arith),
       often,
       inside.2,
     )
@@ -261,12 +261,12 @@ first_due place cells fresh rest f sound moved =
     settled false most = absurd (omega (arith, most, often))
 
 -- the others, once it is taken
-pub popped : (place : Place) (cells : List Cell) (fresh rest : List Due) (f : Due) → IsBlock place cells fresh → IsPermutation (f ∷ rest) fresh → IsBlock place cells rest
-popped place cells fresh rest f sound moved = record {
+pub popped : (stake : Stake) (start : ℕ) (cells : List Cell) (fresh rest : List Due) (f : Due) → IsBlock stake start cells fresh → IsPermutation (f ∷ rest) fresh → IsBlock stake start cells rest
+popped stake start cells fresh rest f sound moved = record {
   fit = sound.fit;
   settled = λ r. let count = times_due-permuted (f ∷ rest) fresh r moved in let cons = times_due-cons f rest r in omega (arith, sound.settled r, count, cons);
-  due = All-tail (λ (g : Due). IsDueAs place g (cell_in place.start cells (due_rank g))) f rest
-      (All-permutation (λ (g : Due). IsDueAs place g (cell_in place.start cells (due_rank g))) fresh (f ∷ rest) (IsPermutation-sym (f ∷ rest) fresh moved) sound.due);
+  due = All-tail (λ (g : Due). IsDueAs stake g (cell_in start cells (due_rank g))) f rest
+      (All-permutation (λ (g : Due). IsDueAs stake g (cell_in start cells (due_rank g))) fresh (f ∷ rest) (IsPermutation-sym (f ∷ rest) fresh moved) sound.due);
 }
 
 -- what is settled stays so, over two steps

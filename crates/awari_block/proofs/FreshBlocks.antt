@@ -12,7 +12,7 @@ use Rattle.std.specs.Prelude.{IfSome}
 use Rattle.awari_block.specs.Part.{Part, InBlock, IsLeastDue, part_of, settled_at}
 use Rattle.awari_block.specs.declared.cells.Cell.{Cell}
 use Rattle.awari_block.specs.declared.fresh.Fresh.{Fresh}
-use Rattle.awari_block.specs.declared.places.Place.{Place}
+use Rattle.awari_block.specs.declared.stakes.Stake.{Stake}
 use Rattle.awari_block.specs.Cells.{is_settled, Keeps}
 use Rattle.awari_block.specs.Blocks.{Due, cell_in, due_dist, due_rank, no_cell, IsBlock, IsDueAs}
 use Rattle.awari_block.specs.Fresh.{dist_at, due_of, fresh_of, is_marked, marked_of, nearest_of, AreMarked, IsFirst, IsFresh, IsNext, MarksOne, UnmarksOne}
@@ -64,48 +64,48 @@ fresh_among start cells words b marked inside = (
         apart : (x y : ℕ) → x ≢ y → (x == y) ≡ false
         apart x y h = grind (arith, nat_tests)
 
-module _ (place : Place) (cells : List Cell) (fresh : Fresh) (sound : IsBlock place cells (fresh_of place.start cells fresh)) (marks : IsFresh place.wave cells fresh) where
+module _ (stake : Stake) (start : ℕ) (cells : List Cell) (fresh : Fresh) (sound : IsBlock stake start cells (fresh_of start cells fresh)) (marks : IsFresh stake.wave cells fresh) where
   -- a marked board is settled
   pub marked_settled : (k : ℕ) → is_marked fresh.words.items k ≡ true → is_settled (get_or cells k no_cell).mark ≡ true
   marked_settled k marked =
-      let among = fresh_among place.start cells fresh.words.items k marked (marks.marked.inside k marked) in
-      let settled = (first_due place cells (fresh_of place.start cells fresh) among.0 (dist_at cells k, place.start + k) sound among.1).4 in
-      let at : place.start + k - place.start ≡ k = omega arith in
+      let among = fresh_among start cells fresh.words.items k marked (marks.marked.inside k marked) in
+      let settled = (first_due stake start cells (fresh_of start cells fresh) among.0 (dist_at cells k, start + k) sound among.1).4 in
+      let at : start + k - start ≡ k = omega arith in
       subst (λ n. is_settled (get_or cells n no_cell).mark ≡ true) at settled
 
-  module _ (rank : ℕ) (c : Cell) (low : place.start ≤ rank) (high : rank - place.start < length cells) (keeps : Keeps (cell_in place.start cells rank) c) where
+  module _ (rank : ℕ) (c : Cell) (low : start ≤ rank) (high : rank - start < length cells) (keeps : Keeps (cell_in start cells rank) c) where
     -- a marked board keeps its distance
-    same_dist : (k : ℕ) → is_marked fresh.words.items k ≡ true → dist_at (set cells (rank - place.start) c) k ≡ dist_at cells k
-    same_dist k marked = elim (cases_eq k (rank - place.start)) [
+    same_dist : (k : ℕ) → is_marked fresh.words.items k ≡ true → dist_at (set cells (rank - start) c) k ≡ dist_at cells k
+    same_dist k marked = elim (cases_eq k (rank - start)) [
       | inl same ↦
-          let was : is_settled (cell_in place.start cells rank).mark ≡ true = subst (λ n. is_settled (get_or cells n no_cell).mark ≡ true) same (marked_settled k marked) in
-          ap (dist_at (set cells (rank - place.start) c)) same ∙ ap (λ (d : Cell). d.dist) (get_or-set_same cells (rank - place.start) c no_cell high) ∙ (keeps was).2 ∙ ap (dist_at cells) (sym same)
-      | inr other ↦ ap (λ (d : Cell). d.dist) (get_or-set_other cells (rank - place.start) k c no_cell other)
+          let was : is_settled (cell_in start cells rank).mark ≡ true = subst (λ n. is_settled (get_or cells n no_cell).mark ≡ true) same (marked_settled k marked) in
+          ap (dist_at (set cells (rank - start) c)) same ∙ ap (λ (d : Cell). d.dist) (get_or-set_same cells (rank - start) c no_cell high) ∙ (keeps was).2 ∙ ap (dist_at cells) (sym same)
+      | inr other ↦ ap (λ (d : Cell). d.dist) (get_or-set_other cells (rank - start) k c no_cell other)
     ]
 
-    pub put_marks : IsFresh place.wave (set cells (rank - place.start) c) fresh
-    put_marks = still_fresh place.wave cells (set cells (rank - place.start) c) fresh (length-set cells (rank - place.start) c) same_dist marks
+    pub put_marks : IsFresh stake.wave (set cells (rank - start) c) fresh
+    put_marks = still_fresh stake.wave cells (set cells (rank - start) c) fresh (length-set cells (rank - start) c) same_dist marks
 
-    pub put_same : fresh_of place.start (set cells (rank - place.start) c) fresh ≡ fresh_of place.start cells fresh
-    put_same = fresh_same place.start cells (set cells (rank - place.start) c) fresh.words.items (length-set cells (rank - place.start) c) same_dist
+    pub put_same : fresh_of start (set cells (rank - start) c) fresh ≡ fresh_of start cells fresh
+    put_same = fresh_same start cells (set cells (rank - start) c) fresh.words.items (length-set cells (rank - start) c) same_dist
 
-    module _ (open_mark : is_settled (cell_in place.start cells rank).mark ≡ false) where
+    module _ (open_mark : is_settled (cell_in start cells rank).mark ≡ false) where
       -- a board that is not settled is not marked
-      pub put_unmarked : is_marked fresh.words.items (rank - place.start) ≡ false
-      put_unmarked = by (is_marked fresh.words.items (rank - place.start)) refl
+      pub put_unmarked : is_marked fresh.words.items (rank - start) ≡ false
+      put_unmarked = by (is_marked fresh.words.items (rank - start)) refl
         where
-          by : (b : Bool) → is_marked fresh.words.items (rank - place.start) ≡ b → is_marked fresh.words.items (rank - place.start) ≡ false
+          by : (b : Bool) → is_marked fresh.words.items (rank - start) ≡ b → is_marked fresh.words.items (rank - start) ≡ false
           by false e = e
-          by true e = absurd (false≢true (sym open_mark ∙ marked_settled (rank - place.start) e))
+          by true e = absurd (false≢true (sym open_mark ∙ marked_settled (rank - start) e))
 
       -- it joins them
-      pub put_permuted : (new : List ℕ) → MarksOne (rank - place.start) fresh.words.items new
-          → IsPermutation ((c.dist, place.start + (rank - place.start)) ∷ fresh_of place.start cells fresh) (due_of place.start (set cells (rank - place.start) c) new)
+      pub put_permuted : (new : List ℕ) → MarksOne (rank - start) fresh.words.items new
+          → IsPermutation ((c.dist, start + (rank - start)) ∷ fresh_of start cells fresh) (due_of start (set cells (rank - start) c) new)
       put_permuted new one =
-          subst (λ d. IsPermutation ((d, place.start + (rank - place.start)) ∷ fresh_of place.start cells fresh) (due_of place.start (set cells (rank - place.start) c) new))
-          (ap (λ (e : Cell). e.dist) (get_or-set_same cells (rank - place.start) c no_cell high))
-          (fresh_joins place.start cells (set cells (rank - place.start) c) fresh.words.items new (rank - place.start) (length-set cells (rank - place.start) c) high
-          (λ k other. ap (λ (e : Cell). e.dist) (get_or-set_other cells (rank - place.start) k c no_cell other)) put_unmarked one)
+          subst (λ d. IsPermutation ((d, start + (rank - start)) ∷ fresh_of start cells fresh) (due_of start (set cells (rank - start) c) new))
+          (ap (λ (e : Cell). e.dist) (get_or-set_same cells (rank - start) c no_cell high))
+          (fresh_joins start cells (set cells (rank - start) c) fresh.words.items new (rank - start) (length-set cells (rank - start) c) high
+          (λ k other. ap (λ (e : Cell). e.dist) (get_or-set_other cells (rank - start) k c no_cell other)) put_unmarked one)
 
 -- ---- the first
 
@@ -148,73 +148,73 @@ pub record IsDueNow (part : Part) (o : Option ℕ) : Type 0 where
   pub timely : IfSome o (λ dist. part.wave ≤ dist)
   pub settled : IfSome o (λ dist. (rank : ℕ) × (v : ℤ) × InBlock part rank × (settled_at part rank ≡ Some (v, dist)))
 
-module _ (place : Place) (cells : List Cell) (fresh : Fresh) (sound : IsBlock place cells (fresh_of place.start cells fresh)) (marks : IsFresh place.wave cells fresh) where
+module _ (stake : Stake) (start : ℕ) (cells : List Cell) (fresh : Fresh) (sound : IsBlock stake start cells (fresh_of start cells fresh)) (marks : IsFresh stake.wave cells fresh) where
   abbrev seen : Part
-  seen = part_of place cells (fresh_of place.start cells fresh)
+  seen = part_of stake start cells (fresh_of start cells fresh)
 
   -- a marked board is settled, and not nearer than the open wave
-  due_at : (k : ℕ) → is_marked fresh.words.items k ≡ true → IsDueAs place (dist_at cells k, place.start + k) (cell_in place.start cells (place.start + k))
+  due_at : (k : ℕ) → is_marked fresh.words.items k ≡ true → IsDueAs stake (dist_at cells k, start + k) (cell_in start cells (start + k))
   due_at k marked =
-      let among = fresh_among place.start cells fresh.words.items k marked (marks.marked.inside k marked) in
-      (first_due place cells (fresh_of place.start cells fresh) among.0 (dist_at cells k, place.start + k) sound among.1).2
+      let among = fresh_among start cells fresh.words.items k marked (marks.marked.inside k marked) in
+      (first_due stake start cells (fresh_of start cells fresh) among.0 (dist_at cells k, start + k) sound among.1).2
 
-  far_at : (k : ℕ) → is_marked fresh.words.items k ≡ true → place.wave ≤ dist_at cells k
+  far_at : (k : ℕ) → is_marked fresh.words.items k ≡ true → stake.wave ≤ dist_at cells k
   far_at k marked = let due = due_at k marked in let timely = due.timely in let near = due.near in omega (arith, timely, near)
 
   some_due : (k d : ℕ) → is_marked fresh.words.items k ≡ true → dist_at cells k ≡ d → ((j : ℕ) → is_marked fresh.words.items j ≡ true → d ≤ dist_at cells j) → IsDueNow seen (Some d)
   some_due k d marked at least =
       let inside = marks.marked.inside k marked in
-      let among = fresh_among place.start cells fresh.words.items k marked inside in
-      let first = first_due place cells (fresh_of place.start cells fresh) among.0 (dist_at cells k, place.start + k) sound among.1 in
-      let cell = cell_in place.start cells (place.start + k) in
+      let among = fresh_among start cells fresh.words.items k marked inside in
+      let first = first_due stake start cells (fresh_of start cells fresh) among.0 (dist_at cells k, start + k) sound among.1 in
+      let cell = cell_in start cells (start + k) in
       record {
-        least = (any_due place.start cells fresh.words.items k d marked inside at, all_due place.start cells fresh.words.items (λ (f : Due). d ≤ due_dist f) least);
+        least = (any_due start cells fresh.words.items k d marked inside at, all_due start cells fresh.words.items (λ (f : Due). d ≤ due_dist f) least);
         timely = let far = far_at k marked in omega (arith, far, at);
-        settled = (place.start + k, cell.score, (first.0, first.1), settled_cell cell d first.4 (first.2.near ∙ at));
+        settled = (start + k, cell.score, (first.0, first.1), settled_cell cell d first.4 (first.2.near ∙ at));
       }
 
-  pub due_is : IsDueNow seen (nearest_of place.wave fresh.first fresh.next)
+  pub due_is : IsDueNow seen (nearest_of stake.wave fresh.first fresh.next)
   due_is = by fresh.first fresh.next marks.noted.is_first marks.noted.is_next
     where
-      apart : IsFirst fresh.near.items None → (k : ℕ) → is_marked fresh.words.items k ≡ true → dist_at cells k ≢ place.wave
+      apart : IsFirst fresh.near.items None → (k : ℕ) → is_marked fresh.words.items k ≡ true → dist_at cells k ≢ stake.wave
       apart none k marked near = none k ((marks.noted.here k).1 (marked, near))
 
-      by : (first next : Option ℕ) → IsFirst fresh.near.items first → IsNext cells (λ k. is_marked fresh.words.items k ≡ true) place.wave next → IsDueNow seen (nearest_of place.wave first next)
-      by (Some b) next (is, least) others = let both = (marks.noted.here b).0 is in some_due b place.wave both.0 both.1 far_at
+      by : (first next : Option ℕ) → IsFirst fresh.near.items first → IsNext cells (λ k. is_marked fresh.words.items k ≡ true) stake.wave next → IsDueNow seen (nearest_of stake.wave first next)
+      by (Some b) next (is, least) others = let both = (marks.noted.here b).0 is in some_due b stake.wave both.0 both.1 far_at
       by None (Some d) none ((k, marked, off, at), least) = some_due k d marked at (λ j here. later j here (least j here))
         where
-          later : (j : ℕ) → is_marked fresh.words.items j ≡ true → (dist_at cells j ≡ place.wave) ⊎ (d ≤ dist_at cells j) → d ≤ dist_at cells j
+          later : (j : ℕ) → is_marked fresh.words.items j ≡ true → (dist_at cells j ≡ stake.wave) ⊎ (d ≤ dist_at cells j) → d ≤ dist_at cells j
           later j here (inl near) = absurd (apart none j here near)
           later j here (inr more) = more
-      by None None none all = record { least = none_fresh place.start cells fresh.words.items (λ k marked. apart none k marked (all k marked)); timely = tt; settled = tt }
+      by None None none all = record { least = none_fresh start cells fresh.words.items (λ k marked. apart none k marked (all k marked)); timely = tt; settled = tt }
 
   -- where none is of the open wave, none is due there
-  pub none_due : fresh.first ≡ None → Any (λ (f : Due). due_dist f ≡ place.wave) (fresh_of place.start cells fresh) → ⊥
+  pub none_due : fresh.first ≡ None → Any (λ (f : Due). due_dist f ≡ stake.wave) (fresh_of start cells fresh) → ⊥
   none_due none some =
       let clear = subst (IsFirst fresh.near.items) none marks.noted.is_first in
-      let all = all_due place.start cells fresh.words.items (λ (f : Due). due_dist f ≡ place.wave → ⊥) (λ k marked near. clear k ((marks.noted.here k).1 (marked, near))) in
+      let all = all_due start cells fresh.words.items (λ (f : Due). due_dist f ≡ stake.wave → ⊥) (λ k marked near. clear k ((marks.noted.here k).1 (marked, near))) in
       all some.0 some.1 some.2 (ap due_dist some.3 ∙ some.4)
 
   -- where all are farther than the open wave, none is of it
-  pub near_none : (dist : ℕ) → place.wave < dist → All (λ (f : Due). dist ≤ due_dist f) (fresh_of place.start cells fresh) → (k : ℕ) → is_marked fresh.near.items k ≡ true → ⊥
+  pub near_none : (dist : ℕ) → stake.wave < dist → All (λ (f : Due). dist ≤ due_dist f) (fresh_of start cells fresh) → (k : ℕ) → is_marked fresh.near.items k ≡ true → ⊥
   near_none dist farther all k near =
       let both = (marks.noted.here k).0 near in
-      let among = fresh_among place.start cells fresh.words.items k both.0 (marks.marked.inside k both.0) in
-      let far = All-permutation (λ (f : Due). dist ≤ due_dist f) (fresh_of place.start cells fresh) ((dist_at cells k, place.start + k) ∷ among.0) (IsPermutation-sym _ _ among.1) all in
-      let here : dist ≤ dist_at cells k = far 0 (dist_at cells k, place.start + k) (omega arith) in
+      let among = fresh_among start cells fresh.words.items k both.0 (marks.marked.inside k both.0) in
+      let far = All-permutation (λ (f : Due). dist ≤ due_dist f) (fresh_of start cells fresh) ((dist_at cells k, start + k) ∷ among.0) (IsPermutation-sym _ _ among.1) all in
+      let here : dist ≤ dist_at cells k = far 0 (dist_at cells k, start + k) (omega arith) in
       let at = both.1 in
       omega (arith, farther, here, at)
 
   -- where there is none, any distance may be the open one
-  pub fresh_idle : (wave : ℕ) → fresh_of place.start cells fresh ≡ [] → IsFresh wave cells fresh
+  pub fresh_idle : (wave : ℕ) → fresh_of start cells fresh ≡ [] → IsFresh wave cells fresh
   fresh_idle wave none = record {
     marked = marks.marked;
-    noted = noted_idle cells (λ k. is_marked fresh.words.items k ≡ true) place.wave wave fresh.near.items fresh.first fresh.next clear marks.noted;
+    noted = noted_idle cells (λ k. is_marked fresh.words.items k ≡ true) stake.wave wave fresh.near.items fresh.first fresh.next clear marks.noted;
   }
     where
       clear : (k : ℕ) → is_marked fresh.words.items k ≡ true → ⊥
       clear k marked =
-          let among = fresh_among place.start cells fresh.words.items k marked (marks.marked.inside k marked) in
+          let among = fresh_among start cells fresh.words.items k marked (marks.marked.inside k marked) in
           let same = length_permutation _ _ among.1 in
           let zero = ap length none in
           omega (arith, same, zero)
@@ -224,18 +224,18 @@ module _ (place : Place) (cells : List Cell) (fresh : Fresh) (sound : IsBlock pl
     first_is : IsFirst fresh.near.items (Some b)
     first_is = subst (IsFirst fresh.near.items) is marks.noted.is_first
 
-    first_at : (is_marked fresh.words.items b ≡ true) × (dist_at cells b ≡ place.wave)
+    first_at : (is_marked fresh.words.items b ≡ true) × (dist_at cells b ≡ stake.wave)
     first_at = (marks.noted.here b).0 first_is.0
 
     pub first_inside : b < length cells
     first_inside = marks.marked.inside b first_at.0
 
-    pub first_least : All (λ (f : Due). (place.wave ≤ due_dist f) × (due_dist f ≡ place.wave → place.start + b ≤ due_rank f)) (fresh_of place.start cells fresh)
+    pub first_least : All (λ (f : Due). (stake.wave ≤ due_dist f) × (due_dist f ≡ stake.wave → start + b ≤ due_rank f)) (fresh_of start cells fresh)
     first_least =
-        all_due place.start cells fresh.words.items (λ (f : Due). (place.wave ≤ due_dist f) × (due_dist f ≡ place.wave → place.start + b ≤ due_rank f))
+        all_due start cells fresh.words.items (λ (f : Due). (stake.wave ≤ due_dist f) × (due_dist f ≡ stake.wave → start + b ≤ due_rank f))
         (λ k marked. (far_at k marked, λ near. (let low = first_is.1 k ((marks.noted.here k).1 (marked, near)) in omega (arith, low))))
 
-    pub taken_moved : (after : Fresh) → UnmarksOne b fresh.words.items after.words.items → IsPermutation ((place.wave, place.start + b) ∷ fresh_of place.start cells after) (fresh_of place.start cells fresh)
+    pub taken_moved : (after : Fresh) → UnmarksOne b fresh.words.items after.words.items → IsPermutation ((stake.wave, start + b) ∷ fresh_of start cells after) (fresh_of start cells fresh)
     taken_moved after one =
-        subst (λ e. IsPermutation ((e, place.start + b) ∷ fresh_of place.start cells after) (fresh_of place.start cells fresh)) first_at.1
-        (fresh_leaves place.start cells fresh.words.items after.words.items b first_inside first_at.0 one)
+        subst (λ e. IsPermutation ((e, start + b) ∷ fresh_of start cells after) (fresh_of start cells fresh)) first_at.1
+        (fresh_leaves start cells fresh.words.items after.words.items b first_inside first_at.0 one)

@@ -29,31 +29,31 @@ filter_same p q (suc n) a same =
 swap_first : {X : Type 0} (x y : X) (xs : List X) → IsPermutation (x ∷ y ∷ xs) (y ∷ x ∷ xs)
 swap_first x y xs = IsPermutation-middle (x ∷ []) y xs
 
--- one more place that is let through
-pub filter_joins : (p q : ℕ → Bool) (place : ℕ) → p place ≡ false → q place ≡ true → ((k : ℕ) → k ≢ place → q k ≡ p k) → (n a : ℕ) → a ≤ place → place < a + n
-    → IsPermutation (place ∷ filter p (range_with_len a n)) (filter q (range_with_len a n))
-filter_joins p q place was is others zero a low high = absurd (omega (arith, low, high))
-filter_joins p q place was is others (suc n) a low high = elim (cases_eq a place) [
+-- one more index that is let through
+pub filter_joins : (p q : ℕ → Bool) (index : ℕ) → p index ≡ false → q index ≡ true → ((k : ℕ) → k ≢ index → q k ≡ p k) → (n a : ℕ) → a ≤ index → index < a + n
+    → IsPermutation (index ∷ filter p (range_with_len a n)) (filter q (range_with_len a n))
+filter_joins p q index was is others zero a low high = absurd (omega (arith, low, high))
+filter_joins p q index was is others (suc n) a low high = elim (cases_eq a index) [
   | inl here ↦
       let rest : filter q (range_with_len (a + 1) n) ≡ filter p (range_with_len (a + 1) n) = filter_same p q n (a + 1) (λ k above below. others k (λ same. absurd (omega (arith, same, above, here)))) in
       let before : filter p (a ∷ range_with_len (a + 1) n) ≡ filter p (range_with_len (a + 1) n) = filter_no p a (range_with_len (a + 1) n) (subst (λ k. p k ≡ false) (sym here) was) in
       let after : filter q (a ∷ range_with_len (a + 1) n) ≡ a ∷ filter q (range_with_len (a + 1) n) = filter_yes q a (range_with_len (a + 1) n) (subst (λ k. q k ≡ true) (sym here) is) in
-      subst (λ (ys : List ℕ). IsPermutation (place ∷ filter p (a ∷ range_with_len (a + 1) n)) ys) (sym (after ∙ ap (λ (xs : List ℕ). a ∷ xs) rest ∙ ap (λ k. k ∷ filter p (range_with_len (a + 1) n)) here))
-      (subst (λ (xs : List ℕ). IsPermutation (place ∷ xs) (place ∷ filter p (range_with_len (a + 1) n))) (sym before) (IsPermutation-refl (place ∷ filter p (range_with_len (a + 1) n))))
+      subst (λ (ys : List ℕ). IsPermutation (index ∷ filter p (a ∷ range_with_len (a + 1) n)) ys) (sym (after ∙ ap (λ (xs : List ℕ). a ∷ xs) rest ∙ ap (λ k. k ∷ filter p (range_with_len (a + 1) n)) here))
+      (subst (λ (xs : List ℕ). IsPermutation (index ∷ xs) (index ∷ filter p (range_with_len (a + 1) n))) (sym before) (IsPermutation-refl (index ∷ filter p (range_with_len (a + 1) n))))
   | inr other ↦
-      let more = filter_joins p q place was is others n (a + 1) (omega (arith, low, other)) (omega (arith, high)) in
+      let more = filter_joins p q index was is others n (a + 1) (omega (arith, low, other)) (omega (arith, high)) in
       by (p a) refl (others a other) more
 ]
   where
-    by : (b : Bool) → p a ≡ b → q a ≡ p a → IsPermutation (place ∷ filter p (range_with_len (a + 1) n)) (filter q (range_with_len (a + 1) n))
-        → IsPermutation (place ∷ filter p (a ∷ range_with_len (a + 1) n)) (filter q (a ∷ range_with_len (a + 1) n))
+    by : (b : Bool) → p a ≡ b → q a ≡ p a → IsPermutation (index ∷ filter p (range_with_len (a + 1) n)) (filter q (range_with_len (a + 1) n))
+        → IsPermutation (index ∷ filter p (a ∷ range_with_len (a + 1) n)) (filter q (a ∷ range_with_len (a + 1) n))
     by true e same more =
-        subst (λ (ys : List ℕ). IsPermutation (place ∷ filter p (a ∷ range_with_len (a + 1) n)) ys) (sym (filter_yes q a (range_with_len (a + 1) n) (same ∙ e)))
-        (subst (λ (xs : List ℕ). IsPermutation (place ∷ xs) (a ∷ filter q (range_with_len (a + 1) n))) (sym (filter_yes p a (range_with_len (a + 1) n) e))
-        (IsPermutation-trans _ _ _ (swap_first place a (filter p (range_with_len (a + 1) n))) (IsPermutation-cons a _ _ more)))
+        subst (λ (ys : List ℕ). IsPermutation (index ∷ filter p (a ∷ range_with_len (a + 1) n)) ys) (sym (filter_yes q a (range_with_len (a + 1) n) (same ∙ e)))
+        (subst (λ (xs : List ℕ). IsPermutation (index ∷ xs) (a ∷ filter q (range_with_len (a + 1) n))) (sym (filter_yes p a (range_with_len (a + 1) n) e))
+        (IsPermutation-trans _ _ _ (swap_first index a (filter p (range_with_len (a + 1) n))) (IsPermutation-cons a _ _ more)))
     by false e same more =
-        subst (λ (ys : List ℕ). IsPermutation (place ∷ filter p (a ∷ range_with_len (a + 1) n)) ys) (sym (filter_no q a (range_with_len (a + 1) n) (same ∙ e)))
-        (subst (λ (xs : List ℕ). IsPermutation (place ∷ xs) (filter q (range_with_len (a + 1) n))) (sym (filter_no p a (range_with_len (a + 1) n) e)) more)
+        subst (λ (ys : List ℕ). IsPermutation (index ∷ filter p (a ∷ range_with_len (a + 1) n)) ys) (sym (filter_no q a (range_with_len (a + 1) n) (same ∙ e)))
+        (subst (λ (xs : List ℕ). IsPermutation (index ∷ xs) (filter q (range_with_len (a + 1) n))) (sym (filter_no p a (range_with_len (a + 1) n) e)) more)
 
 -- where the marked boards keep their distances the fresh ones are the same
 map_same_marked : (p : ℕ → Bool) (f g : ℕ → ℕ × ℕ) (n a : ℕ) → ((k : ℕ) → p k ≡ true → g k ≡ f k) → map g (filter p (range_with_len a n)) ≡ map f (filter p (range_with_len a n))
@@ -73,26 +73,26 @@ fresh_same start cells after words size same =
     ap (λ n. map (λ k. (dist_at after k, start + k)) (filter (is_marked words) (range_with_len 0 n))) size
     ∙ map_same_marked (is_marked words) (λ k. (dist_at cells k, start + k)) (λ k. (dist_at after k, start + k)) (length cells) 0 (λ k marked. ap (λ d. (d, start + k)) (same k marked))
 
--- the board at this place becomes fresh, its cell being put
-pub fresh_joins : (start : ℕ) (cells after : List Cell) (old new : List ℕ) (place : ℕ) → length after ≡ length cells → place < length cells → ((k : ℕ) → k ≢ place → dist_at after k ≡ dist_at cells k)
-    → is_marked old place ≡ false → MarksOne place old new → IsPermutation ((dist_at after place, start + place) ∷ due_of start cells old) (due_of start after new)
-fresh_joins start cells after old new place size inside others was marks =
+-- the board at this index becomes fresh, its cell being put
+pub fresh_joins : (start : ℕ) (cells after : List Cell) (old new : List ℕ) (index : ℕ) → length after ≡ length cells → index < length cells → ((k : ℕ) → k ≢ index → dist_at after k ≡ dist_at cells k)
+    → is_marked old index ≡ false → MarksOne index old new → IsPermutation ((dist_at after index, start + index) ∷ due_of start cells old) (due_of start after new)
+fresh_joins start cells after old new index size inside others was marks =
     let same = fresh_same start cells after old size (λ k marked. others k (λ e. apart k e marked)) in
-    subst (λ (xs : List (ℕ × ℕ)). IsPermutation ((dist_at after place, start + place) ∷ xs) (due_of start after new)) same
-    (IsPermutation-map (λ k. (dist_at after k, start + k)) _ _ (filter_joins (is_marked old) (is_marked new) place was marks.here marks.others (length after) 0 (omega arith) (omega (arith, inside, size))))
+    subst (λ (xs : List (ℕ × ℕ)). IsPermutation ((dist_at after index, start + index) ∷ xs) (due_of start after new)) same
+    (IsPermutation-map (λ k. (dist_at after k, start + k)) _ _ (filter_joins (is_marked old) (is_marked new) index was marks.here marks.others (length after) 0 (omega arith) (omega (arith, inside, size))))
   where
-    apart : (k : ℕ) → k ≡ place → is_marked old k ≡ true → ⊥
-    apart k e marked = both (is_marked old place) was (subst (λ n. is_marked old n ≡ true) e marked)
+    apart : (k : ℕ) → k ≡ index → is_marked old k ≡ true → ⊥
+    apart k e marked = both (is_marked old index) was (subst (λ n. is_marked old n ≡ true) e marked)
       where
         both : (b : Bool) → b ≡ false → b ≡ true → ⊥
         both b x y = grind arith
 
--- the board at this place is fresh no longer
-pub fresh_leaves : (start : ℕ) (cells : List Cell) (old new : List ℕ) (place : ℕ) → place < length cells → is_marked old place ≡ true → UnmarksOne place old new
-    → IsPermutation ((dist_at cells place, start + place) ∷ due_of start cells new) (due_of start cells old)
-fresh_leaves start cells old new place inside was unmarks =
+-- the board at this index is fresh no longer
+pub fresh_leaves : (start : ℕ) (cells : List Cell) (old new : List ℕ) (index : ℕ) → index < length cells → is_marked old index ≡ true → UnmarksOne index old new
+    → IsPermutation ((dist_at cells index, start + index) ∷ due_of start cells new) (due_of start cells old)
+fresh_leaves start cells old new index inside was unmarks =
     IsPermutation-map (λ k. (dist_at cells k, start + k)) _ _
-    (filter_joins (is_marked new) (is_marked old) place unmarks.here was (λ k other. sym (unmarks.others k other)) (length cells) 0 (omega arith) (omega (arith, inside)))
+    (filter_joins (is_marked new) (is_marked old) index unmarks.here was (λ k other. sym (unmarks.others k other)) (length cells) 0 (omega arith) (omega (arith, inside)))
 
 -- where no board is marked none is fresh
 pub filter_none : (p : ℕ → Bool) (n a : ℕ) → ((k : ℕ) → p k ≡ true → ⊥) → filter p (range_with_len a n) ≡ []
@@ -124,11 +124,11 @@ count_most cells words =
     omega (arith, both, all)
 
 -- with one more
-pub count_more : (cells : List Cell) (old new : List ℕ) (place : ℕ) → place < length cells → is_marked old place ≡ false → MarksOne place old new → length (marked_of cells new) ≡ 1 + length (marked_of cells old)
-count_more cells old new place inside was marks =
-    let e = length_permutation _ _ (filter_joins (is_marked old) (is_marked new) place was marks.here marks.others (length cells) 0 (omega arith) (omega (arith, inside))) in omega (arith, e)
+pub count_more : (cells : List Cell) (old new : List ℕ) (index : ℕ) → index < length cells → is_marked old index ≡ false → MarksOne index old new → length (marked_of cells new) ≡ 1 + length (marked_of cells old)
+count_more cells old new index inside was marks =
+    let e = length_permutation _ _ (filter_joins (is_marked old) (is_marked new) index was marks.here marks.others (length cells) 0 (omega arith) (omega (arith, inside))) in omega (arith, e)
 
 -- and with one less
-pub count_less : (cells : List Cell) (old new : List ℕ) (place : ℕ) → place < length cells → is_marked old place ≡ true → UnmarksOne place old new → length (marked_of cells old) ≡ 1 + length (marked_of cells new)
-count_less cells old new place inside was marks =
-    let e = length_permutation _ _ (filter_joins (is_marked new) (is_marked old) place marks.here was (λ k other. sym (marks.others k other)) (length cells) 0 (omega arith) (omega (arith, inside))) in omega (arith, e)
+pub count_less : (cells : List Cell) (old new : List ℕ) (index : ℕ) → index < length cells → is_marked old index ≡ true → UnmarksOne index old new → length (marked_of cells old) ≡ 1 + length (marked_of cells new)
+count_less cells old new index inside was marks =
+    let e = length_permutation _ _ (filter_joins (is_marked new) (is_marked old) index marks.here was (λ k other. sym (marks.others k other)) (length cells) 0 (omega arith) (omega (arith, inside))) in omega (arith, e)

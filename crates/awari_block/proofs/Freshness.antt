@@ -8,7 +8,7 @@ use Rattle.awari_block.specs.Part.{AreFresh, IsFreshIn, part_of, settled_by}
 use Rattle.awari_block.specs.declared.cells.Cell.{Cell}
 use Rattle.awari_block.specs.declared.cells.Mark.{Mark}
 use Rattle.awari_block.specs.declared.cells.Mark.TheVariants as mark
-use Rattle.awari_block.specs.declared.places.Place.{Place}
+use Rattle.awari_block.specs.declared.stakes.Stake.{Stake}
 use Rattle.awari_block.proofs.BlockLemmas.{all_both, due_settled, settled_inside}
 
 -- a settled cell of this distance
@@ -23,18 +23,18 @@ settled_cell c d settled near = at c.mark settled c.score c.plans c.dist near
     at mark.Noted e score plans dist near = absurd (false≢true e)
 
 -- the fresh boards are settled ones of the block, each once
-pub fresh_of_block : (place : Place) (cells : List Cell) (fresh : List Due) → IsBlock place cells fresh → AreFresh (part_of place cells fresh)
-fresh_of_block place cells fresh sound = record {
-  boards = All-from_recursion (IsFreshIn (part_of place cells fresh)) fresh
-      (all_both (λ (f : Due). is_settled_in place.start cells (due_rank f) ≡ true) (λ (f : Due). IsDueAs place f (cell_in place.start cells (due_rank f))) (IsFreshIn (part_of place cells fresh)) fresh one
-      (due_settled (is_settled_in place.start cells) fresh sound.settled) (recursion_from_All _ fresh sound.due));
-  once = λ rank. at_most (is_settled_in place.start cells rank) (times_due fresh rank) (sound.settled rank);
+pub fresh_of_block : (stake : Stake) (start : ℕ) (cells : List Cell) (fresh : List Due) → IsBlock stake start cells fresh → AreFresh (part_of stake start cells fresh)
+fresh_of_block stake start cells fresh sound = record {
+  boards = All-from_recursion (IsFreshIn (part_of stake start cells fresh)) fresh
+      (all_both (λ (f : Due). is_settled_in start cells (due_rank f) ≡ true) (λ (f : Due). IsDueAs stake f (cell_in start cells (due_rank f))) (IsFreshIn (part_of stake start cells fresh)) fresh one
+      (due_settled (is_settled_in start cells) fresh sound.settled) (recursion_from_All _ fresh sound.due));
+  once = λ rank. at_most (is_settled_in start cells rank) (times_due fresh rank) (sound.settled rank);
 }
   where
-    one : (f : Due) → is_settled_in place.start cells (due_rank f) ≡ true → IsDueAs place f (cell_in place.start cells (due_rank f)) → IsFreshIn (part_of place cells fresh) f
+    one : (f : Due) → is_settled_in start cells (due_rank f) ≡ true → IsDueAs stake f (cell_in start cells (due_rank f)) → IsFreshIn (part_of stake start cells fresh) f
     one f settled due =
-        let inside = settled_inside place.start cells (due_rank f) settled in
-        let cell = cell_in place.start cells (due_rank f) in
+        let inside = settled_inside start cells (due_rank f) settled in
+        let cell = cell_in start cells (due_rank f) in
         let timely = due.timely in
         (cell.score, (inside.0, inside.1), due.valued, settled_cell cell (due_dist f) inside.2 due.near, omega (arith, timely, due.near))
 

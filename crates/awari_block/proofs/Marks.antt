@@ -7,7 +7,7 @@ use Rattle.std.proofs.Math.ListN.{get_or-eq_default, replicate}
 use Rattle.std.proofs.lemmas.List.{get_or-replicate, get_or_past, length-replicate}
 use Rattle.awari_block.specs.Fresh.{is_marked}
 
--- the mark of a place is a bit of its run's word
+-- the mark of a index is a bit of its run's word
 mark_is : (words : List ℕ) (run i : ℕ) → i < 64 → is_marked words (64 * run + i) ≡ (bit_at (get_or words run 0) i == 1)
 mark_is words run i within =
     let a : (64 * run + i) / 64 ≡ run = omega (arith, within) in
@@ -17,7 +17,7 @@ mark_is words run i within =
 pub bit_marked : (words : List ℕ) (run i : ℕ) → i < 64 → bit_at (get_or words run 0) i ≡ 1 → is_marked words (64 * run + i) ≡ true
 bit_marked words run i within set = mark_is words run i within ∙ ap (λ n. n == 1) set
 
--- no place of a run from one bit up to another is marked
+-- no index of a run from one bit up to another is marked
 pub none_marked : (words : List ℕ) (run from to : ℕ) → to ≤ 64 → ((j : ℕ) → from ≤ j → j < to → bit_at (get_or words run 0) j ≡ 0)
     → (k : ℕ) → 64 * run + from ≤ k → k < 64 * run + to → is_marked words k ≡ true → ⊥
 none_marked words run from to within clear k low high marked =

@@ -4,45 +4,45 @@ use Rattle.std.proofs.lemmas.Bool.{cases_eq, cases_lt, false≢true}
 use Rattle.awari_block.specs.declared.cells.Cell.{Cell}
 use Rattle.awari_block.specs.Fresh.{dist_at, is_marked, lesser, AreNoted, IsBelow, IsFirst, IsNext, MarksOne, UnmarksOne}
 
--- one more place that is marked
-pub marked_was : (old new : List ℕ) (place k : ℕ) → MarksOne place old new → is_marked new k ≡ true → (is_marked old k ≡ true) ⊎ (k ≡ place)
-marked_was old new place k marks marked = elim (cases_eq k place) [
+-- one more index that is marked
+pub marked_was : (old new : List ℕ) (index k : ℕ) → MarksOne index old new → is_marked new k ≡ true → (is_marked old k ≡ true) ⊎ (k ≡ index)
+marked_was old new index k marks marked = elim (cases_eq k index) [
   | inl same ↦ inr same
   | inr other ↦ inl (sym (marks.others k other) ∙ marked)
 ]
 
-marked_is : (old new : List ℕ) (place k : ℕ) → MarksOne place old new → is_marked old k ≡ true → is_marked new k ≡ true
-marked_is old new place k marks marked = elim (cases_eq k place) [
+marked_is : (old new : List ℕ) (index k : ℕ) → MarksOne index old new → is_marked old k ≡ true → is_marked new k ≡ true
+marked_is old new index k marks marked = elim (cases_eq k index) [
   | inl same ↦ ap (is_marked new) same ∙ marks.here
   | inr other ↦ marks.others k other ∙ marked
 ]
 
--- one place less that is marked
-pub still_other : (old new : List ℕ) (place k : ℕ) → UnmarksOne place old new → is_marked new k ≡ true → k ≢ place
-still_other old new place k marks marked same = false≢true (sym marks.here ∙ subst (λ n. is_marked new n ≡ true) same marked)
+-- one index less that is marked
+pub still_other : (old new : List ℕ) (index k : ℕ) → UnmarksOne index old new → is_marked new k ≡ true → k ≢ index
+still_other old new index k marks marked same = false≢true (sym marks.here ∙ subst (λ n. is_marked new n ≡ true) same marked)
 
-pub still_was : (old new : List ℕ) (place k : ℕ) → UnmarksOne place old new → is_marked new k ≡ true → is_marked old k ≡ true
-still_was old new place k marks marked = sym (marks.others k (still_other old new place k marks marked)) ∙ marked
+pub still_was : (old new : List ℕ) (index k : ℕ) → UnmarksOne index old new → is_marked new k ≡ true → is_marked old k ≡ true
+still_was old new index k marks marked = sym (marks.others k (still_other old new index k marks marked)) ∙ marked
 
 -- the places of Q are those of P and one more
-pub record Adds (P Q : ℕ → Type 0) (place : ℕ) : Type 0 where
-  pub here : Q place
+pub record Adds (P Q : ℕ → Type 0) (index : ℕ) : Type 0 where
+  pub here : Q index
   pub old : (k : ℕ) → P k → Q k
-  pub only : (k : ℕ) → Q k → P k ⊎ (k ≡ place)
+  pub only : (k : ℕ) → Q k → P k ⊎ (k ≡ index)
 
--- the place is marked now, and was not
-pub marks_add : (old new : List ℕ) (place : ℕ) → MarksOne place old new → Adds (λ k. is_marked old k ≡ true) (λ k. is_marked new k ≡ true) place
-marks_add old new place marks = record { here = marks.here; old = λ k. marked_is old new place k marks; only = λ k. marked_was old new place k marks }
+-- the index is marked now, and was not
+pub marks_add : (old new : List ℕ) (index : ℕ) → MarksOne index old new → Adds (λ k. is_marked old k ≡ true) (λ k. is_marked new k ≡ true) index
+marks_add old new index marks = record { here = marks.here; old = λ k. marked_is old new index k marks; only = λ k. marked_was old new index k marks }
 
--- the next place that is marked
-pub below_add : (words : List ℕ) (n place : ℕ) → n ≤ place → is_marked words place ≡ true → ((k : ℕ) → n ≤ k → k < place → is_marked words k ≡ true → ⊥)
-    → Adds (IsBelow words n) (IsBelow words (place + 1)) place
-below_add words n place low marked none = record {
+-- the next index that is marked
+pub below_add : (words : List ℕ) (n index : ℕ) → n ≤ index → is_marked words index ≡ true → ((k : ℕ) → n ≤ k → k < index → is_marked words k ≡ true → ⊥)
+    → Adds (IsBelow words n) (IsBelow words (index + 1)) index
+below_add words n index low marked none = record {
   here = (marked, omega arith);
   old = λ k both. (both.0, (let less = both.1 in omega (arith, less, low)));
   only = λ k both. elim (cases_lt k n) [
     | inl less ↦ inl (both.0, less)
-    | inr more ↦ elim (cases_lt k place) [
+    | inr more ↦ elim (cases_lt k index) [
       | inl before ↦ absurd (none k (omega (arith, more)) before both.0)
       | inr after ↦ inr (let less = both.1 in omega (arith, less, after))
     ]
@@ -65,18 +65,18 @@ module _ (cells : List Cell) (P Q : ℕ → Type 0) (wave : ℕ) where
       by None all = λ k is. all k (back k is)
       by (Some d) ((k, is, apart, at), least) = ((k, there k is, apart, at), λ j here. least j (back j here))
 
-  module _ (place : ℕ) (adds : Adds P Q place) where
+  module _ (index : ℕ) (adds : Adds P Q index) where
     -- one more of the open wave
-    noted_near : (near after : List ℕ) (first next : Option ℕ) → dist_at cells place ≡ wave → MarksOne place near after → AreNoted cells P wave near first next
-        → AreNoted cells Q wave after (Some (lesser first place)) next
+    noted_near : (near after : List ℕ) (first next : Option ℕ) → dist_at cells index ≡ wave → MarksOne index near after → AreNoted cells P wave near first next
+        → AreNoted cells Q wave after (Some (lesser first index)) next
     noted_near near after first next at marks noted = record {
       here = λ k. (
-        λ marked. elim (marked_was near after place k marks marked) [
+        λ marked. elim (marked_was near after index k marks marked) [
           | inl was ↦ (let both = (noted.here k).0 was in (adds.old k both.0, both.1))
           | inr same ↦ (subst Q (sym same) adds.here, ap (dist_at cells) same ∙ at)
         ],
         λ both. elim (adds.only k both.0) [
-          | inl was ↦ marked_is near after place k marks ((noted.here k).1 (was, both.1))
+          | inl was ↦ marked_is near after index k marks ((noted.here k).1 (was, both.1))
           | inr same ↦ ap (is_marked after) same ∙ marks.here
         ],
       );
@@ -84,22 +84,22 @@ module _ (cells : List Cell) (P Q : ℕ → Type 0) (wave : ℕ) where
       is_next = next_by next noted.is_next;
     }
       where
-        first_by : (o : Option ℕ) → IsFirst near o → IsFirst after (Some (lesser o place))
+        first_by : (o : Option ℕ) → IsFirst near o → IsFirst after (Some (lesser o index))
         first_by None none = (
           marks.here,
-          λ k marked. elim (marked_was near after place k marks marked) [ inl was ↦ absurd (none k was) | inr same ↦ omega (arith, same) ],
+          λ k marked. elim (marked_was near after index k marks marked) [ inl was ↦ absurd (none k was) | inr same ↦ omega (arith, same) ],
         )
         first_by (Some b) (is, least) = (
-          at_least (cases_lt place b),
-          λ k marked. elim (marked_was near after place k marks marked) [
+          at_least (cases_lt index b),
+          λ k marked. elim (marked_was near after index k marks marked) [
             | inl was ↦ (let low = least k was in omega (arith, low))
             | inr same ↦ omega (arith, same)
           ],
         )
           where
-            at_least : (place < b) ⊎ (b ≤ place) → is_marked after (min b place) ≡ true
-            at_least (inl less) = let same : min b place ≡ place = omega (arith, less) in ap (is_marked after) same ∙ marks.here
-            at_least (inr more) = let same : min b place ≡ b = omega (arith, more) in ap (is_marked after) same ∙ marked_is near after place b marks is
+            at_least : (index < b) ⊎ (b ≤ index) → is_marked after (min b index) ≡ true
+            at_least (inl less) = let same : min b index ≡ index = omega (arith, less) in ap (is_marked after) same ∙ marks.here
+            at_least (inr more) = let same : min b index ≡ b = omega (arith, more) in ap (is_marked after) same ∙ marked_is near after index b marks is
 
         next_by : (o : Option ℕ) → IsNext cells P wave o → IsNext cells Q wave o
         next_by None all = λ k is. elim (adds.only k is) [ inl was ↦ all k was | inr same ↦ ap (dist_at cells) same ∙ at ]
@@ -109,7 +109,7 @@ module _ (cells : List Cell) (P Q : ℕ → Type 0) (wave : ℕ) where
         )
 
     -- one more of another
-    noted_far : (near : List ℕ) (first next : Option ℕ) (dist : ℕ) → dist_at cells place ≡ dist → (dist ≡ wave → ⊥) → AreNoted cells P wave near first next
+    noted_far : (near : List ℕ) (first next : Option ℕ) (dist : ℕ) → dist_at cells index ≡ dist → (dist ≡ wave → ⊥) → AreNoted cells P wave near first next
         → AreNoted cells Q wave near first (Some (lesser next dist))
     noted_far near first next dist at apart noted = record {
       here = λ k. (
@@ -123,12 +123,12 @@ module _ (cells : List Cell) (P Q : ℕ → Type 0) (wave : ℕ) where
       is_next = by next noted.is_next;
     }
       where
-        off : dist_at cells place ≢ wave
+        off : dist_at cells index ≢ wave
         off same = apart (sym at ∙ same)
 
         by : (o : Option ℕ) → IsNext cells P wave o → IsNext cells Q wave (Some (lesser o dist))
         by None all = (
-          (place, adds.here, off, at),
+          (index, adds.here, off, at),
           λ k is. elim (adds.only k is) [ inl was ↦ inl (all k was) | inr same ↦ inr (let e = ap (dist_at cells) same ∙ at in omega (arith, e)) ],
         )
         by (Some d) ((k, is, other, far), least) = (
@@ -140,7 +140,7 @@ module _ (cells : List Cell) (P Q : ℕ → Type 0) (wave : ℕ) where
         )
           where
             some : (dist < d) ⊎ (d ≤ dist) → (k : ℕ) × Q k × (dist_at cells k ≢ wave) × (dist_at cells k ≡ min d dist)
-            some (inl less) = (place, adds.here, off, omega (arith, at, less))
+            some (inl less) = (index, adds.here, off, omega (arith, at, less))
             some (inr more) = (k, adds.old k is, other, omega (arith, far, more))
 
             later : (j : ℕ) → (dist_at cells j ≡ wave) ⊎ (d ≤ dist_at cells j) → (dist_at cells j ≡ wave) ⊎ (min d dist ≤ dist_at cells j)
@@ -148,8 +148,8 @@ module _ (cells : List Cell) (P Q : ℕ → Type 0) (wave : ℕ) where
             later j (inr more) = inr (omega (arith, more))
 
     -- one more
-    pub noted_more : (near after : List ℕ) (first first' next next' : Option ℕ) (dist : ℕ) → dist_at cells place ≡ dist
-        → (dist ≡ wave → MarksOne place near after × (first' ≡ Some (lesser first place)) × (next' ≡ next))
+    pub noted_more : (near after : List ℕ) (first first' next next' : Option ℕ) (dist : ℕ) → dist_at cells index ≡ dist
+        → (dist ≡ wave → MarksOne index near after × (first' ≡ Some (lesser first index)) × (next' ≡ next))
         → ((dist ≡ wave → ⊥) → (after ≡ near) × (first' ≡ first) × (next' ≡ Some (lesser next dist)))
         → AreNoted cells P wave near first next → AreNoted cells Q wave after first' next'
     noted_more near after first first' next next' dist at is_near is_far noted = elim (cases_eq dist wave) [
@@ -203,26 +203,26 @@ noted_idle cells P wave other near first next none noted = record {
     by (Some d) ((k, is, apart, far), least) = absurd (none k is)
 
 -- the first of the open wave is there no longer
-pub noted_less : (cells : List Cell) (wave place : ℕ) (words words' near near' : List ℕ) (first next : Option ℕ)
-    → AreNoted cells (λ k. is_marked words k ≡ true) wave near (Some place) next → UnmarksOne place words words' → UnmarksOne place near near' → IsFirst near' first
+pub noted_less : (cells : List Cell) (wave index : ℕ) (words words' near near' : List ℕ) (first next : Option ℕ)
+    → AreNoted cells (λ k. is_marked words k ≡ true) wave near (Some index) next → UnmarksOne index words words' → UnmarksOne index near near' → IsFirst near' first
     → AreNoted cells (λ k. is_marked words' k ≡ true) wave near' first next
-noted_less cells wave place words words' near near' first next noted marks nears is = record {
+noted_less cells wave index words words' near near' first next noted marks nears is = record {
   here = λ k. (
     λ marked.
-        let both = (noted.here k).0 (still_was near near' place k nears marked) in
-        (marks.others k (still_other near near' place k nears marked) ∙ both.0, both.1),
-    λ both. nears.others k (still_other words words' place k marks both.0) ∙ (noted.here k).1 (still_was words words' place k marks both.0, both.1),
+        let both = (noted.here k).0 (still_was near near' index k nears marked) in
+        (marks.others k (still_other near near' index k nears marked) ∙ both.0, both.1),
+    λ both. nears.others k (still_other words words' index k marks both.0) ∙ (noted.here k).1 (still_was words words' index k marks both.0, both.1),
   );
   is_first = is;
   is_next = by next noted.is_next;
 }
   where
-    at : dist_at cells place ≡ wave
-    at = ((noted.here place).0 noted.is_first.0).1
+    at : dist_at cells index ≡ wave
+    at = ((noted.here index).0 noted.is_first.0).1
 
     by : (o : Option ℕ) → IsNext cells (λ k. is_marked words k ≡ true) wave o → IsNext cells (λ k. is_marked words' k ≡ true) wave o
-    by None all = λ k marked. all k (still_was words words' place k marks marked)
+    by None all = λ k marked. all k (still_was words words' index k marks marked)
     by (Some d) ((k, marked, apart, far), least) = (
       (k, marks.others k (λ same. apart (ap (dist_at cells) same ∙ at)) ∙ marked, apart, far),
-      λ j here. least j (still_was words words' place j marks here),
+      λ j here. least j (still_was words words' index j marks here),
     )

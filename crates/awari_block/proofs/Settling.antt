@@ -5,20 +5,20 @@ use Rattle.std.proofs.lemmas.List.Sorted.{length_permutation}
 use Rattle.std.specs.List.Sorted.{IsPermutation}
 use Rattle.awari_block.specs.declared.cells.Cell.{Cell}
 use Rattle.awari_block.specs.declared.fresh.Fresh.{Fresh}
-use Rattle.awari_block.specs.declared.places.Place.{Place}
+use Rattle.awari_block.specs.declared.stakes.Stake.{Stake}
 use Rattle.awari_block.specs.Cells.{is_settled, Keeps}
 use Rattle.awari_block.specs.Fresh.{due_of, fresh_of, IsFresh, MarksOne}
 use Rattle.awari_block.specs.Blocks.{Due, cell_in, is_settled_in, IsBlock}
 use Rattle.awari_block.specs.Leaving.{AreLeaving}
 use Rattle.awari_block.specs.Part.{Part, part_of, SameLevel}
-use Rattle.awari_block.specs.Boards.{CanPut, Settles, place_of}
+use Rattle.awari_block.specs.Boards.{CanPut, Settles, stake_of}
 use Rattle.awari_block.proofs.BlockLemmas.{JoinsIf, keeps_both, keeps_same, one_if, put_joined, put_joins, put_kept, put_stays, put_unspread}
 use Rattle.awari_block.proofs.FreshBlocks.{put_permuted, put_same}
 use Rattle.awari_block.proofs.Freshness.{fresh_of_block}
 
--- a part at the place of another is at its own
-pub same_place : (old new : Part) → SameLevel old new → part_of (place_of old) new.cells new.fresh ≡ new
-same_place old new same =
+-- a part at the stake of another is at its own
+pub same_stake : (old new : Part) → SameLevel old new → part_of (stake_of old) old.start new.cells new.fresh ≡ new
+same_stake old new same =
     ap (λ n. record { level = n; gain = old.gain; wave = old.wave; start = old.start; cells = new.cells; fresh = new.fresh }) (sym same.level)
     ∙ ap (λ n. record { level = new.level; gain = n; wave = old.wave; start = old.start; cells = new.cells; fresh = new.fresh }) (sym same.gain)
     ∙ ap (λ n. record { level = new.level; gain = new.gain; wave = n; start = old.start; cells = new.cells; fresh = new.fresh }) (sym same.wave)
@@ -76,71 +76,71 @@ alike old new keeps false was back = by (is_settled new.mark) refl
     by true e = absurd (false≢true (back e))
     by false e = e ∙ sym was
 
-module _ (place : Place) (cells : List Cell) (fresh : Fresh) (sound : IsBlock place cells (fresh_of place.start cells fresh)) (marks : IsFresh place.wave cells fresh) (rank : ℕ) (c : Cell)
-    (can : CanPut (part_of place cells (fresh_of place.start cells fresh)) rank c) where
+module _ (stake : Stake) (start : ℕ) (cells : List Cell) (fresh : Fresh) (sound : IsBlock stake start cells (fresh_of start cells fresh)) (marks : IsFresh stake.wave cells fresh) (rank : ℕ) (c : Cell)
+    (can : CanPut (part_of stake start cells (fresh_of start cells fresh)) rank c) where
   abbrev pub was : Cell
-  was = cell_in place.start cells rank
+  was = cell_in start cells rank
 
   abbrev pub old : List Due
-  old = fresh_of place.start cells fresh
+  old = fresh_of start cells fresh
 
   abbrev pub after : List Cell
-  after = set cells (rank - place.start) c
+  after = set cells (rank - start) c
 
-  low : place.start ≤ rank
+  low : start ≤ rank
   low = can.held.0
 
-  high : rank - place.start < length cells
+  high : rank - start < length cells
   high = can.held.1
 
-  at : place.start + (rank - place.start) ≡ rank
+  at : start + (rank - start) ≡ rank
   at = let h = low in omega (arith, h)
 
-  module _ (new : is_settled c.mark ≡ true) (unsettled_before : is_settled was.mark ≡ false) (words : List ℕ) (one : MarksOne (rank - place.start) fresh.words.items words) where
-    moved : IsPermutation ((c.dist, place.start + (rank - place.start)) ∷ old) (due_of place.start after words)
-    moved = put_permuted place cells fresh sound marks rank c low high can.keeps unsettled_before words one
+  module _ (new : is_settled c.mark ≡ true) (unsettled_before : is_settled was.mark ≡ false) (words : List ℕ) (one : MarksOne (rank - start) fresh.words.items words) where
+    moved : IsPermutation ((c.dist, start + (rank - start)) ∷ old) (due_of start after words)
+    moved = put_permuted stake start cells fresh sound marks rank c low high can.keeps unsettled_before words one
 
     -- a newly settled cell keeps the block right
-    pub joined_block : IsBlock place after (due_of place.start after words)
+    pub joined_block : IsBlock stake start after (due_of start after words)
     joined_block =
-        put_joined place cells old rank c low high sound (c.dist, place.start + (rank - place.start)) (due_of place.start after words) can.fits (can.timely unsettled_before new) can.keeps new unsettled_before at refl moved
+        put_joined stake start cells old rank c low high sound (c.dist, start + (rank - start)) (due_of start after words) can.fits (can.timely unsettled_before new) can.keeps new unsettled_before at refl moved
 
-    pub joined_settles : Settles (part_of place cells old) (part_of place after (due_of place.start after words))
+    pub joined_settles : Settles (part_of stake start cells old) (part_of stake start after (due_of start after words))
     joined_settles = record {
       same = record { level = refl; gain = refl; wave = refl; start = refl };
-      size = length-set cells (rank - place.start) c;
-      stays = put_stays place.start cells rank c low high can.keeps;
-      joins = put_joins place cells old rank c low high sound (due_of place.start after words) can.keeps
-          (subst₂ (λ a b. JoinsIf (a && not b) c rank old (due_of place.start after words)) (sym new) (sym unsettled_before) ((c.dist, place.start + (rank - place.start)), at, refl, moved));
+      size = length-set cells (rank - start) c;
+      stays = put_stays start cells rank c low high can.keeps;
+      joins = put_joins stake start cells old rank c low high sound (due_of start after words) can.keeps
+          (subst₂ (λ a b. JoinsIf (a && not b) c rank old (due_of start after words)) (sym new) (sym unsettled_before) ((c.dist, start + (rank - start)), at, refl, moved));
       unspread =
-          let longer = length_permutation ((c.dist, place.start + (rank - place.start)) ∷ old) (due_of place.start after words) moved in
+          let longer = length_permutation ((c.dist, start + (rank - start)) ∷ old) (due_of start after words) moved in
           let some : one_if (not (is_settled c.mark)) ≡ 0 = ap (λ b. one_if (not b)) new in
           let none : one_if (not (is_settled was.mark)) ≡ 1 = ap (λ b. one_if (not b)) unsettled_before in
-          put_unspread place.start cells old (due_of place.start after words) rank c high (omega (arith, some, none, longer));
-      fresh = λ _. fresh_of_block place after (due_of place.start after words) joined_block;
+          put_unspread start cells old (due_of start after words) rank c high (omega (arith, some, none, longer));
+      fresh = λ _. fresh_of_block stake start after (due_of start after words) joined_block;
     }
 
   module _ (back : is_settled c.mark ≡ true → is_settled was.mark ≡ true) where
     same_mark : is_settled c.mark ≡ is_settled was.mark
     same_mark = alike was c can.keeps (is_settled was.mark) refl back
 
-    same_fresh : fresh_of place.start after fresh ≡ old
-    same_fresh = put_same place cells fresh sound marks rank c low high can.keeps
+    same_fresh : fresh_of start after fresh ≡ old
+    same_fresh = put_same stake start cells fresh sound marks rank c low high can.keeps
 
     -- and so does one that is not
-    pub kept_block : IsBlock place after (fresh_of place.start after fresh)
-    kept_block = subst (IsBlock place after) (sym same_fresh) (put_kept place cells old rank c low high sound can.fits can.keeps same_mark)
+    pub kept_block : IsBlock stake start after (fresh_of start after fresh)
+    kept_block = subst (IsBlock stake start after) (sym same_fresh) (put_kept stake start cells old rank c low high sound can.fits can.keeps same_mark)
 
-    pub kept_settles : Settles (part_of place cells old) (part_of place after (fresh_of place.start after fresh))
+    pub kept_settles : Settles (part_of stake start cells old) (part_of stake start after (fresh_of start after fresh))
     kept_settles = record {
       same = record { level = refl; gain = refl; wave = refl; start = refl };
-      size = length-set cells (rank - place.start) c;
-      stays = put_stays place.start cells rank c low high can.keeps;
-      joins = put_joins place cells old rank c low high sound (fresh_of place.start after fresh) can.keeps
-          (subst (λ b. JoinsIf b c rank old (fresh_of place.start after fresh)) (sym (not_new (is_settled c.mark) (is_settled was.mark) back)) same_fresh);
+      size = length-set cells (rank - start) c;
+      stays = put_stays start cells rank c low high can.keeps;
+      joins = put_joins stake start cells old rank c low high sound (fresh_of start after fresh) can.keeps
+          (subst (λ b. JoinsIf b c rank old (fresh_of start after fresh)) (sym (not_new (is_settled c.mark) (is_settled was.mark) back)) same_fresh);
       unspread =
           let long = ap length same_fresh in
           let same = ap (λ b. one_if (not b)) same_mark in
-          put_unspread place.start cells old (fresh_of place.start after fresh) rank c high (omega (arith, long, same));
-      fresh = λ _. fresh_of_block place after (fresh_of place.start after fresh) kept_block;
+          put_unspread start cells old (fresh_of start after fresh) rank c high (omega (arith, long, same));
+      fresh = λ _. fresh_of_block stake start after (fresh_of start after fresh) kept_block;
     }

@@ -3,7 +3,7 @@ use Rattle.std.specs.Prelude.{◌≡◌, ℕ, ◌+◌, ◌-◌, ◌≤◌, ◌==
 use Rattle.awari_block.specs.declared.cells.Cell.{Cell}
 use Rattle.awari_block.specs.declared.cells.Mark.TheVariants.{Ended}
 use Rattle.awari_block.specs.Cells.{is_settled, Fits, IsEither, Keeps}
-use Rattle.awari_block.specs.declared.places.Place.{Place}
+use Rattle.awari_block.specs.declared.stakes.Stake.{Stake}
 
 -- the distance and the rank of a fresh board
 abbrev pub Due : Type 0
@@ -34,16 +34,16 @@ abbrev pub unsettled : List Cell → ℕ
 unsettled cells = count_by (λ c. not (is_settled c.mark)) cells
 
 -- The cell of a fresh board: it has the board's distance, which is not below the open one, and the open gain, either way.
-pub record IsDueAs (place : Place) (f : Due) (c : Cell) : Type 0 where
+pub record IsDueAs (stake : Stake) (f : Due) (c : Cell) : Type 0 where
   pub near : c.dist ≡ due_dist f
-  pub timely : place.wave ≤ c.dist
-  pub valued : IsEither place.gain c.score
+  pub timely : stake.wave ≤ c.dist
+  pub valued : IsEither stake.gain c.score
 
 -- Fresh boards are settled boards of the block, each once, with their distances.
-pub record IsBlock (place : Place) (cells : List Cell) (fresh : List Due) : Type 0 where
-  pub fit : All (Fits place) cells
-  pub settled : (rank : ℕ) → times_due fresh rank ≤ (if is_settled_in place.start cells rank then 1 else 0)
-  pub due : All (λ f. IsDueAs place f (cell_in place.start cells (due_rank f))) fresh
+pub record IsBlock (stake : Stake) (start : ℕ) (cells : List Cell) (fresh : List Due) : Type 0 where
+  pub fit : All (Fits stake) cells
+  pub settled : (rank : ℕ) → times_due fresh rank ≤ (if is_settled_in start cells rank then 1 else 0)
+  pub due : All (λ f. IsDueAs stake f (cell_in start cells (due_rank f))) fresh
 
 -- the fresh boards gain those that are newly settled
 abbrev pub JoinNewlySettled : ℕ → List Cell → List Due → List Cell → List Due → Type 0

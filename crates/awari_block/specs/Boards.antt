@@ -8,11 +8,11 @@ use Rattle.awari_block.specs.Blocks.{due_dist, due_rank, no_cell, IsBlock, KeepS
 use Rattle.awari_block.specs.Part.{Part, AreFresh, InBlock, JoinsFresh, SameLevel, stored_at, unspread}
 use Rattle.awari_block.specs.declared.cells.Cell.{Cell}
 use Rattle.awari_block.specs.declared.notes.Kind.{Kind}
-use Rattle.awari_block.specs.declared.places.Place.{Place}
+use Rattle.awari_block.specs.declared.stakes.Stake.{Stake}
 
--- where a part stands
-abbrev pub place_of : Part → Place
-place_of part = record { level = part.level; gain = part.gain; wave = part.wave; start = part.start }
+-- what is open in a part
+abbrev pub stake_of : Part → Stake
+stake_of part = record { level = part.level; gain = part.gain; wave = part.wave }
 
 -- The part stands where it did, over the same boards. Settled boards keep value and distance, and those that are newly settled
 -- join the fresh ones, so that none becomes spread.
@@ -24,7 +24,7 @@ pub record Settles (old new : Part) : Type 0 where
   pub unspread : unspread new ≡ unspread old
   pub fresh : AreFresh old → AreFresh new
 
--- Of the cells from place `low` up to, not including, place `high` the open gain is opened. The others stay as they are.
+-- Of the cells from index `low` up to, not including, index `high` the open gain is opened. The others stay as they are.
 pub record OpensCells (old new : Part) (low high : ℕ) : Type 0 where
   pub inside : (k : ℕ) → k < length old.cells → low ≤ k → k < high
       → view_of (slice_index_or new.cells k no_cell) ≡ cell_after_opening (view_of (slice_index_or old.cells k no_cell)) old.level old.gain
@@ -33,9 +33,9 @@ pub record OpensCells (old new : Part) (low high : ℕ) : Type 0 where
 -- this cell may take the place of that of the board of this rank
 pub record CanPut (part : Part) (rank : ℕ) (cell : Cell) : Type 0 where
   pub held : InBlock part rank
-  pub fits : Fits (place_of part) cell
+  pub fits : Fits (stake_of part) cell
   pub keeps : Keeps (stored_at part rank) cell
-  pub timely : SettlesTimely (place_of part) (stored_at part rank) cell
+  pub timely : SettlesTimely (stake_of part) (stored_at part rank) cell
   pub awaits : AwaitsNoMore (stored_at part rank) cell
 
 -- a note of this pit, of the open gain and wave, may be heard for the board of this rank
@@ -55,4 +55,4 @@ pub record TakesFirst (old new : Part) (rank : ℕ) : Type 0 where
   pub rest : new ≡ record old { fresh = new.fresh }
   pub moved : IsPermutation ((old.wave, rank) ∷ new.fresh) old.fresh
   pub first : All (λ f. (old.wave ≤ due_dist f) × (due_dist f ≡ old.wave → rank ≤ due_rank f)) old.fresh
-  pub sound : IsBlock (place_of old) old.cells old.fresh
+  pub sound : IsBlock (stake_of old) old.start old.cells old.fresh

@@ -6,7 +6,7 @@ use Rattle.awari_block.specs.Steps.{best_after, pits_after}
 use Rattle.awari_block.specs.declared.cells.Cell.{Cell}
 use Rattle.awari_block.specs.declared.cells.Mark.{Mark}
 use Rattle.awari_block.specs.declared.cells.Mark.TheVariants as mark
-use Rattle.awari_block.specs.declared.places.Place.{Place}
+use Rattle.awari_block.specs.declared.stakes.Stake.{Stake}
 
 abbrev pub status_by : Mark → ℤ → ℕ → ℕ → Status
 status_by mark.Ended score plans dist = Ended score
@@ -63,16 +63,16 @@ FitsBy mark.Capturing n t score dist = (dist < 2 ^ 32 - 1) × IsWithin n score
 FitsBy mark.Noted n t score dist = (dist < 2 ^ 32 - 1) × IsWithin n score
 FitsBy mark.Ended n t score dist = IsEither n score
 
-abbrev pub Fits : Place → Cell → Type 0
-Fits place c = FitsBy c.mark place.level place.gain c.score c.dist
+abbrev pub Fits : Stake → Cell → Type 0
+Fits stake c = FitsBy c.mark stake.level stake.gain c.score c.dist
 
 -- a settled cell keeps value and distance
 abbrev pub Keeps : Cell → Cell → Type 0
 Keeps old new = is_settled old.mark ≡ true → (new.mark ≡ old.mark) × (new.score ≡ old.score) × (new.dist ≡ old.dist)
 
 -- what is newly settled has the open gain as value, either way, and a distance that is not below the open one
-abbrev pub IsTimely : Place → Cell → Type 0
-IsTimely place c = IsEither place.gain c.score × (place.wave ≤ c.dist)
+abbrev pub IsTimely : Stake → Cell → Type 0
+IsTimely stake c = IsEither stake.gain c.score × (stake.wave ≤ c.dist)
 
-abbrev pub SettlesTimely : Place → Cell → Cell → Type 0
-SettlesTimely place old new = is_settled old.mark ≡ false → is_settled new.mark ≡ true → IsTimely place new
+abbrev pub SettlesTimely : Stake → Cell → Cell → Type 0
+SettlesTimely stake old new = is_settled old.mark ≡ false → is_settled new.mark ≡ true → IsTimely stake new

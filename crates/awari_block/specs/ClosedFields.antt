@@ -3,5 +3,5 @@ use Rattle.std.specs.Prelude.{◌≡◌, ◌+◌, ◌^◌, ◌<◌, vec_len}
 use Rattle.awari_block.specs.declared.closed.ClosedPart.TheInside.{Inside}
 
 pub record IsClosedPart (a : Inside) : Type 0 where
-  pub last : a.place.gain ≡ 1
-  pub fits : a.place.start + vec_len a.cells < 2 ^ 32
+  pub last : a.stake.gain ≡ 1
+  pub fits : a.start + vec_len a.cells < 2 ^ 32

@@ -9,7 +9,7 @@ use Rattle.awari_block.specs.Blocks.{Due, no_cell}
 abbrev pub dist_at : List Cell → ℕ → ℕ
 dist_at cells k = (slice_index_or cells k no_cell).dist
 
--- whether the board at place k is fresh: a bit for each place, 64 in a word
+-- whether the board at index k is fresh: a bit for each index, 64 in a word
 abbrev pub is_marked : List ℕ → ℕ → Bool
 is_marked words k = bit_at (slice_index_or words (k / 64) 0) (k % 64) == 1
 
@@ -31,7 +31,7 @@ abbrev pub lesser : Option ℕ → ℕ → ℕ
 lesser None n = n
 lesser (Some m) n = min m n
 
--- the place of the first board that is marked, or none where none is
+-- the index of the first board that is marked, or none where none is
 abbrev pub IsFirst : List ℕ → Option ℕ → Type 0
 IsFirst words None = (k : ℕ) → is_marked words k ≡ true → ⊥
 IsFirst words (Some b) = (is_marked words b ≡ true) × ((k : ℕ) → is_marked words k ≡ true → b ≤ k)
@@ -48,7 +48,7 @@ pub record AreNoted (cells : List Cell) (P : ℕ → Type 0) (wave : ℕ) (near 
   pub is_first : IsFirst near first
   pub is_next : IsNext cells P wave next
 
--- the board at this place is fresh, and the place is below n
+-- the board at this index is fresh, and the index is below n
 abbrev pub IsBelow : List ℕ → ℕ → ℕ → Type 0
 IsBelow words n k = (is_marked words k ≡ true) × (k < n)
 
@@ -65,19 +65,19 @@ pub record IsFresh (wave : ℕ) (cells : List Cell) (fresh : Fresh) : Type 0 whe
   pub marked : AreMarked cells fresh
   pub noted : AreNoted cells (λ k. is_marked fresh.words.items k ≡ true) wave fresh.near.items fresh.first fresh.next
 
--- the least distance of a fresh board, given the place of the first of the open wave and the least distance of the others
+-- the least distance of a fresh board, given the index of the first of the open wave and the least distance of the others
 abbrev pub nearest_of : ℕ → Option ℕ → Option ℕ → Option ℕ
 nearest_of wave (Some b) next = Some wave
 nearest_of wave None next = next
 
--- the board at this place is fresh now, and nothing else changes
-pub record MarksOne (place : ℕ) (old new : List ℕ) : Type 0 where
+-- the board at this index is fresh now, and nothing else changes
+pub record MarksOne (index : ℕ) (old new : List ℕ) : Type 0 where
   pub size : length new ≡ length old
-  pub here : is_marked new place ≡ true
-  pub others : (k : ℕ) → k ≢ place → is_marked new k ≡ is_marked old k
+  pub here : is_marked new index ≡ true
+  pub others : (k : ℕ) → k ≢ index → is_marked new k ≡ is_marked old k
 
--- the board at this place is fresh no longer, and nothing else changes
-pub record UnmarksOne (place : ℕ) (old new : List ℕ) : Type 0 where
+-- the board at this index is fresh no longer, and nothing else changes
+pub record UnmarksOne (index : ℕ) (old new : List ℕ) : Type 0 where
   pub size : length new ≡ length old
-  pub here : is_marked new place ≡ false
-  pub others : (k : ℕ) → k ≢ place → is_marked new k ≡ is_marked old k
+  pub here : is_marked new index ≡ false
+  pub others : (k : ℕ) → k ≢ index → is_marked new k ≡ is_marked old k

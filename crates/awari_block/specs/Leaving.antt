@@ -4,7 +4,7 @@ use Rattle.awari_board.specs.Rules.{IsBoard}
 use Rattle.awari_rank.specs.Rank.{rank_of, size_of}
 use Rattle.awari_block.specs.Notes.{IsQuietMove}
 use Rattle.awari_block.specs.Tally.{has_pit}
-use Rattle.awari_block.specs.declared.places.Block.{Block}
+use Rattle.awari_block.specs.declared.blocks.Block.{Block}
 
 -- Of so many boards each owner has as many, the last ones fewer or none where they don't divide. This is the rank of an
 -- owner's first board, or the number of boards where there is none.

@@ -7,7 +7,7 @@ use Rattle.awari_block.specs.Tally as tally
 use Rattle.awari_block.specs.Cells.{view_of, IsEither}
 use Rattle.awari_block.specs.Blocks.{Due, due_rank, due_dist, cell_in, times_due, unsettled, JoinNewlySettled}
 use Rattle.awari_block.specs.declared.cells.Cell.{Cell}
-use Rattle.awari_block.specs.declared.places.Place.{Place}
+use Rattle.awari_block.specs.declared.stakes.Stake.{Stake}
 use Rattle.awari_block.specs.declared.notes.Note.{Note}
 
 -- The stones on the boards of the level, the open gain and wave, the rank of the block's first board, the cells of its
@@ -104,5 +104,5 @@ abbrev pub unspread : Part → ℕ
 unspread part = length part.fresh + unsettled part.cells
 
 -- a part at this place
-abbrev pub part_of : Place → List Cell → List Due → Part
-part_of place cells fresh = record { level = place.level; gain = place.gain; wave = place.wave; start = place.start; cells = cells; fresh = fresh }
+abbrev pub part_of : Stake → ℕ → List Cell → List Due → Part
+part_of stake start cells fresh = record { level = stake.level; gain = stake.gain; wave = stake.wave; start = start; cells = cells; fresh = fresh }

@@ -1,34 +1,36 @@
-//! The boards of a block: what is known of each, which are fresh, and where their analysis stands.
+//! The boards of a block: what is known of each, which are fresh, and what is open.
 
-ghost use Rattle.std.specs.Prelude.{◌≡◌, ℕ, ℤ, ◌+◌, ◌-◌, ◌*◌, ◌/◌, ◌^◌, ◌<◌, ◌≤◌, ◌↔◌, IsTrue, false, sum, IfNone, IfOk, IfSome, All, Some, [], length, vec_len, slice_set, slice_index_or};
+ghost use Rattle.std.specs.Prelude.{◌≡◌, ℕ, ℤ, ◌+◌, ◌-◌, ◌*◌, ◌/◌, ◌^◌, ◌<◌, ◌≤◌, ◌↔◌, IsTrue, false, true, sum, IfNone, IfOk, IfSome, All, Some, [], length, vec_len, slice_set, slice_index_or};
 ghost use Rattle.awari_board.specs.Rules.{IsBoard};
 ghost use Rattle.awari_rank.specs.Rank.{rank_of, size_of};
 ghost use Rattle.awari_block.specs.Cells.{Fits, FitsBy, view_of};
 ghost use Rattle.awari_block.specs.Steps.{cell_after_opening};
 ghost use Rattle.awari_block.specs.Blocks.{due_dist, no_cell};
 ghost use Rattle.awari_block.specs.Part.{Part as PartView, AreFresh, InBlock, IsLeastDue, settled_at, stored_at, IsClosed};
-ghost use Rattle.awari_block.specs.Boards.{CanHear, CanPut, HearsNote, OpensCells, Settles, TakesFirst, place_of};
+ghost use Rattle.awari_block.specs.Boards.{CanHear, CanPut, HearsNote, OpensCells, Settles, TakesFirst, stake_of};
 
 use crate::awaited::{awaited_gains, next_awaiting};
 use crate::cells::Cell;
 use crate::closed::ClosedPart;
 use crate::fresh::Fresh;
 use crate::notes::{Kind, Note};
-use crate::places::Place;
+use crate::stakes::Stake;
 use awari_index::Index;
 use awari_packed::PackedBoard;
 use std::alloc::{AllocError, Global};
 use std::marker::Model;
 
-/// The boards of a block: how far the analysis is, a cell for each board, and which boards are fresh,
-/// that is, settled and not spread yet.
+/// The boards of a block: what is open, a cell for each board, and which boards are fresh, that is,
+/// settled and not spread yet.
 ///
-/// Place, cells and fresh boards go together: the fresh boards are ordered by the distances in the
-/// cells, and the open gain limits what a cell may hold. The other two fields save time. One says
+/// Stake, cells and fresh boards go together: the fresh boards are ordered by the distances in the
+/// cells, and the open gain limits what a cell may hold. The last two fields save time. One says
 /// which gain each board awaits. The other finds the board of a rank.
 #[derive(Drop)]
 pub struct Boards {
-    place: Place,
+    /// The rank of the first board.
+    start: u32,
+    stake: Stake,
     cells: Vec<Cell>,
     fresh: Fresh,
     awaits: Vec<u8>,
@@ -43,7 +45,7 @@ impl Model for Boards {
 
     ghost use Rattle.awari_block.specs.BoardsFields.{IsBoards};
 
-    ghost view = { λ a. part_of a.place a.cells.items (fresh_of a.place.start a.cells.items a.fresh) };
+    ghost view = { λ a. part_of a.stake a.start a.cells.items (fresh_of a.start a.cells.items a.fresh) };
 
     ghost invariant = { IsBoards };
 }
@@ -71,11 +73,11 @@ impl Boards {
         let awaits = awaited_gains(alloc, level, cells.as_slice())?;
         let index = Index::of(alloc, level)?;
         Ok(Boards {
-            place: Place {
+            start,
+            stake: Stake {
                 level,
                 gain: level + 1,
                 wave: 0,
-                start,
             },
             cells,
             fresh,
@@ -84,14 +86,14 @@ impl Boards {
         })
     }
 
-    /// Where their analysis stands.
+    /// What is open.
     #[inline(always)]
-    pub fn place(&self) -> Place
-        ensures place { result ≡ place_of self.now }
+    pub fn stake(&self) -> Stake
+        ensures stake { result ≡ stake_of self.now }
         ensures low { self.now.level ≤ 24 }
         ensures range { (1 ≤ self.now.gain) × (self.now.gain ≤ self.now.level + 1) }
     {
-        self.place
+        self.stake
     }
 
     /// Their ranks: from the first number up to, not including, the second.
@@ -100,7 +102,7 @@ impl Boards {
         ensures start { result.0 ≡ self.now.start }
         ensures end { result.1 ≡ self.now.start + length self.now.cells }
     {
-        let start = self.place.start;
+        let start = self.start;
         (start, start + self.cells.len() as u32)
     }
 
@@ -109,7 +111,7 @@ impl Boards {
     pub fn holds(&self, rank: u32) -> bool
         ensures { IsTrue result ↔ InBlock self.now rank }
     {
-        self.place.start <= rank && ((rank - self.place.start) as usize) < self.cells.len()
+        self.start <= rank && ((rank - self.start) as usize) < self.cells.len()
     }
 
     /// Their cells, in order of rank.
@@ -124,9 +126,9 @@ impl Boards {
     pub fn cell(&self, rank: u32) -> Cell
         requires held { InBlock self.now rank }
         ensures stored { result ≡ stored_at self.now rank }
-        ensures fits { Fits (place_of self.now) result }
+        ensures fits { Fits (stake_of self.now) result }
     {
-        self.cells[(rank - self.place.start) as usize]
+        self.cells[(rank - self.start) as usize]
     }
 
     /// The board of this rank, which is one of the block.
@@ -160,7 +162,7 @@ impl Boards {
         ensures timely { IfSome result (λ dist. self.now.wave ≤ dist) }
         ensures settled { IfSome result (λ dist. (rank : ℕ) × (v : ℤ) × InBlock self.now rank × (settled_at self.now rank ≡ Some (v, dist))) }
     {
-        self.fresh.due(self.place.wave)
+        self.fresh.due(self.stake.wave)
     }
 
     /// Makes the first fresh board fresh no longer, and gives its rank. Conditions: a board is fresh,
@@ -174,7 +176,7 @@ impl Boards {
         let Some(index) = self.fresh.take_first() else {
             unreachable!()
         };
-        self.place.start + index
+        self.start + index
     }
 
     /// A note of the open gain and wave, for the board of this rank in this block or another.
@@ -183,12 +185,12 @@ impl Boards {
         ensures { result ≡ record { level = self.now.level; target = target; pit = pit; kind = kind; gain = self.now.gain; dist = self.now.wave } }
     {
         Note {
-            level: self.place.level,
+            level: self.stake.level,
             target,
             pit,
             kind,
-            gain: self.place.gain,
-            dist: self.place.wave,
+            gain: self.stake.gain,
+            dist: self.stake.wave,
         }
     }
 
@@ -202,8 +204,25 @@ impl Boards {
         ensures hears { HearsNote self.old self.new target pit kind }
     {
         let mut cell = self.cell(target);
-        cell.hear(self.place(), pit, kind);
+        cell.hear(self.stake(), pit, kind);
         self.put(target, cell);
+    }
+
+    /// Does what [`Boards::hear`] does if the board of this rank is settled, and says whether it is. A
+    /// settled board joins no fresh ones, so there is less to look at. The conditions are the same.
+    #[inline(always)]
+    pub fn hear_settled(&mut self, target: u32, pit: u8, kind: Kind) -> bool
+        requires { CanHear self.old target pit }
+        ensures heard { result ≡ true → Settles self.old self.new × HearsNote self.old self.new target pit kind }
+        ensures none { result ≡ false → self.new ≡ self.old }
+    {
+        let mut cell = self.cell(target);
+        if !cell.is_settled() {
+            return false;
+        }
+        cell.hear(self.stake(), pit, kind);
+        self.put(target, cell);
+        true
     }
 
     /// Opens the next smaller gain. The boards that an end or a capture settles at that gain are
@@ -216,10 +235,10 @@ impl Boards {
         ensures cells { (k : ℕ) → k < length self.old.cells → view_of (slice_index_or self.new.cells k no_cell) ≡ cell_after_opening (view_of (slice_index_or self.old.cells k no_cell)) self.old.level gain }
         ensures fresh { AreFresh self.new }
     {
-        self.place = Place {
+        self.stake = Stake {
             gain,
             wave: 0,
-            ..self.place
+            ..self.stake
         };
         self.open_cells();
     }
@@ -232,9 +251,9 @@ impl Boards {
         ensures fresh { AreFresh self.new }
     {
         self.fresh.open_wave(dist, self.cells.as_slice());
-        self.place = Place {
+        self.stake = Stake {
             wave: dist,
-            ..self.place
+            ..self.stake
         };
     }
 
@@ -244,12 +263,13 @@ impl Boards {
         ensures { result ≡ self }
     {
         ClosedPart {
-            place: self.place,
+            start: self.start,
+            stake: self.stake,
             cells: self.cells,
         }
     }
 
-    /// Opens the gain of the place in each cell, in order of rank. Most boards do not await it, and
+    /// Opens the gain of the stake in each cell, in order of rank. Most boards do not await it, and
     /// their cells are not read.
     fn open_cells(&mut self)
         requires gain { self.old.gain ≤ self.old.level }
@@ -257,23 +277,24 @@ impl Boards {
         ensures settles { Settles self.old self.new }
         ensures opens { OpensCells self.old self.new 0 (length self.old.cells) }
     {
-        let place = self.place();
+        let start = self.start;
+        let stake = self.stake();
         let mut from = 0;
         while let Some(index) = self.next_awaiting(from) {
-            let rank = place.start + index as u32;
+            let rank = start + index as u32;
             let cell = self.cell(rank);
-            self.put(rank, cell.with_gain(place));
+            self.put(rank, cell.with_gain(stake));
             from = index + 1;
         }
     }
 
-    /// The index of the first board from this one on that awaits the gain of the place.
+    /// The index of the first board from this one on that awaits the gain of the stake.
     fn next_awaiting(&self, from: usize) -> Option<usize>
         ensures short { self.now.start + length self.now.cells < 2 ^ 32 }
         ensures some { IfSome result (λ index. (from ≤ index) × (index < length self.now.cells) × OpensCells self.now self.now from index) }
         ensures none { IfNone result (OpensCells self.now self.now from (length self.now.cells)) }
     {
-        next_awaiting(self.place.gain, self.awaits.as_slice(), from)
+        next_awaiting(self.stake.gain, self.awaits.as_slice(), from)
     }
 
     /// Replaces the cell of the board of this rank. A board that this settles becomes fresh.
@@ -283,12 +304,12 @@ impl Boards {
         ensures settles { Settles self.old self.new }
         ensures cells { self.new.cells ≡ slice_set self.old.cells (rank - self.old.start) cell }
     {
-        let index = rank - self.place.start;
+        let index = rank - self.start;
         let was_settled = self.cells[index as usize].is_settled();
         self.cells[index as usize] = cell;
         if cell.is_settled() && !was_settled {
             self.fresh
-                .insert(self.place.wave, self.cells.as_slice(), index);
+                .insert(self.stake.wave, self.cells.as_slice(), index);
         }
     }
 }

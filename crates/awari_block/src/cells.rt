@@ -9,11 +9,11 @@ ghost use Rattle.awari_block.specs.Steps.{after_note, cell_after_note, cell_afte
 ghost use Rattle.awari_block.specs.Tally as tally;
 ghost use Rattle.awari_block.specs.declared.cells.Mark.TheVariants.{Capturing, Noted, Quiet, Settled};
 ghost use Rattle.awari_block.specs.declared.notes.Kind.TheVariants.{Won, Lost};
-ghost use Rattle.awari_block.specs.declared.places.Place.{Place as PlaceView};
+ghost use Rattle.awari_block.specs.declared.stakes.Stake.{Stake as StakeView};
 
 use crate::notes::Kind;
 use crate::pits::{pit_alone, with_pit, without_pit};
-use crate::places::Place;
+use crate::stakes::Stake;
 
 /// What a cell knows of its board.
 #[derive(Clone, Copy, PartialEq)]
@@ -59,7 +59,7 @@ impl Cell {
     /// Value and distance of the board, if it is settled.
     pub fn settled(&self) -> Option<(i8, u32)>
         ensures known { result ≡ settled_by (status_of self.now) }
-        ensures ranged { (place : PlaceView) → Fits place self.now → IfSome result (λ s. IsWithin place.level s.0 × IsBeyond place.gain s.0) }
+        ensures ranged { (stake : StakeView) → Fits stake self.now → IfSome result (λ s. IsWithin stake.level s.0 × IsBeyond stake.gain s.0) }
     {
         if self.mark == Mark::Settled {
             Some((self.score, self.dist))
@@ -83,42 +83,42 @@ impl Cell {
     /// won one leaves one quiet move less that might do better. The last of them settles the board,
     /// unless a capture does better.
     #[inline(always)]
-    pub fn hear(&mut self, place: Place, pit: u8, kind: Kind)
+    pub fn hear(&mut self, stake: Stake, pit: u8, kind: Kind)
         requires pit { pit < 6 }
-        requires low { place.level ≤ 24 }
-        requires gain { place.gain ≤ place.level }
-        requires near { place.wave < 2 ^ 32 - 1 }
-        requires fits { Fits place self.old }
-        ensures cell { view_of self.new ≡ cell_after_note (view_of self.old) kind pit place.gain place.wave }
+        requires low { stake.level ≤ 24 }
+        requires gain { stake.gain ≤ stake.level }
+        requires near { stake.wave < 2 ^ 32 - 1 }
+        requires fits { Fits stake self.old }
+        ensures cell { view_of self.new ≡ cell_after_note (view_of self.old) kind pit stake.gain stake.wave }
         ensures keeps { Keeps self.old self.new }
         ensures awaits { AwaitsNoMore self.old self.new }
-        ensures timely { SettlesTimely place self.old self.new }
-        ensures fits { Fits place self.new }
+        ensures timely { SettlesTimely stake self.old self.new }
+        ensures fits { Fits stake self.new }
     {
         self.left = without_pit(self.left, pit);
         match kind {
-            Kind::Lost => self.hear_lost(place, pit),
-            Kind::Won => self.hear_won(place, pit),
+            Kind::Lost => self.hear_lost(stake, pit),
+            Kind::Won => self.hear_won(stake, pit),
         }
     }
 
     /// Hears that the move from this pit leads to a lost board.
     #[inline(always)]
-    fn hear_lost(&mut self, place: Place, pit: u8)
+    fn hear_lost(&mut self, stake: Stake, pit: u8)
         requires pit { pit < 6 }
-        requires low { place.level ≤ 24 }
-        requires gain { place.gain ≤ place.level }
-        requires near { place.wave < 2 ^ 32 - 1 }
-        requires fits { Fits place self.old }
-        ensures known { status_of self.new ≡ after_note self.old.left (status_of self.old) Lost pit place.gain place.wave }
+        requires low { stake.level ≤ 24 }
+        requires gain { stake.gain ≤ stake.level }
+        requires near { stake.wave < 2 ^ 32 - 1 }
+        requires fits { Fits stake self.old }
+        ensures known { status_of self.new ≡ after_note self.old.left (status_of self.old) Lost pit stake.gain stake.wave }
         ensures left { self.new.left ≡ self.old.left }
         ensures keeps { Keeps self.old self.new }
         ensures awaits { AwaitsNoMore self.old self.new }
-        ensures timely { SettlesTimely place self.old self.new }
-        ensures fits { Fits place self.new }
+        ensures timely { SettlesTimely stake self.old self.new }
+        ensures fits { Fits stake self.new }
     {
-        let gain = place.gain as i8;
-        let dist = place.wave + 1;
+        let gain = stake.gain as i8;
+        let dist = stake.wave + 1;
         match self.mark {
             Mark::Settled => {
                 if self.score == gain && self.dist == dist {
@@ -135,24 +135,24 @@ impl Cell {
 
     /// Hears that the move from this pit leads to a won board.
     #[inline(always)]
-    fn hear_won(&mut self, place: Place, pit: u8)
+    fn hear_won(&mut self, stake: Stake, pit: u8)
         requires pit { pit < 6 }
-        requires low { place.level ≤ 24 }
-        requires gain { place.gain ≤ place.level }
-        requires near { place.wave < 2 ^ 32 - 1 }
-        requires fits { Fits place self.old }
-        ensures known { status_of self.new ≡ after_note self.old.left (status_of self.old) Won pit place.gain place.wave }
+        requires low { stake.level ≤ 24 }
+        requires gain { stake.gain ≤ stake.level }
+        requires near { stake.wave < 2 ^ 32 - 1 }
+        requires fits { Fits stake self.old }
+        ensures known { status_of self.new ≡ after_note self.old.left (status_of self.old) Won pit stake.gain stake.wave }
         ensures left { self.new.left ≡ self.old.left }
         ensures keeps { Keeps self.old self.new }
         ensures awaits { AwaitsNoMore self.old self.new }
-        ensures timely { SettlesTimely place self.old self.new }
-        ensures fits { Fits place self.new }
+        ensures timely { SettlesTimely stake self.old self.new }
+        ensures fits { Fits stake self.new }
     {
         if self.mark == Mark::Settled || self.mark == Mark::Ended {
             return;
         }
-        let gain = -(place.gain as i8);
-        let far = place.wave.max(self.dist);
+        let gain = -(stake.gain as i8);
+        let far = stake.wave.max(self.dist);
         self.know(gain, pit);
         if self.left == 0 && self.score == gain {
             self.settle(gain, far + 1);
@@ -201,24 +201,24 @@ impl Cell {
         }
     }
 
-    /// The cell once the gain of the place is opened. An end settles the board at the greatest gain.
+    /// The cell once the gain of the stake is opened. An end settles the board at the greatest gain.
     /// A capture does so at the gain that it wins, or at the gain that it loses if each quiet move
     /// has a Won note.
-    pub fn with_gain(self, place: Place) -> Cell
-        requires low { place.level ≤ 24 }
-        requires gain { place.gain ≤ place.level }
-        requires opened { place.wave ≡ 0 }
-        requires fits { Fits place self }
-        ensures cell { view_of result ≡ cell_after_opening (view_of self) place.level place.gain }
+    pub fn with_gain(self, stake: Stake) -> Cell
+        requires low { stake.level ≤ 24 }
+        requires gain { stake.gain ≤ stake.level }
+        requires opened { stake.wave ≡ 0 }
+        requires fits { Fits stake self }
+        ensures cell { view_of result ≡ cell_after_opening (view_of self) stake.level stake.gain }
         ensures keeps { Keeps self result }
         ensures awaits { AwaitsNoMore self result }
-        ensures timely { SettlesTimely place self result }
-        ensures fits { Fits place result }
+        ensures timely { SettlesTimely stake self result }
+        ensures fits { Fits stake result }
     {
         match self.mark {
             Mark::Settled | Mark::Quiet | Mark::Noted => self,
             Mark::Ended => {
-                if place.gain == place.level {
+                if stake.gain == stake.level {
                     Cell {
                         mark: Mark::Settled,
                         plans: 0,
@@ -230,14 +230,14 @@ impl Cell {
                 }
             }
             Mark::Capturing => {
-                if self.score == place.gain as i8 {
+                if self.score == stake.gain as i8 {
                     return Cell {
                         mark: Mark::Settled,
                         dist: 1,
                         ..self
                     };
                 }
-                if self.left == 0 && self.score == -(place.gain as i8) {
+                if self.left == 0 && self.score == -(stake.gain as i8) {
                     return Cell {
                         mark: Mark::Settled,
                         dist: self.dist + 1,
@@ -252,7 +252,7 @@ impl Cell {
     /// The cell of a board that is ended, with what its end gains.
     pub fn of_end(gain: i8) -> Cell
         ensures cell { view_of result ≡ record { left = 0; status = tally.Ended gain } }
-        ensures fits { (place : PlaceView) → IsEither place.level gain → Fits place result }
+        ensures fits { (stake : StakeView) → IsEither stake.level gain → Fits stake result }
     {
         Cell {
             dist: 0,
@@ -266,7 +266,7 @@ impl Cell {
     /// The cell of a board that heard no note, with these quiet pits and no capture.
     pub fn of_quiet(quiet: u8) -> Cell
         ensures cell { view_of result ≡ record { left = quiet; status = tally.Open tally.Nothing 0 0 } }
-        ensures fits { (place : PlaceView) → Fits place result }
+        ensures fits { (stake : StakeView) → Fits stake result }
     {
         Cell {
             dist: 0,
@@ -281,7 +281,7 @@ impl Cell {
     /// and `plans` are their pits.
     pub fn of_captures(quiet: u8, best: i8, plans: u8) -> Cell
         ensures cell { view_of result ≡ record { left = quiet; status = tally.Open (tally.ByCapture best) plans 0 } }
-        ensures fits { (place : PlaceView) → IsWithin place.level best → Fits place result }
+        ensures fits { (stake : StakeView) → IsWithin stake.level best → Fits stake result }
     {
         Cell {
             dist: 0,

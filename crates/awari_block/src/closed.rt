@@ -4,14 +4,15 @@ ghost use Rattle.std.specs.Prelude.{◌≡◌, ◌+◌, ◌^◌, ◌<◌, [], ve
 ghost use Rattle.awari_block.specs.Part.{part_of};
 
 use crate::cells::Cell;
-use crate::places::Place;
+use crate::stakes::Stake;
 use std::marker::Model;
 
 /// A part with all gains closed: gain 1 is open, and no board is fresh. It keeps the cells alone,
 /// eight bytes a board, since nothing is heard or spread any more.
 #[derive(Drop)]
 pub struct ClosedPart {
-    pub(crate) place: Place,
+    pub(crate) start: u32,
+    pub(crate) stake: Stake,
     pub(crate) cells: Vec<Cell>,
 }
 
@@ -23,20 +24,24 @@ impl Model for ClosedPart {
 
     ghost use Rattle.awari_block.specs.ClosedFields.{IsClosedPart};
 
-    ghost view = { λ a. part_of a.place a.cells.items [] };
+    ghost view = { λ a. part_of a.stake a.start a.cells.items [] };
 
     ghost invariant = { IsClosedPart };
 }
 
 impl ClosedPart {
-    /// The part at this place with these cells, if no board of them is fresh. Conditions: gain 1 is
+    /// The part of these cells from this rank on, if no board of them is fresh. Conditions: gain 1 is
     /// open, and the ranks fit in 32 bits.
-    pub fn new(place: Place, cells: Vec<Cell>) -> ClosedPart
-        requires last { place.gain ≡ 1 }
-        requires short { place.start + vec_len cells < 2 ^ 32 }
-        ensures { result ≡ part_of place cells.items [] }
+    pub fn new(start: u32, stake: Stake, cells: Vec<Cell>) -> ClosedPart
+        requires last { stake.gain ≡ 1 }
+        requires short { start + vec_len cells < 2 ^ 32 }
+        ensures { result ≡ part_of stake start cells.items [] }
     {
-        ClosedPart { place, cells }
+        ClosedPart {
+            start,
+            stake,
+            cells,
+        }
     }
 
     /// The cells of the boards of the block, in order of rank.

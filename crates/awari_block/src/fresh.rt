@@ -23,7 +23,7 @@ pub struct Fresh {
     near: Vec<u64>,
     /// How many boards are fresh.
     count: usize,
-    /// The place of the first board of the open wave.
+    /// The index of the first board of the open wave.
     first: Option<u32>,
     /// The least distance of the other fresh boards.
     next: Option<u32>,
@@ -61,40 +61,40 @@ impl Fresh {
         ensures { result ≡ nearest_of wave self.now.first self.now.next }
     {
         match self.first {
-            Some(_place) => Some(wave),
+            Some(_index) => Some(wave),
             None => self.next,
         }
     }
 
-    /// The board at this place is fresh from now on.
+    /// The board at this index is fresh from now on.
     #[inline(always)]
-    pub fn insert(&mut self, wave: u32, cells: &[Cell], place: u32)
-        requires place { place < length cells.now }
-        requires new { is_marked self.old.words.items place ≡ false }
+    pub fn insert(&mut self, wave: u32, cells: &[Cell], index: u32)
+        requires index { index < length cells.now }
+        requires new { is_marked self.old.words.items index ≡ false }
         requires sound { IsFresh wave cells.now self.old }
-        ensures marks { MarksOne place self.old.words.items self.new.words.items }
+        ensures marks { MarksOne index self.old.words.items self.new.words.items }
         ensures sound { IsFresh wave cells.now self.new }
     {
-        mark(&mut self.words, place);
+        mark(&mut self.words, index);
         self.count += 1;
-        self.note(wave, cells[place as usize].dist, place);
+        self.note(wave, cells[index as usize].dist, index);
     }
 
-    /// Makes the first board of the open wave fresh no longer, and gives its place. None if there
+    /// Makes the first board of the open wave fresh no longer, and gives its index. None if there
     /// is no such board.
     #[inline(always)]
     pub fn take_first(&mut self) -> Option<u32>
         requires sound { (wave : ℕ) × (cells : List CellView) × IsFresh wave cells self.old }
         ensures first { result ≡ self.old.first }
-        ensures marks { IfSome result (λ place. UnmarksOne place self.old.words.items self.new.words.items) }
+        ensures marks { IfSome result (λ index. UnmarksOne index self.old.words.items self.new.words.items) }
         ensures sound { (wave : ℕ) (cells : List CellView) → IsFresh wave cells self.old → IsFresh wave cells self.new }
     {
-        let place = self.first?;
-        unmark(&mut self.words, place);
-        unmark(&mut self.near, place);
+        let index = self.first?;
+        unmark(&mut self.words, index);
+        unmark(&mut self.near, index);
         self.count -= 1;
-        self.first = first_from(self.near.as_slice(), (place / 64) as usize);
-        Some(place)
+        self.first = first_from(self.near.as_slice(), (index / 64) as usize);
+        Some(index)
     }
 
     /// Opens this distance. Condition: no fresh board is of the one that was open.
@@ -123,53 +123,53 @@ impl Fresh {
         let word = self.words[run];
         let mut from = 0;
         while let Some(i) = next_bit(word, from) {
-            let place = 64 * run as u32 + i;
-            self.note(wave, cells[place as usize].dist, place);
+            let index = 64 * run as u32 + i;
+            self.note(wave, cells[index as usize].dist, index);
             from = i + 1;
         }
     }
 
-    /// Notes that the board at this place is fresh and has this distance.
+    /// Notes that the board at this index is fresh and has this distance.
     #[inline(always)]
-    fn note(&mut self, wave: u32, dist: u32, place: u32)
-        requires { place / 64 < length self.old.near.items }
+    fn note(&mut self, wave: u32, dist: u32, index: u32)
+        requires { index / 64 < length self.old.near.items }
         ensures same { self.new ≡ record self.old { near = self.new.near; first = self.new.first; next = self.new.next } }
         ensures size { length self.new.near.items ≡ length self.old.near.items }
-        ensures near { dist ≡ wave → MarksOne place self.old.near.items self.new.near.items
-            × (self.new.first ≡ Some (lesser self.old.first place)) × (self.new.next ≡ self.old.next) }
+        ensures near { dist ≡ wave → MarksOne index self.old.near.items self.new.near.items
+            × (self.new.first ≡ Some (lesser self.old.first index)) × (self.new.next ≡ self.old.next) }
         ensures far { (dist ≡ wave → ⊥) → (self.new.near.items ≡ self.old.near.items)
             × (self.new.first ≡ self.old.first) × (self.new.next ≡ Some (lesser self.old.next dist)) }
     {
         if dist == wave {
-            mark(&mut self.near, place);
-            self.first = Some(lesser(self.first, place));
+            mark(&mut self.near, index);
+            self.first = Some(lesser(self.first, index));
             return;
         }
         self.next = Some(lesser(self.next, dist));
     }
 }
 
-/// Marks the board at this place.
+/// Marks the board at this index.
 #[inline(always)]
-fn mark(words: &mut Vec<u64>, place: u32)
-    requires { place / 64 < length words.old.items }
-    ensures { MarksOne place words.old.items words.new.items }
+fn mark(words: &mut Vec<u64>, index: u32)
+    requires { index / 64 < length words.old.items }
+    ensures { MarksOne index words.old.items words.new.items }
 {
-    let run = (place / 64) as usize;
-    words[run] = with_bit(words[run], place % 64);
+    let run = (index / 64) as usize;
+    words[run] = with_bit(words[run], index % 64);
 }
 
-/// Takes the mark of the board at this place away.
+/// Takes the mark of the board at this index away.
 #[inline(always)]
-fn unmark(words: &mut Vec<u64>, place: u32)
-    requires { place / 64 < length words.old.items }
-    ensures { UnmarksOne place words.old.items words.new.items }
+fn unmark(words: &mut Vec<u64>, index: u32)
+    requires { index / 64 < length words.old.items }
+    ensures { UnmarksOne index words.old.items words.new.items }
 {
-    let run = (place / 64) as usize;
-    words[run] = without_bit(words[run], place % 64);
+    let run = (index / 64) as usize;
+    words[run] = without_bit(words[run], index % 64);
 }
 
-/// The place of the first board that is marked. Condition: none is marked in words before this one.
+/// The index of the first board that is marked. Condition: none is marked in words before this one.
 fn first_from(words: &[u64], from: usize) -> Option<u32>
     requires few { length words.now ≤ 2 ^ 26 }
     requires before { (k : ℕ) → k < 64 * from → is_marked words.now k ≡ true → ⊥ }

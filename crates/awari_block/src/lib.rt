@@ -22,6 +22,7 @@
 #![tactic(auto)]
 
 mod awaited;
+mod blocks;
 mod boards;
 mod cells;
 mod closed;
@@ -30,14 +31,15 @@ mod laws;
 mod notes;
 mod paces;
 mod pits;
-mod places;
+mod stakes;
 mod words;
 
 pub use awaited::{awaited_gains, next_awaiting};
+pub use blocks::{Block, block_length};
 pub use boards::Boards;
 pub use cells::{Cell, Mark};
 pub use closed::ClosedPart;
 pub use laws::{paces_have_limits, worked_examples};
 pub use notes::{Kind, Note};
 pub use paces::{MOST_OWNERS, MOST_ROOM, MOST_SWEEPS, Pace};
-pub use places::{Block, Place, block_length};
+pub use stakes::Stake;

@@ -3,7 +3,7 @@ use Rattle.std.proofs.Common.{◌≡◌, ℕ, ◌+◌, ◌-◌, ◌^◌, ◌<◌
 use Rattle.std.proofs.lemmas.List.{get_or_default, set-get_or}
 use Rattle.awari_owner.specs.Level.{DistancesFit, no_part}
 use Rattle.awari_block.specs.Part.{Part, IsLeastDue, HasFarthest}
-use Rattle.awari_owner.specs.Sound.{SamePlace, SpreadsFirst, TakesNotes}
+use Rattle.awari_owner.specs.Sound.{SameStake, SpreadsFirst, TakesNotes}
 use Rattle.awari_block.specs.declared.notes.Note.{Note}
 use Rattle.awari_core.specs.Core.{Core, Sender, Sound, DoesSpread, DoesSend, DoesTake, Does, IsEnabled, IsFaultOf, MovesBatch, PopsBatch, Runs, no_sender, part_at, sender_at}
 use Rattle.awari_core.specs.declared.cores.Core.TheInside.{Inside}
@@ -45,7 +45,7 @@ both_same core i p q s t high high' at at' same same' =
     ∙ ap (λ (l : List Sender). record core { senders = l }) (same_sender core.senders i s t high' at' same')
 
 pub spread_does : (old : Core) (i : ℕ) (p q : Part) (s t : Sender) → i < length old.parts → i < length old.senders → p ≡ get_or old.parts i p → s ≡ get_or old.senders i s
-    → t.rings ≡ s.rings → SamePlace p q → SpreadsFirst p q s.outboxes t.outboxes → DoesSpread old (with_both old i q t) i
+    → t.rings ≡ s.rings → SameStake p q → SpreadsFirst p q s.outboxes t.outboxes → DoesSpread old (with_both old i q t) i
 spread_does old i p q s t high high' at at' rings place spreads =
     let part = sym (get_or-set_same old.parts i q no_part high) in
     let sender = sym (get_or-set_same old.senders i t no_sender high') in
@@ -54,7 +54,7 @@ spread_does old i p q s t high high' at at' rings place spreads =
     record {
       changes = record { shelf = refl; room = refl; gain = refl; parts = ap (set old.parts i) part; senders = ap (set old.senders i) sender };
       rings = subst₂ (λ (a b : Sender). b.rings ≡ a.rings) had sender rings;
-      place = subst₂ SamePlace was part place;
+      stake = subst₂ SameStake was part place;
       spreads = subst₂ (λ (a b : Part). SpreadsFirst a b (sender_at old i).outboxes (sender_at (with_both old i q t) i).outboxes) was part
           (subst₂ (λ (a b : Sender). SpreadsFirst p q a.outboxes b.outboxes) had sender spreads);
     }

@@ -11,7 +11,7 @@ use Rattle.awari_owner.specs.declared.faults.OwnerFault.{OwnerFault}
 use Rattle.awari_owner.specs.declared.faults.OwnerFault.TheVariants.{Stranger, Doubled, Far, Memory}
 use Rattle.awari_owner.proofs.Expecting.{share_still}
 use Rattle.awari_owner.proofs.Lists.{all_right}
-use Rattle.awari_owner.proofs.Sounding.{place_settled, share_place, sound_opened, sound_same, sound_scanned}
+use Rattle.awari_owner.proofs.Sounding.{stake_settled, share_stake, sound_opened, sound_same, sound_scanned}
 
 -- parts that were scanned, with nothing on its way
 pub scanned_sound : (value : List ℕ → ℤ) (n owners : ℕ) (part : ℕ → Part) → 0 < owners → ((i : ℕ) → i < owners → IsScannedOwner value n owners i (part i)) → AreSound value n owners part (λ _ _. []) (λ _ _. [])
@@ -144,12 +144,12 @@ module _ (value : List ℕ → ℤ) (n owners : ℕ) (part : ℕ → Part) (comi
 
   pub taken_sound : AreSound value n owners (with_part part j q) (with_list coming i j rest) (with_more taken i j notes)
   taken_sound =
-      let place = place_settled (part j) q takes.settles in
+      let place = stake_settled (part j) q takes.settles in
       let some : 0 < owners = omega (arith, high) in
       let gains = each_part (λ k p. p.gain ≡ (part 0).gain) (place.level.gain ∙ sound.step.gain j high') sound.step.gain in
       let waves = each_part (λ k p. p.wave ≡ (part 0).wave) (place.level.wave ∙ sound.step.wave j high') sound.step.wave in
       record {
-        shares = each_part (IsShare n owners) (share_place n owners j (part j) q place (sound.shares j high')) sound.shares;
+        shares = each_part (IsShare n owners) (share_stake n owners j (part j) q place (sound.shares j high')) sound.shares;
         step = record { gain = λ k low. gains k low ∙ sym (gains 0 some); wave = λ k low. waves k low ∙ sym (waves 0 some) };
         sound = λ k low. elim (cases_eq k j) [
           | inl same ↦ subst At (sym same) receiver

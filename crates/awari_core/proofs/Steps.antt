@@ -9,10 +9,10 @@ use Rattle.awari_block.specs.Part.{Part}
 use Rattle.awari_block.specs.declared.notes.Note.{Note}
 use Rattle.awari_owner.specs.Level.{AreSound, IsShare, no_part}
 use Rattle.awari_owner.specs.Outboxes.{AreBatches, IsBatch, Outboxes, notes_of, queue_to}
-use Rattle.awari_owner.specs.Sound.{IsTimely, OwnerSound, SamePlace, SpreadsFirst, TakesNotes}
+use Rattle.awari_owner.specs.Sound.{IsTimely, OwnerSound, SameStake, SpreadsFirst, TakesNotes}
 use Rattle.awari_owner.specs.Spread.{IsPartOf}
 use Rattle.awari_owner.proofs.Lists.{notes_of-last}
-use Rattle.awari_owner.proofs.Sounding.{place_same, place_settled, share_place, sound_same}
+use Rattle.awari_owner.proofs.Sounding.{stake_same, stake_settled, share_stake, sound_same}
 use Rattle.awari_core.specs.Core.{Core, DoesSpread, IsLinked, Ring, MovesBatch, PopsBatch, Sender, Sound, coming, coming_to, ring_at, ring_to, no_ring, no_sender, part_at, sender_at}
 use Rattle.awari_core.proofs.Sounding.{list_from, list_here, list_to, part_here, part_other, taken_sound, with_list, with_more, with_part}
 
@@ -33,7 +33,7 @@ each_set P items none n i x count high here all k low = elim (cases_eq k i) [
 -- owners whose parts stand where they did, and that are linked and sound
 sound_of : (old new : Core) (taken : ℕ → ℕ → List Note) → Sound old → new.shelf ≡ old.shelf → new.room ≡ old.room → new.gain ≡ old.gain
     → length new.parts ≡ length old.parts → length new.senders ≡ length old.senders
-    → ((k : ℕ) → k < length old.parts → SamePlace (part_at old k) (part_at new k))
+    → ((k : ℕ) → k < length old.parts → SameStake (part_at old k) (part_at new k))
     → ((k : ℕ) → k < length old.parts → IsLinked (length old.parts) old.room k (sender_at new k))
     → ((k : ℕ) → k < length old.parts → IsSoundAt (table_of old.shelf).value (length old.parts) taken k (part_at new k) (sender_at new k))
     → Sound new
@@ -47,7 +47,7 @@ sound_of old new taken sound shelf room gain count senders place linked each = r
   gain = (place 0 sound.some).level.gain ∙ sound.gain ∙ ap (max 1) (sym gain);
   taken = taken;
   sound = subst₂ (λ (s : List Image) (m : ℕ). AreSound (table_of s).value (length s) m (part_at new) (coming new) taken) (sym shelf) (sym count) (record {
-    shares = λ k low. share_place (length old.shelf) (length old.parts) k (part_at old k) (part_at new k) (place k low) (sound.sound.shares k low);
+    shares = λ k low. share_stake (length old.shelf) (length old.parts) k (part_at old k) (part_at new k) (place k low) (sound.sound.shares k low);
     step = record {
       gain = λ k low. (place k low).level.gain ∙ sound.sound.step.gain k low ∙ sym (place 0 sound.some).level.gain;
       wave = λ k low. (place k low).level.wave ∙ sound.sound.step.wave k low ∙ sym (place 0 sound.some).level.wave;
@@ -102,7 +102,7 @@ spread_step old new i high does sound =
     let value = (table_of old.shelf).value in
     sound_of old new sound.taken sound does.changes.shelf does.changes.room does.changes.gain
     (ap (λ (l : List Part). length l) does.changes.parts ∙ length-set old.parts i (part_at new i)) (ap (λ (l : List Sender). length l) does.changes.senders ∙ length-set old.senders i (sender_at new i))
-    (both (λ k p s. SamePlace (part_at old k) p) does.place (λ k low. place_same (part_at old k)))
+    (both (λ k p s. SameStake (part_at old k) p) does.stake (λ k low. stake_same (part_at old k)))
     (both (λ k p s. IsLinked owners old.room k s) (linked_spread value owners old.room i sound.taken (part_at old i) (part_at new i) (sender_at old i) (sender_at new i) does.rings does.spreads (sound.linked i high)) sound.linked)
     (both (IsSoundAt value owners sound.taken)
     (sound_spread value owners old.room i sound.taken (part_at old i) (part_at new i) (sender_at old i) (sender_at new i) does.rings does.spreads (sound.linked i high) (sound.sound.sound i high)) sound.sound.sound)
@@ -173,7 +173,7 @@ send_step old i j t high high' m sound =
     let same = same_coming owners old.room i j s was high' m.batch m.rest m.whole m.first in
     let here : IsSoundAt value owners sound.taken i (part_at old i) now =
     subst (λ (c : ℕ → List Note). OwnerSound value i owners (part_at old i) (λ a. sound.taken a i) (λ b. sound.taken i b ++ c b) c) (sym (λ u b. same b u)) (sound.sound.sound i high) in
-    sound_of old (record old { senders = set old.senders i t }) sound.taken sound refl refl refl refl (length-set old.senders i t) (λ k low. place_same (part_at old k))
+    sound_of old (record old { senders = set old.senders i t }) sound.taken sound refl refl refl refl (length-set old.senders i t) (λ k low. stake_same (part_at old k))
     (each_set (IsLinked owners old.room) old.senders no_sender owners i t sound.senders high (subst (IsLinked owners old.room i) (sym m.moves) (linked_sent owners old.room i j s was high' m.batch m.rest m.whole m.first)) sound.linked)
     (each_set (λ k (u : Sender). IsSoundAt value owners sound.taken k (part_at old k) u) old.senders no_sender owners i t sound.senders high
     (subst (IsSoundAt value owners sound.taken i (part_at old i)) (sym m.moves) here) sound.sound.sound)
@@ -229,7 +229,7 @@ module _ (old : Core) (i j : ℕ) (high : i < length old.parts) (high' : j < len
 
   pub take_step : (q : Part) → TakesNotes batch (part_at old j) q → Sound (record old { parts = set old.parts j q; senders = set old.senders i t })
   take_step q takes = sound_of old new taken sound refl refl refl (length-set old.parts j q) (length-set old.senders i t)
-      (each_set (λ k p. SamePlace (part_at old k) p) old.parts no_part owners j q refl high' (place_settled (part_at old j) q takes.settles) (λ k low. place_same (part_at old k)))
+      (each_set (λ k p. SameStake (part_at old k) p) old.parts no_part owners j q refl high' (stake_settled (part_at old j) q takes.settles) (λ k low. stake_same (part_at old k)))
       (each_set (IsLinked owners old.room) old.senders no_sender owners i t sound.senders high linked_popped sound.linked)
       (λ k low. sound_same value k owners (part_at new k) (λ a. taken a k) (λ a. taken a k) (λ b. taken k b ++ with_list (coming old) i j left k b) (λ b. taken k b ++ coming new k b)
       (with_list (coming old) i j left k) (coming new k)

@@ -9,7 +9,7 @@ use Rattle.awari_block.specs.Part.{Part, IsLeastDue}
 use Rattle.awari_owner.specs.Level.{AreSound, no_part}
 use Rattle.awari_owner.specs.Scan.{IsScan}
 use Rattle.awari_owner.specs.Outboxes.{Outboxes, AreBatches, IsBatch, queue_to, notes_of}
-use Rattle.awari_owner.specs.Sound.{OpensGain, SamePlace, SpreadsFirst, TakesNotes}
+use Rattle.awari_owner.specs.Sound.{OpensGain, SameStake, SpreadsFirst, TakesNotes}
 use Rattle.awari_owner.specs.Sound as owner
 use Rattle.awari_block.specs.declared.notes.Note.{Note}
 use Rattle.awari_core.specs.declared.events.Event.{Event}
@@ -222,7 +222,7 @@ pub record PopsBatch (batch : List Note) (old new : Sender) (j : ℕ) : Type 0 w
 pub record DoesSpread (old new : Core) (i : ℕ) : Type 0 where
   pub changes : ChangesOwner old new i
   pub rings : (sender_at new i).rings ≡ (sender_at old i).rings
-  pub place : SamePlace (part_at old i) (part_at new i)
+  pub stake : SameStake (part_at old i) (part_at new i)
   pub spreads : SpreadsFirst (part_at old i) (part_at new i) (sender_at old i).outboxes (sender_at new i).outboxes
 
 -- A batch moves from the outbox of i for j to the ring from i to j.

@@ -2,7 +2,7 @@
 
 ghost use Rattle.std.specs.Prelude.{◌≡◌, ◌≤◌, ◌<◌, ◌-◌, ◌⊎◌, ◌↔◌, [], ℕ, Some, OnErr, IfOk, IfErr, IfSome, IfNone, IsTrue, length, vec_len, All, replicate, true, false, slice_index_or};
 ghost use Rattle.awari_block.specs.Part.{IsLeastDue, HasFarthest};
-ghost use Rattle.awari_owner.specs.Sound.{SamePlace, SpreadsFirst};
+ghost use Rattle.awari_owner.specs.Sound.{SameStake, SpreadsFirst};
 ghost use Rattle.awari_owner.specs.Spread.{IsPartOf};
 ghost use Rattle.awari_owner.specs.declared.faults.OwnerFault.{OwnerFault};
 ghost use Rattle.awari_core.specs.Core.{CanSend, IsLinked, IsSilent, MovesBatch, PopsBatch, Sender as SenderView, ring_to, no_sender};
@@ -50,7 +50,7 @@ impl Sender {
         ensures due { result ≡ Ok false → IsLeastDue part.old (Some part.old.wave) → ⊥ }
         ensures least { (result ≡ Ok false → ⊥) → IsLeastDue part.old (Some part.old.wave) }
         ensures none { result ≡ Ok false → (part.new ≡ part.old) × (self.new ≡ self.old) }
-        ensures place { SamePlace part.old part.new }
+        ensures stake { SameStake part.old part.new }
         ensures rings { self.new.rings ≡ self.old.rings }
         ensures fault { IfErr result (λ fault. ((fault ≡ OwnerFault.Far) × HasFarthest part.old) ⊎ ((fault ≡ OwnerFault.Memory) × (1 < length self.old.outboxes.queues))) }
         ensures err { OnErr result ((part.new ≡ part.old) × (self.new ≡ self.old)) }

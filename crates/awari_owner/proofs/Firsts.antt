@@ -11,28 +11,28 @@ use Rattle.awari_block.specs.Notes.{IsQuietMove, IsNoteOf}
 use Rattle.awari_block.specs.Cells.{IsEither, IsWithin, Fits, FitsBy, is_settled}
 use Rattle.awari_block.specs.Blocks.{Due, due_rank, due_dist, cell_in, times_due, is_settled_in, no_cell, IsDueAs, IsBlock, JoinNewlySettled, KeepSettled}
 use Rattle.awari_block.specs.Part.{Part, InBlock, IsTallied, part_of, stored_at, settled_at, unspread}
-use Rattle.awari_owner.specs.Sound.{SamePlace}
+use Rattle.awari_owner.specs.Sound.{SameStake}
 use Rattle.awari_owner.specs.Spread.{Source, Tells, kind_of, note_to, with_all_own, LeavesFresh, Spreads, SpreadsOne}
 use Rattle.awari_block.specs.declared.cells.Cell.{Cell}
 use Rattle.awari_block.specs.declared.cells.Mark.{Mark}
 use Rattle.awari_block.specs.declared.cells.Mark.TheVariants.{Ended, Quiet, Capturing, Noted, Settled}
 use Rattle.awari_block.specs.declared.notes.Kind.{Kind}
-use Rattle.awari_block.specs.declared.places.Place.{Place}
-use Rattle.awari_block.specs.Boards.{Settles, TakesFirst, place_of}
+use Rattle.awari_block.specs.declared.stakes.Stake.{Stake}
+use Rattle.awari_block.specs.Boards.{Settles, TakesFirst, stake_of}
 use Rattle.std.proofs.lemmas.List.Sorted.{length_permutation}
 use Rattle.awari_block.proofs.BlockLemmas.{first_due}
-use Rattle.awari_block.proofs.Settling.{same_place}
+use Rattle.awari_block.proofs.Settling.{same_stake}
 use Rattle.awari_owner.proofs.Spreading.{IsInjective, AreSources, sources_of, unheard_sources, joined_but}
 use Rattle.awari_owner.proofs.Hearing.{settled_value, first_spreads, hears_first, note_fits}
 
 -- no board is fresh before a gain is open that the level has
-pub gain_low : (place : Place) (c : Cell) → Fits place c → is_settled c.mark ≡ true → IsEither place.gain c.score → place.gain ≤ place.level
-gain_low place c fits settled either = at c.mark settled fits
+pub gain_low : (stake : Stake) (c : Cell) → Fits stake c → is_settled c.mark ≡ true → IsEither stake.gain c.score → stake.gain ≤ stake.level
+gain_low stake c fits settled either = at c.mark settled fits
   where
-    at : (m : Mark) → is_settled m ≡ true → FitsBy m place.level place.gain c.score c.dist → place.gain ≤ place.level
+    at : (m : Mark) → is_settled m ≡ true → FitsBy m stake.level stake.gain c.score c.dist → stake.gain ≤ stake.level
     at Settled e f = within f.0 either
       where
-        within : IsWithin place.level c.score → IsEither place.gain c.score → place.gain ≤ place.level
+        within : IsWithin stake.level c.score → IsEither stake.gain c.score → stake.gain ≤ stake.level
         within w (inl up) = let high = w.1 in omega (arith, ints, high, up)
         within w (inr down) = let low = w.0 in omega (arith, ints, low, down)
     at Quiet e f = absurd (false≢true e)
@@ -54,20 +54,20 @@ pub record IsTold (part : Part) (q : List ℕ) (sources : List Source) (kind : K
   pub are : AreSources q sources
   pub level : sum q ≡ part.level
 
-module _ (place : Place) (cells cells' : List Cell) (fresh rest after : List Due) (f : Due) (cell : Cell) (q : List ℕ) (sources : List Source) (kind : Kind) where
+module _ (stake : Stake) (start : ℕ) (cells cells' : List Cell) (fresh rest after : List Due) (f : Due) (cell : Cell) (q : List ℕ) (sources : List Source) (kind : Kind) where
   pub spread_by : IsInjective → ((p : List ℕ) (x : ℕ) (r : List ℕ) → IsBoard p → IsQuietMove p x r → IsBoard r) → ((p : List ℕ) (x : ℕ) (r : List ℕ) → IsBoard p → IsQuietMove p x r → sum r + 0 ≡ sum p)
-      → IsBlock place cells fresh → IsPermutation (f ∷ rest) fresh → All (λ y. (due_dist f ≤ due_dist y) × (due_dist y ≡ due_dist f → due_rank f ≤ due_rank y)) fresh
-      → due_dist f ≡ place.wave → place.wave < 2 ^ 32 - 1 → 1 ≤ place.gain → IsBoard q → sum q ≡ place.level → rank_of q ≡ due_rank f → cell_in place.start cells (due_rank f) ≡ cell → kind ≡ kind_of cell.score
-      → IsPredecessors q sources → Tells (part_of place cells rest) (part_of place cells' after) kind sources
-      → JoinNewlySettled place.start cells rest cells' after → KeepSettled place.start cells cells' → length cells' ≡ length cells
-      → Spreads (part_of place cells fresh) (part_of place cells' after) q sources × IsTold (part_of place cells fresh) q sources kind
+      → IsBlock stake start cells fresh → IsPermutation (f ∷ rest) fresh → All (λ y. (due_dist f ≤ due_dist y) × (due_dist y ≡ due_dist f → due_rank f ≤ due_rank y)) fresh
+      → due_dist f ≡ stake.wave → stake.wave < 2 ^ 32 - 1 → 1 ≤ stake.gain → IsBoard q → sum q ≡ stake.level → rank_of q ≡ due_rank f → cell_in start cells (due_rank f) ≡ cell → kind ≡ kind_of cell.score
+      → IsPredecessors q sources → Tells (part_of stake start cells rest) (part_of stake start cells' after) kind sources
+      → JoinNewlySettled start cells rest cells' after → KeepSettled start cells cells' → length cells' ≡ length cells
+      → Spreads (part_of stake start cells fresh) (part_of stake start cells' after) q sources × IsTold (part_of stake start cells fresh) q sources kind
   spread_by injective boards stones sound moved least wave near_wave one is level ranked was kinds predecessors told joined stays len = (
     record {
       board = is;
       stones = level;
-      first = record { fresh = often; inside = inside; near = near; first = first_of f fresh place.wave (rank_of q) wave ranked least };
+      first = record { fresh = often; inside = inside; near = near; first = first_of f fresh stake.wave (rank_of q) wave ranked least };
       once = few;
-      opened = gain_low place (cell_in place.start cells (due_rank f)) (sound.fit (due_rank f - place.start) no_cell due.1) due.4 due.2.valued;
+      opened = gain_low stake (cell_in start cells (due_rank f)) (sound.fit (due_rank f - start) no_cell due.1) due.4 due.2.valued;
       valued = either;
       near = near_wave;
       predecessors = predecessors;
@@ -77,21 +77,21 @@ module _ (place : Place) (cells cells' : List Cell) (fresh rest after : List Due
           (told value notes (unheard_sources old kind notes q sources injective own are level inside often) tallied);
       becomes = becomes;
       gives = gives;
-      hears = λ notes own. hears_first old new notes q sources (kind_of (stored_at old (rank_of q)).score) (stored_at old (rank_of q)).score place.wave injective are
+      hears = λ notes own. hears_first old new notes q sources (kind_of (stored_at old (rank_of q)).score) (stored_at old (rank_of q)).score stake.wave injective are
           (λ p x r board quiet. (boards p x r board quiet, omega (arith, stones p x r board quiet))) becomes gives own;
     },
     record { either = either; settled = settled; kinds = same; are = are; level = level },
   )
     where
       old : Part
-      old = part_of place cells fresh
+      old = part_of stake start cells fresh
 
       new : Part
-      new = part_of place cells' after
+      new = part_of stake start cells' after
 
-      due : (place.start ≤ due_rank f) × (due_rank f - place.start < length cells) × IsDueAs place f (cell_in place.start cells (due_rank f)) × (0 < times_due fresh (due_rank f))
-          × (is_settled (cell_in place.start cells (due_rank f)).mark ≡ true)
-      due = first_due place cells fresh rest f sound moved
+      due : (start ≤ due_rank f) × (due_rank f - start < length cells) × IsDueAs stake f (cell_in start cells (due_rank f)) × (0 < times_due fresh (due_rank f))
+          × (is_settled (cell_in start cells (due_rank f)).mark ≡ true)
+      due = first_due stake start cells fresh rest f sound moved
 
       are : AreSources q sources
       are = sources_of q sources (λ p x board quiet. stones p x q board quiet) predecessors
@@ -102,35 +102,35 @@ module _ (place : Place) (cells cells' : List Cell) (fresh rest after : List Due
       often : 0 < times_due fresh (rank_of q)
       often = subst (λ r. 0 < times_due fresh r) (sym ranked) due.3
 
-      near : (stored_at old (rank_of q)).dist ≡ place.wave
-      near = subst (λ r. (cell_in place.start cells r).dist ≡ place.wave) (sym ranked) (due.2.near ∙ wave)
+      near : (stored_at old (rank_of q)).dist ≡ stake.wave
+      near = subst (λ r. (cell_in start cells r).dist ≡ stake.wave) (sym ranked) (due.2.near ∙ wave)
 
-      either : IsEither place.gain (stored_at old (rank_of q)).score
-      either = subst (λ r. IsEither place.gain (cell_in place.start cells r).score) (sym ranked) due.2.valued
+      either : IsEither stake.gain (stored_at old (rank_of q)).score
+      either = subst (λ r. IsEither stake.gain (cell_in start cells r).score) (sym ranked) due.2.valued
 
-      settled : settled_at old (rank_of q) ≡ Some ((stored_at old (rank_of q)).score, place.wave)
-      settled = settled_value (stored_at old (rank_of q)) (subst (λ r. is_settled (cell_in place.start cells r).mark ≡ true) (sym ranked) due.4) ∙ ap (λ d. Some ((stored_at old (rank_of q)).score, d)) near
+      settled : settled_at old (rank_of q) ≡ Some ((stored_at old (rank_of q)).score, stake.wave)
+      settled = settled_value (stored_at old (rank_of q)) (subst (λ r. is_settled (cell_in start cells r).mark ≡ true) (sym ranked) due.4) ∙ ap (λ d. Some ((stored_at old (rank_of q)).score, d)) near
 
       few : times_due fresh (rank_of q) ≤ 1
-      few = let most = sound.settled (rank_of q) in at_most (is_settled_in place.start cells (rank_of q)) most
+      few = let most = sound.settled (rank_of q) in at_most (is_settled_in start cells (rank_of q)) most
         where
           at_most : (b : Bool) → times_due fresh (rank_of q) ≤ (if b then 1 else 0) → times_due fresh (rank_of q) ≤ 1
           at_most true h = h
           at_most false h = omega (arith, h)
 
       same : kind ≡ kind_of (stored_at old (rank_of q)).score
-      same = kinds ∙ ap (λ (d : Cell). kind_of d.score) (sym was ∙ ap (cell_in place.start cells) (sym ranked))
+      same = kinds ∙ ap (λ (d : Cell). kind_of d.score) (sym was ∙ ap (cell_in start cells) (sym ranked))
 
       leaves : LeavesFresh old new (rank_of q)
-      leaves = subst (LeavesFresh old new) (sym ranked) (joined_but place.start place.start cells cells' fresh rest after f moved joined)
+      leaves = subst (LeavesFresh old new) (sym ranked) (joined_but start start cells cells' fresh rest after f moved joined)
 
-      becomes : SpreadsOne old new q (stored_at old (rank_of q)).score place.wave
+      becomes : SpreadsOne old new q (stored_at old (rank_of q)).score stake.wave
       becomes = first_spreads old new q (stored_at old (rank_of q)).score is level
-          (settled_value (stored_at old (rank_of q)) (subst (λ r. is_settled (cell_in place.start cells r).mark ≡ true) (sym ranked) due.4) ∙ ap (λ d. Some ((stored_at old (rank_of q)).score, d)) near)
+          (settled_value (stored_at old (rank_of q)) (subst (λ r. is_settled (cell_in start cells r).mark ≡ true) (sym ranked) due.4) ∙ ap (λ d. Some ((stored_at old (rank_of q)).score, d)) near)
           inside few refl refl len stays leaves
 
-      gives : (y : Source) → IsQuietMove y.0 y.1 q → sum y.0 ≡ place.level → IsNoteOf q (stored_at old (rank_of q)).score place.wave y.0 y.1 (note_to old (kind_of (stored_at old (rank_of q)).score) y)
-      gives y quiet st = note_fits old q (stored_at old (rank_of q)).score y one (subst (λ r. IsEither place.gain (cell_in place.start cells r).score) (sym ranked) due.2.valued) st quiet
+      gives : (y : Source) → IsQuietMove y.0 y.1 q → sum y.0 ≡ stake.level → IsNoteOf q (stored_at old (rank_of q)).score stake.wave y.0 y.1 (note_to old (kind_of (stored_at old (rank_of q)).score) y)
+      gives y quiet st = note_fits old q (stored_at old (rank_of q)).score y one (subst (λ r. IsEither stake.gain (cell_in start cells r).score) (sym ranked) due.2.valued) st quiet
 
 -- ---- the same of a part whose first fresh board is taken and then told of
 
@@ -140,15 +140,15 @@ module _ (old taken new : Part) (rank : ℕ) (takes : TakesFirst old taken rank)
   taken_settles = subst (λ (t : Part). Settles t new) takes.rest settles
 
   -- the part stands where it did
-  pub taken_place : SamePlace old new
+  pub taken_place : SameStake old new
   taken_place = let same = taken_settles.same in record {
     level = record { level = same.level; gain = same.gain; wave = same.wave; start = same.start };
     long = taken_settles.size;
     stays = taken_settles.stays;
   }
 
-  at_place : part_of (place_of old) new.cells new.fresh ≡ new
-  at_place = same_place (record old { fresh = taken.fresh }) new taken_settles.same
+  at_stake : part_of (stake_of old) old.start new.cells new.fresh ≡ new
+  at_stake = same_stake (record old { fresh = taken.fresh }) new taken_settles.same
 
   pub fewer_unspread : unspread new + 1 ≡ unspread old
   fewer_unspread =
@@ -162,15 +162,15 @@ module _ (old taken new : Part) (rank : ℕ) (takes : TakesFirst old taken rank)
       → IsPredecessors q sources → Tells taken new kind sources
       → Spreads old new q sources × IsTold old q sources kind
   spread_first cell q sources kind injective boards stones near one is level ranked was kinds predecessors told =
-      subst (λ (n : Part). Spreads old n q sources × IsTold old q sources kind) at_place
-      (spread_by (place_of old) old.cells new.cells old.fresh taken.fresh new.fresh (old.wave, rank) cell q sources kind injective boards stones takes.sound takes.moved takes.first
+      subst (λ (n : Part). Spreads old n q sources × IsTold old q sources kind) at_stake
+      (spread_by (stake_of old) old.start old.cells new.cells old.fresh taken.fresh new.fresh (old.wave, rank) cell q sources kind injective boards stones takes.sound takes.moved takes.first
       refl near one is level ranked (sym (subst (λ (t : Part). cell ≡ stored_at t rank) takes.rest was)) kinds predecessors
-      (subst₂ (λ (t n : Part). Tells t n kind sources) takes.rest (sym at_place) told)
+      (subst₂ (λ (t n : Part). Tells t n kind sources) takes.rest (sym at_stake) told)
       taken_settles.joins taken_settles.stays taken_settles.size)
 
 -- the open gain is one that the level has
 pub taken_low : (old taken : Part) (rank : ℕ) → TakesFirst old taken rank → taken.gain ≤ taken.level
 taken_low old taken rank takes =
     subst (λ (t : Part). t.gain ≤ t.level) (sym takes.rest)
-    (let due = first_due (place_of old) old.cells old.fresh taken.fresh (old.wave, rank) takes.sound takes.moved in
-    gain_low (place_of old) (stored_at old rank) (takes.sound.fit (rank - old.start) no_cell due.1) due.4 due.2.valued)
+    (let due = first_due (stake_of old) old.start old.cells old.fresh taken.fresh (old.wave, rank) takes.sound takes.moved in
+    gain_low (stake_of old) (stored_at old rank) (takes.sound.fit (rank - old.start) no_cell due.1) due.4 due.2.valued)

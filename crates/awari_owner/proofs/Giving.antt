@@ -9,7 +9,7 @@ use Rattle.awari_block.specs.Part.{Part, AreFresh, InBlock, Leaves, stored_at}
 use Rattle.awari_block.specs.Leaving.{first_rank}
 use Rattle.awari_block.specs.declared.notes.Note.{Note}
 use Rattle.awari_owner.specs.Outboxes.{Outboxes, notes_of, queue_to}
-use Rattle.awari_owner.specs.Sound.{HoldsNotes, IsInBlockOf, IsOtherOf, IsTimely, OwnerSound, SamePlace}
+use Rattle.awari_owner.specs.Sound.{HoldsNotes, IsInBlockOf, IsOtherOf, IsTimely, OwnerSound, SameStake}
 use Rattle.awari_owner.specs.Spread.{Source, IsSpread, Sends, Spreads, is_in_block, kind_of, note_to, with_all_own}
 use Rattle.awari_owner.proofs.Lists.{Has-append_left, Has-append_right, Has-append_cases, all_has, notes_of-with_notes, once_more}
 use Rattle.awari_owner.proofs.Sounding.{timely_all}
@@ -34,7 +34,7 @@ to_test a b r low high = grind (arith, nat_tests)
 
 module _ (injective : IsInjective) (moves : (p : List ℕ) (x : ℕ) (r : List ℕ) → IsBoard p → IsQuietMove p x r → IsBoard r × (sum r ≡ sum p))
     (value : List ℕ → ℤ) (part part' : Part) (o o' : Outboxes) (taken sent coming : ℕ → List Note) (q : List ℕ) (sources : List Source) (notes : List Note)
-    (spreads : Spreads part part' q sources) (sends : Sends part q sources notes o o') (place : SamePlace part part') (fresh : AreFresh part')
+    (spreads : Spreads part part' q sources) (sends : Sends part q sources notes o o') (stake : SameStake part part') (fresh : AreFresh part')
     (s : OwnerSound value o.owner (length o.queues) part taken (λ j. sent j ++ notes_of (queue_to o j)) (λ j. coming j ++ notes_of (queue_to o j))) where
   abbrev score : ℤ
   score = (stored_at part (rank_of q)).score
@@ -49,17 +49,17 @@ module _ (injective : IsInjective) (moves : (p : List ℕ) (x : ℕ) (r : List �
   are = sources_of q sources (λ p x is quiet. let kept = moves p x q is quiet in omega (arith, kept.1)) spreads.predecessors
 
   in_new : (r : ℕ) → InBlock part r → InBlock part' r
-  in_new r h = let a = h.0 in let b = h.1 in (omega (arith, a, place.level.start), omega (arith, b, place.level.start, place.long))
+  in_new r h = let a = h.0 in let b = h.1 in (omega (arith, a, stake.level.start), omega (arith, b, stake.level.start, stake.long))
 
   in_old : (r : ℕ) → InBlock part' r → InBlock part r
-  in_old r h = let a = h.0 in let b = h.1 in (omega (arith, a, place.level.start), omega (arith, b, place.level.start, place.long))
+  in_old r h = let a = h.0 in let b = h.1 in (omega (arith, a, stake.level.start), omega (arith, b, stake.level.start, stake.long))
 
   unspread : (u : ℤ) (e : ℕ) → IsSpread part (rank_of q) u e → ⊥
   unspread u e spread = let none = spread.1 in let some = spreads.first.fresh in omega (arith, none, some)
 
   leaves_old : (target pit : ℕ) → Leaves part' target pit → Leaves part target pit
   leaves_old target pit leaves p is stones at =
-      let there = leaves p is (stones ∙ sym place.level.level) at in
+      let there = leaves p is (stones ∙ sym stake.level.level) at in
       (there.0, there.1, λ inside. there.2 (in_new (rank_of there.0) inside))
 
   -- a note of the block is of no move that leaves it
@@ -83,7 +83,7 @@ module _ (injective : IsInjective) (moves : (p : List ℕ) (x : ℕ) (r : List �
     true_notes = λ m has. elim (Has-append_cases (sent j ++ notes_of (queue_to o j)) (more j) m has) [
       | inl before ↦ (
           let (p, r, x, u, e, is_p, stones, in_r, in_j, spread, note) = old.true_notes m before in
-          (p, r, x, u, e, is_p, stones ∙ sym place.level.level, in_new (rank_of r) in_r, subst (λ n. IsInBlockOf n (length o.queues) j (rank_of p)) (sym place.level.level) in_j, spreads.becomes.forth (rank_of r) u e in_r spread, note))
+          (p, r, x, u, e, is_p, stones ∙ sym stake.level.level, in_new (rank_of r) in_r, subst (λ n. IsInBlockOf n (length o.queues) j (rank_of p)) (sym stake.level.level) in_j, spreads.becomes.forth (rank_of r) u e in_r spread, note))
       | inr later ↦ (
           let chosen = Has-filter (for_other j) notes m later in
           let (k, at, is) = source_of q score part.wave sources notes sends.gives m chosen.0 in
@@ -98,25 +98,25 @@ module _ (injective : IsInjective) (moves : (p : List ℕ) (x : ℕ) (r : List �
             score,
             part.wave,
             each.0,
-            each.1 ∙ spreads.stones ∙ sym place.level.level,
+            each.1 ∙ spreads.stones ∙ sym stake.level.level,
             in_new (rank_of q) spreads.first.inside,
-            subst (λ n. IsInBlockOf n (length o.queues) j (rank_of y.0)) (sym place.level.level) held,
+            subst (λ n. IsInBlockOf n (length o.queues) j (rank_of y.0)) (sym stake.level.level) held,
             spreads.becomes.now,
             note,
           ))
     ];
     all_notes = λ p r x u e is stones in_r in_j quiet spread. elim (spreads.becomes.back (rank_of r) u e (in_old (rank_of r) in_r) spread) [
       | inl before ↦ (
-          let (m, has, note) = old.all_notes p r x u e is (stones ∙ place.level.level) (in_old (rank_of r) in_r) (subst (λ n. IsInBlockOf n (length o.queues) j (rank_of p)) place.level.level in_j) quiet before in
+          let (m, has, note) = old.all_notes p r x u e is (stones ∙ stake.level.level) (in_old (rank_of r) in_r) (subst (λ n. IsInBlockOf n (length o.queues) j (rank_of p)) stake.level.level in_j) quiet before in
           (m, Has-append_left (sent j ++ notes_of (queue_to o j)) (more j) m has, note))
       | inr here ↦ (
           let there = moves p x r is quiet in
-          let same : r ≡ q = injective r q there.0 spreads.board (there.1 ∙ stones ∙ place.level.level ∙ sym spreads.stones) here.0 in
+          let same : r ≡ q = injective r q there.0 spreads.board (there.1 ∙ stones ∙ stake.level.level ∙ sym spreads.stones) here.0 in
           let to_q : IsQuietMove p x q = subst (IsQuietMove p x) same quiet in
           let found = are.every p x is to_q in
           let (m, has, note) = note_of q score part.wave sources notes sends.gives found.0 (p, x) found.1 in
           let at_p : IsNoteOf q score part.wave p x m = subst (λ (z : Source). IsNoteOf q score part.wave z.0 z.1 m) found.2 note in
-          let held : IsInBlockOf part.level (length o.queues) j (rank_of p) = subst (λ n. IsInBlockOf n (length o.queues) j (rank_of p)) place.level.level in_j in
+          let held : IsInBlockOf part.level (length o.queues) j (rank_of p) = subst (λ n. IsInBlockOf n (length o.queues) j (rank_of p)) stake.level.level in_j in
           let tested : is_in_block (size_of part.level) (length o.queues) j (rank_of p) ≡ true =
           to_test (first_rank (size_of part.level) (length o.queues) j) (first_rank (size_of part.level) (length o.queues) (j + 1)) (rank_of p) held.0 held.1 in
           let chosen : for_other j m ≡ true = subst (λ t. is_in_block (size_of part.level) (length o.queues) j t ≡ true) (sym at_p.target) tested in (
@@ -143,7 +143,7 @@ module _ (injective : IsInjective) (moves : (p : List ℕ) (x : ℕ) (r : List �
 
   -- what is put to the outboxes is of the open gain and wave
   opened' : (j : ℕ) → IsOtherOf o.owner (length o.queues) j → All (IsTimely part') (coming j ++ notes_of (queue_to o' j))
-  opened' j other = timely_all part part' place.level.level place.level.gain place.level.wave (coming j ++ notes_of (queue_to o' j))
+  opened' j other = timely_all part part' stake.level.level stake.level.gain stake.level.wave (coming j ++ notes_of (queue_to o' j))
       (subst (All (IsTimely part)) (sym (grown (coming j) j other)) (All-append (IsTimely part) (coming j ++ notes_of (queue_to o j)) (more j) (s.opened j other) (all_has (IsTimely part) (more j) each)))
     where
       each : (k : Note) → Has (more j) k → IsTimely part k

@@ -15,7 +15,7 @@ use Rattle.awari_block.specs.Tally as tally
 use Rattle.awari_block.specs.declared.cells.Cell.{Cell}
 use Rattle.awari_block.specs.declared.cells.Mark.{Mark}
 use Rattle.awari_block.specs.declared.cells.Mark.TheVariants as mark
-use Rattle.awari_block.specs.declared.places.Place.{Place}
+use Rattle.awari_block.specs.declared.stakes.Stake.{Stake}
 use Rattle.awari_block.specs.Notes.{IsQuietMove}
 use Rattle.awari_block.specs.Pits.{has_pit, with_pit}
 use Rattle.awari_block.specs.Plain.{Captures, Knows, IsBest}
@@ -263,9 +263,9 @@ unsettled_by c e = at c.mark e
     at mark.Ended e = refl
 
 pub scanned_looked : (value : List ℕ → ℤ) (p : List ℕ) (quiet : ℕ) (best : Option ℤ) (plans : ℕ) (gain : ℤ) (c : Cell) → IsBoard p → IsRanged value (sum p) → IsOutlook value p 6 quiet best plans
-    → (IsEnded p → IsEnd p gain) → view_of c ≡ looked quiet best plans gain → ((place : Place) → place.level ≡ sum p → Fits place c) → IsScanned value p c
+    → (IsEnded p → IsEnd p gain) → view_of c ≡ looked quiet best plans gain → ((stake : Stake) → stake.level ≡ sum p → Fits stake c) → IsScanned value p c
 scanned_looked value p quiet best plans gain c is ranged h end view fits = record {
-  fits = λ t. fits (record { level = sum p; gain = t; wave = 0; start = 0 }) refl;
+  fits = λ t. fits (record { level = sum p; gain = t; wave = 0 }) refl;
   unsettled = unsettled_by c (ap (λ (d : tally.Cell). settled_by d.status) view ∙ none best);
   tallied = subst (λ (d : tally.Cell). IsTally value d p [] (sum p + 1) 0) (sym view) (looked_planned value p quiet best plans gain is ranged h end);
 }
@@ -283,27 +283,27 @@ end_is : (p : List ℕ) → IsEnded p → IsEnd p (if own_stones p == 0 then neg
 end_is p stuck = record { stuck = stuck; gains = refl }
 
 pub scanned_capturing : (value : List ℕ → ℤ) (p : List ℕ) (quiet : ℕ) (b : ℤ) (best : Option ℤ) (plans : ℕ) (c : Cell) → IsBoard p → IsRanged value (sum p) → best ≡ Some b → IsOutlook value p 6 quiet best plans
-    → view_of c ≡ record { left = quiet; status = Open (ByCapture b) plans 0 } → ((place : Place) → IsWithin place.level b → Fits place c) → IsScanned value p c
+    → view_of c ≡ record { left = quiet; status = Open (ByCapture b) plans 0 } → ((stake : Stake) → IsWithin stake.level b → Fits stake c) → IsScanned value p c
 scanned_capturing value p quiet b best plans c is ranged some h view fits =
     let found : IsOutlook value p 6 quiet (Some b) plans = subst (λ o. IsOutlook value p 6 quiet o plans) some h in
-    scanned_looked value p quiet (Some b) plans _ c is ranged found (end_is p) view (λ place level. fits place (subst (λ n. IsWithin n b) (sym level) found.counted.1.best_below.1))
+    scanned_looked value p quiet (Some b) plans _ c is ranged found (end_is p) view (λ stake level. fits stake (subst (λ n. IsWithin n b) (sym level) found.counted.1.best_below.1))
 
 pub scanned_quiet : (value : List ℕ → ℤ) (p : List ℕ) (quiet : ℕ) (best : Option ℤ) (plans : ℕ) (c : Cell) → IsBoard p → IsRanged value (sum p) → best ≡ None → 0 < quiet → IsOutlook value p 6 quiet best plans
-    → view_of c ≡ record { left = quiet; status = Open Nothing 0 0 } → ((place : Place) → Fits place c) → IsScanned value p c
+    → view_of c ≡ record { left = quiet; status = Open Nothing 0 0 } → ((stake : Stake) → Fits stake c) → IsScanned value p c
 scanned_quiet value p quiet best plans c is ranged none some h view fits =
     let found : IsOutlook value p 6 quiet None plans = subst (λ o. IsOutlook value p 6 quiet o plans) none h in
     scanned_looked value p quiet None plans _ c is ranged found (end_is p)
-    (view ∙ ap (λ b. record { left = quiet; status = if b then Ended (if own_stones p == 0 then neg_ℤ (pos (sum p)) else pos (sum p)) else Open Nothing 0 0 }) (sym (positive quiet some))) (λ place level. fits place)
+    (view ∙ ap (λ b. record { left = quiet; status = if b then Ended (if own_stones p == 0 then neg_ℤ (pos (sum p)) else pos (sum p)) else Open Nothing 0 0 }) (sym (positive quiet some))) (λ stake level. fits stake)
   where
     positive : (n : ℕ) → 0 < n → (n == 0) ≡ false
     positive n some = grind (arith, nat_tests)
 
 pub scanned_ended : (value : List ℕ → ℤ) (p : List ℕ) (quiet : ℕ) (best : Option ℤ) (plans : ℕ) (g : ℤ) (c : Cell) → IsBoard p → IsRanged value (sum p) → best ≡ None → quiet ≡ 0 → IsOutlook value p 6 quiet best plans → IsEnd p g
-    → view_of c ≡ record { left = 0; status = Ended g } → ((place : Place) → IsEither place.level g → Fits place c) → IsScanned value p c
+    → view_of c ≡ record { left = 0; status = Ended g } → ((stake : Stake) → IsEither stake.level g → Fits stake c) → IsScanned value p c
 scanned_ended value p quiet best plans g c is ranged none zero_quiet h end view fits =
     let found : IsOutlook value p 6 0 None plans = subst₂ (λ n o. IsOutlook value p 6 n o plans) zero_quiet none h in
     scanned_looked value p 0 None plans g c is ranged found (λ stuck. end) view
-    (λ place level. fits place (subst (IsEither place.level) (sym end.gains) (either (own_stones p == 0) place.level level)))
+    (λ stake level. fits stake (subst (IsEither stake.level) (sym end.gains) (either (own_stones p == 0) stake.level level)))
   where
     either : (b : Bool) (n : ℕ) → n ≡ sum p → IsEither n (if b then neg_ℤ (pos (sum p)) else pos (sum p))
     either true n e = inr (ap (λ m. neg_ℤ (pos m)) (sym e))

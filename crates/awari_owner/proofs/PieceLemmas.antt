@@ -5,7 +5,7 @@ use Rattle.std.proofs.lemmas.List.{get_or_append_left, get_or-append_right, with
 use Rattle.std.specs.Vec.{with_items}
 use Rattle.awari_rank.specs.Rank.{rank_of}
 use Rattle.awari_block.specs.declared.cells.Cell.{Cell}
-use Rattle.awari_block.specs.declared.places.Block.{Block}
+use Rattle.awari_block.specs.declared.blocks.Block.{Block}
 use Rattle.awari_owner.specs.declared.scans.ScannedBlock.{ScannedBlock}
 use Rattle.awari_block.specs.Blocks.{no_cell}
 use Rattle.awari_owner.specs.Scan.{IsScanned, IsPiece, IsScannedBlock}

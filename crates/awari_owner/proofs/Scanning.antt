@@ -15,7 +15,7 @@ use Rattle.awari_block.specs.Cells.{IsWithin, Fits, FitsBy, view_of, status_of, 
 use Rattle.awari_block.specs.declared.cells.Cell.{Cell}
 use Rattle.awari_block.specs.declared.cells.Mark.{Mark}
 use Rattle.awari_block.specs.declared.cells.Mark.TheVariants.{Ended, Quiet, Capturing, Noted, Settled}
-use Rattle.awari_block.specs.declared.places.Place.{Place}
+use Rattle.awari_block.specs.declared.stakes.Stake.{Stake}
 use Rattle.awari_owner.specs.Scan.{IsRanged, IsBestBelow, IsCounted, IsScanned, IsScannedPart, AreScanned, AreScannedTo}
 use Rattle.awari_rank.specs.Rank.{rank_of, size_of}
 use Rattle.awari_rank.proofs.Reaching.{board_reached}
@@ -234,8 +234,8 @@ module _ (value : List ℕ → ℤ) (n start : ℕ) where
       by true e =
           let at : rank_of p ≡ rank = eqb-true (rank_of p) rank e in
           let same : p ≡ board = injective p board is before.next (stones ∙ sym before.stones) (at ∙ sym before.ranked) in
-          let place : rank_of p - start ≡ length cells = omega (arith, at, before.len) in
-          subst₂ (IsScanned value) (sym same) (sym (ap (λ k. get_or (cells ++ c ∷ []) k no_cell) place ∙ get_or-append_seam cells c [] no_cell)) here
+          let stake : rank_of p - start ≡ length cells = omega (arith, at, before.len) in
+          subst₂ (IsScanned value) (sym same) (sym (ap (λ k. get_or (cells ++ c ∷ []) k no_cell) stake ∙ get_or-append_seam cells c [] no_cell)) here
       by false e =
           let ne : rank_of p ≢ rank = differ (rank_of p) rank e in
           let less : rank_of p - start < length cells = omega (arith, ne, low, high, before.len) in
@@ -289,15 +289,15 @@ module _ (value : List ℕ → ℤ) (n first last : ℕ) (cells : List Cell) (lo
       at Ended e = refl
 
   module _ (level : ℕ) (is : level ≡ n) where
-    abbrev pub place : Place
-    place = record { level = level; gain = level + 1; wave = 0; start = first }
+    abbrev pub stake : Stake
+    stake = record { level = level; gain = level + 1; wave = 0 }
 
-    block : IsBlock place cells []
+    block : IsBlock stake first cells []
     block = record {
       fit = λ k d h.
           let at = scanned_at k h in
           let same : get_or cells k d ≡ get_or cells k no_cell = get_or_default cells k d no_cell h in
-          subst (Fits place) (sym same) (subst (λ m. FitsBy (get_or cells k no_cell).mark m place.gain (get_or cells k no_cell).score (get_or cells k no_cell).dist) (at.1 ∙ sym is) (at.2.fits place.gain));
+          subst (Fits stake) (sym same) (subst (λ m. FitsBy (get_or cells k no_cell).mark m stake.gain (get_or cells k no_cell).score (get_or cells k no_cell).dist) (at.1 ∙ sym is) (at.2.fits stake.gain));
       settled = λ r. omega arith;
       due = λ k d h. absurd (omega (arith, h));
     }
@@ -305,9 +305,9 @@ module _ (value : List ℕ → ℤ) (n first last : ℕ) (cells : List Cell) (lo
     pub unopened_fits : All (λ (c : Cell). FitsBy c.mark level (level + 1) c.score c.dist) cells
     unopened_fits = block.fit
 
-    module _ (part : Part) (seen : part ≡ part_of place cells []) where
+    module _ (part : Part) (seen : part ≡ part_of stake first cells []) where
       pub unopened_fresh : AreFresh part
-      unopened_fresh = subst AreFresh (sym seen) (fresh_of_block place cells [] block)
+      unopened_fresh = subst AreFresh (sym seen) (fresh_of_block stake first cells [] block)
 
       pub unopened_scanned : IsScannedPart value n first last part
       unopened_scanned = subst (IsScannedPart value n first last) (sym seen) (record {

@@ -14,7 +14,7 @@ use Rattle.awari_block.specs.declared.notes.Note.{Note}
 use Rattle.awari_block.proofs.BlockLemmas.{keeps_both}
 use Rattle.awari_block.proofs.Settling.{settles_both, settles_none}
 use Rattle.awari_owner.specs.Level.{IsShare}
-use Rattle.awari_owner.specs.Sound.{HoldsNotes, IsInBlockOf, IsOpened, IsOtherOf, IsScannedOwner, IsTimely, OpensGain, OpensWave, OwnerSound, SamePlace, TakesNote, TakesNotes, with_taken}
+use Rattle.awari_owner.specs.Sound.{HoldsNotes, IsInBlockOf, IsOpened, IsOtherOf, IsScannedOwner, IsTimely, OpensGain, OpensWave, OwnerSound, SameStake, TakesNote, TakesNotes, with_taken}
 use Rattle.awari_owner.specs.Spread.{IsSeenAs}
 use Rattle.awari_owner.proofs.Expecting.{inside_new, inside_old, leaves_old, seen_kept, timely_still}
 use Rattle.awari_owner.proofs.Lists.{Has-append_cases, Has-append_left, Has-append_right}
@@ -101,30 +101,30 @@ sound_opened value owner owners old new taken given coming opened none s = recor
 
 -- ---- places
 
-pub place_same : (a : Part) → SamePlace a a
-place_same a = record { level = record { level = refl; gain = refl; wave = refl; start = refl }; long = refl; stays = (settles_none a).stays }
+pub stake_same : (a : Part) → SameStake a a
+stake_same a = record { level = record { level = refl; gain = refl; wave = refl; start = refl }; long = refl; stays = (settles_none a).stays }
 
 -- settled boards that kept value and distance, and kept them again
 pub stays_both : (a b c : Part) → b.start ≡ a.start → KeepSettled a.start a.cells b.cells → KeepSettled b.start b.cells c.cells → KeepSettled a.start a.cells c.cells
 stays_both a b c at s t rank low =
     keeps_both (cell_in a.start a.cells rank) (cell_in a.start b.cells rank) (cell_in a.start c.cells rank) (s rank low) (subst (λ i. KeepSettled i b.cells c.cells) at t rank low)
 
-pub place_both : (a b c : Part) → SamePlace a b → SamePlace b c → SamePlace a c
+pub place_both : (a b c : Part) → SameStake a b → SameStake b c → SameStake a c
 place_both a b c s t = record {
   level = record { level = t.level.level ∙ s.level.level; gain = t.level.gain ∙ s.level.gain; wave = t.level.wave ∙ s.level.wave; start = t.level.start ∙ s.level.start };
   long = t.long ∙ s.long;
   stays = stays_both a b c s.level.start s.stays t.stays;
 }
 
--- what settles boards and does no more leaves the place
-pub place_settled : (a b : Part) → Settles a b → SamePlace a b
-place_settled a b s = record { level = s.same; long = s.size; stays = s.stays }
+-- what settles boards and does no more leaves the stake
+pub stake_settled : (a b : Part) → Settles a b → SameStake a b
+stake_settled a b s = record { level = s.same; long = s.size; stays = s.stays }
 
-pub share_place : (n owners i : ℕ) (a b : Part) → SamePlace a b → IsShare n owners i a → IsShare n owners i b
-share_place n owners i a b place share = record {
-  level = place.level.level ∙ share.level;
-  start = place.level.start ∙ share.start;
-  end = (let end = share.end in let s = place.level.start in let l = place.long in omega (arith, end, s, l));
+pub share_stake : (n owners i : ℕ) (a b : Part) → SameStake a b → IsShare n owners i a → IsShare n owners i b
+share_stake n owners i a b stake share = record {
+  level = stake.level.level ∙ share.level;
+  start = stake.level.start ∙ share.start;
+  end = (let end = share.end in let s = stake.level.start in let l = stake.long in omega (arith, end, s, l));
 }
 
 -- ---- notes that are taken
@@ -212,9 +212,9 @@ read_at read items k same low =
 
 -- and before those after it
 pub split_at : (read items : List Note) (k : ℕ) → read ≡ items → k < length items → items ≡ take k items ++ get_or read k no_note ∷ drop (suc k) items
-split_at read items k same low = at_place items k low ∙ ap (λ (l : List Note). take k items ++ get_or l k no_note ∷ drop (suc k) items) (sym same)
+split_at read items k same low = at_stake items k low ∙ ap (λ (l : List Note). take k items ++ get_or l k no_note ∷ drop (suc k) items) (sym same)
   where
-    at_place : (items : List Note) (k : ℕ) → k < length items → items ≡ take k items ++ get_or items k no_note ∷ drop (suc k) items
-    at_place [] k low = absurd (omega (arith, low))
-    at_place (m ∷ items) zero low = refl
-    at_place (m ∷ items) (suc k) low = ap (λ l. m ∷ l) (at_place items k (omega (arith, low)))
+    at_stake : (items : List Note) (k : ℕ) → k < length items → items ≡ take k items ++ get_or items k no_note ∷ drop (suc k) items
+    at_stake [] k low = absurd (omega (arith, low))
+    at_stake (m ∷ items) zero low = refl
+    at_stake (m ∷ items) (suc k) low = ap (λ l. m ∷ l) (at_stake items k (omega (arith, low)))

@@ -17,6 +17,8 @@ use Rattle.awari_unmove.specs.Predecessors.{IsPredecessors, ComesBefore}
 use Rattle.awari_block.specs.declared.notes.Note.{Note}
 use Rattle.awari_block.specs.declared.notes.Kind.{Kind}
 use Rattle.awari_block.specs.declared.cells.Cell.{Cell}
+use Rattle.awari_owner.specs.Found.{target_of}
+use Rattle.awari_owner.specs.declared.targets.Target.{Target}
 use Rattle.awari_owner.proofs.PlannedTallies.{unheard_told}
 use Rattle.awari_owner.proofs.Taking.{IsTakeable, added_heard}
 
@@ -61,7 +63,7 @@ held_still part other rank start size =
     ap (λ s. nat_le s rank && nat_lt (rank - s) (length other.cells)) start ∙ ap (λ n. nat_le part.start rank && nat_lt (rank - part.start) n) size
 
 -- a source of the block hears the note; its cell in the tally is silent at the pit
-pub heard_here : (value : List ℕ → ℤ) (notes : List Note) (part new : Part) (kind : Kind) (y : Source) → IsInjective → 1 ≤ part.gain
+heard_here : (value : List ℕ → ℤ) (notes : List Note) (part new : Part) (kind : Kind) (y : Source) → IsInjective → 1 ≤ part.gain
     → IsSource part.level y → InBlock part (rank_of y.0) → is_heard_at (notes_for (rank_of y.0) notes) y.1 ≡ false
     → SameLevel part new → HearsNote part new (rank_of y.0) y.1 kind
     → IsTallied value part notes → IsTallied value new (with_own part kind notes y)
@@ -81,6 +83,15 @@ heard_here value notes part new kind y injective one source inside unheard same 
       own = source.2.1.legal.own;
       quiet = λ p is stones at. subst (λ (b : List ℕ). (q : List ℕ) × IsQuietMove b y.1 q) (sym (injective p y.0 is source.0 (stones ∙ sym source.1) at)) source.2;
     }
+
+-- the same of the target that a source is found as
+pub told_here : (value : List ℕ → ℤ) (notes : List Note) (part new : Part) (kind : Kind) (target : Target) (y : Source) → target_of y ≡ target → IsInjective → 1 ≤ part.gain
+    → IsSource part.level y → InBlock part target.rank → (InBlock part (rank_of y.0) → is_heard_at (notes_for (rank_of y.0) notes) y.1 ≡ false)
+    → SameLevel part new → HearsNote part new target.rank target.pit kind
+    → IsTallied value part notes → IsTallied value new (with_own part kind notes y)
+told_here value notes part new kind target y at injective one source held unheard same hears tallied =
+    let inside : InBlock part (rank_of y.0) = subst (λ (t : Target). InBlock part t.rank) (sym at) held in
+    heard_here value notes part new kind y injective one source inside (unheard inside) same (subst (λ (t : Target). HearsNote part new t.rank t.pit kind) (sym at) hears) tallied
 
 -- which notes are added hangs on the block's bounds alone
 pub with_own-same : (part other : Part) (kind : Kind) (notes : List Note) (y : Source) → other.level ≡ part.level → other.gain ≡ part.gain → other.wave ≡ part.wave → other.start ≡ part.start

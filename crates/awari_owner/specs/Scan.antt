@@ -13,7 +13,7 @@ use Rattle.awari_block.specs.Leaving.{AreLeaving, IsBlockOf, first_rank}
 use Rattle.awari_block.specs.Part.{Part, InBlock, IsTallied, settled_at}
 use Rattle.awari_table.specs.declared.TheConstants.{HIGHEST_LEVEL}
 use Rattle.awari_block.specs.declared.cells.Cell.{Cell}
-use Rattle.awari_block.specs.declared.places.Block.{Block}
+use Rattle.awari_block.specs.declared.blocks.Block.{Block}
 use Rattle.awari_owner.specs.declared.scans.ScannedBlock.{ScannedBlock}
 
 -- the part of this owner of so many, with no gain open

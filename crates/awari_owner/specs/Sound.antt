@@ -76,7 +76,7 @@ pub record IsScannedOwner (value : List ℕ → ℤ) (n owners i : ℕ) (part : 
 -- ---- steps
 
 -- the same level, gain and distance, and the same block, whose settled boards keep value and distance
-pub record SamePlace (old new : Part) : Type 0 where
+pub record SameStake (old new : Part) : Type 0 where
   pub level : SameLevel old new
   pub long : length new.cells ≡ length old.cells
   pub stays : KeepSettled old.start old.cells new.cells

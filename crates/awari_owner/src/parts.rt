@@ -9,7 +9,7 @@ ghost use Rattle.awari_block.specs.Part.{Part as PartView, InBlock, Leaves, IsEx
 ghost use Rattle.awari_owner.specs.OwnerFault.{IsFaultOf};
 ghost use Rattle.awari_block.specs.Leaving.{IsBlockOf, first_rank};
 ghost use Rattle.awari_owner.specs.Scan.{IsScan, IsScannedBlock, IsWhole};
-ghost use Rattle.awari_owner.specs.Sound.{CanTake, KeepsOwn, KeepsTally, SamePlace, SpreadsFirst, TakesNote};
+ghost use Rattle.awari_owner.specs.Sound.{CanTake, KeepsOwn, KeepsTally, SameStake, SpreadsFirst, TakesNote};
 ghost use Rattle.awari_owner.specs.Spread.{HearsOwn, IsPartOf};
 ghost use Rattle.awari_table.specs.Images.{table_of};
 ghost use Rattle.awari_table.specs.declared.TheConstants.{HIGHEST_LEVEL};
@@ -141,14 +141,14 @@ impl Part {
         ensures gain { result ≡ self.now.gain }
         ensures range { (1 ≤ self.now.gain) × (self.now.gain ≤ self.now.level + 1) }
     {
-        self.boards.place().gain
+        self.boards.stake().gain
     }
 
     /// The open wave in plies.
     pub fn wave(&self) -> u32
         ensures { result ≡ self.now.wave }
     {
-        self.boards.place().wave
+        self.boards.stake().wave
     }
 
     /// Whether no board is fresh.
@@ -243,7 +243,7 @@ impl Part {
         ensures due { result ≡ Ok false → IsLeastDue self.old (Some self.old.wave) → ⊥ }
         ensures least { (result ≡ Ok false → ⊥) → IsLeastDue self.old (Some self.old.wave) }
         ensures none { result ≡ Ok false → (self.new ≡ self.old) × (outboxes.new ≡ outboxes.old) }
-        ensures place { SamePlace self.old self.new }
+        ensures stake { SameStake self.old self.new }
         ensures owner { (outboxes.new.owner ≡ outboxes.old.owner) × (length outboxes.new.queues ≡ length outboxes.old.queues) }
         ensures fresh { AreFresh self.new }
         ensures fault { IfErr result (λ fault. ((fault ≡ OwnerFault.Far) × (self.old.wave ≡ 2 ^ 32 - 1) × IsLeastDue self.old (Some self.old.wave) × HasFarthest self.old)
@@ -253,8 +253,8 @@ impl Part {
         let Some(dist) = self.boards.due() else {
             return Ok(false);
         };
-        let place = self.boards.place();
-        if dist != place.wave {
+        let stake = self.boards.stake();
+        if dist != stake.wave {
             return Ok(false);
         }
         if dist == u32::MAX {
@@ -263,7 +263,7 @@ impl Part {
         reserve_others(&mut outboxes.queues, outboxes.owner)?;
         moves_keep_boards();
         ranks_tell_boards_apart();
-        let span = block_length(size(place.level), outboxes.queues.len() as u8);
+        let span = block_length(size(stake.level), outboxes.queues.len() as u8);
         let rank = self.boards.take_first();
         let kind = kind_of(&self.boards.cell(rank));
         let board = self.boards.board(rank);
@@ -323,11 +323,11 @@ impl Part {
     fn expects(&self, note: &Note) -> bool
         ensures { IsTrue result ↔ IsExpected self.now note.now }
     {
-        let place = self.boards.place();
-        if note.level != place.level || note.gain != place.gain || place.gain > place.level {
+        let stake = self.boards.stake();
+        if note.level != stake.level || note.gain != stake.gain || stake.gain > stake.level {
             return false;
         }
-        if note.dist != place.wave || note.pit >= SIDE || !self.boards.holds(note.target) {
+        if note.dist != stake.wave || note.pit >= SIDE || !self.boards.holds(note.target) {
             return false;
         }
         self.leaves(note.target, note.pit)
@@ -340,7 +340,8 @@ impl Part {
         requires own { pit < 6 }
         ensures { IsTrue result ↔ Leaves self.now target pit }
     {
-        let index = (target - self.boards.place().start) as usize;
+        let (start, _) = self.boards.block();
+        let index = (target - start) as usize;
         self.leaving[index] & (1 << pit) != 0
     }
 }

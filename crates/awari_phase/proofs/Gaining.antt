@@ -4,7 +4,7 @@ use Rattle.std.proofs.lemmas.List.{append-nil, length-map}
 use Rattle.std.proofs.Math.ListN.{get_or-map}
 use Rattle.awari_owner.specs.Outboxes.{Outboxes, notes_of}
 use Rattle.awari_owner.specs.Sound as part
-use Rattle.awari_owner.proofs.Sounding.{place_same, sound_opened, stays_both, wave_opened}
+use Rattle.awari_owner.proofs.Sounding.{stake_same, sound_opened, stays_both, wave_opened}
 use Rattle.awari_block.specs.Blocks.{KeepSettled}
 use Rattle.awari_block.specs.Part.{Part}
 use Rattle.awari_lines.specs.Rings.{EachTo, IsGrid, IsOther, SamePairs, SameHistory, owners_of, sent_to, received_from}
@@ -22,7 +22,7 @@ grown_refl a = record {
   gain = refl;
   start = refl;
   long = refl;
-  stays = (place_same a.part).stays;
+  stays = (stake_same a.part).stays;
   received = λ j o. ([], append-nil (received_from a.ends j));
   sent = λ j o. ([], append-nil (sent_to a.ends j));
   sound = λ value h. h;
@@ -64,7 +64,7 @@ grown_looked a b h r =
       gain = ap (λ (p : Part). p.gain) part;
       start = ap (λ (p : Part). p.start) part;
       long = ap (λ (p : Part). length p.cells) part;
-      stays = subst (λ (p : Part). KeepSettled a.part.start a.part.cells p.cells) (sym part) (place_same a.part).stays;
+      stays = subst (λ (p : Part). KeepSettled a.part.start a.part.cells p.cells) (sym part) (stake_same a.part).stays;
       received = λ j o. ([], append-nil (received_from a.ends j) ∙ sym (h.received j o.0));
       sent = λ j o. ([], append-nil (sent_to a.ends j) ∙ sym (h.sent j o.0));
       sound = λ value s.
@@ -84,7 +84,7 @@ grown_wave a b d e o opens none = let p = opens.wave in record {
   gain = ap (λ (x : Part). x.gain) p;
   start = ap (λ (x : Part). x.start) p;
   long = ap (λ (x : Part). length x.cells) p;
-  stays = subst (λ (x : Part). KeepSettled a.part.start a.part.cells x.cells) (sym p) (place_same a.part).stays;
+  stays = subst (λ (x : Part). KeepSettled a.part.start a.part.cells x.cells) (sym p) (stake_same a.part).stays;
   received = λ j q. ([], append-nil (received_from a.ends j) ∙ ap (λ (x : Ends). received_from x j) (sym e));
   sent = λ j q. ([], append-nil (sent_to a.ends j) ∙ ap (λ (x : Ends). sent_to x j) (sym e));
   sound = λ value s.

@@ -12,9 +12,9 @@ use Rattle.awari_owner.specs.declared.faults.OwnerFault.TheVariants.{Far, Memory
 use Rattle.awari_block.specs.declared.notes.Note.{Note}
 use Rattle.awari_lines.specs.Rings.{Notes, IsOther, SamePairs, owners_of, sent_to, received_from}
 use Rattle.awari_lines.specs.declared.ends.Ends.{Ends}
-use Rattle.awari_owner.specs.Sound.{IsTimely, OwnerSound, SamePlace, with_taken}
+use Rattle.awari_owner.specs.Sound.{IsTimely, OwnerSound, SameStake, with_taken}
 use Rattle.awari_owner.proofs.Lists.{Has-append_right, notes_of-last}
-use Rattle.awari_owner.proofs.Sounding.{place_both, place_settled, sound_same}
+use Rattle.awari_owner.proofs.Sounding.{place_both, stake_settled, sound_same}
 use Rattle.awari_phase.specs.declared.owners.Owner.{Owner}
 use Rattle.awari_phase.specs.Owners.{IsOpenBatch, items_of, taken_from, given_to, notes_boxed, notes_given, notes_taken, IsSound, Kept}
 use Rattle.awari_phase.specs.Stops.{HasWorked, StopsAt, StopsTaking, StopsSpreading}
@@ -33,7 +33,7 @@ pub record Halts (value : List ℕ → ℤ) (a : Owner) (e : Ends) (part : Part)
   pub whole : (j : ℕ) → IsOther e j → notes_taken e j ≡ taken j ++ left j
   pub came : (j : ℕ) → IsOther e j → (more : List Notes) × (received_from e j ≡ received_from a.ends j ++ more) × ((m : Note) → Has (left j) m → Has (notes_of (map items_of more)) m)
   pub sent : (j : ℕ) → IsOther e j → (gone : List Notes) × (sent_to e j ≡ sent_to a.ends j ++ gone) × All (IsOpenBatch a.part) (map items_of gone)
-  pub block : SamePlace a.part part
+  pub block : SameStake a.part part
   pub pairs : SamePairs a.ends e
   pub due : (fault : OwnerFault) → told ≡ Some fault → Due e part left fault
 
@@ -133,7 +133,7 @@ module _ (value : List ℕ → ℤ) (a u : Owner) (e : Ends) (part : Part) (o : 
     whole = whole;
     came = came;
     sent = λ j other. (let gone = kept.sent j (IsOther-back a.ends u.ends j kept.pairs (there j other)) in (gone.0, t.sent j (there j other) ∙ gone.1, gone.2 value s));
-    block = place_both a.part u.part part kept.block (place_settled u.part part t.refuses.taken.settles);
+    block = place_both a.part u.part part kept.block (stake_settled u.part part t.refuses.taken.settles);
     pairs = pairs_then a.ends u.ends e kept.pairs t.pairs;
     due = λ had is. inr (inr (
       t.from,

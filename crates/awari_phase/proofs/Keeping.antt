@@ -7,10 +7,10 @@ use Rattle.std.proofs.lemmas.Bool.Decides.{nat_tests}
 use Rattle.std.specs.List.{slice_get}
 use mathlib.Core.List.{IsPrefix}
 use Rattle.awari_owner.specs.Outboxes.{IsBatch, Outboxes, queue_to, notes_of}
-use Rattle.awari_owner.specs.Sound.{IsTimely, OwnerSound, SamePlace, SpreadsFirst, TakesNotes, with_taken}
+use Rattle.awari_owner.specs.Sound.{IsTimely, OwnerSound, SameStake, SpreadsFirst, TakesNotes, with_taken}
 use Rattle.awari_owner.specs.declared.faults.OwnerFault.{OwnerFault}
 use Rattle.awari_owner.proofs.Lists.{all_left, all_right, notes_of-append, notes_of-last}
-use Rattle.awari_owner.proofs.Sounding.{place_both, place_same, place_settled, sound_same, timely_all}
+use Rattle.awari_owner.proofs.Sounding.{place_both, stake_same, stake_settled, sound_same, timely_all}
 use Rattle.awari_block.specs.Part.{Part}
 use Rattle.awari_lines.specs.declared.ends.Ends.{Ends}
 use Rattle.awari_lines.specs.declared.ends.RingPair.{RingPair}
@@ -49,10 +49,10 @@ pub prefix_then : (xs ys zs : List Notes) → IsPrefix xs ys → IsPrefix ys zs 
 prefix_then xs ys zs p q = (p.0 ++ q.0, sym (append_assoc xs p.0 q.0) ∙ (ap (λ l. l ++ q.0) p.1 ∙ q.1))
 
 -- a batch of the open gain and wave is so of each part of them
-pub open_place : (a b : Part) → SamePlace a b → (x : List Note) → IsOpenBatch a x → IsOpenBatch b x
-open_place a b s x h = record { whole = h.whole; opened = timely_all a b s.level.level s.level.gain s.level.wave x h.opened }
+pub open_stake : (a b : Part) → SameStake a b → (x : List Note) → IsOpenBatch a x → IsOpenBatch b x
+open_stake a b s x h = record { whole = h.whole; opened = timely_all a b s.level.level s.level.gain s.level.wave x h.opened }
 
-open_back : (a b : Part) → SamePlace a b → (x : List Note) → IsOpenBatch b x → IsOpenBatch a x
+open_back : (a b : Part) → SameStake a b → (x : List Note) → IsOpenBatch b x → IsOpenBatch a x
 open_back a b s x h = record { whole = h.whole; opened = timely_all b a (sym s.level.level) (sym s.level.gain) (sym s.level.wave) x h.opened }
 
 -- ---- soundness, on the same rings
@@ -97,7 +97,7 @@ module _ (e e' : Ends) (j : ℕ) (pairs : SamePairs e e') (others : SameBut e e'
   pub still_keeps : (part : Part) (o : Outboxes) → sent_to e' j ≡ sent_to e j → received_from e' j ≡ received_from e j → Keeps e part o e' part o
   still_keeps part o s r = record {
     pairs = pairs;
-    block = place_same part;
+    block = stake_same part;
     owner = refl;
     owners = refl;
     received = λ k q. ([], append-nil (received_from e k) ∙ sym (received_same r k q));
@@ -123,7 +123,7 @@ module _ (e e' : Ends) (j : ℕ) (pairs : SamePairs e e') (others : SameBut e e'
       → Keeps e part o e' part' o
   take_keeps part part' o b s r other takes = record {
     pairs = pairs;
-    block = place_settled part part' takes.settles;
+    block = stake_settled part part' takes.settles;
     owner = refl;
     owners = refl;
     received = received_grown b r;
@@ -141,7 +141,7 @@ module _ (e e' : Ends) (j : ℕ) (pairs : SamePairs e e') (others : SameBut e e'
       → Keeps e part o e' part o'
   send_keeps part o o' b rest s r other whole first left same owner owners = record {
     pairs = pairs;
-    block = place_same part;
+    block = stake_same part;
     owner = owner;
     owners = owners;
     received = λ k q. ([], append-nil (received_from e k) ∙ sym (received_same r k q));
@@ -195,7 +195,7 @@ module _ (e e' : Ends) (j : ℕ) (pairs : SamePairs e e') (others : SameBut e e'
 keeps_refl : (e : Ends) (part : Part) (o : Outboxes) → Keeps e part o e part o
 keeps_refl e part o = record {
   pairs = same_pairs e;
-  block = place_same part;
+  block = stake_same part;
   owner = refl;
   owners = refl;
   received = λ k q. ([], append-nil (received_from e k));
@@ -221,7 +221,7 @@ module _ (e : Ends) (part part' : Part) (o o' : Outboxes) (many : length o.queue
       apart : (boxes : Outboxes) (j : ℕ) → notes_given e boxes j ≡ sent j ++ notes_boxed boxes j
       apart boxes j = notes_of-append (map items_of (sent_to e j)) (queue_to boxes j)
 
-  pub spread_keeps : SamePlace part part' → (done : Bool) (result : Result Bool OwnerFault) → result ≡ Ok done → (result ≡ Ok true → SpreadsFirst part part' o o') → (result ≡ Ok false → (part' ≡ part) × (o' ≡ o))
+  pub spread_keeps : SameStake part part' → (done : Bool) (result : Result Bool OwnerFault) → result ≡ Ok done → (result ≡ Ok true → SpreadsFirst part part' o o') → (result ≡ Ok false → (part' ≡ part) × (o' ≡ o))
       → Keeps e part o e part' o'
   spread_keeps place true result was spread none =
       let spreads = spread was in

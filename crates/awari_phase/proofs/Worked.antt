@@ -14,7 +14,7 @@ use Rattle.awari_phase.specs.Owners.{AllGrown, AreFinished, AreReceived, AreToge
 use Rattle.awari_phase.specs.PhaseFault.{AreWell}
 use Rattle.awari_phase.specs.Stops.{HasWorked, HaveWorked}
 use Rattle.awari_phase.proofs.Grown.{grid_after, grid_pairs}
-use Rattle.awari_phase.proofs.Keeping.{pairs_then, open_place}
+use Rattle.awari_phase.proofs.Keeping.{pairs_then, open_stake}
 use Rattle.awari_owner.proofs.Lists.{written}
 use Rattle.awari_phase.proofs.Together.{ends_there, many_at, number_at}
 use Rattle.awari_phase.proofs.Gaining.{all_grown_waves, same_rest}
@@ -103,7 +103,7 @@ together_kept value n os ps all t = record {
           came = (o.came.0 ++ came.0, sym (append_assoc o.before o.came.0 came.0) ∙ ap (λ l. l ++ came.0) o.came.1 ∙ came.1);
           went = gone.1 ∙ ap (λ l. l ++ gone.0) o.went ∙ append_assoc o.before o.after gone.0;
           opened = subst (λ (bs : List (List Note)). All (IsOpenBatch (get_or ps j d).part) bs) (sym (map-append items_of o.after gone.0))
-              (All-weaker (IsOpenBatch there.part) (IsOpenBatch (get_or ps j d).part) (open_place there.part (get_or ps j d).part (all.each j d (low j h')).block) (map items_of o.after ++ map items_of gone.0)
+              (All-weaker (IsOpenBatch there.part) (IsOpenBatch (get_or ps j d).part) (open_stake there.part (get_or ps j d).part (all.each j d (low j h')).block) (map items_of o.after ++ map items_of gone.0)
               (All-append (IsOpenBatch there.part) (map items_of o.after) (map items_of gone.0) o.opened (gone.2 value (t.sound j d (low j h')))));
         }
 

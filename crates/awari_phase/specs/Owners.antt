@@ -7,7 +7,7 @@ use Rattle.awari_block.specs.declared.notes.Note.{Note}
 use Rattle.awari_owner.specs.Outboxes.{IsBatch, Outboxes, queue_to, notes_of}
 use Rattle.awari_block.specs.Blocks.{KeepSettled}
 use Rattle.awari_block.specs.Part.{Part, IsLeastDue, unspread}
-use Rattle.awari_owner.specs.Sound.{IsScannedOwner, IsTimely, OpensGain, OwnerSound, SamePlace}
+use Rattle.awari_owner.specs.Sound.{IsScannedOwner, IsTimely, OpensGain, OwnerSound, SameStake}
 use Rattle.awari_phase.specs.declared.owners.Owner.{Owner}
 
 abbrev pub Batches : Type 0
@@ -46,7 +46,7 @@ pub record IsOpenBatch (part : Part) (b : List Note) : Type 0 where
 -- grown, and what it sent is of the open gain and wave where what it had to send was. It has no board more to spread.
 pub record Keeps (e : Ends) (part : Part) (o : Outboxes) (e' : Ends) (part' : Part) (o' : Outboxes) : Type 0 where
   pub pairs : SamePairs e e'
-  pub block : SamePlace part part'
+  pub block : SameStake part part'
   pub owner : o'.owner ≡ o.owner
   pub owners : length o'.queues ≡ length o.queues
   pub received : (j : ℕ) → IsOther e j → IsPrefix (received_from e j) (received_from e' j)

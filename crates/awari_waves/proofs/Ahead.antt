@@ -6,7 +6,7 @@ use Rattle.std.proofs.lemmas.List.{get_or_default}
 use Rattle.std.proofs.lemmas.List.Elements.{All-drop}
 use Rattle.std.proofs.lemmas.List.Folds.{drop_split}
 use Rattle.awari_block.specs.Blocks.{no_cell}
-use Rattle.awari_block.specs.Boards.{CanPut, Settles, place_of}
+use Rattle.awari_block.specs.Boards.{CanPut, Settles, stake_of}
 use Rattle.awari_block.specs.Cells.{is_settled}
 use Rattle.awari_block.specs.Part.{InBlock, Part, stored_at}
 use Rattle.awari_block.specs.declared.cells.Cell.{Cell}
@@ -26,17 +26,17 @@ stored_read a part index new view can =
     ∙ ap (λ i. get_or a.cells.items i no_cell) at
     ∙ get_or_default a.cells.items index no_cell (stored_at part (part.start + index)) high
   where
-    start : a.place.start ≡ part.start
+    start : a.start ≡ part.start
     start = ap (λ (o : Part). o.start) view
 
-    at : part.start + index - a.place.start ≡ index
+    at : part.start + index - a.start ≡ index
     at = omega (arith, start)
 
     high : index < length a.cells.items
     high = let inside = can.held.1 in let size = ap (λ (o : Part). length o.cells) view in omega (arith, inside, size)
 
 -- the cell that is read says whether the board is settled
-pub settled_read : (a : Inside) (part : Part) (rank : ℕ) (old : Cell) (b : Bool) → seen a ≡ part → InBlock part rank → old ≡ get_or a.cells.items (rank - a.place.start) old → b ≡ is_settled old.mark
+pub settled_read : (a : Inside) (part : Part) (rank : ℕ) (old : Cell) (b : Bool) → seen a ≡ part → InBlock part rank → old ≡ get_or a.cells.items (rank - a.start) old → b ≡ is_settled old.mark
     → b ≡ true → is_settled (stored_at part rank).mark ≡ true
 settled_read a part rank old b view held read is told = ap (λ (c : Cell). is_settled c.mark) (stored a part rank old old view held read) ∙ sym is ∙ told
 
@@ -83,11 +83,11 @@ batch_codes old now codes start end settles all order k d inside =
     (All-append_first (IsCodeFor old) (slice_range codes start end) (drop end codes) (subst (All (IsCodeFor old)) (drop_split codes start end order) (All-drop (IsCodeFor old) start codes all)) k d inside)
 
 -- and then those behind it
-pub batch_tells : (old now next new : Part) (kind : Kind) (codes : List ℕ) (start end : ℕ) → Settles old now → start ≤ end → Tells (place_of now) kind (slice_range codes start end) now next
-    → Tells (place_of old) kind (drop end codes) next new → Tells (place_of old) kind (drop start codes) now new
+pub batch_tells : (old now next new : Part) (kind : Kind) (codes : List ℕ) (start end : ℕ) → Settles old now → start ≤ end → Tells (stake_of now) kind (slice_range codes start end) now next
+    → Tells (stake_of old) kind (drop end codes) next new → Tells (stake_of old) kind (drop start codes) now new
 batch_tells old now next new kind codes start end settles order one rest =
-    subst (λ (cs : List ℕ). Tells (place_of old) kind cs now new) (sym (drop_split codes start end order))
-    (tells_append (place_of old) kind (slice_range codes start end) (drop end codes) now next new
+    subst (λ (cs : List ℕ). Tells (stake_of old) kind cs now new) (sym (drop_split codes start end order))
+    (tells_append (stake_of old) kind (slice_range codes start end) (drop end codes) now next new
     (row_tells old now next kind (slice_range codes start end) (slice_range codes start end) settles.same refl one) rest)
 
 -- ---- boards are looked up ahead

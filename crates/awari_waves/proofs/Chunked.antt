@@ -9,11 +9,11 @@ use Rattle.awari_rank.proofs.Ranking.{rank_of-below}
 use Rattle.awari_block.specs.Notes.{IsQuietMove, Has, IsNoteOf, gain_by}
 use Rattle.awari_block.specs.Blocks.{Due, times_due}
 use Rattle.awari_block.specs.Part.{Part, InBlock, IsTallied, notes_for, settled_at}
-use Rattle.awari_block.specs.Boards.{place_of}
+use Rattle.awari_block.specs.Boards.{stake_of}
 use Rattle.awari_block.specs.declared.notes.Kind.{Kind}
 use Rattle.awari_block.specs.declared.notes.Kind.TheVariants.{Won, Lost}
 use Rattle.awari_block.specs.declared.notes.Note.{Note}
-use Rattle.awari_block.specs.declared.places.Place.{Place}
+use Rattle.awari_block.specs.declared.stakes.Stake.{Stake}
 use Rattle.awari_block.proofs.BlockLemmas.{one_if, times_due-cons}
 use Rattle.awari_owner.specs.Spread.{Hears, HearsTruth, IsSpread, Source}
 use Rattle.awari_owner.specs.Level.{AreHeard, no_part, part_at}
@@ -54,9 +54,9 @@ pend_none w (x ∷ ranks) fresh r apart none =
 
 -- ---- the note of a code
 
-note_is : (place at : Place) (kind : Kind) (p q : List ℕ) (x c : ℕ) → at.level ≡ place.level → at.gain ≡ place.gain → at.wave ≡ place.wave → 1 ≤ place.gain → sum p ≡ place.level
-    → c / 8 ≡ rank_of p → c % 8 ≡ x → IsQuietMove p x q → IsNoteOf q (value_by kind place.gain) place.wave p x (note_by at kind c)
-note_is place at kind p q x c level gain wave one stones rank pit quiet = record {
+note_is : (stake at : Stake) (kind : Kind) (p q : List ℕ) (x c : ℕ) → at.level ≡ stake.level → at.gain ≡ stake.gain → at.wave ≡ stake.wave → 1 ≤ stake.gain → sum p ≡ stake.level
+    → c / 8 ≡ rank_of p → c % 8 ≡ x → IsQuietMove p x q → IsNoteOf q (value_by kind stake.gain) stake.wave p x (note_by at kind c)
+note_is stake at kind p q x c level gain wave one stones rank pit quiet = record {
   quiet = quiet;
   level = level ∙ sym stones;
   target = rank;
@@ -66,11 +66,11 @@ note_is place at kind p q x c level gain wave one stones rank pit quiet = record
   same_dist = wave;
 }
   where
-    kinds : (k : Kind) → ((k ≡ Won) × (pos 0 <ℤ value_by k place.gain)) ⊎ ((k ≡ Lost) × (value_by k place.gain <ℤ pos 0))
+    kinds : (k : Kind) → ((k ≡ Won) × (pos 0 <ℤ value_by k stake.gain)) ⊎ ((k ≡ Lost) × (value_by k stake.gain <ℤ pos 0))
     kinds Won = inl (refl, omega (arith, ints, one))
     kinds Lost = inr (refl, omega (arith, ints, one))
 
-    gains : (k : Kind) → gain_by k place.gain ≡ neg_ℤ (value_by k place.gain)
+    gains : (k : Kind) → gain_by k stake.gain ≡ neg_ℤ (value_by k stake.gain)
     gains Won = refl
     gains Lost = omega (arith, ints)
 
@@ -84,49 +84,49 @@ one_board p q r x a b = a.leaves ∙ sym b.leaves
 pub part_of_map : (f : Part → Part) (parts : List Part) (i : ℕ) (d : Part) → i < length parts → get_or (map f parts) i d ≡ f (part_at parts i)
 part_of_map f parts i d h = get_or-map f parts i no_part d h
 
-module _ (place : Place) (span : ℕ) (old : List Part) (injective : IsInjective) (keeps : Keeps) (boards : (p q : List ℕ) (x : ℕ) → IsBoard p → IsQuietMove p x q → IsBoard q)
-    (one : 1 ≤ place.gain) (grid : IsGrid place span old) where
+module _ (stake : Stake) (span : ℕ) (old : List Part) (injective : IsInjective) (keeps : Keeps) (boards : (p q : List ℕ) (x : ℕ) → IsBoard p → IsQuietMove p x q → IsBoard q)
+    (one : 1 ≤ stake.gain) (grid : IsGrid stake span old) where
   -- the boards of one kind, and their sources
-  module _ (kind : Kind) (ranks : List ℕ) (sources : List Source) (pending : (r : ℕ) → In ranks r → IsPending place span old kind r) (found : AreSourcesOf place.level ranks sources) where
+  module _ (kind : Kind) (ranks : List ℕ) (sources : List Source) (pending : (r : ℕ) → In ranks r → IsPending stake span old kind r) (found : AreSourcesOf stake.level ranks sources) where
     -- such a board, in its block
-    pub chunk_spread : (i r : ℕ) → i < length old → InBlock (part_at old i) r → In ranks r → IsSpread (part_at old i) r (value_by kind place.gain) place.wave
+    pub chunk_spread : (i r : ℕ) → i < length old → InBlock (part_at old i) r → In ranks r → IsSpread (part_at old i) r (value_by kind stake.gain) stake.wave
     chunk_spread i r few inside listed =
         let at = grid.only i r few inside in
         let is = pending r listed in
-        (subst (λ b. settled_at (part_at old b) r ≡ Some (value_by kind place.gain, place.wave)) at is.settled, subst (λ b. times_due (part_at old b).fresh r ≡ 0) at is.taken)
+        (subst (λ b. settled_at (part_at old b) r ≡ Some (value_by kind stake.gain, stake.wave)) at is.settled, subst (λ b. times_due (part_at old b).fresh r ≡ 0) at is.taken)
 
     -- a code for a block is a note of one of these boards
-    pub code_true : (j c : ℕ) (p q : List ℕ) (x : ℕ) → j < length old → In (codes_to span j sources) c → IsBoard p → sum p ≡ place.level → c / 8 ≡ rank_of p → c % 8 ≡ x → IsQuietMove p x q
-        → In ranks (rank_of q) × IsNoteOf q (value_by kind place.gain) place.wave p x (note_by (place_of (part_at old j)) kind c)
+    pub code_true : (j c : ℕ) (p q : List ℕ) (x : ℕ) → j < length old → In (codes_to span j sources) c → IsBoard p → sum p ≡ stake.level → c / 8 ≡ rank_of p → c % 8 ≡ x → IsQuietMove p x q
+        → In ranks (rank_of q) × IsNoteOf q (value_by kind stake.gain) stake.wave p x (note_by (stake_of (part_at old j)) kind c)
     code_true j c p q x few has board stones rank pit quiet =
         let m = in_codes span j sources c has in
         let y : Source = m.0 in
-        let from = source_from place.level ranks sources y keeps found m.1 in
+        let from = source_from stake.level ranks sources y keeps found m.1 in
         let own = from.quiet.legal.own in
         let code = m.2 in
         let same_board : y.0 ≡ p = injective y.0 p from.from board (from.sum_from ∙ sym stones) (omega (arith, code, rank, own)) in
         let same_pit : y.1 ≡ x = omega (arith, code, pit, own) in
         let to : from.q ≡ q = from.quiet.leaves ∙ ap (next_board y.0) same_pit ∙ ap (λ b. next_board b x) same_board ∙ sym quiet.leaves in (
           subst (λ (b : List ℕ). In ranks (rank_of b)) to from.listed,
-          note_is place (place_of (part_at old j)) kind p q x c (grid.level j few) (grid.gain j few) (grid.wave j few) one stones rank pit quiet,
+          note_is stake (stake_of (part_at old j)) kind p q x c (grid.level j few) (grid.gain j few) (grid.wave j few) one stones rank pit quiet,
         )
 
     -- and of each move to them there is one
-    pub code_all : (j : ℕ) (p q : List ℕ) (x : ℕ) → j < length old → IsBoard p → sum p ≡ place.level → InBlock (part_at old j) (rank_of p) → IsQuietMove p x q → In ranks (rank_of q)
-        → In (codes_to span j sources) (code_by (rank_of p) x) × IsNoteOf q (value_by kind place.gain) place.wave p x (note_by (place_of (part_at old j)) kind (code_by (rank_of p) x))
+    pub code_all : (j : ℕ) (p q : List ℕ) (x : ℕ) → j < length old → IsBoard p → sum p ≡ stake.level → InBlock (part_at old j) (rank_of p) → IsQuietMove p x q → In ranks (rank_of q)
+        → In (codes_to span j sources) (code_by (rank_of p) x) × IsNoteOf q (value_by kind stake.gain) stake.wave p x (note_by (stake_of (part_at old j)) kind (code_by (rank_of p) x))
     code_all j p q x few board stones inside quiet listed =
         let own = quiet.legal.own in
         let keep = keeps p q x board quiet in (
-          codes_in span j sources (p, x) (source_all place.level ranks sources p q x injective found listed (boards p q x board quiet) (omega (arith, keep, stones)) board quiet) (grid.only j (rank_of p) few inside),
-          note_is place (place_of (part_at old j)) kind p q x (code_by (rank_of p) x) (grid.level j few) (grid.gain j few) (grid.wave j few) one stones (omega (arith, own)) (omega (arith, own)) quiet,
+          codes_in span j sources (p, x) (source_all stake.level ranks sources p q x injective found listed (boards p q x board quiet) (omega (arith, keep, stones)) board quiet) (grid.only j (rank_of p) few inside),
+          note_is stake (stake_of (part_at old j)) kind p q x (code_by (rank_of p) x) (grid.level j few) (grid.gain j few) (grid.wave j few) one stones (omega (arith, own)) (omega (arith, own)) quiet,
         )
 
     -- a code is of a quiet move
-    pub code_quiet : (j c : ℕ) → In (codes_to span j sources) c → IsQuietCode place.level c
+    pub code_quiet : (j c : ℕ) → In (codes_to span j sources) c → IsQuietCode stake.level c
     code_quiet j c has =
         let m = in_codes span j sources c has in
         let y : Source = m.0 in
-        let from = source_from place.level ranks sources y keeps found m.1 in
+        let from = source_from stake.level ranks sources y keeps found m.1 in
         let own = from.quiet.legal.own in
         let code = m.2 in
         let pit : y.1 ≡ c % 8 = omega (arith, code, own) in
@@ -137,7 +137,7 @@ module _ (place : Place) (span : ℕ) (old : List Part) (injective : IsInjective
     code_fits j c has =
         let m = in_codes span j sources c has in
         let y : Source = m.0 in
-        let from = source_from place.level ranks sources y keeps found m.1 in
+        let from = source_from stake.level ranks sources y keeps found m.1 in
         let own = from.quiet.legal.own in
         let code = m.2 in
         let mine = grid.home (rank_of y.0) (let below = rank_of-below y.0 from.from.pits in let size = ap size_of from.sum_from in omega (arith, below, size)) in
@@ -158,7 +158,7 @@ module _ (place : Place) (span : ℕ) (old : List Part) (injective : IsInjective
         by true e = absurd (
             let m = in_codes span j sources c has in
             let y : Source = m.0 in
-            let from = source_from place.level ranks sources y keeps found m.1 in
+            let from = source_from stake.level ranks sources y keeps found m.1 in
             let own = from.quiet.legal.own in
             let code = m.2 in
             let rank : c / 8 ≡ rank_of y.0 = omega (arith, code, own) in
@@ -173,9 +173,9 @@ module _ (place : Place) (span : ℕ) (old : List Part) (injective : IsInjective
             (pend_zero (part_at old (rank_of from.q / span)).wave others (part_at old (rank_of from.q / span)).fresh (rank_of from.q) told.2.1).0 (among (rank_of from.q) from.listed))
 
   -- the blocks can hear what was found of both kinds
-  pub can_hear : (lost won : List ℕ) (xs ys : List Source) (lost_notes won_notes : ℕ → List ℕ) → ((r : ℕ) → In lost r → IsPending place span old Lost r) → ((r : ℕ) → In won r → IsPending place span old Won r)
-      → AreSourcesOf place.level lost xs → AreSourcesOf place.level won ys → ((j : ℕ) → lost_notes j ≡ codes_to span j xs) → ((j : ℕ) → won_notes j ≡ codes_to span j ys)
-      → place.gain ≤ place.level → place.wave < 2 ^ 32 - 1 → length old < 2 ^ 64 → CanHear 0 lost_notes won_notes old
+  pub can_hear : (lost won : List ℕ) (xs ys : List Source) (lost_notes won_notes : ℕ → List ℕ) → ((r : ℕ) → In lost r → IsPending stake span old Lost r) → ((r : ℕ) → In won r → IsPending stake span old Won r)
+      → AreSourcesOf stake.level lost xs → AreSourcesOf stake.level won ys → ((j : ℕ) → lost_notes j ≡ codes_to span j xs) → ((j : ℕ) → won_notes j ≡ codes_to span j ys)
+      → stake.gain ≤ stake.level → stake.wave < 2 ^ 32 - 1 → length old < 2 ^ 64 → CanHear 0 lost_notes won_notes old
   can_hear lost won xs ys lost_notes won_notes pend_lost pend_won found_lost found_won at_lost at_won inward near few = record {
     numbers = omega (arith, few);
     of_lost = λ i h. codes_fit Lost lost xs pend_lost found_lost i (lost_notes (0 + i)) (at_lost (0 + i) ∙ ap (λ n. codes_to span n xs) (start i));
@@ -192,23 +192,23 @@ module _ (place : Place) (span : ℕ) (old : List Part) (injective : IsInjective
 
   -- the lost boards of a chunk and the won ones, whose notes each block heard
   module _ (lost won rest : List ℕ) (xs ys : List Source) (lost_notes won_notes : ℕ → List ℕ) (new : List Part)
-      (pend_lost : (r : ℕ) → In lost r → IsPending place span old Lost r) (pend_won : (r : ℕ) → In won r → IsPending place span old Won r)
-      (found_lost : AreSourcesOf place.level lost xs) (found_won : AreSourcesOf place.level won ys)
+      (pend_lost : (r : ℕ) → In lost r → IsPending stake span old Lost r) (pend_won : (r : ℕ) → In won r → IsPending stake span old Won r)
+      (found_lost : AreSourcesOf stake.level lost xs) (found_won : AreSourcesOf stake.level won ys)
       (at_lost : (j : ℕ) → lost_notes j ≡ codes_to span j xs) (at_won : (j : ℕ) → won_notes j ≡ codes_to span j ys)
       (hears : HearsFrom 0 lost_notes won_notes old new) (distinct : AreDistinct ((lost ++ won) ++ rest)) where
     abbrev everyone : List ℕ
     everyone = (lost ++ won) ++ rest
 
     abbrev with_lost : ℕ → List Note → List Note
-    with_lost j notes = heard_by (place_of (part_at old j)) Lost (lost_notes j) notes
+    with_lost j notes = heard_by (stake_of (part_at old j)) Lost (lost_notes j) notes
 
     abbrev with_both : ℕ → List Note → List Note
-    with_both j notes = heard_by (place_of (part_at old j)) Won (won_notes j) (with_lost j notes)
+    with_both j notes = heard_by (stake_of (part_at old j)) Won (won_notes j) (with_lost j notes)
 
     distinct_codes : AreDistinct (map code_of xs ++ map code_of ys)
     distinct_codes =
         subst AreDistinct (map_append xs ys)
-        (sources_distinct place.level (lost ++ won) (xs ++ ys) injective keeps (distinct_first (lost ++ won) rest distinct) (sources_both place.level lost won xs ys found_lost found_won))
+        (sources_distinct stake.level (lost ++ won) (xs ++ ys) injective keeps (distinct_first (lost ++ won) rest distinct) (sources_both stake.level lost won xs ys found_lost found_won))
 
     lost_listed : (j c : ℕ) → In (lost_notes j) c → In (codes_to span j xs) c
     lost_listed j c h = subst (λ (l : List ℕ). In l c) (at_lost j) h
@@ -229,17 +229,17 @@ module _ (place : Place) (span : ℕ) (old : List Part) (injective : IsInjective
     lost_new : (value : List ℕ → ℤ) (j : ℕ) (notes : List Note) → j < length old → IsTrueTo j notes → AreNew (part_at old j).level (lost_notes j) notes
     lost_new value j notes few truth =
         subst (λ n. AreNew n (lost_notes j) notes) (sym (grid.level j few))
-        (new_all place.level (lost_notes j) notes
+        (new_all stake.level (lost_notes j) notes
         (λ c h. (code_quiet Lost lost xs pend_lost found_lost j c (lost_listed j c h), code_unheard Lost lost xs pend_lost found_lost value j c everyone notes few (lost_listed j c h) listed_lost truth))
         (subst AreDistinct (sym (at_lost j)) (codes_distinct span j xs (distinct_first (map code_of xs) (map code_of ys) distinct_codes))))
 
     won_new : (value : List ℕ → ℤ) (j : ℕ) (notes : List Note) → j < length old → IsTrueTo j notes → AreNew (part_at old j).level (won_notes j) (with_lost j notes)
     won_new value j notes few truth =
         subst (λ n. AreNew n (won_notes j) (with_lost j notes)) (sym (grid.level j few))
-        (new_all place.level (won_notes j) (with_lost j notes)
+        (new_all stake.level (won_notes j) (with_lost j notes)
         (λ c h. (
           code_quiet Won won ys pend_won found_won j c (won_listed j c h),
-          noted_heard (place_of (part_at old j)) Lost (lost_notes j) notes c (apart c h) (code_unheard Won won ys pend_won found_won value j c everyone notes few (won_listed j c h) listed_won truth),
+          noted_heard (stake_of (part_at old j)) Lost (lost_notes j) notes c (apart c h) (code_unheard Won won ys pend_won found_won value j c everyone notes few (won_listed j c h) listed_won truth),
         ))
         (subst AreDistinct (sym (at_won j)) (codes_distinct span j ys (distinct_second (map code_of xs) (map code_of ys) distinct_codes))))
       where
@@ -252,8 +252,8 @@ module _ (place : Place) (span : ℕ) (old : List Part) (injective : IsInjective
     told_block : (value : List ℕ → ℤ) (j : ℕ) (notes : List Note) → j < length old → IsTrueTo j notes → IsTallied value (part_at old j) notes → IsTallied value (part_at new j) (with_both j notes)
     told_block value j notes few truth tallied =
         let start : 0 + j ≡ j = omega arith in
-        let tells : TellsBoth (place_of (part_at old j)) (lost_notes j) (won_notes j) (part_at old j) (part_at new j) =
-        subst (λ n. TellsBoth (place_of (part_at old j)) (lost_notes n) (won_notes n) (part_at old j) (part_at new j)) start (hears.tells j few) in
+        let tells : TellsBoth (stake_of (part_at old j)) (lost_notes j) (won_notes j) (part_at old j) (part_at new j) =
+        subst (λ n. TellsBoth (stake_of (part_at old j)) (lost_notes n) (won_notes n) (part_at old j) (part_at new j)) start (hears.tells j few) in
         tells value notes (lost_new value j notes few truth) (won_new value j notes few truth) tallied
 
     -- ---- what is spread now
@@ -283,33 +283,33 @@ module _ (place : Place) (span : ℕ) (old : List Part) (injective : IsInjective
         spread_now i r v d few inside (λ h. none.0 (in_second (lost ++ won) rest r h)) (spread.0, none.1)
 
     -- a note of a code is true
-    from_code : (kind : Kind) (ranks : List ℕ) (sources : List Source) → ((r : ℕ) → In ranks r → IsPending place span old kind r) → AreSourcesOf place.level ranks sources → ((r : ℕ) → In ranks r → In (lost ++ won) r)
-        → (i j c : ℕ) (p q : List ℕ) (x : ℕ) (m : Note) → i < length old → j < length old → IsBoard p → sum p ≡ place.level → InBlock (part_at old i) (rank_of q) → IsQuietMove p x q → In (codes_to span j sources) c
-        → c / 8 ≡ rank_of p → m ≡ note_by (place_of (part_at old j)) kind c → m.pit ≡ x
+    from_code : (kind : Kind) (ranks : List ℕ) (sources : List Source) → ((r : ℕ) → In ranks r → IsPending stake span old kind r) → AreSourcesOf stake.level ranks sources → ((r : ℕ) → In ranks r → In (lost ++ won) r)
+        → (i j c : ℕ) (p q : List ℕ) (x : ℕ) (m : Note) → i < length old → j < length old → IsBoard p → sum p ≡ stake.level → InBlock (part_at old i) (rank_of q) → IsQuietMove p x q → In (codes_to span j sources) c
+        → c / 8 ≡ rank_of p → m ≡ note_by (stake_of (part_at old j)) kind c → m.pit ≡ x
         → (v : ℤ) × (d : ℕ) × IsSpread (with_pending rest (part_at new i)) (rank_of q) v d × IsNoteOf q v d p x m
     from_code kind ranks sources pending found among i j c p q x m few few' board stones in_q quiet has rank is pit =
         let real = code_true kind ranks sources pending found j c p q x few' has board stones rank (ap (λ (n : Note). n.pit) (sym is) ∙ pit) quiet in (
-          value_by kind place.gain,
-          place.wave,
-          spread_now i (rank_of q) (value_by kind place.gain) place.wave few in_q (distinct_apart (lost ++ won) rest (rank_of q) distinct (among (rank_of q) real.0))
+          value_by kind stake.gain,
+          stake.wave,
+          spread_now i (rank_of q) (value_by kind stake.gain) stake.wave few in_q (distinct_apart (lost ++ won) rest (rank_of q) distinct (among (rank_of q) real.0))
               (chunk_spread kind ranks sources pending found i (rank_of q) few in_q real.0),
-          subst (IsNoteOf q (value_by kind place.gain) place.wave p x) (sym is) real.1,
+          subst (IsNoteOf q (value_by kind stake.gain) stake.wave p x) (sym is) real.1,
         )
 
     -- and each is there
-    via_code : (kind : Kind) (ranks : List ℕ) (sources : List Source) → ((r : ℕ) → In ranks r → IsPending place span old kind r) → AreSourcesOf place.level ranks sources
-        → (i j : ℕ) (p q : List ℕ) (x : ℕ) (v : ℤ) (d : ℕ) → i < length old → j < length old → IsBoard p → sum p ≡ place.level → InBlock (part_at old j) (rank_of p) → InBlock (part_at old i) (rank_of q) → IsQuietMove p x q
+    via_code : (kind : Kind) (ranks : List ℕ) (sources : List Source) → ((r : ℕ) → In ranks r → IsPending stake span old kind r) → AreSourcesOf stake.level ranks sources
+        → (i j : ℕ) (p q : List ℕ) (x : ℕ) (v : ℤ) (d : ℕ) → i < length old → j < length old → IsBoard p → sum p ≡ stake.level → InBlock (part_at old j) (rank_of p) → InBlock (part_at old i) (rank_of q) → IsQuietMove p x q
         → IsSpread (part_at old i) (rank_of q) v d → In ranks (rank_of q)
-        → (c : ℕ) × In (codes_to span j sources) c × (c / 8 ≡ rank_of p) × IsNoteOf q v d p x (note_by (place_of (part_at old j)) kind c)
+        → (c : ℕ) × In (codes_to span j sources) c × (c / 8 ≡ rank_of p) × IsNoteOf q v d p x (note_by (stake_of (part_at old j)) kind c)
     via_code kind ranks sources pending found i j p q x v d few few' board stones in_p in_q quiet spread listed =
         let all = code_all kind ranks sources pending found j p q x few' board stones in_p quiet listed in
         let here = chunk_spread kind ranks sources pending found i (rank_of q) few in_q listed in
-        let same = pairs (value_by kind place.gain, place.wave) (v, d) (sym here.0 ∙ spread.0) in
+        let same = pairs (value_by kind stake.gain, stake.wave) (v, d) (sym here.0 ∙ spread.0) in
         let own = quiet.legal.own in (
           code_by (rank_of p) x,
           all.0,
           (let e : code_by (rank_of p) x / 8 ≡ rank_of p = omega (arith, own) in e),
-          subst₂ (λ (u : ℤ) (e : ℕ). IsNoteOf q u e p x (note_by (place_of (part_at old j)) kind (code_by (rank_of p) x))) same.0 same.1 all.1,
+          subst₂ (λ (u : ℤ) (e : ℕ). IsNoteOf q u e p x (note_by (stake_of (part_at old j)) kind (code_by (rank_of p) x))) same.0 same.1 all.1,
         )
 
     hears_pair : (i j : ℕ) (notes : List Note) → i < length old → j < length old → Hears (with_pending everyone (part_at old i)) (with_pending everyone (part_at old j)) notes
@@ -319,8 +319,8 @@ module _ (place : Place) (span : ℕ) (old : List Part) (injective : IsInjective
           let in_p' = inside_old j (rank_of p) few' in_p in
           let in_q' = inside_old i (rank_of q) few in_q in
           let level = stones ∙ (hears.settles j few').same.level in
-          elim (heard_had (place_of (part_at old j)) Won (won_notes j) (with_lost j notes) (rank_of p) m has) [
-            | inl earlier ↦ elim (heard_had (place_of (part_at old j)) Lost (lost_notes j) notes (rank_of p) m earlier) [
+          elim (heard_had (stake_of (part_at old j)) Won (won_notes j) (with_lost j notes) (rank_of p) m has) [
+            | inl earlier ↦ elim (heard_had (stake_of (part_at old j)) Lost (lost_notes j) notes (rank_of p) m earlier) [
               | inl before ↦ (
                   let told = own.true_notes p x q board level in_p' in_q' quiet m before pit in
                   (told.0, told.1, spread_still i (rank_of q) told.0 told.1 few in_q' told.2, told.3))
@@ -337,19 +337,19 @@ module _ (place : Place) (span : ℕ) (old : List Part) (injective : IsInjective
             | inl l ↦ (
                 let told = via_code Lost lost xs pend_lost found_lost i j p q x v d few few' board (level ∙ grid.level j few') in_p' in_q' quiet then.1 l in
                 let listed : In (lost_notes j) told.0 = subst (λ (l : List ℕ). In l told.0) (sym (at_lost j)) told.1 in (
-                  note_by (place_of (part_at old j)) Lost told.0,
-                  heard_old (place_of (part_at old j)) Won (won_notes j) (with_lost j notes) (rank_of p) (note_by (place_of (part_at old j)) Lost told.0)
-                      (subst (λ r. Has (notes_for r (with_lost j notes)) (note_by (place_of (part_at old j)) Lost told.0)) told.2
-                      (heard_new (place_of (part_at old j)) Lost (lost_notes j) notes told.0 listed)),
+                  note_by (stake_of (part_at old j)) Lost told.0,
+                  heard_old (stake_of (part_at old j)) Won (won_notes j) (with_lost j notes) (rank_of p) (note_by (stake_of (part_at old j)) Lost told.0)
+                      (subst (λ r. Has (notes_for r (with_lost j notes)) (note_by (stake_of (part_at old j)) Lost told.0)) told.2
+                      (heard_new (stake_of (part_at old j)) Lost (lost_notes j) notes told.0 listed)),
                   told.3,
                 ))
             | inr not_lost ↦ elim (in_or_not won (rank_of q)) [
               | inl w ↦ (
                   let told = via_code Won won ys pend_won found_won i j p q x v d few few' board (level ∙ grid.level j few') in_p' in_q' quiet then.1 w in
                   let listed : In (won_notes j) told.0 = subst (λ (l : List ℕ). In l told.0) (sym (at_won j)) told.1 in (
-                    note_by (place_of (part_at old j)) Won told.0,
-                    subst (λ r. Has (notes_for r (with_both j notes)) (note_by (place_of (part_at old j)) Won told.0)) told.2
-                        (heard_new (place_of (part_at old j)) Won (won_notes j) (with_lost j notes) told.0 listed),
+                    note_by (stake_of (part_at old j)) Won told.0,
+                    subst (λ r. Has (notes_for r (with_both j notes)) (note_by (stake_of (part_at old j)) Won told.0)) told.2
+                        (heard_new (stake_of (part_at old j)) Won (won_notes j) (with_lost j notes) told.0 listed),
                     told.3,
                   ))
               | inr not_won ↦ (
@@ -362,8 +362,8 @@ module _ (place : Place) (span : ℕ) (old : List Part) (injective : IsInjective
                         ]) then.1.1,
                   ) in (
                     told.0,
-                    heard_old (place_of (part_at old j)) Won (won_notes j) (with_lost j notes) (rank_of p) told.0
-                        (heard_old (place_of (part_at old j)) Lost (lost_notes j) notes (rank_of p) told.0 told.1),
+                    heard_old (stake_of (part_at old j)) Won (won_notes j) (with_lost j notes) (rank_of p) told.0
+                        (heard_old (stake_of (part_at old j)) Lost (lost_notes j) notes (rank_of p) told.0 told.1),
                     told.2,
                   ))
             ]
@@ -394,8 +394,8 @@ module _ (place : Place) (span : ℕ) (old : List Part) (injective : IsInjective
 pub settles_all : (lost won : ℕ → List ℕ) (old new : List Part) → HearsFrom 0 lost won old new → SettlesAll old new
 settles_all lost won old new hears = record { blocks = hears.blocks; settles = hears.settles; passed = hears.passed }
 
-pub grid_still : (place : Place) (span : ℕ) (old new : List Part) → IsGrid place span old → SettlesAll old new → IsGrid place span new
-grid_still place span old new grid all = record {
+pub grid_still : (stake : Stake) (span : ℕ) (old new : List Part) → IsGrid stake span old → SettlesAll old new → IsGrid stake span new
+grid_still stake span old new grid all = record {
   level = λ i h. (all.settles i (few i h)).same.level ∙ grid.level i (few i h);
   gain = λ i h. (all.settles i (few i h)).same.gain ∙ grid.gain i (few i h);
   wave = λ i h. (all.settles i (few i h)).same.wave ∙ grid.wave i (few i h);

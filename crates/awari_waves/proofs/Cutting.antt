@@ -59,8 +59,8 @@ module _ (value : List ℕ → ℤ) (n span : ℕ) where
       }
 
   module _ (reached : ℕ) (parts : List Part) (low : n ≤ 24) (some : 0 < span) (done : AreScannedTo value n span reached parts) (all : size_of n ≤ reached) where
-    pub scanned-grid : IsGrid (record { level = n; gain = n + 1; wave = 0; start = 0 }) span parts
-    scanned-grid = grid_of (record { level = n; gain = n + 1; wave = 0; start = 0 }) span parts some (record {
+    pub scanned-grid : IsGrid (record { level = n; gain = n + 1; wave = 0 }) span parts
+    scanned-grid = grid_of (record { level = n; gain = n + 1; wave = 0 }) span parts some (record {
       level = λ i h. (done.each i h).level;
       gain = λ i h. (done.each i h).gain;
       wave = λ i h. (done.each i h).wave;

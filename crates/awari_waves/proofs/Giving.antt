@@ -12,7 +12,7 @@ use Rattle.awari_block.specs.Part.{Part, InBlock, settled_at}
 use Rattle.awari_block.specs.declared.cells.Cell.{Cell}
 use Rattle.awari_block.specs.declared.notes.Kind.{Kind}
 use Rattle.awari_block.specs.declared.notes.Kind.TheVariants.{Won, Lost}
-use Rattle.awari_block.specs.declared.places.Place.{Place}
+use Rattle.awari_block.specs.declared.stakes.Stake.{Stake}
 use Rattle.awari_block.proofs.BlockLemmas.{due_settled, popped, settled_inside, times_due-permuted}
 use Rattle.awari_owner.proofs.Hearing.{settled_value}
 use Rattle.awari_waves.specs.Lists.{dues_from, dues_of, list_at, without}
@@ -37,17 +37,17 @@ dues_without n d (l ∷ ls) (suc k) is =
     IsPermutation-trans _ _ _ (front_swap (map (λ r. (n, r)) (list_at ls k)) (map (λ r. (d, r)) l) (dues_from (suc d) (without ls k)))
     (IsPermutation-append_right (map (λ r. (d, r)) l) _ _ (dues_without n (suc d) ls k (omega (arith, is))))
 
-block_less : (place : Place) (cells : List Cell) (given rest fresh : List Due) → IsPermutation (given ++ rest) fresh → IsBlock place cells fresh → IsBlock place cells rest
-block_less place cells [] rest fresh moved sound = record {
+block_less : (stake : Stake) (start : ℕ) (cells : List Cell) (given rest fresh : List Due) → IsPermutation (given ++ rest) fresh → IsBlock stake start cells fresh → IsBlock stake start cells rest
+block_less stake start cells [] rest fresh moved sound = record {
   fit = sound.fit;
   settled = λ r. let e = same r in let h = sound.settled r in omega (arith, e, h);
-  due = All-permutation (λ (f : Due). IsDueAs place f (cell_in place.start cells (due_rank f))) fresh rest (IsPermutation-sym rest fresh moved) sound.due;
+  due = All-permutation (λ (f : Due). IsDueAs stake f (cell_in start cells (due_rank f))) fresh rest (IsPermutation-sym rest fresh moved) sound.due;
 }
   where
     same : (r : ℕ) → times_due rest r ≡ times_due fresh r
     same r = sym (times_due-permuted rest fresh r moved)
-block_less place cells (f ∷ given) rest fresh moved sound =
-    block_less place cells given rest (given ++ rest) (IsPermutation-refl (given ++ rest)) (popped place cells fresh (given ++ rest) f sound moved)
+block_less stake start cells (f ∷ given) rest fresh moved sound =
+    block_less stake start cells given rest (given ++ rest) (IsPermutation-refl (given ++ rest)) (popped stake start cells fresh (given ++ rest) f sound moved)
 
 abbrev due_at : ℕ → ℕ → Due
 due_at w r = (w, r)
@@ -90,73 +90,73 @@ either_of Q (x ∷ xs) ys a b = All-cons Q x (xs ++ ys) (a 0 x (omega arith)) (e
 -- ---- a segment
 
 -- a fresh board of this sign
-abbrev IsMine : Place → List Cell → (ℤ → Type 0) → Due → Type 0
-IsMine place cells P f =
-    (is_settled_in place.start cells (due_rank f) ≡ true) × IsDueAs place f (cell_in place.start cells (due_rank f)) × P (cell_in place.start cells (due_rank f)).score
+abbrev IsMine : Stake → ℕ → List Cell → (ℤ → Type 0) → Due → Type 0
+IsMine stake start cells P f =
+    (is_settled_in start cells (due_rank f) ≡ true) × IsDueAs stake f (cell_in start cells (due_rank f)) × P (cell_in start cells (due_rank f)).score
 
 module _ (a : Inside) (sound : IsSegment a) where
   abbrev fresh : List Due
   fresh = dues_of a.lost ++ dues_of a.won
 
-  all_settled : All (λ (f : Due). is_settled_in a.place.start a.cells.items (due_rank f) ≡ true) fresh
-  all_settled = All-from_recursion _ fresh (due_settled (is_settled_in a.place.start a.cells.items) fresh sound.block.settled)
+  all_settled : All (λ (f : Due). is_settled_in a.start a.cells.items (due_rank f) ≡ true) fresh
+  all_settled = All-from_recursion _ fresh (due_settled (is_settled_in a.start a.cells.items) fresh sound.block.settled)
 
-  lost_mine : All (IsMine a.place a.cells.items IsBelowZero) (dues_of a.lost)
+  lost_mine : All (IsMine a.stake a.start a.cells.items IsBelowZero) (dues_of a.lost)
   lost_mine k d h = (
-    All-append_first (λ (f : Due). is_settled_in a.place.start a.cells.items (due_rank f) ≡ true) (dues_of a.lost) (dues_of a.won) all_settled k d h,
-    All-append_first (λ (f : Due). IsDueAs a.place f (cell_in a.place.start a.cells.items (due_rank f))) (dues_of a.lost) (dues_of a.won) sound.block.due k d h,
+    All-append_first (λ (f : Due). is_settled_in a.start a.cells.items (due_rank f) ≡ true) (dues_of a.lost) (dues_of a.won) all_settled k d h,
+    All-append_first (λ (f : Due). IsDueAs a.stake f (cell_in a.start a.cells.items (due_rank f))) (dues_of a.lost) (dues_of a.won) sound.block.due k d h,
     sound.lost k d h,
   )
 
-  won_mine : All (IsMine a.place a.cells.items IsAboveZero) (dues_of a.won)
+  won_mine : All (IsMine a.stake a.start a.cells.items IsAboveZero) (dues_of a.won)
   won_mine k d h = (
-    All-append_second (λ (f : Due). is_settled_in a.place.start a.cells.items (due_rank f) ≡ true) (dues_of a.lost) (dues_of a.won) all_settled k d h,
-    All-append_second (λ (f : Due). IsDueAs a.place f (cell_in a.place.start a.cells.items (due_rank f))) (dues_of a.lost) (dues_of a.won) sound.block.due k d h,
+    All-append_second (λ (f : Due). is_settled_in a.start a.cells.items (due_rank f) ≡ true) (dues_of a.lost) (dues_of a.won) all_settled k d h,
+    All-append_second (λ (f : Due). IsDueAs a.stake f (cell_in a.start a.cells.items (due_rank f))) (dues_of a.lost) (dues_of a.won) sound.block.due k d h,
     sound.won k d h,
   )
 
   -- such a board of the open wave
-  mine_is : (P : ℤ → Type 0) (v : ℤ) (r : ℕ) → ((s : ℤ) → IsEither a.place.gain s → P s → s ≡ v) → IsMine a.place a.cells.items P (a.place.wave, r) → InBlock (seen a) r × (settled_at (seen a) r ≡ Some (v, a.place.wave))
+  mine_is : (P : ℤ → Type 0) (v : ℤ) (r : ℕ) → ((s : ℤ) → IsEither a.stake.gain s → P s → s ≡ v) → IsMine a.stake a.start a.cells.items P (a.stake.wave, r) → InBlock (seen a) r × (settled_at (seen a) r ≡ Some (v, a.stake.wave))
   mine_is P v r sign (settled, due, score) =
-      let inside = settled_inside a.place.start a.cells.items r settled in
-      let cell = cell_in a.place.start a.cells.items r in
+      let inside = settled_inside a.start a.cells.items r settled in
+      let cell = cell_in a.start a.cells.items r in
       ((inside.0, inside.1), settled_value cell inside.2 ∙ (λ i. Some (sign cell.score due.valued score i, due.near i)))
 
-  below_is : (s : ℤ) → IsEither a.place.gain s → IsBelowZero s → s ≡ neg_ℤ (pos a.place.gain)
+  below_is : (s : ℤ) → IsEither a.stake.gain s → IsBelowZero s → s ≡ neg_ℤ (pos a.stake.gain)
   below_is s (inl up) low = absurd (omega (arith, ints, up, low))
   below_is s (inr down) low = down
 
-  above_is : (s : ℤ) → IsEither a.place.gain s → IsAboveZero s → s ≡ pos a.place.gain
+  above_is : (s : ℤ) → IsEither a.stake.gain s → IsAboveZero s → s ≡ pos a.stake.gain
   above_is s (inl up) high = up
   above_is s (inr down) high = absurd (omega (arith, ints, down, high))
 
   -- a fresh board of the open wave, if it is one, has this value
   abbrev IsLeft : Kind → Due → Type 0
-  IsLeft kind f = due_dist f ≡ a.place.wave → settled_at (seen a) (due_rank f) ≡ Some (value_by kind a.place.gain, a.place.wave)
+  IsLeft kind f = due_dist f ≡ a.stake.wave → settled_at (seen a) (due_rank f) ≡ Some (value_by kind a.stake.gain, a.stake.wave)
 
-  mine_at : (P : ℤ → Type 0) (v : ℤ) (f : Due) → ((s : ℤ) → IsEither a.place.gain s → P s → s ≡ v) → IsMine a.place a.cells.items P f → due_dist f ≡ a.place.wave
-      → settled_at (seen a) (due_rank f) ≡ Some (v, a.place.wave)
+  mine_at : (P : ℤ → Type 0) (v : ℤ) (f : Due) → ((s : ℤ) → IsEither a.stake.gain s → P s → s ≡ v) → IsMine a.stake a.start a.cells.items P f → due_dist f ≡ a.stake.wave
+      → settled_at (seen a) (due_rank f) ≡ Some (v, a.stake.wave)
   mine_at P v f sign (settled, due, score) e =
-      let inside = settled_inside a.place.start a.cells.items (due_rank f) settled in
-      let cell = cell_in a.place.start a.cells.items (due_rank f) in
+      let inside = settled_inside a.start a.cells.items (due_rank f) settled in
+      let cell = cell_in a.start a.cells.items (due_rank f) in
       settled_value cell inside.2 ∙ (λ i. Some (sign cell.score due.valued score i, (due.near ∙ e) i))
 
-  module _ (lost : List (List ℕ)) (is : lost ≡ without a.lost a.place.wave) where
+  module _ (lost : List (List ℕ)) (is : lost ≡ without a.lost a.stake.wave) where
     abbrev lost_given : List ℕ
-    lost_given = list_at a.lost a.place.wave
+    lost_given = list_at a.lost a.stake.wave
 
-    mine_moved : IsPermutation {X = Due} (map (λ r. (a.place.wave, r)) lost_given ++ dues_of lost) (dues_of a.lost)
-    mine_moved = subst (λ (ls : List (List ℕ)). IsPermutation {X = Due} (map (λ r. (a.place.wave, r)) lost_given ++ dues_of ls) (dues_of a.lost)) (sym is) (dues_without a.place.wave 0 a.lost a.place.wave (omega arith))
+    mine_moved : IsPermutation {X = Due} (map (λ r. (a.stake.wave, r)) lost_given ++ dues_of lost) (dues_of a.lost)
+    mine_moved = subst (λ (ls : List (List ℕ)). IsPermutation {X = Due} (map (λ r. (a.stake.wave, r)) lost_given ++ dues_of ls) (dues_of a.lost)) (sym is) (dues_without a.stake.wave 0 a.lost a.stake.wave (omega arith))
 
-    moved : IsPermutation {X = Due} (map (λ r. (a.place.wave, r)) lost_given ++ (dues_of lost ++ dues_of a.won)) fresh
+    moved : IsPermutation {X = Due} (map (λ r. (a.stake.wave, r)) lost_given ++ (dues_of lost ++ dues_of a.won)) fresh
     moved =
-        subst (λ (l : List Due). IsPermutation l fresh) (append_assoc (map (λ r. (a.place.wave, r)) lost_given) (dues_of lost) (dues_of a.won))
-        (IsPermutation-append_left (dues_of a.won) (map (λ r. (a.place.wave, r)) lost_given ++ dues_of lost) (dues_of a.lost) mine_moved)
+        subst (λ (l : List Due). IsPermutation l fresh) (append_assoc (map (λ r. (a.stake.wave, r)) lost_given) (dues_of lost) (dues_of a.won))
+        (IsPermutation-append_left (dues_of a.won) (map (λ r. (a.stake.wave, r)) lost_given ++ dues_of lost) (dues_of a.lost) mine_moved)
 
-    mine_kept : All (IsMine a.place a.cells.items IsBelowZero) (map (λ r. (a.place.wave, r)) lost_given ++ dues_of lost)
-    mine_kept = All-permutation (IsMine a.place a.cells.items IsBelowZero) (dues_of a.lost) _ (IsPermutation-sym _ _ mine_moved) lost_mine
+    mine_kept : All (IsMine a.stake a.start a.cells.items IsBelowZero) (map (λ r. (a.stake.wave, r)) lost_given ++ dues_of lost)
+    mine_kept = All-permutation (IsMine a.stake a.start a.cells.items IsBelowZero) (dues_of a.lost) _ (IsPermutation-sym _ _ mine_moved) lost_mine
 
-    pub lost_given_segment : IsSegment (record { place = a.place; cells = a.cells; awaits = a.awaits; lost = lost; won = a.won })
+    pub lost_given_segment : IsSegment (record { start = a.start; stake = a.stake; cells = a.cells; awaits = a.awaits; lost = lost; won = a.won })
     lost_given_segment = record {
       low = sound.low;
       opened = sound.opened;
@@ -164,40 +164,40 @@ module _ (a : Inside) (sound : IsSegment a) where
       fits = sound.fits;
       within = sound.within;
       awaited = sound.awaited;
-      block = block_less a.place a.cells.items (map (λ r. (a.place.wave, r)) lost_given) (dues_of lost ++ dues_of a.won) fresh moved sound.block;
-      lost = λ k d h. (All-append_second (IsMine a.place a.cells.items IsBelowZero) (map (λ r. (a.place.wave, r)) lost_given) (dues_of lost) mine_kept k d h).2;
+      block = block_less a.stake a.start a.cells.items (map (λ r. (a.stake.wave, r)) lost_given) (dues_of lost ++ dues_of a.won) fresh moved sound.block;
+      lost = λ k d h. (All-append_second (IsMine a.stake a.start a.cells.items IsBelowZero) (map (λ r. (a.stake.wave, r)) lost_given) (dues_of lost) mine_kept k d h).2;
       won = sound.won;
     }
 
-    pub lost_gives : GivesFresh Lost (seen a) (seen (record { place = a.place; cells = a.cells; awaits = a.awaits; lost = lost; won = a.won })) lost_given
+    pub lost_gives : GivesFresh Lost (seen a) (seen (record { start = a.start; stake = a.stake; cells = a.cells; awaits = a.awaits; lost = lost; won = a.won })) lost_given
     lost_gives = record {
       rest = refl;
       moved = moved;
       valued = λ k d h.
-          mine_is IsBelowZero (neg_ℤ (pos a.place.gain)) (get_or lost_given k d) below_is
-          (unmapped (IsMine a.place a.cells.items IsBelowZero) a.place.wave lost_given (All-append_first (IsMine a.place a.cells.items IsBelowZero) (map (λ r. (a.place.wave, r)) lost_given) (dues_of lost) mine_kept) k d h);
+          mine_is IsBelowZero (neg_ℤ (pos a.stake.gain)) (get_or lost_given k d) below_is
+          (unmapped (IsMine a.stake a.start a.cells.items IsBelowZero) a.stake.wave lost_given (All-append_first (IsMine a.stake a.start a.cells.items IsBelowZero) (map (λ r. (a.stake.wave, r)) lost_given) (dues_of lost) mine_kept) k d h);
       left = either_of (IsLeft Won) (dues_of lost) (dues_of a.won)
-          (λ k d h e. absurd (All-from_recursion _ (dues_of (without a.lost a.place.wave)) (none_at a.place.wave 0 a.lost a.place.wave (omega arith)) k d (let long = ap (λ ls. length (dues_of ls)) is in omega (arith, h, long))
+          (λ k d h e. absurd (All-from_recursion _ (dues_of (without a.lost a.stake.wave)) (none_at a.stake.wave 0 a.lost a.stake.wave (omega arith)) k d (let long = ap (λ ls. length (dues_of ls)) is in omega (arith, h, long))
           (ap (λ ls. due_dist (get_or (dues_of ls) k d)) (sym is) ∙ e)))
-          (λ k d h e. mine_at IsAboveZero (pos a.place.gain) (get_or (dues_of a.won) k d) above_is (won_mine k d h) e);
+          (λ k d h e. mine_at IsAboveZero (pos a.stake.gain) (get_or (dues_of a.won) k d) above_is (won_mine k d h) e);
     }
 
-  module _ (won : List (List ℕ)) (is : won ≡ without a.won a.place.wave) where
+  module _ (won : List (List ℕ)) (is : won ≡ without a.won a.stake.wave) where
     abbrev won_given : List ℕ
-    won_given = list_at a.won a.place.wave
+    won_given = list_at a.won a.stake.wave
 
-    mine_moved_won : IsPermutation {X = Due} (map (λ r. (a.place.wave, r)) won_given ++ dues_of won) (dues_of a.won)
-    mine_moved_won = subst (λ (ls : List (List ℕ)). IsPermutation {X = Due} (map (λ r. (a.place.wave, r)) won_given ++ dues_of ls) (dues_of a.won)) (sym is) (dues_without a.place.wave 0 a.won a.place.wave (omega arith))
+    mine_moved_won : IsPermutation {X = Due} (map (λ r. (a.stake.wave, r)) won_given ++ dues_of won) (dues_of a.won)
+    mine_moved_won = subst (λ (ls : List (List ℕ)). IsPermutation {X = Due} (map (λ r. (a.stake.wave, r)) won_given ++ dues_of ls) (dues_of a.won)) (sym is) (dues_without a.stake.wave 0 a.won a.stake.wave (omega arith))
 
-    moved_won : IsPermutation {X = Due} (map (λ r. (a.place.wave, r)) won_given ++ (dues_of a.lost ++ dues_of won)) fresh
+    moved_won : IsPermutation {X = Due} (map (λ r. (a.stake.wave, r)) won_given ++ (dues_of a.lost ++ dues_of won)) fresh
     moved_won =
-        IsPermutation-trans _ _ _ (front_swap (map (λ r. (a.place.wave, r)) won_given) (dues_of a.lost) (dues_of won))
-        (IsPermutation-append_right (dues_of a.lost) (map (λ r. (a.place.wave, r)) won_given ++ dues_of won) (dues_of a.won) mine_moved_won)
+        IsPermutation-trans _ _ _ (front_swap (map (λ r. (a.stake.wave, r)) won_given) (dues_of a.lost) (dues_of won))
+        (IsPermutation-append_right (dues_of a.lost) (map (λ r. (a.stake.wave, r)) won_given ++ dues_of won) (dues_of a.won) mine_moved_won)
 
-    mine_kept_won : All (IsMine a.place a.cells.items IsAboveZero) (map (λ r. (a.place.wave, r)) won_given ++ dues_of won)
-    mine_kept_won = All-permutation (IsMine a.place a.cells.items IsAboveZero) (dues_of a.won) _ (IsPermutation-sym _ _ mine_moved_won) won_mine
+    mine_kept_won : All (IsMine a.stake a.start a.cells.items IsAboveZero) (map (λ r. (a.stake.wave, r)) won_given ++ dues_of won)
+    mine_kept_won = All-permutation (IsMine a.stake a.start a.cells.items IsAboveZero) (dues_of a.won) _ (IsPermutation-sym _ _ mine_moved_won) won_mine
 
-    pub won_given_segment : IsSegment (record { place = a.place; cells = a.cells; awaits = a.awaits; lost = a.lost; won = won })
+    pub won_given_segment : IsSegment (record { start = a.start; stake = a.stake; cells = a.cells; awaits = a.awaits; lost = a.lost; won = won })
     won_given_segment = record {
       low = sound.low;
       opened = sound.opened;
@@ -205,21 +205,21 @@ module _ (a : Inside) (sound : IsSegment a) where
       fits = sound.fits;
       within = sound.within;
       awaited = sound.awaited;
-      block = block_less a.place a.cells.items (map (λ r. (a.place.wave, r)) won_given) (dues_of a.lost ++ dues_of won) fresh moved_won sound.block;
+      block = block_less a.stake a.start a.cells.items (map (λ r. (a.stake.wave, r)) won_given) (dues_of a.lost ++ dues_of won) fresh moved_won sound.block;
       lost = sound.lost;
-      won = λ k d h. (All-append_second (IsMine a.place a.cells.items IsAboveZero) (map (λ r. (a.place.wave, r)) won_given) (dues_of won) mine_kept_won k d h).2;
+      won = λ k d h. (All-append_second (IsMine a.stake a.start a.cells.items IsAboveZero) (map (λ r. (a.stake.wave, r)) won_given) (dues_of won) mine_kept_won k d h).2;
     }
 
-    pub won_gives : GivesFresh Won (seen a) (seen (record { place = a.place; cells = a.cells; awaits = a.awaits; lost = a.lost; won = won })) won_given
+    pub won_gives : GivesFresh Won (seen a) (seen (record { start = a.start; stake = a.stake; cells = a.cells; awaits = a.awaits; lost = a.lost; won = won })) won_given
     won_gives = record {
       rest = refl;
       moved = moved_won;
       valued = λ k d h.
-          mine_is IsAboveZero (pos a.place.gain) (get_or won_given k d) above_is
-          (unmapped (IsMine a.place a.cells.items IsAboveZero) a.place.wave won_given (All-append_first (IsMine a.place a.cells.items IsAboveZero) (map (λ r. (a.place.wave, r)) won_given) (dues_of won) mine_kept_won) k d h);
+          mine_is IsAboveZero (pos a.stake.gain) (get_or won_given k d) above_is
+          (unmapped (IsMine a.stake a.start a.cells.items IsAboveZero) a.stake.wave won_given (All-append_first (IsMine a.stake a.start a.cells.items IsAboveZero) (map (λ r. (a.stake.wave, r)) won_given) (dues_of won) mine_kept_won) k d h);
       left = either_of (IsLeft Lost) (dues_of a.lost) (dues_of won)
-          (λ k d h e. mine_at IsBelowZero (neg_ℤ (pos a.place.gain)) (get_or (dues_of a.lost) k d) below_is (lost_mine k d h) e)
-          (λ k d h e. absurd (All-from_recursion _ (dues_of (without a.won a.place.wave)) (none_at a.place.wave 0 a.won a.place.wave (omega arith)) k d (let long = ap (λ ls. length (dues_of ls)) is in omega (arith, h, long))
+          (λ k d h e. mine_at IsBelowZero (neg_ℤ (pos a.stake.gain)) (get_or (dues_of a.lost) k d) below_is (lost_mine k d h) e)
+          (λ k d h e. absurd (All-from_recursion _ (dues_of (without a.won a.stake.wave)) (none_at a.stake.wave 0 a.won a.stake.wave (omega arith)) k d (let long = ap (λ ls. length (dues_of ls)) is in omega (arith, h, long))
           (ap (λ ls. due_dist (get_or (dues_of ls) k d)) (sym is) ∙ e)));
     }
 

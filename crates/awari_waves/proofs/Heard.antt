@@ -14,7 +14,7 @@ use Rattle.awari_block.specs.declared.notes.Kind.TheVariants.{Won, Lost}
 use Rattle.std.proofs.lemmas.List.{get_or_default}
 use Rattle.awari_block.specs.Awaited.{AwaitsNoMore}
 use Rattle.awari_block.specs.Blocks.{no_cell}
-use Rattle.awari_block.specs.Boards.{CanPut}
+use Rattle.awari_block.specs.Boards.{CanPut, stake_of}
 use Rattle.awari_block.specs.Cells.{Fits, Keeps, SettlesTimely}
 use Rattle.awari_block.specs.Part.{Part, InBlock, stored_at}
 use Rattle.awari_owner.proofs.Hearing.{settled_value}
@@ -47,27 +47,27 @@ heard_far old new kind x t d view unset settled =
 
 -- ---- the cell that was read at this rank, and the one that takes its place
 
-module _ (a : Inside) (part : Part) (rank : ℕ) (old new : Cell) (view : seen a ≡ part) (held : InBlock part rank) (read : old ≡ get_or a.cells.items (rank - a.place.start) old) where
-  pub at : part.start + (rank - a.place.start) ≡ rank
+module _ (a : Inside) (part : Part) (rank : ℕ) (old new : Cell) (view : seen a ≡ part) (held : InBlock part rank) (read : old ≡ get_or a.cells.items (rank - a.start) old) where
+  pub at : part.start + (rank - a.start) ≡ rank
   at = let start = ap (λ (o : Part). o.start) view in let low = held.0 in omega (arith, start, low)
 
   pub stored : stored_at part rank ≡ old
   stored =
       let here : InBlock (seen a) rank = subst (λ (o : Part). InBlock o rank) (sym view) held in
-      subst (λ (o : Part). stored_at o rank ≡ old) view (get_or_default a.cells.items (rank - a.place.start) no_cell old here.1 ∙ sym read)
+      subst (λ (o : Part). stored_at o rank ≡ old) view (get_or_default a.cells.items (rank - a.start) no_cell old here.1 ∙ sym read)
 
-  pub can_put : Fits a.place new → Keeps old new → SettlesTimely a.place old new → AwaitsNoMore old new → CanPut part (part.start + (rank - a.place.start)) new
+  pub can_put : Fits a.stake new → Keeps old new → SettlesTimely a.stake old new → AwaitsNoMore old new → CanPut part (part.start + (rank - a.start)) new
   can_put fits keeps timely awaits = subst (λ r. CanPut part r new) (sym at) (record {
     held = held;
-    fits = subst (λ (o : Part). Fits (record { level = o.level; gain = o.gain; wave = o.wave; start = o.start }) new) view fits;
+    fits = subst (λ (o : Part). Fits (stake_of o) new) view fits;
     keeps = subst (λ (c : Cell). Keeps c new) (sym stored) keeps;
-    timely = subst (λ (o : Part). SettlesTimely (record { level = o.level; gain = o.gain; wave = o.wave; start = o.start }) (stored_at part rank) new) view
-        (subst (λ (c : Cell). SettlesTimely a.place c new) (sym stored) timely);
+    timely = subst (λ (o : Part). SettlesTimely (stake_of o) (stored_at part rank) new) view
+        (subst (λ (c : Cell). SettlesTimely a.stake c new) (sym stored) timely);
     awaits = subst (λ (c : Cell). AwaitsNoMore c new) (sym stored) awaits;
   })
 
-  pub farther : (kind : Kind) (x : ℕ) → view_of new ≡ cell_after_note (view_of old) kind x a.place.gain a.place.wave → IsFarther part (part.start + (rank - a.place.start)) new
+  pub farther : (kind : Kind) (x : ℕ) → view_of new ≡ cell_after_note (view_of old) kind x a.stake.gain a.stake.wave → IsFarther part (part.start + (rank - a.start)) new
   farther kind x heard = subst (λ r. IsFarther part r new) (sym at) (λ unset settled.
-      let far = heard_far old new kind x a.place.gain a.place.wave heard (sym (ap (λ (c : Cell). is_settled c.mark) stored) ∙ unset) settled in
+      let far = heard_far old new kind x a.stake.gain a.stake.wave heard (sym (ap (λ (c : Cell). is_settled c.mark) stored) ∙ unset) settled in
       let wave = ap (λ (o : Part). o.wave) view in
       omega (arith, far, wave))

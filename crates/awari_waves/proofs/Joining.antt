@@ -69,26 +69,26 @@ All-append_second P (x ∷ xs) ys all = All-append_second P xs ys (All-tail P x 
 
 -- what callers see of these boards
 abbrev pub seen : Inside → Part
-seen a = part_of a.place a.cells.items (dues_of a.lost ++ dues_of a.won)
+seen a = part_of a.stake a.start a.cells.items (dues_of a.lost ++ dues_of a.won)
 
 -- with this cell for that of the board of this rank, and with these fresh boards
 abbrev pub with_cell : Inside → ℕ → Cell → List (List ℕ) → List (List ℕ) → Inside
-with_cell a rank new lost won = record { place = a.place; cells = with_item a.cells (rank - a.place.start) new; awaits = a.awaits; lost = lost; won = won }
+with_cell a rank new lost won = record { start = a.start; stake = a.stake; cells = with_item a.cells (rank - a.start) new; awaits = a.awaits; lost = lost; won = won }
 
 -- the new cell takes the place of the old one, which is that of the board of this rank
 pub record Replaces (a : Inside) (rank : ℕ) (old new : Cell) : Type 0 where
   pub held : InBlock (seen a) rank
-  pub was : cell_in a.place.start a.cells.items rank ≡ old
-  pub fits : Fits a.place new
+  pub was : cell_in a.start a.cells.items rank ≡ old
+  pub fits : Fits a.stake new
   pub keeps : Keeps old new
-  pub timely : SettlesTimely a.place old new
+  pub timely : SettlesTimely a.stake old new
   pub awaits : AwaitsNoMore old new
 
-pub replaces : (a : Inside) (part : Part) (rank : ℕ) (old new : Cell) → seen a ≡ part → InBlock part rank → old ≡ get_or a.cells.items (rank - a.place.start) old
-    → Fits a.place new → Keeps old new → SettlesTimely a.place old new → AwaitsNoMore old new → Replaces a rank old new
+pub replaces : (a : Inside) (part : Part) (rank : ℕ) (old new : Cell) → seen a ≡ part → InBlock part rank → old ≡ get_or a.cells.items (rank - a.start) old
+    → Fits a.stake new → Keeps old new → SettlesTimely a.stake old new → AwaitsNoMore old new → Replaces a rank old new
 replaces a part rank old new view held read fits keeps timely awaits =
     let here : InBlock (seen a) rank = subst (λ (o : Part). InBlock o rank) (sym view) held in
-    record { held = here; was = get_or_default a.cells.items (rank - a.place.start) no_cell old here.1 ∙ sym read; fits = fits; keeps = keeps; timely = timely; awaits = awaits }
+    record { held = here; was = get_or_default a.cells.items (rank - a.start) no_cell old here.1 ∙ sym read; fits = fits; keeps = keeps; timely = timely; awaits = awaits }
 
 not_new : (a b : Bool) → (a ≡ true → b ≡ true) → (a && not b) ≡ false
 not_new true b back = ap not (back refl)
@@ -107,31 +107,31 @@ module _ (a : Inside) (sound : IsSegment a) (rank : ℕ) (old new : Cell) (put :
   fresh = dues_of a.lost ++ dues_of a.won
 
   abbrev after : List Cell
-  after = set a.cells.items (rank - a.place.start) new
+  after = set a.cells.items (rank - a.start) new
 
-  low : a.place.start ≤ rank
+  low : a.start ≤ rank
   low = put.held.0
 
-  high : rank - a.place.start < length a.cells.items
+  high : rank - a.start < length a.cells.items
   high = put.held.1
 
-  keeps : Keeps (cell_in a.place.start a.cells.items rank) new
+  keeps : Keeps (cell_in a.start a.cells.items rank) new
   keeps = subst (λ (c : Cell). Keeps c new) (sym put.was) put.keeps
 
-  stays : KeepSettled a.place.start a.cells.items after
-  stays = put_stays a.place.start a.cells.items rank new low high keeps
+  stays : KeepSettled a.start a.cells.items after
+  stays = put_stays a.start a.cells.items rank new low high keeps
 
-  all_settled : All (λ (f : Due). is_settled_in a.place.start a.cells.items (due_rank f) ≡ true) fresh
-  all_settled = All-from_recursion _ fresh (due_settled (is_settled_in a.place.start a.cells.items) fresh sound.block.settled)
+  all_settled : All (λ (f : Due). is_settled_in a.start a.cells.items (due_rank f) ≡ true) fresh
+  all_settled = All-from_recursion _ fresh (due_settled (is_settled_in a.start a.cells.items) fresh sound.block.settled)
 
-  still_lost : AreOfScore IsBelowZero a.place.start after (dues_of a.lost)
-  still_lost = kept_scores IsBelowZero a.place.start a.cells.items after (dues_of a.lost) stays (All-append_first (λ (f : Due). is_settled_in a.place.start a.cells.items (due_rank f) ≡ true) (dues_of a.lost) (dues_of a.won) all_settled) sound.lost
+  still_lost : AreOfScore IsBelowZero a.start after (dues_of a.lost)
+  still_lost = kept_scores IsBelowZero a.start a.cells.items after (dues_of a.lost) stays (All-append_first (λ (f : Due). is_settled_in a.start a.cells.items (due_rank f) ≡ true) (dues_of a.lost) (dues_of a.won) all_settled) sound.lost
 
-  still_won : AreOfScore IsAboveZero a.place.start after (dues_of a.won)
-  still_won = kept_scores IsAboveZero a.place.start a.cells.items after (dues_of a.won) stays (All-append_second (λ (f : Due). is_settled_in a.place.start a.cells.items (due_rank f) ≡ true) (dues_of a.lost) (dues_of a.won) all_settled) sound.won
+  still_won : AreOfScore IsAboveZero a.start after (dues_of a.won)
+  still_won = kept_scores IsAboveZero a.start a.cells.items after (dues_of a.won) stays (All-append_second (λ (f : Due). is_settled_in a.start a.cells.items (due_rank f) ≡ true) (dues_of a.lost) (dues_of a.won) all_settled) sound.won
 
-  segment : (lost won : List (List ℕ)) → IsBlock a.place after (dues_of lost ++ dues_of won) → AreOfScore IsBelowZero a.place.start after (dues_of lost)
-      → AreOfScore IsAboveZero a.place.start after (dues_of won) → IsSegment (with_cell a rank new lost won)
+  segment : (lost won : List (List ℕ)) → IsBlock a.stake a.start after (dues_of lost ++ dues_of won) → AreOfScore IsBelowZero a.start after (dues_of lost)
+      → AreOfScore IsAboveZero a.start after (dues_of won) → IsSegment (with_cell a rank new lost won)
   segment lost won block are_lost are_won = record {
     low = sound.low;
     opened = sound.opened;
@@ -139,18 +139,18 @@ module _ (a : Inside) (sound : IsSegment a) (rank : ℕ) (old new : Cell) (put :
     fits = sound.fits;
     within = sound.within;
     block = block;
-    awaited = awaited_put a.place.level (rank - a.place.start) a.cells.items a.awaits.items new high (subst (λ (c : Cell). AwaitsNoMore c new) (sym put.was) put.awaits) sound.awaited;
+    awaited = awaited_put a.stake.level (rank - a.start) a.cells.items a.awaits.items new high (subst (λ (c : Cell). AwaitsNoMore c new) (sym put.was) put.awaits) sound.awaited;
     lost = are_lost;
     won = are_won;
   }
 
   -- what is not newly settled leaves the fresh boards as they are
   module _ (back : is_settled new.mark ≡ true → is_settled old.mark ≡ true) where
-    same_mark : is_settled new.mark ≡ is_settled (cell_in a.place.start a.cells.items rank).mark
+    same_mark : is_settled new.mark ≡ is_settled (cell_in a.start a.cells.items rank).mark
     same_mark = alike old new put.keeps (is_settled old.mark) refl back ∙ ap (λ (c : Cell). is_settled c.mark) (sym put.was)
 
-    kept_block : IsBlock a.place after fresh
-    kept_block = put_kept a.place a.cells.items fresh rank new low high sound.block put.fits keeps same_mark
+    kept_block : IsBlock a.stake a.start after fresh
+    kept_block = put_kept a.stake a.start a.cells.items fresh rank new low high sound.block put.fits keeps same_mark
 
     pub kept_segment : IsSegment (with_cell a rank new a.lost a.won)
     kept_segment = segment a.lost a.won kept_block still_lost still_won
@@ -158,48 +158,48 @@ module _ (a : Inside) (sound : IsSegment a) (rank : ℕ) (old new : Cell) (put :
     pub kept_settles : (part : Part) → seen a ≡ part → Settles part (seen (with_cell a rank new a.lost a.won))
     kept_settles part view = subst (λ (o : Part). Settles o (seen (with_cell a rank new a.lost a.won))) view (record {
       same = record { level = refl; gain = refl; wave = refl; start = refl };
-      size = length-set a.cells.items (rank - a.place.start) new;
+      size = length-set a.cells.items (rank - a.start) new;
       stays = stays;
-      joins = put_joins a.place a.cells.items fresh rank new low high sound.block fresh keeps
-          (subst (λ b. JoinsIf b new rank fresh fresh) (sym (not_new (is_settled new.mark) (is_settled (cell_in a.place.start a.cells.items rank).mark) (λ e. sym same_mark ∙ e))) refl);
+      joins = put_joins a.stake a.start a.cells.items fresh rank new low high sound.block fresh keeps
+          (subst (λ b. JoinsIf b new rank fresh fresh) (sym (not_new (is_settled new.mark) (is_settled (cell_in a.start a.cells.items rank).mark) (λ e. sym same_mark ∙ e))) refl);
       unspread =
           let same = ap (λ b. one_if (not b)) same_mark in
-          put_unspread a.place.start a.cells.items fresh fresh rank new high (omega (arith, same));
-      fresh = λ _. fresh_of_block a.place after fresh kept_block;
+          put_unspread a.start a.cells.items fresh fresh rank new high (omega (arith, same));
+      fresh = λ _. fresh_of_block a.stake a.start after fresh kept_block;
     })
 
   -- what is newly settled joins them, or, where that is refused, does not
   module _ (settled : is_settled new.mark ≡ true) (unset : is_settled old.mark ≡ false) where
-    was_unset : is_settled (cell_in a.place.start a.cells.items rank).mark ≡ false
+    was_unset : is_settled (cell_in a.start a.cells.items rank).mark ≡ false
     was_unset = ap (λ (c : Cell). is_settled c.mark) put.was ∙ unset
 
-    joined_block : (fresh' : List Due) → IsPermutation ((new.dist, rank) ∷ fresh) fresh' → IsBlock a.place after fresh'
+    joined_block : (fresh' : List Due) → IsPermutation ((new.dist, rank) ∷ fresh) fresh' → IsBlock a.stake a.start after fresh'
     joined_block fresh' moved =
-        put_joined a.place a.cells.items fresh rank new low high sound.block (new.dist, rank) fresh' put.fits (put.timely unset settled) keeps settled was_unset refl refl moved
+        put_joined a.stake a.start a.cells.items fresh rank new low high sound.block (new.dist, rank) fresh' put.fits (put.timely unset settled) keeps settled was_unset refl refl moved
 
-    joined_settles : (fresh' : List Due) → IsPermutation ((new.dist, rank) ∷ fresh) fresh' → Settles (seen a) (part_of a.place after fresh')
+    joined_settles : (fresh' : List Due) → IsPermutation ((new.dist, rank) ∷ fresh) fresh' → Settles (seen a) (part_of a.stake a.start after fresh')
     joined_settles fresh' moved = record {
       same = record { level = refl; gain = refl; wave = refl; start = refl };
-      size = length-set a.cells.items (rank - a.place.start) new;
+      size = length-set a.cells.items (rank - a.start) new;
       stays = stays;
-      joins = put_joins a.place a.cells.items fresh rank new low high sound.block fresh' keeps
+      joins = put_joins a.stake a.start a.cells.items fresh rank new low high sound.block fresh' keeps
           (subst₂ (λ x y. JoinsIf (x && not y) new rank fresh fresh') (sym settled) (sym was_unset) ((new.dist, rank), refl, refl, moved));
       unspread =
           let longer = length_permutation ((new.dist, rank) ∷ fresh) fresh' moved in
           let some : one_if (not (is_settled new.mark)) ≡ 0 = ap (λ b. one_if (not b)) settled in
-          let none : one_if (not (is_settled (cell_in a.place.start a.cells.items rank).mark)) ≡ 1 = ap (λ b. one_if (not b)) was_unset in
-          put_unspread a.place.start a.cells.items fresh fresh' rank new high (omega (arith, some, none, longer));
-      fresh = λ _. fresh_of_block a.place after fresh' (joined_block fresh' moved);
+          let none : one_if (not (is_settled (cell_in a.start a.cells.items rank).mark)) ≡ 1 = ap (λ b. one_if (not b)) was_unset in
+          put_unspread a.start a.cells.items fresh fresh' rank new high (omega (arith, some, none, longer));
+      fresh = λ _. fresh_of_block a.stake a.start after fresh' (joined_block fresh' moved);
     }
 
     -- the score of the cell at this rank
-    here : (P : ℤ → Type 0) → P new.score → P (cell_in a.place.start after rank).score
-    here P is = subst (λ (c : Cell). P c.score) (sym (cell_in-same a.place.start a.cells.items rank new high)) is
+    here : (P : ℤ → Type 0) → P new.score → P (cell_in a.start after rank).score
+    here P is = subst (λ (c : Cell). P c.score) (sym (cell_in-same a.start a.cells.items rank new high)) is
 
-    one_more : (P : ℤ → Type 0) (fs fs' : List Due) → P new.score → IsPermutation ((new.dist, rank) ∷ fs) fs' → AreOfScore P a.place.start after fs → AreOfScore P a.place.start after fs'
+    one_more : (P : ℤ → Type 0) (fs fs' : List Due) → P new.score → IsPermutation ((new.dist, rank) ∷ fs) fs' → AreOfScore P a.start after fs → AreOfScore P a.start after fs'
     one_more P fs fs' is moved all =
-        All-permutation (λ (f : Due). P (cell_in a.place.start after (due_rank f)).score) ((new.dist, rank) ∷ fs) fs' moved
-        (All-cons (λ (f : Due). P (cell_in a.place.start after (due_rank f)).score) (new.dist, rank) fs (here P is) all)
+        All-permutation (λ (f : Due). P (cell_in a.start after (due_rank f)).score) ((new.dist, rank) ∷ fs) fs' moved
+        (All-cons (λ (f : Due). P (cell_in a.start after (due_rank f)).score) (new.dist, rank) fs (here P is) all)
 
     moved_won : (won : List (List ℕ)) → won ≡ with_put a.won new.dist rank → IsPermutation ((new.dist, rank) ∷ dues_of a.won) (dues_of won)
     moved_won won is = subst (λ (ls : List (List ℕ)). IsPermutation ((new.dist, rank) ∷ dues_of a.won) (dues_of ls)) (sym is) (dues_put new.dist 0 a.won new.dist rank (omega arith))
@@ -230,28 +230,28 @@ module _ (a : Inside) (sound : IsSegment a) (rank : ℕ) (old new : Cell) (put :
     lost_settles lost is part view = subst (λ (o : Part). Settles o (seen (with_cell a rank new lost a.won))) view (joined_settles (dues_of lost ++ dues_of a.won) (all_lost lost is))
 
     -- a refusal leaves the board out, and the rest as it was
-    refused_block : IsBlock a.place after fresh
-    refused_block = popped a.place after ((new.dist, rank) ∷ fresh) fresh (new.dist, rank) (joined_block ((new.dist, rank) ∷ fresh) (IsPermutation-refl ((new.dist, rank) ∷ fresh))) (IsPermutation-refl ((new.dist, rank) ∷ fresh))
+    refused_block : IsBlock a.stake a.start after fresh
+    refused_block = popped a.stake a.start after ((new.dist, rank) ∷ fresh) fresh (new.dist, rank) (joined_block ((new.dist, rank) ∷ fresh) (IsPermutation-refl ((new.dist, rank) ∷ fresh))) (IsPermutation-refl ((new.dist, rank) ∷ fresh))
 
     pub refused_segment : (lost won : List (List ℕ)) → dues_of lost ≡ dues_of a.lost → dues_of won ≡ dues_of a.won → IsSegment (with_cell a rank new lost won)
     refused_segment lost won same_lost same_won =
-        segment lost won (subst₂ (λ x y. IsBlock a.place after (x ++ y)) (sym same_lost) (sym same_won) refused_block)
-        (subst (AreOfScore IsBelowZero a.place.start after) (sym same_lost) still_lost) (subst (AreOfScore IsAboveZero a.place.start after) (sym same_won) still_won)
+        segment lost won (subst₂ (λ x y. IsBlock a.stake a.start after (x ++ y)) (sym same_lost) (sym same_won) refused_block)
+        (subst (AreOfScore IsBelowZero a.start after) (sym same_lost) still_lost) (subst (AreOfScore IsAboveZero a.start after) (sym same_won) still_won)
 
 -- the fresh boards stay farther, where the new one is
-module _ (a : Inside) (rank : ℕ) (new : Cell) (far : a.place.wave < new.dist) where
+module _ (a : Inside) (rank : ℕ) (new : Cell) (far : a.stake.wave < new.dist) where
   pub won_passed : (won : List (List ℕ)) → won ≡ with_put a.won new.dist rank → (part : Part) → seen a ≡ part → StaysPassed part (seen (with_cell a rank new a.lost won))
   won_passed won is part view = subst (λ (o : Part). StaysPassed o (seen (with_cell a rank new a.lost won))) view (λ passed.
-      All-permutation (λ (f : Due). a.place.wave < due_dist f) ((new.dist, rank) ∷ (dues_of a.lost ++ dues_of a.won)) (dues_of a.lost ++ dues_of won)
+      All-permutation (λ (f : Due). a.stake.wave < due_dist f) ((new.dist, rank) ∷ (dues_of a.lost ++ dues_of a.won)) (dues_of a.lost ++ dues_of won)
       (IsPermutation-trans _ _ _ (IsPermutation-sym _ _ (IsPermutation-middle (dues_of a.lost) (new.dist, rank) (dues_of a.won)))
       (IsPermutation-append_right (dues_of a.lost) _ _ (subst (λ (ls : List (List ℕ)). IsPermutation ((new.dist, rank) ∷ dues_of a.won) (dues_of ls)) (sym is) (dues_put new.dist 0 a.won new.dist rank (omega arith)))))
-      (All-cons (λ (f : Due). a.place.wave < due_dist f) (new.dist, rank) (dues_of a.lost ++ dues_of a.won) far passed))
+      (All-cons (λ (f : Due). a.stake.wave < due_dist f) (new.dist, rank) (dues_of a.lost ++ dues_of a.won) far passed))
 
   pub lost_passed : (lost : List (List ℕ)) → lost ≡ with_put a.lost new.dist rank → (part : Part) → seen a ≡ part → StaysPassed part (seen (with_cell a rank new lost a.won))
   lost_passed lost is part view = subst (λ (o : Part). StaysPassed o (seen (with_cell a rank new lost a.won))) view (λ passed.
-      All-permutation (λ (f : Due). a.place.wave < due_dist f) ((new.dist, rank) ∷ (dues_of a.lost ++ dues_of a.won)) (dues_of lost ++ dues_of a.won)
+      All-permutation (λ (f : Due). a.stake.wave < due_dist f) ((new.dist, rank) ∷ (dues_of a.lost ++ dues_of a.won)) (dues_of lost ++ dues_of a.won)
       (IsPermutation-append_left (dues_of a.won) _ _ (subst (λ (ls : List (List ℕ)). IsPermutation ((new.dist, rank) ∷ dues_of a.lost) (dues_of ls)) (sym is) (dues_put new.dist 0 a.lost new.dist rank (omega arith))))
-      (All-cons (λ (f : Due). a.place.wave < due_dist f) (new.dist, rank) (dues_of a.lost ++ dues_of a.won) far passed))
+      (All-cons (λ (f : Due). a.stake.wave < due_dist f) (new.dist, rank) (dues_of a.lost ++ dues_of a.won) far passed))
 
 pub kept_passed : (a : Inside) (rank : ℕ) (new : Cell) (part : Part) → seen a ≡ part → StaysPassed part (seen (with_cell a rank new a.lost a.won))
 kept_passed a rank new part view = subst (λ (o : Part). StaysPassed o (seen (with_cell a rank new a.lost a.won))) view (λ passed. passed)

@@ -95,7 +95,7 @@ segment_nearest a from x y sound none_lost least_lost some_lost none_won least_w
     (list_nearest (seen a) from a.won y (All-append_second (IsFreshIn (seen a)) (dues_of a.lost) (dues_of a.won) boards) none_won least_won some_won))
   where
     boards : All (IsFreshIn (seen a)) (dues_of a.lost ++ dues_of a.won)
-    boards = let are = fresh_of_block a.place a.cells.items (dues_of a.lost ++ dues_of a.won) sound.block in are.boards
+    boards = let are = fresh_of_block a.stake a.start a.cells.items (dues_of a.lost ++ dues_of a.won) sound.block in are.boards
 
     no_more : (xs ys : List Due) → xs ≡ [] → ys ≡ [] → xs ++ ys ≡ []
     no_more xs ys first second = subst₂ (λ (us vs : List Due). us ++ vs ≡ []) (sym first) (sym second) refl

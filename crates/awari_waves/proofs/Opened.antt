@@ -5,8 +5,8 @@ use Rattle.awari_rank.specs.Rank.{rank_of, size_of}
 use Rattle.awari_block.specs.Blocks.{KeepSettled}
 use Rattle.awari_block.specs.Part.{InBlock, IsTallied, JoinsFresh, Part, cell_at, notes_for}
 use Rattle.awari_block.specs.declared.notes.Note.{Note}
-use Rattle.awari_block.specs.declared.places.Place.{Place}
-use Rattle.awari_block.proofs.Settling.{same_place, settles_none}
+use Rattle.awari_block.specs.declared.stakes.Stake.{Stake}
+use Rattle.awari_block.proofs.Settling.{same_stake, settles_none}
 use Rattle.awari_owner.specs.Level.{AreBlocks, AreHeard, AreWhole, no_part, part_at}
 use Rattle.awari_owner.specs.Spread.{Hears, SameBlock}
 use Rattle.awari_owner.proofs.Gains.{opened}
@@ -54,9 +54,9 @@ heard_still value old new all tells heard j d h =
 
 -- ---- the same blocks
 
-pub grid_moved : (place : Place) (span gain wave : ℕ) (old new : List Part) → IsGrid place span old → Each SameBlock old new → ((i : ℕ) → i < length old → (part_at new i).gain ≡ gain)
-    → ((i : ℕ) → i < length old → (part_at new i).wave ≡ wave) → IsGrid (record place { gain = gain; wave = wave }) span new
-grid_moved place span gain wave old new grid all gains waves = record {
+pub grid_moved : (stake : Stake) (span gain wave : ℕ) (old new : List Part) → IsGrid stake span old → Each SameBlock old new → ((i : ℕ) → i < length old → (part_at new i).gain ≡ gain)
+    → ((i : ℕ) → i < length old → (part_at new i).wave ≡ wave) → IsGrid (record stake { gain = gain; wave = wave }) span new
+grid_moved stake span gain wave old new grid all gains waves = record {
   level = λ i h. (all.each i (few i h)).level ∙ grid.level i (few i h);
   gain = λ i h. gains i (few i h);
   wave = λ i h. waves i (few i h);
@@ -101,7 +101,7 @@ gain_spread gain old new opens = let settles = opens.settles in record {
 
 gain_told : (value : List ℕ → ℤ) (gain : ℕ) (old new : Part) → 1 ≤ gain → old.gain ≡ gain + 1 → OpensGain gain old new → (notes : List Note) → IsTallied value old notes → IsTallied value new notes
 gain_told value gain old new one next opens notes tallied =
-    subst (λ (p : Part). IsTallied value p notes) (same_place (at_gain gain old) new opens.settles.same)
+    subst (λ (p : Part). IsTallied value p notes) (same_stake (at_gain gain old) new opens.settles.same)
     (opened value notes old new.cells new.fresh gain one (sym next) opens.settles.size (λ k h. opens.cells.inside k h (omega arith) h) tallied)
 
 opened_spread : (gain : ℕ) (old new : List Part) → Each (OpensGain gain) old new → Each StaysSpread old new
@@ -114,9 +114,9 @@ pub opened_heard : (value : List ℕ → ℤ) (gain : ℕ) (old new : List Part)
 opened_heard value gain old new can all heard =
     heard_still value old new (opened_spread gain old new all) (λ i few. gain_told value gain (part_at old i) (part_at new i) can.positive (can.next i few) (all.each i few)) heard
 
-pub opened_grid : (place : Place) (span gain : ℕ) (old new : List Part) → IsGrid place span old → Each (OpensGain gain) old new → IsGrid (record place { gain = gain; wave = 0 }) span new
-opened_grid place span gain old new grid all =
-    grid_moved place span gain 0 old new grid (opened_same gain old new all) (λ i few. (all.each i few).settles.same.gain) (λ i few. (all.each i few).settles.same.wave)
+pub opened_grid : (stake : Stake) (span gain : ℕ) (old new : List Part) → IsGrid stake span old → Each (OpensGain gain) old new → IsGrid (record stake { gain = gain; wave = 0 }) span new
+opened_grid stake span gain old new grid all =
+    grid_moved stake span gain 0 old new grid (opened_same gain old new all) (λ i few. (all.each i few).settles.same.gain) (λ i few. (all.each i few).settles.same.wave)
 
 -- ---- a distance is opened
 
@@ -142,6 +142,6 @@ waved_heard value dist old new can all heard =
     heard_still value old new (waved_spread dist old new all)
     (λ i few notes tallied. subst (λ (p : Part). IsTallied value p notes) (sym (all.each i few)) (wave_told value dist (part_at old i) (can.farther i few) notes tallied)) heard
 
-pub waved_grid : (place : Place) (span dist : ℕ) (old new : List Part) → IsGrid place span old → Each (OpensWave dist) old new → IsGrid (record place { wave = dist }) span new
-waved_grid place span dist old new grid all =
-    grid_moved place span place.gain dist old new grid (waved_same dist old new all) (λ i few. ap (λ (p : Part). p.gain) (all.each i few) ∙ grid.gain i few) (λ i few. ap (λ (p : Part). p.wave) (all.each i few))
+pub waved_grid : (stake : Stake) (span dist : ℕ) (old new : List Part) → IsGrid stake span old → Each (OpensWave dist) old new → IsGrid (record stake { wave = dist }) span new
+waved_grid stake span dist old new grid all =
+    grid_moved stake span stake.gain dist old new grid (waved_same dist old new all) (λ i few. ap (λ (p : Part). p.gain) (all.each i few) ∙ grid.gain i few) (λ i few. ap (λ (p : Part). p.wave) (all.each i few))

@@ -20,12 +20,12 @@ use Rattle.awari_waves.proofs.Joining.{Replaces, above_zero, kept_passed, kept_s
 
 -- with this cell at this index, and with these fresh boards
 abbrev pub with_index : Inside → ℕ → Cell → List (List ℕ) → List (List ℕ) → Inside
-with_index a index new lost won = record { place = a.place; cells = with_item a.cells index new; awaits = a.awaits; lost = lost; won = won }
+with_index a index new lost won = record { start = a.start; stake = a.stake; cells = with_item a.cells index new; awaits = a.awaits; lost = lost; won = won }
 
 -- what is read of one cell
 module _ (a : Inside) (part : Part) (view : seen a ≡ part) (index : ℕ) (old : Cell) (high : index < length a.cells.items) (read : old ≡ get_or a.cells.items index old) where
   -- a cell that may take its place
-  pub can_put : (new : Cell) → Fits a.place new → Keeps old new → AwaitsNoMore old new → SettlesTimely a.place old new → CanPut part (part.start + index) new
+  pub can_put : (new : Cell) → Fits a.stake new → Keeps old new → AwaitsNoMore old new → SettlesTimely a.stake old new → CanPut part (part.start + index) new
   can_put new fits keeps awaits timely = subst (λ (o : Part). CanPut o (o.start + index) new) view (record {
     held = (omega arith, subst (λ i. i < length a.cells.items) (sym at) high);
     fits = fits;
@@ -34,35 +34,35 @@ module _ (a : Inside) (part : Part) (view : seen a ≡ part) (index : ℕ) (old 
     awaits = subst (λ (c : Cell). AwaitsNoMore c new) (sym was) awaits;
   })
     where
-      at : a.place.start + index - a.place.start ≡ index
+      at : a.start + index - a.start ≡ index
       at = omega arith
 
-      was : cell_in a.place.start a.cells.items (a.place.start + index) ≡ old
+      was : cell_in a.start a.cells.items (a.start + index) ≡ old
       was = ap (λ i. get_or a.cells.items i no_cell) at ∙ get_or_default a.cells.items index no_cell old high ∙ sym read
 
   in_part : get_or part.cells index no_cell ≡ old
   in_part = ap (λ (p : Part). get_or p.cells index no_cell) (sym view) ∙ get_or_default a.cells.items index no_cell old high ∙ sym read
 
   -- the opening replaces it
-  pub opened_put : (next : Part) (new : Cell) → next.cells ≡ set part.cells index new → view_of new ≡ cell_after_opening (view_of old) a.place.level a.place.gain → OpensCells part next index (index + 1)
+  pub opened_put : (next : Part) (new : Cell) → next.cells ≡ set part.cells index new → view_of new ≡ cell_after_opening (view_of old) a.stake.level a.stake.gain → OpensCells part next index (index + 1)
   opened_put next new put opened =
-      put_one part index a.place.level a.place.gain old in_part (ap (λ (p : Part). p.level) (sym view)) (ap (λ (p : Part). p.gain) (sym view)) next new put
+      put_one part index a.stake.level a.stake.gain old in_part (ap (λ (p : Part). p.level) (sym view)) (ap (λ (p : Part). p.gain) (sym view)) next new put
       (subst (λ (p : Part). index < length p.cells) view high) opened
 
 module _ (a : Inside) (sound : IsSegment a) (part : Part) (view : seen a ≡ part) (index : ℕ) (old new : Cell) (read : old ≡ get_or a.cells.items index old) (can : CanPut part (part.start + index) new) where
   abbrev rank : ℕ
-  rank = a.place.start + index
+  rank = a.start + index
 
   can_here : CanPut (seen a) rank new
   can_here = subst (λ (o : Part). CanPut o (o.start + index) new) (sym view) can
 
-  at : rank - a.place.start ≡ index
+  at : rank - a.start ≡ index
   at = omega arith
 
   pub high : index < length a.cells.items
   high = subst (λ i. i < length a.cells.items) at can_here.held.1
 
-  was : cell_in a.place.start a.cells.items rank ≡ old
+  was : cell_in a.start a.cells.items rank ≡ old
   was = ap (λ i. get_or a.cells.items i no_cell) at ∙ get_or_default a.cells.items index no_cell old high ∙ sym read
 
   put : Replaces a rank old new
@@ -76,7 +76,7 @@ module _ (a : Inside) (sound : IsSegment a) (part : Part) (view : seen a ≡ par
   }
 
   same : (lost won : List (List ℕ)) → with_cell a rank new lost won ≡ with_index a index new lost won
-  same lost won = ap (λ i. record { place = a.place; cells = with_item a.cells i new; awaits = a.awaits; lost = lost; won = won }) at
+  same lost won = ap (λ i. record { start = a.start; stake = a.stake; cells = with_item a.cells i new; awaits = a.awaits; lost = lost; won = won }) at
 
   module _ (back : is_settled new.mark ≡ true → is_settled old.mark ≡ true) where
     pub kept_whole : IsSegment (with_index a index new a.lost a.won)
@@ -94,11 +94,11 @@ module _ (a : Inside) (sound : IsSegment a) (part : Part) (view : seen a ≡ par
 
     above : pos 0 ≤ℤ new.score → IsAboveZero new.score
     above not = elim ((put.timely unset settled).0) [
-      | inl won ↦ above_zero new.score a.place.gain sound.opened won
+      | inl won ↦ above_zero new.score a.stake.gain sound.opened won
       | inr lost ↦ (let one = sound.opened in absurd (omega (arith, ints, not, lost, one)))
     ]
 
-    far : IsFarther part (part.start + index) new → a.place.wave < new.dist
+    far : IsFarther part (part.start + index) new → a.stake.wave < new.dist
     far farther =
         subst (λ (o : Part). IsFarther o (o.start + index) new) (sym view) farther (ap (λ (c : Cell). is_settled c.mark) was ∙ unset) settled
 

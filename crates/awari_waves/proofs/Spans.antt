@@ -4,7 +4,7 @@ use Rattle.std.proofs.lemmas.Bool.{cases_lt, cases_eq}
 use Rattle.std.proofs.lemmas.Nat.{div_below, mul-le}
 use Rattle.std.proofs.Math.Nat.{suc-mul, div-mul-le_self, lt-div-mul-add}
 use Rattle.awari_block.specs.Part.{Part}
-use Rattle.awari_block.specs.declared.places.Place.{Place}
+use Rattle.awari_block.specs.declared.stakes.Stake.{Stake}
 use Rattle.awari_waves.specs.Waves.{AreSpans, IsGrid}
 
 next : (k s : ℕ) → (k + 1) * s ≡ k * s + s
@@ -19,8 +19,8 @@ div_at r k s some low high = elim (cases_eq (r / s) k) [
   ]
 ]
 
-pub grid_of : (place : Place) (span : ℕ) (parts : List Part) → 0 < span → AreSpans place span parts → IsGrid place span parts
-grid_of place span parts some are = record {
+pub grid_of : (stake : Stake) (span : ℕ) (parts : List Part) → 0 < span → AreSpans stake span parts → IsGrid stake span parts
+grid_of stake span parts some are = record {
   level = are.level;
   gain = are.gain;
   wave = are.wave;

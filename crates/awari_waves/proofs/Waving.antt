@@ -11,7 +11,7 @@ use Rattle.awari_block.specs.Part.{Part, AreFresh, InBlock, IsTallied, settled_a
 use Rattle.awari_block.specs.declared.notes.Kind.{Kind}
 use Rattle.awari_block.specs.declared.notes.Kind.TheVariants.{Won, Lost}
 use Rattle.awari_block.specs.declared.notes.Note.{Note}
-use Rattle.awari_block.specs.declared.places.Place.{Place}
+use Rattle.awari_block.specs.declared.stakes.Stake.{Stake}
 use Rattle.awari_block.proofs.BlockLemmas.{one_if, times_due-cons, times_due-permuted}
 use Rattle.awari_owner.specs.Spread.{Hears, IsSpread}
 use Rattle.awari_owner.specs.Level.{AreHeard, no_part, part_at}
@@ -98,7 +98,7 @@ given_distinct w (x ∷ given) F few = (
 
 -- ---- a segment gives boards of one kind
 
-module _ (place : Place) (span : ℕ) (now : List Part) (k : ℕ) (kind : Kind) (new : Part) (given : List ℕ) (few : k < length now) (grid : IsGrid place span now) (gives : GivesFresh kind (part_at now k) new given)
+module _ (stake : Stake) (span : ℕ) (now : List Part) (k : ℕ) (kind : Kind) (new : Part) (given : List ℕ) (few : k < length now) (grid : IsGrid stake span now) (gives : GivesFresh kind (part_at now k) new given)
     (once : (r : ℕ) → times_due (part_at now k).fresh r ≤ 1) where
   abbrev now' : List Part
   now' = set now k new
@@ -119,12 +119,12 @@ module _ (place : Place) (span : ℕ) (now : List Part) (k : ℕ) (kind : Kind) 
       by true e = subst (λ n. SameBut (part_at now n) (part_at now' n)) (sym (eqb-true i k e)) (subst (SameBut (part_at now k)) (sym here) gives.rest)
       by false e = subst (SameBut (part_at now i)) (sym (there i (differ i k e))) refl
 
-  pub given_grid : IsGrid place span now'
+  pub given_grid : IsGrid stake span now'
   given_grid = record {
     level = λ i h. ap (λ (p : Part). p.level) (given_same i (low i h)) ∙ grid.level i (low i h);
     gain = λ i h. ap (λ (p : Part). p.gain) (given_same i (low i h)) ∙ grid.gain i (low i h);
     wave = λ i h. ap (λ (p : Part). p.wave) (given_same i (low i h)) ∙ grid.wave i (low i h);
-    within = λ i h. subst (λ (p : Part). p.start + length p.cells ≤ size_of place.level) (sym (given_same i (low i h))) (grid.within i (low i h));
+    within = λ i h. subst (λ (p : Part). p.start + length p.cells ≤ size_of stake.level) (sym (given_same i (low i h))) (grid.within i (low i h));
     home = λ rank h. let at = grid.home rank h in (let a = at.0 in (omega (arith, a, length-set now k new)), subst (λ (p : Part). InBlock p rank) (sym (given_same (rank / span) at.0)) at.1);
     only = λ i rank h inside. grid.only i rank (low i h) (subst (λ (p : Part). InBlock p rank) (given_same i (low i h)) inside);
   }
@@ -145,23 +145,23 @@ module _ (place : Place) (span : ℕ) (now : List Part) (k : ℕ) (kind : Kind) 
   given_left : (r : ℕ) → In given r → times_due new.fresh r ≡ 0
   given_left r h = let one = given_once (part_at now k).wave given new.fresh r h in let c = count r in let most = once r in omega (arith, one, c, most)
 
-  pub given_pending : (r : ℕ) → In given r → IsPending place span now' kind r
+  pub given_pending : (r : ℕ) → In given r → IsPending stake span now' kind r
   given_pending r h =
       let at = given_at r h in
       let home = given_home r h in
       record {
         inside = let low = at.0.0 in let high = at.0.1 in let w = grid.within k few in omega (arith, low, high, w);
-        settled = subst (λ n. settled_at (part_at now' n) r ≡ Some (value_by kind place.gain, place.wave)) (sym home)
-            (subst (λ (p : Part). settled_at p r ≡ Some (value_by kind place.gain, place.wave)) (sym (given_same k few))
+        settled = subst (λ n. settled_at (part_at now' n) r ≡ Some (value_by kind stake.gain, stake.wave)) (sym home)
+            (subst (λ (p : Part). settled_at p r ≡ Some (value_by kind stake.gain, stake.wave)) (sym (given_same k few))
             (at.1 ∙ (λ i. Some (value_by kind (grid.gain k few i), grid.wave k few i))));
         taken = subst (λ n. times_due (part_at now' n).fresh r ≡ 0) (sym home) (subst (λ (p : Part). times_due p.fresh r ≡ 0) (sym here) (given_left r h));
       }
 
   -- and the others are as they were
-  pub still_pending : (other : Kind) (r : ℕ) → IsPending place span now other r → IsPending place span now' other r
+  pub still_pending : (other : Kind) (r : ℕ) → IsPending stake span now other r → IsPending stake span now' other r
   still_pending other r is = record {
     inside = is.inside;
-    settled = subst (λ (p : Part). settled_at p r ≡ Some (value_by other place.gain, place.wave)) (sym (given_same (r / span) (grid.home r is.inside).0)) is.settled;
+    settled = subst (λ (p : Part). settled_at p r ≡ Some (value_by other stake.gain, stake.wave)) (sym (given_same (r / span) (grid.home r is.inside).0)) is.settled;
     taken = by (r / span == k) refl;
   }
     where
@@ -173,7 +173,7 @@ module _ (place : Place) (span : ℕ) (now : List Part) (k : ℕ) (kind : Kind) 
           subst (λ n. times_due (part_at now' n).fresh r ≡ 0) (sym same) (subst (λ (p : Part). times_due p.fresh r ≡ 0) (sym here) none.1)
       by false e = subst (λ (p : Part). times_due p.fresh r ≡ 0) (sym (there (r / span) (differ (r / span) k e))) is.taken
 
-  pub given_apart : (other : Kind) (r : ℕ) → IsPending place span now other r → In given r → ⊥
+  pub given_apart : (other : Kind) (r : ℕ) → IsPending stake span now other r → In given r → ⊥
   given_apart other r is h =
       let was = subst (λ n. times_due (part_at now n).fresh r ≡ 0) (given_home r h) is.taken in
       let one = given_once (part_at now k).wave given new.fresh r h in
@@ -239,9 +239,9 @@ map_none : (parts : List Part) → map (with_pending []) parts ≡ parts
 map_none [] = refl
 map_none (p ∷ parts) = ap (λ ps. p ∷ ps) (map_none parts)
 
-pub waving_none : (place : Place) (span : ℕ) (old : List Part) (lost won : List ℕ) → lost ≡ [] → won ≡ [] → IsGrid place span old → IsWaving place span 0 old old lost won
-waving_none place span old lost won no_lost no_won grid =
-    subst₂ (λ (l w : List ℕ). IsWaving place span 0 old old l w) (sym no_lost) (sym no_won) (record {
+pub waving_none : (stake : Stake) (span : ℕ) (old : List Part) (lost won : List ℕ) → lost ≡ [] → won ≡ [] → IsGrid stake span old → IsWaving stake span 0 old old lost won
+waving_none stake span old lost won no_lost no_won grid =
+    subst₂ (λ (l w : List ℕ). IsWaving stake span 0 old old l w) (sym no_lost) (sym no_won) (record {
       blocks = refl;
       grid = grid;
       of_lost = λ k d h. absurd (omega arith);
@@ -252,14 +252,14 @@ waving_none place span old lost won no_lost no_won grid =
       heard = λ value told. subst (AreHeard value) (sym (map_none old)) told;
     })
 
-pub waving_end : (place : Place) (span n : ℕ) (old now : List Part) (lost won : List ℕ) → lost ≡ [] → won ≡ [] → IsWaving place span n old now lost won → (value : List ℕ → ℤ) → AreHeard value old → AreHeard value now
-waving_end place span n old now lost won no_lost no_won waving value told =
+pub waving_end : (stake : Stake) (span n : ℕ) (old now : List Part) (lost won : List ℕ) → lost ≡ [] → won ≡ [] → IsWaving stake span n old now lost won → (value : List ℕ → ℤ) → AreHeard value old → AreHeard value now
+waving_end stake span n old now lost won no_lost no_won waving value told =
     subst (AreHeard value) (map_none now) (subst₂ (λ (l w : List ℕ). AreHeard value (map (with_pending (l ++ w)) now)) no_lost no_won (waving.heard value told))
 
-pub waving_spread : (place : Place) (span n : ℕ) (old now new : List Part) (lost won lost' won' : List ℕ) → lost' ≡ [] → won' ≡ [] → SpreadsChunk lost won now new → SettlesAll now new → IsGrid place span new
-    → IsWaving place span n old now lost won → IsWaving place span n old new lost' won'
-waving_spread place span n old now new lost won lost' won' no_lost no_won spreads all grid waving =
-    subst₂ (λ (l w : List ℕ). IsWaving place span n old new l w) (sym no_lost) (sym no_won) (record {
+pub waving_spread : (stake : Stake) (span n : ℕ) (old now new : List Part) (lost won lost' won' : List ℕ) → lost' ≡ [] → won' ≡ [] → SpreadsChunk lost won now new → SettlesAll now new → IsGrid stake span new
+    → IsWaving stake span n old now lost won → IsWaving stake span n old new lost' won'
+waving_spread stake span n old now new lost won lost' won' no_lost no_won spreads all grid waving =
+    subst₂ (λ (l w : List ℕ). IsWaving stake span n old new l w) (sym no_lost) (sym no_won) (record {
       blocks = all.blocks ∙ waving.blocks;
       grid = grid;
       of_lost = λ k d h. absurd (omega arith);
@@ -279,25 +279,25 @@ waving_spread place span n old now new lost won lost' won' no_lost no_won spread
           (subst (λ (l : List ℕ). AreHeard value (map (with_pending l) now)) (sym (append-nil (lost ++ won))) (waving.heard value told));
     })
 
-pub waving_lost : (place : Place) (span n : ℕ) (old now : List Part) (lost won : List ℕ) (k : ℕ) (d new : Part) (given lost' : List ℕ) → k < length now → n ≤ k → lost' ≡ lost ++ given
-    → GivesFresh Lost (get_or now k d) new given → AreFresh (get_or now k d) → IsWaving place span n old now lost won → IsWaving place span n old (set now k new) lost' won
-waving_lost place span n old now lost won k d new given lost' few done is gives' fresh' waving =
-    subst (λ (l : List ℕ). IsWaving place span n old (set now k new) l won) (sym is) (record {
+pub waving_lost : (stake : Stake) (span n : ℕ) (old now : List Part) (lost won : List ℕ) (k : ℕ) (d new : Part) (given lost' : List ℕ) → k < length now → n ≤ k → lost' ≡ lost ++ given
+    → GivesFresh Lost (get_or now k d) new given → AreFresh (get_or now k d) → IsWaving stake span n old now lost won → IsWaving stake span n old (set now k new) lost' won
+waving_lost stake span n old now lost won k d new given lost' few done is gives' fresh' waving =
+    subst (λ (l : List ℕ). IsWaving stake span n old (set now k new) l won) (sym is) (record {
       blocks = length-set now k new ∙ waving.blocks;
-      grid = given_grid place span now k Lost new given few waving.grid gives once;
-      of_lost = all_in (IsPending place span (set now k new) Lost) (lost ++ given) (λ r h. elim (in_either lost given r h) [
-        | inl before ↦ still_pending place span now k Lost new given few waving.grid gives once Lost r (each_in (IsPending place span now Lost) lost waving.of_lost r before)
-        | inr more ↦ given_pending place span now k Lost new given few waving.grid gives once r more
+      grid = given_grid stake span now k Lost new given few waving.grid gives once;
+      of_lost = all_in (IsPending stake span (set now k new) Lost) (lost ++ given) (λ r h. elim (in_either lost given r h) [
+        | inl before ↦ still_pending stake span now k Lost new given few waving.grid gives once Lost r (each_in (IsPending stake span now Lost) lost waving.of_lost r before)
+        | inr more ↦ given_pending stake span now k Lost new given few waving.grid gives once r more
       ]);
-      of_won = all_in (IsPending place span (set now k new) Won) won (λ r h. still_pending place span now k Lost new given few waving.grid gives once Won r (each_in (IsPending place span now Won) won waving.of_won r h));
+      of_won = all_in (IsPending stake span (set now k new) Won) won (λ r h. still_pending stake span now k Lost new given few waving.grid gives once Won r (each_in (IsPending stake span now Won) won waving.of_won r h));
       apart = distinct_both (lost ++ given) won
-          (distinct_both lost given (distinct_first lost won waving.apart) (distinct_given place span now k Lost new given few waving.grid gives once) (λ r h g. apart_lost r h g))
+          (distinct_both lost given (distinct_first lost won waving.apart) (distinct_given stake span now k Lost new given few waving.grid gives once) (λ r h g. apart_lost r h g))
           (distinct_second lost won waving.apart)
           (λ r h w. elim (in_either lost given r h) [ inl before ↦ distinct_apart lost won r waving.apart before w | inr more ↦ apart_won r w more ]);
       same = λ i h.
           let was = waving.same i h in
           let many = waving.blocks in
-          let next : SameBut (part_at now i) (part_at (set now k new) i) = given_same place span now k Lost new given few waving.grid gives once i (omega (arith, h, many)) in
+          let next : SameBut (part_at now i) (part_at (set now k new) i) = given_same stake span now k Lost new given few waving.grid gives once i (omega (arith, h, many)) in
           record {
             level = ap (λ (p : Part). p.level) next ∙ was.level;
             start = ap (λ (p : Part). p.start) next ∙ was.start;
@@ -307,7 +307,7 @@ waving_lost place span n old now lost won k d new given lost' few done is gives'
           let ne : i ≢ k = omega (arith, less, done) in
           subst IsPassed (sym (let there : part_at (set now k new) i ≡ part_at now i = rw get_or-set_other refl in there)) (waving.passed i less (omega (arith, inside, length-set now k new)));
       heard = λ value told.
-          given_heard place span now k Lost new given few waving.grid gives once value (lost ++ won) ((lost ++ given) ++ won)
+          given_heard stake span now k Lost new given few waving.grid gives once value (lost ++ won) ((lost ++ given) ++ won)
           (λ r h. elim (in_either (lost ++ given) won r h) [
             | inl some ↦ elim (in_either lost given r some) [ inl before ↦ inl (in_first lost won r before) | inr more ↦ inr more ]
             | inr w ↦ inl (in_second lost won r w)
@@ -327,29 +327,29 @@ waving_lost place span n old now lost won k d new given lost' few done is gives'
     once = (subst AreFresh same fresh').once
 
     apart_lost : (r : ℕ) → In lost r → In given r → ⊥
-    apart_lost r h g = given_apart place span now k Lost new given few waving.grid gives once Lost r (each_in (IsPending place span now Lost) lost waving.of_lost r h) g
+    apart_lost r h g = given_apart stake span now k Lost new given few waving.grid gives once Lost r (each_in (IsPending stake span now Lost) lost waving.of_lost r h) g
 
     apart_won : (r : ℕ) → In won r → In given r → ⊥
-    apart_won r h g = given_apart place span now k Lost new given few waving.grid gives once Won r (each_in (IsPending place span now Won) won waving.of_won r h) g
+    apart_won r h g = given_apart stake span now k Lost new given few waving.grid gives once Won r (each_in (IsPending stake span now Won) won waving.of_won r h) g
 
-pub waving_won : (place : Place) (span n : ℕ) (old now : List Part) (lost won : List ℕ) (k : ℕ) (d new : Part) (given won' : List ℕ) → k < length now → n ≤ k → won' ≡ won ++ given
-    → GivesFresh Won (get_or now k d) new given → AreFresh (get_or now k d) → IsWaving place span n old now lost won → IsWaving place span n old (set now k new) lost won'
-waving_won place span n old now lost won k d new given won' few done is gives' fresh' waving =
-    subst (λ (w : List ℕ). IsWaving place span n old (set now k new) lost w) (sym is) (record {
+pub waving_won : (stake : Stake) (span n : ℕ) (old now : List Part) (lost won : List ℕ) (k : ℕ) (d new : Part) (given won' : List ℕ) → k < length now → n ≤ k → won' ≡ won ++ given
+    → GivesFresh Won (get_or now k d) new given → AreFresh (get_or now k d) → IsWaving stake span n old now lost won → IsWaving stake span n old (set now k new) lost won'
+waving_won stake span n old now lost won k d new given won' few done is gives' fresh' waving =
+    subst (λ (w : List ℕ). IsWaving stake span n old (set now k new) lost w) (sym is) (record {
       blocks = length-set now k new ∙ waving.blocks;
-      grid = given_grid place span now k Won new given few waving.grid gives once;
-      of_lost = all_in (IsPending place span (set now k new) Lost) lost (λ r h. still_pending place span now k Won new given few waving.grid gives once Lost r (each_in (IsPending place span now Lost) lost waving.of_lost r h));
-      of_won = all_in (IsPending place span (set now k new) Won) (won ++ given) (λ r h. elim (in_either won given r h) [
-        | inl before ↦ still_pending place span now k Won new given few waving.grid gives once Won r (each_in (IsPending place span now Won) won waving.of_won r before)
-        | inr more ↦ given_pending place span now k Won new given few waving.grid gives once r more
+      grid = given_grid stake span now k Won new given few waving.grid gives once;
+      of_lost = all_in (IsPending stake span (set now k new) Lost) lost (λ r h. still_pending stake span now k Won new given few waving.grid gives once Lost r (each_in (IsPending stake span now Lost) lost waving.of_lost r h));
+      of_won = all_in (IsPending stake span (set now k new) Won) (won ++ given) (λ r h. elim (in_either won given r h) [
+        | inl before ↦ still_pending stake span now k Won new given few waving.grid gives once Won r (each_in (IsPending stake span now Won) won waving.of_won r before)
+        | inr more ↦ given_pending stake span now k Won new given few waving.grid gives once r more
       ]);
       apart = distinct_both lost (won ++ given) (distinct_first lost won waving.apart)
-          (distinct_both won given (distinct_second lost won waving.apart) (distinct_given place span now k Won new given few waving.grid gives once) (λ r h g. apart_won r h g))
+          (distinct_both won given (distinct_second lost won waving.apart) (distinct_given stake span now k Won new given few waving.grid gives once) (λ r h g. apart_won r h g))
           (λ r l h. elim (in_either won given r h) [ inl before ↦ distinct_apart lost won r waving.apart l before | inr more ↦ apart_lost r l more ]);
       same = λ i h.
           let was = waving.same i h in
           let many = waving.blocks in
-          let next : SameBut (part_at now i) (part_at (set now k new) i) = given_same place span now k Won new given few waving.grid gives once i (omega (arith, h, many)) in
+          let next : SameBut (part_at now i) (part_at (set now k new) i) = given_same stake span now k Won new given few waving.grid gives once i (omega (arith, h, many)) in
           record {
             level = ap (λ (p : Part). p.level) next ∙ was.level;
             start = ap (λ (p : Part). p.start) next ∙ was.start;
@@ -359,7 +359,7 @@ waving_won place span n old now lost won k d new given won' few done is gives' f
           let ne : i ≢ k = omega (arith, less, done) in
           subst IsPassed (sym (let there : part_at (set now k new) i ≡ part_at now i = rw get_or-set_other refl in there)) (waving.passed i less (omega (arith, inside, length-set now k new)));
       heard = λ value told.
-          given_heard place span now k Won new given few waving.grid gives once value (lost ++ won) (lost ++ (won ++ given))
+          given_heard stake span now k Won new given few waving.grid gives once value (lost ++ won) (lost ++ (won ++ given))
           (λ r h. elim (in_either lost (won ++ given) r h) [
             | inl l ↦ inl (in_first lost won r l)
             | inr some ↦ elim (in_either won given r some) [ inl before ↦ inl (in_second lost won r before) | inr more ↦ inr more ]
@@ -379,10 +379,10 @@ waving_won place span n old now lost won k d new given won' few done is gives' f
     once = (subst AreFresh same fresh').once
 
     apart_lost : (r : ℕ) → In lost r → In given r → ⊥
-    apart_lost r h g = given_apart place span now k Won new given few waving.grid gives once Lost r (each_in (IsPending place span now Lost) lost waving.of_lost r h) g
+    apart_lost r h g = given_apart stake span now k Won new given few waving.grid gives once Lost r (each_in (IsPending stake span now Lost) lost waving.of_lost r h) g
 
     apart_won : (r : ℕ) → In won r → In given r → ⊥
-    apart_won r h g = given_apart place span now k Won new given few waving.grid gives once Won r (each_in (IsPending place span now Won) won waving.of_won r h) g
+    apart_won r h g = given_apart stake span now k Won new given few waving.grid gives once Won r (each_in (IsPending stake span now Won) won waving.of_won r h) g
 
 -- once it gave both, the fresh boards of a segment are farther
 passed_by : (old mid new : Part) (lost won : List ℕ) → 1 ≤ old.gain → GivesFresh Lost old mid lost → AreFresh mid → GivesFresh Won mid new won → IsPassed new
@@ -409,11 +409,11 @@ passed_by old mid new lost won one first fresh second j d h =
     clash : (g m : ℕ) → 1 ≤ g → m ≡ g → neg_ℤ (pos m) ≡ pos g → ⊥
     clash g m one is same = omega (arith, ints, one, is, same)
 
-pub waving_both : (place : Place) (span k : ℕ) (old now : List Part) (lost won : List ℕ) (d e mid new : Part) (given more lost' won' : List ℕ) → k < length now → lost' ≡ lost ++ given → won' ≡ won ++ more
+pub waving_both : (stake : Stake) (span k : ℕ) (old now : List Part) (lost won : List ℕ) (d e mid new : Part) (given more lost' won' : List ℕ) → k < length now → lost' ≡ lost ++ given → won' ≡ won ++ more
     → 1 ≤ (get_or now k d).gain → GivesFresh Lost (get_or now k d) mid given → AreFresh (get_or now k d)
     → GivesFresh Won (get_or (set now k mid) k e) new more → AreFresh (get_or (set now k mid) k e)
-    → IsWaving place span k old now lost won → IsWaving place span (k + 1) old (set (set now k mid) k new) lost' won'
-waving_both place span k old now lost won d e mid new given more lost' won' few is_lost is_won one gives fresh gives' fresh' waving = record {
+    → IsWaving stake span k old now lost won → IsWaving stake span (k + 1) old (set (set now k mid) k new) lost' won'
+waving_both stake span k old now lost won d e mid new given more lost' won' few is_lost is_won one gives fresh gives' fresh' waving = record {
   blocks = last.blocks;
   grid = last.grid;
   of_lost = last.of_lost;
@@ -427,10 +427,10 @@ waving_both place span k old now lost won d e mid new given more lost' won' few 
     low : k < length (set now k mid)
     low = omega (arith, few, length-set now k mid)
 
-    last : IsWaving place span k old (set (set now k mid) k new) lost' won'
+    last : IsWaving stake span k old (set (set now k mid) k new) lost' won'
     last =
-        waving_won place span k old (set now k mid) lost' won k e new more won' low (omega arith) is_won gives' fresh'
-        (waving_lost place span k old now lost won k d mid given lost' few (omega arith) is_lost gives fresh waving)
+        waving_won stake span k old (set now k mid) lost' won k e new more won' low (omega arith) is_won gives' fresh'
+        (waving_lost stake span k old now lost won k d mid given lost' few (omega arith) is_lost gives fresh waving)
 
     read : get_or (set now k mid) k e ≡ mid
     read = rw get_or-set_same refl
@@ -448,12 +448,12 @@ waving_both place span k old now lost won d e mid new given more lost' won' few 
         differs : (a b : ℕ) → (a == b) ≡ false → a ≢ b
         differs a b e = grind (arith, nat_tests)
 
-pub all_passed : (place : Place) (span k : ℕ) (old now : List Part) (lost won : List ℕ) → length now ≤ k → IsWaving place span k old now lost won → All IsPassed now
-all_passed place span k old now lost won end waving i d h =
+pub all_passed : (stake : Stake) (span k : ℕ) (old now : List Part) (lost won : List ℕ) → length now ≤ k → IsWaving stake span k old now lost won → All IsPassed now
+all_passed stake span k old now lost won end waving i d h =
     subst IsPassed (sym (get_or_default now i d no_part h)) (waving.passed i (omega (arith, h, end)) h)
 
 -- what stands at the start stands while the wave is spread
-pub front_still : (front : Front) (old now : List Part) (k : ℕ) (lost won : List ℕ) → IsFront front old → IsWaving front.place (2 ^ front.log) k old now lost won → IsFront front now
+pub front_still : (front : Front) (old now : List Part) (k : ℕ) (lost won : List ℕ) → IsFront front old → IsWaving front.stake (2 ^ front.log) k old now lost won → IsFront front now
 front_still front old now k lost won is waving = record {
   low = is.low;
   few = is.few;

@@ -7,12 +7,12 @@ use Rattle.awari_waves.specs.Waves.{IsGrid}
 use Rattle.awari_waves.specs.declared.analyses.Analysis.TheInside.{Inside}
 
 pub record IsAnalysis (a : Inside) : Type 0 where
-  pub low : a.front.place.level ≤ 24
-  pub few : size_of a.front.place.level ≤ 2 ^ 29
-  pub opened : 1 ≤ a.front.place.gain
-  pub inward : a.front.place.gain ≤ a.front.place.level + 1
+  pub low : a.front.stake.level ≤ 24
+  pub few : size_of a.front.stake.level ≤ 2 ^ 29
+  pub opened : 1 ≤ a.front.stake.gain
+  pub inward : a.front.stake.gain ≤ a.front.stake.level + 1
   pub some : a.front.log < 32
   pub numbers : vec_len a.segments < 2 ^ 32
-  pub grid : IsGrid a.front.place (2 ^ a.front.log) a.segments.items
-  pub whole : AreWhole a.front.place.level a.segments.items
+  pub grid : IsGrid a.front.stake (2 ^ a.front.log) a.segments.items
+  pub whole : AreWhole a.front.stake.level a.segments.items
   pub room : IsRoom a.front a.room

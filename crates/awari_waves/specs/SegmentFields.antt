@@ -18,12 +18,12 @@ abbrev pub IsAboveZero : ℤ → Type 0
 IsAboveZero v = pos 0 <ℤ v
 
 pub record IsSegment (a : Inside) : Type 0 where
-  pub low : a.place.level ≤ 24
-  pub opened : 1 ≤ a.place.gain
-  pub inward : a.place.gain ≤ a.place.level + 1
-  pub fits : a.place.start + vec_len a.cells < 2 ^ 32
-  pub within : a.place.start + vec_len a.cells ≤ size_of a.place.level
-  pub block : IsBlock a.place a.cells.items (dues_of a.lost ++ dues_of a.won)
-  pub awaited : TellAwaited a.place.level a.cells.items a.awaits.items
-  pub lost : AreOfScore IsBelowZero a.place.start a.cells.items (dues_of a.lost)
-  pub won : AreOfScore IsAboveZero a.place.start a.cells.items (dues_of a.won)
+  pub low : a.stake.level ≤ 24
+  pub opened : 1 ≤ a.stake.gain
+  pub inward : a.stake.gain ≤ a.stake.level + 1
+  pub fits : a.start + vec_len a.cells < 2 ^ 32
+  pub within : a.start + vec_len a.cells ≤ size_of a.stake.level
+  pub block : IsBlock a.stake a.start a.cells.items (dues_of a.lost ++ dues_of a.won)
+  pub awaited : TellAwaited a.stake.level a.cells.items a.awaits.items
+  pub lost : AreOfScore IsBelowZero a.start a.cells.items (dues_of a.lost)
+  pub won : AreOfScore IsAboveZero a.start a.cells.items (dues_of a.won)

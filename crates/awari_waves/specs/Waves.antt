@@ -7,11 +7,11 @@ use Rattle.awari_unmove.specs.Predecessors.{IsPredecessors}
 use Rattle.awari_block.specs.Notes.{IsQuietMove, is_heard_at}
 use Rattle.awari_block.specs.Blocks.{due_dist, due_rank, times_due}
 use Rattle.awari_block.specs.Part.{Part, InBlock, IsTallied, notes_for, settled_at}
-use Rattle.awari_block.specs.Boards.{Settles, place_of}
+use Rattle.awari_block.specs.Boards.{Settles, stake_of}
 use Rattle.awari_block.specs.declared.notes.Kind.{Kind}
 use Rattle.awari_block.specs.declared.notes.Kind.TheVariants.{Won, Lost}
 use Rattle.awari_block.specs.declared.notes.Note.{Note}
-use Rattle.awari_block.specs.declared.places.Place.{Place}
+use Rattle.awari_block.specs.declared.stakes.Stake.{Stake}
 use Rattle.awari_owner.specs.Spread.{SameBlock, Source}
 use Rattle.awari_owner.specs.Level.{AreHeard, part_at}
 use Rattle.awari_waves.specs.Lists.{AreDistinct, In, list_at}
@@ -24,17 +24,17 @@ abbrev pub code_of : Source → ℕ
 code_of y = code_by (rank_of y.0) y.1
 
 -- the note of this code at the open gain and wave
-abbrev pub note_by : Place → Kind → ℕ → Note
-note_by place kind code = record { level = place.level; target = code / 8; pit = code % 8; kind = kind; gain = place.gain; dist = place.wave }
+abbrev pub note_by : Stake → Kind → ℕ → Note
+note_by stake kind code = record { level = stake.level; target = code / 8; pit = code % 8; kind = kind; gain = stake.gain; dist = stake.wave }
 
 -- whether a note of this board and pit is among these
 abbrev pub is_noted : List Note → ℕ → Bool
 is_noted notes code = is_heard_at (notes_for (code / 8) notes) (code % 8)
 
 -- and once the notes of these codes came in, one after the other
-abbrev pub heard_by : Place → Kind → List ℕ → List Note → List Note
-heard_by place kind [] notes = notes
-heard_by place kind (code ∷ codes) notes = heard_by place kind codes (note_by place kind code ∷ notes)
+abbrev pub heard_by : Stake → Kind → List ℕ → List Note → List Note
+heard_by stake kind [] notes = notes
+heard_by stake kind (code ∷ codes) notes = heard_by stake kind codes (note_by stake kind code ∷ notes)
 
 -- it is of a quiet move of a board of the level
 abbrev pub IsQuietCode : ℕ → ℕ → Type 0
@@ -50,9 +50,9 @@ abbrev pub IsCodeFor : Part → ℕ → Type 0
 IsCodeFor part code = InBlock part (code / 8) × (code % 8 < 6)
 
 -- between these two the notes of these codes were heard
-abbrev pub Tells : Place → Kind → List ℕ → Part → Part → Type 0
-Tells place kind codes old new =
-    (value : List ℕ → ℤ) (notes : List Note) → AreNew place.level codes notes → IsTallied value old notes → IsTallied value new (heard_by place kind codes notes)
+abbrev pub Tells : Stake → Kind → List ℕ → Part → Part → Type 0
+Tells stake kind codes old new =
+    (value : List ℕ → ℤ) (notes : List Note) → AreNew stake.level codes notes → IsTallied value old notes → IsTallied value new (heard_by stake kind codes notes)
 
 -- a gain is open, and the open wave is not the greatest that can be stored
 abbrev pub IsReady : Part → Type 0
@@ -102,10 +102,10 @@ pub record CanFind (level span : ℕ) (ranks : List ℕ) (rows : ℕ) : Type 0 w
 -- ---- what is heard
 
 -- between these two a block heard its notes: those of lost boards, and then those of won ones
-abbrev pub TellsBoth : Place → List ℕ → List ℕ → Part → Part → Type 0
-TellsBoth place lost won old new =
-    (value : List ℕ → ℤ) (notes : List Note) → AreNew place.level lost notes → AreNew place.level won (heard_by place Lost lost notes)
-    → IsTallied value old notes → IsTallied value new (heard_by place Won won (heard_by place Lost lost notes))
+abbrev pub TellsBoth : Stake → List ℕ → List ℕ → Part → Part → Type 0
+TellsBoth stake lost won old new =
+    (value : List ℕ → ℤ) (notes : List Note) → AreNew stake.level lost notes → AreNew stake.level won (heard_by stake Lost lost notes)
+    → IsTallied value old notes → IsTallied value new (heard_by stake Won won (heard_by stake Lost lost notes))
 
 -- what blocks need to hear theirs, the first of them being block `first`
 pub record CanHear (first : ℕ) (lost won : ℕ → List ℕ) (parts : List Part) : Type 0 where
@@ -119,7 +119,7 @@ pub record HearsFrom (first : ℕ) (lost won : ℕ → List ℕ) (old new : List
   pub blocks : length new ≡ length old
   pub settles : (i : ℕ) → i < length old → Settles (part_at old i) (part_at new i)
   pub passed : (i : ℕ) → i < length old → StaysPassed (part_at old i) (part_at new i)
-  pub tells : (i : ℕ) → i < length old → TellsBoth (place_of (part_at old i)) (lost (first + i)) (won (first + i)) (part_at old i) (part_at new i)
+  pub tells : (i : ℕ) → i < length old → TellsBoth (stake_of (part_at old i)) (lost (first + i)) (won (first + i)) (part_at old i) (part_at new i)
 
 -- ---- a chunk
 
@@ -129,27 +129,27 @@ value_by Won gain = pos gain
 value_by Lost gain = neg_ℤ (pos gain)
 
 -- Blocks of `span` boards: the board of each rank is in the block that its rank tells, and in no other.
-pub record IsGrid (place : Place) (span : ℕ) (parts : List Part) : Type 0 where
-  pub level : (i : ℕ) → i < length parts → (part_at parts i).level ≡ place.level
-  pub gain : (i : ℕ) → i < length parts → (part_at parts i).gain ≡ place.gain
-  pub wave : (i : ℕ) → i < length parts → (part_at parts i).wave ≡ place.wave
-  pub within : (i : ℕ) → i < length parts → (part_at parts i).start + length (part_at parts i).cells ≤ size_of place.level
-  pub home : (rank : ℕ) → rank < size_of place.level → (rank / span < length parts) × InBlock (part_at parts (rank / span)) rank
+pub record IsGrid (stake : Stake) (span : ℕ) (parts : List Part) : Type 0 where
+  pub level : (i : ℕ) → i < length parts → (part_at parts i).level ≡ stake.level
+  pub gain : (i : ℕ) → i < length parts → (part_at parts i).gain ≡ stake.gain
+  pub wave : (i : ℕ) → i < length parts → (part_at parts i).wave ≡ stake.wave
+  pub within : (i : ℕ) → i < length parts → (part_at parts i).start + length (part_at parts i).cells ≤ size_of stake.level
+  pub home : (rank : ℕ) → rank < size_of stake.level → (rank / span < length parts) × InBlock (part_at parts (rank / span)) rank
   pub only : (i rank : ℕ) → i < length parts → InBlock (part_at parts i) rank → rank / span ≡ i
 
 -- The boards of the level, `span` in each block and fewer in the last.
-pub record AreSpans (place : Place) (span : ℕ) (parts : List Part) : Type 0 where
-  pub level : (i : ℕ) → i < length parts → (part_at parts i).level ≡ place.level
-  pub gain : (i : ℕ) → i < length parts → (part_at parts i).gain ≡ place.gain
-  pub wave : (i : ℕ) → i < length parts → (part_at parts i).wave ≡ place.wave
+pub record AreSpans (stake : Stake) (span : ℕ) (parts : List Part) : Type 0 where
+  pub level : (i : ℕ) → i < length parts → (part_at parts i).level ≡ stake.level
+  pub gain : (i : ℕ) → i < length parts → (part_at parts i).gain ≡ stake.gain
+  pub wave : (i : ℕ) → i < length parts → (part_at parts i).wave ≡ stake.wave
   pub start : (i : ℕ) → i < length parts → (part_at parts i).start ≡ i * span
-  pub end : (i : ℕ) → i < length parts → (part_at parts i).start + length (part_at parts i).cells ≡ min ((i + 1) * span) (size_of place.level)
-  pub all : size_of place.level ≤ length parts * span
+  pub end : (i : ℕ) → i < length parts → (part_at parts i).start + length (part_at parts i).cells ≡ min ((i + 1) * span) (size_of stake.level)
+  pub all : size_of stake.level ≤ length parts * span
 
 -- a board that was taken from the fresh ones and is not spread yet: settled at the open gain and wave
-pub record IsPending (place : Place) (span : ℕ) (parts : List Part) (kind : Kind) (rank : ℕ) : Type 0 where
-  pub inside : rank < size_of place.level
-  pub settled : settled_at (part_at parts (rank / span)) rank ≡ Some (value_by kind place.gain, place.wave)
+pub record IsPending (stake : Stake) (span : ℕ) (parts : List Part) (kind : Kind) (rank : ℕ) : Type 0 where
+  pub inside : rank < size_of stake.level
+  pub settled : settled_at (part_at parts (rank / span)) rank ≡ Some (value_by kind stake.gain, stake.wave)
   pub taken : times_due (part_at parts (rank / span)).fresh rank ≡ 0
 
 -- such boards count as fresh
@@ -184,11 +184,11 @@ pub record SettlesAll (old new : List Part) : Type 0 where
 
 -- A wave while it is spread: of the first k blocks no fresh board of the open wave is left. These boards were taken from
 -- the fresh ones and are not spread yet, and count as fresh.
-pub record IsWaving (place : Place) (span k : ℕ) (old now : List Part) (lost won : List ℕ) : Type 0 where
+pub record IsWaving (stake : Stake) (span k : ℕ) (old now : List Part) (lost won : List ℕ) : Type 0 where
   pub blocks : length now ≡ length old
-  pub grid : IsGrid place span now
-  pub of_lost : All (IsPending place span now Lost) lost
-  pub of_won : All (IsPending place span now Won) won
+  pub grid : IsGrid stake span now
+  pub of_lost : All (IsPending stake span now Lost) lost
+  pub of_won : All (IsPending stake span now Won) won
   pub apart : AreDistinct (lost ++ won)
   pub same : (i : ℕ) → i < length old → SameBlock (part_at old i) (part_at now i)
   pub passed : (i : ℕ) → i < k → i < length now → IsPassed (part_at now i)

@@ -17,7 +17,7 @@ use crate::openings::{open_gains, open_waves};
 use crate::scanning::{Cut, scanned_segments};
 use crate::segments::Segment;
 use crate::waves::spread_wave;
-use awari_block::{ClosedPart, Place};
+use awari_block::{ClosedPart, Stake};
 use awari_index::Index;
 use awari_rank::size;
 use awari_table::Shelf;
@@ -48,7 +48,7 @@ impl Model for Analysis {
 
     ghost Value = { AnalysisView };
 
-    ghost view = { λ a. record { level = a.front.place.level; gain = a.front.place.gain; wave = a.front.place.wave; parts = a.segments.items } };
+    ghost view = { λ a. record { level = a.front.stake.level; gain = a.front.stake.gain; wave = a.front.stake.wave; parts = a.segments.items } };
 
     ghost invariant = { IsAnalysis };
 }
@@ -78,13 +78,12 @@ impl Analysis {
         };
         let segments = scanned_segments(rt, alloc, shelf, &index, cut)?;
         let room = room_for(alloc, index, threads)?;
-        let place = Place {
+        let stake = Stake {
             level,
             gain: level + 1,
             wave: 0,
-            start: 0,
         };
-        let front = Front { place, log };
+        let front = Front { stake, log };
         Ok(Analysis {
             front,
             spread: 0,
@@ -97,7 +96,7 @@ impl Analysis {
     pub fn level(&self) -> u8
         ensures { result ≡ self.now.level }
     {
-        self.front.place.level
+        self.front.stake.level
     }
 
     /// The open gain in stones, one more than the level if none was opened yet.
@@ -105,14 +104,14 @@ impl Analysis {
         ensures gain { result ≡ self.now.gain }
         ensures range { (1 ≤ self.now.gain) × (self.now.gain ≤ self.now.level + 1) }
     {
-        self.front.place.gain
+        self.front.stake.gain
     }
 
     /// The open wave in plies.
     pub fn wave(&self) -> u32
         ensures { result ≡ self.now.wave }
     {
-        self.front.place.wave
+        self.front.stake.wave
     }
 
     /// How many boards were spread, for a report of how far the level is.
@@ -150,14 +149,14 @@ impl Analysis {
             mut segments,
             room,
         } = self;
-        let gain = front.place.gain - 1;
+        let gain = front.stake.gain - 1;
         open_gains(rt, room.rows.len(), gain, segments.as_mut_slice())?;
-        let place = Place {
+        let stake = Stake {
             gain,
             wave: 0,
-            ..front.place
+            ..front.stake
         };
-        let front = Front { place, ..front };
+        let front = Front { stake, ..front };
         Ok(Analysis {
             front,
             spread,
@@ -201,7 +200,7 @@ impl Analysis {
             mut segments,
             mut room,
         } = self;
-        let spread = spread.saturating_add(fresh_at(segments.as_slice(), front.place.wave));
+        let spread = spread.saturating_add(fresh_at(segments.as_slice(), front.stake.wave));
         spread_wave(rt, front, &mut room, segments.as_mut_slice())?;
         Ok(Analysis {
             front,
@@ -220,7 +219,7 @@ impl Analysis {
         ensures wave { result.wave ≡ dist }
         ensures heard { (value : List ℕ → ℤ) → AreHeard value self.parts → AreHeard value result.parts }
     {
-        if dist <= self.front.place.wave {
+        if dist <= self.front.stake.wave {
             return self;
         }
         let Analysis {
@@ -230,11 +229,11 @@ impl Analysis {
             room,
         } = self;
         open_waves(dist, segments.as_mut_slice());
-        let place = Place {
+        let stake = Stake {
             wave: dist,
-            ..front.place
+            ..front.stake
         };
-        let front = Front { place, ..front };
+        let front = Front { stake, ..front };
         Analysis {
             front,
             spread,
@@ -299,7 +298,7 @@ fn threads_of(threads: usize) -> u32
 /// Room to spread the boards of the index's level, for so many threads.
 fn room_for(alloc: Global, index: Index, threads: u32) -> Result<Room, AllocError>
     requires { 1 ≤ threads }
-    ensures { IfOk result (λ room. (front : FrontView) → front.place.level ≡ index → IsRoom front room) }
+    ensures { IfOk result (λ room. (front : FrontView) → front.stake.level ≡ index → IsRoom front room) }
 {
     let rows = rows(alloc, threads as usize)?;
     let chunk = Chunk {

@@ -12,7 +12,7 @@ ghost use Rattle.awari_waves.specs.Waves.{CanFind, CanHear, FindsFor, HearsFrom,
 use crate::finding::find;
 use crate::lists::{Lists, Row};
 use crate::segments::Segment;
-use awari_block::Place;
+use awari_block::Stake;
 use awari_board::moves_keep_boards;
 use awari_index::Index;
 use awari_owner::{MOST_PREDECESSORS, Target};
@@ -27,7 +27,7 @@ const BOARDS_A_THREAD: usize = 500;
 /// What is open in all segments of a level, and how long they are.
 #[derive(Clone, Copy)]
 pub struct Front {
-    pub place: Place,
+    pub stake: Stake,
     /// Each segment has 2 to this power of boards, the last one fewer.
     pub log: u32,
 }

@@ -48,7 +48,7 @@ pub fn scanned_segments<R: Threads + Sync>(
     requires low { length shelf.now ≤ HIGHEST_LEVEL }
     requires level { index.now ≡ length shelf.now }
     requires some { (0 < cut.span) × (1 ≤ cut.threads) }
-    ensures grid { IfOk result (λ segments. IsGrid (record { level = length shelf.now; gain = length shelf.now + 1; wave = 0; start = 0 }) cut.span segments.items) }
+    ensures grid { IfOk result (λ segments. IsGrid (record { level = length shelf.now; gain = length shelf.now + 1; wave = 0 }) cut.span segments.items) }
     ensures whole { IfOk result (λ segments. AreWhole (length shelf.now) segments.items) }
     ensures idle { IfOk result (λ segments. AreIdle segments.items) }
     ensures heard { IfOk result (λ segments. AreHeard (table_of shelf.now).value segments.items) }

@@ -6,7 +6,7 @@ ghost use Rattle.awari_block.specs.Part.{Part as PartView, AreFresh, InBlock, Is
 ghost use Rattle.awari_rank.specs.Rank.{size_of};
 ghost use Rattle.awari_block.specs.Blocks.{due_dist};
 ghost use Rattle.awari_block.specs.Cells.{FitsBy, is_settled};
-ghost use Rattle.awari_block.specs.Boards.{CanPut, HearsNote, OpensCells, Settles, place_of};
+ghost use Rattle.awari_block.specs.Boards.{CanPut, HearsNote, OpensCells, Settles, stake_of};
 ghost use Rattle.awari_waves.specs.Ahead.{TellSettled};
 ghost use Rattle.awari_waves.specs.Each.{IsFarther, OpensGain};
 ghost use Rattle.awari_waves.specs.Rows.{notes_at};
@@ -14,7 +14,7 @@ ghost use Rattle.awari_waves.specs.Waves.{GivesFresh, IsCodeFor, IsReady, StaysP
 
 use crate::dues::nearer;
 use crate::lists::{Lists, Row};
-use awari_block::{Cell, ClosedPart, Kind, Place, awaited_gains, next_awaiting};
+use awari_block::{Cell, ClosedPart, Kind, Stake, awaited_gains, next_awaiting};
 use awari_rank::ranks_tell_boards_apart;
 use std::alloc::{AllocError, Global};
 use std::marker::Model;
@@ -28,7 +28,9 @@ const AHEAD: usize = 64;
 /// won ones, by distance.
 #[derive(Drop)]
 pub struct Segment {
-    place: Place,
+    /// The rank of the first board.
+    start: u32,
+    stake: Stake,
     cells: Vec<Cell>,
     awaits: Vec<u8>,
     lost: Lists,
@@ -43,7 +45,7 @@ impl Model for Segment {
 
     ghost Value = { PartView };
 
-    ghost view = { λ a. part_of a.place a.cells.items (dues_of a.lost ++ dues_of a.won) };
+    ghost view = { λ a. part_of a.stake a.start a.cells.items (dues_of a.lost ++ dues_of a.won) };
 
     ghost invariant = { IsSegment };
 }
@@ -65,11 +67,11 @@ impl Segment {
     {
         let awaits = awaited_gains(alloc, level, cells.as_slice())?;
         Ok(Segment {
-            place: Place {
+            start,
+            stake: Stake {
                 level,
                 gain: level + 1,
                 wave: 0,
-                start,
             },
             cells,
             awaits,
@@ -84,9 +86,9 @@ impl Segment {
         requires nearest { All (λ f. dist ≤ due_dist f) self.old.fresh }
         ensures wave { self.new ≡ record self.old { wave = dist } }
     {
-        self.place = Place {
+        self.stake = Stake {
             wave: dist,
-            ..self.place
+            ..self.stake
         };
     }
 
@@ -99,15 +101,15 @@ impl Segment {
         requires positive { 1 ≤ gain }
         ensures { OnOk result (OpensGain gain self.old self.new) }
     {
-        self.place = Place {
+        self.stake = Stake {
             gain,
             wave: 0,
-            ..self.place
+            ..self.stake
         };
         self.open_cells()
     }
 
-    /// Opens the gain of the place in each cell, in order of rank. Most boards do not await it, and
+    /// Opens the gain of the stake in each cell, in order of rank. Most boards do not await it, and
     /// their cells are not read.
     fn open_cells(&mut self) -> Result<(), AllocError>
         requires gain { self.old.gain ≤ self.old.level }
@@ -117,19 +119,19 @@ impl Segment {
     {
         let mut from = 0;
         while let Some(index) = self.next_awaiting(from) {
-            let opened = self.cells[index].with_gain(self.place);
+            let opened = self.cells[index].with_gain(self.stake);
             self.put(index, opened)?;
             from = index + 1;
         }
         Ok(())
     }
 
-    /// The index of the first board from this one on that awaits the gain of the place.
+    /// The index of the first board from this one on that awaits the gain of the stake.
     fn next_awaiting(&self, from: usize) -> Option<usize>
         ensures some { IfSome result (λ index. (from ≤ index) × (index < length self.now.cells) × OpensCells self.now self.now from index) }
         ensures none { IfNone result (OpensCells self.now self.now from (length self.now.cells)) }
     {
-        next_awaiting(self.place.gain, self.awaits.as_slice(), from)
+        next_awaiting(self.stake.gain, self.awaits.as_slice(), from)
     }
 
     /// The least distance of a fresh board, none if no board is fresh. Condition: no fresh board is
@@ -154,7 +156,7 @@ impl Segment {
         requires { IsClosed self }
         ensures { result ≡ self }
     {
-        ClosedPart::new(self.place, self.cells)
+        ClosedPart::new(self.start, self.stake, self.cells)
     }
 
     /// Moves the fresh boards of the open wave that are lost, or those that are won, behind others: those
@@ -164,7 +166,7 @@ impl Segment {
         ensures fresh { AreFresh self.old }
         ensures opened { 1 ≤ self.old.gain }
     {
-        let wave = self.place.wave;
+        let wave = self.stake.wave;
         match kind {
             Kind::Lost => {
                 self.lost.give(wave, to)?;
@@ -186,7 +188,7 @@ impl Segment {
         requires near { self.old.wave < 2 ^ 32 - 1 }
         ensures settles { OnOk result (Settles self.old self.new) }
         ensures passed { OnOk result (StaysPassed self.old self.new) }
-        ensures tells { OnOk result (Tells (place_of self.old) kind codes.now self.old self.new) }
+        ensures tells { OnOk result (Tells (stake_of self.old) kind codes.now self.old self.new) }
     {
         let mut start: usize = 0;
         while start < codes.len() {
@@ -206,7 +208,7 @@ impl Segment {
         requires near { self.old.wave < 2 ^ 32 - 1 }
         ensures settles { OnOk result (Settles self.old self.new) }
         ensures passed { OnOk result (StaysPassed self.old self.new) }
-        ensures tells { OnOk result (Tells (place_of self.old) kind codes.now self.old self.new) }
+        ensures tells { OnOk result (Tells (stake_of self.old) kind codes.now self.old self.new) }
     {
         ranks_tell_boards_apart();
         let settled = self.settled_among(codes);
@@ -226,7 +228,7 @@ impl Segment {
     {
         let mut settled = [false; AHEAD];
         for k in 0..codes.len() {
-            let index = (codes[k] / 8 - self.place.start) as usize;
+            let index = (codes[k] / 8 - self.start) as usize;
             settled[k] = self.cells[index].is_settled();
         }
         settled
@@ -241,7 +243,7 @@ impl Segment {
         requires ready { IsReady self.old }
         ensures settles { OnOk result (Settles self.old self.new) }
         ensures passed { OnOk result (StaysPassed self.old self.new) }
-        ensures tells { OnOk result (TellsBoth (place_of self.old) (notes_at Lost rows.now number) (notes_at Won rows.now number) self.old self.new) }
+        ensures tells { OnOk result (TellsBoth (stake_of self.old) (notes_at Lost rows.now number) (notes_at Won rows.now number) self.old self.new) }
     {
         self.hear_kind(number, Kind::Lost, rows)?;
         self.hear_kind(number, Kind::Won, rows)?;
@@ -254,7 +256,7 @@ impl Segment {
         requires ready { IsReady self.old }
         ensures settles { OnOk result (Settles self.old self.new) }
         ensures passed { OnOk result (StaysPassed self.old self.new) }
-        ensures tells { OnOk result (Tells (place_of self.old) kind (notes_at kind rows.now number) self.old self.new) }
+        ensures tells { OnOk result (Tells (stake_of self.old) kind (notes_at kind rows.now number) self.old self.new) }
     {
         for row in rows {
             self.hear(kind, row.list(kind, number))?;
@@ -276,7 +278,7 @@ impl Segment {
         if !cell.is_settled() || was_settled {
             return Ok(());
         }
-        let rank = self.place.start + index as u32;
+        let rank = self.start + index as u32;
         if cell.score < 0 {
             self.lost.put(cell.dist, rank)?;
             return Ok(());
@@ -317,9 +319,9 @@ impl Segment {
         ensures passed { StaysPassed self.old self.new }
         ensures hears { HearsNote self.old self.new (code / 8) (code % 8) kind }
     {
-        let index = (code / 8 - self.place.start) as usize;
+        let index = (code / 8 - self.start) as usize;
         let mut cell = self.cells[index];
-        cell.hear(self.place, (code % 8) as u8, kind);
+        cell.hear(self.stake, (code % 8) as u8, kind);
         self.put_settled(index, cell);
     }
 
@@ -346,9 +348,9 @@ impl Segment {
         ensures passed { OnOk result (StaysPassed self.old self.new) }
         ensures hears { OnOk result (HearsNote self.old self.new (code / 8) (code % 8) kind) }
     {
-        let index = (code / 8 - self.place.start) as usize;
+        let index = (code / 8 - self.start) as usize;
         let mut cell = self.cells[index];
-        cell.hear(self.place, (code % 8) as u8, kind);
+        cell.hear(self.stake, (code % 8) as u8, kind);
         self.put(index, cell)?;
         Ok(())
     }

@@ -2,7 +2,7 @@
 
 ghost use Rattle.std.specs.Prelude.{◌≡◌, ℕ, ℤ, ◌+◌, ◌^◌, ◌<◌, ◌≤◌, [], List, All, OnOk, length};
 ghost use Rattle.awari_block.specs.Part.{Part as PartView};
-ghost use Rattle.awari_block.specs.declared.places.Place.{Place as PlaceView};
+ghost use Rattle.awari_block.specs.declared.stakes.Stake.{Stake as StakeView};
 ghost use Rattle.awari_owner.specs.Level.{AreHeard};
 ghost use Rattle.awari_owner.specs.Spread.{SameBlock};
 ghost use Rattle.awari_waves.specs.Each.{Each};
@@ -47,8 +47,8 @@ pub fn spread_wave<R: Threads + Sync>(
 /// Moves those of this segment into the chunk.
 fn give(k: usize, chunk: &mut Chunk, segments: &mut [Segment]) -> Result<(), AllocError>
     requires inside { k < length segments.old }
-    ensures waving { OnOk result ((place : PlaceView) (span : ℕ) (old : List PartView) → IsWaving place span k old segments.old chunk.old.lost.items chunk.old.won.items
-        → IsWaving place span (k + 1) old segments.new chunk.new.lost.items chunk.new.won.items) }
+    ensures waving { OnOk result ((stake : StakeView) (span : ℕ) (old : List PartView) → IsWaving stake span k old segments.old chunk.old.lost.items chunk.old.won.items
+        → IsWaving stake span (k + 1) old segments.new chunk.new.lost.items chunk.new.won.items) }
 {
     segments[k].give(Kind::Lost, &mut chunk.lost)?;
     segments[k].give(Kind::Won, &mut chunk.won)?;
@@ -65,8 +65,8 @@ fn spread<R: Threads + Sync>(
     requires front { IsFront front segments.old }
     requires room { IsRoom front room.old }
     requires pending { ArePending front segments.old room.old.chunk }
-    ensures waving { OnOk result ((old : List PartView) (k : ℕ) → IsWaving front.place (2 ^ front.log) k old segments.old room.old.chunk.lost.items room.old.chunk.won.items
-        → IsWaving front.place (2 ^ front.log) k old segments.new room.new.chunk.lost.items room.new.chunk.won.items) }
+    ensures waving { OnOk result ((old : List PartView) (k : ℕ) → IsWaving front.stake (2 ^ front.log) k old segments.old room.old.chunk.lost.items room.old.chunk.won.items
+        → IsWaving front.stake (2 ^ front.log) k old segments.new room.new.chunk.lost.items room.new.chunk.won.items) }
     ensures empty { OnOk result ((room.new.chunk.lost.items ≡ []) × (room.new.chunk.won.items ≡ [])) }
     ensures room { OnOk result (IsRoom front room.new) }
 {
@@ -86,8 +86,8 @@ fn spread_full<R: Threads + Sync>(
     requires front { IsFront front segments.old }
     requires room { IsRoom front room.old }
     requires pending { ArePending front segments.old room.old.chunk }
-    ensures waving { OnOk result ((old : List PartView) (k : ℕ) → IsWaving front.place (2 ^ front.log) k old segments.old room.old.chunk.lost.items room.old.chunk.won.items
-        → IsWaving front.place (2 ^ front.log) k old segments.new room.new.chunk.lost.items room.new.chunk.won.items) }
+    ensures waving { OnOk result ((old : List PartView) (k : ℕ) → IsWaving front.stake (2 ^ front.log) k old segments.old room.old.chunk.lost.items room.old.chunk.won.items
+        → IsWaving front.stake (2 ^ front.log) k old segments.new room.new.chunk.lost.items room.new.chunk.won.items) }
     ensures room { OnOk result (IsRoom front room.new) }
 {
     if room.chunk.lost.len() < CHUNK && room.chunk.won.len() < CHUNK {

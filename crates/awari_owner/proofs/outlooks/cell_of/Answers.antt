@@ -16,7 +16,7 @@ returns-in-Some c = λ value is ranged seen.
     let fits : SFits w8 c.in-Some.best = search rules in
     scanned_capturing value c.args.board.now c.args.seen.quiet c.in-Some.best c.args.seen.best c.args.seen.plans c.of_captures.result is ranged c.in-Some.is seen
     (c.of_captures.ensures.cell ∙ ap (capturing c.args.seen.quiet c.args.seen.plans) (to_z-of_z w8 c.in-Some.best fits))
-    (λ place within. c.of_captures.ensures.fits place (subst (IsWithin place.level) (sym (to_z-of_z w8 c.in-Some.best fits)) within))
+    (λ stake within. c.of_captures.ensures.fits stake (subst (IsWithin stake.level) (sym (to_z-of_z w8 c.in-Some.best fits)) within))
 
 pub returns-then-seen-gt0 : goal.returns-then-seen-gt0
 returns-then-seen-gt0 c = λ value is ranged seen.
@@ -27,4 +27,4 @@ returns-else-seen-gt0 c = λ value is ranged seen.
     let fits : SFits w8 c.end_of.result = search rules in
     scanned_ended value c.args.board.now c.args.seen.quiet c.args.seen.best c.args.seen.plans c.end_of.result c.of_end.result is ranged c.in-None.is (let none = c.if-seen-gt0.false in omega (arith, none)) seen c.end_of.ensures
     (c.of_end.ensures.cell ∙ ap ended (to_z-of_z w8 c.end_of.result fits))
-    (λ place either. c.of_end.ensures.fits place (subst (IsEither place.level) (sym (to_z-of_z w8 c.end_of.result fits)) either))
+    (λ stake either. c.of_end.ensures.fits stake (subst (IsEither stake.level) (sym (to_z-of_z w8 c.end_of.result fits)) either))

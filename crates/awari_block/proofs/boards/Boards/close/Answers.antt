@@ -5,4 +5,4 @@ use Rattle.awari_block.proofs.boards.Boards.close.Goals as goal
 pub returns : goal.returns
 returns c =
     let none = ap (λ (o : Part). o.fresh) c.self.view_is ∙ c.requires.1 in
-    ap (part_of c.self.inside.place c.self.inside.cells.items) (sym none) ∙ c.self.view_is
+    ap (part_of c.self.inside.stake c.self.inside.start c.self.inside.cells.items) (sym none) ∙ c.self.view_is

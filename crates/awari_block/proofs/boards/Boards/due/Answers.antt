@@ -6,7 +6,7 @@ use Rattle.awari_block.proofs.boards.Boards.due.Goals as goal
 due : (c : goal.After-due) → IsDueNow c.args.self.now c.due.result
 due c =
     subst (λ (p : Part). IsDueNow p c.due.result) c.self.view_is
-    (subst (IsDueNow _) (sym c.due.ensures) (due_is c.self.inside.place c.self.inside.cells.items c.self.inside.fresh c.self.invariant.block c.self.invariant.marks))
+    (subst (IsDueNow _) (sym c.due.ensures) (due_is c.self.inside.stake c.self.inside.start c.self.inside.cells.items c.self.inside.fresh c.self.invariant.block c.self.invariant.marks))
 
 pub returns-clause-least : goal.returns-clause-least
 returns-clause-least c = (due c).least

@@ -4,4 +4,4 @@ use Rattle.awari_block.proofs.FreshBlocks.{fresh_count}
 use Rattle.awari_block.proofs.boards.Boards.fresh_boards.Goals as goal
 
 pub returns : goal.returns
-returns c = c.len.ensures ∙ sym (fresh_count c.self.inside.place.start c.self.inside.cells.items c.self.inside.fresh c.self.invariant.marks.marked) ∙ ap (λ (v : Part). length v.fresh) c.self.view_is
+returns c = c.len.ensures ∙ sym (fresh_count c.self.inside.start c.self.inside.cells.items c.self.inside.fresh c.self.invariant.marks.marked) ∙ ap (λ (v : Part). length v.fresh) c.self.view_is

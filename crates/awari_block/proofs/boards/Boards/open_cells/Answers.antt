@@ -1,6 +1,7 @@
 use Rattle.std.proofs.Common.{◌≡◌, ◌+◌, ◌-◌, get_or, set, ap, sym, ◌∙◌, arith}
 use Rattle.awari_block.specs.Blocks.{no_cell}
-use Rattle.awari_block.specs.declared.places.Place.{Place}
+use Rattle.awari_block.specs.Part.{Part}
+use Rattle.awari_block.specs.declared.stakes.Stake.{Stake}
 use Rattle.awari_block.proofs.Opening.{opens_both, put_one}
 use Rattle.awari_block.proofs.Settling.{settles_both}
 use Rattle.awari_block.proofs.boards.Boards.open_cells.Goals as goal
@@ -13,13 +14,13 @@ loop-index-preserved c =
     let found = c.in-Some.ensures.some in
     let later = found.0 in
     let inside = found.1 in
-    let start = ap (λ (p : Place). p.start) c.place-place.ensures.place in
+    let start = ap (λ (p : Part). p.start) c.self.view_is in
     let same_start = same.start in
-    let at : c.place-place.result.start + c.in-Some.index - c.loop-index.self.start ≡ c.in-Some.index = omega (arith, start, same_start) in
+    let at : c.self.inside.start + c.in-Some.index - c.loop-index.self.start ≡ c.in-Some.index = omega (arith, start, same_start) in
     let put = c.put.ensures.cells ∙ ap (λ n. set c.loop-index.self.cells n c.with_gain.result) at in
     let read = ap (λ n. get_or c.loop-index.self.cells n no_cell) (sym at) ∙ sym c.cell-cell.ensures.stored in
-    let level = same.level ∙ sym (ap (λ (p : Place). p.level) c.place-place.ensures.place) in
-    let gain = same.gain ∙ sym (ap (λ (p : Place). p.gain) c.place-place.ensures.place) in
+    let level = same.level ∙ sym (ap (λ (p : Stake). p.level) c.stake-stake.ensures.stake) in
+    let gain = same.gain ∙ sym (ap (λ (p : Stake). p.gain) c.stake-stake.ensures.stake) in
     record {
       within = omega (arith, inside, size);
       settles = settles_both c.args.self.now c.loop-index.self c.put.new.self before.settles c.put.ensures.settles;

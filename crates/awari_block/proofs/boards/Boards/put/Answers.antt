@@ -15,12 +15,12 @@ insert-requires-clause-new c =
 pub insert-requires-clause-sound : goal.insert-requires-clause-sound
 insert-requires-clause-sound c =
     let put = put_replaces c.self.inside c.args.self.now c.args.rank c.index.result.now c.args.cell c.self.view_is c.requires c.index.ensures in
-    subst (λ (cs : List Cell). IsFresh c.self.inside.place.wave cs c.self.inside.fresh) (sym c.as_slice.ensures.value) (still_marks c.self.inside c.self.invariant c.args.rank c.index.result.now c.args.cell put)
+    subst (λ (cs : List Cell). IsFresh c.self.inside.stake.wave cs c.self.inside.fresh) (sym c.as_slice.ensures.value) (still_marks c.self.inside c.self.invariant c.args.rank c.index.result.now c.args.cell put)
 
 pub invariant_of-self : goal.invariant_of-self
 invariant_of-self c =
     let put = put_replaces c.self.inside c.args.self.now c.args.rank c.index.result.now c.args.cell c.self.view_is c.requires c.index.ensures in
-    joined_boards c.self.inside c.self.invariant c.args.rank c.index.result.now c.args.cell put (sym c.if-not-was_settled.ensures) (sym c.if-is_settled.ensures) c.insert.new.self c.insert.ensures.marks (subst (λ (cs : List Cell). IsFresh c.self.inside.place.wave cs c.insert.new.self) c.as_slice.ensures.value c.insert.ensures.sound)
+    joined_boards c.self.inside c.self.invariant c.args.rank c.index.result.now c.args.cell put (sym c.if-not-was_settled.ensures) (sym c.if-is_settled.ensures) c.insert.new.self c.insert.ensures.marks (subst (λ (cs : List Cell). IsFresh c.self.inside.stake.wave cs c.insert.new.self) c.as_slice.ensures.value c.insert.ensures.sound)
 
 pub invariant_of-self-else-not-was_settled : goal.invariant_of-self-else-not-was_settled
 invariant_of-self-else-not-was_settled c =

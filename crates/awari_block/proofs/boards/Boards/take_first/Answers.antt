@@ -12,17 +12,17 @@ use Rattle.awari_block.proofs.boards.Boards.take_first.Goals as goal
 first : (c : goal.In-Some) → c.self.inside.fresh.first ≡ Some c.in-Some.index
 first c = sym c.take_first.ensures.first ∙ c.in-Some.is
 
-moved : (c : goal.In-Some) → IsPermutation ((c.self.inside.place.wave, c.self.inside.place.start + c.in-Some.index) ∷ fresh_of c.self.inside.place.start c.self.inside.cells.items c.take_first.new.self)
-    (fresh_of c.self.inside.place.start c.self.inside.cells.items c.self.inside.fresh)
-moved c = taken_moved c.self.inside.place c.self.inside.cells.items c.self.inside.fresh c.self.invariant.block c.self.invariant.marks c.in-Some.index (first c) c.take_first.new.self c.in-Some.ensures.marks
+moved : (c : goal.In-Some) → IsPermutation ((c.self.inside.stake.wave, c.self.inside.start + c.in-Some.index) ∷ fresh_of c.self.inside.start c.self.inside.cells.items c.take_first.new.self)
+    (fresh_of c.self.inside.start c.self.inside.cells.items c.self.inside.fresh)
+moved c = taken_moved c.self.inside.stake c.self.inside.start c.self.inside.cells.items c.self.inside.fresh c.self.invariant.block c.self.invariant.marks c.in-Some.index (first c) c.take_first.new.self c.in-Some.ensures.marks
 
-block : (c : goal.In-Some) → IsBlock c.self.inside.place c.self.inside.cells.items (fresh_of c.self.inside.place.start c.self.inside.cells.items c.take_first.new.self)
-block c = popped c.self.inside.place c.self.inside.cells.items _ _ (c.self.inside.place.wave, c.self.inside.place.start + c.in-Some.index) c.self.invariant.block (moved c)
+block : (c : goal.In-Some) → IsBlock c.self.inside.stake c.self.inside.start c.self.inside.cells.items (fresh_of c.self.inside.start c.self.inside.cells.items c.take_first.new.self)
+block c = popped c.self.inside.stake c.self.inside.start c.self.inside.cells.items _ _ (c.self.inside.stake.wave, c.self.inside.start + c.in-Some.index) c.self.invariant.block (moved c)
 
 pub unreachable-requires : goal.unreachable-requires
 unreachable-requires c =
     let due = subst (λ (o : Part). IsLeastDue o (Some o.wave)) (sym c.self.view_is) c.requires.due in
-    none_due c.self.inside.place c.self.inside.cells.items c.self.inside.fresh c.self.invariant.block c.self.invariant.marks (sym c.take_first.ensures.first ∙ c.in_default.is) due.0
+    none_due c.self.inside.stake c.self.inside.start c.self.inside.cells.items c.self.inside.fresh c.self.invariant.block c.self.invariant.marks (sym c.take_first.ensures.first ∙ c.in_default.is) due.0
 
 pub invariant_of-self : goal.invariant_of-self
 invariant_of-self c = record {
@@ -31,7 +31,7 @@ invariant_of-self c = record {
   inward = c.self.invariant.inward;
   fits = c.self.invariant.fits;
   within = c.self.invariant.within;
-  marks = c.take_first.ensures.sound c.self.inside.place.wave c.self.inside.cells.items c.self.invariant.marks;
+  marks = c.take_first.ensures.sound c.self.inside.stake.wave c.self.inside.cells.items c.self.invariant.marks;
   block = block c;
   awaited = c.self.invariant.awaited;
   index = c.self.invariant.index;
@@ -39,16 +39,16 @@ invariant_of-self c = record {
 
 pub returns-clause-first : goal.returns-clause-first
 returns-clause-first c =
-    let fresh = fresh_of c.self.inside.place.start c.self.inside.cells.items c.self.inside.fresh in
-    let rest = fresh_of c.self.inside.place.start c.self.inside.cells.items c.take_first.new.self in
-    let rank = c.self.inside.place.start + c.in-Some.index in
-    let takes : TakesFirst (part_of c.self.inside.place c.self.inside.cells.items fresh) (part_of c.self.inside.place c.self.inside.cells.items rest) rank = record {
+    let fresh = fresh_of c.self.inside.start c.self.inside.cells.items c.self.inside.fresh in
+    let rest = fresh_of c.self.inside.start c.self.inside.cells.items c.take_first.new.self in
+    let rank = c.self.inside.start + c.in-Some.index in
+    let takes : TakesFirst (part_of c.self.inside.stake c.self.inside.start c.self.inside.cells.items fresh) (part_of c.self.inside.stake c.self.inside.start c.self.inside.cells.items rest) rank = record {
       rest = refl;
       moved = moved c;
-      first = first_least c.self.inside.place c.self.inside.cells.items c.self.inside.fresh c.self.invariant.block c.self.invariant.marks c.in-Some.index (first c);
+      first = first_least c.self.inside.stake c.self.inside.start c.self.inside.cells.items c.self.inside.fresh c.self.invariant.block c.self.invariant.marks c.in-Some.index (first c);
       sound = c.self.invariant.block;
     } in
-    subst (λ (o : Part). TakesFirst o (part_of c.self.inside.place c.self.inside.cells.items rest) rank) c.self.view_is takes
+    subst (λ (o : Part). TakesFirst o (part_of c.self.inside.stake c.self.inside.start c.self.inside.cells.items rest) rank) c.self.view_is takes
 
 pub returns-clause-fresh : goal.returns-clause-fresh
-returns-clause-fresh c = fresh_of_block c.self.inside.place c.self.inside.cells.items _ (block c)
+returns-clause-fresh c = fresh_of_block c.self.inside.stake c.self.inside.start c.self.inside.cells.items _ (block c)

@@ -18,5 +18,5 @@ invariant_of-result c =
 
 pub returns : goal.returns
 returns c =
-    ap (part_of (record { level = c.args.level; gain = c.args.level + 1; wave = 0; start = c.args.start }) c.args.cells.items)
+    ap (part_of (record { level = c.args.level; gain = c.args.level + 1; wave = 0 }) c.args.start c.args.cells.items)
     (none_fresh c.args.start c.args.cells.items c.in_ok-fresh.fresh.words.items (λ k marked. absurd (false≢true (sym (c.in_ok-fresh.ensures.none k) ∙ marked))))

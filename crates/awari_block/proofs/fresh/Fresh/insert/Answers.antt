@@ -21,19 +21,19 @@ returns-clause-sound c =
     let few = sound.marked.few in
     let room = sound.marked.room in
     let was = sound.marked.count in
-    let more = count_more c.args.cells.now old new c.args.place c.requires.place c.requires.new c.mark.ensures in
-    let here : (k : ℕ) → (is_marked old k ≡ true) ⊎ (k ≡ c.args.place) → k < length c.args.cells.now =
-    λ k is. elim is [ inl marked ↦ sound.marked.inside k marked | inr same ↦ subst (λ n. n < length c.args.cells.now) (sym same) c.requires.place ] in
+    let more = count_more c.args.cells.now old new c.args.index c.requires.index c.requires.new c.mark.ensures in
+    let here : (k : ℕ) → (is_marked old k ≡ true) ⊎ (k ≡ c.args.index) → k < length c.args.cells.now =
+    λ k is. elim is [ inl marked ↦ sound.marked.inside k marked | inr same ↦ subst (λ n. n < length c.args.cells.now) (sym same) c.requires.index ] in
     subst (IsFresh c.args.wave c.args.cells.now) (sym c.note.ensures.same)
     (record {
       marked = record {
         few = omega (arith, few, size);
         room = omega (arith, room, size);
         runs = c.note.ensures.size ∙ sound.marked.runs ∙ sym size;
-        inside = λ k marked. here k (marked_was old new c.args.place k c.mark.ensures marked);
+        inside = λ k marked. here k (marked_was old new c.args.index k c.mark.ensures marked);
         count = omega (arith, more, was);
       };
-      noted = noted_more c.args.cells.now (λ k. is_marked old k ≡ true) (λ k. is_marked new k ≡ true) c.args.wave c.args.place (marks_add old new c.args.place c.mark.ensures)
-          c.args.self.now.near.items c.note.new.self.near.items c.args.self.now.first c.note.new.self.first c.args.self.now.next c.note.new.self.next (dist_at c.args.cells.now c.args.place) refl
+      noted = noted_more c.args.cells.now (λ k. is_marked old k ≡ true) (λ k. is_marked new k ≡ true) c.args.wave c.args.index (marks_add old new c.args.index c.mark.ensures)
+          c.args.self.now.near.items c.note.new.self.near.items c.args.self.now.first c.note.new.self.first c.args.self.now.next c.note.new.self.next (dist_at c.args.cells.now c.args.index) refl
           c.note.ensures.near c.note.ensures.far sound.noted;
     })

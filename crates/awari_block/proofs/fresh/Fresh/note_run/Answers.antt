@@ -25,8 +25,8 @@ none_at : (words : List ℕ) (run from to word : ℕ) → run < length words →
 none_at words run from to word inside read within clear =
     none_marked words run from to within (subst (λ n. (j : ℕ) → from ≤ j → j < to → bit_at n j ≡ 0) (word_is words run word inside read) clear)
 
-pub bounds-cells-place : goal.bounds-cells-place
-bounds-cells-place c =
+pub bounds-cells-index : goal.bounds-cells-index
+bounds-cells-index c =
     c.requires.marked.inside (64 * c.args.run + c.in-Some.i)
     (marked_at c.args.self.now.words.items c.args.run c.in-Some.i c.index-word.result.now c.requires.run c.index-word.ensures c.in-Some.ensures.some.1 c.in-Some.ensures.some.2)
 

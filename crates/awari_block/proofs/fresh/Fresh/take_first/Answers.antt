@@ -6,35 +6,35 @@ use Rattle.awari_block.proofs.FreshLists.{count_less}
 use Rattle.awari_block.proofs.Noting.{noted_less, still_was}
 use Rattle.awari_block.proofs.fresh.Fresh.take_first.Goals as goal
 
-module _ (wave : ℕ) (cells : List Cell) (fresh : Fresh) (place : ℕ) (sound : IsFresh wave cells fresh) (first : fresh.first ≡ Some place) where
-  noted : AreNoted cells (λ k. is_marked fresh.words.items k ≡ true) wave fresh.near.items (Some place) fresh.next
+module _ (wave : ℕ) (cells : List Cell) (fresh : Fresh) (index : ℕ) (sound : IsFresh wave cells fresh) (first : fresh.first ≡ Some index) where
+  noted : AreNoted cells (λ k. is_marked fresh.words.items k ≡ true) wave fresh.near.items (Some index) fresh.next
   noted = subst (λ o. AreNoted cells (λ k. is_marked fresh.words.items k ≡ true) wave fresh.near.items o fresh.next) first sound.noted
 
-  marked : is_marked fresh.words.items place ≡ true
-  marked = ((noted.here place).0 noted.is_first.0).0
+  marked : is_marked fresh.words.items index ≡ true
+  marked = ((noted.here index).0 noted.is_first.0).0
 
-  less : (words : List ℕ) → UnmarksOne place fresh.words.items words → length (marked_of cells fresh.words.items) ≡ 1 + length (marked_of cells words)
-  less words one = count_less cells fresh.words.items words place (sound.marked.inside place marked) marked one
+  less : (words : List ℕ) → UnmarksOne index fresh.words.items words → length (marked_of cells fresh.words.items) ≡ 1 + length (marked_of cells words)
+  less words one = count_less cells fresh.words.items words index (sound.marked.inside index marked) marked one
 
 pub overflow_sub-self : goal.overflow_sub-self
 overflow_sub-self c =
     let sound = c.requires.sound in
-    let one = less sound.0 sound.1 c.args.self.now c.in_ok-place.place sound.2 c.in_ok-place.was c.unmark.new.words.items c.unmark.ensures in
+    let one = less sound.0 sound.1 c.args.self.now c.in_ok-index.index sound.2 c.in_ok-index.was c.unmark.new.words.items c.unmark.ensures in
     let was = sound.2.marked.count in
     omega (arith, one, was)
 
 pub returns-clause-sound : goal.returns-clause-sound
 returns-clause-sound c = λ wave cells sound.
-    let one = less wave cells c.args.self.now c.in_ok-place.place sound c.in_ok-place.was c.unmark.new.words.items c.unmark.ensures in
+    let one = less wave cells c.args.self.now c.in_ok-index.index sound c.in_ok-index.was c.unmark.new.words.items c.unmark.ensures in
     let was = sound.marked.count in
     record {
       marked = record {
         few = (let few = sound.marked.few in let size = c.unmark.ensures.size in omega (arith, few, size));
         room = (let room = sound.marked.room in let size = c.unmark.ensures.size in omega (arith, room, size));
         runs = c.unmark-2.ensures.size ∙ sound.marked.runs ∙ sym c.unmark.ensures.size;
-        inside = λ k is. sound.marked.inside k (still_was c.args.self.now.words.items c.unmark.new.words.items c.in_ok-place.place k c.unmark.ensures is);
+        inside = λ k is. sound.marked.inside k (still_was c.args.self.now.words.items c.unmark.new.words.items c.in_ok-index.index k c.unmark.ensures is);
         count = omega (arith, one, was);
       };
-      noted = noted_less cells wave c.in_ok-place.place c.args.self.now.words.items c.unmark.new.words.items c.args.self.now.near.items c.unmark-2.new.words.items c.first_from-self.result c.args.self.now.next
-          (noted wave cells c.args.self.now c.in_ok-place.place sound c.in_ok-place.was) c.unmark.ensures c.unmark-2.ensures (subst (λ (words : List ℕ). IsFirst words c.first_from-self.result) c.as_slice.ensures.value c.first_from-self.ensures);
+      noted = noted_less cells wave c.in_ok-index.index c.args.self.now.words.items c.unmark.new.words.items c.args.self.now.near.items c.unmark-2.new.words.items c.first_from-self.result c.args.self.now.next
+          (noted wave cells c.args.self.now c.in_ok-index.index sound c.in_ok-index.was) c.unmark.ensures c.unmark-2.ensures (subst (λ (words : List ℕ). IsFirst words c.first_from-self.result) c.as_slice.ensures.value c.first_from-self.ensures);
     }

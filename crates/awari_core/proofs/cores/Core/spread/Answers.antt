@@ -77,7 +77,7 @@ does c =
     let old = core_of c.self.inside in
     let high : c.args.owner < length c.self.inside.parts.items = search rules in
     spread_does old c.args.owner c.index_mut-2.result.now c.spread.new.part c.index_mut.result.now c.spread.new.self high (as_many old c.args.owner c.self.invariant high)
-    c.index_mut-2.ensures.value c.index_mut.ensures.value c.spread.ensures.rings c.spread.ensures.place (c.in-Ok-true.ensures.spread (ap Ok c.in-Ok-true.field-0-test))
+    c.index_mut-2.ensures.value c.index_mut.ensures.value c.spread.ensures.rings c.spread.ensures.stake (c.in-Ok-true.ensures.spread (ap Ok c.in-Ok-true.field-0-test))
 
 pub invariant_of-self-2 : goal.invariant_of-self-2
 invariant_of-self-2 c = spread_step (core_of c.self.inside) (with_both (core_of c.self.inside) c.args.owner c.spread.new.part c.spread.new.self) c.args.owner (search rules) (does c) c.self.invariant

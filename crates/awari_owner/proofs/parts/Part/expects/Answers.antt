@@ -1,15 +1,15 @@
 use Rattle.std.proofs.Common.{◌≡◌, IsTrue, ap, subst, ◌∙◌, rules, arith}
-use Rattle.awari_block.specs.Boards.{place_of}
+use Rattle.awari_block.specs.Boards.{stake_of}
 use Rattle.awari_block.specs.Part.{Part, InBlock}
-use Rattle.awari_block.specs.declared.places.Place.{Place}
+use Rattle.awari_block.specs.declared.stakes.Stake.{Stake}
 use Rattle.awari_owner.proofs.parts.Part.expects.Goals as goal
 
 pub returns : goal.returns
 returns c =
-    let at : c.place-place.result ≡ place_of c.args.self.now = c.place-place.ensures.place ∙ ap place_of c.self.view_is in
-    let level : c.place-place.result.level ≡ c.args.self.now.level = ap (λ (p : Place). p.level) at in
-    let gain : c.place-place.result.gain ≡ c.args.self.now.gain = ap (λ (p : Place). p.gain) at in
-    let wave : c.place-place.result.wave ≡ c.args.self.now.wave = ap (λ (p : Place). p.wave) at in
+    let at : c.stake-stake.result ≡ stake_of c.args.self.now = c.stake-stake.ensures.stake ∙ ap stake_of c.self.view_is in
+    let level : c.stake-stake.result.level ≡ c.args.self.now.level = ap (λ (p : Stake). p.level) at in
+    let gain : c.stake-stake.result.gain ≡ c.args.self.now.gain = ap (λ (p : Stake). p.gain) at in
+    let wave : c.stake-stake.result.wave ≡ c.args.self.now.wave = ap (λ (p : Stake). p.wave) at in
     let holds : IsTrue c.holds.result = search rules in (
       λ t. record {
         level = omega (arith, level);

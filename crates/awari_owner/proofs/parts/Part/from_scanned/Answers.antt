@@ -3,7 +3,7 @@ use Rattle.awari_block.specs.Cells.{FitsBy}
 use Rattle.awari_block.specs.Leaving.{AreLeaving, IsBlockOf}
 use Rattle.awari_block.specs.Part.{Part, AreFresh}
 use Rattle.awari_block.specs.declared.cells.Cell.{Cell}
-use Rattle.awari_block.specs.declared.places.Block.{Block}
+use Rattle.awari_block.specs.declared.blocks.Block.{Block}
 use Rattle.awari_owner.specs.Scan.{AreScanned, IsScannedBlock, IsScannedPart}
 use Rattle.awari_owner.specs.declared.scans.ScannedBlock.{ScannedBlock}
 use Rattle.awari_owner.proofs.Scanning.{hears_none, unopened_fits, unopened_fresh, unopened_scanned}

@@ -1,6 +1,5 @@
 use Rattle.std.proofs.Common.{◌≡◌, ◌*◌, ◌-◌, ◌%◌, ◌^◌, ◌==◌, ◌↔◌, ◌∙◌, IsTrue, not, bit_and, get_or, length, refl, ap, subst, rules}
 use Rattle.awari_block.specs.Part.{Part, InBlock, Leaves}
-use Rattle.awari_block.specs.declared.places.Place.{Place}
 use Rattle.awari_owner.proofs.Basics.{below_six}
 use Rattle.awari_owner.proofs.Taking.{leaves_read}
 use Rattle.awari_owner.proofs.parts.Part.leaves.Goals as goal
@@ -12,7 +11,7 @@ returns c =
     let long : length leaving ≡ length part.cells = search rules in
     let bit = (1 * 2 ^ c.args.pit) % 256 in
     let is : bit ≡ 2 ^ c.args.pit = below_six (λ x. (1 * 2 ^ x) % 256 ≡ 2 ^ x) refl refl refl refl refl refl c.args.pit c.requires.own in
-    let at : c.args.target - c.place.result.start ≡ c.args.target - part.start = ap (λ (p : Place). c.args.target - p.start) c.place.ensures.place in
+    let at : c.args.target - c.block-start.result.0 ≡ c.args.target - part.start = ap (λ k. c.args.target - k) c.block-start.ensures.start in
     let read : c.index.result.now ≡ get_or leaving (c.args.target - part.start) c.index.result.now = c.index.ensures ∙ ap (λ k. get_or leaving k c.index.result.now) at in
     subst (λ (o : Part). InBlock o c.args.target → IsTrue (not (bit_and c.index.result.now bit == 0)) ↔ Leaves o c.args.target c.args.pit) c.self.view_is
     (λ held. leaves_read part leaving c.args.target c.args.pit c.index.result.now bit c.self.invariant.leaving long held c.requires.own read is) c.requires.held

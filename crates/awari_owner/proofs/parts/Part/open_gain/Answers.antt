@@ -4,7 +4,7 @@ use Rattle.awari_block.specs.Part.{Part, IsTallied}
 use Rattle.awari_owner.specs.Spread.{HearsOwn}
 use Rattle.awari_owner.proofs.Gains.{opened}
 use Rattle.awari_owner.proofs.Hearing.{hears_still}
-use Rattle.awari_block.proofs.Settling.{leaving_still, same_place}
+use Rattle.awari_block.proofs.Settling.{leaving_still, same_stake}
 use Rattle.awari_owner.proofs.parts.Part.open_gain.Goals as goal
 
 pub invariant_of-self : goal.invariant_of-self
@@ -25,7 +25,7 @@ returns-clause-tallied c = λ value notes.
     let next : c.args.gain + 1 ≡ old.gain = c.requires.next ∙ sym (ap (λ (v : Part). v.gain) c.self.view_is) in
     let settles : Settles (record old { gain = c.args.gain; wave = 0 }) new = c.open_gain.ensures.settles in
     subst (λ (o : Part). IsTallied value o notes → IsTallied value new notes) c.self.view_is
-    (λ tallied. subst (λ (n : Part). IsTallied value n notes) (same_place (record old { gain = c.args.gain; wave = 0 }) new settles.same)
+    (λ tallied. subst (λ (n : Part). IsTallied value n notes) (same_stake (record old { gain = c.args.gain; wave = 0 }) new settles.same)
     (opened value notes old new.cells new.fresh c.args.gain c.requires.positive next settles.size c.open_gain.ensures.cells tallied))
 
 pub returns-clause-own : goal.returns-clause-own

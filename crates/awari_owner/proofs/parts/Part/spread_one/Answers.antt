@@ -1,12 +1,12 @@
 use Rattle.std.proofs.Common.{◌≡◌, ◌+◌, ◌-◌, ◌/◌, ◌<◌, ◌≤◌, ◌∙◌, ℕ, false, Some, length, ap, subst, subst₂, sym, rules, arith}
 use Rattle.awari_rank.specs.Rank.{size_of}
-use Rattle.awari_block.specs.Boards.{TakesFirst, place_of}
+use Rattle.awari_block.specs.Boards.{TakesFirst, stake_of}
 use Rattle.awari_block.specs.Part.{Part, IsLeastDue}
 use Rattle.awari_owner.specs.Spread.{Spreads, PutsAll, IsPartOf, is_held}
 use Rattle.awari_owner.specs.Outboxes.{Outboxes}
-use Rattle.awari_owner.specs.Sound.{SamePlace, SpreadsFirst}
+use Rattle.awari_owner.specs.Sound.{SameStake, SpreadsFirst}
 use Rattle.awari_owner.specs.Queues.{batches_of, room_in}
-use Rattle.awari_block.specs.declared.places.Place.{Place}
+use Rattle.awari_block.specs.declared.stakes.Stake.{Stake}
 use Rattle.awari_owner.proofs.Firsts.{fewer_unspread, spread_first, taken_low, taken_place, taken_settles, IsTold}
 use Rattle.awari_owner.proofs.Giving.{sound_spread}
 use Rattle.awari_owner.proofs.Sending.{batches_length, all_batches}
@@ -16,15 +16,15 @@ use Rattle.awari_owner.proofs.Spreading.{sources_of}
 use Rattle.awari_owner.proofs.parts.Part.spread_one.Goals as goal
 
 -- the length of a block, by the level where the boards stand
-span_is : (old : Part) (place : Place) (boards many owners span : ℕ) → place ≡ place_of old → boards ≡ size_of place.level → many ≡ owners → span ≡ (boards + (many - 1)) / many
+span_is : (old : Part) (stake : Stake) (boards many owners span : ℕ) → stake ≡ stake_of old → boards ≡ size_of stake.level → many ≡ owners → span ≡ (boards + (many - 1)) / many
     → span ≡ (size_of old.level + (owners - 1)) / owners
-span_is old place boards many owners span at size count is =
-    is ∙ ap (λ s. (s + (many - 1)) / many) (size ∙ ap (λ (p : Place). size_of p.level) at) ∙ ap (λ n. (size_of old.level + (n - 1)) / n) count
+span_is old stake boards many owners span at size count is =
+    is ∙ ap (λ s. (s + (many - 1)) / many) (size ∙ ap (λ (p : Stake). size_of p.level) at) ∙ ap (λ n. (size_of old.level + (n - 1)) / n) count
 
 pub returns-in_err-reserve_others-clause-least : goal.returns-in_err-reserve_others-clause-least
 returns-in_err-reserve_others-clause-least c = λ _.
     let due : IsLeastDue c.self.inside.boards (Some c.in-Some.dist) = c.in-Some.ensures.least in
-    let near : c.in-Some.dist ≡ c.self.inside.boards.wave = c.if-dist-place.false ∙ ap (λ (p : Place). p.wave) c.place-place.ensures.place in
+    let near : c.in-Some.dist ≡ c.self.inside.boards.wave = c.if-dist-stake.false ∙ ap (λ (p : Stake). p.wave) c.stake-stake.ensures.stake in
     subst (λ (o : Part). IsLeastDue o (Some o.wave)) c.self.view_is (subst (λ d. IsLeastDue c.self.inside.boards (Some d)) near due)
 
 pub tell_all-requires-clause-gain : goal.tell_all-requires-clause-gain
@@ -39,8 +39,8 @@ tell_all-requires-clause-room c =
     let old : Part = c.self.inside.boards in
     let takes : TakesFirst old c.take_first-rank.new.self c.take_first-rank.result = c.take_first-rank.ensures.first in
     let made : IsPartOf old (outboxes_of c.outboxes.inside.owner c.outboxes.inside.queues.items) = subst₂ (λ (o : Part) (b : Outboxes). IsPartOf o b) (sym c.self.view_is) (sym c.outboxes.view_is) c.requires.part in
-    let many : 0 < size_of old.level = subst (λ (p : Place). 0 < size_of p.level) c.place-place.ensures.place (subst (λ n. 0 < n) c.size.ensures.boards c.size.ensures.some) in
-    let spans = span_is old c.place-place.result c.size.result c.len.result (length c.outboxes.inside.queues.items) c.block_length-span.result c.place-place.ensures.place c.size.ensures.boards (search rules) c.block_length-span.ensures in
+    let many : 0 < size_of old.level = subst (λ (p : Stake). 0 < size_of p.level) c.stake-stake.ensures.stake (subst (λ n. 0 < n) c.size.ensures.boards c.size.ensures.some) in
+    let spans = span_is old c.stake-stake.result c.size.result c.len.result (length c.outboxes.inside.queues.items) c.block_length-span.result c.stake-stake.ensures.stake c.size.ensures.boards (search rules) c.block_length-span.ensures in
     let after : length c.reserve_others.new.queues.items ≡ length c.outboxes.inside.queues.items = search rules in
     let room : (to : ℕ) → to < length c.outboxes.inside.queues.items → (to ≡ c.outboxes.inside.owner → ⊥) → 288 ≤ room_in c.reserve_others.new.queues.items to = λ to h. c.in_ok-reserve_others.ensures.room to (search (rules, h)) in
     λ r below out.
@@ -70,8 +70,8 @@ invariant_of-outboxes-2 c =
     subst (λ (t : Part). PutsAll t c.block_length-span.result c.kind_of-kind.result c.reserve_others.new.queues.items c.tell_all.new.queues.items told.0) takes.rest told.3 in
     let are = sources_of c.board-board.result told.0 (λ p x is move. c.moves_keep_boards.ensures.stones p c.board-board.result x 0 is move) told.1 in
     let stones = c.board-board.ensures.stones ∙ ap (λ (t : Part). t.level) takes.rest in
-    let many : 0 < size_of old.level = subst (λ (p : Place). 0 < size_of p.level) c.place-place.ensures.place (subst (λ n. 0 < n) c.size.ensures.boards c.size.ensures.some) in
-    let spans = span_is old c.place-place.result c.size.result c.len.result (length c.outboxes.inside.queues.items) c.block_length-span.result c.place-place.ensures.place c.size.ensures.boards (search rules) c.block_length-span.ensures in
+    let many : 0 < size_of old.level = subst (λ (p : Stake). 0 < size_of p.level) c.stake-stake.ensures.stake (subst (λ n. 0 < n) c.size.ensures.boards c.size.ensures.some) in
+    let spans = span_is old c.stake-stake.result c.size.result c.len.result (length c.outboxes.inside.queues.items) c.block_length-span.result c.stake-stake.ensures.stake c.size.ensures.boards (search rules) c.block_length-span.ensures in
     let after : length c.tell_all.new.queues.items ≡ length c.outboxes.inside.queues.items = search rules in
     let many' : length (batches_of c.tell_all.new.queues.items) ≡ length (batches_of c.outboxes.inside.queues.items) =
     batches_length c.tell_all.new.queues.items ∙ after ∙ sym (batches_length c.outboxes.inside.queues.items) in
@@ -93,17 +93,17 @@ returns-clause-spread c = λ _.
     let told = c.tell_all.ensures.told in
     let puts : PutsAll old c.block_length-span.result c.kind_of-kind.result c.reserve_others.new.queues.items c.tell_all.new.queues.items told.0 =
     subst (λ (t : Part). PutsAll t c.block_length-span.result c.kind_of-kind.result c.reserve_others.new.queues.items c.tell_all.new.queues.items told.0) takes.rest told.3 in
-    let level = ap (λ (p : Place). p.level) c.place-place.ensures.place in
-    let wave = ap (λ (p : Place). p.wave) c.place-place.ensures.place in
+    let level = ap (λ (p : Stake). p.level) c.stake-stake.ensures.stake in
+    let wave = ap (λ (p : Stake). p.wave) c.stake-stake.ensures.stake in
     let both : Spreads old c.tell_all.new.boards c.board-board.result told.0 × IsTold old c.board-board.result told.0 c.kind_of-kind.result =
     spread_first old c.take_first-rank.new.self c.tell_all.new.boards c.take_first-rank.result takes c.tell_all.ensures.settles c.cell.result c.board-board.result told.0 c.kind_of-kind.result
     c.ranks_tell_boards_apart.ensures
     (λ p x r is move. c.moves_keep_boards.ensures.board p r x 0 is move)
     (λ p x r is move. c.moves_keep_boards.ensures.stones p r x 0 is move)
-    (let far = c.if-dist.false in let at = c.if-dist-place.false in search (rules, wave)) c.self.invariant.opened c.board-board.ensures.board (c.board-board.ensures.stones ∙ ap (λ (t : Part). t.level) takes.rest) c.board-board.ensures.rank
+    (let far = c.if-dist.false in let at = c.if-dist-stake.false in search (rules, wave)) c.self.invariant.opened c.board-board.ensures.board (c.board-board.ensures.stones ∙ ap (λ (t : Part). t.level) takes.rest) c.board-board.ensures.rank
     c.cell.ensures.stored c.kind_of-kind.ensures told.1 told.2 in
-    let many : 0 < size_of old.level = subst (λ (p : Place). 0 < size_of p.level) c.place-place.ensures.place (subst (λ n. 0 < n) c.size.ensures.boards c.size.ensures.some) in
-    let spans = span_is old c.place-place.result c.size.result c.len.result (length c.outboxes.inside.queues.items) c.block_length-span.result c.place-place.ensures.place c.size.ensures.boards (search rules) c.block_length-span.ensures in
+    let many : 0 < size_of old.level = subst (λ (p : Stake). 0 < size_of p.level) c.stake-stake.ensures.stake (subst (λ n. 0 < n) c.size.ensures.boards c.size.ensures.some) in
+    let spans = span_is old c.stake-stake.result c.size.result c.len.result (length c.outboxes.inside.queues.items) c.block_length-span.result c.stake-stake.ensures.stake c.size.ensures.boards (search rules) c.block_length-span.ensures in
     let after : length c.tell_all.new.queues.items ≡ length c.outboxes.inside.queues.items = search rules in
     let sends = sends_by old c.board-board.result told.0 c.kind_of-kind.result c.block_length-span.result c.outboxes.inside.owner c.outboxes.inside.queues.items c.reserve_others.new.queues.items c.tell_all.new.queues.items
     c.self.invariant.opened both.1 made many spans after c.in_ok-reserve_others.ensures.same puts in
@@ -121,7 +121,7 @@ returns-clause-spread c = λ _.
     } in
     subst₂ (λ (o : Part) (b : Outboxes). SpreadsFirst o c.tell_all.new.boards b (outboxes_of c.outboxes.inside.owner c.tell_all.new.queues.items)) c.self.view_is c.outboxes.view_is does
 
-pub returns-clause-place : goal.returns-clause-place
-returns-clause-place c =
-    subst (λ (o : Part). SamePlace o c.tell_all.new.boards) c.self.view_is
+pub returns-clause-stake : goal.returns-clause-stake
+returns-clause-stake c =
+    subst (λ (o : Part). SameStake o c.tell_all.new.boards) c.self.view_is
     (taken_place c.self.inside.boards c.take_first-rank.new.self c.tell_all.new.boards c.take_first-rank.result c.take_first-rank.ensures.first c.tell_all.ensures.settles)

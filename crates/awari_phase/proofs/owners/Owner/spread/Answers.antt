@@ -8,7 +8,7 @@ use Rattle.awari_phase.proofs.Keeping.{spread_keeps}
 use Rattle.awari_phase.proofs.owners.Owner.spread.Goals as goal
 
 pub returns-clause-kept : goal.returns-clause-kept
-returns-clause-kept c = spread_keeps _ _ _ _ _ c.args.self.now.queues c.args.self.now.numbered c.spread_one.ensures.place c.in_ok-done.done c.spread_one.result c.in_ok-done.was c.spread_one.ensures.spread c.spread_one.ensures.none
+returns-clause-kept c = spread_keeps _ _ _ _ _ c.args.self.now.queues c.args.self.now.numbered c.spread_one.ensures.stake c.in_ok-done.done c.spread_one.result c.in_ok-done.was c.spread_one.ensures.spread c.spread_one.ensures.none
 
 -- what a fault of a spread is
 due : (part : Part) (queues : ℕ) (fault : OwnerFault)

@@ -25,8 +25,8 @@ invariant_of-result-2 c =
       inward = before.inward;
       some = before.some;
       numbers = before.numbers;
-      grid = subst (IsGrid (record a.front.place { wave = c.args.dist }) (2 ^ a.front.log)) (sym items) (waved_grid a.front.place (2 ^ a.front.log) c.args.dist a.segments.items new before.grid opened);
-      whole = subst (AreWhole a.front.place.level) (sym items) (whole_still a.front.place.level a.segments.items new (waved_same c.args.dist a.segments.items new opened) before.whole);
+      grid = subst (IsGrid (record a.front.stake { wave = c.args.dist }) (2 ^ a.front.log)) (sym items) (waved_grid a.front.stake (2 ^ a.front.log) c.args.dist a.segments.items new before.grid opened);
+      whole = subst (AreWhole a.front.stake.level) (sym items) (whole_still a.front.stake.level a.segments.items new (waved_same c.args.dist a.segments.items new opened) before.whole);
       room = record { index = before.room.index; some = before.room.some };
     }
 
@@ -37,5 +37,5 @@ returns-clause-heard c value heard =
     let opened : Each (OpensWave c.args.dist) a.segments.items new = subst (λ l. Each (OpensWave c.args.dist) l new) c.as_mut_slice.ensures.value c.open_waves.ensures.opened in
     let items : (with_items a.segments new).items ≡ new = kept_items (OpensWave c.args.dist) a.segments new opened in
     let test = c.if-dist-self.false in
-    let can = can_wave a.front.place (2 ^ a.front.log) a.segments.items c.self.invariant.grid c.args.dist test (subst (λ (v : AnalysisView). AreFrom c.args.dist v.parts) (sym c.self.view_is) c.requires.far) in
+    let can = can_wave a.front.stake (2 ^ a.front.log) a.segments.items c.self.invariant.grid c.args.dist test (subst (λ (v : AnalysisView). AreFrom c.args.dist v.parts) (sym c.self.view_is) c.requires.far) in
     subst (AreHeard value) (sym items) (waved_heard value c.args.dist a.segments.items new can opened (subst (λ (v : AnalysisView). AreHeard value v.parts) (sym c.self.view_is) heard))

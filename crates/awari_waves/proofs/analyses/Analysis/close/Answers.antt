@@ -8,13 +8,13 @@ use Rattle.awari_waves.proofs.analyses.Analysis.close.Goals as goal
 pub returns-clause-closed : goal.returns-clause-closed
 returns-clause-closed c =
     let a = c.self.inside in
-    let last : a.front.place.gain ≡ 1 = ap (λ (v : AnalysisView). v.gain) c.self.view_is ∙ c.requires.last in
+    let last : a.front.stake.gain ≡ 1 = ap (λ (v : AnalysisView). v.gain) c.self.view_is ∙ c.requires.last in
     let idle = subst (λ (v : AnalysisView). AreIdle v.parts) (sym c.self.view_is) c.requires.idle in
-    subst (All IsClosed) (sym c.in_ok-parts.ensures) (all_closed a.front.place (2 ^ a.front.log) a.segments.items c.self.invariant.grid last idle)
+    subst (All IsClosed) (sym c.in_ok-parts.ensures) (all_closed a.front.stake (2 ^ a.front.log) a.segments.items c.self.invariant.grid last idle)
 
 pub closed_all-requires : goal.closed_all-requires
 closed_all-requires c =
     let a = c.self.inside in
-    let last : a.front.place.gain ≡ 1 = ap (λ (v : AnalysisView). v.gain) c.self.view_is ∙ c.requires.last in
+    let last : a.front.stake.gain ≡ 1 = ap (λ (v : AnalysisView). v.gain) c.self.view_is ∙ c.requires.last in
     let idle = subst (λ (v : AnalysisView). AreIdle v.parts) (sym c.self.view_is) c.requires.idle in
-    all_closed a.front.place (2 ^ a.front.log) a.segments.items c.self.invariant.grid last idle
+    all_closed a.front.stake (2 ^ a.front.log) a.segments.items c.self.invariant.grid last idle

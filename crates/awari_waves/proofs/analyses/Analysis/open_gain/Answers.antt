@@ -13,9 +13,9 @@ invariant_of-result g c =
     let a = c.self.inside in
     let before = c.self.invariant in
     let new = c.open_gains.new.segments in
-    let more : 2 ≤ a.front.place.gain = search rules in
-    let opened : Each (OpensGain (a.front.place.gain - 1)) a.segments.items new = subst (λ l. Each (OpensGain (a.front.place.gain - 1)) l new) c.as_mut_slice.ensures.value c.in_ok-open_gains.ensures.opened in
-    let items : (with_items a.segments new).items ≡ new = kept_items (OpensGain (a.front.place.gain - 1)) a.segments new opened in
+    let more : 2 ≤ a.front.stake.gain = search rules in
+    let opened : Each (OpensGain (a.front.stake.gain - 1)) a.segments.items new = subst (λ l. Each (OpensGain (a.front.stake.gain - 1)) l new) c.as_mut_slice.ensures.value c.in_ok-open_gains.ensures.opened in
+    let items : (with_items a.segments new).items ≡ new = kept_items (OpensGain (a.front.stake.gain - 1)) a.segments new opened in
     record {
       low = before.low;
       few = before.few;
@@ -23,8 +23,8 @@ invariant_of-result g c =
       inward = let inward = before.inward in omega (arith, inward);
       some = before.some;
       numbers = before.numbers;
-      grid = subst (IsGrid (record a.front.place { gain = a.front.place.gain - 1; wave = 0 }) (2 ^ a.front.log)) (sym items) (opened_grid a.front.place (2 ^ a.front.log) (a.front.place.gain - 1) a.segments.items new before.grid opened);
-      whole = subst (AreWhole a.front.place.level) (sym items) (whole_still a.front.place.level a.segments.items new (opened_same (a.front.place.gain - 1) a.segments.items new opened) before.whole);
+      grid = subst (IsGrid (record a.front.stake { gain = a.front.stake.gain - 1; wave = 0 }) (2 ^ a.front.log)) (sym items) (opened_grid a.front.stake (2 ^ a.front.log) (a.front.stake.gain - 1) a.segments.items new before.grid opened);
+      whole = subst (AreWhole a.front.stake.level) (sym items) (whole_still a.front.stake.level a.segments.items new (opened_same (a.front.stake.gain - 1) a.segments.items new opened) before.whole);
       room = record { index = before.room.index; some = before.room.some };
     }
 
@@ -32,8 +32,8 @@ pub returns-clause-heard : goal.returns-clause-heard
 returns-clause-heard g c value heard =
     let a = c.self.inside in
     let new = c.open_gains.new.segments in
-    let more : 2 ≤ a.front.place.gain = search rules in
-    let opened : Each (OpensGain (a.front.place.gain - 1)) a.segments.items new = subst (λ l. Each (OpensGain (a.front.place.gain - 1)) l new) c.as_mut_slice.ensures.value c.in_ok-open_gains.ensures.opened in
-    let items : (with_items a.segments new).items ≡ new = kept_items (OpensGain (a.front.place.gain - 1)) a.segments new opened in
-    let can = can_open a.front.place (2 ^ a.front.log) a.segments.items c.self.invariant.grid (a.front.place.gain - 1) (omega (arith, more)) (omega (arith, more)) (subst (λ (v : AnalysisView). AreIdle v.parts) (sym c.self.view_is) c.requires.idle) in
-    subst (AreHeard value) (sym items) (opened_heard value (a.front.place.gain - 1) a.segments.items new can opened (subst (λ (v : AnalysisView). AreHeard value v.parts) (sym c.self.view_is) heard))
+    let more : 2 ≤ a.front.stake.gain = search rules in
+    let opened : Each (OpensGain (a.front.stake.gain - 1)) a.segments.items new = subst (λ l. Each (OpensGain (a.front.stake.gain - 1)) l new) c.as_mut_slice.ensures.value c.in_ok-open_gains.ensures.opened in
+    let items : (with_items a.segments new).items ≡ new = kept_items (OpensGain (a.front.stake.gain - 1)) a.segments new opened in
+    let can = can_open a.front.stake (2 ^ a.front.log) a.segments.items c.self.invariant.grid (a.front.stake.gain - 1) (omega (arith, more)) (omega (arith, more)) (subst (λ (v : AnalysisView). AreIdle v.parts) (sym c.self.view_is) c.requires.idle) in
+    subst (AreHeard value) (sym items) (opened_heard value (a.front.stake.gain - 1) a.segments.items new can opened (subst (λ (v : AnalysisView). AreHeard value v.parts) (sym c.self.view_is) heard))

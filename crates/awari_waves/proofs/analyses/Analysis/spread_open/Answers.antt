@@ -23,8 +23,8 @@ invariant_of-result g c =
       inward = before.inward;
       some = before.some;
       numbers = before.numbers;
-      grid = subst (IsGrid a.front.place (2 ^ a.front.log)) (sym items) c.in_ok-spread_wave.ensures.front.grid;
-      whole = subst (AreWhole a.front.place.level) (sym items) (whole_still a.front.place.level a.segments.items new same before.whole);
+      grid = subst (IsGrid a.front.stake (2 ^ a.front.log)) (sym items) c.in_ok-spread_wave.ensures.front.grid;
+      whole = subst (AreWhole a.front.stake.level) (sym items) (whole_still a.front.stake.level a.segments.items new same before.whole);
       room = c.in_ok-spread_wave.ensures.room;
     }
 
@@ -43,5 +43,5 @@ returns-clause-farther g c =
     let new = c.spread_wave.new.segments in
     let same : Each SameBlock a.segments.items new = subst (λ l. Each SameBlock l new) c.as_mut_slice.ensures.value c.in_ok-spread_wave.ensures.same in
     let items : (with_items a.segments new).items ≡ new = kept_items SameBlock a.segments new same in
-    let at : a.front.place.wave ≡ c.args.self.wave = ap (λ (v : AnalysisView). v.wave) c.self.view_is in
-    subst (AreFrom (c.args.self.wave + 1)) (sym items) (from_passed a.front.place (2 ^ a.front.log) new c.in_ok-spread_wave.ensures.front.grid c.args.self.wave at c.in_ok-spread_wave.ensures.passed)
+    let at : a.front.stake.wave ≡ c.args.self.wave = ap (λ (v : AnalysisView). v.wave) c.self.view_is in
+    subst (AreFrom (c.args.self.wave + 1)) (sym items) (from_passed a.front.stake (2 ^ a.front.log) new c.in_ok-spread_wave.ensures.front.grid c.args.self.wave at c.in_ok-spread_wave.ensures.passed)

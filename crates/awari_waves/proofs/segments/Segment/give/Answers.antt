@@ -14,26 +14,26 @@ invariant_of-self-in-Won c = won_given_segment c.self.inside c.self.invariant c.
 
 pub returns-in_ok-give-in-Lost-clause-given : goal.returns-in_ok-give-in-Lost-clause-given
 returns-in_ok-give-in-Lost-clause-given c = (
-  list_at c.self.inside.lost c.self.inside.place.wave,
+  list_at c.self.inside.lost c.self.inside.stake.wave,
   c.in_ok-give-in-Lost.ensures.given,
   gives_as c.args.kind Lost c.args.self.now _ _ _ c.in-Lost.is c.self.view_is (lost_gives c.self.inside c.self.invariant c.give.new.self c.in_ok-give-in-Lost.ensures.left),
 )
 
 pub returns-in_ok-give-in-Won-clause-given : goal.returns-in_ok-give-in-Won-clause-given
 returns-in_ok-give-in-Won-clause-given c = (
-  list_at c.self.inside.won c.self.inside.place.wave,
+  list_at c.self.inside.won c.self.inside.stake.wave,
   c.in_ok-give-in-Won.ensures.given,
   gives_as c.args.kind Won c.args.self.now _ _ _ c.in-Won.is c.self.view_is (won_gives c.self.inside c.self.invariant c.give-in-Won.new.self c.in_ok-give-in-Won.ensures.left),
 )
 
 pub returns-in_err-give-in-Lost-clause-fresh : goal.returns-in_err-give-in-Lost-clause-fresh
-returns-in_err-give-in-Lost-clause-fresh c = subst AreFresh c.self.view_is (fresh_of_block c.self.inside.place c.self.inside.cells.items _ c.self.invariant.block)
+returns-in_err-give-in-Lost-clause-fresh c = subst AreFresh c.self.view_is (fresh_of_block c.self.inside.stake c.self.inside.start c.self.inside.cells.items _ c.self.invariant.block)
 
 pub returns-in_err-give-in-Won-clause-fresh : goal.returns-in_err-give-in-Won-clause-fresh
-returns-in_err-give-in-Won-clause-fresh c = subst AreFresh c.self.view_is (fresh_of_block c.self.inside.place c.self.inside.cells.items _ c.self.invariant.block)
+returns-in_err-give-in-Won-clause-fresh c = subst AreFresh c.self.view_is (fresh_of_block c.self.inside.stake c.self.inside.start c.self.inside.cells.items _ c.self.invariant.block)
 
 pub returns-in_ok-give-in-Lost-clause-fresh : goal.returns-in_ok-give-in-Lost-clause-fresh
-returns-in_ok-give-in-Lost-clause-fresh c = subst AreFresh c.self.view_is (fresh_of_block c.self.inside.place c.self.inside.cells.items _ c.self.invariant.block)
+returns-in_ok-give-in-Lost-clause-fresh c = subst AreFresh c.self.view_is (fresh_of_block c.self.inside.stake c.self.inside.start c.self.inside.cells.items _ c.self.invariant.block)
 
 pub returns-in_ok-give-in-Won-clause-fresh : goal.returns-in_ok-give-in-Won-clause-fresh
-returns-in_ok-give-in-Won-clause-fresh c = subst AreFresh c.self.view_is (fresh_of_block c.self.inside.place c.self.inside.cells.items _ c.self.invariant.block)
+returns-in_ok-give-in-Won-clause-fresh c = subst AreFresh c.self.view_is (fresh_of_block c.self.inside.stake c.self.inside.start c.self.inside.cells.items _ c.self.invariant.block)

@@ -1,6 +1,6 @@
 use Rattle.std.proofs.lemmas.List.{drop_all}
 use Rattle.std.proofs.Common.{List, ℕ, sym, subst, arith}
-use Rattle.awari_block.specs.Boards.{place_of}
+use Rattle.awari_block.specs.Boards.{stake_of}
 use Rattle.awari_waves.specs.Waves.{Tells}
 use Rattle.awari_block.proofs.Settling.{settles_none, settles_both}
 use Rattle.awari_waves.proofs.Ahead.{batch_codes, batch_tells}
@@ -31,4 +31,4 @@ loop-start-preserved c =
 pub returns-clause-tells : goal.returns-clause-tells
 returns-clause-tells c =
     c.loop-start.invariant.tells c.loop-start.self
-    (subst (λ (cs : List ℕ). Tells (place_of c.args.self.now) c.args.kind cs c.loop-start.self c.loop-start.self) (sym (drop_all c.loop-start.start c.args.codes.now c.loop-start-test.false)) (λ value notes are tallied. tallied))
+    (subst (λ (cs : List ℕ). Tells (stake_of c.args.self.now) c.args.kind cs c.loop-start.self c.loop-start.self) (sym (drop_all c.loop-start.start c.args.codes.now c.loop-start-test.false)) (λ value notes are tallied. tallied))

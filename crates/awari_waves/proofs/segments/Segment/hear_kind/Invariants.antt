@@ -1,5 +1,5 @@
 use Rattle.std.proofs.Common.{drop}
-use Rattle.awari_block.specs.Boards.{Settles, place_of}
+use Rattle.awari_block.specs.Boards.{Settles, stake_of}
 use Rattle.awari_block.specs.Part.{Part}
 use Rattle.awari_waves.specs.Rows.{notes_at}
 use Rattle.awari_waves.specs.Waves.{StaysPassed, Tells}
@@ -9,5 +9,5 @@ abbrev pub invariant-loop-row : goal.invariant-loop-row
 invariant-loop-row l = record {
   settles : Settles l.initial.self l.self;
   passed : StaysPassed l.initial.self l.self;
-  tells : (new : Part) → Tells (place_of l.initial.self) l.kind (notes_at l.kind (drop l.row-index l.rows) l.number) l.self new → Tells (place_of l.initial.self) l.kind (notes_at l.kind l.rows l.number) l.initial.self new;
+  tells : (new : Part) → Tells (stake_of l.initial.self) l.kind (notes_at l.kind (drop l.row-index l.rows) l.number) l.self new → Tells (stake_of l.initial.self) l.kind (notes_at l.kind l.rows l.number) l.initial.self new;
 }

@@ -1,4 +1,4 @@
-//! Where a part stands, and where its block begins.
+//! Blocks of a level, one for each owner.
 
 ghost use Rattle.std.specs.Prelude.{◌≡◌, ◌≤◌, ◌<◌, ◌+◌, ◌-◌, ◌/◌, ◌↔◌, IsTrue, sum};
 ghost use Rattle.awari_board.specs.Rules.{IsBoard};
@@ -7,20 +7,6 @@ ghost use Rattle.awari_block.specs.Leaving.{IsAmong, IsBlockOf, first_rank};
 
 use awari_packed::PackedBoard;
 use awari_rank::size;
-
-/// Where the analysis of a block stands: the level, the open gain and wave, and the block's first
-/// rank.
-#[derive(Clone, Copy)]
-pub struct Place {
-    /// The stones on the boards of the level.
-    pub level: u8,
-    /// The open gain in stones, one more than the level if none was opened yet.
-    pub gain: u8,
-    /// The open wave in plies.
-    pub wave: u32,
-    /// The rank of the first board of the block.
-    pub start: u32,
-}
 
 /// A block: the boards of a level from one rank up to, not including, another.
 #[derive(Clone, Copy)]

@@ -1,6 +1,6 @@
 use Rattle.std.proofs.Common.{arith, rules}
 use Rattle.awari_rank.proofs.Ranking.{rank_of-below}
-use Rattle.awari_block.proofs.places.Block.holds.Goals as goal
+use Rattle.awari_block.proofs.blocks.Block.holds.Goals as goal
 
 pub returns-then-self : goal.returns-then-self
 returns-then-self c =
