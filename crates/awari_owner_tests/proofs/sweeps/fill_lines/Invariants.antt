@@ -1,7 +1,0 @@
-use Rattle.awari_lines.specs.Lines.{SameLines}
-use Rattle.awari_phase.specs.declared.owners.Owner.{Owner}
-use Rattle.awari_phase.proofs.Each.{DoneTo}
-use Rattle.awari_owner_tests.proofs.sweeps.fill_lines.Given as goal
-
-abbrev pub invariant-loop-i : goal.invariant-loop-i
-invariant-loop-i g l = DoneTo (λ (a b : Owner). SameLines a.ends b.ends) l.fn.owners l.owners l.i
