@@ -2,7 +2,7 @@
 use Rattle.std.proofs.Common.{◌≡◌, ◌≢◌, ℕ, ◌+◌, ◌<◌, ◌≤◌, ◌⊎◌, inl, inr, min, true, List, Option, Some, None, sym, ap, subst, subst₂, ◌∙◌, arith}
 use Rattle.std.proofs.lemmas.Bool.{cases_eq, cases_lt, false≢true}
 use Rattle.awari_block.specs.declared.cells.Cell.{Cell}
-use Rattle.awari_block.specs.Fresh.{dist_at, is_marked, lesser, AreNoted, IsBelow, IsFirst, IsNext, MarksOne, UnmarksOne}
+use Rattle.awari_block.specs.Fresh.{dist_at, is_marked, lesser, AreNoted, IsMarkedBelow, IsFirst, IsNext, MarksOne, UnmarksOne}
 
 -- one more index that is marked
 pub marked_was : (old new : List ℕ) (index k : ℕ) → MarksOne index old new → is_marked new k ≡ true → (is_marked old k ≡ true) ⊎ (k ≡ index)
@@ -36,7 +36,7 @@ marks_add old new index marks = record { here = marks.here; old = λ k. marked_i
 
 -- the next index that is marked
 pub below_add : (words : List ℕ) (n index : ℕ) → n ≤ index → is_marked words index ≡ true → ((k : ℕ) → n ≤ k → k < index → is_marked words k ≡ true → ⊥)
-    → Adds (IsBelow words n) (IsBelow words (index + 1)) index
+    → Adds (IsMarkedBelow words n) (IsMarkedBelow words (index + 1)) index
 below_add words n index low marked none = record {
   here = (marked, omega arith);
   old = λ k both. (both.0, (let less = both.1 in omega (arith, less, low)));

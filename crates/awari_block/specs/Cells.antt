@@ -1,7 +1,7 @@
 -- What a stored cell means.
 use Rattle.std.specs.Prelude.{◌≡◌, ℕ, ◌-◌, ◌^◌, ◌<◌, ◌≤◌, ◌⊎◌, Bool, true, false, ℤ, pos, neg_ℤ, ◌≤ℤ◌}
 use Rattle.awari_block.specs.Tally as tally
-use Rattle.awari_block.specs.Tally.{Status, Ended, Open, Settled, Nothing, ByCapture, ByNotes, gain_of}
+use Rattle.awari_block.specs.Tally.{Status, Ended, Open, Settled, Nothing, ByCapture, ByNotes, best_gain}
 use Rattle.awari_block.specs.Steps.{best_after, pits_after}
 use Rattle.awari_block.specs.declared.cells.Cell.{Cell}
 use Rattle.awari_block.specs.declared.cells.Mark.{Mark}
@@ -31,7 +31,7 @@ is_settled mark.Ended = false
 -- a note says that the move from pit x gains v
 abbrev pub knowing : Status → ℤ → ℕ → Status
 knowing (Ended gain) v x = Ended gain
-knowing (Open best pits far) v x = Open (best_after best v) (pits_after (gain_of best) pits v x) far
+knowing (Open best pits far) v x = Open (best_after best v) (pits_after (best_gain best) pits v x) far
 knowing (Settled value dist pits) v x = Settled value dist pits
 
 -- the board is not ended, and not settled

@@ -49,8 +49,8 @@ pub record AreNoted (cells : List Cell) (P : ℕ → Type 0) (wave : ℕ) (near 
   pub is_next : IsNext cells P wave next
 
 -- the board at this index is fresh, and the index is below n
-abbrev pub IsBelow : List ℕ → ℕ → ℕ → Type 0
-IsBelow words n k = (is_marked words k ≡ true) × (k < n)
+abbrev pub IsMarkedBelow : List ℕ → ℕ → ℕ → Type 0
+IsMarkedBelow words n k = (is_marked words k ≡ true) × (k < n)
 
 -- Marks are of boards of the block, and it is known how many there are.
 pub record AreMarked (cells : List Cell) (fresh : Fresh) : Type 0 where

@@ -35,7 +35,7 @@ abbrev pub Knows : (List ℕ → ℤ) → List ℕ → List Note → ℤ → Typ
 Knows value p notes v = Captures value p v ⊎ ((m : Note) × Has notes m × (v ≡ gain_by m.kind m.gain))
 
 -- Nothing known reaches t, and something may exceed -t: a quiet move with no Won note, or what is known.
-pub record IsOpen (value : List ℕ → ℤ) (p : List ℕ) (notes : List Note) (t : ℕ) : Type 0 where
+pub record IsOpenAt (value : List ℕ → ℤ) (p : List ℕ) (notes : List Note) (t : ℕ) : Type 0 where
   pub below : (v : ℤ) → Knows value p notes v → v <ℤ pos t
   pub above : (0 < left_of p notes) ⊎ ((v : ℤ) × Knows value p notes v × (neg_ℤ (pos t) <ℤ v))
 
@@ -65,6 +65,6 @@ pub record IsCount (value : List ℕ → ℤ) (p : List ℕ) (notes : List Note)
 -- what the status is, once the notes came in, at the open gain t
 abbrev pub IsPlain : (List ℕ → ℤ) → List ℕ → List Note → ℕ → Status → Type 0
 IsPlain value p notes t (Ended gain) = IsEnd p gain × (sum p < t)
-IsPlain value p notes t (Open left best far) = (IsEnded p → ⊥) × IsCount value p notes left best far × IsOpen value p notes t
+IsPlain value p notes t (Open left best far) = (IsEnded p → ⊥) × IsCount value p notes left best far × IsOpenAt value p notes t
 IsPlain value p notes t (Settled v dist) =
     (IsEnd p v × (t ≤ sum p) × (dist ≡ 0)) ⊎ ((IsEnded p → ⊥) × IsSettledAs value p notes t v dist)

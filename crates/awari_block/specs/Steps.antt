@@ -2,7 +2,7 @@
 use Rattle.std.specs.Prelude.{ℕ, ◌+◌, ◌^◌, ◌==◌, ◌&&◌, Bool, false, if◌then◌else◌, max, ℤ, pos, neg_ℤ, int_lt, Option, Some, None, bit_or}
 use Rattle.std.specs.Ordering.{int_eq}
 use Rattle.awari_block.specs.Pits.{with_pit, without_pit}
-use Rattle.awari_block.specs.Tally.{Best, Nothing, ByCapture, ByNotes, Cell, Status, Ended, Open, Settled, gain_of, capture_of}
+use Rattle.awari_block.specs.Tally.{Best, Nothing, ByCapture, ByNotes, Cell, Status, Ended, Open, Settled, best_gain, capture_of}
 use Rattle.awari_block.specs.declared.notes.Kind.{Kind}
 use Rattle.awari_block.specs.declared.notes.Kind.TheVariants.{Won, Lost}
 
@@ -36,7 +36,7 @@ abbrev pub after_note : ℕ → Status → Kind → ℕ → ℕ → ℕ → Stat
 after_note left (Ended gain) kind x t dist = Ended gain
 after_note left (Open best pits far) Lost x t dist = Settled (pos t) (dist + 1) (2 ^ x)
 after_note left (Open best pits far) Won x t dist =
-    unless_lost left (gain_of (best_after best (neg_ℤ (pos t)))) (best_after best (neg_ℤ (pos t))) (pits_after (gain_of best) pits (neg_ℤ (pos t)) x) (max dist far) t
+    unless_lost left (best_gain (best_after best (neg_ℤ (pos t)))) (best_after best (neg_ℤ (pos t))) (pits_after (best_gain best) pits (neg_ℤ (pos t)) x) (max dist far) t
 after_note left (Settled value d pits) Won x t dist = Settled value d pits
 after_note left (Settled value d pits) Lost x t dist = Settled value d (if int_eq value (pos t) && (d == dist + 1) then with_pit pits x else pits)
 

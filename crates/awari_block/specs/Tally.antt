@@ -15,10 +15,10 @@ pub data Best : Type 0 where
   ByNotes : ℤ → Best
 
 -- what it is, and what it is where a capture gains it
-abbrev pub gain_of : Best → Option ℤ
-gain_of Nothing = None
-gain_of (ByCapture best) = Some best
-gain_of (ByNotes best) = Some best
+abbrev pub best_gain : Best → Option ℤ
+best_gain Nothing = None
+best_gain (ByCapture best) = Some best
+best_gain (ByNotes best) = Some best
 
 abbrev pub capture_of : Best → Option ℤ
 capture_of Nothing = None
@@ -70,7 +70,7 @@ IsOfCapture value p (ByNotes best) = Captures value p best → ⊥
 -- a board that is not settled: as `IsPlain` says of it, for its best capture
 pub record IsOpenStatus (value : List ℕ → ℤ) (p : List ℕ) (notes : List Note) (t : ℕ) (best : Best) (plans far : ℕ) : Type 0 where
   pub plain : (capture : Option ℤ) × IsPlain value p notes t (plain.Open (left_of p notes) capture far)
-  pub known : IsBestGain value p notes (gain_of best) plans
+  pub known : IsBestGain value p notes (best_gain best) plans
   pub captures : IsOfCapture value p best
 
 -- a settled board: as `IsPlain` says of it, with the pits that serve

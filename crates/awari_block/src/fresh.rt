@@ -7,7 +7,7 @@
 
 ghost use Rattle.std.specs.Prelude.{◌≡◌, ℕ, ◌+◌, ◌*◌, ◌/◌, ◌^◌, ◌<◌, ◌≤◌, false, true, None, Some, List, length, IfOk, IfSome};
 ghost use Rattle.awari_block.specs.declared.cells.Cell.{Cell as CellView};
-ghost use Rattle.awari_block.specs.Fresh.{AreMarked, AreNoted, IsBelow, IsFirst, IsFresh, MarksOne, UnmarksOne, is_marked, lesser, nearest_of};
+ghost use Rattle.awari_block.specs.Fresh.{AreMarked, AreNoted, IsMarkedBelow, IsFirst, IsFresh, MarksOne, UnmarksOne, is_marked, lesser, nearest_of};
 
 use crate::cells::Cell;
 use crate::words::{next_bit, with_bit, without_bit};
@@ -117,8 +117,8 @@ impl Fresh {
         requires marked { AreMarked cells.now self.old }
         ensures same { self.new ≡ record self.old { near = self.new.near; first = self.new.first; next = self.new.next } }
         ensures size { length self.new.near.items ≡ length self.old.near.items }
-        ensures noted { AreNoted cells.now (IsBelow self.old.words.items (64 * run)) wave self.old.near.items self.old.first self.old.next
-            → AreNoted cells.now (IsBelow self.old.words.items (64 * run + 64)) wave self.new.near.items self.new.first self.new.next }
+        ensures noted { AreNoted cells.now (IsMarkedBelow self.old.words.items (64 * run)) wave self.old.near.items self.old.first self.old.next
+            → AreNoted cells.now (IsMarkedBelow self.old.words.items (64 * run + 64)) wave self.new.near.items self.new.first self.new.next }
     {
         let word = self.words[run];
         let mut from = 0;

@@ -5,5 +5,5 @@ use Rattle.awari_owner.specs.Spread.{HearsOwn}
 use Rattle.awari_block.specs.declared.notes.Note.{Note}
 
 -- The cells tell what some notes say, which are those of the settled boards that were spread.
-abbrev pub IsSound : (List ℕ → ℤ) → Part → Type 0
-IsSound value part = (notes : List Note) × IsTallied value part notes × HearsOwn part notes
+abbrev pub IsSoundPart : (List ℕ → ℤ) → Part → Type 0
+IsSoundPart value part = (notes : List Note) × IsTallied value part notes × HearsOwn part notes

@@ -4,7 +4,7 @@ ghost use Rattle.std.specs.Prelude.{◌≡◌, ◌≤◌, ◌<◌, ◌+◌, ◌�
 ghost use Rattle.awari_block.specs.Part.{IsLeastDue, unspread, IsClosed};
 ghost use Rattle.awari_owner.specs.Scan.{IsWhole};
 ghost use Rattle.awari_build.specs.BuildFault.{IsStopped};
-ghost use Rattle.awari_build.specs.Sound.{IsSound};
+ghost use Rattle.awari_build.specs.Sound.{IsSoundPart};
 ghost use Rattle.awari_play.specs.Least.{IsPlannedLowest};
 ghost use Rattle.awari_table.specs.Images.{table_of};
 ghost use Rattle.awari_table.specs.Shelves.{Consistent, IsShelf};
@@ -71,7 +71,7 @@ fn level_of(alloc: Global, shelf: &Shelf, part: Part) -> Result<Level, BuildFaul
     requires low { length shelf.now ≤ HIGHEST_LEVEL }
     requires whole { IsWhole part × (part.level ≡ length shelf.now) }
     requires closed { IsClosed part }
-    requires sound { IsSound (table_of shelf.now).value part }
+    requires sound { IsSoundPart (table_of shelf.now).value part }
     ensures consistent { IfOk result (λ level. Consistent shelf.now level) }
     ensures meaning { IfOk result (λ level. TellsTruth (shelf.now ++ level ∷ [])) }
     ensures planned { IfOk result (IsPlannedLowest shelf.now) }
@@ -101,7 +101,7 @@ fn settled_part<P: Progress>(
     requires low { length shelf.now ≤ HIGHEST_LEVEL }
     ensures whole { IfOk result (λ part. IsWhole part × (part.level ≡ length shelf.now)) }
     ensures closed { IfOk result IsClosed }
-    ensures sound { IfOk result (IsSound (table_of shelf.now).value) }
+    ensures sound { IfOk result (IsSoundPart (table_of shelf.now).value) }
     ensures refused { IfErr result (λ fault. (fault ≡ BuildFault.Memory) ⊎ IsStopped P.stops fault) }
 {
     expect_wanted(progress)?;
@@ -139,11 +139,11 @@ fn spread_all<P: Progress>(
     requires whole { IsWhole part.old }
     requires alone { (outboxes.old.owner ≡ 0) × (length outboxes.old.queues ≡ 1) }
     requires low { part.old.level ≤ HIGHEST_LEVEL }
-    requires sound { (value : List ℕ → ℤ) × IsSound value part.old }
+    requires sound { (value : List ℕ → ℤ) × IsSoundPart value part.old }
     ensures whole { IsWhole part.new × (part.new.level ≡ part.old.level) × (part.new.gain ≡ part.old.gain) }
     ensures idle { OnOk result (part.new.fresh ≡ []) }
     ensures alone { (outboxes.new.owner ≡ 0) × (length outboxes.new.queues ≡ 1) }
-    ensures sound { (value : List ℕ → ℤ) → IsSound value part.old → IsSound value part.new }
+    ensures sound { (value : List ℕ → ℤ) → IsSoundPart value part.old → IsSoundPart value part.new }
     ensures stopped { IfErr result (IsStopped P.stops) }
 {
     let mut spread = before;
@@ -164,11 +164,11 @@ fn spread_nearest(part: &mut Part, outboxes: &mut Outboxes, dist: u32)
     requires low { part.old.level ≤ HIGHEST_LEVEL }
     requires least { IsLeastDue part.old (Some dist) }
     requires timely { part.old.wave ≤ dist }
-    requires sound { (value : List ℕ → ℤ) × IsSound value part.old }
+    requires sound { (value : List ℕ → ℤ) × IsSoundPart value part.old }
     ensures whole { IsWhole part.new × (part.new.level ≡ part.old.level) × (part.new.gain ≡ part.old.gain) }
     ensures fewer { unspread part.new + 1 ≡ unspread part.old }
     ensures alone { (outboxes.new.owner ≡ 0) × (length outboxes.new.queues ≡ 1) }
-    ensures sound { (value : List ℕ → ℤ) → IsSound value part.old → IsSound value part.new }
+    ensures sound { (value : List ℕ → ℤ) → IsSoundPart value part.old → IsSoundPart value part.new }
 {
     // Ghost: `distances_fit` bounds dist + 1.
     distances_fit();

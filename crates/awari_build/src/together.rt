@@ -9,7 +9,7 @@ ghost use Rattle.awari_table.specs.Images.{table_of};
 ghost use Rattle.awari_table.specs.Shelves.{Consistent, IsShelf};
 ghost use Rattle.awari_table.specs.declared.TheConstants.{HIGHEST_LEVEL};
 ghost use Rattle.awari_theory.specs.Truth.{TellsTruth};
-ghost use Rattle.awari_waves.specs.Each.{AreFrom, AreIdle, HasDue};
+ghost use Rattle.awari_waves.specs.Each.{AreFrom, NoneAreFresh, HasDue};
 
 use crate::faults::{BuildFault, expect_wanted};
 use awari_block::ClosedPart;
@@ -86,7 +86,7 @@ fn level_of<R: Threads + Sync>(
     requires shelf { IsShelf shelf.now }
     requires low { length shelf.now ≤ HIGHEST_LEVEL }
     requires level { analysis.level ≡ length shelf.now }
-    requires closed { (analysis.gain ≡ 1) × AreIdle analysis.parts }
+    requires closed { (analysis.gain ≡ 1) × NoneAreFresh analysis.parts }
     requires heard { AreHeard (table_of shelf.now).value analysis.parts }
     ensures consistent { IfOk result (λ level. Consistent shelf.now level) }
     ensures meaning { IfOk result (λ level. TellsTruth (shelf.now ++ level ∷ [])) }
@@ -127,7 +127,7 @@ fn settled_level<R: Threads + Sync, P: Progress>(
 ) -> Result<Analysis, BuildFault>
     requires low { length shelf.now ≤ HIGHEST_LEVEL }
     ensures level { IfOk result (λ all. all.level ≡ length shelf.now) }
-    ensures closed { IfOk result (λ all. (all.gain ≡ 1) × AreIdle all.parts) }
+    ensures closed { IfOk result (λ all. (all.gain ≡ 1) × NoneAreFresh all.parts) }
     ensures heard { IfOk result (λ all. AreHeard (table_of shelf.now).value all.parts) }
     ensures refused { IfErr result (λ fault. (fault ≡ BuildFault.Memory) ⊎ IsStopped P.stops fault) }
 {
@@ -161,7 +161,7 @@ fn spread_all<R: Threads + Sync, P: Progress>(
     requires begun { analysis.wave ≡ 0 }
     requires heard { (value : List ℕ → ℤ) × AreHeard value analysis.parts }
     ensures same { IfOk result (λ all. (all.level ≡ analysis.level) × (all.gain ≡ analysis.gain)) }
-    ensures idle { IfOk result (λ all. AreIdle all.parts) }
+    ensures idle { IfOk result (λ all. NoneAreFresh all.parts) }
     ensures heard { IfOk result (λ all. (value : List ℕ → ℤ) → AreHeard value analysis.parts → AreHeard value all.parts) }
     ensures refused { IfErr result (λ fault. (fault ≡ BuildFault.Memory) ⊎ IsStopped P.stops fault) }
 {

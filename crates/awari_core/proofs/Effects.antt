@@ -5,7 +5,7 @@ use Rattle.awari_owner.specs.Level.{DistancesFit, no_part}
 use Rattle.awari_block.specs.Part.{Part, IsLeastDue, HasFarthest}
 use Rattle.awari_owner.specs.Sound.{SameStake, SpreadsFirst, TakesNotes}
 use Rattle.awari_block.specs.declared.notes.Note.{Note}
-use Rattle.awari_core.specs.Core.{Core, Sender, Sound, DoesSpread, DoesSend, DoesTake, Does, IsEnabled, IsFaultOf, MovesBatch, PopsBatch, Runs, no_sender, part_at, sender_at}
+use Rattle.awari_core.specs.Core.{Core, Sender, Sound, DoesSpread, DoesSend, DoesTake, Does, IsEnabled, IsEventFault, MovesBatch, PopsBatch, Runs, no_sender, owner_part, sender_at}
 use Rattle.awari_core.specs.declared.cores.Core.TheInside.{Inside}
 use Rattle.awari_core.specs.declared.events.Event.{Event}
 use Rattle.awari_core.specs.declared.faults.CoreFault.{CoreFault}
@@ -76,7 +76,7 @@ send_does old i j t high moves =
     let sender = sym (get_or-set_same old.senders i t no_sender high) in
     (record { rest = refl; senders = ap (set old.senders i) sender }, subst (λ (u : Sender). MovesBatch (sender_at old i) u j) sender moves)
 
-pub take_does : (old : Core) (i j : ℕ) (batch : List Note) (q : Part) (t : Sender) → i < length old.senders → j < length old.parts → PopsBatch batch (sender_at old i) t j → TakesNotes batch (part_at old j) q
+pub take_does : (old : Core) (i j : ℕ) (batch : List Note) (q : Part) (t : Sender) → i < length old.senders → j < length old.parts → PopsBatch batch (sender_at old i) t j → TakesNotes batch (owner_part old j) q
     → DoesTake old (record old { parts = set old.parts j q; senders = set old.senders i t }) i j
 take_does old i j batch q t high high' pops hears =
     let part = sym (get_or-set_same old.parts j q no_part high') in
@@ -86,7 +86,7 @@ take_does old i j batch q t high high' pops hears =
       rest = ap (λ (a : Part). record old { parts = set old.parts j a; senders = set old.senders i t }) part
           ∙ ap (λ (u : Sender). record old { parts = set old.parts j (get_or (set old.parts j q) j no_part); senders = set old.senders i u }) sender;
       pops = subst (λ (u : Sender). PopsBatch batch (sender_at old i) u j) sender pops;
-      hears = subst (TakesNotes batch (part_at old j)) part hears;
+      hears = subst (TakesNotes batch (owner_part old j)) part hears;
     }
 
 -- ---- one event more
@@ -100,10 +100,10 @@ runs_taken old mid new (first ∷ events) taken refused event (inl (next, more, 
 runs_taken old mid new (first ∷ events) taken refused event (inr (fault, more, is, runs, one)) enabled does last =
     inr (fault, more, is, runs_taken old mid new events taken more event runs enabled does last, one)
 
-pub runs_refused : (old mid : Core) (events : List Event) (taken refused : ℕ) (event : Event) (why : CoreFault) → Runs old events mid taken refused → IsFaultOf mid event why
+pub runs_refused : (old mid : Core) (events : List Event) (taken refused : ℕ) (event : Event) (why : CoreFault) → Runs old events mid taken refused → IsEventFault mid event why
     → Runs old (events ++ event ∷ []) mid taken (refused + 1)
 runs_refused old mid [] taken refused event why (same, none, none') is =
-    inr (why, 0, subst (λ (c : Core). IsFaultOf c event why) same is, (same, none, refl), ap (λ n. n + 1) none')
+    inr (why, 0, subst (λ (c : Core). IsEventFault c event why) same is, (same, none, refl), ap (λ n. n + 1) none')
 runs_refused old mid (first ∷ events) taken refused event why (inl (next, more, ready, effect, sound, runs, one)) is =
     inl (next, more, ready, effect, sound, runs_refused next mid events more refused event why runs is, one)
 runs_refused old mid (first ∷ events) taken refused event why (inr (fault, more, was, runs, one)) is =

@@ -7,10 +7,10 @@ use Rattle.awari_table.specs.Images.{table_of}
 use Rattle.awari_table.specs.Shelves.{IsShelf}
 use Rattle.awari_owner.specs.Level.{no_part}
 use Rattle.awari_owner.specs.Outboxes.{AreBatches, IsBatch}
-use Rattle.awari_owner.specs.Sound.{IsScannedOwner, IsTimely}
+use Rattle.awari_owner.specs.Sound.{IsScannedOwner, IsTimelyNote}
 use Rattle.awari_owner.proofs.Sounding.{sound_same}
 use Rattle.awari_block.specs.declared.notes.Note.{Note}
-use Rattle.awari_core.specs.Core.{Core, IsAllTaken, IsLinked, IsSilent, Ring, Sender, Sound, coming, no_ring, no_sender, part_at}
+use Rattle.awari_core.specs.Core.{Core, IsAllTaken, IsLinked, IsSilent, Ring, Sender, Sound, coming, no_ring, no_sender, owner_part}
 use Rattle.awari_core.proofs.Sounding.{scanned_sound}
 use Rattle.awari_core.proofs.Telling.{nothing_comes}
 
@@ -46,13 +46,13 @@ sound_new core shelf low some few senders linked gain taken scanned = record {
   gain = (scanned 0 some).scan.gain ∙ top (length core.shelf) ∙ ap (max 1) (sym gain);
   taken = λ _ _. [];
   sound =
-      let sound = scanned_sound (table_of core.shelf).value (length core.shelf) (length core.parts) (part_at core) some scanned in
+      let sound = scanned_sound (table_of core.shelf).value (length core.shelf) (length core.parts) (owner_part core) some scanned in
       let none = λ (i : ℕ) (j : ℕ) (low : i < length core.parts). nothing_comes core taken i j (omega (arith, low, senders)) in
       record {
         shares = sound.shares;
         step = sound.step;
-        sound = λ i low. sound_same (table_of core.shelf).value i (length core.parts) (part_at core i) (λ _. []) (λ _. []) (λ _. []) (coming core i) (λ _. []) (coming core i)
-            (λ j o. refl) (λ j o. none i j low) (λ j o h. subst (All (IsTimely (part_at core i))) (sym (none i j low)) h) (sound.sound i low);
+        sound = λ i low. sound_same (table_of core.shelf).value i (length core.parts) (owner_part core i) (λ _. []) (λ _. []) (λ _. []) (coming core i) (λ _. []) (coming core i)
+            (λ j o. refl) (λ j o. none i j low) (λ j o h. subst (All (IsTimelyNote (owner_part core i))) (sym (none i j low)) h) (sound.sound i low);
       };
 }
   where

@@ -11,7 +11,7 @@ use Rattle.awari_owner.specs.Level.{AreInStep, AreSound, no_part}
 use Rattle.awari_owner.specs.Sound.{IsOpened, OpensGain, OpensWave}
 use Rattle.awari_block.specs.Part.{Part, IsLeastDue}
 use Rattle.awari_owner.proofs.Sounding.{gain_opened, wave_opened}
-use Rattle.awari_core.specs.Core.{Core, IsAllTaken, IsLeastOf, IsLinked, IsNearer, IsQuiet, IsWaveDone, Sound, coming, part_at, sender_at}
+use Rattle.awari_core.specs.Core.{Core, IsAllTaken, IsLeastOf, IsLinked, IsLesserOf, IsAllQuiet, IsWaveDone, Sound, coming, owner_part, sender_at}
 use Rattle.awari_core.proofs.Sounding.{opened_sound}
 use Rattle.awari_core.proofs.Telling.{nothing_comes}
 
@@ -43,7 +43,7 @@ all_below P items none each k d low = subst P (get_or_default items k none d low
 
 -- all parts with the next one open, with nothing on its way, are sound
 pub sound_opened : (old : Core) (gain : ℕ) (parts : List Part) → Sound old → IsAllTaken old → length parts ≡ length old.parts
-    → ((i : ℕ) → i < length old.parts → IsOpened (part_at old i) (get_or parts i no_part)) → AreInStep (length old.parts) (λ i. get_or parts i no_part) → (get_or parts 0 no_part).gain ≡ max 1 gain
+    → ((i : ℕ) → i < length old.parts → IsOpened (owner_part old i) (get_or parts i no_part)) → AreInStep (length old.parts) (λ i. get_or parts i no_part) → (get_or parts 0 no_part).gain ≡ max 1 gain
     → Sound (record old { gain = gain; parts = parts })
 sound_opened old gain parts sound taken count opened step first = record {
   shelf = sound.shelf;
@@ -55,13 +55,13 @@ sound_opened old gain parts sound taken count opened step first = record {
   gain = first;
   taken = sound.taken;
   sound = subst (λ n. AreSound (table_of old.shelf).value (length old.shelf) n (λ i. get_or parts i no_part) (coming old) sound.taken) (sym count)
-      (opened_sound (table_of old.shelf).value (length old.shelf) (length old.parts) (part_at old) (λ i. get_or parts i no_part) (coming old) sound.taken sound.sound
+      (opened_sound (table_of old.shelf).value (length old.shelf) (length old.parts) (owner_part old) (λ i. get_or parts i no_part) (coming old) sound.taken sound.sound
       (λ i j low low' apart. nothing_comes old taken i j (let s = sound.senders in omega (arith, low, s))) opened step);
 }
 
-pub sound_gain : (old : Core) (t : ℕ) (parts : List Part) → Sound old → IsQuiet old → 1 ≤ t → length parts ≡ length old.parts
-    → ((i : ℕ) → i < length old.parts → OpensGain t (part_at old i) (get_or parts i no_part)) → Sound (record old { gain = t; parts = parts })
-sound_gain old t parts sound quiet some count opens = sound_opened old t parts sound quiet.1 count (λ i low. gain_opened t (part_at old i) (get_or parts i no_part) (opens i low)) (record {
+pub sound_gain : (old : Core) (t : ℕ) (parts : List Part) → Sound old → IsAllQuiet old → 1 ≤ t → length parts ≡ length old.parts
+    → ((i : ℕ) → i < length old.parts → OpensGain t (owner_part old i) (get_or parts i no_part)) → Sound (record old { gain = t; parts = parts })
+sound_gain old t parts sound quiet some count opens = sound_opened old t parts sound quiet.1 count (λ i low. gain_opened t (owner_part old i) (get_or parts i no_part) (opens i low)) (record {
   gain = λ i low. (opens i low).settles.same.gain ∙ sym (opens 0 sound.some).settles.same.gain;
   wave = λ i low. (opens i low).settles.same.wave ∙ sym (opens 0 sound.some).settles.same.wave;
 }) ((opens 0 sound.some).settles.same.gain ∙ top t some)
@@ -70,8 +70,8 @@ sound_gain old t parts sound quiet some count opens = sound_opened old t parts s
     top t some = omega (arith, some)
 
 pub sound_wave : (old : Core) (dist : ℕ) (parts : List Part) → Sound old → IsAllTaken old → length parts ≡ length old.parts
-    → ((i : ℕ) → i < length old.parts → OpensWave dist (part_at old i) (get_or parts i no_part)) → Sound (record old { parts = parts })
-sound_wave old dist parts sound taken count opens = sound_opened old old.gain parts sound taken count (λ i low. wave_opened dist (part_at old i) (get_or parts i no_part) (opens i low)) (record {
+    → ((i : ℕ) → i < length old.parts → OpensWave dist (owner_part old i) (get_or parts i no_part)) → Sound (record old { parts = parts })
+sound_wave old dist parts sound taken count opens = sound_opened old old.gain parts sound taken count (λ i low. wave_opened dist (owner_part old i) (get_or parts i no_part) (opens i low)) (record {
   gain = λ i low. ap (λ (p : Part). p.gain) (opens i low).wave ∙ sound.sound.step.gain i low ∙ sym (ap (λ (p : Part). p.gain) (opens 0 sound.some).wave);
   wave = λ i low. ap (λ (p : Part). p.wave) (opens i low).wave ∙ sym (ap (λ (p : Part). p.wave) (opens 0 sound.some).wave);
 }) (ap (λ (p : Part). p.gain) (opens 0 sound.some).wave ∙ sound.gain)
@@ -79,7 +79,7 @@ sound_wave old dist parts sound taken count opens = sound_opened old old.gain pa
 -- ---- the least distance
 
 -- of one part more
-pub least_more : (parts : List Part) (count : ℕ) (p : Part) (a b least : Option ℕ) → get_or parts count no_part ≡ p → IsLeastOf parts count a → IsLeastDue p b → IsNearer a b least → IsLeastOf parts (count + 1) least
+pub least_more : (parts : List Part) (count : ℕ) (p : Part) (a b least : Option ℕ) → get_or parts count no_part ≡ p → IsLeastOf parts count a → IsLeastDue p b → IsLesserOf a b least → IsLeastOf parts (count + 1) least
 least_more parts count p None None least at before here near = subst (IsLeastOf parts (count + 1)) (sym near) (λ i low. elim (cases_eq i count) [
   | inl same ↦ ap (λ j. (get_or parts j no_part).fresh) same ∙ ap (λ (o : Part). o.fresh) at ∙ here
   | inr apart ↦ before i (omega (arith, low, apart))
@@ -120,7 +120,7 @@ least_more parts count p (Some a) (Some b) least at before here near = subst (Is
     ]
 
 -- a bound of both is one of the lesser
-pub nearer_bound : (a b least : Option ℕ) (w : ℕ) → IfSome a (λ d. w ≤ d) → IfSome b (λ d. w ≤ d) → IsNearer a b least → IfSome least (λ d. w ≤ d)
+pub nearer_bound : (a b least : Option ℕ) (w : ℕ) → IfSome a (λ d. w ≤ d) → IfSome b (λ d. w ≤ d) → IsLesserOf a b least → IfSome least (λ d. w ≤ d)
 nearer_bound None b least w one other near = subst (λ (o : Option ℕ). IfSome o (λ d. w ≤ d)) (sym near) other
 nearer_bound (Some a) None least w one other near = subst (λ (o : Option ℕ). IfSome o (λ d. w ≤ d)) (sym near) one
 nearer_bound (Some a) (Some b) least w one other near = subst (λ (o : Option ℕ). IfSome o (λ d. w ≤ d)) (sym near) (let l : w ≤ min a b = omega (arith, one, other) in l)
@@ -137,19 +137,19 @@ other_dist o d w is e same = differs (d == w) (eq-eqb d w same) (ap (λ (p : Opt
     differs : (b : Bool) → b ≡ true → b ≡ false → ⊥
     differs b t f = absurd cc
 
-pub wave_due : (core : Core) (w : ℕ) → IsLeastOf core.parts (length core.parts) (Some w) → ((i : ℕ) → i < length core.parts → w ≡ (part_at core i).wave) → IsWaveDone core → ⊥
+pub wave_due : (core : Core) (w : ℕ) → IsLeastOf core.parts (length core.parts) (Some w) → ((i : ℕ) → i < length core.parts → w ≡ (owner_part core i).wave) → IsWaveDone core → ⊥
 wave_due core w least wave done =
     let (i, low, any) = least.0 in
-    done.0 i no_part low (subst (λ d. Any (λ f. due_dist f ≡ d) (part_at core i).fresh) (wave i low) any)
+    done.0 i no_part low (subst (λ d. Any (λ f. due_dist f ≡ d) (owner_part core i).fresh) (wave i low) any)
 
 pub none_due : (core : Core) → IsLeastOf core.parts (length core.parts) None → IsAllTaken core → IsWaveDone core
 none_due core none taken = (
   all_below (λ (p : Part). Any (λ f. due_dist f ≡ p.wave) p.fresh → ⊥) core.parts no_part
-      (λ k low. subst (λ (l : List Due). Any (λ f. due_dist f ≡ (part_at core k).wave) l → ⊥) (sym (none k low)) (λ any. absurd (let high = any.2 in omega (arith, high)))),
+      (λ k low. subst (λ (l : List Due). Any (λ f. due_dist f ≡ (owner_part core k).wave) l → ⊥) (sym (none k low)) (λ any. absurd (let high = any.2 in omega (arith, high)))),
   taken,
 )
 
-pub none_near : (core : Core) (dist w : ℕ) → IsLeastOf core.parts (length core.parts) (Some dist) → w ≤ dist → (dist ≡ w → ⊥) → ((i : ℕ) → i < length core.parts → w ≡ (part_at core i).wave) → IsAllTaken core → IsWaveDone core
+pub none_near : (core : Core) (dist w : ℕ) → IsLeastOf core.parts (length core.parts) (Some dist) → w ≤ dist → (dist ≡ w → ⊥) → ((i : ℕ) → i < length core.parts → w ≡ (owner_part core i).wave) → IsAllTaken core → IsWaveDone core
 none_near core dist w least timely other wave taken = (
   all_below (λ (p : Part). Any (λ f. due_dist f ≡ p.wave) p.fresh → ⊥) core.parts no_part
       (λ k low any.

@@ -9,11 +9,11 @@ use Rattle.awari_block.specs.Part.{Part}
 use Rattle.awari_block.specs.declared.notes.Note.{Note}
 use Rattle.awari_owner.specs.Level.{AreSound, IsShare, no_part}
 use Rattle.awari_owner.specs.Outboxes.{AreBatches, IsBatch, Outboxes, notes_of, queue_to}
-use Rattle.awari_owner.specs.Sound.{IsTimely, OwnerSound, SameStake, SpreadsFirst, TakesNotes}
+use Rattle.awari_owner.specs.Sound.{IsTimelyNote, OwnerSound, SameStake, SpreadsFirst, TakesNotes}
 use Rattle.awari_owner.specs.Spread.{IsPartOf}
 use Rattle.awari_owner.proofs.Lists.{notes_of-last}
 use Rattle.awari_owner.proofs.Sounding.{stake_same, stake_settled, share_stake, sound_same}
-use Rattle.awari_core.specs.Core.{Core, DoesSpread, IsLinked, Ring, MovesBatch, PopsBatch, Sender, Sound, coming, coming_to, ring_at, ring_to, no_ring, no_sender, part_at, sender_at}
+use Rattle.awari_core.specs.Core.{Core, DoesSpread, IsLinked, Ring, MovesBatch, PopsBatch, Sender, Sound, coming, coming_to, ring_at, ring_to, no_ring, no_sender, owner_part, sender_at}
 use Rattle.awari_core.proofs.Sounding.{list_from, list_here, list_to, part_here, part_other, taken_sound, with_list, with_more, with_part}
 
 -- ---- one owner changes
@@ -33,9 +33,9 @@ each_set P items none n i x count high here all k low = elim (cases_eq k i) [
 -- owners whose parts stand where they did, and that are linked and sound
 sound_of : (old new : Core) (taken : ℕ → ℕ → List Note) → Sound old → new.shelf ≡ old.shelf → new.room ≡ old.room → new.gain ≡ old.gain
     → length new.parts ≡ length old.parts → length new.senders ≡ length old.senders
-    → ((k : ℕ) → k < length old.parts → SameStake (part_at old k) (part_at new k))
+    → ((k : ℕ) → k < length old.parts → SameStake (owner_part old k) (owner_part new k))
     → ((k : ℕ) → k < length old.parts → IsLinked (length old.parts) old.room k (sender_at new k))
-    → ((k : ℕ) → k < length old.parts → IsSoundAt (table_of old.shelf).value (length old.parts) taken k (part_at new k) (sender_at new k))
+    → ((k : ℕ) → k < length old.parts → IsSoundAt (table_of old.shelf).value (length old.parts) taken k (owner_part new k) (sender_at new k))
     → Sound new
 sound_of old new taken sound shelf room gain count senders place linked each = record {
   shelf = subst IsShelf (sym shelf) sound.shelf;
@@ -46,8 +46,8 @@ sound_of old new taken sound shelf room gain count senders place linked each = r
   linked = subst₂ (λ (n r : ℕ). (k : ℕ) → k < n → IsLinked n r k (sender_at new k)) (sym count) (sym room) linked;
   gain = (place 0 sound.some).level.gain ∙ sound.gain ∙ ap (max 1) (sym gain);
   taken = taken;
-  sound = subst₂ (λ (s : List Image) (m : ℕ). AreSound (table_of s).value (length s) m (part_at new) (coming new) taken) (sym shelf) (sym count) (record {
-    shares = λ k low. share_stake (length old.shelf) (length old.parts) k (part_at old k) (part_at new k) (place k low) (sound.sound.shares k low);
+  sound = subst₂ (λ (s : List Image) (m : ℕ). AreSound (table_of s).value (length s) m (owner_part new) (coming new) taken) (sym shelf) (sym count) (record {
+    shares = λ k low. share_stake (length old.shelf) (length old.parts) k (owner_part old k) (owner_part new k) (place k low) (sound.sound.shares k low);
     step = record {
       gain = λ k low. (place k low).level.gain ∙ sound.sound.step.gain k low ∙ sym (place 0 sound.some).level.gain;
       wave = λ k low. (place k low).level.wave ∙ sound.sound.step.wave k low ∙ sym (place 0 sound.some).level.wave;
@@ -101,11 +101,11 @@ spread_step old new i high does sound =
     let owners = length old.parts in
     let value = (table_of old.shelf).value in
     sound_of old new sound.taken sound does.changes.shelf does.changes.room does.changes.gain
-    (ap (λ (l : List Part). length l) does.changes.parts ∙ length-set old.parts i (part_at new i)) (ap (λ (l : List Sender). length l) does.changes.senders ∙ length-set old.senders i (sender_at new i))
-    (both (λ k p s. SameStake (part_at old k) p) does.stake (λ k low. stake_same (part_at old k)))
-    (both (λ k p s. IsLinked owners old.room k s) (linked_spread value owners old.room i sound.taken (part_at old i) (part_at new i) (sender_at old i) (sender_at new i) does.rings does.spreads (sound.linked i high)) sound.linked)
+    (ap (λ (l : List Part). length l) does.changes.parts ∙ length-set old.parts i (owner_part new i)) (ap (λ (l : List Sender). length l) does.changes.senders ∙ length-set old.senders i (sender_at new i))
+    (both (λ k p s. SameStake (owner_part old k) p) does.stake (λ k low. stake_same (owner_part old k)))
+    (both (λ k p s. IsLinked owners old.room k s) (linked_spread value owners old.room i sound.taken (owner_part old i) (owner_part new i) (sender_at old i) (sender_at new i) does.rings does.spreads (sound.linked i high)) sound.linked)
     (both (IsSoundAt value owners sound.taken)
-    (sound_spread value owners old.room i sound.taken (part_at old i) (part_at new i) (sender_at old i) (sender_at new i) does.rings does.spreads (sound.linked i high) (sound.sound.sound i high)) sound.sound.sound)
+    (sound_spread value owners old.room i sound.taken (owner_part old i) (owner_part new i) (sender_at old i) (sender_at new i) does.rings does.spreads (sound.linked i high) (sound.sound.sound i high)) sound.sound.sound)
   where
     both_set : (P : ℕ → Part → Sender → Type 0) (parts : List Part) (senders : List Sender) (n i : ℕ) (p : Part) (s : Sender) → length parts ≡ n → length senders ≡ n → i < n → P i p s
         → ((k : ℕ) → k < n → P k (get_or parts k no_part) (get_or senders k no_sender)) → (k : ℕ) → k < n → P k (get_or (set parts i p) k no_part) (get_or (set senders i s) k no_sender)
@@ -115,10 +115,10 @@ spread_step old new i high does sound =
       | inr apart ↦ subst₂ (P k) (sym (get_or-set_other parts i k p no_part apart)) (sym (get_or-set_other senders i k s no_sender apart)) (all k low)
     ]
 
-    both : (P : ℕ → Part → Sender → Type 0) → P i (part_at new i) (sender_at new i) → ((k : ℕ) → k < length old.parts → P k (part_at old k) (sender_at old k))
-        → (k : ℕ) → k < length old.parts → P k (part_at new k) (sender_at new k)
+    both : (P : ℕ → Part → Sender → Type 0) → P i (owner_part new i) (sender_at new i) → ((k : ℕ) → k < length old.parts → P k (owner_part old k) (sender_at old k))
+        → (k : ℕ) → k < length old.parts → P k (owner_part new k) (sender_at new k)
     both P here all k low = subst₂ (λ (l : List Part) (m : List Sender). P k (get_or l k no_part) (get_or m k no_sender)) (sym does.changes.parts) (sym does.changes.senders)
-        (both_set P old.parts old.senders (length old.parts) i (part_at new i) (sender_at new i) refl sound.senders high here all k low)
+        (both_set P old.parts old.senders (length old.parts) i (owner_part new i) (sender_at new i) refl sound.senders high here all k low)
 
 -- ---- a batch moves to the ring
 
@@ -171,12 +171,12 @@ send_step old i j t high high' m sound =
     let was = sound.linked i high in
     let now = sent owners old.room i j s was high' m.batch m.rest m.whole m.first in
     let same = same_coming owners old.room i j s was high' m.batch m.rest m.whole m.first in
-    let here : IsSoundAt value owners sound.taken i (part_at old i) now =
-    subst (λ (c : ℕ → List Note). OwnerSound value i owners (part_at old i) (λ a. sound.taken a i) (λ b. sound.taken i b ++ c b) c) (sym (λ u b. same b u)) (sound.sound.sound i high) in
-    sound_of old (record old { senders = set old.senders i t }) sound.taken sound refl refl refl refl (length-set old.senders i t) (λ k low. stake_same (part_at old k))
+    let here : IsSoundAt value owners sound.taken i (owner_part old i) now =
+    subst (λ (c : ℕ → List Note). OwnerSound value i owners (owner_part old i) (λ a. sound.taken a i) (λ b. sound.taken i b ++ c b) c) (sym (λ u b. same b u)) (sound.sound.sound i high) in
+    sound_of old (record old { senders = set old.senders i t }) sound.taken sound refl refl refl refl (length-set old.senders i t) (λ k low. stake_same (owner_part old k))
     (each_set (IsLinked owners old.room) old.senders no_sender owners i t sound.senders high (subst (IsLinked owners old.room i) (sym m.moves) (linked_sent owners old.room i j s was high' m.batch m.rest m.whole m.first)) sound.linked)
-    (each_set (λ k (u : Sender). IsSoundAt value owners sound.taken k (part_at old k) u) old.senders no_sender owners i t sound.senders high
-    (subst (IsSoundAt value owners sound.taken i (part_at old i)) (sym m.moves) here) sound.sound.sound)
+    (each_set (λ k (u : Sender). IsSoundAt value owners sound.taken k (owner_part old k) u) old.senders no_sender owners i t sound.senders high
+    (subst (IsSoundAt value owners sound.taken i (owner_part old i)) (sym m.moves) here) sound.sound.sound)
 
 -- ---- a batch is taken
 
@@ -227,15 +227,15 @@ module _ (old : Core) (i j : ℕ) (high : i < length old.parts) (high' : j < len
         ∙ ap (λ (s : Sender). notes_of (ring_at old i b).batches ++ notes_of (queue_to s.outboxes b)) pops.pops ∙ sym (list_to (coming old) i j left i b other)
   ]
 
-  pub take_step : (q : Part) → TakesNotes batch (part_at old j) q → Sound (record old { parts = set old.parts j q; senders = set old.senders i t })
+  pub take_step : (q : Part) → TakesNotes batch (owner_part old j) q → Sound (record old { parts = set old.parts j q; senders = set old.senders i t })
   take_step q takes = sound_of old new taken sound refl refl refl (length-set old.parts j q) (length-set old.senders i t)
-      (each_set (λ k p. SameStake (part_at old k) p) old.parts no_part owners j q refl high' (stake_settled (part_at old j) q takes.settles) (λ k low. stake_same (part_at old k)))
+      (each_set (λ k p. SameStake (owner_part old k) p) old.parts no_part owners j q refl high' (stake_settled (owner_part old j) q takes.settles) (λ k low. stake_same (owner_part old k)))
       (each_set (IsLinked owners old.room) old.senders no_sender owners i t sound.senders high linked_popped sound.linked)
-      (λ k low. sound_same value k owners (part_at new k) (λ a. taken a k) (λ a. taken a k) (λ b. taken k b ++ with_list (coming old) i j left k b) (λ b. taken k b ++ coming new k b)
+      (λ k low. sound_same value k owners (owner_part new k) (λ a. taken a k) (λ a. taken a k) (λ b. taken k b ++ with_list (coming old) i j left k b) (λ b. taken k b ++ coming new k b)
       (with_list (coming old) i j left k) (coming new k)
-      (λ a o. refl) (λ b o. ap (λ l. taken k b ++ l) (comes k b)) (λ b o h. subst (All (IsTimely (part_at new k))) (sym (comes k b)) h)
+      (λ a o. refl) (λ b o. ap (λ l. taken k b ++ l) (comes k b)) (λ b o h. subst (All (IsTimelyNote (owner_part new k))) (sym (comes k b)) h)
       (subst (λ (p : Part). OwnerSound value k owners p (λ a. taken a k) (λ b. taken k b ++ with_list (coming old) i j left k b) (with_list (coming old) i j left k)) (sym (parts k))
-      ((taken_sound value (length old.shelf) owners (part_at old) (coming old) sound.taken sound.sound i j high high' apart q batch left next_of takes).sound k low)))
+      ((taken_sound value (length old.shelf) owners (owner_part old) (coming old) sound.taken sound.sound i j high high' apart q batch left next_of takes).sound k low)))
     where
       owners : ℕ
       owners = length old.parts
@@ -249,10 +249,10 @@ module _ (old : Core) (i j : ℕ) (high : i < length old.parts) (high' : j < len
       new : Core
       new = record old { parts = set old.parts j q; senders = set old.senders i t }
 
-      parts : (k : ℕ) → part_at new k ≡ with_part (part_at old) j q k
+      parts : (k : ℕ) → owner_part new k ≡ with_part (owner_part old) j q k
       parts k = elim (cases_eq k j) [
-        | inl same ↦ subst (λ a. part_at new a ≡ with_part (part_at old) j q a) (sym same) (get_or-set_same old.parts j q no_part high' ∙ sym (part_here (part_at old) j q))
-        | inr other ↦ get_or-set_other old.parts j k q no_part other ∙ sym (part_other (part_at old) j q k other)
+        | inl same ↦ subst (λ a. owner_part new a ≡ with_part (owner_part old) j q a) (sym same) (get_or-set_same old.parts j q no_part high' ∙ sym (part_here (owner_part old) j q))
+        | inr other ↦ get_or-set_other old.parts j k q no_part other ∙ sym (part_other (owner_part old) j q k other)
       ]
 
       comes : (k b : ℕ) → coming new k b ≡ with_list (coming old) i j left k b

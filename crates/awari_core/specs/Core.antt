@@ -42,8 +42,8 @@ no_ring = record { batches = []; room = 0 }
 abbrev pub no_sender : Sender
 no_sender = record { outboxes = record { owner = 0; queues = [] }; rings = [] }
 
-abbrev pub part_at : Core → ℕ → Part
-part_at core i = slice_index_or core.parts i no_part
+abbrev pub owner_part : Core → ℕ → Part
+owner_part core i = slice_index_or core.parts i no_part
 
 abbrev pub sender_at : Core → ℕ → Sender
 sender_at core i = slice_index_or core.senders i no_sender
@@ -80,9 +80,9 @@ pub record Sound (core : Core) : Type 0 where
   pub few : length core.parts ≤ 16
   pub senders : length core.senders ≡ length core.parts
   pub linked : (i : ℕ) → i < length core.parts → IsLinked (length core.parts) core.room i (sender_at core i)
-  pub gain : (part_at core 0).gain ≡ max 1 core.gain
+  pub gain : (owner_part core 0).gain ≡ max 1 core.gain
   pub taken : ℕ → ℕ → List Note
-  pub sound : AreSound (table_of core.shelf).value (length core.shelf) (length core.parts) (part_at core) (coming core) taken
+  pub sound : AreSound (table_of core.shelf).value (length core.shelf) (length core.parts) (owner_part core) (coming core) taken
 
 -- ---- when the owners rest
 
@@ -96,8 +96,8 @@ abbrev pub IsAllTaken : Core → Type 0
 IsAllTaken core = All IsSilent core.senders
 
 -- nor is a board fresh
-abbrev pub IsQuiet : Core → Type 0
-IsQuiet core = All (λ (part : Part). part.fresh ≡ []) core.parts × IsAllTaken core
+abbrev pub IsAllQuiet : Core → Type 0
+IsAllQuiet core = All (λ (part : Part). part.fresh ≡ []) core.parts × IsAllTaken core
 
 -- nothing is on its way, and no fresh board is of the open wave
 abbrev pub IsWaveDone : Core → Type 0
@@ -114,10 +114,10 @@ abbrev pub IsLeastOfAll : Core → Option ℕ → Type 0
 IsLeastOfAll core least = IsLeastOf core.parts (length core.parts) least
 
 -- the lesser of two distances, where there is one
-abbrev pub IsNearer : Option ℕ → Option ℕ → Option ℕ → Type 0
-IsNearer (Some a) (Some b) least = least ≡ Some (min a b)
-IsNearer None b least = least ≡ b
-IsNearer (Some a) None least = least ≡ Some a
+abbrev pub IsLesserOf : Option ℕ → Option ℕ → Option ℕ → Type 0
+IsLesserOf (Some a) (Some b) least = least ≡ Some (min a b)
+IsLesserOf None b least = least ≡ b
+IsLesserOf (Some a) None least = least ≡ Some a
 
 -- the next gain is opened in all parts, and nothing else changes
 pub record OpensNextGain (old new : Core) : Type 0 where
@@ -126,61 +126,61 @@ pub record OpensNextGain (old new : Core) : Type 0 where
   pub gain : new.gain ≡ old.gain - 1
   pub senders : new.senders ≡ old.senders
   pub count : length new.parts ≡ length old.parts
-  pub parts : 1 < old.gain → (i : ℕ) → i < length old.parts → OpensGain new.gain (part_at old i) (part_at new i)
+  pub parts : 1 < old.gain → (i : ℕ) → i < length old.parts → OpensGain new.gain (owner_part old i) (owner_part new i)
   pub closed : old.gain ≤ 1 → new.parts ≡ old.parts
 
 -- a distance is opened in all parts, and nothing else changes; or nothing, where there is none
-pub record OpensWave (dist : ℕ) (old new : Core) : Type 0 where
+pub record OpensWaves (dist : ℕ) (old new : Core) : Type 0 where
   pub shelf : new.shelf ≡ old.shelf
   pub room : new.room ≡ old.room
   pub gain : new.gain ≡ old.gain
   pub senders : new.senders ≡ old.senders
   pub count : length new.parts ≡ length old.parts
-  pub parts : (i : ℕ) → i < length old.parts → owner.OpensWave dist (part_at old i) (part_at new i)
+  pub parts : (i : ℕ) → i < length old.parts → owner.OpensWave dist (owner_part old i) (owner_part new i)
 
 abbrev pub OpensNextWave : Core → Core → Option ℕ → Type 0
 OpensNextWave old new None = new ≡ old
-OpensNextWave old new (Some dist) = OpensWave dist old new
+OpensNextWave old new (Some dist) = OpensWaves dist old new
 
 -- ---- how a core begins
 
 abbrev pub AreOwners : ℕ → Type 0
 AreOwners owners = (1 ≤ owners) × (owners ≤ 16)
 
-abbrev pub IsRoom : ℕ → Type 0
-IsRoom room = (1 ≤ room) × (room ≤ 256)
+abbrev pub IsRingRoom : ℕ → Type 0
+IsRingRoom room = (1 ≤ room) × (room ≤ 256)
 
 -- so many owners, whose parts of the shelf's next level were scanned, and nothing is on its way
-pub record IsScanned (shelf : List Image) (owners room : ℕ) (core : Core) : Type 0 where
+pub record IsScannedCore (shelf : List Image) (owners room : ℕ) (core : Core) : Type 0 where
   pub over : core.shelf ≡ shelf
   pub rooms : core.room ≡ room
   pub gain : core.gain ≡ length shelf + 1
   pub count : length core.parts ≡ owners
-  pub scanned : (i : ℕ) → i < owners → IsScan (length shelf) owners i (part_at core i)
+  pub scanned : (i : ℕ) → i < owners → IsScan (length shelf) owners i (owner_part core i)
   pub silent : IsAllTaken core
 
 -- and then the greatest gain was opened, which is the number of stones, or 0
 pub record IsBegun (shelf : List Image) (owners room : ℕ) (core : Core) : Type 0 where
   pub few : AreOwners owners
-  pub small : IsRoom room
+  pub small : IsRingRoom room
   pub low : length shelf ≤ HIGHEST_LEVEL
   pub before : Core
-  pub scanned : IsScanned shelf owners room before
+  pub scanned : IsScannedCore shelf owners room before
   pub opened : OpensNextGain before core
 
 -- why a core is not made, in this order
 abbrev pub IsNewFault : List Image → ℕ → ℕ → CoreFault → Type 0
 IsNewFault shelf owners room Owners = AreOwners owners → ⊥
-IsNewFault shelf owners room Room = AreOwners owners × (IsRoom room → ⊥)
-IsNewFault shelf owners room TooHigh = AreOwners owners × IsRoom room × (HIGHEST_LEVEL < length shelf)
-IsNewFault shelf owners room Memory = AreOwners owners × IsRoom room × (length shelf ≤ HIGHEST_LEVEL)
+IsNewFault shelf owners room Room = AreOwners owners × (IsRingRoom room → ⊥)
+IsNewFault shelf owners room TooHigh = AreOwners owners × IsRingRoom room × (HIGHEST_LEVEL < length shelf)
+IsNewFault shelf owners room Memory = AreOwners owners × IsRingRoom room × (length shelf ≤ HIGHEST_LEVEL)
 IsNewFault shelf owners room fault = ⊥
 
 -- ---- how it ends
 
 -- all gains are closed
-abbrev pub IsClosed : Core → Type 0
-IsClosed core = (core.gain ≡ 0) × IsQuiet core
+abbrev pub AreGainsClosed : Core → Type 0
+AreGainsClosed core = (core.gain ≡ 0) × IsAllQuiet core
 
 -- ---- what an event does
 
@@ -189,7 +189,7 @@ pub record ChangesOwner (old new : Core) (i : ℕ) : Type 0 where
   pub shelf : new.shelf ≡ old.shelf
   pub room : new.room ≡ old.room
   pub gain : new.gain ≡ old.gain
-  pub parts : new.parts ≡ slice_set old.parts i (part_at new i)
+  pub parts : new.parts ≡ slice_set old.parts i (owner_part new i)
   pub senders : new.senders ≡ slice_set old.senders i (sender_at new i)
 
 -- what owner i sends by alone changes
@@ -222,8 +222,8 @@ pub record PopsBatch (batch : List Note) (old new : Sender) (j : ℕ) : Type 0 w
 pub record DoesSpread (old new : Core) (i : ℕ) : Type 0 where
   pub changes : ChangesOwner old new i
   pub rings : (sender_at new i).rings ≡ (sender_at old i).rings
-  pub stake : SameStake (part_at old i) (part_at new i)
-  pub spreads : SpreadsFirst (part_at old i) (part_at new i) (sender_at old i).outboxes (sender_at new i).outboxes
+  pub stake : SameStake (owner_part old i) (owner_part new i)
+  pub spreads : SpreadsFirst (owner_part old i) (owner_part new i) (sender_at old i).outboxes (sender_at new i).outboxes
 
 -- A batch moves from the outbox of i for j to the ring from i to j.
 abbrev pub DoesSend : Core → Core → ℕ → ℕ → Type 0
@@ -232,9 +232,9 @@ DoesSend old new i j = ChangesSender old new i × MovesBatch (sender_at old i) (
 -- The first batch on the ring from i to j is taken off, and owner j's part hears its notes.
 pub record DoesTake (old new : Core) (i j : ℕ) : Type 0 where
   pub batch : List Note
-  pub rest : new ≡ record old { parts = slice_set old.parts j (part_at new j); senders = slice_set old.senders i (sender_at new i) }
+  pub rest : new ≡ record old { parts = slice_set old.parts j (owner_part new j); senders = slice_set old.senders i (sender_at new i) }
   pub pops : PopsBatch batch (sender_at old i) (sender_at new i) j
-  pub hears : TakesNotes batch (part_at old j) (part_at new j)
+  pub hears : TakesNotes batch (owner_part old j) (owner_part new j)
 
 -- ---- events
 
@@ -244,7 +244,7 @@ IsBetween core i j = (i < length core.parts) × (j < length core.parts) × (i �
 
 -- an event that can be taken here
 abbrev pub IsEnabled : Core → Event → Type 0
-IsEnabled core (Spread i) = (i < length core.parts) × IsLeastDue (part_at core i) (Some (part_at core i).wave)
+IsEnabled core (Spread i) = (i < length core.parts) × IsLeastDue (owner_part core i) (Some (owner_part core i).wave)
 IsEnabled core (Send i j) = IsBetween core i j × CanSend (sender_at core i) j
 IsEnabled core (Take i j) = IsBetween core i j × ((ring_at core i j).batches ≡ [] → ⊥)
 
@@ -255,10 +255,10 @@ Does old new (Send i j) = DoesSend old new i j
 Does old new (Take i j) = DoesTake old new i j
 
 -- why it is refused: as not enabled, or as a spread that wants memory for notes to other owners
-abbrev pub IsFaultOf : Core → Event → CoreFault → Type 0
-IsFaultOf core event NotEnabled = IsEnabled core event → ⊥
-IsFaultOf core (Spread i) Memory = IsEnabled core (Spread i) × (1 < length core.parts)
-IsFaultOf core event fault = ⊥
+abbrev pub IsEventFault : Core → Event → CoreFault → Type 0
+IsEventFault core event NotEnabled = IsEnabled core event → ⊥
+IsEventFault core (Spread i) Memory = IsEnabled core (Spread i) × (1 < length core.parts)
+IsEventFault core event fault = ⊥
 
 -- A core takes these events one after the other, passing over those that are refused, and then is the last core: so many were
 -- taken, and so many refused. Each core on the way is sound.
@@ -266,4 +266,4 @@ abbrev pub Runs : Core → List Event → Core → ℕ → ℕ → Type 0
 Runs old [] new taken refused = (new ≡ old) × (taken ≡ 0) × (refused ≡ 0)
 Runs old (event ∷ events) new taken refused =
     ((next : Core) × (more : ℕ) × IsEnabled old event × Does old next event × Sound next × Runs next events new more refused × (taken ≡ more + 1))
-    ⊎ ((fault : CoreFault) × (more : ℕ) × IsFaultOf old event fault × Runs old events new taken more × (refused ≡ more + 1))
+    ⊎ ((fault : CoreFault) × (more : ℕ) × IsEventFault old event fault × Runs old events new taken more × (refused ≡ more + 1))

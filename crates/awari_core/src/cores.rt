@@ -5,8 +5,8 @@ ghost use Rattle.awari_table.specs.Shelves.{Consistent};
 ghost use Rattle.awari_table.specs.declared.TheConstants.{HIGHEST_LEVEL};
 ghost use Rattle.awari_plan.specs.Finished.{IsFinished};
 ghost use Rattle.awari_play.specs.Least.{IsPlannedLowest};
-ghost use Rattle.awari_core.specs.Core.{Core as CoreView, Sound, Does, IsEnabled, IsFaultOf, IsBetween, DoesSpread, DoesSend, DoesTake, Runs};
-ghost use Rattle.awari_core.specs.Core.{IsAllTaken, IsBegun, IsClosed, IsLeastOfAll, IsNewFault, IsQuiet, IsScanned, IsWaveDone, OpensNextGain, OpensNextWave, part_at};
+ghost use Rattle.awari_core.specs.Core.{Core as CoreView, Sound, Does, IsEnabled, IsEventFault, IsBetween, DoesSpread, DoesSend, DoesTake, Runs};
+ghost use Rattle.awari_core.specs.Core.{IsAllTaken, IsBegun, AreGainsClosed, IsLeastOfAll, IsNewFault, IsAllQuiet, IsScannedCore, IsWaveDone, OpensNextGain, OpensNextWave, owner_part};
 ghost use Rattle.awari_core.specs.declared.events.Event.{Event as EventView};
 ghost use Rattle.awari_core.specs.declared.faults.CoreFault.{CoreFault};
 
@@ -89,7 +89,7 @@ impl Core {
         ensures sound { Sound self.new }
         ensures done { OnOk result (Does self.old self.new event) }
         ensures enabled { OnOk result (IsEnabled self.old event) }
-        ensures refused { IfErr result (IsFaultOf self.old event) }
+        ensures refused { IfErr result (IsEventFault self.old event) }
         ensures err { OnErr result (self.new ≡ self.old) }
     {
         match event {
@@ -123,7 +123,7 @@ impl Core {
 
     /// Whether no board is fresh, and nothing waits in outboxes and on rings.
     pub fn quiet(&self) -> bool
-        ensures quiet { IsTrue result ↔ IsQuiet self.now }
+        ensures quiet { IsTrue result ↔ IsAllQuiet self.now }
         ensures sound { Sound self.now }
     {
         are_idle(&self.parts) && self.is_all_taken()
@@ -138,7 +138,7 @@ impl Core {
 
     /// The open wave in plies, which is that of each part.
     pub fn wave(&self) -> u32
-        ensures { (i : ℕ) → i < length self.now.parts → result ≡ (part_at self.now i).wave }
+        ensures { (i : ℕ) → i < length self.now.parts → result ≡ (owner_part self.now i).wave }
     {
         self.parts[0].wave()
     }
@@ -148,10 +148,10 @@ impl Core {
     /// nothing changes. It takes no memory.
     pub fn next_gain(&mut self) -> Result<u8, CoreFault>
         ensures sound { Sound self.new }
-        ensures quiet { OnOk result (IsQuiet self.old) }
+        ensures quiet { OnOk result (IsAllQuiet self.old) }
         ensures opened { OnOk result (OpensNextGain self.old self.new) }
         ensures gain { IfOk result (λ gain. gain ≡ self.new.gain) }
-        ensures refused { IfErr result (λ fault. (fault ≡ CoreFault.NotQuiet) × (IsQuiet self.old → ⊥)) }
+        ensures refused { IfErr result (λ fault. (fault ≡ CoreFault.NotQuiet) × (IsAllQuiet self.old → ⊥)) }
         ensures err { OnErr result (self.new ≡ self.old) }
     {
         if !self.quiet() {
@@ -193,8 +193,8 @@ impl Core {
         ensures consistent { IfOk result (Consistent self.now.shelf) }
         ensures finished { IfOk result (IsFinished self.now.shelf self.now.parts) }
         ensures planned { IfOk result (IsPlannedLowest self.now.shelf) }
-        ensures closed { OnOk result (IsClosed self.now) }
-        ensures refused { IfErr result (λ fault. ((fault ≡ CoreFault.NotQuiet) × (IsClosed self.now → ⊥)) ⊎ ((fault ≡ CoreFault.Memory) × IsClosed self.now)) }
+        ensures closed { OnOk result (AreGainsClosed self.now) }
+        ensures refused { IfErr result (λ fault. ((fault ≡ CoreFault.NotQuiet) × (AreGainsClosed self.now → ⊥)) ⊎ ((fault ≡ CoreFault.Memory) × AreGainsClosed self.now)) }
     {
         if self.gain != 0 || !self.quiet() {
             return Err(CoreFault::NotQuiet);
@@ -209,7 +209,7 @@ impl Core {
         ensures sound { Sound self.new }
         ensures done { OnOk result (DoesSpread self.old self.new owner) }
         ensures enabled { OnOk result (IsEnabled self.old (EventView.Spread owner)) }
-        ensures refused { IfErr result (IsFaultOf self.old (EventView.Spread owner)) }
+        ensures refused { IfErr result (IsEventFault self.old (EventView.Spread owner)) }
         ensures err { OnErr result (self.new ≡ self.old) }
     {
         if owner as usize >= self.parts.len() {
@@ -230,7 +230,7 @@ impl Core {
         ensures sound { Sound self.new }
         ensures done { OnOk result (DoesSend self.old self.new from to) }
         ensures enabled { OnOk result (IsEnabled self.old (EventView.Send from to)) }
-        ensures refused { IfErr result (IsFaultOf self.old (EventView.Send from to)) }
+        ensures refused { IfErr result (IsEventFault self.old (EventView.Send from to)) }
         ensures err { OnErr result (self.new ≡ self.old) }
     {
         if !self.is_between(from, to) {
@@ -247,7 +247,7 @@ impl Core {
         ensures sound { Sound self.new }
         ensures done { OnOk result (DoesTake self.old self.new from to) }
         ensures enabled { OnOk result (IsEnabled self.old (EventView.Take from to)) }
-        ensures refused { IfErr result (IsFaultOf self.old (EventView.Take from to)) }
+        ensures refused { IfErr result (IsEventFault self.old (EventView.Take from to)) }
         ensures err { OnErr result (self.new ≡ self.old) }
     {
         if !self.is_between(from, to) {
@@ -272,7 +272,7 @@ impl Core {
 
     /// Opens the next smaller gain in all parts, if there is one.
     fn open_next_gain(&mut self)
-        requires { IsQuiet self.old }
+        requires { IsAllQuiet self.old }
         ensures sound { Sound self.new }
         ensures opened { OpensNextGain self.old self.new }
     {
@@ -288,7 +288,7 @@ impl Core {
     /// The least distance of a fresh board in plies, none if no board is fresh.
     fn due(&self) -> Option<u32>
         ensures least { IsLeastOfAll self.now result }
-        ensures timely { IfSome result (λ dist. (part_at self.now 0).wave ≤ dist) }
+        ensures timely { IfSome result (λ dist. (owner_part self.now 0).wave ≤ dist) }
     {
         let mut least = None;
         for part in &self.parts {
@@ -309,9 +309,9 @@ impl Core {
 fn scanned_core(alloc: Global, shelf: &Shelf, owners: u8, room: u32) -> Result<Core, AllocError>
     requires owners { (1 ≤ owners) × (owners ≤ 16) }
     requires low { length shelf.now ≤ HIGHEST_LEVEL }
-    ensures scanned { IfOk result (IsScanned shelf.now owners room) }
+    ensures scanned { IfOk result (IsScannedCore shelf.now owners room) }
     ensures sound { IfOk result Sound }
-    ensures quiet { IfOk result IsQuiet }
+    ensures quiet { IfOk result IsAllQuiet }
 {
     let shared = shelf.share()?;
     let parts = scanned_parts(alloc, shelf, owners)?;

@@ -19,8 +19,8 @@ mod cores;
 mod events;
 mod faults;
 mod laws;
-mod rings;
 mod openings;
+mod rings;
 mod senders;
 
 pub use awari_block::{MOST_OWNERS, MOST_ROOM};

@@ -7,7 +7,7 @@ ghost use Rattle.awari_block.specs.Part.{Part as PartView};
 ghost use Rattle.awari_owner.specs.Sound.{IsScannedOwner, OpensGain, OpensWave};
 ghost use Rattle.awari_table.specs.Images.{table_of};
 ghost use Rattle.awari_table.specs.declared.TheConstants.{HIGHEST_LEVEL};
-ghost use Rattle.awari_core.specs.Core.{IsNearer};
+ghost use Rattle.awari_core.specs.Core.{IsLesserOf};
 
 use awari_owner::Part;
 use awari_table::Shelf;
@@ -64,7 +64,7 @@ pub fn open_waves(parts: &mut Vec<Part>, dist: u32)
 
 /// The lesser of two distances, as far as there are any.
 pub fn nearer(one: Option<u32>, other: Option<u32>) -> Option<u32>
-    ensures { IsNearer one other result }
+    ensures { IsLesserOf one other result }
 {
     match (one, other) {
         (Some(dist), Some(also)) => Some(dist.min(also)),

@@ -1,10 +1,9 @@
 //! What an owner sends by.
 
-ghost use Rattle.std.specs.Prelude.{◌≡◌, ◌≤◌, ◌<◌, ◌-◌, ◌⊎◌, ◌↔◌, [], ℕ, Some, OnErr, IfOk, IfErr, IfSome, IfNone, IsTrue, length, vec_len, All, replicate, true, false, slice_index_or};
-ghost use Rattle.awari_block.specs.Part.{IsLeastDue, HasFarthest};
-ghost use Rattle.awari_owner.specs.Sound.{SameStake, SpreadsFirst};
+ghost use Rattle.std.specs.Prelude.{◌≡◌, ◌≤◌, ◌<◌, ◌-◌, ◌↔◌, [], ℕ, Some, OnErr, IfOk, IfErr, IfSome, IfNone, IsTrue, length, vec_len, All, replicate, true, false, slice_index_or};
+ghost use Rattle.awari_block.specs.Part.{IsLeastDue};
+ghost use Rattle.awari_owner.specs.Sound.{IsSpreadFault, SameStake, SpreadsFirst};
 ghost use Rattle.awari_owner.specs.Spread.{IsPartOf};
-ghost use Rattle.awari_owner.specs.declared.faults.OwnerFault.{OwnerFault};
 ghost use Rattle.awari_core.specs.Core.{CanSend, IsLinked, IsSilent, MovesBatch, PopsBatch, Sender as SenderView, ring_to, no_sender};
 
 use crate::rings::Ring;
@@ -47,12 +46,9 @@ impl Sender {
     pub fn spread(&mut self, part: &mut Part) -> Result<bool, OwnerFault>
         requires part { IsPartOf part.old self.old.outboxes }
         ensures spread { result ≡ Ok true → SpreadsFirst part.old part.new self.old.outboxes self.new.outboxes }
-        ensures due { result ≡ Ok false → IsLeastDue part.old (Some part.old.wave) → ⊥ }
-        ensures least { (result ≡ Ok false → ⊥) → IsLeastDue part.old (Some part.old.wave) }
-        ensures none { result ≡ Ok false → (part.new ≡ part.old) × (self.new ≡ self.old) }
-        ensures stake { SameStake part.old part.new }
-        ensures rings { self.new.rings ≡ self.old.rings }
-        ensures fault { IfErr result (λ fault. ((fault ≡ OwnerFault.Far) × HasFarthest part.old) ⊎ ((fault ≡ OwnerFault.Memory) × (1 < length self.old.outboxes.queues))) }
+        ensures none { result ≡ Ok false → (IsLeastDue part.old (Some part.old.wave) → ⊥) × (part.new ≡ part.old) × (self.new ≡ self.old) }
+        ensures stays { SameStake part.old part.new × (self.new.rings ≡ self.old.rings) }
+        ensures fault { IfErr result (IsSpreadFault part.old (length self.old.outboxes.queues)) }
         ensures err { OnErr result ((part.new ≡ part.old) × (self.new ≡ self.old)) }
     {
         part.spread_one(&mut self.outboxes)

@@ -15,7 +15,7 @@ use Rattle.awari_block.specs.declared.notes.Note.{Note}
 use Rattle.awari_owner.proofs.Spreading.{IsInjective}
 use Rattle.awari_owner.proofs.Hearing.{spread_stays, spread_before}
 use Rattle.awari_owner.specs.Level.{IsShare, AreSound}
-use Rattle.awari_owner.specs.Sound.{CanTake, HoldsNotes, IsInBlockOf, IsOtherOf, IsTimely}
+use Rattle.awari_owner.specs.Sound.{CanTake, HoldsNotes, IsInBlockOf, IsOtherOf, IsTimelyNote}
 use Rattle.awari_owner.proofs.Lists.{Has-append_left, Has-append_right, Has-notes_for, heard_note, once_apart}
 
 -- ---- blocks
@@ -82,7 +82,7 @@ share_still n owners i old new seen share = record {
   end = (let end = share.end in let s = seen.start in let l = seen.len in omega (arith, end, s, l));
 }
 
-pub timely_still : (old new : Part) (m : Note) → new.level ≡ old.level → new.gain ≡ old.gain → new.wave ≡ old.wave → IsTimely old m → IsTimely new m
+pub timely_still : (old new : Part) (m : Note) → new.level ≡ old.level → new.gain ≡ old.gain → new.wave ≡ old.wave → IsTimelyNote old m → IsTimelyNote new m
 timely_still old new m level gain wave timely = record {
   gain = timely.gain ∙ sym gain;
   opened = (let o = timely.opened in omega (arith, o, gain, level));
@@ -104,8 +104,8 @@ module _ (injective : IsInjective) (value : List ℕ → ℤ) (n owners : ℕ) (
       × IsSpread (part i) (rank_of q) v d × IsNoteOf q v d p x m
   note_is = given_next.true_notes m (Has-append_right (taken i j) (m ∷ rest) m (inl refl))
 
-  timely : IsTimely (part i) m
-  timely = subst (All (IsTimely (part i))) next ((sound.sound i high).opened j ((λ e. apart (sym e)), high')) 0 m (omega arith)
+  timely : IsTimelyNote (part i) m
+  timely = subst (All (IsTimelyNote (part i))) next ((sound.sound i high).opened j ((λ e. apart (sym e)), high')) 0 m (omega arith)
 
   held : InBlock (part j) (rank_of note_is.0)
   held = in_share n owners j (rank_of note_is.0) (part j) (sound.shares j high') (subst (λ l. IsInBlockOf l owners j (rank_of note_is.0)) (sound.shares i high).level note_is.8)

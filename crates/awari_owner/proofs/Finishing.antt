@@ -6,7 +6,7 @@ use Rattle.std.proofs.lemmas.Int.{ints}
 use Rattle.awari_board.specs.Rules.{IsMove, IsEnd, IsEnded, captured, next_board, own_stones}
 use Rattle.awari_block.specs.Notes.{IsQuietMove, Has, is_won, gain_by, is_won_at}
 use Rattle.awari_board.specs.Tests.{is_legal}
-use Rattle.awari_block.specs.Plain.{Status, Ended, Open, Settled, is_left, left_of, Captures, Knows, IsOpen, IsSettledAs, IsDistance, IsPlain as IsStatus}
+use Rattle.awari_block.specs.Plain.{Status, Ended, Open, Settled, is_left, left_of, Captures, Knows, IsOpenAt, IsSettledAs, IsDistance, IsPlain as IsStatus}
 use Rattle.awari_owner.proofs.PlainFinish.{value_by, dist_by, IsQuietAt, gains, IsRightAt}
 use Rattle.awari_block.specs.declared.notes.Note.{Note}
 use Rattle.awari_block.specs.declared.notes.Kind.{Kind}
@@ -207,7 +207,7 @@ module _ (value : List ℕ → ℤ) (cell : List ℕ → Status) (p : List ℕ) 
     lost = λ going. absurd (going end.stuck);
   }
 
-  right_open : (left : ℕ) (best : Option ℤ) (far : ℕ) → (cell p) ≡ Open left best far → (IsEnded p → ⊥) → IsOpen value p notes 1 → IsRightAt value cell p
+  right_open : (left : ℕ) (best : Option ℤ) (far : ℕ) → (cell p) ≡ Open left best far → (IsEnded p → ⊥) → IsOpenAt value p notes 1 → IsRightAt value cell p
   right_open left best far is going h = record {
     ends = λ g end. absurd (going end.stuck);
     no_more = λ x c q u move gain. subst (λ z. u ≤ℤ value_by z) (sym is) (most x c q u move gain);

@@ -12,7 +12,7 @@ use Rattle.awari_block.specs.Cells.{IsEither, IsWithin, Fits, FitsBy, is_settled
 use Rattle.awari_block.specs.Blocks.{Due, due_rank, due_dist, cell_in, times_due, is_settled_in, no_cell, IsDueAs, IsBlock, JoinNewlySettled, KeepSettled}
 use Rattle.awari_block.specs.Part.{Part, InBlock, IsTallied, part_of, stored_at, settled_at, unspread}
 use Rattle.awari_owner.specs.Sound.{SameStake}
-use Rattle.awari_owner.specs.Spread.{Source, Tells, kind_of, note_to, with_all_own, LeavesFresh, Spreads, SpreadsOne}
+use Rattle.awari_owner.specs.Spread.{Source, TellsSources, kind_of, note_to, with_all_own, LeavesFresh, Spreads, SpreadsOne}
 use Rattle.awari_block.specs.declared.cells.Cell.{Cell}
 use Rattle.awari_block.specs.declared.cells.Mark.{Mark}
 use Rattle.awari_block.specs.declared.cells.Mark.TheVariants.{Ended, Quiet, Capturing, Noted, Settled}
@@ -58,7 +58,7 @@ module _ (stake : Stake) (start : ℕ) (cells cells' : List Cell) (fresh rest af
   pub spread_by : IsInjective → ((p : List ℕ) (x : ℕ) (r : List ℕ) → IsBoard p → IsQuietMove p x r → IsBoard r) → ((p : List ℕ) (x : ℕ) (r : List ℕ) → IsBoard p → IsQuietMove p x r → sum r + 0 ≡ sum p)
       → IsBlock stake start cells fresh → IsPermutation (f ∷ rest) fresh → All (λ y. (due_dist f ≤ due_dist y) × (due_dist y ≡ due_dist f → due_rank f ≤ due_rank y)) fresh
       → due_dist f ≡ stake.wave → stake.wave < 2 ^ 32 - 1 → 1 ≤ stake.gain → IsBoard q → sum q ≡ stake.level → rank_of q ≡ due_rank f → cell_in start cells (due_rank f) ≡ cell → kind ≡ kind_of cell.score
-      → IsPredecessors q sources → Tells (part_of stake start cells rest) (part_of stake start cells' after) kind sources
+      → IsPredecessors q sources → TellsSources (part_of stake start cells rest) (part_of stake start cells' after) kind sources
       → JoinNewlySettled start cells rest cells' after → KeepSettled start cells cells' → length cells' ≡ length cells
       → Spreads (part_of stake start cells fresh) (part_of stake start cells' after) q sources × IsTold (part_of stake start cells fresh) q sources kind
   spread_by injective boards stones sound moved least wave near_wave one is level ranked was kinds predecessors told joined stays len = (
@@ -159,13 +159,13 @@ module _ (old taken new : Part) (rank : ℕ) (takes : TakesFirst old taken rank)
   pub spread_first : (cell : Cell) (q : List ℕ) (sources : List Source) (kind : Kind) → IsInjective
       → ((p : List ℕ) (x : ℕ) (r : List ℕ) → IsBoard p → IsQuietMove p x r → IsBoard r) → ((p : List ℕ) (x : ℕ) (r : List ℕ) → IsBoard p → IsQuietMove p x r → sum r + 0 ≡ sum p)
       → old.wave < 2 ^ 32 - 1 → 1 ≤ old.gain → IsBoard q → sum q ≡ old.level → rank_of q ≡ rank → cell ≡ stored_at taken rank → kind ≡ kind_of cell.score
-      → IsPredecessors q sources → Tells taken new kind sources
+      → IsPredecessors q sources → TellsSources taken new kind sources
       → Spreads old new q sources × IsTold old q sources kind
   spread_first cell q sources kind injective boards stones near one is level ranked was kinds predecessors told =
       subst (λ (n : Part). Spreads old n q sources × IsTold old q sources kind) at_stake
       (spread_by (stake_of old) old.start old.cells new.cells old.fresh taken.fresh new.fresh (old.wave, rank) cell q sources kind injective boards stones takes.sound takes.moved takes.first
       refl near one is level ranked (sym (subst (λ (t : Part). cell ≡ stored_at t rank) takes.rest was)) kinds predecessors
-      (subst₂ (λ (t n : Part). Tells t n kind sources) takes.rest (sym at_stake) told)
+      (subst₂ (λ (t n : Part). TellsSources t n kind sources) takes.rest (sym at_stake) told)
       taken_settles.joins taken_settles.stays taken_settles.size)
 
 -- the open gain is one that the level has

@@ -9,7 +9,7 @@ use Rattle.awari_block.specs.Part.{Part, AreFresh, InBlock, Leaves, stored_at}
 use Rattle.awari_block.specs.Leaving.{first_rank}
 use Rattle.awari_block.specs.declared.notes.Note.{Note}
 use Rattle.awari_owner.specs.Outboxes.{Outboxes, notes_of, queue_to}
-use Rattle.awari_owner.specs.Sound.{HoldsNotes, IsInBlockOf, IsOtherOf, IsTimely, OwnerSound, SameStake}
+use Rattle.awari_owner.specs.Sound.{HoldsNotes, IsInBlockOf, IsOtherOf, IsTimelyNote, OwnerSound, SameStake}
 use Rattle.awari_owner.specs.Spread.{Source, IsSpread, Sends, Spreads, is_in_block, kind_of, note_to, with_all_own}
 use Rattle.awari_owner.proofs.Lists.{Has-append_left, Has-append_right, Has-append_cases, all_has, notes_of-with_notes, once_more}
 use Rattle.awari_owner.proofs.Sounding.{timely_all}
@@ -142,11 +142,11 @@ module _ (injective : IsInjective) (moves : (p : List ℕ) (x : ℕ) (r : List �
       old = s.given_notes j other
 
   -- what is put to the outboxes is of the open gain and wave
-  opened' : (j : ℕ) → IsOtherOf o.owner (length o.queues) j → All (IsTimely part') (coming j ++ notes_of (queue_to o' j))
+  opened' : (j : ℕ) → IsOtherOf o.owner (length o.queues) j → All (IsTimelyNote part') (coming j ++ notes_of (queue_to o' j))
   opened' j other = timely_all part part' stake.level.level stake.level.gain stake.level.wave (coming j ++ notes_of (queue_to o' j))
-      (subst (All (IsTimely part)) (sym (grown (coming j) j other)) (All-append (IsTimely part) (coming j ++ notes_of (queue_to o j)) (more j) (s.opened j other) (all_has (IsTimely part) (more j) each)))
+      (subst (All (IsTimelyNote part)) (sym (grown (coming j) j other)) (All-append (IsTimelyNote part) (coming j ++ notes_of (queue_to o j)) (more j) (s.opened j other) (all_has (IsTimelyNote part) (more j) each)))
     where
-      each : (k : Note) → Has (more j) k → IsTimely part k
+      each : (k : Note) → Has (more j) k → IsTimelyNote part k
       each k has =
           let (i, at, is) = source_of q score part.wave sources notes sends.gives k (Has-filter (for_other j) notes k has).0 in
           let note = is (q, 0) in

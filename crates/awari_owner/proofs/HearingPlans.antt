@@ -19,12 +19,12 @@ use Rattle.awari_owner.proofs.Legality.{quiet_counted}
 use Rattle.awari_owner.proofs.Statuses.{IsNew, note_status}
 use Rattle.awari_owner.proofs.PitSets.{has_pit-with}
 use Rattle.awari_block.specs.Steps as steps
-use Rattle.awari_block.specs.Tally.{Best, Status, Ended, Open, Settled, gain_of}
+use Rattle.awari_block.specs.Tally.{Best, Status, Ended, Open, Settled, best_gain}
 use Rattle.awari_block.specs.Steps.{best_after, greater_of, pits_after, unless_lost}
 use Rattle.awari_block.specs.Pits.{without_pit}
 use Rattle.awari_block.specs.Tally.{is_unheard, KnowsAt, KnownToServe, IsBestGain, IsOfCapture, IsOpenStatus, IsSettledStatus, IsStatus}
 use Rattle.awari_owner.proofs.PitSets.{has_pit-none, has_pit-alone, has_pit-without, none_left}
-use Rattle.awari_owner.proofs.Knowing.{int_eq-true, int_eq-same, eqb-same, or_cases, or_left, or_right, known_before, gain_more, captures_more, gain_of-after}
+use Rattle.awari_owner.proofs.Knowing.{int_eq-true, int_eq-same, eqb-same, or_cases, or_left, or_right, known_before, gain_more, captures_more, best_gain-after}
 
 -- ---- what is left
 
@@ -89,7 +89,7 @@ unheard_left value p notes t left opened below is x own =
 -- where it may gain -t.
 pub lost_or_going : (value : List ℕ → ℤ) (p : List ℕ) (notes : List Note) (t count far left : ℕ) (capture looked gain : Option ℤ) (best : Best) (plans : ℕ) (test : Bool) → 1 ≤ t
     → IsPlain value p notes t (if test then plain.Settled (neg_ℤ (pos t)) (far + 1) else plain.Open count capture far)
-    → left < 2 ^ 6 → ((x : ℕ) → x < 6 → has_pit left x ≡ is_left p notes x) → gain_of best ≡ gain → IsBestGain value p notes gain plans → IsOfCapture value p best
+    → left < 2 ^ 6 → ((x : ℕ) → x < 6 → has_pit left x ≡ is_left p notes x) → best_gain best ≡ gain → IsBestGain value p notes gain plans → IsOfCapture value p best
     → is_best looked (neg_ℤ (pos t)) ≡ is_best gain (neg_ℤ (pos t))
     → IsStatus value p notes t (unless_lost left looked best plans far t)
 lost_or_going value p notes t count far left capture looked gain best plans true one (inl ended) few is at knows captures alike = absurd (let none = ended.2 in omega (arith, none))
@@ -189,16 +189,16 @@ module _ (value : List ℕ → ℤ) (p : List ℕ) (notes : List Note) (t w : �
   going_won : (left : ℕ) (best : Best) (plans far : ℕ) → left < 2 ^ 6 → ((x : ℕ) → x < 6 → has_pit left x ≡ is_unheard p (m ∷ notes) x) → m.kind ≡ Won
       → IsOpenStatus value p notes t best plans far → IsStatus value p (m ∷ notes) t (steps.after_note left (Open best plans far) Won m.pit t m.dist)
   going_won left best plans far few unheard e h =
-      lost_or_going value p (m ∷ notes) t (left_of p notes - 1) (max m.dist far) left h.plain.0 (gain_of (best_after best (neg_ℤ (pos t)))) (greater_of (gain_of best) (neg_ℤ (pos t))) (best_after best (neg_ℤ (pos t))) (pits_after (gain_of best) plans (neg_ℤ (pos t)) m.pit)
+      lost_or_going value p (m ∷ notes) t (left_of p notes - 1) (max m.dist far) left h.plain.0 (best_gain (best_after best (neg_ℤ (pos t)))) (greater_of (best_gain best) (neg_ℤ (pos t))) (best_after best (neg_ℤ (pos t))) (pits_after (best_gain best) plans (neg_ℤ (pos t)) m.pit)
       ((left_of p notes == 1) && is_at_most h.plain.0 (neg_ℤ (pos t))) one
       (subst (λ k. IsPlain value p (m ∷ notes) t (after_note (plain.Open (left_of p notes) h.plain.0 far) k t m.dist)) e
       (note_status value p notes t w m (plain.Open (left_of p notes) h.plain.0 far) one fresh opened waved h.plain.1))
       few
       (unheard_left value p (m ∷ notes) t left still_opened still_below unheard)
-      (gain_of-after best (neg_ℤ (pos t)))
-      (gain_more value p notes m (gain_of best) plans (neg_ℤ (pos t)) (gained-won e) h.known)
+      (best_gain-after best (neg_ℤ (pos t)))
+      (gain_more value p notes m (best_gain best) plans (neg_ℤ (pos t)) (gained-won e) h.known)
       (captures_more value p notes best plans (neg_ℤ (pos t)) h.known h.captures)
-      (ap (λ g. is_best g (neg_ℤ (pos t))) (gain_of-after best (neg_ℤ (pos t))))
+      (ap (λ g. is_best g (neg_ℤ (pos t))) (best_gain-after best (neg_ℤ (pos t))))
     where
       still_opened : (k : Note) → Has (m ∷ notes) k → t ≤ k.gain
       still_opened k (inl same) = subst (λ (j : Note). t ≤ j.gain) (sym same) (omega (arith, fresh.gained))

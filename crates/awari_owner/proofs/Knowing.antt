@@ -10,7 +10,7 @@ use Rattle.awari_block.specs.Pits.{has_pit, with_pit}
 use Rattle.awari_block.specs.Plain.{Knows}
 use Rattle.awari_block.specs.declared.notes.Note.{Note}
 use Rattle.awari_owner.proofs.PitSets.{has_pit-with}
-use Rattle.awari_block.specs.Tally.{Best, Nothing, ByCapture, ByNotes, gain_of}
+use Rattle.awari_block.specs.Tally.{Best, Nothing, ByCapture, ByNotes, best_gain}
 use Rattle.awari_block.specs.Steps.{best_after, greater_of, pits_after}
 use Rattle.awari_block.specs.Tally.{KnowsAt, IsBestGain, IsOfCapture}
 use Rattle.awari_owner.proofs.PitSets.{has_pit-alone}
@@ -131,7 +131,7 @@ module _ (value : List ℕ → ℤ) (p : List ℕ) (notes : List Note) where
           )
 
   -- and whether a capture gains it
-  pub captures_more : (best : Best) (pits : ℕ) (v : ℤ) → IsBestGain value p notes (gain_of best) pits → IsOfCapture value p best → IsOfCapture value p (best_after best v)
+  pub captures_more : (best : Best) (pits : ℕ) (v : ℤ) → IsBestGain value p notes (best_gain best) pits → IsOfCapture value p best → IsOfCapture value p (best_after best v)
   captures_more Nothing pits v none h = λ captures. none v (inl captures)
   captures_more (ByCapture b) pits v is h = by (int_lt b v) refl
     where
@@ -145,15 +145,15 @@ module _ (value : List ℕ → ℤ) (p : List ℕ) (notes : List Note) where
       by false less = h
 
 -- what the best gains is the greatest
-pub gain_of-after : (best : Best) (v : ℤ) → gain_of (best_after best v) ≡ greater_of (gain_of best) v
-gain_of-after Nothing v = refl
-gain_of-after (ByCapture b) v = by (int_lt b v)
+pub best_gain-after : (best : Best) (v : ℤ) → best_gain (best_after best v) ≡ greater_of (best_gain best) v
+best_gain-after Nothing v = refl
+best_gain-after (ByCapture b) v = by (int_lt b v)
   where
-    by : (less : Bool) → gain_of (if less then ByNotes v else ByCapture b) ≡ (if less then Some v else Some b)
+    by : (less : Bool) → best_gain (if less then ByNotes v else ByCapture b) ≡ (if less then Some v else Some b)
     by true = refl
     by false = refl
-gain_of-after (ByNotes b) v = by (int_lt b v)
+best_gain-after (ByNotes b) v = by (int_lt b v)
   where
-    by : (less : Bool) → gain_of (if less then ByNotes v else ByNotes b) ≡ (if less then Some v else Some b)
+    by : (less : Bool) → best_gain (if less then ByNotes v else ByNotes b) ≡ (if less then Some v else Some b)
     by true = refl
     by false = refl

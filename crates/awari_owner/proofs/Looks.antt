@@ -19,12 +19,12 @@ use Rattle.awari_block.specs.declared.stakes.Stake.{Stake}
 use Rattle.awari_block.specs.Notes.{IsQuietMove}
 use Rattle.awari_block.specs.Pits.{has_pit, with_pit}
 use Rattle.awari_block.specs.Plain.{Captures, Knows, IsBest}
-use Rattle.awari_owner.specs.Scan.{IsRanged, IsBestBelow, IsCounted, ArePlansBelow, IsOutlook, IsScanned, looked}
+use Rattle.awari_owner.specs.Scan.{IsRanged, IsBestBelow, IsCounted, ArePlansBelow, IsOutlook, IsScannedCell, looked}
 use Rattle.awari_owner.proofs.Basics.{below_six}
 use Rattle.awari_owner.proofs.Legality.{quiet_counted, counted_quiet}
 use Rattle.awari_owner.proofs.Scanning.{outlook-none, outlook-skips, outlook-quiet, outlook-capture, outlook-ended, outlook-quiet_legal, best-all, captures_within, scanned}
 use Rattle.awari_owner.proofs.PitSets.{has_pit-with}
-use Rattle.awari_block.specs.Tally.{Best, Nothing, ByCapture, Ended, Open, gain_of}
+use Rattle.awari_block.specs.Tally.{Best, Nothing, ByCapture, Ended, Open, best_gain}
 use Rattle.awari_block.specs.Steps.{greater_of, pits_after}
 use Rattle.awari_block.specs.Tally.{CapturesFrom, KnowsAt, IsBestGain, IsOfCapture, IsOpenStatus, IsTally, IsStatus, is_unheard}
 use Rattle.awari_owner.proofs.PitSets.{has_pit-none, has_pit-alone, none_left}
@@ -180,11 +180,11 @@ module _ (value : List ℕ → ℤ) (p : List ℕ) where
     λ x own. (λ has. inl ((are x own).0 has).1, λ known. (are x own).1 (own, captures_at x b known)),
   )
 
-  going : (quiet : ℕ) (best : Best) (plans : ℕ) → IsOfCapture value p best → IsBoard p → IsRanged value (sum p) → (x : ℕ) × IsLegal p x → IsOutlook value p 6 quiet (gain_of best) plans
-      → IsBest value p (gain_of best) → IsOpenStatus value p [] (sum p + 1) best plans 0
+  going : (quiet : ℕ) (best : Best) (plans : ℕ) → IsOfCapture value p best → IsBoard p → IsRanged value (sum p) → (x : ℕ) × IsLegal p x → IsOutlook value p 6 quiet (best_gain best) plans
+      → IsBest value p (best_gain best) → IsOpenStatus value p [] (sum p + 1) best plans 0
   going quiet best plans of is ranged legal h most = record {
-    plain = (gain_of best, scanned value p (gain_of best) legal most (captures_within value p (λ x c q move. (IsBoard-next p x c q is move, sum-from_IsMove p x c q is.pits move)) ranged));
-    known = best_known (gain_of best) plans most h.plans_below;
+    plain = (best_gain best, scanned value p (best_gain best) legal most (captures_within value p (λ x c q move. (IsBoard-next p x c q is move, sum-from_IsMove p x c q is.pits move)) ranged));
+    known = best_known (best_gain best) plans most h.plans_below;
     captures = of;
   }
 
@@ -263,7 +263,7 @@ unsettled_by c e = at c.mark e
     at mark.Ended e = refl
 
 pub scanned_looked : (value : List ℕ → ℤ) (p : List ℕ) (quiet : ℕ) (best : Option ℤ) (plans : ℕ) (gain : ℤ) (c : Cell) → IsBoard p → IsRanged value (sum p) → IsOutlook value p 6 quiet best plans
-    → (IsEnded p → IsEnd p gain) → view_of c ≡ looked quiet best plans gain → ((stake : Stake) → stake.level ≡ sum p → Fits stake c) → IsScanned value p c
+    → (IsEnded p → IsEnd p gain) → view_of c ≡ looked quiet best plans gain → ((stake : Stake) → stake.level ≡ sum p → Fits stake c) → IsScannedCell value p c
 scanned_looked value p quiet best plans gain c is ranged h end view fits = record {
   fits = λ t. fits (record { level = sum p; gain = t; wave = 0 }) refl;
   unsettled = unsettled_by c (ap (λ (d : tally.Cell). settled_by d.status) view ∙ none best);
@@ -283,13 +283,13 @@ end_is : (p : List ℕ) → IsEnded p → IsEnd p (if own_stones p == 0 then neg
 end_is p stuck = record { stuck = stuck; gains = refl }
 
 pub scanned_capturing : (value : List ℕ → ℤ) (p : List ℕ) (quiet : ℕ) (b : ℤ) (best : Option ℤ) (plans : ℕ) (c : Cell) → IsBoard p → IsRanged value (sum p) → best ≡ Some b → IsOutlook value p 6 quiet best plans
-    → view_of c ≡ record { left = quiet; status = Open (ByCapture b) plans 0 } → ((stake : Stake) → IsWithin stake.level b → Fits stake c) → IsScanned value p c
+    → view_of c ≡ record { left = quiet; status = Open (ByCapture b) plans 0 } → ((stake : Stake) → IsWithin stake.level b → Fits stake c) → IsScannedCell value p c
 scanned_capturing value p quiet b best plans c is ranged some h view fits =
     let found : IsOutlook value p 6 quiet (Some b) plans = subst (λ o. IsOutlook value p 6 quiet o plans) some h in
     scanned_looked value p quiet (Some b) plans _ c is ranged found (end_is p) view (λ stake level. fits stake (subst (λ n. IsWithin n b) (sym level) found.counted.1.best_below.1))
 
 pub scanned_quiet : (value : List ℕ → ℤ) (p : List ℕ) (quiet : ℕ) (best : Option ℤ) (plans : ℕ) (c : Cell) → IsBoard p → IsRanged value (sum p) → best ≡ None → 0 < quiet → IsOutlook value p 6 quiet best plans
-    → view_of c ≡ record { left = quiet; status = Open Nothing 0 0 } → ((stake : Stake) → Fits stake c) → IsScanned value p c
+    → view_of c ≡ record { left = quiet; status = Open Nothing 0 0 } → ((stake : Stake) → Fits stake c) → IsScannedCell value p c
 scanned_quiet value p quiet best plans c is ranged none some h view fits =
     let found : IsOutlook value p 6 quiet None plans = subst (λ o. IsOutlook value p 6 quiet o plans) none h in
     scanned_looked value p quiet None plans _ c is ranged found (end_is p)
@@ -299,7 +299,7 @@ scanned_quiet value p quiet best plans c is ranged none some h view fits =
     positive n some = grind (arith, nat_tests)
 
 pub scanned_ended : (value : List ℕ → ℤ) (p : List ℕ) (quiet : ℕ) (best : Option ℤ) (plans : ℕ) (g : ℤ) (c : Cell) → IsBoard p → IsRanged value (sum p) → best ≡ None → quiet ≡ 0 → IsOutlook value p 6 quiet best plans → IsEnd p g
-    → view_of c ≡ record { left = 0; status = Ended g } → ((stake : Stake) → IsEither stake.level g → Fits stake c) → IsScanned value p c
+    → view_of c ≡ record { left = 0; status = Ended g } → ((stake : Stake) → IsEither stake.level g → Fits stake c) → IsScannedCell value p c
 scanned_ended value p quiet best plans g c is ranged none zero_quiet h end view fits =
     let found : IsOutlook value p 6 0 None plans = subst₂ (λ n o. IsOutlook value p 6 n o plans) zero_quiet none h in
     scanned_looked value p 0 None plans g c is ranged found (λ stuck. end) view

@@ -12,7 +12,7 @@ use Rattle.awari_block.specs.declared.notes.Note.{Note}
 use Rattle.awari_block.specs.declared.notes.Kind.{Kind}
 use Rattle.awari_block.specs.declared.notes.Kind.TheVariants.{Won, Lost}
 use Rattle.awari_owner.proofs.Statuses.{opening_status}
-use Rattle.awari_block.specs.Tally.{Best, Nothing, ByCapture, ByNotes, Status, Ended, Open, Settled, capture_of, gain_of}
+use Rattle.awari_block.specs.Tally.{Best, Nothing, ByCapture, ByNotes, Status, Ended, Open, Settled, capture_of, best_gain}
 use Rattle.awari_block.specs.Steps.{after_opening, unless_lost}
 use Rattle.awari_block.specs.Tally.{is_unheard, KnowsAt, KnownToServe, IsBestGain, IsOfCapture, IsSettledStatus, IsStatus}
 use Rattle.awari_owner.proofs.PitSets.{has_pit-none}
@@ -31,8 +31,8 @@ other_loss Lost g t h one e = omega (arith, ints)
 module _ (value : List ℕ → ℤ) (p : List ℕ) (notes : List Note) (t : ℕ) (one : 1 ≤ t) (gains : (m : Note) → Has notes m → t + 1 ≤ m.gain)
     (quiet : (m : Note) → Has notes m → (q : List ℕ) × IsQuietMove p m.pit q) where
   -- what is known of notes is of greater gains, so that of the best that gains t or -t a capture does
-  looks_alike : (best : Best) (plans : ℕ) (v : ℤ) → ((k : Kind) (g : ℕ) → t + 1 ≤ g → v ≡ gain_by k g → ⊥) → IsBestGain value p notes (gain_of best) plans → IsOfCapture value p best
-      → is_best (capture_of best) v ≡ is_best (gain_of best) v
+  looks_alike : (best : Best) (plans : ℕ) (v : ℤ) → ((k : Kind) (g : ℕ) → t + 1 ≤ g → v ≡ gain_by k g → ⊥) → IsBestGain value p notes (best_gain best) plans → IsOfCapture value p best
+      → is_best (capture_of best) v ≡ is_best (best_gain best) v
   looks_alike Nothing plans v other is h = refl
   looks_alike (ByCapture b) plans v other is h = refl
   looks_alike (ByNotes b) plans v other is h = go (int_eq b v) refl
@@ -106,18 +106,18 @@ module _ (value : List ℕ → ℤ) (p : List ℕ) (notes : List Note) (t : ℕ)
   opening_known left few unheard (Open best plans far) h =
       by_top (is_best h.plain.0 (pos t)) (opening_status value p notes t one gains (plain.Open (left_of p notes) h.plain.0 far) h.plain.1)
     where
-      at_top : is_best (capture_of best) (pos t) ≡ is_best (gain_of best) (pos t)
+      at_top : is_best (capture_of best) (pos t) ≡ is_best (best_gain best) (pos t)
       at_top = looks_alike best plans (pos t) (λ k g more e. other_gain k g t more e) h.known h.captures
 
       by_top : (b : Bool)
           → IsPlain value p notes t (if b then plain.Settled (pos t) 1 else (if (left_of p notes == 0) && is_best h.plain.0 (neg_ℤ (pos t)) then plain.Settled (neg_ℤ (pos t)) (far + 1) else plain.Open (left_of p notes) h.plain.0 far))
           → IsStatus value p notes t (if is_best (capture_of best) (pos t) then Settled (pos t) 1 plans else unless_lost left (capture_of best) best plans far t)
       by_top true settled =
-          let (test, done) = won_by_best (gain_of best) plans settled h.known in
+          let (test, done) = won_by_best (best_gain best) plans settled h.known in
           subst (λ c. IsStatus value p notes t (if c then Settled (pos t) 1 plans else unless_lost left (capture_of best) best plans far t)) (sym (at_top ∙ test)) done
       by_top false rest =
           subst (λ c. IsStatus value p notes t (if c then Settled (pos t) 1 plans else unless_lost left (capture_of best) best plans far t))
-          (sym (at_top ∙ below_best (left_of p notes) far h.plain.0 (gain_of best) plans ((left_of p notes == 0) && is_best h.plain.0 (neg_ℤ (pos t))) rest h.known))
-          (lost_or_going value p notes t (left_of p notes) far left h.plain.0 (capture_of best) (gain_of best) best plans ((left_of p notes == 0) && is_best h.plain.0 (neg_ℤ (pos t))) one rest few
+          (sym (at_top ∙ below_best (left_of p notes) far h.plain.0 (best_gain best) plans ((left_of p notes == 0) && is_best h.plain.0 (neg_ℤ (pos t))) rest h.known))
+          (lost_or_going value p notes t (left_of p notes) far left h.plain.0 (capture_of best) (best_gain best) best plans ((left_of p notes == 0) && is_best h.plain.0 (neg_ℤ (pos t))) one rest few
           (unheard_left value p notes (t + 1) left gains h.plain.1.2.below unheard) refl h.known h.captures
           (looks_alike best plans (neg_ℤ (pos t)) (λ k g more e. other_loss k g t more one e) h.known h.captures))

@@ -8,7 +8,7 @@ use Rattle.awari_block.specs.declared.cells.Cell.{Cell}
 use Rattle.awari_block.specs.declared.blocks.Block.{Block}
 use Rattle.awari_owner.specs.declared.scans.ScannedBlock.{ScannedBlock}
 use Rattle.awari_block.specs.Blocks.{no_cell}
-use Rattle.awari_owner.specs.Scan.{IsScanned, IsPiece, IsScannedBlock}
+use Rattle.awari_owner.specs.Scan.{IsScannedCell, IsPiece, IsScannedBlock}
 use Rattle.awari_owner.proofs.LeavingMoves.{leaving-both}
 
 -- one piece behind the other is a piece
@@ -20,11 +20,11 @@ piece-both value n block first middle half rest boards low high bytes more meet 
   each = omega (arith, length-append bytes more, whole, front.each, back.each);
   scanned = λ p is stones from to. elim (cases_lt (rank_of p) middle) [
     | inl before ↦
-        subst (IsScanned value p) (sym (get_or_append_left low high no_cell (rank_of p - first) (omega (arith, before, from, meet, front.len))))
+        subst (IsScannedCell value p) (sym (get_or_append_left low high no_cell (rank_of p - first) (omega (arith, before, from, meet, front.len))))
         (front.scanned p is stones from (omega (arith, before, meet)))
     | inr behind ↦
         let at : rank_of p - first - half ≡ rank_of p - middle = omega (arith, meet) in
-        subst (IsScanned value p) (sym (get_or-append_right low high half (rank_of p - first) no_cell front.len (omega (arith, behind, meet)) ∙ ap (λ k. get_or high k no_cell) at))
+        subst (IsScannedCell value p) (sym (get_or-append_right low high half (rank_of p - first) no_cell front.len (omega (arith, behind, meet)) ∙ ap (λ k. get_or high k no_cell) at))
         (back.scanned p is stones behind (omega (arith, to, meet, whole)))
   ];
   leaves = leaving-both n block.start (block.end - block.start) first bytes more middle (omega (arith, meet, front.each)) front.leaves back.leaves;

@@ -16,7 +16,7 @@ use Rattle.awari_block.specs.declared.cells.Cell.{Cell}
 use Rattle.awari_block.specs.declared.cells.Mark.{Mark}
 use Rattle.awari_block.specs.declared.cells.Mark.TheVariants.{Ended, Quiet, Capturing, Noted, Settled}
 use Rattle.awari_block.specs.declared.stakes.Stake.{Stake}
-use Rattle.awari_owner.specs.Scan.{IsRanged, IsBestBelow, IsCounted, IsScanned, IsScannedPart, AreScanned, AreScannedTo}
+use Rattle.awari_owner.specs.Scan.{IsRanged, IsBestBelow, IsCounted, IsScannedCell, IsScannedPart, AreScanned, AreScannedTo}
 use Rattle.awari_rank.specs.Rank.{rank_of, size_of}
 use Rattle.awari_rank.proofs.Reaching.{board_reached}
 use Rattle.awari_block.proofs.Freshness.{fresh_of_block}
@@ -199,7 +199,7 @@ captures_within value p keeps ranged v capture =
     (omega (arith, ints, low, high, gain, stones), omega (arith, ints, low, high, gain, stones, some))
 
 -- the cell of a board of which no note was heard is a tally of none
-pub scanned_tally : (value : List ℕ → ℤ) (p : List ℕ) (c : Cell) (t w : ℕ) → t ≡ sum p + 1 → IsScanned value p c → IsTally value (view_of c) p [] t w
+pub scanned_tally : (value : List ℕ → ℤ) (p : List ℕ) (c : Cell) (t w : ℕ) → t ≡ sum p + 1 → IsScannedCell value p c → IsTally value (view_of c) p [] t w
 scanned_tally value p c t w at h = record {
   once = tt;
   quiet = λ m has. absurd has;
@@ -218,31 +218,31 @@ pub record IsScanning (value : List ℕ → ℤ) (n start rank : ℕ) (cells : L
   pub next : IsBoard board
   pub stones : sum board ≡ n
   pub ranked : rank_of board ≡ rank
-  pub each : (p : List ℕ) → IsBoard p → sum p ≡ n → start ≤ rank_of p → rank_of p < rank → IsScanned value p (cell_in start cells (rank_of p))
+  pub each : (p : List ℕ) → IsBoard p → sum p ≡ n → start ≤ rank_of p → rank_of p < rank → IsScannedCell value p (cell_in start cells (rank_of p))
 
 module _ (value : List ℕ → ℤ) (n start : ℕ) where
   -- one board more
   pub scanned-more : (rank : ℕ) (cells : List Cell) (c : Cell) (board : List ℕ) → ((b d : List ℕ) → IsBoard b → IsBoard d → sum b ≡ sum d → rank_of b ≡ rank_of d → b ≡ d)
-      → IsScanning value n start rank cells board → IsScanned value board c
-      → (p : List ℕ) → IsBoard p → sum p ≡ n → start ≤ rank_of p → rank_of p < rank + 1 → IsScanned value p (cell_in start (cells ++ c ∷ []) (rank_of p))
+      → IsScanning value n start rank cells board → IsScannedCell value board c
+      → (p : List ℕ) → IsBoard p → sum p ≡ n → start ≤ rank_of p → rank_of p < rank + 1 → IsScannedCell value p (cell_in start (cells ++ c ∷ []) (rank_of p))
   scanned-more rank cells c board injective before here p is stones low high = by (rank_of p == rank) refl
     where
       differ : (x y : ℕ) → (x == y) ≡ false → x ≢ y
       differ x y e = grind (arith, nat_tests)
 
-      by : (b : Bool) → (rank_of p == rank) ≡ b → IsScanned value p (cell_in start (cells ++ c ∷ []) (rank_of p))
+      by : (b : Bool) → (rank_of p == rank) ≡ b → IsScannedCell value p (cell_in start (cells ++ c ∷ []) (rank_of p))
       by true e =
           let at : rank_of p ≡ rank = eqb-true (rank_of p) rank e in
           let same : p ≡ board = injective p board is before.next (stones ∙ sym before.stones) (at ∙ sym before.ranked) in
           let stake : rank_of p - start ≡ length cells = omega (arith, at, before.len) in
-          subst₂ (IsScanned value) (sym same) (sym (ap (λ k. get_or (cells ++ c ∷ []) k no_cell) stake ∙ get_or-append_seam cells c [] no_cell)) here
+          subst₂ (IsScannedCell value) (sym same) (sym (ap (λ k. get_or (cells ++ c ∷ []) k no_cell) stake ∙ get_or-append_seam cells c [] no_cell)) here
       by false e =
           let ne : rank_of p ≢ rank = differ (rank_of p) rank e in
           let less : rank_of p - start < length cells = omega (arith, ne, low, high, before.len) in
-          subst (IsScanned value p) (sym (get_or_append_left cells (c ∷ []) no_cell (rank_of p - start) less)) (before.each p is stones low (omega (arith, ne, high)))
+          subst (IsScannedCell value p) (sym (get_or_append_left cells (c ∷ []) no_cell (rank_of p - start) less)) (before.each p is stones low (omega (arith, ne, high)))
 
   pub IsScanning-more : (rank : ℕ) (cells : List Cell) (c : Cell) (board next : List ℕ) → ((b d : List ℕ) → IsBoard b → IsBoard d → sum b ≡ sum d → rank_of b ≡ rank_of d → b ≡ d)
-      → IsScanning value n start rank cells board → IsScanned value board c → IsBoard next → sum next ≡ sum board → rank_of next ≡ rank_of board + 1
+      → IsScanning value n start rank cells board → IsScannedCell value board c → IsBoard next → sum next ≡ sum board → rank_of next ≡ rank_of board + 1
       → IsScanning value n start (rank + 1) (cells ++ c ∷ []) next
   IsScanning-more rank cells c board next injective before here is stones ranked = record {
     len = omega (arith, before.len, length-append cells (c ∷ []));
@@ -258,7 +258,7 @@ module _ (value : List ℕ → ℤ) (n start : ℕ) where
   scanned_to-none cells none = record { len = omega (arith, none); each = λ p is stones low high. absurd (omega (arith, low, high)) }
 
   pub scanned_to-more : (rank : ℕ) (cells : List Cell) (c : Cell) (board : List ℕ) → ((b d : List ℕ) → IsBoard b → IsBoard d → sum b ≡ sum d → rank_of b ≡ rank_of d → b ≡ d)
-      → IsBoard board → sum board ≡ n → rank_of board ≡ rank → IsScanned value board c → AreScannedTo value n start rank cells → AreScannedTo value n start (rank + 1) (cells ++ c ∷ [])
+      → IsBoard board → sum board ≡ n → rank_of board ≡ rank → IsScannedCell value board c → AreScannedTo value n start rank cells → AreScannedTo value n start (rank + 1) (cells ++ c ∷ [])
   scanned_to-more rank cells c board injective is stones ranked here before = record {
     len = (let long = before.len in let more = length-append cells (c ∷ []) in omega (arith, long, more));
     each = scanned-more rank cells c board injective (record { len = before.len; next = is; stones = stones; ranked = ranked; each = before.each }) here;
@@ -268,11 +268,11 @@ module _ (value : List ℕ → ℤ) (n start : ℕ) where
 
 module _ (value : List ℕ → ℤ) (n first last : ℕ) (cells : List Cell) (low : n ≤ 24) (within : last ≤ size_of n) (long : first + length cells ≡ last) (scanned_all : AreScanned value n first last cells) where
   -- each cell is that of a board
-  scanned_at : (k : ℕ) → k < length cells → (p : List ℕ) × (sum p ≡ n) × IsScanned value p (get_or cells k no_cell)
+  scanned_at : (k : ℕ) → k < length cells → (p : List ℕ) × (sum p ≡ n) × IsScannedCell value p (get_or cells k no_cell)
   scanned_at k h =
       let board = board_reached n (first + k) low (omega (arith, h, long, within)) in
       let at : rank_of board.0 - first ≡ k = omega (arith, board.3) in
-      (board.0, board.2, subst (λ j. IsScanned value board.0 (get_or cells j no_cell)) at (scanned_all board.0 board.1 board.2 (omega (arith, board.3)) (omega (arith, board.3, h, long))))
+      (board.0, board.2, subst (λ j. IsScannedCell value board.0 (get_or cells j no_cell)) at (scanned_all board.0 board.1 board.2 (omega (arith, board.3)) (omega (arith, board.3, h, long))))
 
   -- no board is settled
   scanned_unsettled : (r : ℕ) → r - first < length cells → settled_by (status_of (cell_in first cells r)) ≡ None

@@ -12,7 +12,7 @@ use Rattle.awari_block.specs.Tally.{has_pit}
 use Rattle.awari_block.specs.Blocks.{Due, due_rank, times_due, is_settled_in, JoinNewlySettled}
 use Rattle.awari_block.specs.Part.{Part, InBlock, IsTallied, SameLevel, cell_at, stored_at, notes_for}
 use Rattle.awari_block.specs.Boards.{HearsNote}
-use Rattle.awari_owner.specs.Spread.{Source, is_held, note_to, with_own, with_all_own, IsSource, AreUnheard, Tells, HearsOwn}
+use Rattle.awari_owner.specs.Spread.{Source, is_held, note_to, with_own, with_all_own, IsSource, AreUnheard, TellsSources, HearsOwn}
 use Rattle.awari_unmove.specs.Predecessors.{IsPredecessors, ComesBefore}
 use Rattle.awari_block.specs.declared.notes.Note.{Note}
 use Rattle.awari_block.specs.declared.notes.Kind.{Kind}
@@ -104,15 +104,15 @@ fold_push : {A B : Type 0} (f : A → B → A) (a : A) (xs : List B) (y : B) →
 fold_push f a [] y = refl
 fold_push f a (x ∷ xs) y = fold_push f (f a x) xs y
 
-pub told_none : (old : Part) (kind : Kind) → Tells old old kind []
+pub told_none : (old : Part) (kind : Kind) → TellsSources old old kind []
 told_none old kind value notes unheard tallied = tallied
 
 pub told_more : (old now new : Part) (kind : Kind) (seen : List Source) (y : Source)
     → now.level ≡ old.level → now.gain ≡ old.gain → now.wave ≡ old.wave → now.start ≡ old.start → length now.cells ≡ length old.cells
-    → Tells old now kind seen
+    → TellsSources old now kind seen
     → ((value : List ℕ → ℤ) (notes : List Note) → (InBlock now (rank_of y.0) → is_heard_at (notes_for (rank_of y.0) notes) y.1 ≡ false)
     → IsTallied value now notes → IsTallied value new (with_own now kind notes y))
-    → Tells old new kind (seen ++ y ∷ [])
+    → TellsSources old new kind (seen ++ y ∷ [])
 told_more old now new kind seen y level gain wave start len before one value notes unheard tallied =
     subst (IsTallied value new)
     (with_own-same old now kind (with_all_own old kind notes seen) y level gain wave start len ∙ sym (fold_push (with_own old kind) notes seen y))

@@ -7,7 +7,7 @@ use Rattle.std.specs.Ordering.{int_eq}
 use Rattle.awari_board.specs.Rules.{captured}
 use Rattle.awari_block.specs.Notes.{IsQuietMove, Has, is_won, gain_by, is_heard_at, is_won_at, far_of}
 use Rattle.awari_board.specs.Tests.{is_legal}
-use Rattle.awari_block.specs.Plain.{Status, Ended, Open, Settled, is_left, left_of, Captures, IsBest, Knows, IsOpen, IsSettledAs, IsDistance, IsCount, IsPlain as IsStatus}
+use Rattle.awari_block.specs.Plain.{Status, Ended, Open, Settled, is_left, left_of, Captures, IsBest, Knows, IsOpenAt, IsSettledAs, IsDistance, IsCount, IsPlain as IsStatus}
 use Rattle.awari_block.specs.Steps.{is_best}
 use Rattle.awari_owner.proofs.PlainSteps.{after_note, after_opening, is_at_most}
 use Rattle.awari_block.specs.declared.notes.Note.{Note}
@@ -159,7 +159,7 @@ last_won value p notes t w m left best far one fresh won opened counts below las
 still_open : (value : List ℕ → ℤ) (p : List ℕ) (notes : List Note) (t w : ℕ) (m : Note) (left : ℕ) (best : Option ℤ) (far : ℕ) → 1 ≤ t → IsNew p notes t w m → m.kind ≡ Won
     → IsCount value p notes left best far → ((u : ℤ) → Knows value p notes u → u <ℤ pos t)
     → ((left == 1) && is_at_most best (neg_ℤ (pos t))) ≡ false
-    → IsCount value p (m ∷ notes) (left - 1) best (max m.dist far) × IsOpen value p (m ∷ notes) t
+    → IsCount value p (m ∷ notes) (left - 1) best (max m.dist far) × IsOpenAt value p (m ∷ notes) t
 still_open value p notes t w m left best far one fresh won counts below test =
     let gain : gain_by m.kind m.gain ≡ neg_ℤ (pos t) = gain_by-won m.kind m.gain won ∙ ap (λ g. neg_ℤ (pos g)) fresh.gained in
     let fewer = left_of-won p notes m fresh.quiet.0 fresh.quiet.1 fresh.unheard won in (
@@ -281,8 +281,8 @@ module _ (value : List ℕ → ℤ) (p : List ℕ) (notes : List Note) (t : ℕ)
   }
 
   -- the board stays open
-  stays_open : (left : ℕ) (best : Option ℤ) (far : ℕ) → IsCount value p notes left best far → IsOpen value p notes (t + 1)
-      → is_best best (pos t) ≡ false → ((left == 0) && is_best best (neg_ℤ (pos t))) ≡ false → IsOpen value p notes t
+  stays_open : (left : ℕ) (best : Option ℤ) (far : ℕ) → IsCount value p notes left best far → IsOpenAt value p notes (t + 1)
+      → is_best best (pos t) ≡ false → ((left == 0) && is_best best (neg_ℤ (pos t))) ≡ false → IsOpenAt value p notes t
   stays_open left None far counts h top bottom = record {
     below = λ u known. elim (known_cases h.below u known) [ inl capture ↦ absurd (counts.best_capture u capture) | inr low ↦ omega (arith, ints) ];
     above = elim h.above [

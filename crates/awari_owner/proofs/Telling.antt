@@ -13,7 +13,7 @@ use Rattle.awari_block.specs.declared.notes.Kind.{Kind}
 use Rattle.awari_block.specs.declared.notes.Note.{Note}
 use Rattle.awari_owner.specs.Found.{target_of, Lists}
 use Rattle.awari_owner.specs.Queues.{Queue, queue_in, room_in}
-use Rattle.awari_owner.specs.Spread.{Source, IsSource, is_held, Tells, PutsAll, with_own, with_sent}
+use Rattle.awari_owner.specs.Spread.{Source, IsSource, is_held, TellsSources, PutsAll, with_own, with_sent}
 use Rattle.awari_owner.specs.declared.targets.Target.{Target}
 use Rattle.awari_owner.proofs.Finding.{Lists-at}
 use Rattle.awari_owner.proofs.Spreading.{held_still, told_none, told_more}
@@ -26,7 +26,7 @@ pub record IsTelling (old now : Part) (span : ℕ) (kind : Kind) (before after :
   pub many : length seen ≡ k
   pub predecessors : IsPredecessors q (seen ++ left)
   pub listed : Lists targets n (seen ++ left)
-  pub told : Tells old now kind seen
+  pub told : TellsSources old now kind seen
   pub sent : PutsAll old span kind before after seen
   pub room : (r : ℕ) → r < size_of old.level → is_held old r ≡ false → (r / span < length before) × (288 ≤ room_in after (r / span) + k)
 
@@ -115,7 +115,7 @@ IsTelling-more old now new span kind before middle after q targets n k t telling
 -- in the end all are
 pub IsTelling-end : (old now : Part) (span : ℕ) (kind : Kind) (before after : List Queue) (q : List ℕ) (targets : List Target) (n k : ℕ)
     → IsTelling old now span kind before after q targets n k → n ≤ k
-    → (sources : List Source) × IsPredecessors q sources × Tells old now kind sources × PutsAll old span kind before after sources
+    → (sources : List Source) × IsPredecessors q sources × TellsSources old now kind sources × PutsAll old span kind before after sources
 IsTelling-end old now span kind before after q targets n k telling end =
     let none = nothing_left telling.seen telling.left (let many = telling.many in let all = telling.listed.many in omega (arith, many, all, end)) in
     (telling.seen, subst (IsPredecessors q) (ap (λ l. telling.seen ++ l) none ∙ append-nil telling.seen) telling.predecessors, telling.told, telling.sent)

@@ -65,14 +65,14 @@ looked quiet None plans gain = record { left = quiet; status = if quiet == 0 the
 looked quiet (Some best) plans gain = record { left = quiet; status = tally.Open (tally.ByCapture best) plans 0 }
 
 -- the cell of a board of which no note was heard, before any gain is open
-pub record IsScanned (value : List ℕ → ℤ) (p : List ℕ) (c : Cell) : Type 0 where
+pub record IsScannedCell (value : List ℕ → ℤ) (p : List ℕ) (c : Cell) : Type 0 where
   pub fits : (t : ℕ) → FitsBy c.mark (sum p) t c.score c.dist
   pub unsettled : is_settled c.mark ≡ false
   pub tallied : tally.IsTally value (view_of c) p [] (sum p + 1) 0
 
 -- these are the cells of the boards of n stones from rank `start` up to, not including, rank `end`
 abbrev pub AreScanned : (List ℕ → ℤ) → ℕ → ℕ → ℕ → List Cell → Type 0
-AreScanned value n start end cells = (p : List ℕ) → IsBoard p → sum p ≡ n → start ≤ rank_of p → rank_of p < end → IsScanned value p (cell_in start cells (rank_of p))
+AreScanned value n start end cells = (p : List ℕ) → IsBoard p → sum p ≡ n → start ≤ rank_of p → rank_of p < end → IsScannedCell value p (cell_in start cells (rank_of p))
 
 -- these are the cells of the boards of n stones from rank `start` up to, not including, this rank
 pub record AreScannedTo (value : List ℕ → ℤ) (n start rank : ℕ) (cells : List Cell) : Type 0 where

@@ -6,20 +6,21 @@
 -- (HoldsNotes). What j knows is a tally of what it took from the others, and of what its own spread
 -- boards told its own boards. OwnerSound says both of one owner. It holds after every step, whatever
 -- the others do, since it speaks of lists and not of time. Level.antt says what follows of all owners.
-use Rattle.std.specs.Prelude.{◌≡◌, ◌≢◌, ℕ, ◌+◌, ◌-◌, ◌^◌, ◌<◌, ◌≤◌, ◌==◌, if◌then◌else◌, true, List, [], ◌∷◌, ◌++◌, length, sum, All, ℤ, slice_set}
+use Rattle.std.specs.Prelude.{◌≡◌, ◌≢◌, ℕ, ◌+◌, ◌-◌, ◌^◌, ◌<◌, ◌≤◌, ◌==◌, if◌then◌else◌, true, List, [], ◌∷◌, ◌++◌, length, sum, All, ℤ, Some, slice_set}
 use Rattle.awari_board.specs.Rules.{IsBoard}
 use Rattle.awari_rank.specs.Rank.{rank_of, size_of}
 use Rattle.awari_block.specs.Notes.{IsQuietMove, Has, IsNoteOf}
 use Rattle.awari_block.specs.Tally.{has_pit}
 use Rattle.awari_block.specs.Blocks.{KeepSettled}
 use Rattle.awari_block.specs.Boards.{Settles}
-use Rattle.awari_block.specs.Part.{Part, AreFresh, InBlock, IsExpected, IsTallied, Leaves, SameLevel, stored_at, unspread}
+use Rattle.awari_block.specs.Part.{Part, AreFresh, HasFarthest, InBlock, IsExpected, IsLeastDue, IsTallied, Leaves, SameLevel, stored_at, unspread}
 use Rattle.awari_block.specs.Leaving.{first_rank}
 use Rattle.awari_owner.specs.OwnerFault.{IsFaultOf}
 use Rattle.awari_owner.specs.Outboxes.{Outboxes, notes_of, queue_to}
 use Rattle.awari_owner.specs.Scan.{IsScan}
 use Rattle.awari_owner.specs.Spread.{HearsOwn, IsSeenAs, IsSpread, Source, Sends, Spreads}
 use Rattle.awari_owner.specs.declared.faults.OwnerFault.{OwnerFault}
+use Rattle.awari_owner.specs.declared.faults.OwnerFault.TheVariants.{Far, Memory}
 use Rattle.awari_block.specs.declared.notes.Note.{Note}
 
 -- the number of another owner
@@ -44,7 +45,7 @@ pub record HoldsNotes (owners : ℕ) (part : Part) (j : ℕ) (notes : List Note)
       → IsQuietMove p x q → IsSpread part (rank_of q) v d → (m : Note) × Has notes m × IsNoteOf q v d p x m
 
 -- a note that is on its way is of the open gain and wave, and the distance can be one more
-pub record IsTimely (part : Part) (m : Note) : Type 0 where
+pub record IsTimelyNote (part : Part) (m : Note) : Type 0 where
   pub gain : m.gain ≡ part.gain
   pub opened : part.gain ≤ part.level
   pub dist : m.dist ≡ part.wave
@@ -62,7 +63,7 @@ pub record OwnerSound (value : List ℕ → ℤ) (owner owners : ℕ) (part : Pa
   -- what was given is the notes of the boards that were spread
   pub given_notes : (j : ℕ) → IsOtherOf owner owners j → HoldsNotes owners part j (given j)
   -- what is on its way is of the open gain and wave
-  pub opened : (j : ℕ) → IsOtherOf owner owners j → All (IsTimely part) (coming j)
+  pub opened : (j : ℕ) → IsOtherOf owner owners j → All (IsTimelyNote part) (coming j)
   -- the fresh boards are settled ones of the open gain, each once
   pub fresh : AreFresh part
 
@@ -151,6 +152,13 @@ pub record SpreadsFirst (old new : Part) (o o' : Outboxes) : Type 0 where
   pub spreads : Spreads old new board sources
   pub sends : Sends old board sources notes o o'
   pub fewer : unspread new + 1 ≡ unspread old
+  pub due : IsLeastDue old (Some old.wave)
   pub sound : (value : List ℕ → ℤ) (taken sent coming : ℕ → List Note)
       → OwnerSound value o.owner (length o.queues) old taken (λ j. sent j ++ notes_of (queue_to o j)) (λ j. coming j ++ notes_of (queue_to o j))
       → OwnerSound value o.owner (length o.queues) new taken (λ j. sent j ++ notes_of (queue_to o' j)) (λ j. coming j ++ notes_of (queue_to o' j))
+
+-- Why it is not spread, though it is due: no distance is greater by one, or room for notes to other owners was refused.
+abbrev pub IsSpreadFault : Part → ℕ → OwnerFault → Type 0
+IsSpreadFault part owners Far = IsLeastDue part (Some part.wave) × (part.wave ≡ 2 ^ 32 - 1) × HasFarthest part
+IsSpreadFault part owners Memory = IsLeastDue part (Some part.wave) × (part.wave < 2 ^ 32 - 1) × (1 < owners)
+IsSpreadFault part owners fault = ⊥

@@ -45,8 +45,8 @@ AreUnheard part kind notes sources =
     → is_heard_at (notes_for (rank_of y.0) (with_all_own part kind notes before)) y.1 ≡ false
 
 -- between these two the notes of all these sources that are of the block were heard
-abbrev pub Tells : Part → Part → Kind → List Source → Type 0
-Tells old new kind sources =
+abbrev pub TellsSources : Part → Part → Kind → List Source → Type 0
+TellsSources old new kind sources =
     (value : List ℕ → ℤ) (notes : List Note) → AreUnheard old kind notes sources → IsTallied value old notes
     → IsTallied value new (with_all_own old kind notes sources)
 
@@ -75,7 +75,7 @@ abbrev pub kind_of : ℤ → Kind
 kind_of score = if int_lt (pos 0) score then Won else Lost
 
 -- the fresh board that comes first: of the open wave, to which none is nearer, and of least rank among those
-pub record IsFirst (part : Part) (rank : ℕ) : Type 0 where
+pub record IsFirstFresh (part : Part) (rank : ℕ) : Type 0 where
   pub fresh : 0 < times_due part.fresh rank
   pub inside : InBlock part rank
   pub near : (stored_at part rank).dist ≡ part.wave
@@ -115,7 +115,7 @@ pub record SpreadsOne (old new : Part) (q : List ℕ) (v : ℤ) (d : ℕ) : Type
 pub record Spreads (old new : Part) (q : List ℕ) (sources : List Source) : Type 0 where
   pub board : IsBoard q
   pub stones : sum q ≡ old.level
-  pub first : IsFirst old (rank_of q)
+  pub first : IsFirstFresh old (rank_of q)
   pub once : times_due old.fresh (rank_of q) ≤ 1
   pub opened : old.gain ≤ old.level
   pub valued : IsEither old.gain (stored_at old (rank_of q)).score

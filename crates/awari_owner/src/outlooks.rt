@@ -7,7 +7,7 @@ ghost use Rattle.awari_table.specs.Images.{table_of};
 ghost use Rattle.awari_table.specs.declared.TheConstants.{HIGHEST_LEVEL};
 ghost use Rattle.awari_block.specs.Cells.{IsWithin};
 ghost use Rattle.awari_block.specs.Steps.{greater_of, pits_after};
-ghost use Rattle.awari_owner.specs.Scan.{IsOutlook, IsRanged, IsScanned};
+ghost use Rattle.awari_owner.specs.Scan.{IsOutlook, IsRanged, IsScannedCell};
 
 use awari_block::Cell;
 use awari_packed::{PackedBoard, PackedMove};
@@ -91,7 +91,7 @@ fn gain_of(shelf: &Shelf, moved: &PackedMove) -> i8
 pub fn cell_of(board: &PackedBoard, seen: Outlook) -> Cell
     requires ended { seen.quiet ≡ 0 → seen.best ≡ None → IsEnded board.now }
     ensures { (value : List ℕ → ℤ) → IsBoard board.now → IsRanged value (sum board.now)
-        → IsOutlook value board.now 6 seen.quiet seen.best seen.plans → IsScanned value board.now result }
+        → IsOutlook value board.now 6 seen.quiet seen.best seen.plans → IsScannedCell value board.now result }
 {
     match seen.best {
         Some(best) => Cell::of_captures(seen.quiet, best, seen.plans),

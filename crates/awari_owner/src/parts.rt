@@ -5,11 +5,11 @@ ghost use Rattle.awari_rank.specs.Rank.{size_of};
 ghost use Rattle.awari_block.specs.Cells.{IsWithin, IsBeyond};
 ghost use Rattle.awari_block.specs.Blocks.{due_dist};
 ghost use Rattle.awari_block.specs.Boards.{Settles};
-ghost use Rattle.awari_block.specs.Part.{Part as PartView, InBlock, Leaves, IsExpected, IsTallied, stored_at, settled_at, IsLeastDue, AreFresh, HasFarthest, IsClosed};
+ghost use Rattle.awari_block.specs.Part.{Part as PartView, InBlock, Leaves, IsExpected, IsTallied, stored_at, settled_at, IsLeastDue, AreFresh, IsClosed};
 ghost use Rattle.awari_owner.specs.OwnerFault.{IsFaultOf};
 ghost use Rattle.awari_block.specs.Leaving.{IsBlockOf, first_rank};
 ghost use Rattle.awari_owner.specs.Scan.{IsScan, IsScannedBlock, IsWhole};
-ghost use Rattle.awari_owner.specs.Sound.{CanTake, KeepsOwn, KeepsTally, SameStake, SpreadsFirst, TakesNote};
+ghost use Rattle.awari_owner.specs.Sound.{CanTake, IsSpreadFault, KeepsOwn, KeepsTally, SameStake, SpreadsFirst, TakesNote};
 ghost use Rattle.awari_owner.specs.Spread.{HearsOwn, IsPartOf};
 ghost use Rattle.awari_table.specs.Images.{table_of};
 ghost use Rattle.awari_table.specs.declared.TheConstants.{HIGHEST_LEVEL};
@@ -240,14 +240,9 @@ impl Part {
     pub fn spread_one(&mut self, outboxes: &mut Outboxes) -> Result<bool, OwnerFault>
         requires part { IsPartOf self.old outboxes.old }
         ensures spread { result ≡ Ok true → SpreadsFirst self.old self.new outboxes.old outboxes.new }
-        ensures due { result ≡ Ok false → IsLeastDue self.old (Some self.old.wave) → ⊥ }
-        ensures least { (result ≡ Ok false → ⊥) → IsLeastDue self.old (Some self.old.wave) }
-        ensures none { result ≡ Ok false → (self.new ≡ self.old) × (outboxes.new ≡ outboxes.old) }
-        ensures stake { SameStake self.old self.new }
-        ensures owner { (outboxes.new.owner ≡ outboxes.old.owner) × (length outboxes.new.queues ≡ length outboxes.old.queues) }
-        ensures fresh { AreFresh self.new }
-        ensures fault { IfErr result (λ fault. ((fault ≡ OwnerFault.Far) × (self.old.wave ≡ 2 ^ 32 - 1) × IsLeastDue self.old (Some self.old.wave) × HasFarthest self.old)
-            ⊎ ((fault ≡ OwnerFault.Memory) × (self.old.wave < 2 ^ 32 - 1) × (1 < length outboxes.old.queues))) }
+        ensures none { result ≡ Ok false → (IsLeastDue self.old (Some self.old.wave) → ⊥) × (self.new ≡ self.old) × (outboxes.new ≡ outboxes.old) }
+        ensures stays { SameStake self.old self.new × (outboxes.new.owner ≡ outboxes.old.owner) × (length outboxes.new.queues ≡ length outboxes.old.queues) }
+        ensures fault { IfErr result (IsSpreadFault self.old (length outboxes.old.queues)) }
         ensures err { OnErr result ((self.new ≡ self.old) × (outboxes.new ≡ outboxes.old)) }
     {
         let Some(dist) = self.boards.due() else {

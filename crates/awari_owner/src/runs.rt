@@ -9,7 +9,7 @@ ghost use Rattle.awari_board.specs.Rules.{IsBoard, landing};
 ghost use Rattle.awari_rank.specs.Rank.{size_of};
 ghost use Rattle.awari_table.specs.Images.{table_of};
 ghost use Rattle.awari_table.specs.declared.TheConstants.{HIGHEST_LEVEL};
-ghost use Rattle.awari_owner.specs.Scan.{AreMovesBelow, AreScanned, AreScannedTo, IsOutlook, IsRanged, IsScanned};
+ghost use Rattle.awari_owner.specs.Scan.{AreMovesBelow, AreScanned, AreScannedTo, IsOutlook, IsRanged, IsScannedCell};
 
 use crate::outlooks::{Outlook, cell_of, see_capture, see_quiet};
 use awari_block::Cell;
@@ -137,7 +137,7 @@ fn scanned(shelf: &Shelf, moves: RunMoves, board: &PackedBoard) -> Cell
     requires low { length shelf.now ≤ HIGHEST_LEVEL }
     requires ranged { IsRanged (table_of shelf.now).value (length shelf.now) }
     requires moves { AreMovesBelow board.now 6 moves.near moves.far }
-    ensures { IsScanned (table_of shelf.now).value board.now result }
+    ensures { IsScannedCell (table_of shelf.now).value board.now result }
 {
     let mut seen = Outlook {
         quiet: 0,

@@ -6,7 +6,7 @@ ghost use Rattle.awari_board.specs.Rules.{IsBoard, IsMove};
 ghost use Rattle.awari_table.specs.Images.{table_of};
 ghost use Rattle.awari_table.specs.declared.TheConstants.{HIGHEST_LEVEL};
 ghost use Rattle.awari_block.specs.Leaving.{AreLeavingBelow, IsBlockOf};
-ghost use Rattle.awari_owner.specs.Scan.{CanScan, IsOutlook, IsPiece, IsRanged, IsScanned, IsScannedBlock};
+ghost use Rattle.awari_owner.specs.Scan.{CanScan, IsOutlook, IsPiece, IsRanged, IsScannedCell, IsScannedBlock};
 
 use crate::outlooks::{Outlook, cell_of, see_capture, see_quiet};
 use awari_block::{Block, Cell};
@@ -101,7 +101,7 @@ fn scanned(shelf: &Shelf, block: Block, board: &PackedBoard) -> ScannedBoard
     requires low { length shelf.now ≤ HIGHEST_LEVEL }
     requires ranged { IsRanged (table_of shelf.now).value (length shelf.now) }
     requires block { IsBlockOf (length shelf.now) block }
-    ensures cell { IsScanned (table_of shelf.now).value board.now result.cell }
+    ensures cell { IsScannedCell (table_of shelf.now).value board.now result.cell }
     ensures leaving { AreLeavingBelow block.start (block.end - block.start) board.now 6 result.leaving }
 {
     let outlook = Outlook {

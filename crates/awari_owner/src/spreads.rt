@@ -9,7 +9,7 @@ ghost use Rattle.awari_block.specs.Notes.{is_heard_at};
 ghost use Rattle.awari_block.specs.Part.{InBlock, IsTallied, notes_for};
 ghost use Rattle.awari_block.specs.Boards.{Settles};
 ghost use Rattle.awari_owner.specs.Found.{target_of};
-ghost use Rattle.awari_owner.specs.Spread.{Source, kind_of, is_held, IsSource, Tells, PutsAll, with_own, with_sent};
+ghost use Rattle.awari_owner.specs.Spread.{Source, kind_of, is_held, IsSource, TellsSources, PutsAll, with_own, with_sent};
 ghost use Rattle.awari_block.specs.declared.notes.Note.{Note as NoteView};
 
 use crate::queues::Queue;
@@ -22,7 +22,7 @@ use awari_rank::ranks_tell_boards_apart;
 /// How many predecessors are looked at before the first of them hears.
 const AHEAD: usize = 32;
 
-/// Tells the predecessors of a board that it is won or lost. A block has `span` boards.
+/// TellsSources the predecessors of a board that it is won or lost. A block has `span` boards.
 ///
 /// All of them are found first, and put into `targets`. What stood there before does not matter.
 pub fn tell_all(
@@ -41,7 +41,7 @@ pub fn tell_all(
     requires places { 288 ≤ length targets.old }
     requires room { (r : ℕ) → r < size_of boards.old.level → is_held boards.old r ≡ false
         → (r / span < vec_len queues.old) × (288 ≤ room_in queues.old.items (r / span)) }
-    ensures told { (sources : List Source) × IsPredecessors board.now sources × Tells boards.old boards.new kind sources
+    ensures told { (sources : List Source) × IsPredecessors board.now sources × TellsSources boards.old boards.new kind sources
         × PutsAll boards.old span kind queues.old.items queues.new.items sources }
     ensures queues { vec_len queues.new ≡ vec_len queues.old }
     ensures settles { Settles boards.old boards.new }
@@ -68,7 +68,7 @@ fn settled_among(boards: &Boards, targets: &[Target]) -> [bool; AHEAD] {
     settled
 }
 
-/// Tells this board that its quiet move from this pit leads to a won or a lost board. Whether it is
+/// TellsSources this board that its quiet move from this pit leads to a won or a lost board. Whether it is
 /// settled may be guessed: a wrong guess costs time alone.
 #[inline(always)]
 fn tell_one(

@@ -5,7 +5,7 @@ ghost use Rattle.std.specs.Prelude.{◌≡◌, All, IfOk, length};
 ghost use Rattle.awari_lines.specs.Rings.{IsGrid};
 ghost use Rattle.awari_block.specs.Part.{IsClosed};
 ghost use Rattle.awari_owner.specs.Level.{AreWhole};
-ghost use Rattle.awari_phase.specs.Owners.{AllGrown, OpensWave, all_ends, parts_of};
+ghost use Rattle.awari_phase.specs.Owners.{AllGrown, JoinsWave, all_ends, parts_of};
 
 use crate::expect::{expect, expect_equal};
 use crate::rounds::{after_two_rounds, next_round};
@@ -23,7 +23,7 @@ use std::thread::Threads;
 
 /// Opens distance 1 in the part of the owner, who has nothing to send.
 fn open_wave_1(rt: &impl Abort, owner: &mut Owner)
-    ensures { OpensWave 1 owner.old owner.new }
+    ensures { JoinsWave 1 owner.old owner.new }
 {
     assert!(rt; owner.outboxes.is_empty());
     assert!(rt; owner.part.wave() == 0 && owner.part.due() != Some(0));

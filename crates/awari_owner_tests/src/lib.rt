@@ -6,6 +6,8 @@
 #[cfg(test)]
 mod apart;
 #[cfg(test)]
+mod best_lines;
+#[cfg(test)]
 mod built;
 #[cfg(test)]
 mod cores;
@@ -19,8 +21,6 @@ mod examples;
 mod expect;
 #[cfg(test)]
 mod grids;
-#[cfg(test)]
-mod best_lines;
 #[cfg(test)]
 mod notes;
 #[cfg(test)]

@@ -10,19 +10,19 @@ use Rattle.awari_lines.specs.Seats.{seat_of}
 use Rattle.awari_lines.specs.declared.ends.Ends.{Ends}
 use Rattle.awari_lines.specs.declared.ends.RingPair.{RingPair}
 use Rattle.awari_phase.specs.declared.owners.Owner.{Owner}
-use Rattle.awari_phase.specs.Owners.{AreFinished, IsScanned, IsSound, all_ends, ends_of, given_to, items_of, notes_boxed, notes_given, notes_taken}
+use Rattle.awari_phase.specs.Owners.{AreFinished, IsScannedWith, IsSound, all_ends, ends_of, given_to, items_of, notes_boxed, notes_given, notes_taken}
 use Rattle.awari_phase.proofs.Grown.{ends_at}
 
 -- these are the owners of these ends, as they are scanned
 pub record ScannedTo (value : List ℕ → ℤ) (n owners : ℕ) (es : List Ends) (os : List Owner) : Type 0 where
   pub ends : all_ends os ≡ es
-  pub each : All (λ (o : Owner). IsScanned value n owners o.ends o) os
+  pub each : All (λ (o : Owner). IsScannedWith value n owners o.ends o) os
 
 module _ (value : List ℕ → ℤ) (n owners : ℕ) where
-  pub scanned_more : (es : List Ends) (os : List Owner) (e : Ends) (o : Owner) → ScannedTo value n owners es os → IsScanned value n owners e o → ScannedTo value n owners (es ++ e ∷ []) (os ++ o ∷ [])
+  pub scanned_more : (es : List Ends) (os : List Owner) (e : Ends) (o : Owner) → ScannedTo value n owners es os → IsScannedWith value n owners e o → ScannedTo value n owners (es ++ e ∷ []) (os ++ o ∷ [])
   scanned_more es os e o s more = record {
     ends = map-append ends_of os (o ∷ []) ∙ (ap (λ l. l ++ o.ends ∷ []) s.ends ∙ ap (λ (u : Ends). es ++ u ∷ []) more.ends);
-    each = All-push (λ (o : Owner). IsScanned value n owners o.ends o) os o s.each (subst (λ (u : Ends). IsScanned value n owners u o) (sym more.ends) more);
+    each = All-push (λ (o : Owner). IsScannedWith value n owners o.ends o) os o s.each (subst (λ (u : Ends). IsScannedWith value n owners u o) (sym more.ends) more);
   }
 
 -- nothing was sent or received on a ring that is not used
@@ -35,7 +35,7 @@ none_sent None u = refl
 none_sent (Some l) u = u.0
 
 -- an owner that was scanned, on rings that are not used, is sound
-scanned : (value : List ℕ → ℤ) (n owners : ℕ) (o : Owner) → IsUnused o.ends → owners_of o.ends ≡ owners → IsScanned value n owners o.ends o → IsSound value o.ends o.part o.outboxes
+scanned : (value : List ℕ → ℤ) (n owners : ℕ) (o : Owner) → IsUnused o.ends → owners_of o.ends ≡ owners → IsScannedWith value n owners o.ends o → IsSound value o.ends o.part o.outboxes
 scanned value n owners o unused count s = sound_scanned value n o.ends.owner (owners_of o.ends) o.ends.owner o.part (notes_taken o.ends) (notes_given o.ends o.outboxes) (notes_boxed o.outboxes)
     (subst (λ k. IsScannedOwner value n k o.ends.owner o.part) (sym count) s.part)
     (λ j q. ap (λ (l : List Notes). notes_of (map items_of l)) (none_received _ (unused (seat_of o.ends.owner j)))) (λ j q. ap notes_of (given j q)) (λ j q. ap notes_of (none j q))

@@ -10,7 +10,7 @@ use Rattle.awari_block.specs.Part.{Part}
 use Rattle.awari_lines.specs.Rings.{EachTo, IsGrid, IsOther, SamePairs, SameHistory, owners_of, sent_to, received_from}
 use Rattle.awari_lines.specs.declared.ends.Ends.{Ends}
 use Rattle.awari_phase.specs.declared.owners.Owner.{Owner}
-use Rattle.awari_phase.specs.Owners.{Batches, IsSound, notes_boxed, notes_given, notes_taken, Kept, Grown, AllGrown, AreFinished, AreInStep, AreReceived, AreSent, OpensWave, all_ends, ends_of, rest_of}
+use Rattle.awari_phase.specs.Owners.{Batches, IsSound, notes_boxed, notes_given, notes_taken, Kept, Grown, AllGrown, AreFinished, AreInWave, AreReceived, AreSent, JoinsWave, all_ends, ends_of, rest_of}
 use Rattle.awari_phase.proofs.Keeping.{same_pairs, pairs_then, IsOther-on, prefix_then, same_sound}
 use Rattle.awari_phase.proofs.Grown.{ends_at, grid_after}
 use Rattle.awari_phase.proofs.Each.{same_ends}
@@ -96,7 +96,7 @@ grown_wave a b d e o opens none = let p = opens.wave in record {
 -- ---- of all owners
 
 -- the same distances at each place
-step_then : (os ps : List Owner) → length ps ≡ length os → ((i : ℕ) (d : Owner) → i < length os → (get_or ps i d).part.wave ≡ (get_or os i d).part.wave) → AreInStep os → AreInStep ps
+step_then : (os ps : List Owner) → length ps ≡ length os → ((i : ℕ) (d : Owner) → i < length os → (get_or ps i d).part.wave ≡ (get_or os i d).part.wave) → AreInWave os → AreInWave ps
 step_then os ps many same step i d h =
     let low : i < length os = omega (arith, h, many) in
     same i d low ∙ (step i d low ∙ sym (same 0 d (omega (arith, low))))
@@ -144,7 +144,7 @@ all_grown_grid os ps s = s.grid
 -- ---- what is opened in all parts
 
 -- a distance
-pub all_grown_waves : (os ps : List Owner) (dist : ℕ) → length ps ≡ length os → ((i : ℕ) (d : Owner) → i < length os → OpensWave dist (get_or os i d) (get_or ps i d)) → IsGrid (all_ends os) → AllGrown os ps
+pub all_grown_waves : (os ps : List Owner) (dist : ℕ) → length ps ≡ length os → ((i : ℕ) (d : Owner) → i < length os → JoinsWave dist (get_or os i d) (get_or ps i d)) → IsGrid (all_ends os) → AllGrown os ps
 all_grown_waves os ps dist many opens g = record {
   many = many;
   each = λ i d h. (opens i d h).grown;

@@ -7,7 +7,7 @@ use Rattle.std.proofs.lemmas.Bool.Decides.{nat_tests}
 use Rattle.std.specs.List.{slice_get}
 use mathlib.Core.List.{IsPrefix}
 use Rattle.awari_owner.specs.Outboxes.{IsBatch, Outboxes, queue_to, notes_of}
-use Rattle.awari_owner.specs.Sound.{IsTimely, OwnerSound, SameStake, SpreadsFirst, TakesNotes, with_taken}
+use Rattle.awari_owner.specs.Sound.{IsTimelyNote, OwnerSound, SameStake, SpreadsFirst, TakesNotes, with_taken}
 use Rattle.awari_owner.specs.declared.faults.OwnerFault.{OwnerFault}
 use Rattle.awari_owner.proofs.Lists.{all_left, all_right, notes_of-append, notes_of-last}
 use Rattle.awari_owner.proofs.Sounding.{place_both, stake_same, stake_settled, sound_same, timely_all}
@@ -17,7 +17,7 @@ use Rattle.awari_lines.specs.declared.ends.RingPair.{RingPair}
 use Rattle.awari_block.specs.declared.notes.Note.{Note}
 use Rattle.awari_lines.specs.Rings.{Notes, IsOther, SamePairs, SameBut, SameRings, sent_to, received_from, sent_on, received_on, pair_of, owners_of}
 use Rattle.awari_phase.specs.declared.owners.Owner.{Owner}
-use Rattle.awari_phase.specs.Owners.{Batches, IsOpenBatch, IsSound, Keeps, Kept, given_to, items_of, notes_boxed, notes_given, notes_taken, taken_from}
+use Rattle.awari_phase.specs.Owners.{Batches, IsOpenBatch, IsSound, KeepsOwner, Kept, given_to, items_of, notes_boxed, notes_given, notes_taken, taken_from}
 
 -- ---- rings
 
@@ -94,7 +94,7 @@ module _ (e e' : Ends) (j : ℕ) (pairs : SamePairs e e') (others : SameBut e e'
   received_grown b h = at_each (λ l m. IsPrefix (received_on l) (received_on m)) (λ l. ([], append-nil (received_on l))) (b ∷ [], sym h)
 
   -- nothing was popped
-  pub still_keeps : (part : Part) (o : Outboxes) → sent_to e' j ≡ sent_to e j → received_from e' j ≡ received_from e j → Keeps e part o e' part o
+  pub still_keeps : (part : Part) (o : Outboxes) → sent_to e' j ≡ sent_to e j → received_from e' j ≡ received_from e j → KeepsOwner e part o e' part o
   still_keeps part o s r = record {
     pairs = pairs;
     block = stake_same part;
@@ -120,7 +120,7 @@ module _ (e e' : Ends) (j : ℕ) (pairs : SamePairs e e') (others : SameBut e e'
       by false f = ap (λ (l : Option RingPair). notes_of (map items_of (received_on l))) (others k (differ k j f) o.0)
 
   pub take_keeps : (part part' : Part) (o : Outboxes) (b : Notes) → sent_to e' j ≡ sent_to e j → received_from e' j ≡ received_from e j ++ b ∷ [] → IsOther e j → TakesNotes b.items part part'
-      → Keeps e part o e' part' o
+      → KeepsOwner e part o e' part' o
   take_keeps part part' o b s r other takes = record {
     pairs = pairs;
     block = stake_settled part part' takes.settles;
@@ -138,7 +138,7 @@ module _ (e e' : Ends) (j : ℕ) (pairs : SamePairs e e') (others : SameBut e e'
   -- the first batch of the queue was pushed
   pub send_keeps : (part : Part) (o o' : Outboxes) (b : Notes) (rest : Batches) → sent_to e' j ≡ sent_to e j ++ b ∷ [] → received_from e' j ≡ received_from e j → IsOther e j → IsBatch b.items
       → queue_to o j ≡ b.items ∷ rest → queue_to o' j ≡ rest → ((k : ℕ) → k ≢ j → queue_to o' k ≡ queue_to o k) → o'.owner ≡ o.owner → length o'.queues ≡ length o.queues
-      → Keeps e part o e' part o'
+      → KeepsOwner e part o e' part o'
   send_keeps part o o' b rest s r other whole first left same owner owners = record {
     pairs = pairs;
     block = stake_same part;
@@ -163,8 +163,8 @@ module _ (e e' : Ends) (j : ℕ) (pairs : SamePairs e e') (others : SameBut e e'
               (let Q : ℕ → Type 0 = λ i. sent_to e' i ≡ sent_to e i ++ b ∷ [] in subst Q (sym at) s),
               λ value h i d lt.
                   (let zeroth : i ≡ 0 = omega (arith, lt) in
-                  let all = subst (All (IsTimely part)) (ap notes_of first) (h.opened j other) in
-                  subst (λ (n : ℕ). P (get_or (b.items ∷ []) n d)) (sym zeroth) (record { whole = whole; opened = all_left (IsTimely part) b.items (notes_of rest) all })),
+                  let all = subst (All (IsTimelyNote part)) (ap notes_of first) (h.opened j other) in
+                  subst (λ (n : ℕ). P (get_or (b.items ∷ []) n d)) (sym zeroth) (record { whole = whole; opened = all_left (IsTimelyNote part) b.items (notes_of rest) all })),
             )
             | inr n ↦ ([], ap sent_on (others k n q.0) ∙ sym (append-nil (sent_to e k)), λ value h i d lt. absurd (omega (arith, lt)))
           ]
@@ -182,17 +182,17 @@ module _ (e e' : Ends) (j : ℕ) (pairs : SamePairs e e') (others : SameBut e e'
             | inr n ↦ ap (λ (l : Option RingPair). map items_of (sent_on l) ++ queue_to o' k) (others k n q.0) ∙ ap (λ (l : Batches). map items_of (sent_to e k) ++ l) (same k n)
           ]
 
-      boxed_at : (k : ℕ) → IsOther e k → All (IsTimely part) (notes_boxed o k) → All (IsTimely part) (notes_boxed o' k)
+      boxed_at : (k : ℕ) → IsOther e k → All (IsTimelyNote part) (notes_boxed o k) → All (IsTimelyNote part) (notes_boxed o' k)
       boxed_at k q h =
           elim (cases_eq k j) [
             | inl at ↦
-                (let Q : ℕ → Type 0 = λ i. All (IsTimely part) (notes_boxed o i) → All (IsTimely part) (notes_boxed o' i) in
+                (let Q : ℕ → Type 0 = λ i. All (IsTimelyNote part) (notes_boxed o i) → All (IsTimelyNote part) (notes_boxed o' i) in
                 subst Q (sym at)
-                (λ a. subst (λ (bs : Batches). All (IsTimely part) (notes_of bs)) (sym left) (all_right (IsTimely part) b.items (notes_of rest) (subst (All (IsTimely part)) (ap notes_of first) a))) h)
-            | inr n ↦ subst (λ (bs : Batches). All (IsTimely part) (notes_of bs)) (sym (same k n)) h
+                (λ a. subst (λ (bs : Batches). All (IsTimelyNote part) (notes_of bs)) (sym left) (all_right (IsTimelyNote part) b.items (notes_of rest) (subst (All (IsTimelyNote part)) (ap notes_of first) a))) h)
+            | inr n ↦ subst (λ (bs : Batches). All (IsTimelyNote part) (notes_of bs)) (sym (same k n)) h
           ]
 
-keeps_refl : (e : Ends) (part : Part) (o : Outboxes) → Keeps e part o e part o
+keeps_refl : (e : Ends) (part : Part) (o : Outboxes) → KeepsOwner e part o e part o
 keeps_refl e part o = record {
   pairs = same_pairs e;
   block = stake_same part;
@@ -222,7 +222,7 @@ module _ (e : Ends) (part part' : Part) (o o' : Outboxes) (many : length o.queue
       apart boxes j = notes_of-append (map items_of (sent_to e j)) (queue_to boxes j)
 
   pub spread_keeps : SameStake part part' → (done : Bool) (result : Result Bool OwnerFault) → result ≡ Ok done → (result ≡ Ok true → SpreadsFirst part part' o o') → (result ≡ Ok false → (part' ≡ part) × (o' ≡ o))
-      → Keeps e part o e part' o'
+      → KeepsOwner e part o e part' o'
   spread_keeps place true result was spread none =
       let spreads = spread was in
       record {
@@ -237,7 +237,7 @@ module _ (e : Ends) (part part' : Part) (o o' : Outboxes) (many : length o.queue
       }
   spread_keeps place false result was spread none =
       let same = none was in
-      subst₂ (λ (p : Part) (b : Outboxes). Keeps e part o e p b) (sym same.0) (sym same.1) (keeps_refl e part o)
+      subst₂ (λ (p : Part) (b : Outboxes). KeepsOwner e part o e p b) (sym same.0) (sym same.1) (keeps_refl e part o)
 
 -- ---- one step after another
 

@@ -10,7 +10,7 @@ use Rattle.awari_block.specs.Part.{Part}
 use Rattle.awari_owner.specs.declared.faults.OwnerFault.{OwnerFault}
 use Rattle.awari_block.specs.declared.notes.Note.{Note}
 use Rattle.awari_phase.specs.declared.owners.Owner.{Owner}
-use Rattle.awari_phase.specs.Owners.{AllGrown, AreFinished, AreReceived, AreTogether, IsOpenBatch, Kept, OpenBehind, OpensWave, Swept, all_ends, ends_of, items_of, rest_of}
+use Rattle.awari_phase.specs.Owners.{AllGrown, AreFinished, AreReceived, AreTogether, IsOpenBatch, Kept, OpenBehind, JoinsWave, Swept, all_ends, ends_of, items_of, rest_of}
 use Rattle.awari_phase.specs.PhaseFault.{AreWell}
 use Rattle.awari_phase.specs.Stops.{HasWorked, HaveWorked}
 use Rattle.awari_phase.proofs.Grown.{grid_after, grid_pairs}
@@ -182,7 +182,7 @@ together_received value n os ps grown received t = together_grown value n os ps 
 
 -- with a distance opened, where nothing waits
 pub together_waves : (value : List ℕ → ℤ) (n : ℕ) (os ps : List Owner) (dist : ℕ) → length ps ≡ length os
-    → ((i : ℕ) (d : Owner) → i < length os → OpensWave dist (get_or os i d) (get_or ps i d)) → IsGrid (all_ends os) → AreReceived os → AreTogether value n os → AreTogether value n ps
+    → ((i : ℕ) (d : Owner) → i < length os → JoinsWave dist (get_or os i d) (get_or ps i d)) → IsGrid (all_ends os) → AreReceived os → AreTogether value n os → AreTogether value n ps
 together_waves value n os ps dist many opens grid received t =
     let same : all_ends ps ≡ all_ends os = same_ends os ps many (λ i d h. (opens i d h).ends) in
     together_received value n os ps (all_grown_waves os ps dist many opens grid)

@@ -7,7 +7,7 @@ use Rattle.awari_block.specs.declared.notes.Note.{Note}
 use Rattle.awari_owner.specs.Outboxes.{IsBatch, Outboxes, queue_to, notes_of}
 use Rattle.awari_block.specs.Blocks.{KeepSettled}
 use Rattle.awari_block.specs.Part.{Part, IsLeastDue, unspread}
-use Rattle.awari_owner.specs.Sound.{IsScannedOwner, IsTimely, OpensGain, OwnerSound, SameStake}
+use Rattle.awari_owner.specs.Sound.{IsScannedOwner, IsTimelyNote, OpensGain, OwnerSound, SameStake}
 use Rattle.awari_phase.specs.declared.owners.Owner.{Owner}
 
 abbrev pub Batches : Type 0
@@ -40,11 +40,11 @@ IsSound value e part o = OwnerSound value e.owner (owners_of e) part (notes_take
 -- a batch of 1 to 32 notes of the open gain and wave
 pub record IsOpenBatch (part : Part) (b : List Note) : Type 0 where
   pub whole : IsBatch b
-  pub opened : All (IsTimely part) b
+  pub opened : All (IsTimelyNote part) b
 
 -- The owner on the same rings, with the same block, gain and distance, is sound where it was; what it took and sent has only
 -- grown, and what it sent is of the open gain and wave where what it had to send was. It has no board more to spread.
-pub record Keeps (e : Ends) (part : Part) (o : Outboxes) (e' : Ends) (part' : Part) (o' : Outboxes) : Type 0 where
+pub record KeepsOwner (e : Ends) (part : Part) (o : Outboxes) (e' : Ends) (part' : Part) (o' : Outboxes) : Type 0 where
   pub pairs : SamePairs e e'
   pub block : SameStake part part'
   pub owner : o'.owner ≡ o.owner
@@ -55,7 +55,7 @@ pub record Keeps (e : Ends) (part : Part) (o : Outboxes) (e' : Ends) (part' : Pa
   pub unspread : unspread part' ≤ unspread part
 
 abbrev pub Kept : Owner → Owner → Type 0
-Kept a b = Keeps a.ends a.part a.outboxes b.ends b.part b.outboxes
+Kept a b = KeepsOwner a.ends a.part a.outboxes b.ends b.part b.outboxes
 
 -- a batch of owner j was taken, or none is known to wait
 abbrev pub HasTaken : Owner → Owner → ℕ → Type 0
@@ -100,18 +100,18 @@ pub record Grown (a b : Owner) : Type 0 where
   pub sound : (value : List ℕ → ℤ) → IsSound value a.ends a.part a.outboxes → IsSound value b.ends b.part b.outboxes
 
 -- one distance is open in all parts
-abbrev pub AreInStep : List Owner → Type 0
-AreInStep os = (i : ℕ) (d : Owner) → i < length os → (slice_index_or os i d).part.wave ≡ (slice_index_or os 0 d).part.wave
+abbrev pub AreInWave : List Owner → Type 0
+AreInWave os = (i : ℕ) (d : Owner) → i < length os → (slice_index_or os i d).part.wave ≡ (slice_index_or os 0 d).part.wave
 
 -- So it is of each owner; they stand on a grid, and one distance is open in all parts where one was.
 pub record AllGrown (os ps : List Owner) : Type 0 where
   pub many : length ps ≡ length os
   pub each : (i : ℕ) (d : Owner) → i < length os → Grown (slice_index_or os i d) (slice_index_or ps i d)
   pub grid : IsGrid (all_ends ps)
-  pub wave : AreInStep os → AreInStep ps
+  pub wave : AreInWave os → AreInWave ps
 
 -- this distance is open in the part, where it was less
-pub record OpensWave (dist : ℕ) (a b : Owner) : Type 0 where
+pub record JoinsWave (dist : ℕ) (a b : Owner) : Type 0 where
   pub grown : Grown a b
   pub ends : b.ends ≡ a.ends
   pub wave : b.part.wave ≡ max a.part.wave dist
@@ -153,7 +153,7 @@ parts_of os = map (λ (o : Owner). o.part) os
 
 -- The owner of these ends, with its share of the level of n stones, of which nothing is known but the captures, and with
 -- nothing to send.
-pub record IsScanned (value : List ℕ → ℤ) (n owners : ℕ) (e : Ends) (o : Owner) : Type 0 where
+pub record IsScannedWith (value : List ℕ → ℤ) (n owners : ℕ) (e : Ends) (o : Owner) : Type 0 where
   pub ends : o.ends ≡ e
   pub part : IsScannedOwner value n owners e.owner o.part
   pub sent : All (λ q. q ≡ []) o.outboxes.queues
@@ -174,7 +174,7 @@ pub record AreTogether (value : List ℕ → ℤ) (n : ℕ) (os : List Owner) : 
   pub sound : All (λ (o : Owner). IsSound value o.ends o.part o.outboxes) os
   pub level : All (λ (o : Owner). o.part.level ≡ n) os
   pub gain : (i : ℕ) (d : Owner) → i < length os → (slice_index_or os i d).part.gain ≡ (slice_index_or os 0 d).part.gain
-  pub wave : AreInStep os
+  pub wave : AreInWave os
   pub waits : (i j : ℕ) (d : Owner) → i < length os → j < length os → i ≢ j
       → OpenBehind (slice_index_or os j d).part (received_from (slice_index_or os i d).ends j) (sent_to (slice_index_or os j d).ends i)
 
@@ -188,7 +188,7 @@ pub record AreFinished (value : List ℕ → ℤ) (n : ℕ) (os : List Owner) : 
   pub sound : All (λ (o : Owner). IsSound value o.ends o.part o.outboxes) os
   pub level : All (λ (o : Owner). o.part.level ≡ n) os
   pub gain : (i : ℕ) (d : Owner) → i < length os → (slice_index_or os i d).part.gain ≡ (slice_index_or os 0 d).part.gain
-  pub wave : AreInStep os
+  pub wave : AreInWave os
 
 -- owners that were together so are so still, and those that were finished
 abbrev pub StayTogether : List Owner → List Owner → Type 0

@@ -5,7 +5,7 @@ ghost use Rattle.awari_lines.specs.Rings.{HaveRoom, owners_of};
 ghost use Rattle.awari_block.specs.Part.{IsClosed};
 ghost use Rattle.awari_table.specs.Images.{table_of};
 ghost use Rattle.awari_table.specs.declared.TheConstants.{HIGHEST_LEVEL};
-ghost use Rattle.awari_phase.specs.Owners.{AreFinished, AreIdle, IsScanned, all_ends, parts_of};
+ghost use Rattle.awari_phase.specs.Owners.{AreFinished, AreIdle, IsScannedWith, all_ends, parts_of};
 ghost use Rattle.awari_phase.specs.declared.owners.Owner.{Owner as AnOwner};
 
 use crate::owners::Owner;
@@ -57,7 +57,7 @@ fn scanned_owner<R: Threads + Sync>(
     requires owners { (1 ≤ owners) × (owners ≤ 16) }
     requires low { length shelf.now ≤ HIGHEST_LEVEL }
     requires ends { (ends.owner < owners) × (owners_of ends ≡ owners) }
-    ensures { IfOk result (IsScanned (table_of shelf.now).value (length shelf.now) owners ends) }
+    ensures { IfOk result (IsScannedWith (table_of shelf.now).value (length shelf.now) owners ends) }
 {
     let number = ends.owner();
     let Ok(part) = Part::scan_parallel(rt, alloc, shelf, owners, number) else {

@@ -3,7 +3,7 @@
 ghost use Rattle.std.specs.Prelude.{◌≡◌, ◌≤◌, All, []};
 ghost use Rattle.awari_lines.specs.Rings.{EachTo, IsGrid};
 ghost use Rattle.awari_block.specs.Blocks.{due_dist};
-ghost use Rattle.awari_phase.specs.Owners.{AllGrown, AreIdle, AreReceived, AreSent, OpensNext, OpensWave, StayFinished, StayTogether, all_ends};
+ghost use Rattle.awari_phase.specs.Owners.{AllGrown, AreIdle, AreReceived, AreSent, OpensNext, JoinsWave, StayFinished, StayTogether, all_ends};
 ghost use Rattle.awari_phase.specs.declared.owners.Owner.{Owner as AnOwner};
 
 use crate::owners::Owner;
@@ -59,7 +59,7 @@ pub(crate) fn open_waves(owners: &mut [Owner], dist: u32)
 fn open_wave(owner: &mut Owner, dist: u32)
     requires sent { All (λ q. q ≡ []) owner.old.outboxes.queues }
     requires nearest { All (λ f. dist ≤ due_dist f) owner.old.part.fresh }
-    ensures { OpensWave dist owner.old owner.new }
+    ensures { JoinsWave dist owner.old owner.new }
 {
     if owner.part.wave() < dist {
         owner.part.open_wave(dist);

@@ -20,7 +20,7 @@ use Rattle.awari_block.specs.declared.notes.Kind.TheVariants.{Won, Lost}
 use Rattle.awari_owner.proofs.Basics.{won_note}
 use Rattle.awari_owner.proofs.Legality.{quiet_counted, counted_quiet}
 use Rattle.awari_play.specs.Plan.{Serves, IsLowest}
-use Rattle.awari_block.specs.Tally.{Best, Nothing, ByCapture, ByNotes, Cell, Status, Ended, Open, Settled, capture_of, gain_of}
+use Rattle.awari_block.specs.Tally.{Best, Nothing, ByCapture, ByNotes, Cell, Status, Ended, Open, Settled, capture_of, best_gain}
 use Rattle.awari_block.specs.Steps.{even_pits}
 use Rattle.awari_plan.specs.Finished.{HasSettled, HasStatus}
 use Rattle.awari_block.specs.Pits.{IsLowestIn}
@@ -190,7 +190,7 @@ module _ (value : List ℕ → ℤ) (cell : List ℕ → Cell) (p : List ℕ) (n
     known_to x (inl (c, q, move, some, gain)) = (c, q, move, ap (λ z. pos c -ℤ z) (has.captures x c q move some) ∙ sym gain ∙ sym even, λ positive. absurd (never positive))
     known_to x (inr (m, there, at, gain)) = absurd (no_zero_gain m.kind m.gain (opened m there) gain)
 
-    even_to : (x : ℕ) → x < 6 → (best : Best) → IsBestGain value p notes (gain_of best) plans → has_pit (even_pits left best plans) x ≡ true → Serves t p x
+    even_to : (x : ℕ) → x < 6 → (best : Best) → IsBestGain value p notes (best_gain best) plans → has_pit (even_pits left best plans) x ≡ true → Serves t p x
     even_to x own Nothing none e = left_to x (sym (quiet_left x own) ∙ e)
     even_to x own (ByNotes b) knows e = left_to x (sym (quiet_left x own) ∙ e)
     even_to x own (ByCapture b) knows e = by (int_eq b (pos 0)) refl e
@@ -225,7 +225,7 @@ module _ (value : List ℕ → ℤ) (cell : List ℕ → Cell) (p : List ℕ) (n
         by false = e
         by true = has_pit-both left plans x ∙ or_left (has_pit left x) (has_pit plans x) e
 
-    with_plan : (x : ℕ) → x < 6 → (best : Best) → IsBestGain value p notes (gain_of best) plans → IsOfCapture value p best → CapturesFrom value p x (pos 0) → has_pit (even_pits left best plans) x ≡ true
+    with_plan : (x : ℕ) → x < 6 → (best : Best) → IsBestGain value p notes (best_gain best) plans → IsOfCapture value p best → CapturesFrom value p x (pos 0) → has_pit (even_pits left best plans) x ≡ true
     with_plan x own Nothing none of captures = absurd (none (pos 0) (knows_at value p notes x (pos 0) (inl captures)))
     with_plan x own (ByCapture b) knows of captures =
         subst (λ c. has_pit (if c then bit_or left plans else left) x ≡ true) (sym (int_eq-same b (pos 0) same))

@@ -20,7 +20,7 @@ use Rattle.awari_owner.specs.Level.{AreHeard, no_part, part_at}
 use Rattle.awari_owner.proofs.Spreading.{IsInjective}
 use Rattle.awari_owner.proofs.Hearing.{spread_before, spread_stays}
 use Rattle.awari_waves.specs.Lists.{AreDistinct, In}
-use Rattle.awari_waves.specs.Waves.{AreNew, AreSourcesOf, CanHear, HearsFrom, TellsBoth, IsCodeFor, IsGrid, IsPending, IsQuietCode, SettlesAll, code_by, code_of, codes_to, heard_by, is_noted, note_by, value_by, with_pending}
+use Rattle.awari_waves.specs.Waves.{AreNew, AreSourcesOf, CanAllHear, HearsFrom, TellsBoth, IsCodeFor, IsCut, IsPending, IsQuietCode, SettlesAll, code_by, code_of, codes_to, heard_by, is_noted, note_by, value_of_kind, with_pending}
 use Rattle.awari_waves.proofs.Sources.{Keeps, all_in, codes_distinct, codes_in, distinct_apart, distinct_first, distinct_second, in_codes, in_either, in_first, in_map, in_or_not, in_second, map_append, source_all, source_from, sources_distinct}
 use Rattle.awari_waves.proofs.Laying.{sources_both}
 use Rattle.awari_waves.proofs.Noting.{heard_had, heard_new, heard_note, heard_old, new_all, noted_heard}
@@ -55,7 +55,7 @@ pend_none w (x ∷ ranks) fresh r apart none =
 -- ---- the note of a code
 
 note_is : (stake at : Stake) (kind : Kind) (p q : List ℕ) (x c : ℕ) → at.level ≡ stake.level → at.gain ≡ stake.gain → at.wave ≡ stake.wave → 1 ≤ stake.gain → sum p ≡ stake.level
-    → c / 8 ≡ rank_of p → c % 8 ≡ x → IsQuietMove p x q → IsNoteOf q (value_by kind stake.gain) stake.wave p x (note_by at kind c)
+    → c / 8 ≡ rank_of p → c % 8 ≡ x → IsQuietMove p x q → IsNoteOf q (value_of_kind kind stake.gain) stake.wave p x (note_by at kind c)
 note_is stake at kind p q x c level gain wave one stones rank pit quiet = record {
   quiet = quiet;
   level = level ∙ sym stones;
@@ -66,11 +66,11 @@ note_is stake at kind p q x c level gain wave one stones rank pit quiet = record
   same_dist = wave;
 }
   where
-    kinds : (k : Kind) → ((k ≡ Won) × (pos 0 <ℤ value_by k stake.gain)) ⊎ ((k ≡ Lost) × (value_by k stake.gain <ℤ pos 0))
+    kinds : (k : Kind) → ((k ≡ Won) × (pos 0 <ℤ value_of_kind k stake.gain)) ⊎ ((k ≡ Lost) × (value_of_kind k stake.gain <ℤ pos 0))
     kinds Won = inl (refl, omega (arith, ints, one))
     kinds Lost = inr (refl, omega (arith, ints, one))
 
-    gains : (k : Kind) → gain_by k stake.gain ≡ neg_ℤ (value_by k stake.gain)
+    gains : (k : Kind) → gain_by k stake.gain ≡ neg_ℤ (value_of_kind k stake.gain)
     gains Won = refl
     gains Lost = omega (arith, ints)
 
@@ -85,19 +85,19 @@ pub part_of_map : (f : Part → Part) (parts : List Part) (i : ℕ) (d : Part) �
 part_of_map f parts i d h = get_or-map f parts i no_part d h
 
 module _ (stake : Stake) (span : ℕ) (old : List Part) (injective : IsInjective) (keeps : Keeps) (boards : (p q : List ℕ) (x : ℕ) → IsBoard p → IsQuietMove p x q → IsBoard q)
-    (one : 1 ≤ stake.gain) (grid : IsGrid stake span old) where
+    (one : 1 ≤ stake.gain) (grid : IsCut stake span old) where
   -- the boards of one kind, and their sources
   module _ (kind : Kind) (ranks : List ℕ) (sources : List Source) (pending : (r : ℕ) → In ranks r → IsPending stake span old kind r) (found : AreSourcesOf stake.level ranks sources) where
     -- such a board, in its block
-    pub chunk_spread : (i r : ℕ) → i < length old → InBlock (part_at old i) r → In ranks r → IsSpread (part_at old i) r (value_by kind stake.gain) stake.wave
+    pub chunk_spread : (i r : ℕ) → i < length old → InBlock (part_at old i) r → In ranks r → IsSpread (part_at old i) r (value_of_kind kind stake.gain) stake.wave
     chunk_spread i r few inside listed =
         let at = grid.only i r few inside in
         let is = pending r listed in
-        (subst (λ b. settled_at (part_at old b) r ≡ Some (value_by kind stake.gain, stake.wave)) at is.settled, subst (λ b. times_due (part_at old b).fresh r ≡ 0) at is.taken)
+        (subst (λ b. settled_at (part_at old b) r ≡ Some (value_of_kind kind stake.gain, stake.wave)) at is.settled, subst (λ b. times_due (part_at old b).fresh r ≡ 0) at is.taken)
 
     -- a code for a block is a note of one of these boards
     pub code_true : (j c : ℕ) (p q : List ℕ) (x : ℕ) → j < length old → In (codes_to span j sources) c → IsBoard p → sum p ≡ stake.level → c / 8 ≡ rank_of p → c % 8 ≡ x → IsQuietMove p x q
-        → In ranks (rank_of q) × IsNoteOf q (value_by kind stake.gain) stake.wave p x (note_by (stake_of (part_at old j)) kind c)
+        → In ranks (rank_of q) × IsNoteOf q (value_of_kind kind stake.gain) stake.wave p x (note_by (stake_of (part_at old j)) kind c)
     code_true j c p q x few has board stones rank pit quiet =
         let m = in_codes span j sources c has in
         let y : Source = m.0 in
@@ -113,7 +113,7 @@ module _ (stake : Stake) (span : ℕ) (old : List Part) (injective : IsInjective
 
     -- and of each move to them there is one
     pub code_all : (j : ℕ) (p q : List ℕ) (x : ℕ) → j < length old → IsBoard p → sum p ≡ stake.level → InBlock (part_at old j) (rank_of p) → IsQuietMove p x q → In ranks (rank_of q)
-        → In (codes_to span j sources) (code_by (rank_of p) x) × IsNoteOf q (value_by kind stake.gain) stake.wave p x (note_by (stake_of (part_at old j)) kind (code_by (rank_of p) x))
+        → In (codes_to span j sources) (code_by (rank_of p) x) × IsNoteOf q (value_of_kind kind stake.gain) stake.wave p x (note_by (stake_of (part_at old j)) kind (code_by (rank_of p) x))
     code_all j p q x few board stones inside quiet listed =
         let own = quiet.legal.own in
         let keep = keeps p q x board quiet in (
@@ -175,7 +175,7 @@ module _ (stake : Stake) (span : ℕ) (old : List Part) (injective : IsInjective
   -- the blocks can hear what was found of both kinds
   pub can_hear : (lost won : List ℕ) (xs ys : List Source) (lost_notes won_notes : ℕ → List ℕ) → ((r : ℕ) → In lost r → IsPending stake span old Lost r) → ((r : ℕ) → In won r → IsPending stake span old Won r)
       → AreSourcesOf stake.level lost xs → AreSourcesOf stake.level won ys → ((j : ℕ) → lost_notes j ≡ codes_to span j xs) → ((j : ℕ) → won_notes j ≡ codes_to span j ys)
-      → stake.gain ≤ stake.level → stake.wave < 2 ^ 32 - 1 → length old < 2 ^ 64 → CanHear 0 lost_notes won_notes old
+      → stake.gain ≤ stake.level → stake.wave < 2 ^ 32 - 1 → length old < 2 ^ 64 → CanAllHear 0 lost_notes won_notes old
   can_hear lost won xs ys lost_notes won_notes pend_lost pend_won found_lost found_won at_lost at_won inward near few = record {
     numbers = omega (arith, few);
     of_lost = λ i h. codes_fit Lost lost xs pend_lost found_lost i (lost_notes (0 + i)) (at_lost (0 + i) ∙ ap (λ n. codes_to span n xs) (start i));
@@ -289,11 +289,11 @@ module _ (stake : Stake) (span : ℕ) (old : List Part) (injective : IsInjective
         → (v : ℤ) × (d : ℕ) × IsSpread (with_pending rest (part_at new i)) (rank_of q) v d × IsNoteOf q v d p x m
     from_code kind ranks sources pending found among i j c p q x m few few' board stones in_q quiet has rank is pit =
         let real = code_true kind ranks sources pending found j c p q x few' has board stones rank (ap (λ (n : Note). n.pit) (sym is) ∙ pit) quiet in (
-          value_by kind stake.gain,
+          value_of_kind kind stake.gain,
           stake.wave,
-          spread_now i (rank_of q) (value_by kind stake.gain) stake.wave few in_q (distinct_apart (lost ++ won) rest (rank_of q) distinct (among (rank_of q) real.0))
+          spread_now i (rank_of q) (value_of_kind kind stake.gain) stake.wave few in_q (distinct_apart (lost ++ won) rest (rank_of q) distinct (among (rank_of q) real.0))
               (chunk_spread kind ranks sources pending found i (rank_of q) few in_q real.0),
-          subst (IsNoteOf q (value_by kind stake.gain) stake.wave p x) (sym is) real.1,
+          subst (IsNoteOf q (value_of_kind kind stake.gain) stake.wave p x) (sym is) real.1,
         )
 
     -- and each is there
@@ -304,7 +304,7 @@ module _ (stake : Stake) (span : ℕ) (old : List Part) (injective : IsInjective
     via_code kind ranks sources pending found i j p q x v d few few' board stones in_p in_q quiet spread listed =
         let all = code_all kind ranks sources pending found j p q x few' board stones in_p quiet listed in
         let here = chunk_spread kind ranks sources pending found i (rank_of q) few in_q listed in
-        let same = pairs (value_by kind stake.gain, stake.wave) (v, d) (sym here.0 ∙ spread.0) in
+        let same = pairs (value_of_kind kind stake.gain, stake.wave) (v, d) (sym here.0 ∙ spread.0) in
         let own = quiet.legal.own in (
           code_by (rank_of p) x,
           all.0,
@@ -394,7 +394,7 @@ module _ (stake : Stake) (span : ℕ) (old : List Part) (injective : IsInjective
 pub settles_all : (lost won : ℕ → List ℕ) (old new : List Part) → HearsFrom 0 lost won old new → SettlesAll old new
 settles_all lost won old new hears = record { blocks = hears.blocks; settles = hears.settles; passed = hears.passed }
 
-pub grid_still : (stake : Stake) (span : ℕ) (old new : List Part) → IsGrid stake span old → SettlesAll old new → IsGrid stake span new
+pub grid_still : (stake : Stake) (span : ℕ) (old new : List Part) → IsCut stake span old → SettlesAll old new → IsCut stake span new
 grid_still stake span old new grid all = record {
   level = λ i h. (all.settles i (few i h)).same.level ∙ grid.level i (few i h);
   gain = λ i h. (all.settles i (few i h)).same.gain ∙ grid.gain i (few i h);

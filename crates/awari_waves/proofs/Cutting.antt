@@ -10,9 +10,9 @@ use Rattle.awari_rank.proofs.Reaching.{size_of-grows}
 use Rattle.awari_block.specs.Part.{Part, InBlock, IsTallied, settled_at}
 use Rattle.awari_owner.specs.Spread.{Hears}
 use Rattle.awari_owner.specs.Level.{AreBlocks, AreHeard, AreWhole, no_part, part_at}
-use Rattle.awari_waves.specs.Each.{AreIdle}
+use Rattle.awari_waves.specs.Each.{NoneAreFresh}
 use Rattle.awari_waves.specs.Scanned.{IsScannedPart}
-use Rattle.awari_waves.specs.Waves.{IsGrid}
+use Rattle.awari_waves.specs.Waves.{IsCut}
 use Rattle.awari_waves.proofs.Spans.{grid_of}
 
 pub level_few : (n : ℕ) → n ≤ 24 → size_of n ≤ 2 ^ 29
@@ -59,7 +59,7 @@ module _ (value : List ℕ → ℤ) (n span : ℕ) where
       }
 
   module _ (reached : ℕ) (parts : List Part) (low : n ≤ 24) (some : 0 < span) (done : AreScannedTo value n span reached parts) (all : size_of n ≤ reached) where
-    pub scanned-grid : IsGrid (record { level = n; gain = n + 1; wave = 0 }) span parts
+    pub scanned-grid : IsCut (record { level = n; gain = n + 1; wave = 0 }) span parts
     scanned-grid = grid_of (record { level = n; gain = n + 1; wave = 0 }) span parts some (record {
       level = λ i h. (done.each i h).level;
       gain = λ i h. (done.each i h).gain;
@@ -72,7 +72,7 @@ module _ (value : List ℕ → ℤ) (n span : ℕ) where
     pub scanned-whole : AreWhole n parts
     scanned-whole = let e : reached ≡ size_of n = (let e = done.end in omega (arith, e, all)) in subst (λ j. AreBlocks n 0 j parts) e done.blocks
 
-    pub scanned-idle : AreIdle parts
+    pub scanned-idle : NoneAreFresh parts
     scanned-idle i h = (done.each i h).fresh
 
     pub scanned-numbers : 0 < size_of n → (1 ≤ length parts) × (length parts < 2 ^ 32)

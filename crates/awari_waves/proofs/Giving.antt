@@ -17,7 +17,7 @@ use Rattle.awari_block.proofs.BlockLemmas.{due_settled, popped, settled_inside, 
 use Rattle.awari_owner.proofs.Hearing.{settled_value}
 use Rattle.awari_waves.specs.Lists.{dues_from, dues_of, list_at, without}
 use Rattle.awari_waves.specs.SegmentFields.{IsAboveZero, IsBelowZero, IsSegment}
-use Rattle.awari_waves.specs.Waves.{GivesFresh, value_by}
+use Rattle.awari_waves.specs.Waves.{GivesFresh, value_of_kind}
 use Rattle.awari_waves.specs.declared.segments.Segment.TheInside.{Inside}
 use Rattle.awari_waves.proofs.Joining.{All-append_first, All-append_second, seen}
 
@@ -132,7 +132,7 @@ module _ (a : Inside) (sound : IsSegment a) where
 
   -- a fresh board of the open wave, if it is one, has this value
   abbrev IsLeft : Kind → Due → Type 0
-  IsLeft kind f = due_dist f ≡ a.stake.wave → settled_at (seen a) (due_rank f) ≡ Some (value_by kind a.stake.gain, a.stake.wave)
+  IsLeft kind f = due_dist f ≡ a.stake.wave → settled_at (seen a) (due_rank f) ≡ Some (value_of_kind kind a.stake.gain, a.stake.wave)
 
   mine_at : (P : ℤ → Type 0) (v : ℤ) (f : Due) → ((s : ℤ) → IsEither a.stake.gain s → P s → s ≡ v) → IsMine a.stake a.start a.cells.items P f → due_dist f ≡ a.stake.wave
       → settled_at (seen a) (due_rank f) ≡ Some (v, a.stake.wave)

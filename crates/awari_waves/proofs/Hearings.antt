@@ -5,7 +5,7 @@ use Rattle.std.proofs.lemmas.List.{get_or_append_left, get_or-append_right, get_
 use Rattle.awari_block.specs.Part.{Part}
 use Rattle.awari_block.specs.Boards.{Settles, stake_of}
 use Rattle.awari_owner.specs.Level.{no_part, part_at}
-use Rattle.awari_waves.specs.Waves.{CanHear, IsCodeFor, IsReady, HearsFrom, StaysPassed, TellsBoth}
+use Rattle.awari_waves.specs.Waves.{CanAllHear, IsCodeFor, IsReady, HearsFrom, StaysPassed, TellsBoth}
 
 -- Those below k did, and the others are as they were.
 pub record HearsBelow (first : ℕ) (lost won : ℕ → List ℕ) (old now : List Part) (k : ℕ) : Type 0 where
@@ -144,7 +144,7 @@ HearsFrom-both first middle lost won low low' high high' meet one two = record {
         (subst (λ n. TellsBoth (stake_of (part_at high (i - length low))) (lost n) (won n) (part_at high (i - length low)) (part_at high' (i - length low))) at
         (two.tells (i - length low) (omega (arith, few, h, length-append low high))))
 
-pub can_left : (first : ℕ) (lost won : ℕ → List ℕ) (all xs ys : List Part) → all ≡ xs ++ ys → CanHear first lost won all → CanHear first lost won xs
+pub can_left : (first : ℕ) (lost won : ℕ → List ℕ) (all xs ys : List Part) → all ≡ xs ++ ys → CanAllHear first lost won all → CanAllHear first lost won xs
 can_left first lost won all xs ys is can = record {
   numbers = let n = can.numbers in omega (arith, n, ap length is, length-append xs ys);
   of_lost = λ i h. subst (λ (p : Part). All (IsCodeFor p) (lost (first + i))) (same i h) (can.of_lost i (inside i h));
@@ -158,7 +158,7 @@ can_left first lost won all xs ys is can = record {
     same : (i : ℕ) → i < length xs → part_at all i ≡ part_at xs i
     same i h = ap (λ ps. part_at ps i) is ∙ left xs ys i h
 
-pub can_right : (first middle : ℕ) (lost won : ℕ → List ℕ) (all xs ys : List Part) → all ≡ xs ++ ys → middle ≡ first + length xs → CanHear first lost won all → CanHear middle lost won ys
+pub can_right : (first middle : ℕ) (lost won : ℕ → List ℕ) (all xs ys : List Part) → all ≡ xs ++ ys → middle ≡ first + length xs → CanAllHear first lost won all → CanAllHear middle lost won ys
 can_right first middle lost won all xs ys is meet can = record {
   numbers = let n = can.numbers in omega (arith, n, meet, ap length is, length-append xs ys);
   of_lost = λ i h. subst₂ (λ (p : Part) n. All (IsCodeFor p) (lost n)) (same i h) (at i) (can.of_lost (length xs + i) (inside i h));

@@ -8,7 +8,7 @@ use Rattle.awari_block.specs.Blocks.{Due, due_dist}
 use Rattle.awari_block.specs.Part.{InBlock, IsFreshIn, Part, settled_at}
 use Rattle.awari_block.proofs.Freshness.{fresh_of_block}
 use Rattle.awari_owner.specs.Level.{no_part, part_at}
-use Rattle.awari_waves.specs.Each.{AreFrom, AreIdle, HasDue, lesser}
+use Rattle.awari_waves.specs.Each.{AreFrom, NoneAreFresh, HasDue, nearer_of}
 use Rattle.awari_waves.specs.Lists.{dues_from, dues_of, list_at}
 use Rattle.awari_waves.specs.SegmentFields.{IsSegment}
 use Rattle.awari_waves.specs.declared.segments.Segment.TheInside.{Inside}
@@ -26,7 +26,7 @@ pub record Sinks (Empty : Type 0) (Far : ℕ → Type 0) : Type 0 where
   pub nearer : (m n : ℕ) → m ≤ n → Far n → Far m
 
 pub nearest_both : (E F E' : Type 0) (P Q P' Has : ℕ → Type 0) (a b : Option ℕ) → Sinks E P → Sinks F Q → (E → F → E') → ((n : ℕ) → P n → Q n → P' n) → IsNearest E P Has a → IsNearest F Q Has b
-    → IsNearest E' P' Has (lesser a b)
+    → IsNearest E' P' Has (nearer_of a b)
 nearest_both E F E' P Q P' Has None None one two none far first second = record { none = none first.none second.none; least = tt; some = tt }
 nearest_both E F E' P Q P' Has None (Some b) one two none far first second = record { none = tt; least = far b (one.free first.none b) second.least; some = second.some }
 nearest_both E F E' P Q P' Has (Some a) None one two none far first second = record { none = tt; least = far a first.least (two.free second.none a); some = first.some }
@@ -85,7 +85,7 @@ list_nearest part from ls (Some n) fresh none least some =
 pub segment_nearest : (a : Inside) (from : ℕ) (x y : Option ℕ) → IsSegment a → IfNone x (dues_of a.lost ≡ []) → IfSome x (λ n. (from ≤ n) × AreFar (dues_of a.lost) n)
     → IfSome x (λ n. (value : ℕ) × (rest : List ℕ) × (list_at a.lost n ≡ value ∷ rest)) → IfNone y (dues_of a.won ≡ []) → IfSome y (λ n. (from ≤ n) × AreFar (dues_of a.won) n)
     → IfSome y (λ n. (value : ℕ) × (rest : List ℕ) × (list_at a.won n ≡ value ∷ rest))
-    → (part : Part) → seen a ≡ part → (o : Option ℕ) → o ≡ lesser x y → IsNearest (part.fresh ≡ []) (AreFar part.fresh) (HasAt from part) o
+    → (part : Part) → seen a ≡ part → (o : Option ℕ) → o ≡ nearer_of x y → IsNearest (part.fresh ≡ []) (AreFar part.fresh) (HasAt from part) o
 segment_nearest a from x y sound none_lost least_lost some_lost none_won least_won some_won part view o is =
     subst₂ (λ (p : Part) n. IsNearest (p.fresh ≡ []) (AreFar p.fresh) (HasAt from p) n) view (sym is)
     (nearest_both (dues_of a.lost ≡ []) (dues_of a.won ≡ []) (dues_of a.lost ++ dues_of a.won ≡ []) (AreFar (dues_of a.lost)) (AreFar (dues_of a.won)) (AreFar (dues_of a.lost ++ dues_of a.won)) (HasAt from (seen a)) x y
@@ -132,7 +132,7 @@ has_in from parts k part (Some n) inside read h =
     (h.0, (k, h.1.0, h.1.1, inside, subst (λ (p : Part). InBlock p h.1.0) read h.1.2, subst (λ (p : Part). settled_at p h.1.0 ≡ Some (h.1.1, n)) read h.1.3))
 
 -- a part more
-pub IsDueBelow-more : (from : ℕ) (parts : List Part) (k : ℕ) (part : Part) (x y o : Option ℕ) → k < length parts → part ≡ part_at parts k → o ≡ lesser x y → IsDueBelow from parts k x → IfNone y (part.fresh ≡ []) → IfSome y (AreFar part.fresh)
+pub IsDueBelow-more : (from : ℕ) (parts : List Part) (k : ℕ) (part : Part) (x y o : Option ℕ) → k < length parts → part ≡ part_at parts k → o ≡ nearer_of x y → IsDueBelow from parts k x → IfNone y (part.fresh ≡ []) → IfSome y (AreFar part.fresh)
     → IfSome y (HasAt from part) → IsDueBelow from parts (k + 1) o
 IsDueBelow-more from parts k part x y o inside read is below none least some = record {
   nearest = subst (IsNearest (AreIdleBelow parts (k + 1)) (AreFarBelow parts (k + 1)) (HasIn from parts)) (sym is)
@@ -153,7 +153,7 @@ IsDueBelow-more from parts k part x y o inside read is below none least some = r
         by true e = subst (λ n. P (part_at parts n)) (sym (eqb-true i k e)) (subst P read last)
         by false e = let ne = differ i k e in before i (omega (arith, less, ne))
 
-pub IsDueBelow-end : (from : ℕ) (parts : List Part) (k : ℕ) (o : Option ℕ) → length parts ≤ k → IsDueBelow from parts k o → IsNearest (AreIdle parts) (λ n. AreFrom n parts) (HasIn from parts) o
+pub IsDueBelow-end : (from : ℕ) (parts : List Part) (k : ℕ) (o : Option ℕ) → length parts ≤ k → IsDueBelow from parts k o → IsNearest (NoneAreFresh parts) (λ n. AreFrom n parts) (HasIn from parts) o
 IsDueBelow-end from parts k None end below = record { none = λ i few. below.nearest.none i (omega (arith, few, end)); least = tt; some = tt }
 IsDueBelow-end from parts k (Some n) end below = record { none = tt; least = λ i few. below.nearest.least i (omega (arith, few, end)); some = below.nearest.some }
 
@@ -164,9 +164,9 @@ option_is (Some m) n e = ap Some (eqb-true m n (sym e))
 
 -- a part that has a board of the distance from which on they are sought
 pub IsNearest-at_once : (from : ℕ) (parts : List Part) (k : ℕ) (part : Part) (o : Option ℕ) → k < length parts → part ≡ part_at parts k → AreFrom from parts → o ≡ Some from → IfSome o (HasAt from part)
-    → IsNearest (AreIdle parts) (λ n. AreFrom n parts) (HasIn from parts) o
+    → IsNearest (NoneAreFresh parts) (λ n. AreFrom n parts) (HasIn from parts) o
 IsNearest-at_once from parts k part o inside read far is has =
-    subst (IsNearest (AreIdle parts) (λ n. AreFrom n parts) (HasIn from parts)) (sym is)
+    subst (IsNearest (NoneAreFresh parts) (λ n. AreFrom n parts) (HasIn from parts)) (sym is)
     (record { none = tt; least = far; some = has_in from parts k part (Some from) inside read (subst (λ (x : Option ℕ). IfSome x (HasAt from part)) is has) })
 
 pub read_part : (parts : List Part) (k : ℕ) (part : Part) → k < length parts → part ≡ get_or parts k part → part ≡ part_at parts k

@@ -12,8 +12,8 @@ use Rattle.awari_owner.specs.Spread.{Hears, SameBlock}
 use Rattle.awari_owner.proofs.Gains.{opened}
 use Rattle.awari_owner.proofs.Hearing.{spread_before, spread_stays}
 use Rattle.awari_owner.proofs.PlannedTallies.{wave_tally}
-use Rattle.awari_waves.specs.Each.{CanOpen, CanOpenWave, Each, OpensGain, OpensWave, at_gain}
-use Rattle.awari_waves.specs.Waves.{IsGrid}
+use Rattle.awari_waves.specs.Each.{CanOpen, CanOpenWave, Each, OpensSegment, IsAtWave, at_gain}
+use Rattle.awari_waves.specs.Waves.{IsCut}
 
 -- The block is the same. Settled boards keep value and distance, and those that are newly settled join the fresh ones.
 pub record StaysSpread (old new : Part) : Type 0 where
@@ -54,8 +54,8 @@ heard_still value old new all tells heard j d h =
 
 -- ---- the same blocks
 
-pub grid_moved : (stake : Stake) (span gain wave : ℕ) (old new : List Part) → IsGrid stake span old → Each SameBlock old new → ((i : ℕ) → i < length old → (part_at new i).gain ≡ gain)
-    → ((i : ℕ) → i < length old → (part_at new i).wave ≡ wave) → IsGrid (record stake { gain = gain; wave = wave }) span new
+pub grid_moved : (stake : Stake) (span gain wave : ℕ) (old new : List Part) → IsCut stake span old → Each SameBlock old new → ((i : ℕ) → i < length old → (part_at new i).gain ≡ gain)
+    → ((i : ℕ) → i < length old → (part_at new i).wave ≡ wave) → IsCut (record stake { gain = gain; wave = wave }) span new
 grid_moved stake span gain wave old new grid all gains waves = record {
   level = λ i h. (all.each i (few i h)).level ∙ grid.level i (few i h);
   gain = λ i h. gains i (few i h);
@@ -92,29 +92,29 @@ whole_still level old new all are = blocks_still level 0 (size_of level) old new
 
 -- ---- a gain is opened
 
-gain_spread : (gain : ℕ) (old new : Part) → OpensGain gain old new → StaysSpread old new
+gain_spread : (gain : ℕ) (old new : Part) → OpensSegment gain old new → StaysSpread old new
 gain_spread gain old new opens = let settles = opens.settles in record {
   block = record { level = settles.same.level; start = settles.same.start; size = settles.size };
   stays = settles.stays;
   joins = settles.joins;
 }
 
-gain_told : (value : List ℕ → ℤ) (gain : ℕ) (old new : Part) → 1 ≤ gain → old.gain ≡ gain + 1 → OpensGain gain old new → (notes : List Note) → IsTallied value old notes → IsTallied value new notes
+gain_told : (value : List ℕ → ℤ) (gain : ℕ) (old new : Part) → 1 ≤ gain → old.gain ≡ gain + 1 → OpensSegment gain old new → (notes : List Note) → IsTallied value old notes → IsTallied value new notes
 gain_told value gain old new one next opens notes tallied =
     subst (λ (p : Part). IsTallied value p notes) (same_stake (at_gain gain old) new opens.settles.same)
     (opened value notes old new.cells new.fresh gain one (sym next) opens.settles.size (λ k h. opens.cells.inside k h (omega arith) h) tallied)
 
-opened_spread : (gain : ℕ) (old new : List Part) → Each (OpensGain gain) old new → Each StaysSpread old new
+opened_spread : (gain : ℕ) (old new : List Part) → Each (OpensSegment gain) old new → Each StaysSpread old new
 opened_spread gain old new all = record { blocks = all.blocks; each = λ i few. gain_spread gain (part_at old i) (part_at new i) (all.each i few) }
 
-pub opened_same : (gain : ℕ) (old new : List Part) → Each (OpensGain gain) old new → Each SameBlock old new
+pub opened_same : (gain : ℕ) (old new : List Part) → Each (OpensSegment gain) old new → Each SameBlock old new
 opened_same gain old new all = record { blocks = all.blocks; each = λ i few. (gain_spread gain (part_at old i) (part_at new i) (all.each i few)).block }
 
-pub opened_heard : (value : List ℕ → ℤ) (gain : ℕ) (old new : List Part) → CanOpen gain old → Each (OpensGain gain) old new → AreHeard value old → AreHeard value new
+pub opened_heard : (value : List ℕ → ℤ) (gain : ℕ) (old new : List Part) → CanOpen gain old → Each (OpensSegment gain) old new → AreHeard value old → AreHeard value new
 opened_heard value gain old new can all heard =
     heard_still value old new (opened_spread gain old new all) (λ i few. gain_told value gain (part_at old i) (part_at new i) can.positive (can.next i few) (all.each i few)) heard
 
-pub opened_grid : (stake : Stake) (span gain : ℕ) (old new : List Part) → IsGrid stake span old → Each (OpensGain gain) old new → IsGrid (record stake { gain = gain; wave = 0 }) span new
+pub opened_grid : (stake : Stake) (span gain : ℕ) (old new : List Part) → IsCut stake span old → Each (OpensSegment gain) old new → IsCut (record stake { gain = gain; wave = 0 }) span new
 opened_grid stake span gain old new grid all =
     grid_moved stake span gain 0 old new grid (opened_same gain old new all) (λ i few. (all.each i few).settles.same.gain) (λ i few. (all.each i few).settles.same.wave)
 
@@ -131,17 +131,17 @@ wave_told : (value : List ℕ → ℤ) (dist : ℕ) (old : Part) → old.wave < 
 wave_told value dist old farther notes tallied p is stones inside =
     wave_tally value (cell_at old (rank_of p)) p (notes_for (rank_of p) notes) old.gain old.wave dist (omega (arith, farther)) (tallied p is stones inside)
 
-waved_spread : (dist : ℕ) (old new : List Part) → Each (OpensWave dist) old new → Each StaysSpread old new
+waved_spread : (dist : ℕ) (old new : List Part) → Each (IsAtWave dist) old new → Each StaysSpread old new
 waved_spread dist old new all = record { blocks = all.blocks; each = λ i few. subst (StaysSpread (part_at old i)) (sym (all.each i few)) (wave_spread dist (part_at old i)) }
 
-pub waved_same : (dist : ℕ) (old new : List Part) → Each (OpensWave dist) old new → Each SameBlock old new
+pub waved_same : (dist : ℕ) (old new : List Part) → Each (IsAtWave dist) old new → Each SameBlock old new
 waved_same dist old new all = let spread = waved_spread dist old new all in record { blocks = all.blocks; each = λ i few. (spread.each i few).block }
 
-pub waved_heard : (value : List ℕ → ℤ) (dist : ℕ) (old new : List Part) → CanOpenWave dist old → Each (OpensWave dist) old new → AreHeard value old → AreHeard value new
+pub waved_heard : (value : List ℕ → ℤ) (dist : ℕ) (old new : List Part) → CanOpenWave dist old → Each (IsAtWave dist) old new → AreHeard value old → AreHeard value new
 waved_heard value dist old new can all heard =
     heard_still value old new (waved_spread dist old new all)
     (λ i few notes tallied. subst (λ (p : Part). IsTallied value p notes) (sym (all.each i few)) (wave_told value dist (part_at old i) (can.farther i few) notes tallied)) heard
 
-pub waved_grid : (stake : Stake) (span dist : ℕ) (old new : List Part) → IsGrid stake span old → Each (OpensWave dist) old new → IsGrid (record stake { wave = dist }) span new
+pub waved_grid : (stake : Stake) (span dist : ℕ) (old new : List Part) → IsCut stake span old → Each (IsAtWave dist) old new → IsCut (record stake { wave = dist }) span new
 waved_grid stake span dist old new grid all =
     grid_moved stake span stake.gain dist old new grid (waved_same dist old new all) (λ i few. ap (λ (p : Part). p.gain) (all.each i few) ∙ grid.gain i few) (λ i few. ap (λ (p : Part). p.wave) (all.each i few))

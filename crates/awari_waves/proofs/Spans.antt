@@ -5,7 +5,7 @@ use Rattle.std.proofs.lemmas.Nat.{div_below, mul-le}
 use Rattle.std.proofs.Math.Nat.{suc-mul, div-mul-le_self, lt-div-mul-add}
 use Rattle.awari_block.specs.Part.{Part}
 use Rattle.awari_block.specs.declared.stakes.Stake.{Stake}
-use Rattle.awari_waves.specs.Waves.{AreSpans, IsGrid}
+use Rattle.awari_waves.specs.Waves.{AreSpans, IsCut}
 
 next : (k s : ℕ) → (k + 1) * s ≡ k * s + s
 next k s = (let e : k + 1 ≡ suc k = omega arith in ap (λ j. j * s) e) ∙ suc-mul k s
@@ -19,7 +19,7 @@ div_at r k s some low high = elim (cases_eq (r / s) k) [
   ]
 ]
 
-pub grid_of : (stake : Stake) (span : ℕ) (parts : List Part) → 0 < span → AreSpans stake span parts → IsGrid stake span parts
+pub grid_of : (stake : Stake) (span : ℕ) (parts : List Part) → 0 < span → AreSpans stake span parts → IsCut stake span parts
 grid_of stake span parts some are = record {
   level = are.level;
   gain = are.gain;

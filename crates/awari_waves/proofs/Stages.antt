@@ -5,15 +5,15 @@ use Rattle.std.proofs.lemmas.List.{get_or_default, with_items_is}
 use Rattle.awari_block.specs.Part.{Part, IsClosed}
 use Rattle.awari_block.specs.declared.stakes.Stake.{Stake}
 use Rattle.awari_owner.specs.Level.{no_part}
-use Rattle.awari_waves.specs.Each.{AreFrom, AreIdle, CanOpen, CanOpenWave, Each}
-use Rattle.awari_waves.specs.Waves.{IsGrid, IsPassed}
+use Rattle.awari_waves.specs.Each.{AreFrom, NoneAreFresh, CanOpen, CanOpenWave, Each}
+use Rattle.awari_waves.specs.Waves.{IsCut, IsPassed}
 
 -- the blocks that take the places of others are as many
 pub kept_items : {Z : Type 0} (P : Part → Part → Type 0) (v : Vec Part Z) (new : List Part) → Each P v.items new → (with_items v new).items ≡ new
 kept_items P v new each = let same = each.blocks in let len = v.ok.0 in with_items_is v new (omega (arith, same, len))
 
-module _ (stake : Stake) (span : ℕ) (parts : List Part) (grid : IsGrid stake span parts) where
-  pub can_open : (gain : ℕ) → 1 ≤ gain → gain + 1 ≡ stake.gain → AreIdle parts → CanOpen gain parts
+module _ (stake : Stake) (span : ℕ) (parts : List Part) (grid : IsCut stake span parts) where
+  pub can_open : (gain : ℕ) → 1 ≤ gain → gain + 1 ≡ stake.gain → NoneAreFresh parts → CanOpen gain parts
   can_open gain some next idle = record { positive = some; next = λ i h. grid.gain i h ∙ sym next; idle = idle }
 
   pub can_wave : (dist : ℕ) → stake.wave < dist → AreFrom dist parts → CanOpenWave dist parts
@@ -25,7 +25,7 @@ module _ (stake : Stake) (span : ℕ) (parts : List Part) (grid : IsGrid stake s
       let far = passed i no_part h k d g in
       omega (arith, e, far, is)
 
-  pub all_closed : stake.gain ≡ 1 → AreIdle parts → All IsClosed parts
+  pub all_closed : stake.gain ≡ 1 → NoneAreFresh parts → All IsClosed parts
   all_closed last idle i d h =
       let same = get_or_default parts i no_part d h in
       subst IsClosed same (grid.gain i h ∙ last, idle i h)

@@ -18,7 +18,7 @@ use Rattle.awari_owner.specs.Level.{AreHeard, no_part, part_at}
 use Rattle.awari_waves.specs.Lists.{AreDistinct, In}
 use Rattle.awari_waves.specs.Fronts.{IsFront}
 use Rattle.awari_waves.specs.declared.chunks.Front.{Front}
-use Rattle.awari_waves.specs.Waves.{GivesFresh, IsGrid, IsPassed, IsPending, IsWaving, SettlesAll, SpreadsChunk, value_by, with_pending}
+use Rattle.awari_waves.specs.Waves.{GivesFresh, IsCut, IsPassed, IsPending, IsWaving, SettlesAll, SpreadsChunk, value_of_kind, with_pending}
 use Rattle.awari_waves.proofs.Sources.{all_in, each_in, distinct_apart, distinct_both, distinct_first, distinct_second, in_either, in_first, in_second}
 use Rattle.awari_waves.proofs.Chunked.{part_of_map, pend_none, pend_zero}
 
@@ -98,7 +98,7 @@ given_distinct w (x ∷ given) F few = (
 
 -- ---- a segment gives boards of one kind
 
-module _ (stake : Stake) (span : ℕ) (now : List Part) (k : ℕ) (kind : Kind) (new : Part) (given : List ℕ) (few : k < length now) (grid : IsGrid stake span now) (gives : GivesFresh kind (part_at now k) new given)
+module _ (stake : Stake) (span : ℕ) (now : List Part) (k : ℕ) (kind : Kind) (new : Part) (given : List ℕ) (few : k < length now) (grid : IsCut stake span now) (gives : GivesFresh kind (part_at now k) new given)
     (once : (r : ℕ) → times_due (part_at now k).fresh r ≤ 1) where
   abbrev now' : List Part
   now' = set now k new
@@ -119,7 +119,7 @@ module _ (stake : Stake) (span : ℕ) (now : List Part) (k : ℕ) (kind : Kind) 
       by true e = subst (λ n. SameBut (part_at now n) (part_at now' n)) (sym (eqb-true i k e)) (subst (SameBut (part_at now k)) (sym here) gives.rest)
       by false e = subst (SameBut (part_at now i)) (sym (there i (differ i k e))) refl
 
-  pub given_grid : IsGrid stake span now'
+  pub given_grid : IsCut stake span now'
   given_grid = record {
     level = λ i h. ap (λ (p : Part). p.level) (given_same i (low i h)) ∙ grid.level i (low i h);
     gain = λ i h. ap (λ (p : Part). p.gain) (given_same i (low i h)) ∙ grid.gain i (low i h);
@@ -136,8 +136,8 @@ module _ (stake : Stake) (span : ℕ) (now : List Part) (k : ℕ) (kind : Kind) 
   count r = times_due-permuted (map (λ x. ((part_at now k).wave, x)) given ++ new.fresh) (part_at now k).fresh r gives.moved
 
   -- each is a board of the segment, and fresh no longer
-  given_at : (r : ℕ) → In given r → InBlock (part_at now k) r × (settled_at (part_at now k) r ≡ Some (value_by kind (part_at now k).gain, (part_at now k).wave))
-  given_at r h = each_in (λ r. InBlock (part_at now k) r × (settled_at (part_at now k) r ≡ Some (value_by kind (part_at now k).gain, (part_at now k).wave))) given gives.valued r h
+  given_at : (r : ℕ) → In given r → InBlock (part_at now k) r × (settled_at (part_at now k) r ≡ Some (value_of_kind kind (part_at now k).gain, (part_at now k).wave))
+  given_at r h = each_in (λ r. InBlock (part_at now k) r × (settled_at (part_at now k) r ≡ Some (value_of_kind kind (part_at now k).gain, (part_at now k).wave))) given gives.valued r h
 
   given_home : (r : ℕ) → In given r → r / span ≡ k
   given_home r h = grid.only k r few (given_at r h).0
@@ -151,9 +151,9 @@ module _ (stake : Stake) (span : ℕ) (now : List Part) (k : ℕ) (kind : Kind) 
       let home = given_home r h in
       record {
         inside = let low = at.0.0 in let high = at.0.1 in let w = grid.within k few in omega (arith, low, high, w);
-        settled = subst (λ n. settled_at (part_at now' n) r ≡ Some (value_by kind stake.gain, stake.wave)) (sym home)
-            (subst (λ (p : Part). settled_at p r ≡ Some (value_by kind stake.gain, stake.wave)) (sym (given_same k few))
-            (at.1 ∙ (λ i. Some (value_by kind (grid.gain k few i), grid.wave k few i))));
+        settled = subst (λ n. settled_at (part_at now' n) r ≡ Some (value_of_kind kind stake.gain, stake.wave)) (sym home)
+            (subst (λ (p : Part). settled_at p r ≡ Some (value_of_kind kind stake.gain, stake.wave)) (sym (given_same k few))
+            (at.1 ∙ (λ i. Some (value_of_kind kind (grid.gain k few i), grid.wave k few i))));
         taken = subst (λ n. times_due (part_at now' n).fresh r ≡ 0) (sym home) (subst (λ (p : Part). times_due p.fresh r ≡ 0) (sym here) (given_left r h));
       }
 
@@ -161,7 +161,7 @@ module _ (stake : Stake) (span : ℕ) (now : List Part) (k : ℕ) (kind : Kind) 
   pub still_pending : (other : Kind) (r : ℕ) → IsPending stake span now other r → IsPending stake span now' other r
   still_pending other r is = record {
     inside = is.inside;
-    settled = subst (λ (p : Part). settled_at p r ≡ Some (value_by other stake.gain, stake.wave)) (sym (given_same (r / span) (grid.home r is.inside).0)) is.settled;
+    settled = subst (λ (p : Part). settled_at p r ≡ Some (value_of_kind other stake.gain, stake.wave)) (sym (given_same (r / span) (grid.home r is.inside).0)) is.settled;
     taken = by (r / span == k) refl;
   }
     where
@@ -239,7 +239,7 @@ map_none : (parts : List Part) → map (with_pending []) parts ≡ parts
 map_none [] = refl
 map_none (p ∷ parts) = ap (λ ps. p ∷ ps) (map_none parts)
 
-pub waving_none : (stake : Stake) (span : ℕ) (old : List Part) (lost won : List ℕ) → lost ≡ [] → won ≡ [] → IsGrid stake span old → IsWaving stake span 0 old old lost won
+pub waving_none : (stake : Stake) (span : ℕ) (old : List Part) (lost won : List ℕ) → lost ≡ [] → won ≡ [] → IsCut stake span old → IsWaving stake span 0 old old lost won
 waving_none stake span old lost won no_lost no_won grid =
     subst₂ (λ (l w : List ℕ). IsWaving stake span 0 old old l w) (sym no_lost) (sym no_won) (record {
       blocks = refl;
@@ -256,7 +256,7 @@ pub waving_end : (stake : Stake) (span n : ℕ) (old now : List Part) (lost won 
 waving_end stake span n old now lost won no_lost no_won waving value told =
     subst (AreHeard value) (map_none now) (subst₂ (λ (l w : List ℕ). AreHeard value (map (with_pending (l ++ w)) now)) no_lost no_won (waving.heard value told))
 
-pub waving_spread : (stake : Stake) (span n : ℕ) (old now new : List Part) (lost won lost' won' : List ℕ) → lost' ≡ [] → won' ≡ [] → SpreadsChunk lost won now new → SettlesAll now new → IsGrid stake span new
+pub waving_spread : (stake : Stake) (span n : ℕ) (old now new : List Part) (lost won lost' won' : List ℕ) → lost' ≡ [] → won' ≡ [] → SpreadsChunk lost won now new → SettlesAll now new → IsCut stake span new
     → IsWaving stake span n old now lost won → IsWaving stake span n old new lost' won'
 waving_spread stake span n old now new lost won lost' won' no_lost no_won spreads all grid waving =
     subst₂ (λ (l w : List ℕ). IsWaving stake span n old new l w) (sym no_lost) (sym no_won) (record {
@@ -388,9 +388,9 @@ waving_won stake span n old now lost won k d new given won' few done is gives' f
 passed_by : (old mid new : Part) (lost won : List ℕ) → 1 ≤ old.gain → GivesFresh Lost old mid lost → AreFresh mid → GivesFresh Won mid new won → IsPassed new
 passed_by old mid new lost won one first fresh second j d h =
     let f : Due = get_or new.fresh j d in
-    let kept : All (λ (f : Due). (mid.wave ≤ due_dist f) × (due_dist f ≡ old.wave → settled_at old (due_rank f) ≡ Some (value_by Won old.gain, old.wave))) new.fresh =
-    All-append_second (λ (f : Due). (mid.wave ≤ due_dist f) × (due_dist f ≡ old.wave → settled_at old (due_rank f) ≡ Some (value_by Won old.gain, old.wave))) (map (λ r. (mid.wave, r)) won) new.fresh
-    (All-permutation (λ (f : Due). (mid.wave ≤ due_dist f) × (due_dist f ≡ old.wave → settled_at old (due_rank f) ≡ Some (value_by Won old.gain, old.wave))) mid.fresh (map (λ r. (mid.wave, r)) won ++ new.fresh) (IsPermutation-sym _ _ second.moved) (λ i e k. ((fresh.boards i e k).4, first.left i e k))) in
+    let kept : All (λ (f : Due). (mid.wave ≤ due_dist f) × (due_dist f ≡ old.wave → settled_at old (due_rank f) ≡ Some (value_of_kind Won old.gain, old.wave))) new.fresh =
+    All-append_second (λ (f : Due). (mid.wave ≤ due_dist f) × (due_dist f ≡ old.wave → settled_at old (due_rank f) ≡ Some (value_of_kind Won old.gain, old.wave))) (map (λ r. (mid.wave, r)) won) new.fresh
+    (All-permutation (λ (f : Due). (mid.wave ≤ due_dist f) × (due_dist f ≡ old.wave → settled_at old (due_rank f) ≡ Some (value_of_kind Won old.gain, old.wave))) mid.fresh (map (λ r. (mid.wave, r)) won ++ new.fresh) (IsPermutation-sym _ _ second.moved) (λ i e k. ((fresh.boards i e k).4, first.left i e k))) in
     let near = (kept j d h).0 in
     let wave : mid.wave ≡ old.wave = ap (λ (p : Part). p.wave) first.rest in
     let wave' : new.wave ≡ mid.wave = ap (λ (p : Part). p.wave) second.rest in
@@ -398,8 +398,8 @@ passed_by old mid new lost won one first fresh second j d h =
     let apart : due_dist f ≡ mid.wave → ⊥ = (λ e.
     let a = second.left j d h e in
     let b = (kept j d h).1 (e ∙ wave) in
-    let c = subst (λ (p : Part). settled_at p (due_rank f) ≡ Some (value_by Won old.gain, old.wave)) (sym first.rest) b in
-    let same = values (value_by Lost mid.gain, mid.wave) (value_by Won old.gain, old.wave) (sym a ∙ c) in
+    let c = subst (λ (p : Part). settled_at p (due_rank f) ≡ Some (value_of_kind Won old.gain, old.wave)) (sym first.rest) b in
+    let same = values (value_of_kind Lost mid.gain, mid.wave) (value_of_kind Won old.gain, old.wave) (sym a ∙ c) in
     clash old.gain mid.gain one gain same) in
     omega (arith, near, wave', apart)
   where

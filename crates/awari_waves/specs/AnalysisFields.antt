@@ -3,7 +3,7 @@ use Rattle.std.specs.Prelude.{◌+◌, ◌^◌, ◌<◌, ◌≤◌, vec_len}
 use Rattle.awari_rank.specs.Rank.{size_of}
 use Rattle.awari_owner.specs.Level.{AreWhole}
 use Rattle.awari_waves.specs.Fronts.{IsRoom}
-use Rattle.awari_waves.specs.Waves.{IsGrid}
+use Rattle.awari_waves.specs.Waves.{IsCut}
 use Rattle.awari_waves.specs.declared.analyses.Analysis.TheInside.{Inside}
 
 pub record IsAnalysis (a : Inside) : Type 0 where
@@ -13,6 +13,6 @@ pub record IsAnalysis (a : Inside) : Type 0 where
   pub inward : a.front.stake.gain ≤ a.front.stake.level + 1
   pub some : a.front.log < 32
   pub numbers : vec_len a.segments < 2 ^ 32
-  pub grid : IsGrid a.front.stake (2 ^ a.front.log) a.segments.items
+  pub grid : IsCut a.front.stake (2 ^ a.front.log) a.segments.items
   pub whole : AreWhole a.front.stake.level a.segments.items
   pub room : IsRoom a.front a.room

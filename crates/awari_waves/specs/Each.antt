@@ -13,8 +13,8 @@ pub record Each (P : Part → Part → Type 0) (old new : List Part) : Type 0 wh
   pub each : (i : ℕ) → i < length old → P (part_at old i) (part_at new i)
 
 -- no board of these parts is fresh
-abbrev pub AreIdle : List Part → Type 0
-AreIdle parts = (i : ℕ) → i < length parts → (part_at parts i).fresh ≡ []
+abbrev pub NoneAreFresh : List Part → Type 0
+NoneAreFresh parts = (i : ℕ) → i < length parts → (part_at parts i).fresh ≡ []
 
 -- no fresh board of these parts is nearer than this
 abbrev pub AreFrom : ℕ → List Part → Type 0
@@ -30,14 +30,14 @@ HasDue dist parts = (i : ℕ) × (rank : ℕ) × (v : ℤ) × (i < length parts)
 pub record CanOpen (gain : ℕ) (parts : List Part) : Type 0 where
   pub positive : 1 ≤ gain
   pub next : (i : ℕ) → i < length parts → (part_at parts i).gain ≡ gain + 1
-  pub idle : AreIdle parts
+  pub idle : NoneAreFresh parts
 
 -- the part with this gain open
 abbrev pub at_gain : ℕ → Part → Part
 at_gain gain part = record part { gain = gain; wave = 0 }
 
 -- this gain is opened in the part: its boards that an end or a capture settles at that gain are settled
-pub record OpensGain (gain : ℕ) (old new : Part) : Type 0 where
+pub record OpensSegment (gain : ℕ) (old new : Part) : Type 0 where
   pub settles : Settles (at_gain gain old) new
   pub cells : OpensCells (at_gain gain old) new 0 (length old.cells)
 
@@ -49,8 +49,8 @@ pub record CanOpenWave (dist : ℕ) (parts : List Part) : Type 0 where
   pub nearest : AreFrom dist parts
 
 -- this distance is opened in the part
-abbrev pub OpensWave : ℕ → Part → Part → Type 0
-OpensWave dist old new = new ≡ record old { wave = dist }
+abbrev pub IsAtWave : ℕ → Part → Part → Type 0
+IsAtWave dist old new = new ≡ record old { wave = dist }
 
 -- where this cell newly settles the board of this rank, it is farther than the open wave
 abbrev pub IsFarther : Part → ℕ → Cell → Type 0
@@ -58,8 +58,8 @@ IsFarther part rank cell = is_settled (stored_at part rank).mark ≡ false → i
 
 -- ---- which distance is due
 
--- the lesser of two numbers, if there is one
-abbrev pub lesser : Option ℕ → Option ℕ → Option ℕ
-lesser None other = other
-lesser (Some a) None = Some a
-lesser (Some a) (Some b) = Some (min a b)
+-- the nearer_of of two numbers, if there is one
+abbrev pub nearer_of : Option ℕ → Option ℕ → Option ℕ
+nearer_of None other = other
+nearer_of (Some a) None = Some a
+nearer_of (Some a) (Some b) = Some (min a b)

@@ -3,7 +3,7 @@ use Rattle.std.specs.Prelude.{◌≡◌, ◌-◌, ◌^◌, ◌<◌, ◌≤◌, L
 use Rattle.awari_rank.specs.Rank.{size_of}
 use Rattle.awari_block.specs.Part.{Part}
 use Rattle.awari_block.specs.declared.notes.Kind.TheVariants.{Lost, Won}
-use Rattle.awari_waves.specs.Waves.{IsGrid, IsPending}
+use Rattle.awari_waves.specs.Waves.{IsCut, IsPending}
 use Rattle.awari_waves.specs.declared.chunks.Front.{Front}
 use Rattle.awari_waves.specs.declared.chunks.Chunk.{Chunk}
 use Rattle.awari_waves.specs.declared.chunks.Room.{Room}
@@ -17,7 +17,7 @@ pub record IsFront (front : Front) (parts : List Part) : Type 0 where
   pub near : front.stake.wave < 2 ^ 32 - 1
   pub blocks : front.log < 32
   pub numbers : length parts < 2 ^ 32
-  pub grid : IsGrid front.stake (2 ^ front.log) parts
+  pub grid : IsCut front.stake (2 ^ front.log) parts
 
 -- the index is that of the level, and there is a row
 pub record IsRoom (front : Front) (room : Room) : Type 0 where

@@ -108,7 +108,7 @@ TellsBoth stake lost won old new =
     → IsTallied value old notes → IsTallied value new (heard_by stake Won won (heard_by stake Lost lost notes))
 
 -- what blocks need to hear theirs, the first of them being block `first`
-pub record CanHear (first : ℕ) (lost won : ℕ → List ℕ) (parts : List Part) : Type 0 where
+pub record CanAllHear (first : ℕ) (lost won : ℕ → List ℕ) (parts : List Part) : Type 0 where
   pub numbers : first + length parts < 2 ^ 64
   pub of_lost : (i : ℕ) → i < length parts → All (IsCodeFor (part_at parts i)) (lost (first + i))
   pub of_won : (i : ℕ) → i < length parts → All (IsCodeFor (part_at parts i)) (won (first + i))
@@ -124,12 +124,12 @@ pub record HearsFrom (first : ℕ) (lost won : ℕ → List ℕ) (old new : List
 -- ---- a chunk
 
 -- the value of a board whose notes are of this kind
-abbrev pub value_by : Kind → ℕ → ℤ
-value_by Won gain = pos gain
-value_by Lost gain = neg_ℤ (pos gain)
+abbrev pub value_of_kind : Kind → ℕ → ℤ
+value_of_kind Won gain = pos gain
+value_of_kind Lost gain = neg_ℤ (pos gain)
 
 -- Blocks of `span` boards: the board of each rank is in the block that its rank tells, and in no other.
-pub record IsGrid (stake : Stake) (span : ℕ) (parts : List Part) : Type 0 where
+pub record IsCut (stake : Stake) (span : ℕ) (parts : List Part) : Type 0 where
   pub level : (i : ℕ) → i < length parts → (part_at parts i).level ≡ stake.level
   pub gain : (i : ℕ) → i < length parts → (part_at parts i).gain ≡ stake.gain
   pub wave : (i : ℕ) → i < length parts → (part_at parts i).wave ≡ stake.wave
@@ -149,7 +149,7 @@ pub record AreSpans (stake : Stake) (span : ℕ) (parts : List Part) : Type 0 wh
 -- a board that was taken from the fresh ones and is not spread yet: settled at the open gain and wave
 pub record IsPending (stake : Stake) (span : ℕ) (parts : List Part) (kind : Kind) (rank : ℕ) : Type 0 where
   pub inside : rank < size_of stake.level
-  pub settled : settled_at (part_at parts (rank / span)) rank ≡ Some (value_by kind stake.gain, stake.wave)
+  pub settled : settled_at (part_at parts (rank / span)) rank ≡ Some (value_of_kind kind stake.gain, stake.wave)
   pub taken : times_due (part_at parts (rank / span)).fresh rank ≡ 0
 
 -- such boards count as fresh
@@ -173,8 +173,8 @@ other Lost = Won
 pub record GivesFresh (kind : Kind) (old new : Part) (given : List ℕ) : Type 0 where
   pub rest : new ≡ record old { fresh = new.fresh }
   pub moved : IsPermutation (map (λ rank. (old.wave, rank)) given ++ new.fresh) old.fresh
-  pub valued : All (λ rank. InBlock old rank × (settled_at old rank ≡ Some (value_by kind old.gain, old.wave))) given
-  pub left : All (λ f. due_dist f ≡ old.wave → settled_at old (due_rank f) ≡ Some (value_by (other kind) old.gain, old.wave)) new.fresh
+  pub valued : All (λ rank. InBlock old rank × (settled_at old rank ≡ Some (value_of_kind kind old.gain, old.wave))) given
+  pub left : All (λ f. due_dist f ≡ old.wave → settled_at old (due_rank f) ≡ Some (value_of_kind (other kind) old.gain, old.wave)) new.fresh
 
 -- each part is settled further
 pub record SettlesAll (old new : List Part) : Type 0 where
@@ -186,7 +186,7 @@ pub record SettlesAll (old new : List Part) : Type 0 where
 -- the fresh ones and are not spread yet, and count as fresh.
 pub record IsWaving (stake : Stake) (span k : ℕ) (old now : List Part) (lost won : List ℕ) : Type 0 where
   pub blocks : length now ≡ length old
-  pub grid : IsGrid stake span now
+  pub grid : IsCut stake span now
   pub of_lost : All (IsPending stake span now Lost) lost
   pub of_won : All (IsPending stake span now Won) won
   pub apart : AreDistinct (lost ++ won)

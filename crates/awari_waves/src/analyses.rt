@@ -6,7 +6,7 @@ ghost use Rattle.awari_block.specs.Part.{IsClosed};
 ghost use Rattle.awari_table.specs.Images.{table_of};
 ghost use Rattle.awari_table.specs.declared.TheConstants.{HIGHEST_LEVEL};
 ghost use Rattle.awari_owner.specs.Level.{AreHeard, AreWhole};
-ghost use Rattle.awari_waves.specs.Each.{AreFrom, AreIdle, HasDue};
+ghost use Rattle.awari_waves.specs.Each.{AreFrom, NoneAreFresh, HasDue};
 ghost use Rattle.awari_waves.specs.Fronts.{IsRoom};
 ghost use Rattle.awari_waves.specs.declared.chunks.Front.{Front as FrontView};
 
@@ -65,7 +65,7 @@ impl Analysis {
         requires low { length shelf.now ≤ HIGHEST_LEVEL }
         ensures level { IfOk result (λ all. all.level ≡ length shelf.now) }
         ensures gain { IfOk result (λ all. all.gain ≡ length shelf.now + 1) }
-        ensures idle { IfOk result (λ all. AreIdle all.parts) }
+        ensures idle { IfOk result (λ all. NoneAreFresh all.parts) }
         ensures heard { IfOk result (λ all. AreHeard (table_of shelf.now).value all.parts) }
     {
         let level = shelf.levels();
@@ -123,7 +123,7 @@ impl Analysis {
     /// nearer than `from`.
     pub fn due(&self, from: u32) -> Option<u32>
         requires far { AreFrom from self.now.parts }
-        ensures none { IfNone result (AreIdle self.now.parts) }
+        ensures none { IfNone result (NoneAreFresh self.now.parts) }
         ensures least { IfSome result (λ dist. AreFrom dist self.now.parts) }
         ensures some { IfSome result (λ dist. (from ≤ dist) × HasDue dist self.now.parts) }
         ensures whole { AreWhole self.now.level self.now.parts }
@@ -137,7 +137,7 @@ impl Analysis {
     /// is fresh. Refused if memory for the fresh boards runs out; then the level is lost.
     pub fn open_gain<R: Threads + Sync>(self, rt: &R) -> Result<Analysis, AllocError>
         requires more { 2 ≤ self.gain }
-        requires idle { AreIdle self.parts }
+        requires idle { NoneAreFresh self.parts }
         ensures level { IfOk result (λ after. after.level ≡ self.level) }
         ensures gain { IfOk result (λ after. after.gain + 1 ≡ self.gain) }
         ensures wave { IfOk result (λ after. after.wave ≡ 0) }
@@ -246,7 +246,7 @@ impl Analysis {
     /// fresh. It takes memory for the list, and is refused only if that runs out.
     pub fn close(self, alloc: Global) -> Result<Vec<ClosedPart>, AllocError>
         requires last { self.gain ≡ 1 }
-        requires idle { AreIdle self.parts }
+        requires idle { NoneAreFresh self.parts }
         ensures parts { IfOk result (λ parts. parts.items ≡ self.parts) }
         ensures closed { IfOk result (λ parts. All IsClosed parts.items) }
         ensures whole { IfOk result (λ parts. AreWhole self.level parts.items) }

@@ -7,7 +7,7 @@ ghost use Rattle.awari_owner.specs.Level.{part_at};
 ghost use Rattle.awari_waves.specs.Lists.{list_at};
 ghost use Rattle.awari_waves.specs.Rows.{notes_at};
 ghost use Rattle.awari_waves.specs.Fronts.{ArePending, IsFront, IsRoom};
-ghost use Rattle.awari_waves.specs.Waves.{CanFind, CanHear, FindsFor, HearsFrom, SettlesAll, SpreadsChunk};
+ghost use Rattle.awari_waves.specs.Waves.{CanFind, CanAllHear, FindsFor, HearsFrom, SettlesAll, SpreadsChunk};
 
 use crate::finding::find;
 use crate::lists::{Lists, Row};
@@ -198,7 +198,7 @@ fn hear_in_threads<R: Threads + Sync>(
     rows: &[Row],
     segments: &mut [Segment],
 ) -> Result<(), AllocError>
-    requires can { CanHear first (notes_at Lost rows.now) (notes_at Won rows.now) segments.old }
+    requires can { CanAllHear first (notes_at Lost rows.now) (notes_at Won rows.now) segments.old }
     ensures heard { OnOk result (HearsFrom first (notes_at Lost rows.now) (notes_at Won rows.now) segments.old segments.new) }
 {
     if threads < 2 {
@@ -211,11 +211,11 @@ fn hear_in_threads<R: Threads + Sync>(
     let (low_done, high_done) = join_mut(
         rt,
         &mut ||
-            requires { IsSync R.row × CanHear first (notes_at Lost rows.now) (notes_at Won rows.now) low.now }
+            requires { IsSync R.row × CanAllHear first (notes_at Lost rows.now) (notes_at Won rows.now) low.now }
             ensures { OnOk result (HearsFrom first (notes_at Lost rows.entry.now) (notes_at Won rows.entry.now) low.entry.now low.exit.now) }
         { hear_in_threads(rt, 1, first, rows, low) },
         &mut ||
-            requires { IsSync R.row × CanHear next (notes_at Lost rows.now) (notes_at Won rows.now) high.now }
+            requires { IsSync R.row × CanAllHear next (notes_at Lost rows.now) (notes_at Won rows.now) high.now }
             ensures { OnOk result (HearsFrom next (notes_at Lost rows.entry.now) (notes_at Won rows.entry.now) high.entry.now high.exit.now) }
         { hear_in_threads(rt, fewer, next, rows, high) },
     );
@@ -266,7 +266,7 @@ fn notes_for(rows: &[Row], number: usize) -> usize {
 
 /// One segment after the other hears what the rows have for it.
 fn hear_all(first: usize, rows: &[Row], segments: &mut [Segment]) -> Result<(), AllocError>
-    requires can { CanHear first (notes_at Lost rows.now) (notes_at Won rows.now) segments.old }
+    requires can { CanAllHear first (notes_at Lost rows.now) (notes_at Won rows.now) segments.old }
     ensures heard { OnOk result (HearsFrom first (notes_at Lost rows.now) (notes_at Won rows.now) segments.old segments.new) }
 {
     for k in 0..segments.len() {

@@ -1,7 +1,7 @@
 //! Which distance is due: the least of a fresh board.
 
 ghost use Rattle.std.specs.Prelude.{◌≡◌, ◌≤◌, IfNone, IfSome, length};
-ghost use Rattle.awari_waves.specs.Each.{AreFrom, AreIdle, HasDue, lesser};
+ghost use Rattle.awari_waves.specs.Each.{AreFrom, NoneAreFresh, HasDue, nearer_of};
 
 use crate::segments::Segment;
 
@@ -9,7 +9,7 @@ use crate::segments::Segment;
 /// fresh board is nearer than `from`.
 pub fn due_of(segments: &[Segment], from: u32) -> Option<u32>
     requires far { AreFrom from segments.now }
-    ensures none { IfNone result (AreIdle segments.now) }
+    ensures none { IfNone result (NoneAreFresh segments.now) }
     ensures least { IfSome result (λ dist. AreFrom dist segments.now) }
     ensures some { IfSome result (λ dist. (from ≤ dist) × HasDue dist segments.now) }
 {
@@ -33,9 +33,9 @@ pub fn fresh_at(segments: &[Segment], dist: u32) -> usize {
     boards
 }
 
-/// The lesser of two distances, if there is one.
+/// The nearer_of of two distances, if there is one.
 pub(crate) fn nearer(one: Option<u32>, other: Option<u32>) -> Option<u32>
-    ensures { result ≡ lesser one other }
+    ensures { result ≡ nearer_of one other }
 {
     match (one, other) {
         (Some(a), Some(b)) => Some(a.min(b)),

@@ -6,9 +6,9 @@ ghost use Rattle.awari_rank.specs.Rank.{size_of};
 ghost use Rattle.awari_table.specs.Images.{table_of};
 ghost use Rattle.awari_table.specs.declared.TheConstants.{HIGHEST_LEVEL};
 ghost use Rattle.awari_owner.specs.Level.{AreHeard, AreWhole};
-ghost use Rattle.awari_waves.specs.Each.{AreIdle};
+ghost use Rattle.awari_waves.specs.Each.{NoneAreFresh};
 ghost use Rattle.awari_waves.specs.Scanned.{AreScannedFrom, CanScanFrom, IsScannedPart};
-ghost use Rattle.awari_waves.specs.Waves.{IsGrid};
+ghost use Rattle.awari_waves.specs.Waves.{IsCut};
 
 use crate::segments::Segment;
 use awari_index::Index;
@@ -48,9 +48,9 @@ pub fn scanned_segments<R: Threads + Sync>(
     requires low { length shelf.now ≤ HIGHEST_LEVEL }
     requires level { index.now ≡ length shelf.now }
     requires some { (0 < cut.span) × (1 ≤ cut.threads) }
-    ensures grid { IfOk result (λ segments. IsGrid (record { level = length shelf.now; gain = length shelf.now + 1; wave = 0 }) cut.span segments.items) }
+    ensures grid { IfOk result (λ segments. IsCut (record { level = length shelf.now; gain = length shelf.now + 1; wave = 0 }) cut.span segments.items) }
     ensures whole { IfOk result (λ segments. AreWhole (length shelf.now) segments.items) }
-    ensures idle { IfOk result (λ segments. AreIdle segments.items) }
+    ensures idle { IfOk result (λ segments. NoneAreFresh segments.items) }
     ensures heard { IfOk result (λ segments. AreHeard (table_of shelf.now).value segments.items) }
     ensures numbers { IfOk result (λ segments. (1 ≤ vec_len segments) × (vec_len segments < 2 ^ 32)) }
 {

@@ -8,7 +8,7 @@ ghost use Rattle.awari_block.specs.Blocks.{due_dist};
 ghost use Rattle.awari_block.specs.Cells.{FitsBy, is_settled};
 ghost use Rattle.awari_block.specs.Boards.{CanPut, HearsNote, OpensCells, Settles, stake_of};
 ghost use Rattle.awari_waves.specs.Ahead.{TellSettled};
-ghost use Rattle.awari_waves.specs.Each.{IsFarther, OpensGain};
+ghost use Rattle.awari_waves.specs.Each.{IsFarther, OpensSegment};
 ghost use Rattle.awari_waves.specs.Rows.{notes_at};
 ghost use Rattle.awari_waves.specs.Waves.{GivesFresh, IsCodeFor, IsReady, StaysPassed, Tells, TellsBoth};
 
@@ -99,7 +99,7 @@ impl Segment {
         requires idle { self.old.fresh ≡ [] }
         requires next { gain + 1 ≡ self.old.gain }
         requires positive { 1 ≤ gain }
-        ensures { OnOk result (OpensGain gain self.old self.new) }
+        ensures { OnOk result (OpensSegment gain self.old self.new) }
     {
         self.stake = Stake {
             gain,

@@ -1,7 +1,7 @@
 use Rattle.std.proofs.Common.{◌≡◌, length, []}
 use Rattle.awari_owner.specs.Scan.{IsWhole}
 use Rattle.awari_table.specs.Images.{table_of}
-use Rattle.awari_build.specs.Sound.{IsSound}
+use Rattle.awari_build.specs.Sound.{IsSoundPart}
 use Rattle.awari_build.proofs.alone.settled_part.Given as goal
 
 abbrev pub invariant-loop-part : goal.invariant-loop-part
@@ -10,7 +10,7 @@ invariant-loop-part g l = record {
   level : l.part.level ≡ length l.shelf;
   alone : (l.outboxes.owner ≡ 0) × (length l.outboxes.queues ≡ 1);
   idle : l.part.fresh ≡ [];
-  sound : IsSound (table_of l.shelf).value l.part;
+  sound : IsSoundPart (table_of l.shelf).value l.part;
 }
 
 abbrev pub decreases-loop-part : goal.decreases-loop-part

@@ -1,7 +1,7 @@
 use Rattle.std.proofs.Common.{◌≡◌, ℕ, ℤ, List, length}
 use Rattle.awari_block.specs.Part.{unspread}
 use Rattle.awari_owner.specs.Scan.{IsWhole}
-use Rattle.awari_build.specs.Sound.{IsSound}
+use Rattle.awari_build.specs.Sound.{IsSoundPart}
 use Rattle.awari_build.proofs.alone.spread_all.Given as goal
 
 abbrev pub invariant-loop-dist : goal.invariant-loop-dist
@@ -10,7 +10,7 @@ invariant-loop-dist g l = record {
   alone : (l.outboxes.owner ≡ 0) × (length l.outboxes.queues ≡ 1);
   level : l.part.level ≡ l.fn.part.level;
   gain : l.part.gain ≡ l.fn.part.gain;
-  sound : (value : List ℕ → ℤ) → IsSound value l.fn.part → IsSound value l.part;
+  sound : (value : List ℕ → ℤ) → IsSoundPart value l.fn.part → IsSoundPart value l.part;
 }
 
 abbrev pub decreases-loop-dist : goal.decreases-loop-dist

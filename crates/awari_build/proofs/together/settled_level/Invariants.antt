@@ -1,13 +1,13 @@
 use Rattle.std.proofs.Common.{◌≡◌, length}
 use Rattle.awari_table.specs.Images.{table_of}
 use Rattle.awari_owner.specs.Level.{AreHeard}
-use Rattle.awari_waves.specs.Each.{AreIdle}
+use Rattle.awari_waves.specs.Each.{NoneAreFresh}
 use Rattle.awari_build.proofs.together.settled_level.Given as goal
 
 abbrev pub invariant-loop-analysis : goal.invariant-loop-analysis
 invariant-loop-analysis g l = record {
   level : l.analysis.level ≡ length l.shelf;
-  idle : AreIdle l.analysis.parts;
+  idle : NoneAreFresh l.analysis.parts;
   heard : AreHeard (table_of l.shelf).value l.analysis.parts;
 }
 

@@ -4,7 +4,7 @@ use Rattle.awari_rank.specs.Rank.{rank_of, size_of}
 use Rattle.awari_table.specs.Images.{table_of}
 use Rattle.awari_block.specs.declared.cells.Cell.{Cell}
 use Rattle.awari_block.specs.Blocks.{cell_in}
-use Rattle.awari_owner.specs.Scan.{IsScanned}
+use Rattle.awari_owner.specs.Scan.{IsScannedCell}
 use Rattle.awari_owner.proofs.LeavingMoves.{leaving_to-more}
 use Rattle.awari_owner.proofs.Scanning.{IsScanning, IsScanning-more, scanned-more}
 use Rattle.awari_owner.proofs.scans.scan_boards.Goals as goal
@@ -49,7 +49,7 @@ returns-in-None c =
       len = cells ∙ long;
       each = bytes ∙ each;
       scanned = λ p is stones low high.
-          subst (λ (cs : List Cell). IsScanned V p (cell_in c.args.first cs (rank_of p))) whole
+          subst (λ (cs : List Cell). IsScannedCell V p (cell_in c.args.first cs (rank_of p))) whole
           (scanned-more V n c.args.first (c.args.first + c.loop-k.k) (take c.loop-k.k c.loop-k.cells) c.scanned-found.result.cell c.loop-k.board
           c.ranks_tell_boards_apart.ensures scanning c.scanned-found.ensures.cell p is stones low (omega (arith, high, last, size, scanning.ranked, below, within)));
       leaves = λ k pit h own.
@@ -69,7 +69,7 @@ returns c =
       len = long;
       each = each;
       scanned = λ p is stones low high.
-          subst (λ (cs : List Cell). IsScanned (table_of c.args.shelf.now).value p (cell_in c.args.first cs (rank_of p))) whole
+          subst (λ (cs : List Cell). IsScannedCell (table_of c.args.shelf.now).value p (cell_in c.args.first cs (rank_of p))) whole
           (before.scanning.each p is stones low (omega (arith, high, end)));
       leaves = λ k pit h own. before.leaving_to k pit (omega (arith, h, each, end)) own;
     }

@@ -66,5 +66,5 @@ returns-clause-told c = λ y at source value notes unheard tallied.
     let same : c.else-is_settled.boards ≡ c.args.boards.now = search rules in
     let settles : Settles c.args.boards.now c.hear.new.self = subst (λ (o : Part). Settles o c.hear.new.self) same c.hear.ensures.settles in
     let hears : HearsNote c.args.boards.now c.hear.new.self c.args.target.rank c.args.target.pit c.args.kind
-        = subst (λ (o : Part). HearsNote o c.hear.new.self c.args.target.rank c.args.target.pit c.args.kind) same c.hear.ensures.hears in
+    = subst (λ (o : Part). HearsNote o c.hear.new.self c.args.target.rank c.args.target.pit c.args.kind) same c.hear.ensures.hears in
     told_here value notes c.args.boards.now c.hear.new.self c.args.kind c.args.target y at c.ranks_tell_boards_apart.ensures c.requires.gain.0 source (c.holds.ensures.0 (search rules)) unheard settles.same hears tallied

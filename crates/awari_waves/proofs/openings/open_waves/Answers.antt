@@ -1,15 +1,15 @@
 use Rattle.std.proofs.Common.{◌<◌, ◌≤◌, length, rules}
-use Rattle.awari_waves.specs.Each.{OpensWave}
+use Rattle.awari_waves.specs.Each.{IsAtWave}
 use Rattle.awari_waves.proofs.EachPart.{EachBelow-none, EachBelow-next, EachBelow-end}
 use Rattle.awari_waves.proofs.openings.open_waves.Goals as goal
 
 pub loop-k-init : goal.loop-k-init
-loop-k-init c = EachBelow-none (OpensWave c.args.dist) c.args.segments.now
+loop-k-init c = EachBelow-none (IsAtWave c.args.dist) c.args.segments.now
 
 pub loop-k-preserved : goal.loop-k-preserved
 loop-k-preserved c =
     let inside : c.loop-k.k < length c.loop-k.segments = search rules in
-    EachBelow-next (OpensWave c.args.dist) _ _ _ c.index-segments-k.result c.open_wave.new.self c.loop-k.invariant inside c.open_wave.ensures.wave
+    EachBelow-next (IsAtWave c.args.dist) _ _ _ c.index-segments-k.result c.open_wave.new.self c.loop-k.invariant inside c.open_wave.ensures.wave
 
 pub returns : goal.returns
-returns c = let end : length c.loop-k.segments ≤ c.loop-k.k = search rules in record { opened = EachBelow-end (OpensWave c.args.dist) _ _ _ c.loop-k.invariant end }
+returns c = let end : length c.loop-k.segments ≤ c.loop-k.k = search rules in record { opened = EachBelow-end (IsAtWave c.args.dist) _ _ _ c.loop-k.invariant end }

@@ -3,7 +3,7 @@ use Rattle.std.proofs.lemmas.Bool.{cases_lt}
 use Rattle.std.proofs.lemmas.List.{get_or_default}
 use Rattle.std.specs.Int.{bit_at}
 use Rattle.awari_block.specs.declared.fresh.Fresh.{Fresh}
-use Rattle.awari_block.specs.Fresh.{dist_at, is_marked, AreNoted, IsBelow}
+use Rattle.awari_block.specs.Fresh.{dist_at, is_marked, AreNoted, IsMarkedBelow}
 use Rattle.awari_block.proofs.Marks.{bit_marked, none_marked}
 use Rattle.awari_block.proofs.Noting.{below_add, noted_more, noted_same}
 use Rattle.awari_block.proofs.fresh.Fresh.note_run.Goals as goal
@@ -44,7 +44,7 @@ loop-i-preserved c =
       same = same_both c.args.self.now c.loop-i.self c.note.new.self c.loop-i.invariant.same c.note.ensures.same;
       size = c.note.ensures.size ∙ c.loop-i.invariant.size;
       noted = λ before.
-          subst (λ n. AreNoted c.args.cells.now (IsBelow words n) c.args.wave c.note.new.self.near.items c.note.new.self.first c.note.new.self.next) next
+          subst (λ n. AreNoted c.args.cells.now (IsMarkedBelow words n) c.args.wave c.note.new.self.near.items c.note.new.self.first c.note.new.self.next) next
           (noted_more c.args.cells.now _ _ c.args.wave (64 * c.args.run + c.in-Some.i) adds c.loop-i.self.near.items c.note.new.self.near.items c.loop-i.self.first c.note.new.self.first c.loop-i.self.next c.note.new.self.next
           (dist_at c.args.cells.now (64 * c.args.run + c.in-Some.i)) refl c.note.ensures.near c.note.ensures.far (c.loop-i.invariant.noted before));
     }

@@ -1,5 +1,5 @@
 use Rattle.std.proofs.Common.{rules, ◌≡◌, ◌<◌, ◌≤◌, ℕ, Option, Some, None, IfSome, length, sym, subst, refl, arith, ◌∙◌}
-use Rattle.awari_core.specs.Core.{Core, IsAllTaken, IsLeastOf, part_at}
+use Rattle.awari_core.specs.Core.{Core, IsAllTaken, IsLeastOf, owner_part}
 use Rattle.awari_core.proofs.Effects.{core_of}
 use Rattle.awari_core.proofs.Rounds.{none_due, none_near, other_dist, same_dist, sound_wave, wave_due}
 use Rattle.awari_core.proofs.cores.Core.next_wave.Goals as goal
@@ -22,7 +22,7 @@ returns-clause-done c =
     let due = c.in-Some.is in
     let some : 0 < length c.args.self.now.parts = subst (λ (o : Core). 0 < length o.parts) c.self.view_is c.self.invariant.some in
     let timely : c.wave.result ≤ c.in-Some.dist =
-    (let at = c.wave.ensures 0 some in let low : (part_at c.args.self.now 0).wave ≤ c.in-Some.dist = subst (λ (o : Option ℕ). IfSome o (λ d. (part_at c.args.self.now 0).wave ≤ d)) due c.due-due.ensures.timely in omega (arith, at, low)) in
+    (let at = c.wave.ensures 0 some in let low : (owner_part c.args.self.now 0).wave ≤ c.in-Some.dist = subst (λ (o : Option ℕ). IfSome o (λ d. (owner_part c.args.self.now 0).wave ≤ d)) due c.due-due.ensures.timely in omega (arith, at, low)) in
     none_near c.args.self.now c.in-Some.dist c.wave.result (subst (IsLeastOf c.args.self.now.parts (length c.args.self.now.parts)) due c.due-due.ensures.least) timely
     (other_dist c.due-due.result c.in-Some.dist c.wave.result due (sym c.eq.ensures ∙ c.if-eq.false)) c.wave.ensures (c.is_all_taken.ensures.0 (search rules))
 

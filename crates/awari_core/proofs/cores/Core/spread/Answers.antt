@@ -1,8 +1,11 @@
 use Rattle.std.proofs.Common.{rules, ◌<◌, Ok, Some, inl, inr, length, ap, sym, subst, subst₂, arith, ◌∙◌}
 use Rattle.awari_block.specs.Part.{IsLeastDue, Part}
-use Rattle.awari_core.specs.Core.{Core, Sender, Sound, DoesSpread, part_at, sender_at}
+use Rattle.awari_core.specs.Core.{Core, Sender, Sound, DoesSpread, owner_part, sender_at}
 use Rattle.awari_core.proofs.Effects.{as_many, both_same, core_of, due_here, never_far, part_was, sender_was, spread_does, with_both}
+use Rattle.awari_owner.specs.Sound.{IsSpreadFault}
 use Rattle.awari_owner.specs.Spread.{IsPartOf}
+use Rattle.awari_owner.specs.declared.faults.OwnerFault.TheVariants.{Far}
+use Rattle.awari_owner.proofs.Faults.{fault_due}
 use Rattle.awari_core.proofs.Steps.{part_linked, spread_step}
 use Rattle.awari_core.proofs.cores.Core.spread.Goals as goal
 
@@ -10,10 +13,9 @@ pub unreachable-requires : goal.unreachable-requires
 unreachable-requires c =
     let old = core_of c.self.inside in
     let high : c.args.owner < length c.self.inside.parts.items = search rules in
-    elim c.in-Err-Far.ensures.fault [
-      | inl far ↦ never_far old.parts c.args.owner c.index_mut-2.result.now high c.index_mut-2.ensures.value (c.sound_cores_are_told.ensures.fit old c.self.invariant) far.1
-      | inr memory ↦ (let wrong = sym memory.0 ∙ c.in-Err-Far.field-0-is in cc)
-    ]
+    let far : IsSpreadFault c.index_mut-2.result.now (length c.index_mut.result.now.outboxes.queues) Far
+    = subst (λ f. IsSpreadFault c.index_mut-2.result.now (length c.index_mut.result.now.outboxes.queues) f) c.in-Err-Far.field-0-is c.in-Err-Far.ensures.fault in
+    never_far old.parts c.args.owner c.index_mut-2.result.now high c.index_mut-2.ensures.value (c.sound_cores_are_told.ensures.fit old c.self.invariant) far.2
 
 pub spread-requires : goal.spread-requires
 spread-requires c =
@@ -22,7 +24,7 @@ spread-requires c =
     record {
       part = subst₂ (λ (p : Part) (s : Sender). IsPartOf p s.outboxes) (part_was old.parts c.args.owner c.index_mut-2.result.now high c.index_mut-2.ensures.value)
           (sender_was old.senders c.args.owner c.index_mut.result.now (as_many old c.args.owner c.self.invariant high) c.index_mut.ensures.value)
-          (part_linked (length old.shelf) (length old.parts) old.room c.args.owner (part_at old c.args.owner) (sender_at old c.args.owner) high (c.self.invariant.sound.shares c.args.owner high) (c.self.invariant.linked c.args.owner high));
+          (part_linked (length old.shelf) (length old.parts) old.room c.args.owner (owner_part old c.args.owner) (sender_at old c.args.owner) high (c.self.invariant.sound.shares c.args.owner high) (c.self.invariant.linked c.args.owner high));
     }
 
 -- a board that is not spread changes nothing
@@ -32,7 +34,7 @@ invariant_of-self c =
     let high : c.args.owner < length c.self.inside.parts.items = search rules in
     let kept = c.in-Ok-false.ensures.none (ap Ok c.in-Ok-false.field-0-test) in
     subst Sound (sym (both_same old c.args.owner c.index_mut-2.result.now c.spread.new.part c.index_mut.result.now c.spread.new.self high (as_many old c.args.owner c.self.invariant high)
-    c.index_mut-2.ensures.value c.index_mut.ensures.value kept.0 kept.1)) c.self.invariant
+    c.index_mut-2.ensures.value c.index_mut.ensures.value kept.1 kept.2)) c.self.invariant
 
 pub returns-in-Ok-false-clause-sound : goal.returns-in-Ok-false-clause-sound
 returns-in-Ok-false-clause-sound c = invariant_of-self c
@@ -42,8 +44,8 @@ returns-in-Ok-false-clause-refused c =
     let old = core_of c.self.inside in
     let high : c.args.owner < length c.self.inside.parts.items = search rules in
     let was = part_was old.parts c.args.owner c.index_mut-2.result.now high c.index_mut-2.ensures.value in
-    subst (λ (o : Core). (c.args.owner < length o.parts) × IsLeastDue (part_at o c.args.owner) (Some (part_at o c.args.owner).wave) → ⊥) c.self.view_is
-    (λ enabled. c.in-Ok-false.ensures.due (ap Ok c.in-Ok-false.field-0-test) (subst (λ (p : Part). IsLeastDue p (Some p.wave)) was enabled.1))
+    subst (λ (o : Core). (c.args.owner < length o.parts) × IsLeastDue (owner_part o c.args.owner) (Some (owner_part o c.args.owner).wave) → ⊥) c.self.view_is
+    (λ enabled. (c.in-Ok-false.ensures.none (ap Ok c.in-Ok-false.field-0-test)).0 (subst (λ (p : Part). IsLeastDue p (Some p.wave)) was enabled.1))
 
 pub invariant_of-self-in-Err : goal.invariant_of-self-in-Err
 invariant_of-self-in-Err c =
@@ -63,11 +65,12 @@ returns-in-Err-clause-refused c =
     let high' = as_many old c.args.owner c.self.invariant high in
     let linked = c.self.invariant.linked c.args.owner high in
     let queues = ap (λ s. length s.outboxes.queues) (sender_was old.senders c.args.owner c.index_mut.result.now high' c.index_mut.ensures.value) in
-    subst (λ (o : Core). ((c.args.owner < length o.parts) × IsLeastDue (part_at o c.args.owner) (Some (part_at o c.args.owner).wave)) × (1 < length o.parts)) c.self.view_is (
-      (high, due_here old.parts c.args.owner c.index_mut-2.result.now high c.index_mut-2.ensures.value (c.in-Err.ensures.least (λ e. cc))),
-      elim c.in-Err.ensures.fault [
-        | inl far ↦ absurd (never_far old.parts c.args.owner c.index_mut-2.result.now high c.index_mut-2.ensures.value (c.sound_cores_are_told.ensures.fit old c.self.invariant) far.1)
-        | inr memory ↦ (let some = memory.1 in let same = linked.queues in omega (arith, some, same, queues))
+    let told = fault_due c.index_mut-2.result.now (length c.index_mut.result.now.outboxes.queues) _ c.in-Err.ensures.fault in
+    subst (λ (o : Core). ((c.args.owner < length o.parts) × IsLeastDue (owner_part o c.args.owner) (Some (owner_part o c.args.owner).wave)) × (1 < length o.parts)) c.self.view_is (
+      (high, due_here old.parts c.args.owner c.index_mut-2.result.now high c.index_mut-2.ensures.value told.0),
+      elim told.1 [
+        | inl far ↦ absurd (never_far old.parts c.args.owner c.index_mut-2.result.now high c.index_mut-2.ensures.value (c.sound_cores_are_told.ensures.fit old c.self.invariant) far)
+        | inr some ↦ (let same = linked.queues in omega (arith, some, same, queues))
       ],
     )
 
@@ -77,7 +80,7 @@ does c =
     let old = core_of c.self.inside in
     let high : c.args.owner < length c.self.inside.parts.items = search rules in
     spread_does old c.args.owner c.index_mut-2.result.now c.spread.new.part c.index_mut.result.now c.spread.new.self high (as_many old c.args.owner c.self.invariant high)
-    c.index_mut-2.ensures.value c.index_mut.ensures.value c.spread.ensures.rings c.spread.ensures.stake (c.in-Ok-true.ensures.spread (ap Ok c.in-Ok-true.field-0-test))
+    c.index_mut-2.ensures.value c.index_mut.ensures.value c.spread.ensures.stays.1 c.spread.ensures.stays.0 (c.in-Ok-true.ensures.spread (ap Ok c.in-Ok-true.field-0-test))
 
 pub invariant_of-self-2 : goal.invariant_of-self-2
 invariant_of-self-2 c = spread_step (core_of c.self.inside) (with_both (core_of c.self.inside) c.args.owner c.spread.new.part c.spread.new.self) c.args.owner (search rules) (does c) c.self.invariant
@@ -92,5 +95,5 @@ pub returns-clause-enabled : goal.returns-clause-enabled
 returns-clause-enabled c =
     let old = core_of c.self.inside in
     let high : c.args.owner < length c.self.inside.parts.items = search rules in
-    subst (λ (o : Core). (c.args.owner < length o.parts) × IsLeastDue (part_at o c.args.owner) (Some (part_at o c.args.owner).wave)) c.self.view_is
-    (high, due_here old.parts c.args.owner c.index_mut-2.result.now high c.index_mut-2.ensures.value (c.in-Ok-true.ensures.least (λ e. let wrong = c.in-Ok-true.field-0-test in cc)))
+    subst (λ (o : Core). (c.args.owner < length o.parts) × IsLeastDue (owner_part o c.args.owner) (Some (owner_part o c.args.owner).wave)) c.self.view_is
+    (high, due_here old.parts c.args.owner c.index_mut-2.result.now high c.index_mut-2.ensures.value (c.in-Ok-true.ensures.spread (ap Ok c.in-Ok-true.field-0-test)).due)

@@ -2,7 +2,7 @@ use Rattle.std.proofs.Common.{rules, List, length, set, sym, subst}
 use Rattle.awari_table.specs.Images.{table_of}
 use Rattle.awari_block.specs.Part.{Part}
 use Rattle.awari_owner.specs.Sound.{RefusesNote, TakesNotes}
-use Rattle.awari_core.specs.Core.{Core, Sender, Sound, DoesTake, IsBetween, PopsBatch, coming, part_at, sender_at}
+use Rattle.awari_core.specs.Core.{Core, Sender, Sound, DoesTake, IsBetween, PopsBatch, coming, owner_part, sender_at}
 use Rattle.awari_core.proofs.Effects.{as_many, core_of, part_was, same_sender, sender_was, take_does}
 use Rattle.awari_core.proofs.Sounding.{none_refused}
 use Rattle.awari_core.proofs.Steps.{left, next_of, take_step}
@@ -25,7 +25,7 @@ unreachable-requires c =
     let between : IsBetween old c.args.from c.args.to = subst (λ (o : Core). IsBetween o c.args.from c.args.to) (sym c.self.view_is) (c.is_between.ensures.0 (search rules)) in
     let pops : PopsBatch c.in-Some.batch.items (sender_at old c.args.from) c.pop.new.self c.args.to = subst (λ (s : Sender). PopsBatch c.in-Some.batch.items s c.pop.new.self c.args.to)
     (sym (sender_was old.senders c.args.from c.index_mut.result.now (as_many old c.args.from c.self.invariant between.0) c.index_mut.ensures.value)) c.in-Some.ensures.some in
-    none_refused c.coming_notes_are_expected.ensures (table_of old.shelf).value (length old.shelf) (length old.parts) (part_at old) (coming old) c.self.invariant.taken c.self.invariant.sound
+    none_refused c.coming_notes_are_expected.ensures (table_of old.shelf).value (length old.shelf) (length old.parts) (owner_part old) (coming old) c.self.invariant.taken c.self.invariant.sound
     c.args.from c.args.to between.0 between.1 between.2 c.take_batch.new.part c.in-Some.batch.items (left old c.args.from c.args.to between.0 between.1 between.2 c.self.invariant c.in-Some.batch.items c.pop.new.self pops)
     (next_of old c.args.from c.args.to between.0 between.1 between.2 c.self.invariant c.in-Some.batch.items c.pop.new.self pops) c.in-Err.field-0
     (subst (λ (p : Part). RefusesNote c.in-Some.batch.items p c.take_batch.new.part c.in-Err.field-0) (sym (part_was old.parts c.args.to c.index_mut-2.result.now between.1 c.index_mut-2.ensures.value)) c.in-Err.ensures.refused)
@@ -39,7 +39,7 @@ pops c =
     (sym (sender_was old.senders c.args.from c.index_mut.result.now (as_many old c.args.from c.self.invariant between.0) c.index_mut.ensures.value)) c.in-Some.ensures.some
 
 -- and heard
-hears : (c : goal.In-Ok) → TakesNotes c.in-Some.batch.items (part_at (core_of c.self.inside) c.args.to) c.take_batch.new.part
+hears : (c : goal.In-Ok) → TakesNotes c.in-Some.batch.items (owner_part (core_of c.self.inside) c.args.to) c.take_batch.new.part
 hears c =
     let old = core_of c.self.inside in
     let between : IsBetween old c.args.from c.args.to = subst (λ (o : Core). IsBetween o c.args.from c.args.to) (sym c.self.view_is) (c.is_between.ensures.0 (search rules)) in

@@ -1,4 +1,6 @@
-use Rattle.std.proofs.Common.{◌≡◌, ◌+◌, ◌-◌, ◌/◌, ◌<◌, ◌≤◌, ◌∙◌, ℕ, false, Some, length, ap, subst, subst₂, sym, rules, arith}
+use Rattle.std.proofs.Common.{◌≡◌, ◌+◌, ◌-◌, ◌/◌, ◌^◌, ◌<◌, ◌≤◌, ◌∙◌, ℕ, false, Some, length, refl, ap, subst, subst₂, sym, rules, arith}
+use Rattle.std.proofs.lemmas.Grind.{common_steps}
+use Rattle.std.proofs.lemmas.Result.{err_from_is_err_and}
 use Rattle.awari_rank.specs.Rank.{size_of}
 use Rattle.awari_block.specs.Boards.{TakesFirst, stake_of}
 use Rattle.awari_block.specs.Part.{Part, IsLeastDue}
@@ -21,11 +23,10 @@ span_is : (old : Part) (stake : Stake) (boards many owners span : ℕ) → stake
 span_is old stake boards many owners span at size count is =
     is ∙ ap (λ s. (s + (many - 1)) / many) (size ∙ ap (λ (p : Stake). size_of p.level) at) ∙ ap (λ n. (size_of old.level + (n - 1)) / n) count
 
-pub returns-in_err-reserve_others-clause-least : goal.returns-in_err-reserve_others-clause-least
-returns-in_err-reserve_others-clause-least c = λ _.
-    let due : IsLeastDue c.self.inside.boards (Some c.in-Some.dist) = c.in-Some.ensures.least in
-    let near : c.in-Some.dist ≡ c.self.inside.boards.wave = c.if-dist-stake.false ∙ ap (λ (p : Stake). p.wave) c.stake-stake.ensures.stake in
-    subst (λ (o : Part). IsLeastDue o (Some o.wave)) c.self.view_is (subst (λ d. IsLeastDue c.self.inside.boards (Some d)) near due)
+-- the first fresh board is of the open wave
+due_now : (old part : Part) (stake : Stake) (dist : ℕ) → stake ≡ stake_of old → dist ≡ stake.wave → old ≡ part → IsLeastDue old (Some dist) → IsLeastDue part (Some part.wave)
+due_now old part stake dist at near view due =
+    subst (λ (o : Part). IsLeastDue o (Some o.wave)) view (subst (λ d. IsLeastDue old (Some d)) (near ∙ ap (λ (p : Stake). p.wave) at) due)
 
 pub tell_all-requires-clause-gain : goal.tell_all-requires-clause-gain
 tell_all-requires-clause-gain c =
@@ -114,6 +115,7 @@ returns-clause-spread c = λ _.
       spreads = both.0;
       sends = sends;
       fewer = fewer_unspread old c.take_first-rank.new.self c.tell_all.new.boards c.take_first-rank.result takes c.tell_all.ensures.settles;
+      due = due_now old old c.stake-stake.result c.in-Some.dist c.stake-stake.ensures.stake c.if-dist-stake.false refl c.in-Some.ensures.least;
       sound = λ value taken sent coming.
           sound_spread c.ranks_tell_boards_apart.ensures
           (λ p x r is move. (c.moves_keep_boards.ensures.board p r x 0 is move, (let kept = c.moves_keep_boards.ensures.stones p r x 0 is move in omega (arith, kept))))
@@ -121,7 +123,23 @@ returns-clause-spread c = λ _.
     } in
     subst₂ (λ (o : Part) (b : Outboxes). SpreadsFirst o c.tell_all.new.boards b (outboxes_of c.outboxes.inside.owner c.tell_all.new.queues.items)) c.self.view_is c.outboxes.view_is does
 
-pub returns-clause-stake : goal.returns-clause-stake
-returns-clause-stake c =
-    subst (λ (o : Part). SameStake o c.tell_all.new.boards) c.self.view_is
-    (taken_place c.self.inside.boards c.take_first-rank.new.self c.tell_all.new.boards c.take_first-rank.result c.take_first-rank.ensures.first c.tell_all.ensures.settles)
+pub returns-clause-stays : goal.returns-clause-stays
+returns-clause-stays c = (
+  subst (λ (o : Part). SameStake o c.tell_all.new.boards) c.self.view_is
+      (taken_place c.self.inside.boards c.take_first-rank.new.self c.tell_all.new.boards c.take_first-rank.result c.take_first-rank.ensures.first c.tell_all.ensures.settles),
+  search rules,
+  batches_length c.tell_all.new.queues.items ∙ (let after : length c.tell_all.new.queues.items ≡ length c.outboxes.inside.queues.items = search rules in after)
+      ∙ sym (batches_length c.outboxes.inside.queues.items) ∙ ap (λ (b : Outboxes). length b.queues) c.outboxes.view_is,
+)
+
+pub returns-in_err-reserve_others-clause-fault : goal.returns-in_err-reserve_others-clause-fault
+returns-in_err-reserve_others-clause-fault c =
+    let p = err_from_is_err_and c.from_residual.result c.from_residual.ensures.1 in
+    let wave = ap (λ (p : Stake). p.wave) c.stake-stake.ensures.stake in
+    let at : c.in-Some.dist ≡ c.stake-stake.result.wave = c.if-dist-stake.false in
+    let near : c.self.inside.boards.wave < 2 ^ 32 - 1 = (let far = c.if-dist.false in search (rules, wave)) in
+    rw (p.1, p.2) (
+      due_now c.self.inside.boards c.args.self.now c.stake-stake.result c.in-Some.dist c.stake-stake.ensures.stake at c.self.view_is c.in-Some.ensures.least,
+      subst (λ (o : Part). o.wave < 2 ^ 32 - 1) c.self.view_is near,
+      grind (arith, common_steps),
+    )

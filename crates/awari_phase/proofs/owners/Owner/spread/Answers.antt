@@ -1,21 +1,23 @@
-use Rattle.std.proofs.Common.{◌≡◌, ◌⊎◌, ◌<◌, ◌-◌, ◌^◌, ℕ, Some, refl, inl, inr}
+use Rattle.std.proofs.Common.{◌≡◌, ◌⊎◌, ℕ, refl, inl, inr}
 use Rattle.std.proofs.lemmas.Result.{err_from_is_err_and}
-use Rattle.awari_block.specs.Part.{Part, HasFarthest, IsLeastDue}
+use Rattle.awari_block.specs.Part.{Part, HasFarthest}
+use Rattle.awari_owner.specs.Sound.{IsSpreadFault}
 use Rattle.awari_owner.specs.declared.faults.OwnerFault.{OwnerFault}
-use Rattle.awari_owner.specs.declared.faults.OwnerFault.TheVariants.{Far, Memory}
+use Rattle.awari_owner.specs.declared.faults.OwnerFault.TheVariants.{Doubled, Far, Memory, Stranger}
 use Rattle.awari_phase.proofs.Stopping.{stops_here}
 use Rattle.awari_phase.proofs.Keeping.{spread_keeps}
 use Rattle.awari_phase.proofs.owners.Owner.spread.Goals as goal
 
 pub returns-clause-kept : goal.returns-clause-kept
-returns-clause-kept c = spread_keeps _ _ _ _ _ c.args.self.now.queues c.args.self.now.numbered c.spread_one.ensures.stake c.in_ok-done.done c.spread_one.result c.in_ok-done.was c.spread_one.ensures.spread c.spread_one.ensures.none
+returns-clause-kept c = spread_keeps _ _ _ _ _ c.args.self.now.queues c.args.self.now.numbered c.spread_one.ensures.stays.0 c.in_ok-done.done c.spread_one.result c.in_ok-done.was c.spread_one.ensures.spread
+    (λ e. let none = c.spread_one.ensures.none e in (none.1, none.2))
 
 -- what a fault of a spread is
-due : (part : Part) (queues : ℕ) (fault : OwnerFault)
-    → ((fault ≡ Far) × (part.wave ≡ 2 ^ 32 - 1) × IsLeastDue part (Some part.wave) × HasFarthest part) ⊎ ((fault ≡ Memory) × (part.wave < 2 ^ 32 - 1) × (1 < queues))
-    → (fault ≡ Memory) ⊎ ((fault ≡ Far) × HasFarthest part)
-due part queues fault (inl far) = inr (far.0, far.3)
-due part queues fault (inr memory) = inl memory.0
+due : (part : Part) (queues : ℕ) (fault : OwnerFault) → IsSpreadFault part queues fault → (fault ≡ Memory) ⊎ ((fault ≡ Far) × HasFarthest part)
+due part queues Far far = inr (refl, far.2)
+due part queues Memory memory = inl refl
+due part queues Stranger none = absurd none
+due part queues Doubled none = absurd none
 
 pub returns-in_err-done-clause-stopped : goal.returns-in_err-done-clause-stopped
 returns-in_err-done-clause-stopped c =

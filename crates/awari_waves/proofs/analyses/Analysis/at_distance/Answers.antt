@@ -2,8 +2,8 @@ use Rattle.std.proofs.Common.{◌^◌, ◌≡◌, sym, subst}
 use Rattle.std.specs.Vec.{with_items}
 use Rattle.awari_owner.specs.Level.{AreHeard, AreWhole}
 use Rattle.awari_waves.specs.Analyses.{AnalysisView}
-use Rattle.awari_waves.specs.Each.{AreFrom, Each, OpensWave}
-use Rattle.awari_waves.specs.Waves.{IsGrid}
+use Rattle.awari_waves.specs.Each.{AreFrom, Each, IsAtWave}
+use Rattle.awari_waves.specs.Waves.{IsCut}
 use Rattle.awari_waves.proofs.Opened.{waved_grid, waved_heard, waved_same, whole_still}
 use Rattle.awari_waves.proofs.Stages.{can_wave, kept_items}
 use Rattle.awari_waves.proofs.analyses.Analysis.at_distance.Goals as goal
@@ -16,8 +16,8 @@ invariant_of-result-2 c =
     let a = c.self.inside in
     let before = c.self.invariant in
     let new = c.open_waves.new.segments in
-    let opened : Each (OpensWave c.args.dist) a.segments.items new = subst (λ l. Each (OpensWave c.args.dist) l new) c.as_mut_slice.ensures.value c.open_waves.ensures.opened in
-    let items : (with_items a.segments new).items ≡ new = kept_items (OpensWave c.args.dist) a.segments new opened in
+    let opened : Each (IsAtWave c.args.dist) a.segments.items new = subst (λ l. Each (IsAtWave c.args.dist) l new) c.as_mut_slice.ensures.value c.open_waves.ensures.opened in
+    let items : (with_items a.segments new).items ≡ new = kept_items (IsAtWave c.args.dist) a.segments new opened in
     record {
       low = before.low;
       few = before.few;
@@ -25,7 +25,7 @@ invariant_of-result-2 c =
       inward = before.inward;
       some = before.some;
       numbers = before.numbers;
-      grid = subst (IsGrid (record a.front.stake { wave = c.args.dist }) (2 ^ a.front.log)) (sym items) (waved_grid a.front.stake (2 ^ a.front.log) c.args.dist a.segments.items new before.grid opened);
+      grid = subst (IsCut (record a.front.stake { wave = c.args.dist }) (2 ^ a.front.log)) (sym items) (waved_grid a.front.stake (2 ^ a.front.log) c.args.dist a.segments.items new before.grid opened);
       whole = subst (AreWhole a.front.stake.level) (sym items) (whole_still a.front.stake.level a.segments.items new (waved_same c.args.dist a.segments.items new opened) before.whole);
       room = record { index = before.room.index; some = before.room.some };
     }
@@ -34,8 +34,8 @@ pub returns-clause-heard : goal.returns-clause-heard
 returns-clause-heard c value heard =
     let a = c.self.inside in
     let new = c.open_waves.new.segments in
-    let opened : Each (OpensWave c.args.dist) a.segments.items new = subst (λ l. Each (OpensWave c.args.dist) l new) c.as_mut_slice.ensures.value c.open_waves.ensures.opened in
-    let items : (with_items a.segments new).items ≡ new = kept_items (OpensWave c.args.dist) a.segments new opened in
+    let opened : Each (IsAtWave c.args.dist) a.segments.items new = subst (λ l. Each (IsAtWave c.args.dist) l new) c.as_mut_slice.ensures.value c.open_waves.ensures.opened in
+    let items : (with_items a.segments new).items ≡ new = kept_items (IsAtWave c.args.dist) a.segments new opened in
     let test = c.if-dist-self.false in
     let can = can_wave a.front.stake (2 ^ a.front.log) a.segments.items c.self.invariant.grid c.args.dist test (subst (λ (v : AnalysisView). AreFrom c.args.dist v.parts) (sym c.self.view_is) c.requires.far) in
     subst (AreHeard value) (sym items) (waved_heard value c.args.dist a.segments.items new can opened (subst (λ (v : AnalysisView). AreHeard value v.parts) (sym c.self.view_is) heard))

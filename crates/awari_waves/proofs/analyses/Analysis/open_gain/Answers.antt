@@ -2,8 +2,8 @@ use Rattle.std.proofs.Common.{◌^◌, ◌≡◌, ◌-◌, ◌≤◌, sym, subst
 use Rattle.std.specs.Vec.{with_items}
 use Rattle.awari_owner.specs.Level.{AreHeard, AreWhole}
 use Rattle.awari_waves.specs.Analyses.{AnalysisView}
-use Rattle.awari_waves.specs.Each.{AreIdle, Each, OpensGain}
-use Rattle.awari_waves.specs.Waves.{IsGrid}
+use Rattle.awari_waves.specs.Each.{NoneAreFresh, Each, OpensSegment}
+use Rattle.awari_waves.specs.Waves.{IsCut}
 use Rattle.awari_waves.proofs.Opened.{opened_grid, opened_heard, opened_same, whole_still}
 use Rattle.awari_waves.proofs.Stages.{can_open, kept_items}
 use Rattle.awari_waves.proofs.analyses.Analysis.open_gain.Goals as goal
@@ -14,8 +14,8 @@ invariant_of-result g c =
     let before = c.self.invariant in
     let new = c.open_gains.new.segments in
     let more : 2 ≤ a.front.stake.gain = search rules in
-    let opened : Each (OpensGain (a.front.stake.gain - 1)) a.segments.items new = subst (λ l. Each (OpensGain (a.front.stake.gain - 1)) l new) c.as_mut_slice.ensures.value c.in_ok-open_gains.ensures.opened in
-    let items : (with_items a.segments new).items ≡ new = kept_items (OpensGain (a.front.stake.gain - 1)) a.segments new opened in
+    let opened : Each (OpensSegment (a.front.stake.gain - 1)) a.segments.items new = subst (λ l. Each (OpensSegment (a.front.stake.gain - 1)) l new) c.as_mut_slice.ensures.value c.in_ok-open_gains.ensures.opened in
+    let items : (with_items a.segments new).items ≡ new = kept_items (OpensSegment (a.front.stake.gain - 1)) a.segments new opened in
     record {
       low = before.low;
       few = before.few;
@@ -23,7 +23,7 @@ invariant_of-result g c =
       inward = let inward = before.inward in omega (arith, inward);
       some = before.some;
       numbers = before.numbers;
-      grid = subst (IsGrid (record a.front.stake { gain = a.front.stake.gain - 1; wave = 0 }) (2 ^ a.front.log)) (sym items) (opened_grid a.front.stake (2 ^ a.front.log) (a.front.stake.gain - 1) a.segments.items new before.grid opened);
+      grid = subst (IsCut (record a.front.stake { gain = a.front.stake.gain - 1; wave = 0 }) (2 ^ a.front.log)) (sym items) (opened_grid a.front.stake (2 ^ a.front.log) (a.front.stake.gain - 1) a.segments.items new before.grid opened);
       whole = subst (AreWhole a.front.stake.level) (sym items) (whole_still a.front.stake.level a.segments.items new (opened_same (a.front.stake.gain - 1) a.segments.items new opened) before.whole);
       room = record { index = before.room.index; some = before.room.some };
     }
@@ -33,7 +33,7 @@ returns-clause-heard g c value heard =
     let a = c.self.inside in
     let new = c.open_gains.new.segments in
     let more : 2 ≤ a.front.stake.gain = search rules in
-    let opened : Each (OpensGain (a.front.stake.gain - 1)) a.segments.items new = subst (λ l. Each (OpensGain (a.front.stake.gain - 1)) l new) c.as_mut_slice.ensures.value c.in_ok-open_gains.ensures.opened in
-    let items : (with_items a.segments new).items ≡ new = kept_items (OpensGain (a.front.stake.gain - 1)) a.segments new opened in
-    let can = can_open a.front.stake (2 ^ a.front.log) a.segments.items c.self.invariant.grid (a.front.stake.gain - 1) (omega (arith, more)) (omega (arith, more)) (subst (λ (v : AnalysisView). AreIdle v.parts) (sym c.self.view_is) c.requires.idle) in
+    let opened : Each (OpensSegment (a.front.stake.gain - 1)) a.segments.items new = subst (λ l. Each (OpensSegment (a.front.stake.gain - 1)) l new) c.as_mut_slice.ensures.value c.in_ok-open_gains.ensures.opened in
+    let items : (with_items a.segments new).items ≡ new = kept_items (OpensSegment (a.front.stake.gain - 1)) a.segments new opened in
+    let can = can_open a.front.stake (2 ^ a.front.log) a.segments.items c.self.invariant.grid (a.front.stake.gain - 1) (omega (arith, more)) (omega (arith, more)) (subst (λ (v : AnalysisView). NoneAreFresh v.parts) (sym c.self.view_is) c.requires.idle) in
     subst (AreHeard value) (sym items) (opened_heard value (a.front.stake.gain - 1) a.segments.items new can opened (subst (λ (v : AnalysisView). AreHeard value v.parts) (sym c.self.view_is) heard))

@@ -1,7 +1,7 @@
 use Rattle.std.proofs.Common.{◌*◌, ◌%◌, ◌^◌, ◌≡◌, ◌+◌, ◌≤◌, length, sym, subst, arith}
 use Rattle.std.proofs.lemmas.Nat.{pow_below}
 use Rattle.awari_owner.specs.Level.{AreWhole}
-use Rattle.awari_waves.specs.Waves.{IsGrid}
+use Rattle.awari_waves.specs.Waves.{IsCut}
 use Rattle.awari_waves.proofs.Cutting.{level_few}
 use Rattle.awari_waves.proofs.analyses.Analysis.scan.Goals as goal
 
@@ -19,8 +19,8 @@ invariant_of-result g c =
       inward = omega arith;
       some = c.log_of-log.ensures;
       numbers = numbers;
-      grid = subst (λ n. IsGrid (record { level = n; gain = n + 1; wave = 0 }) (2 ^ c.log_of-log.result) c.in_ok-segments.segments.items) (sym number)
-          (subst (λ s. IsGrid (record { level = length c.args.shelf.now; gain = length c.args.shelf.now + 1; wave = 0 }) s c.in_ok-segments.segments.items) span c.in_ok-segments.ensures.grid);
+      grid = subst (λ n. IsCut (record { level = n; gain = n + 1; wave = 0 }) (2 ^ c.log_of-log.result) c.in_ok-segments.segments.items) (sym number)
+          (subst (λ s. IsCut (record { level = length c.args.shelf.now; gain = length c.args.shelf.now + 1; wave = 0 }) s c.in_ok-segments.segments.items) span c.in_ok-segments.ensures.grid);
       whole = subst (λ n. AreWhole n c.in_ok-segments.segments.items) (sym number) c.in_ok-segments.ensures.whole;
       room = c.in_ok-room.ensures _ (sym c.in_ok-index.ensures);
     }

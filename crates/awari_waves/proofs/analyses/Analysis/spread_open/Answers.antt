@@ -4,7 +4,7 @@ use Rattle.awari_owner.specs.Level.{AreHeard, AreWhole}
 use Rattle.awari_owner.specs.Spread.{SameBlock}
 use Rattle.awari_waves.specs.Analyses.{AnalysisView}
 use Rattle.awari_waves.specs.Each.{AreFrom, Each}
-use Rattle.awari_waves.specs.Waves.{IsGrid}
+use Rattle.awari_waves.specs.Waves.{IsCut}
 use Rattle.awari_waves.proofs.Opened.{whole_still}
 use Rattle.awari_waves.proofs.Stages.{from_passed, kept_items}
 use Rattle.awari_waves.proofs.analyses.Analysis.spread_open.Goals as goal
@@ -23,7 +23,7 @@ invariant_of-result g c =
       inward = before.inward;
       some = before.some;
       numbers = before.numbers;
-      grid = subst (IsGrid a.front.stake (2 ^ a.front.log)) (sym items) c.in_ok-spread_wave.ensures.front.grid;
+      grid = subst (IsCut a.front.stake (2 ^ a.front.log)) (sym items) c.in_ok-spread_wave.ensures.front.grid;
       whole = subst (AreWhole a.front.stake.level) (sym items) (whole_still a.front.stake.level a.segments.items new same before.whole);
       room = c.in_ok-spread_wave.ensures.room;
     }
