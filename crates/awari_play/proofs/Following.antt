@@ -19,18 +19,18 @@ use Rattle.awari_theory.proofs.Truths.{TellsTruth-shelf}
 use Rattle.awari_play.specs.BestLine.{IsBestLine}
 
 -- moves lead to one standing
-one_standing : (xs : List ℕ) (from s u : Standing) → IsPlay from xs s → IsPlay from xs u → s ≡ u
+pub one_standing : (xs : List ℕ) (from s u : Standing) → IsPlay from xs s → IsPlay from xs u → s ≡ u
 one_standing [] from s u play other = play ∙ sym other
 one_standing (x ∷ xs) from s u play other = one_standing xs (after from x) s u play.1 other.1
 
 -- what a play with one more pit is
-one_more : (xs : List ℕ) (x : ℕ) (from s u : Standing) → IsPlay from xs s → IsPlay from (xs ++ x ∷ []) u → u ≡ after s x
+pub one_more : (xs : List ℕ) (x : ℕ) (from s u : Standing) → IsPlay from xs s → IsPlay from (xs ++ x ∷ []) u → u ≡ after s x
 one_more [] x from s u play more = more.1 ∙ ap (λ (v : Standing). after v x) (sym play)
 one_more (y ∷ xs) x from s u play more = one_more xs x (after from y) s u play.1 more.1
 
-follows_more : (plan : List ℕ → Option ℕ) (side : Bool) (xs : List ℕ) (x : ℕ) (from s : Standing) → IsPlay from xs s → plan s.board ≡ Some x
+pub follows_more : (plan : List ℕ → Option ℕ) (side : Bool) (xs : List ℕ) (x : ℕ) (from s : Standing) → IsPlay from xs s → (s.first_moves ≡ side → plan s.board ≡ Some x)
     → Follows plan side from xs → Follows plan side from (xs ++ x ∷ [])
-follows_more plan side [] x from s play is follows = ((λ mine. subst (λ (v : Standing). plan v.board ≡ Some x) play is), tt)
+follows_more plan side [] x from s play is follows = (subst (λ (v : Standing). v.first_moves ≡ side → plan v.board ≡ Some x) play is, tt)
 follows_more plan side (y ∷ xs) x from s play is follows = (follows.0, follows_more plan side xs x (after from y) s play.1 is follows.1)
 
 -- no shorter beginning of the play has an outcome
@@ -91,8 +91,8 @@ under_way-more t levels limit board seen later moves x before is_board legal pla
     record {
       shows = shows;
       known = omega (arith, before.known, kept, left);
-      first = follows_more t.plan true moves x (start board) before.shows.standing before.shows.play planned before.first;
-      second = follows_more t.plan false moves x (start board) before.shows.standing before.shows.play planned before.second;
+      first = follows_more t.plan true moves x (start board) before.shows.standing before.shows.play (λ mine. planned) before.first;
+      second = follows_more t.plan false moves x (start board) before.shows.standing before.shows.play (λ mine. planned) before.second;
       no_sooner = no_sooner-more limit board moves x seen before.shows none before.no_sooner;
     }
 

@@ -6,4 +6,5 @@ pub mod Lowered
 pub mod Lowerings
 pub mod Alike
 pub mod Worthing
+pub mod HoldingOut
 pub mod WorthLines

@@ -35,7 +35,7 @@ sign_cases v = grind (arith, ints)
 
 module _ (t : Table) (p : List ℕ) where
   -- a pit has one move
-  one_move : (x c : ℕ) (q : List ℕ) (s : Reached) → Reaches t p x (Some s) → IsMove p x c q → (plies c (t.dist q) ≡ s.plies) × ((pos c -ℤ t.value q) ≡ (pos s.captured -ℤ s.value))
+  pub one_move : (x c : ℕ) (q : List ℕ) (s : Reached) → Reaches t p x (Some s) → IsMove p x c q → (plies c (t.dist q) ≡ s.plies) × ((pos c -ℤ t.value q) ≡ (pos s.captured -ℤ s.value))
   one_move x c q s (r, move, v, d) other =
       let same : c ≡ s.captured = other.captures ∙ sym move.captures in
       let there : q ≡ r = other.leaves ∙ sym move.leaves in (

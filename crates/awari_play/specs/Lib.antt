@@ -1,6 +1,8 @@
 pub mod Plan
 pub mod Planning
 pub mod BestLine
+pub mod LongestLine
+pub mod Holding
 pub mod LineFault
 pub mod Least
 pub mod Lowering

@@ -1,8 +1,8 @@
 //! Plans by the values and distances of a table, and play by the plans of a shelf.
 //!
 //! [`best_line`] plays both sides up to the outcome, and [`move_worths`] says what each legal move is
-//! worth. [`least`] brings distances down to the least ones. All of it works on a finished shelf, and
-//! needs nothing of what builds a level.
+//! worth. [`longest_line`] lets the losing side hold out. [`least`] brings distances down to the least
+//! ones. All of it works on a finished shelf, and needs nothing of what builds a level.
 //!
 //! The moves of a line and its outcome, as a test expects them, in
 //! `crates/awari_owner_tests/src/lines.rt`:
@@ -23,6 +23,7 @@
 
 mod laws;
 mod lines;
+mod longest;
 mod lowering;
 mod plans;
 mod weighing;
@@ -30,6 +31,7 @@ mod worths;
 
 pub use laws::{lowest_levels_are_one, lowest_plans_stay};
 pub use lines::{Line, LineFault, best_line};
+pub use longest::longest_line;
 pub use lowering::least;
 pub use weighing::{MOVES_ROOM, MovesText, Weighed, text_of_line, weigh};
 pub use worths::{MoveWorth, move_worths, worth_of};

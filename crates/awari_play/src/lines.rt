@@ -112,14 +112,22 @@ fn play_plan(shelf: &Shelf, game: &mut Game) -> u8
     ensures played { (board pits : List ℕ) → Shows game.old board pits → Shows game.new board (pits ++ result ∷ []) }
 {
     let pit = plan(shelf, &game.board());
-    match game.step(pit) {
-        Ok(()) => pit,
-        Err(_) => unreachable!(),
-    }
+    play_pit(game, pit);
+    pit
+}
+
+/// Plays a legal pit.
+pub(crate) fn play_pit(game: &mut Game, pit: u8)
+    requires { IsLegal game.old.board pit }
+    ensures { (board pits : List ℕ) → Shows game.old board pits → Shows game.new board (pits ++ pit ∷ []) }
+{
+    let Ok(()) = game.step(pit) else {
+        unreachable!()
+    };
 }
 
 /// The plan of a board on which some pit is legal.
-fn plan(shelf: &Shelf, board: &Board) -> u8
+pub(crate) fn plan(shelf: &Shelf, board: &Board) -> u8
     requires shelf { IsShelf shelf.now }
     requires board { IsBoard board.now }
     requires known { sum board.now < length shelf.now }

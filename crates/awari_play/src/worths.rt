@@ -3,7 +3,7 @@
 ghost use Rattle.std.specs.Prelude.{◌≡◌, ◌≢◌, ◌<◌, ◌↔◌, ℕ, All, Contains, IsOk, IfOk, IfErr, length, map, pos, sum};
 ghost use Rattle.std.specs.List.Sorted.{IsStrictlyIncreasing};
 ghost use Rattle.awari_board.specs.Rules.{IsLegal};
-ghost use Rattle.awari_table.specs.Reached.{gain_of};
+ghost use Rattle.awari_table.specs.Reached.{Reaches, gain_of};
 ghost use Rattle.awari_table.specs.Images.{table_of};
 ghost use Rattle.awari_play.specs.MoveWorth.{IsMoveWorth, IsWorthOf, pit_of};
 
@@ -65,13 +65,25 @@ pub fn worth_of(shelf: &Shelf, board: &Board, pit: u8) -> MoveWorth
     requires legal { IsLegal board.now pit }
     ensures { IsWorthOf (table_of shelf.now) board.now pit result }
 {
+    match reached(shelf, board, pit) {
+        Some(reached) => worth_by(pit, reached),
+        None => unreachable!(),
+    }
+}
+
+/// What a pit of a board captures and leads to, or none if it is not legal. Condition: the board's
+/// level is on the shelf.
+pub(crate) fn reached(shelf: &Shelf, board: &Board, pit: u8) -> Option<Reached>
+    requires { sum board.now < length shelf.now }
+    ensures { Reaches (table_of shelf.now) board.now pit result }
+{
     let Ok(moved) = board.play(pit) else {
-        unreachable!()
+        return None;
     };
     let Ok(entry) = shelf.entry(&moved.board) else {
         unreachable!()
     };
-    worth_by(pit, Reached::of(moved.captured, entry))
+    Some(Reached::of(moved.captured, entry))
 }
 
 /// What a move of this pit is worth that captures and leads to this.

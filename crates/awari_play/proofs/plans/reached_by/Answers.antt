@@ -1,6 +1,5 @@
-use Rattle.std.proofs.Common.{FitsSigned, w8, rules, Some, slice_get, ◌≡◌, ◌∙◌, sum, length, sym, ap, arith, [], ◌∷◌}
+use Rattle.std.proofs.Common.{FitsSigned, w8, rules, ◌≡◌, ◌∙◌, sum, length, sym, ap, arith, [], ◌∷◌}
 use Rattle.std.proofs.lemmas.Int.{to_z-of_z}
-use Rattle.awari_rank.specs.Rank.{rank_of}
 use Rattle.awari_table.specs.Certificate.{plies}
 use Rattle.awari_table.specs.declared.images.Entry.{Entry}
 use Rattle.awari_table.specs.declared.images.Image.{Image}

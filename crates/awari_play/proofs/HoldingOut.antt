@@ -1,0 +1,330 @@
+-- Play in which one side holds out: each ply leaves one ply less, or captures with the last.
+use Rattle.std.proofs.Common.{◌≡◌, ◌≢◌, ℕ, ◌+◌, ◌<◌, ◌≤◌, ◌⊎◌, ◌↔◌, nat_eq, IsTrue, Bool, true, false, not, List, [], ◌∷◌, ◌++◌, length, sum, take, ℤ, pos, ◌-ℤ◌, ◌≤ℤ◌, ◌<ℤ◌, Some, refl, sym, ap, ◌∙◌, subst, arith, inl, inr, length-append}
+use Rattle.std.specs.Prelude.{int_lt}
+use Rattle.std.proofs.lemmas.Bool.{cases_lt}
+use Rattle.std.proofs.lemmas.Bool.Decides.{nat_tests}
+use Rattle.std.proofs.lemmas.Int.{ints}
+use Rattle.std.proofs.lemmas.List.{take-append-le, take_all}
+use Rattle.awari_board.specs.Rules.{IsBoard, IsEnd, IsEnded, IsLegal, IsMove, captured, next_board}
+use Rattle.awari_game.specs.Plays.{Standing, start, after, IsPlay, Follows}
+use Rattle.awari_game.specs.Shown.{Shows}
+use Rattle.awari_table.specs.Certificate.{Table, plies, MovesIn, MovesNoLater, IsRightBy}
+use Rattle.awari_table.specs.declared.rules.Distances.TheVariants.{Least}
+use Rattle.awari_table.specs.declared.rules.Reached.{Reached}
+use Rattle.awari_table.specs.Reached.{Reaches}
+use Rattle.awari_table.proofs.CertificateLemmas.{DistancesFall-least, plies_cases}
+use Rattle.awari_theory.proofs.Moves.{stones_kept, next_is_board, move_of}
+use Rattle.awari_theory.proofs.Sides.{quiet_more, quiet_none}
+use Rattle.awari_play.proofs.Following.{follows_more, one_more, one_standing}
+use Rattle.awari_play.proofs.Lowered.{one_move}
+use Rattle.awari_play.specs.Holding.{TakesPlies}
+use Rattle.awari_play.specs.LongestLine.{HoldsLongest, HoldsOut, IsLongestLine, favours_mover}
+
+-- ---- the pit that holds out longest
+
+-- what a pit leads to says whether its move takes so many plies
+takes_by : (t : Table) (p : List ℕ) (x k : ℕ) (s : Reached) → Reaches t p x (Some s) → (s.plies ≡ k → TakesPlies t p x k) × (TakesPlies t p x k → s.plies ≡ k)
+takes_by t p x k s reaches = (
+  (λ is. let (q, move, v, d) = reaches in (s.captured, q, move, sym d ∙ is)),
+  (λ takes. let (c, q, move, is) = takes in sym (one_move t p x c q s reaches move).0 ∙ is),
+)
+
+nat_eq_is : (a b : ℕ) → IsTrue (nat_eq a b) ↔ (a ≡ b)
+nat_eq_is a b = (λ sure. grind (arith, nat_tests), λ same. grind (arith, nat_tests))
+
+pub takes_is : (t : Table) (p : List ℕ) (x k n : ℕ) (s : Reached) → Reaches t p x (Some s) → n ≡ k → IsTrue (nat_eq s.plies n) ↔ TakesPlies t p x k
+takes_is t p x k n s reaches same =
+    let by = takes_by t p x k s reaches in
+    let test = nat_eq_is s.plies n in
+    ((λ sure. by.0 (test.0 sure ∙ same)), (λ takes. test.1 (by.1 takes ∙ sym same)))
+
+-- no pit below this one takes so many plies
+pub record NoneTakes (t : Table) (p : List ℕ) (k x : ℕ) : Type 0 where
+  pub none : (y : ℕ) → y < x → TakesPlies t p y k → ⊥
+
+pub none_takes : (t : Table) (p : List ℕ) (k : ℕ) → NoneTakes t p k 0
+none_takes t p k = record { none = λ y below takes. omega (arith, below) }
+
+pub none_takes-more : (t : Table) (p : List ℕ) (k x : ℕ) (b : Bool) → IsTrue b ↔ TakesPlies t p x k → b ≡ false → NoneTakes t p k x → NoneTakes t p k (x + 1)
+none_takes-more t p k x b is fails before = record {
+  none = λ y below takes. elim (cases_lt y x) [
+    | inl lt ↦ before.none y lt takes
+    | inr ge ↦ let e : y ≡ x = omega (arith, ge, below) in clash b fails (is.1 (subst (λ z. TakesPlies t p z k) e takes))
+  ];
+}
+  where
+    clash : (b : Bool) → b ≡ false → IsTrue b → ⊥
+    clash b e sure = grind arith
+
+-- the lowest that takes the most holds out longest
+pub holds_longest : (t : Table) (p : List ℕ) (k x : ℕ) → MovesNoLater t p k → NoneTakes t p k x → TakesPlies t p x k → HoldsLongest t p x
+holds_longest t p k x most before (c, q, move, is) = record {
+  captured = c;
+  next = q;
+  move = move;
+  most = λ y d r other. let within = most y d r other in omega (arith, within, is);
+  lowest = λ y d r below other.
+      let within = most y d r other in
+      elim (cases_lt (plies d (t.dist r)) k) [
+        | inl lt ↦ omega (arith, lt, is)
+        | inr ge ↦ absurd (before.none y below (d, r, other, omega (arith, ge, within)))
+      ];
+}
+
+-- some pit takes them
+pub one_takes : (t : Table) (p : List ℕ) (k x : ℕ) → MovesIn t p k → NoneTakes t p k x → 6 ≤ x → ⊥
+one_takes t p k x (y, c, q, move, is) before all = before.none y (let own = move.legal.own in omega (arith, own, all)) (c, q, move, is)
+
+-- ---- a board whose distance is not 0
+
+pub far_open : (t : Table) (p : List ℕ) → IsRightBy Least t p → 1 ≤ t.dist p → IsEnded p → ⊥
+far_open t p r far stuck = let end : IsEnd p _ = record { stuck = stuck; gains = refl } in omega (arith, (r.ends _ end).2, far)
+
+pub far_legal : (t : Table) (p : List ℕ) → IsRightBy Least t p → 1 ≤ t.dist p → (x : ℕ) × IsLegal p x
+far_legal t p r far = let (x, plan, legal) = r.has_plan (far_open t p r far) in (x, legal)
+
+even_or_lost : (v : ℤ) → (pos 0 <ℤ v → ⊥) → (v <ℤ pos 0) ⊎ (v ≡ pos 0)
+even_or_lost v low = grind (arith, ints)
+
+pub far_lost : (t : Table) (p : List ℕ) → IsRightBy Least t p → 1 ≤ t.dist p → (pos 0 <ℤ t.value p → ⊥) → (t.value p <ℤ pos 0) × MovesIn t p (t.dist p) × MovesNoLater t p (t.dist p)
+far_lost t p r far low = elim (even_or_lost (t.value p) low) [
+  | inl down ↦ (let both = r.distances.lost (far_open t p r far) down in (down, both.0, both.1))
+  | inr even ↦ absurd (omega (arith, r.distances.even even, far))
+]
+
+-- ---- one ply
+
+up_turns : (v w : ℤ) → (pos 0 -ℤ w) ≡ v → pos 0 <ℤ v → w <ℤ pos 0
+up_turns v w gain up = omega (arith, ints, gain, up)
+
+down_turns : (v w : ℤ) → (pos 0 -ℤ w) ≤ℤ v → v <ℤ pos 0 → pos 0 <ℤ w
+down_turns v w more down = omega (arith, ints, more, down)
+
+-- what is due on a board: its plan where it favours its mover, and where it favours the opponent the pit that holds out longest
+pub record IsDuePit (t : Table) (p : List ℕ) (x : ℕ) : Type 0 where
+  pub legal : IsLegal p x
+  pub favoured : pos 0 <ℤ t.value p → t.plan p ≡ Some x
+  pub other : t.value p <ℤ pos 0 → HoldsLongest t p x
+
+-- the plan of a won board takes as many plies as the distance
+won_plies : (t : Table) (p : List ℕ) (x c : ℕ) (q : List ℕ) → IsRightBy Least t p → 1 ≤ t.dist p → pos 0 <ℤ t.value p → t.plan p ≡ Some x → IsMove p x c q → plies c (t.dist q) ≡ t.dist p
+won_plies t p x c q r far up plan move =
+    let soonest = (r.distances.won (far_open t p r far) up).1 x c q move (r.plan_gains x c q plan move) in
+    elim (plies_cases c (t.dist q)) [
+      | inl taken ↦ omega (arith, taken.1, soonest, far)
+      | inr quiet ↦ elim (r.distances.winning up x c q plan move) [
+        | inl some ↦ absurd (omega (arith, some, quiet.0))
+        | inr near ↦ omega (arith, near, soonest, quiet.1)
+      ]
+    ]
+
+-- and so does the pit of a lost board that holds out longest
+lost_plies : (t : Table) (p : List ℕ) (x c : ℕ) (q : List ℕ) → IsRightBy Least t p → 1 ≤ t.dist p → t.value p <ℤ pos 0 → HoldsLongest t p x → IsMove p x c q → plies c (t.dist q) ≡ t.dist p
+lost_plies t p x c q r far down holds move =
+    let both = r.distances.lost (far_open t p r far) down in
+    let (y, d, s, other, is) = both.0 in
+    let within = holds.most y d s other in
+    let own = both.1 x holds.captured holds.next holds.move in
+    let same : c ≡ holds.captured = move.captures ∙ sym holds.move.captures in
+    let there : q ≡ holds.next = move.leaves ∙ sym holds.move.leaves in
+    let alike : plies c (t.dist q) ≡ plies holds.captured (t.dist holds.next) = ap (λ n. plies n (t.dist q)) same ∙ ap (λ b. plies holds.captured (t.dist b)) there in
+    omega (arith, alike, is, within, own)
+
+-- the side is the one that the board favours
+pub record IsGood (t : Table) (first : Bool) (s : Standing) : Type 0 where
+  pub won : s.first_moves ≡ first → pos 0 <ℤ t.value s.board
+  pub lost : s.first_moves ≡ not first → t.value s.board <ℤ pos 0
+
+due_plies : (t : Table) (p : List ℕ) (x c : ℕ) (q : List ℕ) → IsRightBy Least t p → 1 ≤ t.dist p → IsDuePit t p x → IsMove p x c q → plies c (t.dist q) ≡ t.dist p
+due_plies t p x c q r far due move = elim (cases_sign (t.value p)) [
+  | inl up ↦ won_plies t p x c q r far up (due.favoured up) move
+  | inr low ↦ let down = (far_lost t p r far low).0 in lost_plies t p x c q r far down (due.other down) move
+]
+  where
+    cases_sign : (v : ℤ) → (pos 0 <ℤ v) ⊎ (pos 0 <ℤ v → ⊥)
+    cases_sign v = grind (arith, ints)
+
+turn_won : (first moves : Bool) → not moves ≡ first → moves ≡ not first
+turn_won true true e = sym e
+turn_won true false e = refl
+turn_won false true e = refl
+turn_won false false e = sym e
+
+turn_lost : (first moves : Bool) → not moves ≡ not first → moves ≡ first
+turn_lost true true e = refl
+turn_lost true false e = sym e
+turn_lost false true e = sym e
+turn_lost false false e = refl
+
+good_next : (t : Table) (first : Bool) (s : Standing) (x : ℕ) → IsRightBy Least t s.board → IsDuePit t s.board x → captured s.board x ≡ 0 → IsGood t first s → IsGood t first (after s x)
+good_next t first s x r due none good =
+    let move : IsMove s.board x 0 (next_board s.board x) = subst (λ c. IsMove s.board x c (next_board s.board x)) none (move_of s.board x due.legal) in
+    record {
+      won = λ turn. let down = good.lost (turn_won first s.first_moves turn) in down_turns _ _ (r.no_more x 0 _ move) down;
+      lost = λ turn. let up = good.won (turn_lost first s.first_moves turn) in up_turns _ _ (r.plan_gains x 0 _ (due.favoured up) move) up;
+    }
+
+-- ---- a play so far
+
+-- nothing was captured, and the distance has fallen by as many plies
+pub record IsOpen (t : Table) (first : Bool) (dist k : ℕ) (s : Standing) : Type 0 where
+  pub quiet : s.quiet ≡ k
+  pub left : t.dist s.board + k ≡ dist
+  pub good : 0 < dist → IsGood t first s
+
+-- or the last ply captured
+abbrev pub IsOnWay : Table → Bool → ℕ → ℕ → Standing → Type 0
+IsOnWay t first dist k s = ((s.quiet ≡ 0) × (k ≡ dist)) ⊎ IsOpen t first dist k s
+
+open_at : (t : Table) (first : Bool) (dist k : ℕ) (s : Standing) → k < dist → IsOnWay t first dist k s → IsOpen t first dist k s
+open_at t first dist k s near way = elim way [ inl come ↦ absurd (omega (arith, come.1, near)) | inr still ↦ still ]
+
+way-more : (t : Table) (first : Bool) (dist k : ℕ) (s : Standing) (x : ℕ) → IsRightBy Least t s.board → IsDuePit t s.board x → k < dist → IsOpen t first dist k s
+    → IsOnWay t first dist (k + 1) (after s x)
+way-more t first dist k s x r due near still =
+    let far : 1 ≤ t.dist s.board = omega (arith, still.left, near) in
+    let takes = due_plies t s.board x _ _ r far due (move_of s.board x due.legal) in
+    let left = still.left in
+    elim (plies_cases (captured s.board x) (t.dist (next_board s.board x))) [
+      | inl taken ↦ inl (quiet_none (captured s.board x) s.quiet taken.0, omega (arith, taken.1, takes, left))
+      | inr quiet ↦ inr (record {
+        quiet = quiet_more (captured s.board x) s.quiet quiet.0 ∙ ap (λ n. n + 1) still.quiet;
+        left = omega (arith, quiet.1, takes, left);
+        good = λ some. good_next t first s x r due quiet.0 (still.good some);
+      })
+    ]
+
+-- each proper beginning of the play has captured nothing
+abbrev pub StaysQuiet : List ℕ → List ℕ → Type 0
+StaysQuiet board moves = (n : ℕ) (s : Standing) → n < length moves → IsPlay (start board) (take n moves) s → s.quiet ≡ n
+
+stays_quiet-more : (board moves : List ℕ) (x : ℕ) (u : Standing) → IsPlay (start board) moves u → u.quiet ≡ length moves → StaysQuiet board moves → StaysQuiet board (moves ++ x ∷ [])
+stays_quiet-more board moves x u whole none before n s below play =
+    let within : n ≤ length moves = let more = length-append moves (x ∷ []) in omega (arith, below, more) in
+    let begins : IsPlay (start board) (take n moves) s = subst (λ xs. IsPlay (start board) xs s) (take-append-le n moves (x ∷ []) within) play in
+    elim (cases_lt n (length moves)) [
+      | inl lt ↦ before n s lt begins
+      | inr ge ↦
+          let all : IsPlay (start board) moves s = subst (λ xs. IsPlay (start board) xs s) (take_all n moves ge) begins in
+          let same : s ≡ u = one_standing moves (start board) s u all whole in
+          let quiet : s.quiet ≡ u.quiet = ap (λ (v : Standing). v.quiet) same in
+          omega (arith, quiet, none, within, ge)
+    ]
+
+holds_more : (t : Table) (side : Bool) (xs : List ℕ) (x : ℕ) (from s : Standing) → IsPlay from xs s → (s.first_moves ≡ side → HoldsLongest t s.board x)
+    → HoldsOut t side from xs → HoldsOut t side from (xs ++ x ∷ [])
+holds_more t side [] x from s play is holds = (subst (λ (v : Standing). v.first_moves ≡ side → HoldsLongest t v.board x) play is, tt)
+holds_more t side (y ∷ xs) x from s play is holds = (holds.0, holds_more t side xs x (after from y) s play.1 is holds.1)
+
+-- The play of a longest line after k plies, on boards of a table with so many levels.
+pub record IsHeld (t : Table) (levels k : ℕ) (board : List ℕ) (seen : Standing) (moves : List ℕ) : Type 0 where
+  pub shows : Shows seen board moves
+  pub size : length moves ≡ k
+  pub whole : IsBoard seen.board
+  pub known : sum seen.board < levels
+  pub favoured : Follows t.plan (favours_mover t board) (start board) moves
+  pub other : HoldsOut t (not (favours_mover t board)) (start board) moves
+  pub quiet : StaysQuiet board moves
+  pub way : IsOnWay t (favours_mover t board) (t.dist board) k shows.standing
+
+first_won : (v : ℤ) → true ≡ int_lt (pos 0) v → pos 0 <ℤ v
+first_won v e = grind (arith, ints, nat_tests)
+
+first_lost : (v : ℤ) → v ≢ pos 0 → true ≡ not (int_lt (pos 0) v) → v <ℤ pos 0
+first_lost v other e = grind (arith, ints, nat_tests)
+
+good_start : (t : Table) (board : List ℕ) → IsRightBy Least t board → 0 < t.dist board → IsGood t (favours_mover t board) (start board)
+good_start t board r far = record {
+  won = first_won (t.value board);
+  lost = first_lost (t.value board) (λ even. omega (arith, r.distances.even even, far));
+}
+
+pub held-start : (t : Table) (levels : ℕ) (board : List ℕ) (seen : Standing) → IsBoard board → sum board < levels → IsRightBy Least t board → Shows seen board [] → IsHeld t levels 0 board seen []
+held-start t levels board seen is_board low r shows =
+    let at : shows.standing ≡ start board = shows.play in
+    let there : seen.board ≡ board = shows.shown.board ∙ ap (λ (s : Standing). s.board) at in
+    let opened : IsOpen t (favours_mover t board) (t.dist board) 0 (start board) = record { quiet = refl; left = omega arith; good = good_start t board r } in
+    record {
+      shows = shows;
+      size = refl;
+      whole = subst IsBoard (sym there) is_board;
+      known = subst (λ b. sum b < levels) (sym there) low;
+      favoured = tt;
+      other = tt;
+      quiet = λ n s below. absurd (omega (arith, below));
+      way = inr (subst (IsOpen t (favours_mover t board) (t.dist board) 0) (sym at) opened);
+    }
+
+-- a ply on the way has a board whose distance is not 0
+pub held-far : (t : Table) (levels k : ℕ) (board : List ℕ) (seen : Standing) (moves : List ℕ) → k < t.dist board → IsHeld t levels k board seen moves → 1 ≤ t.dist seen.board
+held-far t levels k board seen moves near held =
+    let still = open_at t _ _ _ _ near held.way in
+    let left = still.left in
+    subst (λ b. 1 ≤ t.dist b) (sym held.shows.shown.board) (omega (arith, left, near))
+
+pub held-more : (t : Table) (levels k : ℕ) (board : List ℕ) (seen later : Standing) (moves : List ℕ) (x : ℕ) → k < t.dist board → IsRightBy Least t seen.board
+    → IsDuePit t seen.board x → IsHeld t levels k board seen moves → Shows later board (moves ++ x ∷ []) → IsHeld t levels (k + 1) board later (moves ++ x ∷ [])
+held-more t levels k board seen later moves x near r due held shows =
+    let s = held.shows.standing in
+    let at : shows.standing ≡ after s x = one_more moves x (start board) s shows.standing held.shows.play shows.play in
+    let there : seen.board ≡ s.board = held.shows.shown.board in
+    let right : IsRightBy Least t s.board = subst (IsRightBy Least t) there r in
+    let mine : IsDuePit t s.board x = subst (λ b. IsDuePit t b x) there due in
+    let still : IsOpen t (favours_mover t board) (t.dist board) k s = open_at t _ _ _ _ near held.way in
+    let good = still.good (omega (arith, near)) in
+    let left : later.board ≡ next_board seen.board x = shows.shown.board ∙ ap (λ (v : Standing). v.board) at ∙ ap (λ b. next_board b x) (sym there) in
+    let move : IsMove seen.board x (captured seen.board x) (next_board seen.board x) = move_of seen.board x due.legal in
+    let kept = stones_kept seen.board x _ _ held.whole move in
+    let fewer : sum later.board ≡ sum (next_board seen.board x) = ap sum left in
+    let more = length-append moves (x ∷ []) in
+    record {
+      shows = shows;
+      size = omega (arith, more, held.size);
+      whole = subst IsBoard (sym left) (next_is_board seen.board x _ _ held.whole move);
+      known = omega (arith, held.known, kept, fewer);
+      favoured = follows_more t.plan _ moves x (start board) s held.shows.play (λ turn. mine.favoured (good.won turn)) held.favoured;
+      other = holds_more t _ moves x (start board) s held.shows.play (λ turn. mine.other (good.lost turn)) held.other;
+      quiet = stays_quiet-more board moves x s held.shows.play (still.quiet ∙ sym held.size) held.quiet;
+      way = subst (IsOnWay t (favours_mover t board) (t.dist board) (k + 1)) (sym at) (way-more t _ _ k s x right mine near still);
+    }
+
+either_side : (first moves : Bool) → (moves ≡ first) ⊎ (moves ≡ not first)
+either_side true true = inl refl
+either_side true false = inr refl
+either_side false true = inr refl
+either_side false false = inl refl
+
+good_uneven : (t : Table) (first : Bool) (s : Standing) → IsGood t first s → t.value s.board ≢ pos 0
+good_uneven t first s good even = elim (either_side first s.first_moves) [
+  | inl turn ↦ (let up = good.won turn in omega (arith, ints, up, even))
+  | inr turn ↦ (let down = good.lost turn in omega (arith, ints, down, even))
+]
+
+some_moves : (moves : List ℕ) → moves ≢ [] → 0 < length moves
+some_moves [] some = absurd (some refl)
+some_moves (x ∷ xs) some = omega arith
+
+-- after as many plies as the distance it is the line
+pub held-end : (t : Table) (levels k : ℕ) (board : List ℕ) (seen : Standing) (moves : List ℕ) → k ≡ t.dist board → IsRightBy Least t seen.board → IsHeld t levels k board seen moves
+    → IsLongestLine t board moves
+held-end t levels k board seen moves all r held = record {
+  last = held.shows.standing;
+  play = held.shows.play;
+  favoured = held.favoured;
+  other = held.other;
+  quiet = held.quiet;
+  ends = λ some. elim held.way [
+    | inl come ↦ inl come.0
+    | inr still ↦ inr (ended (omega (arith, some_moves moves some, held.size, all)) still)
+  ];
+  size = held.size ∙ all;
+}
+  where
+    right : IsRightBy Least t held.shows.standing.board
+    right = subst (IsRightBy Least t) held.shows.shown.board r
+
+    ended : 0 < t.dist board → IsOpen t (favours_mover t board) (t.dist board) k held.shows.standing → IsEnded held.shows.standing.board
+    ended some still = λ x legal.
+        let far = (DistancesFall-least t _ right.distances).uneven (λ stuck. stuck x legal) (good_uneven t _ _ (still.good some)) in
+        let left = still.left in
+        omega (arith, far, left, all)

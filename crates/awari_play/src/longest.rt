@@ -1,0 +1,119 @@
+//! Play in which the favoured side follows its plans, and the other side holds out as long as it can.
+
+ghost use Rattle.std.specs.Prelude.{◌≡◌, ◌<◌, ◌≤◌, ◌++◌, ◌∷◌, [], ◌↔◌, ℕ, List, IsTrue, IfOk, IfErr, Err, Some, length, pos, ◌<ℤ◌, sum};
+ghost use Rattle.awari_board.specs.Rules.{IsBoard, IsLegal};
+ghost use Rattle.awari_game.specs.Shown.{Shows};
+ghost use Rattle.awari_table.specs.Certificate.{MovesIn, MovesNoLater};
+ghost use Rattle.awari_table.specs.Images.{entry_of, table_of};
+ghost use Rattle.awari_table.specs.Shelves.{IsShelf};
+ghost use Rattle.awari_play.specs.LineFault.{IsDue};
+ghost use Rattle.awari_play.specs.LongestLine.{HoldsLongest, IsLongestLine};
+ghost use Rattle.awari_play.specs.Holding.{TakesPlies};
+
+use crate::lines::{LineFault, plan, play_pit};
+use crate::worths::reached;
+use awari_board::{Board, SIDE};
+use awari_game::Game;
+use awari_table::Shelf;
+use std::alloc::{AllocError, Global};
+
+/// The pits of the play from the board in which the side that its value favours follows the shelf's
+/// plans. The other side plays the legal pit whose move takes the most plies, and the lowest of
+/// those. A capture takes one ply, and a quiet move one more than the distance of the board that it
+/// leaves. The play goes on to the first capture or the end, and so has exactly as many plies as the
+/// distance of the board: none if the board's value is 0, or if play has ended.
+///
+/// Refused as 56 `NotYet` if the board has at least as many stones as there are levels, else as 57
+/// `Memory` if memory runs out. It takes memory for the moves, a byte each.
+pub fn longest_line(alloc: Global, shelf: &Shelf, board: Board) -> Result<Vec<u8>, LineFault>
+    ensures line { IfOk result (λ moves. IsLongestLine (table_of shelf.now) board moves.items) }
+    ensures not_yet { (result ≡ Err (LineFault.NotYet (length shelf.now))) ↔ (length shelf.now ≤ sum board) }
+    ensures fault { IfErr result (IsDue (length shelf.now) (sum board)) }
+{
+    let levels = shelf.levels();
+    match shelf.entry(&board) {
+        Ok(entry) => hold_out(alloc, shelf, board, entry.dist).map_err(|_| LineFault::Memory),
+        Err(_) => Err(LineFault::NotYet { levels }),
+    }
+}
+
+/// Plays as many plies as the distance of a board whose level is on the shelf.
+fn hold_out(alloc: Global, shelf: &Shelf, board: Board, dist: u32) -> Result<Vec<u8>, AllocError>
+    requires shelf { IsShelf shelf.now }
+    requires board { IsBoard board }
+    requires known { sum board < length shelf.now }
+    requires dist { dist ≡ (table_of shelf.now).dist board }
+    ensures { IfOk result (λ moves. IsLongestLine (table_of shelf.now) board moves.items) }
+{
+    let mut game = Game::start(board);
+    let mut moves = Vec::new(alloc);
+    for _ in 0..dist {
+        let pit = play_longest(shelf, &mut game);
+        moves.push(pit)?;
+    }
+    Ok(moves)
+}
+
+/// Plays the pit that is due on the game's board, whose distance is not 0, and answers it.
+fn play_longest(shelf: &Shelf, game: &mut Game) -> u8
+    requires shelf { IsShelf shelf.now }
+    requires known { sum game.old.board < length shelf.now }
+    requires far { 1 ≤ (table_of shelf.now).dist game.old.board }
+    ensures board { IsBoard game.old.board }
+    ensures favoured { pos 0 <ℤ (table_of shelf.now).value game.old.board → (table_of shelf.now).plan game.old.board ≡ Some result }
+    ensures other { (table_of shelf.now).value game.old.board <ℤ pos 0 → HoldsLongest (table_of shelf.now) game.old.board result }
+    ensures legal { IsLegal game.old.board result }
+    ensures played { (board pits : List ℕ) → Shows game.old board pits → Shows game.new board (pits ++ result ∷ []) }
+{
+    let pit = longest_pit(shelf, &game.board());
+    play_pit(game, pit);
+    pit
+}
+
+/// The plan of a board that favours its mover, and the pit that holds out longest on one that favours
+/// the opponent.
+fn longest_pit(shelf: &Shelf, board: &Board) -> u8
+    requires shelf { IsShelf shelf.now }
+    requires board { IsBoard board.now }
+    requires known { sum board.now < length shelf.now }
+    requires far { 1 ≤ (table_of shelf.now).dist board.now }
+    ensures favoured { pos 0 <ℤ (table_of shelf.now).value board.now → (table_of shelf.now).plan board.now ≡ Some result }
+    ensures other { (table_of shelf.now).value board.now <ℤ pos 0 → HoldsLongest (table_of shelf.now) board.now result }
+    ensures legal { IsLegal board.now result }
+{
+    let Ok(entry) = shelf.entry(board) else {
+        unreachable!()
+    };
+    if entry.value > 0 {
+        plan(shelf, board)
+    } else {
+        stubborn_pit(shelf, board, entry.dist)
+    }
+}
+
+/// The lowest pit of a lost board whose move takes as many plies as the board's distance. No move
+/// takes more.
+fn stubborn_pit(shelf: &Shelf, board: &Board, dist: u32) -> u8
+    requires known { sum board.now < length shelf.now }
+    requires some { MovesIn (table_of shelf.now) board.now dist }
+    requires most { MovesNoLater (table_of shelf.now) board.now dist }
+    ensures { HoldsLongest (table_of shelf.now) board.now result }
+{
+    for pit in 0..SIDE {
+        if takes(shelf, board, pit, dist) {
+            return pit;
+        }
+    }
+    unreachable!()
+}
+
+/// Whether the pit is legal, and its move takes so many plies.
+fn takes(shelf: &Shelf, board: &Board, pit: u8, plies: u32) -> bool
+    requires { sum board.now < length shelf.now }
+    ensures { IsTrue result ↔ TakesPlies (table_of shelf.now) board.now pit plies }
+{
+    match reached(shelf, board, pit) {
+        Some(reached) => reached.plies == u64::from(plies),
+        None => false,
+    }
+}
