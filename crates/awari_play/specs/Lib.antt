@@ -8,3 +8,4 @@ pub mod Least
 pub mod Lowering
 pub mod MoveWorth
 pub mod Worths
+pub mod Plies

@@ -26,6 +26,7 @@ mod lines;
 mod longest;
 mod lowering;
 mod plans;
+mod plies;
 mod weighing;
 mod worths;
 
@@ -33,5 +34,6 @@ pub use laws::{lowest_levels_are_one, lowest_plans_stay};
 pub use lines::{Line, LineFault, best_line};
 pub use longest::longest_line;
 pub use lowering::least;
+pub use plies::{LinePlies, Ply, Repeat, line_plies};
 pub use weighing::{MOVES_ROOM, MovesText, Weighed, text_of_line, weigh};
 pub use worths::{MoveWorth, move_worths, worth_of};

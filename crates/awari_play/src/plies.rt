@@ -1,0 +1,266 @@
+//! A line of play ply by ply.
+
+ghost use Rattle.std.specs.Prelude.{◌≡◌, ◌≤◌, ◌<◌, ◌++◌, ◌∷◌, [], ◌↔◌, ℕ, List, Err, IfOk, IfErr, IfSome, IsNone, Some, length, pos, slice_get, sum};
+ghost use Rattle.std.specs.Ordering.{int_eq};
+ghost use Rattle.awari_board.specs.Rules.{IsBoard, IsLegal};
+ghost use Rattle.awari_game.specs.Plays.{IsPlay, Standing, start};
+ghost use Rattle.awari_game.specs.Shown.{Shows};
+ghost use Rattle.awari_table.specs.Images.{entry_of};
+ghost use Rattle.awari_play.specs.LineFault.{IsDue};
+ghost use Rattle.awari_play.specs.Plies.{AreLinePlies, IsLineBy, IsRepeat, IsRepeatIf, boards_in, plies_of, ply_of};
+
+use crate::lines::{LineFault, best_line};
+use crate::longest::longest_line;
+use awari_board::Board;
+use awari_game::Game;
+use awari_table::{Entry, Shelf};
+use std::alloc::{AllocError, Global};
+use std::fmt;
+
+/// A ply, and what stands then. It is printed as a line, without its line feed.
+#[derive(Clone, Copy, Debug, PartialEq, Eq)]
+pub struct Ply {
+    /// The number of the ply, from 1 on.
+    pub number: usize,
+    /// The pit that is played, from 0 to 5, as its player counts.
+    pub pit: u8,
+    /// The stones that it captures.
+    pub captured: u8,
+    /// What the first mover has captured then, less what the second has.
+    pub running: i16,
+    /// The board then, as the side to move sees it.
+    pub board: Board,
+    /// What the levels say of that board.
+    pub entry: Entry,
+}
+
+impl fmt::Display for Ply {
+    ghost use Rattle.std.specs.Prelude.{Some};
+    ghost use Rattle.awari_play.specs.Plies.{ply_text};
+
+    ghost output = { λ ply. Some (ply_text ply) };
+
+    fn fmt<W: fmt::Write>(&self, f: &mut fmt::Formatter<W>) -> fmt::Result {
+        let Ply {
+            number,
+            pit,
+            captured,
+            running,
+            board,
+            entry,
+        } = *self;
+        let then = Then {
+            running,
+            board,
+            entry,
+        };
+        write!(f, "ply {number} pit {pit} captures {captured} {then}")
+    }
+}
+
+/// What stands after a ply. It is printed as the end of the ply's line.
+#[derive(Clone, Copy)]
+struct Then {
+    running: i16,
+    board: Board,
+    entry: Entry,
+}
+
+impl fmt::Display for Then {
+    ghost use Rattle.std.specs.Prelude.{Some};
+    ghost use Rattle.awari_play.specs.Plies.{then_text};
+
+    ghost output = { λ then. Some (then_text then.running then.board then.entry) };
+
+    fn fmt<W: fmt::Write>(&self, f: &mut fmt::Formatter<W>) -> fmt::Result {
+        let running = self.running;
+        let board = self.board;
+        let value = self.entry.value;
+        let distance = self.entry.dist;
+        write!(
+            f,
+            "running {running} board {board} value {value} distance {distance}"
+        )
+    }
+}
+
+/// Where a line of play comes back to a board. It is printed as a line, without its line feed.
+#[derive(Clone, Copy, Debug, PartialEq, Eq)]
+pub struct Repeat {
+    /// The plies after which the board stood already; 0 if it is the first board.
+    pub first: usize,
+    /// The plies after which it stands again.
+    pub again: usize,
+}
+
+impl fmt::Display for Repeat {
+    ghost use Rattle.std.specs.Prelude.{Some};
+    ghost use Rattle.awari_play.specs.Plies.{repeat_text};
+
+    ghost output = { λ repeat. Some (repeat_text repeat) };
+
+    fn fmt<W: fmt::Write>(&self, f: &mut fmt::Formatter<W>) -> fmt::Result {
+        write!(f, "repeats {}", self.first)
+    }
+}
+
+/// The plies of a line of play, and where it comes back to a board.
+#[derive(Debug, PartialEq, Eq, Drop)]
+pub struct LinePlies {
+    /// All plies, in order.
+    pub plies: Vec<Ply>,
+    /// Where a board first comes again, if one does. It is looked for only in the line of a board whose
+    /// value is 0.
+    pub repeat: Option<Repeat>,
+}
+
+/// The plies of the best line of play from the board by the shelf's limit, or of the longest line.
+///
+/// It is refused as [`best_line`] is: as 56 `NotYet` if the board has at least as many stones as there
+/// are levels, else as 57 `Memory` if memory runs out. It takes memory for the plies.
+pub fn line_plies(
+    alloc: Global,
+    shelf: &Shelf,
+    board: Board,
+    longest: bool,
+) -> Result<LinePlies, LineFault>
+    ensures plies { IfOk result (λ found. AreLinePlies longest shelf.now board found.plies.items found.repeat) }
+    ensures known { IfOk result (λ _. sum board < length shelf.now) }
+    ensures not_yet { (result ≡ Err (LineFault.NotYet (length shelf.now))) ↔ (length shelf.now ≤ sum board) }
+    ensures fault { IfErr result (IsDue (length shelf.now) (sum board)) }
+{
+    let moves = moves_of(alloc, shelf, board, longest)?;
+    told_plies(alloc, shelf, board, moves.as_slice()).map_err(|_| LineFault::Memory)
+}
+
+/// The pits of the line of play from a board, by the plans of both sides or with one that holds out.
+fn moves_of(alloc: Global, shelf: &Shelf, board: Board, longest: bool) -> Result<Vec<u8>, LineFault>
+    ensures known { IfOk result (λ _. sum board < length shelf.now) }
+    ensures not_yet { (result ≡ Err (LineFault.NotYet (length shelf.now))) ↔ (length shelf.now ≤ sum board) }
+    ensures fault { IfErr result (IsDue (length shelf.now) (sum board)) }
+    ensures line { IfOk result (λ moves. IsLineBy longest shelf.now board moves.items) }
+{
+    if longest {
+        return longest_line(alloc, shelf, board);
+    }
+    let line = best_line(alloc, shelf, board, shelf.limit())?;
+    Ok(line.moves)
+}
+
+/// The plies of a play from a board whose level is on the shelf, and where it comes back to a board if
+/// the value is 0.
+fn told_plies(
+    alloc: Global,
+    shelf: &Shelf,
+    board: Board,
+    moves: &[u8],
+) -> Result<LinePlies, AllocError>
+    requires known { sum board < length shelf.now }
+    requires play { (last : Standing) × IsPlay (start board) moves.now last }
+    ensures each { IfOk result (λ found. found.plies.items ≡ plies_of shelf.now 1 (start board) moves.now) }
+    ensures repeats { IfOk result (λ found. IsRepeatIf (int_eq (entry_of shelf.now board).value (pos 0)) (boards_in board found.plies.items) found.repeat) }
+{
+    let Ok(entry) = shelf.entry(&board) else {
+        unreachable!()
+    };
+    let plies = plies_of(alloc, shelf, board, moves)?;
+    let repeat = repeat_of(entry.value, &board, plies.as_slice());
+    Ok(LinePlies { plies, repeat })
+}
+
+/// Plays a legal pit, and says what stands then. The board's level is on the shelf.
+fn play_ply(shelf: &Shelf, game: &mut Game, number: usize, pit: u8) -> Ply
+    requires known { sum game.old.board < length shelf.now }
+    requires legal { IsLegal game.old.board pit }
+    ensures board { IsBoard game.old.board }
+    ensures ply { (board pits : List ℕ) (shows : Shows game.old board pits) → result ≡ ply_of shelf.now number shows.standing pit }
+    ensures played { (board pits : List ℕ) → Shows game.old board pits → Shows game.new board (pits ++ pit ∷ []) }
+{
+    let Ok(moved) = game.board().play(pit) else {
+        unreachable!()
+    };
+    let Ok(entry) = shelf.entry(&moved.board) else {
+        unreachable!()
+    };
+    let Ok(()) = game.step(pit) else {
+        unreachable!()
+    };
+    Ply {
+        number,
+        pit,
+        captured: moved.captured,
+        running: game.running(),
+        board: moved.board,
+        entry,
+    }
+}
+
+/// The plies of a play from a board whose level is on the shelf.
+fn plies_of(
+    alloc: Global,
+    shelf: &Shelf,
+    board: Board,
+    moves: &[u8],
+) -> Result<Vec<Ply>, AllocError>
+    requires known { sum board < length shelf.now }
+    requires play { (last : Standing) × IsPlay (start board) moves.now last }
+    ensures { IfOk result (λ plies. plies.items ≡ plies_of shelf.now 1 (start board) moves.now) }
+{
+    let mut game = Game::start(board);
+    let mut plies = Vec::new(alloc);
+    for index in 0..moves.len() {
+        let ply = play_ply(shelf, &mut game, index + 1, moves[index]);
+        plies.push(ply)?;
+    }
+    Ok(plies)
+}
+
+/// The board that stands after so many of the plies from a board.
+fn board_after(board: &Board, plies: &[Ply], count: usize) -> Board
+    requires { count ≤ length plies.now }
+    ensures { slice_get (boards_in board.now plies.now) count ≡ Some result }
+{
+    if count == 0 {
+        return *board;
+    }
+    plies[count - 1].board
+}
+
+/// After how many plies, fewer than these, the board stood that stands after these.
+fn stood(board: &Board, plies: &[Ply], again: usize) -> Option<usize>
+    requires { again ≤ length plies.now }
+    ensures some { IfSome result (λ first. first < again) }
+    ensures same { IfSome result (λ first. slice_get (boards_in board.now plies.now) first ≡ slice_get (boards_in board.now plies.now) again) }
+    ensures none { IsNone result → (first : ℕ) → first < again → slice_get (boards_in board.now plies.now) first ≡ slice_get (boards_in board.now plies.now) again → ⊥ }
+{
+    let now = board_after(board, plies, again);
+    for first in 0..again {
+        if board_after(board, plies, first) == now {
+            return Some(first);
+        }
+    }
+    None
+}
+
+/// Where the plies from a board first come back to a board that stood before.
+fn first_repeat(board: &Board, plies: &[Ply]) -> Option<Repeat>
+    ensures { IsRepeat (boards_in board.now plies.now) result }
+{
+    for index in 0..plies.len() {
+        let again = index + 1;
+        if let Some(first) = stood(board, plies, again) {
+            return Some(Repeat { first, again });
+        }
+    }
+    None
+}
+
+/// The same, but none is looked for if the value is not 0.
+fn repeat_of(value: i8, board: &Board, plies: &[Ply]) -> Option<Repeat>
+    ensures { IsRepeatIf (int_eq value (pos 0)) (boards_in board.now plies.now) result }
+{
+    match value {
+        0 => first_repeat(board, plies),
+        _ => None,
+    }
+}
