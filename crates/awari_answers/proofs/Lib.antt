@@ -3,3 +3,4 @@ pub mod FolderLaws
 pub mod TextLaws
 pub mod PrintLaws
 pub mod LevelLineLaws
+pub mod PlyLines

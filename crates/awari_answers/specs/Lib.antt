@@ -6,3 +6,4 @@ pub mod Lines
 pub mod Worths
 pub mod Texts
 pub mod LevelLines
+pub mod Plies

@@ -1,9 +1,10 @@
--- The command `line`: the play in which both sides follow the plans of a folder's levels, and what is printed of it.
-use Rattle.std.specs.Prelude.{◌≡◌, ℕ, ◌<◌, List, ◌++◌, ◌∷◌, [], length, sum, codes, ℤ, Option}
+-- The command `line`: the play in which both sides follow the plans of a folder's levels, or one side holds out; and what is printed of it.
+use Rattle.std.specs.Prelude.{◌≡◌, ℕ, ◌<◌, Bool, true, false, List, ◌++◌, ◌∷◌, [], length, sum, codes, ℤ, Option}
 use Rattle.std.specs.Fmt.{decimal, signed_decimal}
 use Rattle.std.specs.List.{flat_map}
 use Rattle.std.specs.Io.KnownBytes.{Appends}
 use Rattle.awari_play.specs.BestLine.{IsBestLine}
+use Rattle.awari_play.specs.LongestLine.{IsLongestLine}
 use Rattle.awari_table.specs.Images.{entry_of, greatest_limit, table_of}
 use Rattle.awari_table.specs.declared.images.Image.{Image}
 use Rattle.awari_answers.specs.Asked.{IsAsked}
@@ -30,3 +31,27 @@ line_text value moves outcome = codes "value " ++ signed_decimal value ++ codes 
 abbrev pub PrintsLine : (ℕ → Option (Option (List ℕ))) → List ℕ → Option (List ℕ) → Option (List ℕ) → Type 0
 PrintsLine stands text before after = (value : ℤ) × (moves : List ℕ) × (outcome : ℤ) × IsLineOf stands text value moves outcome
     × Appends before after (line_text value moves outcome ++ 10 ∷ [])
+
+-- The levels in the folder say this value and this distance of the board that the text spells, and these moves are the play from it in
+-- which the favoured side follows their plans and the other side holds out: it has just so many plies.
+pub record IsLongestLineOf (stands : ℕ → Option (Option (List ℕ))) (text : List ℕ) (value : ℤ) (dist : ℕ) (moves : List ℕ) : Type 0 where
+  pub images : List Image
+  pub board : List ℕ
+  pub asked : IsAsked stands text images board
+  pub known : sum board < length images
+  pub valued : value ≡ (entry_of images board).value
+  pub far : dist ≡ (entry_of images board).dist
+  pub line : IsLongestLine (table_of images) board moves
+
+abbrev pub longest_text : ℤ → ℕ → List ℕ → List ℕ
+longest_text value dist moves = codes "value " ++ signed_decimal value ++ codes "\ndistance " ++ decimal dist ++ codes "\nmoves" ++ moves_text moves
+
+-- Where it is known what the writer holds, what was written is such a line, and the line feed.
+abbrev pub PrintsLongestLine : (ℕ → Option (Option (List ℕ))) → List ℕ → Option (List ℕ) → Option (List ℕ) → Type 0
+PrintsLongestLine stands text before after = (value : ℤ) × (dist : ℕ) × (moves : List ℕ) × IsLongestLineOf stands text value dist moves
+    × Appends before after (longest_text value dist moves ++ 10 ∷ [])
+
+-- the one in which one side holds out, or the one in which both follow the plans
+abbrev pub PrintsLineBy : Bool → (ℕ → Option (Option (List ℕ))) → List ℕ → Option (List ℕ) → Option (List ℕ) → Type 0
+PrintsLineBy true stands text before after = PrintsLongestLine stands text before after
+PrintsLineBy false stands text before after = PrintsLine stands text before after

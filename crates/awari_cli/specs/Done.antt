@@ -5,9 +5,10 @@ use Rattle.awari_folder.specs.Contents.{nothing_known}
 use Rattle.awari_cli.specs.Building.{PrintsBuild}
 use Rattle.awari_answers.specs.Folders.{PrintsFolder, PrintsEntry}
 use Rattle.awari_answers.specs.Judgement.{PrintsJudgement}
-use Rattle.awari_answers.specs.Lines.{PrintsLine}
+use Rattle.awari_answers.specs.Lines.{PrintsLineBy}
 use Rattle.awari_cli.specs.Migrating.{PrintsMigrated}
 use Rattle.awari_answers.specs.Playing.{PrintsMove}
+use Rattle.awari_answers.specs.Plies.{PrintsPlies}
 use Rattle.awari_cli.specs.Serving.{PrintsService}
 use Rattle.awari_answers.specs.Texts.{PrintsText}
 use Rattle.awari_questions.specs.Boards.{PrintsAllBoards, PrintsBoards}
@@ -19,7 +20,7 @@ use Rattle.awari_words.specs.declared.requests.Request.{Request}
 use Rattle.awari_words.specs.declared.requests.Request.TheVariants.{Check, Move, Judge, Build, Verify, Text, Migrate, Ask, Moves, Line, Serve, Rank, Board, Plays, Counts, Boards}
 
 -- the yes for what the reader had left, the move, the judgement of the play, the lines of levels that were built, that lie in a
--- folder or that were brought over, the text of levels, the board's entry, its legal moves, the line of play from it, the answers to
+-- folder or that were brought over, the text of levels, the board's entry, its legal moves, a line of play from it, the answers to
 -- the lines that the reader had left, the board's place, the board of a place, the counts of plays, those of levels, or boards of a
 -- level; of what a folder's names have nothing is known
 abbrev pub PrintsFor : Request → Option (List ℕ) → Option (List ℕ) → Option (List ℕ) → Type 0
@@ -33,7 +34,8 @@ PrintsFor (Text folder level true) input before after = PrintsAllBoards nothing_
 PrintsFor (Migrate from to) input before after = PrintsMigrated nothing_known nothing_known nothing_known before after
 PrintsFor (Ask folder board) input before after = PrintsEntry nothing_known board.now before after
 PrintsFor (Moves folder board) input before after = PrintsWorths nothing_known board.now before after
-PrintsFor (Line folder board) input before after = PrintsLine nothing_known board.now before after
+PrintsFor (Line folder board longest false) input before after = PrintsLineBy longest nothing_known board.now before after
+PrintsFor (Line folder board longest true) input before after = PrintsPlies nothing_known longest board.now before after
 PrintsFor (Serve folder top owners) input before after = PrintsService nothing_known input before after
 PrintsFor (Rank board) input before after = PrintsPlace board.now before after
 PrintsFor (Board level rank) input before after = PrintsBoard level rank before after

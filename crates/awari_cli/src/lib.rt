@@ -32,8 +32,8 @@ mod runs;
 mod serving;
 
 pub use awari_answers::{
-    JudgeFault, Judgement, PlayFault, Played, judge, play_on, run_ask, run_line, run_moves,
-    run_text, run_verify,
+    JudgeFault, Judgement, PlayFault, Played, judge, play_on, run_ask, run_line, run_longest_line,
+    run_moves, run_plies, run_text, run_verify,
 };
 pub use awari_check::check;
 pub use building::{Builder, run_build_in};

@@ -18,8 +18,8 @@ use crate::migrating::run_migrate;
 use crate::progress::ProgressLines;
 use crate::serving::run_serve;
 use awari_answers::{
-    Played, judge, play_on, print, refuse, run_ask, run_line, run_moves, run_text, run_verify,
-    status_of,
+    Played, judge, play_on, print, refuse, run_ask, run_line, run_longest_line, run_moves,
+    run_plies, run_text, run_verify, status_of,
 };
 use awari_build::Pace;
 use awari_check::check_input;
@@ -149,9 +149,32 @@ fn run_request<
             let mut folder = folder_to_read(rt, alloc, folder, errors);
             run_moves(rt, &mut folder, alloc, board, writer)
         }
-        Request::Line { folder, board } => {
+        Request::Line {
+            folder,
+            board,
+            longest: false,
+            plies: false,
+        } => {
             let mut folder = folder_to_read(rt, alloc, folder, errors);
             run_line(rt, &mut folder, alloc, board, writer)
+        }
+        Request::Line {
+            folder,
+            board,
+            longest: true,
+            plies: false,
+        } => {
+            let mut folder = folder_to_read(rt, alloc, folder, errors);
+            run_longest_line(rt, &mut folder, alloc, board, writer)
+        }
+        Request::Line {
+            folder,
+            board,
+            longest,
+            plies: true,
+        } => {
+            let mut folder = folder_to_read(rt, alloc, folder, errors);
+            run_plies(rt, &mut folder, alloc, board, longest, writer)
         }
         Request::Serve {
             folder,

@@ -77,9 +77,12 @@ text_command = command (codes "text") (folder ∷ level ∷ flag (codes "boards"
 abbrev pub migrate_command : Shape
 migrate_command = command (codes "migrate") (word (codes "FROM") ∷ word (codes "TO") ∷ [])
 
--- the three commands that answer of one board
+-- commands that answer of one board
 abbrev pub look_up_command : List ℕ → Shape
 look_up_command name = command name (folder ∷ board ∷ [])
+
+abbrev pub line_command : Shape
+line_command = command (codes "line") (folder ∷ board ∷ flag (codes "longest") ∷ flag (codes "plies") ∷ [])
 
 abbrev pub serve_command : Shape
 serve_command = command (codes "serve") (folder ∷ top ∷ number (codes "OWNERS") (Unsigned 0 16) ∷ [])
@@ -114,7 +117,7 @@ play_commands = check_command ∷ move_command ∷ judge_command ∷ []
 -- the commands that work on a folder, or may
 abbrev pub folder_commands : List Shape
 folder_commands = build_command ∷ verify_command ∷ text_command ∷ migrate_command
-    ∷ look_up_command (codes "ask") ∷ look_up_command (codes "moves") ∷ look_up_command (codes "line") ∷ serve_command ∷ []
+    ∷ look_up_command (codes "ask") ∷ look_up_command (codes "moves") ∷ line_command ∷ serve_command ∷ []
 
 -- the commands that answer what analysts ask
 abbrev pub question_commands : List Shape

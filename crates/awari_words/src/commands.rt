@@ -20,6 +20,7 @@ ghost use Rattle.awari_words.specs.Commands.{
   judge_command,
   level,
   levels,
+  line_command,
   look_up_command,
   migrate_command,
   move_command,
@@ -407,7 +408,7 @@ fn moves_command<'a>(alloc: Global) -> Result<Command<'a>, AllocError>
 }
 
 fn line_command<'a>(alloc: Global) -> Result<Command<'a>, AllocError>
-    ensures { MakesCommand result (look_up_command (codes "line")) }
+    ensures { MakesCommand result line_command }
 {
     let command = new_command(
         alloc,
@@ -415,7 +416,27 @@ fn line_command<'a>(alloc: Global) -> Result<Command<'a>, AllocError>
         "Plays the plans of both sides, from a board to the outcome",
         LINE_HELP,
     );
-    with_board(alloc, command)
+    let command = with_board(alloc, command);
+    let command = with_word(command, longest(alloc));
+    with_word(command, each_ply(alloc))
+}
+
+fn longest<'a>(alloc: Global) -> Arg<'a>
+    ensures { IsArg result (flag (codes "longest")) }
+{
+    Arg::new(alloc, "longest")
+        .long("longest")
+        .action(ArgAction::SetTrue)
+        .help("Let the losing side hold out as long as it can")
+}
+
+fn each_ply<'a>(alloc: Global) -> Arg<'a>
+    ensures { IsArg result (flag (codes "plies")) }
+{
+    Arg::new(alloc, "plies")
+        .long("plies")
+        .action(ArgAction::SetTrue)
+        .help("Print a line for each ply")
 }
 
 /// The command, which answers of a board by the levels of a folder.

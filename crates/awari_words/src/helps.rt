@@ -122,16 +122,17 @@ what the mover gains by that. The levels of the folder are verified first.
 The status is 0, or 1 for a refusal. docs/FORMATS.md lists them.";
 
 pub const LINE_HELP: &str = "\
-It prints three lines, of the play in which both players follow the plans:
+It prints `value V`, `moves P P ..`, `outcome X`, and X is V: both play their
+plans to the end, or until more plies captured nothing than any level's limit.
+A lost board's plan is the lowest pit that keeps V, not the most stubborn one.
+With --longest the losing side holds out longest, whatever it loses so, up to a
+capture or the end: `value V`, `distance D` and D `moves`. So a distance is no
+length of best play. With --plies each ply has a line, and there is no other:
 
-    value V        the value of the board for its mover
-    moves P P P    the pits that the two of them play in turn
-    outcome X      what that comes to for the first mover, which is the value
+    ply N pit P captures C running R board B value V distance D
+    repeats M    the last, if value 0 comes back to the board after ply M
 
-The play goes on to its end, or until more plies captured nothing than the
-greatest limit of the levels. The levels of the folder are verified first.
-
-The status is 0, or 1 for a refusal. docs/FORMATS.md lists them.";
+B is the board then, R the first mover's lead. docs/FORMATS.md lists refusals.";
 
 pub const SERVE_HELP: &str = "\
 A thread builds the levels above the folder's, once these are verified, up to

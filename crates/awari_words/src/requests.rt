@@ -75,10 +75,13 @@ pub enum Request<'a> {
         folder: &'a str,
         board: &'a str,
     },
-    /// `line FOLDER BOARD`: the play from a board in which both sides follow the plans.
+    /// `line FOLDER BOARD [--longest] [--plies]`: the play from a board in which both sides follow the
+    /// plans, or one side holds out.
     Line {
         folder: &'a str,
         board: &'a str,
+        longest: bool,
+        plies: bool,
     },
     /// `serve FOLDER TOP OWNERS`: the answers to lines, while levels are built.
     Serve {
@@ -259,6 +262,8 @@ fn line_request<'a>(given: &ArgMatches<'a>) -> Option<Request<'a>>
     Some(Request::Line {
         folder: text(given, "FOLDER")?,
         board: text(given, "BOARD")?,
+        longest: flag(given, "longest"),
+        plies: flag(given, "plies"),
     })
 }
 

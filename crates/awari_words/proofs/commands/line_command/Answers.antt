@@ -1,4 +1,6 @@
 use Rattle.awari_words.proofs.commands.line_command.Goals as goal
 
 pub returns : goal.returns
-returns c = c.with_board.ensures _ c.new_command-command.ensures
+returns c =
+    let board = c.with_board-command.ensures _ c.new_command-command.ensures in
+    c.with_word.ensures _ _ (c.with_word-command.ensures _ _ board c.longest.ensures) c.each_ply.ensures
