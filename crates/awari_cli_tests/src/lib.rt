@@ -36,6 +36,8 @@ mod services;
 #[cfg(test)]
 mod serving;
 #[cfg(test)]
+mod stubborn;
+#[cfg(test)]
 mod texts;
 #[cfg(test)]
 mod words;
