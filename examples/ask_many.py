@@ -10,10 +10,12 @@ verifies them, once; it builds nothing where the folder has a level.
     python3 examples/ask_many.py levels --random 100000 8
 
 asks that many random boards of eight stones instead. How many were answered a second stands on
-standard error. With --in-turn a board is asked once the one before it was answered.
+standard error. With --in-turn a board is asked once the one before it was answered. AWARI names another
+program than ./awari.
 """
 import argparse
 import itertools
+import os
 import random
 import subprocess
 import sys
@@ -21,7 +23,7 @@ import threading
 import time
 from pathlib import Path
 
-AWARI = Path(__file__).resolve().parent.parent / "awari"
+AWARI = os.environ.get("AWARI") or Path(__file__).resolve().parent.parent / "awari"
 
 # So many questions are sent at once, but for --in-turn.
 BATCH = 1000
