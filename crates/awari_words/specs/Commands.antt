@@ -5,7 +5,7 @@ use Rattle.clap.specs.Walk.{Rule}
 use Rattle.clap.specs.Simple.{App, Shape, new_rule, new_shape}
 use Rattle.clap.specs.declared.builder.action.ArgAction.TheVariants.{SetTrue}
 use Rattle.clap.specs.declared.builder.value_parser.ValueParser.{ValueParser}
-use Rattle.clap.specs.declared.builder.value_parser.ValueParser.TheVariants.{Signed, Unsigned}
+use Rattle.clap.specs.declared.builder.value_parser.ValueParser.TheVariants.{NonEmptyString, Signed, Unsigned}
 
 -- a word of any text, which has to be there
 abbrev pub word : List ℕ → Rule
@@ -30,8 +30,15 @@ flag name = record (new_rule name) { long = Some name; action = Some SetTrue }
 abbrev pub command : List ℕ → List Rule → Shape
 command name words = record (new_shape name) { rules = words }
 
+-- the name of a folder, which is not empty
+abbrev pub folder_word : List ℕ → Rule
+folder_word name = record (word name) { parser = Some NonEmptyString }
+
+abbrev pub folder_option : List ℕ → Rule
+folder_option name = record (option name) { parser = Some NonEmptyString }
+
 abbrev pub folder : Rule
-folder = word (codes "FOLDER")
+folder = folder_word (codes "FOLDER")
 
 abbrev pub board : Rule
 board = word (codes "BOARD")
@@ -62,7 +69,7 @@ pace = number_option (codes "owners") (Unsigned 0 16) (codes "0") ∷ number_opt
     ∷ number_option (codes "sweeps") (Unsigned 1 1000) (codes "1000") ∷ []
 
 abbrev pub build_command : Shape
-build_command = command (codes "build") (top ∷ option (codes "folder") ∷ flag (codes "progress") ∷ threads ∷ pace)
+build_command = command (codes "build") (top ∷ folder_option (codes "folder") ∷ flag (codes "progress") ∷ threads ∷ pace)
 
 abbrev pub verify_command : Shape
 verify_command = command (codes "verify") (folder ∷ [])
@@ -75,7 +82,7 @@ abbrev pub text_command : Shape
 text_command = command (codes "text") (folder ∷ level ∷ flag (codes "boards") ∷ [])
 
 abbrev pub migrate_command : Shape
-migrate_command = command (codes "migrate") (word (codes "FROM") ∷ word (codes "TO") ∷ [])
+migrate_command = command (codes "migrate") (folder_word (codes "FROM") ∷ folder_word (codes "TO") ∷ [])
 
 -- commands that answer of one board
 abbrev pub look_up_command : List ℕ → Shape

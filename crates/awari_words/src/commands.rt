@@ -1,9 +1,9 @@
 //! The commands, as `clap` takes them: the words of each, and what its help says.
 
-ghost use Rattle.std.specs.Prelude.{◌∷◌, [], codes, pos};
+ghost use Rattle.std.specs.Prelude.{◌≡◌, ◌∷◌, [], Some, codes, pos};
 ghost use Rattle.clap.specs.Simple.{App, Shape, new_rule, with_rule, with_subcommand};
 ghost use Rattle.clap.specs.Walk.{Rule};
-ghost use Rattle.clap.specs.declared.builder.value_parser.ValueParser.TheVariants.{Signed, Unsigned};
+ghost use Rattle.clap.specs.declared.builder.value_parser.ValueParser.TheVariants.{NonEmptyString, Signed, Unsigned};
 ghost use Rattle.awari_words.specs.Commands.{
   awari,
   awari_commands,
@@ -17,6 +17,8 @@ ghost use Rattle.awari_words.specs.Commands.{
   flag,
   folder,
   folder_commands,
+  folder_option,
+  folder_word,
   judge_command,
   level,
   levels,
@@ -38,7 +40,6 @@ ghost use Rattle.awari_words.specs.Commands.{
   top,
   verify_command,
   wishes,
-  word,
 };
 ghost use Rattle.awari_words.specs.Making.{IsArg, IsCommand, MakesApp, MakesCommand, with_subcommands, with_words};
 
@@ -210,7 +211,7 @@ fn limit<'a>(alloc: Global) -> Arg<'a>
 fn moves<'a>(alloc: Global) -> Arg<'a>
     ensures { IsArg result (new_rule (codes "MOVES")) }
 {
-    Arg::new(alloc, "MOVES").help("The pits played, a digit each")
+    Arg::new(alloc, "MOVES").help("The pits played, a digit each, as 502 or \"5 0 2\"")
 }
 
 fn build_command<'a>(alloc: Global) -> Result<Command<'a>, AllocError>
@@ -239,12 +240,20 @@ fn top<'a>(alloc: Global) -> Arg<'a>
 }
 
 fn start_folder<'a>(alloc: Global) -> Arg<'a>
-    ensures { IsArg result (option (codes "folder")) }
+    ensures { IsArg result (folder_option (codes "folder")) }
 {
-    Arg::new(alloc, "folder")
+    let folder = Arg::new(alloc, "folder")
         .long("folder")
         .value_name("FOLDER")
-        .help("Begin above this folder's levels, and save each there")
+        .help("Begin above this folder's levels, and save each there");
+    named(folder)
+}
+
+/// The word or option, whose text may not be empty.
+fn named<'a>(word: Arg<'a>) -> Arg<'a>
+    ensures { result ≡ record word.entry { value_parser = Some NonEmptyString } }
+{
+    word.value_parser(ValueParser::NonEmptyString)
 }
 
 fn progress<'a>(alloc: Global) -> Arg<'a>
@@ -368,19 +377,21 @@ fn migrate_command<'a>(alloc: Global) -> Result<Command<'a>, AllocError>
 }
 
 fn from<'a>(alloc: Global) -> Arg<'a>
-    ensures { IsArg result (word (codes "FROM")) }
+    ensures { IsArg result (folder_word (codes "FROM")) }
 {
-    Arg::new(alloc, "FROM").required(true).help(
+    let from = Arg::new(alloc, "FROM").required(true).help(
         "A folder with the files level_00.awdb and so on, which is only read",
-    )
+    );
+    named(from)
 }
 
 fn to<'a>(alloc: Global) -> Arg<'a>
-    ensures { IsArg result (word (codes "TO")) }
+    ensures { IsArg result (folder_word (codes "TO")) }
 {
-    Arg::new(alloc, "TO")
+    let to = Arg::new(alloc, "TO")
         .required(true)
-        .help("The folder that the new files are written into")
+        .help("The folder that the new files are written into");
+    named(to)
 }
 
 fn ask_command<'a>(alloc: Global) -> Result<Command<'a>, AllocError>
@@ -647,9 +658,10 @@ fn count<'a>(alloc: Global) -> Arg<'a>
 fn folder<'a>(alloc: Global) -> Arg<'a>
     ensures { IsArg result folder }
 {
-    Arg::new(alloc, "FOLDER").required(true).help(
+    let folder = Arg::new(alloc, "FOLDER").required(true).help(
         "A folder with the files level_00.awdb, level_01.awdb and so on",
-    )
+    );
+    named(folder)
 }
 
 fn board<'a>(alloc: Global) -> Arg<'a>
