@@ -10,8 +10,8 @@ use std::io::{self, Error, ErrorKind, Write};
 use std::path::Path;
 use std::rt::Files;
 
-/// A folder on disk. The first save locks it, if the file system has locks, so that one builder at a
-/// time writes into it. Readers never wait for that lock.
+/// A folder on disk. `lock` or the first save locks it, if the file system has locks, so that one builder
+/// at a time writes into it. Readers never wait for that lock.
 #[derive(Drop)]
 pub struct HostFolder<'a, R> {
     files: &'a R,
@@ -37,6 +37,43 @@ impl<'a, R> HostFolder<'a, R> {
     }
 }
 
+/// Why a folder is not locked.
+#[derive(Clone, Copy, Debug, PartialEq, Eq)]
+pub enum LockFault {
+    /// Another builder has the lock.
+    Held,
+    /// The folder is not there or does not open, or the lock was refused for another reason.
+    Refused,
+    /// There was no room for a name.
+    Memory,
+}
+
+impl<R: Files<File = File>> HostFolder<'_, R> {
+    ghost use Rattle.std.specs.Prelude.{◌≡◌};
+    ghost use Rattle.awari_folder.specs.Host.{state_of};
+
+    /// Whether something has the name of this level's file. It is false also if that can't be told. It
+    /// takes memory for the name.
+    pub fn has(&self, level: u8) -> bool {
+        let Ok(path) = path_of(self.alloc, self.path, level) else {
+            return false;
+        };
+        fs::metadata(self.files, path.as_path()).is_ok()
+    }
+
+    /// Locks the folder for one builder, until this value is dropped. Otherwise the first save does so. A
+    /// folder that is locked by this value stays so. It takes memory for a name.
+    pub fn lock(&mut self) -> Result<(), LockFault>
+        ensures refusals { (state_of self.new).refusals ≡ (state_of self.old).refusals }
+        ensures stuck { (state_of self.new).stuck ≡ (state_of self.old).stuck }
+    {
+        if self.lock.is_none() {
+            self.lock = Some(locked(self.files, self.alloc, self.path)?);
+        }
+        Ok(())
+    }
+}
+
 /// Whether a build goes on without a lock that was refused with an error of this kind: only if the
 /// file system knows no locks.
 fn needs_no_lock(kind: ErrorKind) -> bool
@@ -52,17 +89,18 @@ fn locked<R: Files<File = File>>(
     files: &R,
     alloc: Global,
     folder: Path<'_>,
-) -> Result<File, Refusal> {
+) -> Result<File, LockFault> {
     let Ok(path) = path_of_itself(alloc, folder) else {
-        return Err(Refusal::Memory);
+        return Err(LockFault::Memory);
     };
     let Ok(place) = fs::open(files, path.as_path()) else {
-        return Err(Refusal::Refused);
+        return Err(LockFault::Refused);
     };
     match place.try_lock() {
         Ok(()) => Ok(place),
+        Err(TryLockError::WouldBlock) => Err(LockFault::Held),
         Err(TryLockError::Error(error)) if needs_no_lock(error.kind()) => Ok(place),
-        Err(_) => Err(Refusal::Refused),
+        Err(TryLockError::Error(_)) => Err(LockFault::Refused),
     }
 }
 
@@ -140,14 +178,12 @@ impl<R: Files<File = File>> Folder for HostFolder<'_, R> {
         let Ok(path) = path_of_new(self.alloc, self.path, level) else {
             return Err(Refusal::Memory);
         };
-        if self.lock.is_none() {
-            match locked(self.files, self.alloc, self.path) {
-                Ok(lock) => self.lock = Some(lock),
-                Err(Refusal::Memory) => return Err(Refusal::Memory),
-                Err(Refusal::Refused) => {
-                    self.refused = self.refused.saturating_add(1);
-                    return Err(Refusal::Refused);
-                }
+        match self.lock() {
+            Ok(()) => {}
+            Err(LockFault::Memory) => return Err(Refusal::Memory),
+            Err(LockFault::Held | LockFault::Refused) => {
+                self.refused = self.refused.saturating_add(1);
+                return Err(Refusal::Refused);
             }
         }
         match create_file(self.files, path.as_path()) {

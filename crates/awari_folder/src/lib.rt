@@ -33,7 +33,7 @@ mod verifiers;
 
 pub use calls::{Draft, Folder, Refusal};
 pub use faults::FolderFault;
-pub use host::{HostDraft, HostFolder};
+pub use host::{HostDraft, HostFolder, LockFault};
 pub use keeping::save_or_keep;
 pub use laws::{folders_hold_one_shelf, stored_shelves_are_loaded};
 pub use loading::{Stored, load};
