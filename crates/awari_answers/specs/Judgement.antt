@@ -1,5 +1,6 @@
 -- The command `judge`: a play from a board that is given as text, and what is printed of it.
-use Rattle.std.specs.Prelude.{◌≡◌, ℕ, ◌+◌, ◌-◌, ◌&&◌, nat_le, if◌then◌else◌, min, List, ◌++◌, ◌∷◌, [], length, map, codes, ℤ, Option, Some, None, ◌↔◌}
+use Rattle.std.specs.Prelude.{◌≡◌, ℕ, ◌+◌, ◌-◌, ◌&&◌, ◌==◌, nat_le, if◌then◌else◌, min, List, ◌++◌, ◌∷◌, [], length, codes, ℤ, Option, Some, None, ◌↔◌}
+use Rattle.std.specs.List.{flat_map}
 use Rattle.std.specs.Fmt.{decimal, signed_decimal}
 use Rattle.std.specs.Io.KnownBytes.{Appends}
 use Rattle.awari_board.specs.BoardFault.{IsFaulty, fault_text as board_fault_text}
@@ -17,8 +18,12 @@ use Rattle.awari_answers.specs.declared.judgements.JudgeFault.TheVariants.{Board
 abbrev pub pit_named : ℕ → ℕ
 pit_named byte = if nat_le 48 byte && nat_le byte 57 then byte - 48 else 255
 
+-- the pits that a byte names: a space names none, and any other byte one
+abbrev pub pits_of : ℕ → List ℕ
+pits_of byte = if byte == 32 then [] else pit_named byte ∷ []
+
 abbrev pub pits_named : List ℕ → List ℕ
-pits_named moves = map pit_named moves
+pits_named moves = flat_map pits_of moves
 
 -- Where the play of these pits from the board stands, and its outcome for the limit if there is one.
 pub record IsJudged (board : List ℕ) (limit : ℕ) (pits : List ℕ) (judgement : Judgement) : Type 0 where
@@ -34,20 +39,20 @@ abbrev pub IsJudgement : List ℕ → ℕ → List ℕ → Judgement → Type 0
 IsJudgement text limit moves judgement = (board : List ℕ) × (text ≡ text_of board) × IsJudged board limit (pits_named moves) judgement
 
 -- The first move that is refused: those before it are a play, and it has this fault where that stands.
-pub record IsRefusedAt (board moves : List ℕ) (number : ℕ) (fault : MoveFault) : Type 0 where
+pub record IsRefusedAt (board pits : List ℕ) (number : ℕ) (fault : MoveFault) : Type 0 where
   pub before : List ℕ
-  pub byte : ℕ
+  pub pit : ℕ
   pub rest : List ℕ
-  pub parts : moves ≡ before ++ byte ∷ rest
+  pub parts : pits ≡ before ++ pit ∷ rest
   pub place : number ≡ length before + 1
   pub standing : Standing
-  pub play : IsPlay (start board) (pits_named before) standing
-  pub due : IsDue standing.board (pit_named byte) fault
+  pub play : IsPlay (start board) before standing
+  pub due : IsDue standing.board pit fault
 
 -- the fault of the text, or where it is that of a board, the first fault of a move
 abbrev pub IsJudgeFault : List ℕ → List ℕ → JudgeFault → Type 0
 IsJudgeFault text moves (Board fault) = IsFaulty text fault
-IsJudgeFault text moves (Move fault number) = (board : List ℕ) × IsBoard board × (text ≡ text_of board) × IsRefusedAt board moves number fault
+IsJudgeFault text moves (Move fault number) = (board : List ℕ) × IsBoard board × (text ≡ text_of board) × IsRefusedAt board (pits_named moves) number fault
 
 abbrev pub outcome_text : Option ℤ → List ℕ
 outcome_text None = codes "none"

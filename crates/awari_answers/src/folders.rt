@@ -10,6 +10,7 @@ ghost use Rattle.awari_answers.specs.Folders.{IsEntryOf, PrintsFolder, PrintsEnt
 ghost use Rattle.awari_answers.specs.declared.asked.NoAnswer.TheVariants as no_answer;
 
 use crate::asked::{NoAnswer, ask_folder};
+use crate::hints::tell_folder_fault;
 use crate::printing::{print, print_bytes, refuse, status_of};
 use arrayvec::ArrayString;
 use awari_folder::{Folder, Together, load};
@@ -115,12 +116,13 @@ pub fn run_ask<T: Threads + Sync, F: Folder, W: Write>(
 }
 
 /// Verifies the levels of a folder, and prints a line for each and one for all. A refusal is
-/// printed alone.
-pub fn run_verify<T: Threads + Sync, F: Folder, W: Write>(
+/// printed alone. If a board is at fault, `errors` is told which, and what its rule asks.
+pub fn run_verify<T: Threads + Sync, F: Folder, W: Write, E: Write>(
     rt: &T,
     folder: &mut F,
     alloc: Global,
     writer: &mut W,
+    errors: &mut E,
 ) -> u8
     ensures status { result ≤ 1 }
     ensures verified { result ≡ 0 → PrintsFolder (F.state folder.old).stands (W.contents writer.old) (W.contents writer.new) }
@@ -128,7 +130,11 @@ pub fn run_verify<T: Threads + Sync, F: Folder, W: Write>(
 {
     let stored = match load(&Together(rt), alloc, folder, HIGHEST_LEVEL) {
         Ok(stored) => stored,
-        Err(fault) => return refuse(writer, fault),
+        Err(fault) => {
+            let status = refuse(writer, fault);
+            tell_folder_fault(errors, fault);
+            return status;
+        }
     };
     if !print_levels(&stored.shelf, writer) {
         return 1;

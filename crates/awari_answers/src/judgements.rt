@@ -29,7 +29,7 @@ pub struct Judgement {
 pub enum JudgeFault {
     /// The text is not a board.
     Board { fault: BoardFault },
-    /// The move of this number, counted from 1, can't be played.
+    /// The move of this number, counted from 1, can't be played. Spaces are not counted.
     Move { fault: MoveFault, number: usize },
 }
 
@@ -57,7 +57,8 @@ impl From<BoardFault> for JudgeFault {
 
 /// Plays the moves from the board that `text` spells, and says where the play then stands. It has an
 /// outcome if the play has ended, or once more than `limit` plies captured nothing. Each byte of
-/// `moves` is the digit of a pit; any other byte is 4 `NoPit`. It takes no memory.
+/// `moves` is the digit of a pit, or a space, which is passed over; any other byte is 4 `NoPit`. It
+/// takes no memory.
 ///
 /// A text that is not a board is refused as [`Board::parse`] refuses it. After that, the first move
 /// that can't be played is refused.
@@ -67,14 +68,17 @@ pub fn judge(text: &[u8], limit: u32, moves: &[u8]) -> Result<Judgement, JudgeFa
 {
     let board = Board::parse(text)?;
     let mut game = Game::start(board);
-    for (index, byte) in moves.iter().enumerate() {
-        match game.step(pit_named(*byte)) {
-            Ok(()) => {}
-            Err(fault) => {
-                return Err(JudgeFault::Move {
-                    fault,
-                    number: index + 1,
-                });
+    let mut played: usize = 0;
+    for byte in moves {
+        if *byte != b' ' {
+            match game.step(pit_named(*byte)) {
+                Ok(()) => played += 1,
+                Err(fault) => {
+                    return Err(JudgeFault::Move {
+                        fault,
+                        number: played + 1,
+                    });
+                }
             }
         }
     }

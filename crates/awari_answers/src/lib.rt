@@ -17,6 +17,7 @@
 
 mod asked;
 mod folders;
+mod hints;
 mod judgements;
 mod levels;
 mod lines;
@@ -28,6 +29,7 @@ mod texts;
 mod worths;
 
 pub use folders::{Summary, run_ask, run_verify};
+pub use hints::tell_answer;
 pub use judgements::{JudgeFault, Judgement, judge};
 pub use levels::load_levels;
 pub use lines::{run_line, run_longest_line};

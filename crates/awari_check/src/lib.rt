@@ -5,12 +5,18 @@
 //!
 //! The command `check` prints that answer, in `crates/awari_cli/src/runs.rt`:
 //!
-//!     fn run_check<R: Read, W: Write>(alloc: Global, reader: &mut R, writer: &mut W) -> u8
+//!     fn run_check<R: Read, W: Write, E: Write>(
+//!         alloc: Global,
+//!         reader: &mut R,
+//!         writer: &mut W,
+//!         errors: &mut E,
+//!     ) -> u8
 //!         ensures status { result ≤ 1 }
 //!         ensures yes { result ≡ 0 → PrintsYes (R.remaining reader.old) (W.contents writer.old) (W.contents writer.new) }
 //!     {
 //!         let answer = check_input(alloc, &mut Counted::new(reader));
 //!         if print(writer, &answer) {
+//!             tell_answer(errors, answer);
 //!             answer.status()
 //!         } else {
 //!             1

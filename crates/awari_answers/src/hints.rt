@@ -1,0 +1,111 @@
+//! What the error stream says of a level that breaks a rule: which board does, where its entry stands, and
+//! what the rule asks. It is said beside a refusal, and nothing is promised of it.
+
+use crate::printing::print;
+use awari_board::Board;
+use awari_check::{Answer, CheckFault};
+use awari_folder::FolderFault;
+use awari_rank::{size, unrank};
+use awari_table::HIGHEST_LEVEL;
+use awari_verify::{Rule, VerifyFault};
+use std::fmt;
+use std::io::Write;
+
+/// Says which board of a folder's levels breaks a rule, if that is the fault.
+pub(crate) fn tell_folder_fault<E: Write>(errors: &mut E, fault: FolderFault) {
+    if let FolderFault::Verify {
+        level,
+        fault: VerifyFault::Refused { rank, rule },
+    } = fault
+    {
+        let place = Place::Byte(byte_of(rank, rule));
+        tell_broken(errors, level, rank, rule, place);
+    }
+}
+
+/// Says which board of a text's levels breaks a rule, if that is the answer.
+pub fn tell_answer<E: Write>(errors: &mut E, answer: Answer) {
+    if let Answer::Fault {
+        fault: CheckFault::Verify {
+            level,
+            fault: VerifyFault::Refused { rank, rule },
+        },
+    } = answer
+    {
+        let place = Place::Line(line_of(level, rank, rule));
+        tell_broken(errors, level, rank, rule, place);
+    }
+}
+
+fn tell_broken<E: Write>(errors: &mut E, level: u8, rank: u32, rule: Rule, place: Place) {
+    // There is nowhere to say that this could not be written.
+    match board_of(level, rank, rule) {
+        Some(board) => print(errors, &format_args!("level {level}: {board}, {place}")),
+        None => print(errors, &format_args!("level {level}: its limit, {place}")),
+    };
+    print(errors, &format_args!("{rule} asks that {}", asked_by(rule)));
+}
+
+/// Where a text or a file says what is wrong.
+#[derive(Clone, Copy)]
+enum Place {
+    Line(u64),
+    Byte(u64),
+}
+
+impl fmt::Display for Place {
+    fn fmt<W: fmt::Write>(&self, f: &mut fmt::Formatter<W>) -> fmt::Result {
+        match *self {
+            Place::Line(number) => write!(f, "in line {number} of the text"),
+            Place::Byte(number) => write!(f, "at byte {number} of its file"),
+        }
+    }
+}
+
+/// The board that breaks the rule; none for V7, which is broken by the level's limit.
+fn board_of(level: u8, rank: u32, rule: Rule) -> Option<Board> {
+    if rule == Rule::V7 || level > HIGHEST_LEVEL || rank >= size(level) {
+        return None;
+    }
+    Some(unrank(level, rank))
+}
+
+/// The byte of a level's file at which the entry begins, or the limit for V7.
+fn byte_of(rank: u32, rule: Rule) -> u64 {
+    if rule == Rule::V7 {
+        16
+    } else {
+        52 + 6 * u64::from(rank)
+    }
+}
+
+/// The line of the text in which the entry stands, or the limit for V7. Each level has a line before its
+/// entries.
+fn line_of(level: u8, rank: u32, rule: Rule) -> u64 {
+    let mut line: u64 = 1;
+    for below in 0..level.min(HIGHEST_LEVEL) {
+        line = line.saturating_add(1 + u64::from(size(below)));
+    }
+    if rule == Rule::V7 {
+        line
+    } else {
+        line.saturating_add(1 + u64::from(rank))
+    }
+}
+
+/// What the rule asks, as the end of a sentence.
+fn asked_by(rule: Rule) -> &'static str {
+    match rule {
+        Rule::V1 => "a value is from -N to N for N stones, and a plan none or 0 to 5",
+        Rule::V2 => {
+            "if play has ended, the value is the mover's gain, the plan none, the distance 0"
+        }
+        Rule::V3 => "if play has not ended, the plan is a legal pit",
+        Rule::V4 => "no legal move gains more than the value",
+        Rule::V5 => "the plan gains the value",
+        Rule::V6 => {
+            "the distance is the least, and a won board's plan captures or leads to a smaller one"
+        }
+        Rule::V7 => "the limit is the greatest distance of the level",
+    }
+}
