@@ -19,7 +19,7 @@ use crate::progress::ProgressLines;
 use crate::serving::run_serve;
 use awari_answers::{
     Played, judge, play_on, print, refuse, run_ask, run_line, run_longest_line, run_moves,
-    run_plies, run_text, run_verify, status_of,
+    run_plies, run_text, run_verify, status_of, tell_answer,
 };
 use awari_build::Pace;
 use awari_check::check_input;
@@ -92,7 +92,7 @@ fn run_request<
     ensures done { result ≡ 0 → PrintsFor request.entry (R.remaining reader.old) (W.contents writer.old) (W.contents writer.new) }
 {
     match request {
-        Request::Check => run_check(alloc, reader, writer),
+        Request::Check => run_check(alloc, reader, writer, errors),
         Request::Move { board, pit } => run_move(board, pit, writer),
         Request::Judge {
             board,
@@ -118,7 +118,7 @@ fn run_request<
         }
         Request::Verify { folder } => {
             let mut folder = folder_to_read(rt, alloc, folder, errors);
-            run_verify(rt, &mut folder, alloc, writer)
+            run_verify(rt, &mut folder, alloc, writer, errors)
         }
         Request::Text {
             folder,
@@ -275,13 +275,19 @@ fn host_folder<'a, T>(files: &'a T, alloc: Global, folder: &'a str) -> HostFolde
     HostFolder::new(files, alloc, Path::new(folder))
 }
 
-/// Prints the answer for what the reader has left.
-fn run_check<R: Read, W: Write>(alloc: Global, reader: &mut R, writer: &mut W) -> u8
+/// Prints the answer for what the reader has left. If a board is at fault, `errors` is told which.
+fn run_check<R: Read, W: Write, E: Write>(
+    alloc: Global,
+    reader: &mut R,
+    writer: &mut W,
+    errors: &mut E,
+) -> u8
     ensures status { result ≤ 1 }
     ensures yes { result ≡ 0 → PrintsYes (R.remaining reader.old) (W.contents writer.old) (W.contents writer.new) }
 {
     let answer = check_input(alloc, &mut Counted::new(reader));
     if print(writer, &answer) {
+        tell_answer(errors, answer);
         answer.status()
     } else {
         1

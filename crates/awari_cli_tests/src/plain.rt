@@ -88,7 +88,8 @@ pub(crate) fn verified(
     folder: &mut MemoryFolder,
     output: &mut impl Write,
 ) -> u8 {
-    run_verify(rt, folder, rt.alloc(), output)
+    let mut errors = Vec::new(rt.alloc());
+    run_verify(rt, folder, rt.alloc(), output, &mut errors)
 }
 
 /// Asks the folder for a board, and gives the status.
