@@ -46,8 +46,20 @@ pub(crate) fn expect_run(
     let status = run(rt, alloc, words, &mut reader, &mut output, &mut errors);
     expect_text(rt, words, &output, printed);
     let found = (status, errors.is_empty());
-    let is_told = expected == 2 || words.get(2) == Some(&NOWHERE);
-    expect_equal(rt, words, found, (expected, !is_told));
+    expect_equal(
+        rt,
+        words,
+        found,
+        (expected, !is_told(words, printed, expected)),
+    );
+}
+
+/// Whether the error stream tells something: with status 2, of a folder that is not there, and of a rule
+/// that `check` or `verify` finds broken.
+fn is_told(words: &[&str], printed: &str, status: u8) -> bool {
+    status == 2
+        || words.get(2) == Some(&NOWHERE)
+        || printed.contains(" rule V") && (words.contains(&"check") || words.contains(&"verify"))
 }
 
 /// What was printed of these words is this text.
