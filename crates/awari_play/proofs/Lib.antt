@@ -9,3 +9,4 @@ pub mod Worthing
 pub mod HoldingOut
 pub mod WorthLines
 pub mod PlyLaws
+pub mod JsonLaws

@@ -1,24 +1,22 @@
 -- The lines of the moves of a board.
-use Rattle.std.proofs.Common.{◌≡◌, ℕ, ◌+◌, ◌<◌, ◌≤◌, ◌^◌, Bool, List, [], ◌∷◌, ◌++◌, length, get_or, take, Option, sym, ap, ◌∙◌, append-nil, arith}
+use Rattle.std.proofs.Common.{◌≡◌, ℕ, ◌+◌, ◌<◌, ◌≤◌, ◌^◌, List, [], ◌∷◌, ◌++◌, length, get_or, take, Option, sym, ap, ◌∙◌, append-nil, arith}
 use Rattle.std.specs.Fmt.{decimal}
 use Rattle.std.proofs.lemmas.Fmt.{length-decimal-le}
 use Rattle.std.proofs.lemmas.Grind.{flat_map-append}
 use Rattle.std.proofs.lemmas.List.{take_more}
-use Rattle.awari_play.specs.declared.worths.MoveWorth.{MoveWorth}
-use Rattle.awari_play.specs.Worths.{is_planned, worth_line, worth_lines}
+use Rattle.awari_play.specs.declared.weighing.WeighedMove.{WeighedMove}
+use Rattle.awari_play.specs.Worths.{move_line, move_lines}
 
 pub twenty_digits : (n : ℕ) → n < 2 ^ 64 → length (decimal n) ≤ 20
 twenty_digits n h = length-decimal-le 20 n (omega arith) (omega (arith, h)) h
 
 -- one line more
-pub worths_more : (plan : Option ℕ) (worths : List MoveWorth) (i : ℕ) (w : MoveWorth) (is_plan : Bool) (before line after : List ℕ) → i < length worths → get_or worths i w ≡ w
-    → is_plan ≡ is_planned plan w.pit → before ≡ worth_lines plan (take i worths) → line ≡ worth_line is_plan w → after ≡ before ++ line → after ≡ worth_lines plan (take (i + 1) worths)
-worths_more plan worths i w is_plan before line after inside own planned spelled is more = more ∙ ap (λ t. t ++ line) spelled ∙ ap (λ t. worth_lines plan (take i worths) ++ t) (is ∙ ap (λ b. worth_line b w) planned) ∙ sym lines
+pub move_lines-more : (plan : Option ℕ) (moves : List WeighedMove) (i : ℕ) (m : WeighedMove) (before after : List ℕ) → i < length moves → get_or moves i m ≡ m
+    → before ≡ move_lines plan (take i moves) → after ≡ before ++ move_line plan m → after ≡ move_lines plan (take (i + 1) moves)
+unfolding move_lines
+move_lines-more plan moves i m before after inside own spelled more = more ∙ ap (λ t. t ++ move_line plan m) spelled ∙ sym lines
   where
-    line_of : MoveWorth → List ℕ
-    line_of m = worth_line (is_planned plan m.pit) m
-
-    lines : worth_lines plan (take (i + 1) worths) ≡ worth_lines plan (take i worths) ++ line_of w
+    lines : move_lines plan (take (i + 1) moves) ≡ move_lines plan (take i moves) ++ move_line plan m
     lines =
-        ap (worth_lines plan) (take_more worths i w inside ∙ ap (λ m. take i worths ++ m ∷ []) own)
-        ∙ flat_map-append line_of (take i worths) (w ∷ []) ∙ ap (λ t. worth_lines plan (take i worths) ++ t) (append-nil (line_of w))
+        ap (move_lines plan) (take_more moves i m inside ∙ ap (λ w. take i moves ++ w ∷ []) own)
+        ∙ flat_map-append (move_line plan) (take i moves) (m ∷ []) ∙ ap (λ t. move_lines plan (take i moves) ++ t) (append-nil (move_line plan m))

@@ -1,10 +1,12 @@
 -- Worths that go with a list of pits, one with each.
 use Rattle.std.proofs.Common.{◌≡◌, ℕ, ◌+◌, ◌<◌, [], ◌∷◌, ◌++◌, List, All, ◌∙◌, ap, arith, get_or, length, map, refl, subst, suc, sym, take, zero}
-use Rattle.std.proofs.lemmas.List.{take_more}
+use Rattle.std.proofs.lemmas.List.{map_push, take_more}
 use Rattle.std.proofs.lemmas.Slice.Zip.{all_zipped_more}
 use Rattle.std.specs.List.{AllZip}
 use Rattle.awari_table.specs.Certificate.{Table}
 use Rattle.awari_play.specs.MoveWorth.{IsMoveWorth, IsWorthOf, pit_of}
+use Rattle.awari_play.specs.Worths.{worth_in}
+use Rattle.awari_play.specs.declared.weighing.WeighedMove.{WeighedMove}
 use Rattle.awari_play.specs.declared.worths.MoveWorth.{MoveWorth}
 
 pub pits-of : (t : Table) (p pits : List ℕ) (ws : List MoveWorth) → AllZip (IsWorthOf t p) pits ws → map pit_of ws ≡ pits
@@ -26,3 +28,9 @@ pub worths-more : (t : Table) (p pits : List ℕ) (ws : List MoveWorth) (i x : �
 worths-more t p pits ws i x w lt is before now =
     subst (λ l. AllZip (IsWorthOf t p) l (ws ++ w ∷ [])) (ap (λ z. take i pits ++ z ∷ []) is ∙ sym (take_more pits i x lt))
     (all_zipped_more (IsWorthOf t p) (take i pits) ws x w before now)
+
+-- one more move with its worth
+pub weighed-more : (moves : List WeighedMove) (m : WeighedMove) (ws : List MoveWorth) (i : ℕ) (w : MoveWorth) (after : List WeighedMove)
+    → i < length ws → get_or ws i w ≡ w → m.worth ≡ w → map worth_in moves ≡ take i ws → after ≡ moves ++ m ∷ [] → map worth_in after ≡ take (i + 1) ws
+weighed-more moves m ws i w after inside own is before more =
+    ap (map worth_in) more ∙ map_push worth_in moves m ∙ ap (λ l. l ++ m.worth ∷ []) before ∙ ap (λ x. take i ws ++ x ∷ []) (is ∙ sym own) ∙ sym (take_more ws i w inside)

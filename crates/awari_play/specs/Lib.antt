@@ -9,3 +9,4 @@ pub mod Lowering
 pub mod MoveWorth
 pub mod Worths
 pub mod Plies
+pub mod Json

@@ -1,11 +1,12 @@
 //! Plans by the values and distances of a table, and play by the plans of a shelf.
 //!
-//! [`best_line`] plays both sides up to the outcome, and [`move_worths`] says what each legal move is
-//! worth. [`longest_line`] lets the losing side hold out. [`least`] brings distances down to the least
-//! ones. All of it works on a finished shelf, and needs nothing of what builds a level.
+//! [`best_line`] plays both sides up to the outcome, [`move_worths`] says what each legal move is
+//! worth, and [`replies_to`] what it leaves to the opponent. [`longest_line`] lets the losing side hold
+//! out, and [`line_plies`] tells a line ply by ply. [`least`] brings distances down to the least ones.
+//! All of it works on a finished shelf, and needs nothing of what builds a level.
 //!
 //! The moves of a line and its outcome, as a test expects them, in
-//! `crates/awari_owner_tests/src/lines.rt`:
+//! `crates/awari_owner_tests/src/best_lines.rt`:
 //!
 //!     fn expect_line(
 //!         rt: &impl Abort,
@@ -21,19 +22,25 @@
 //!     }
 #![tactic(auto)]
 
+mod json;
 mod laws;
 mod lines;
 mod longest;
 mod lowering;
 mod plans;
 mod plies;
+mod replies;
+mod texts;
 mod weighing;
 mod worths;
 
+pub use json::{entry_json, refusal_json, weighed_json};
 pub use laws::{lowest_levels_are_one, lowest_plans_stay};
 pub use lines::{Line, LineFault, best_line};
 pub use longest::longest_line;
 pub use lowering::least;
 pub use plies::{LinePlies, Ply, Repeat, line_plies};
-pub use weighing::{MOVES_ROOM, MovesText, Weighed, text_of_line, weigh};
+pub use replies::{Replies, replies_to};
+pub use texts::{ANSWER_ROOM, AnswerText, push_bytes, text_of_line};
+pub use weighing::{Weighed, WeighedMove, weigh};
 pub use worths::{MoveWorth, move_worths, worth_of};

@@ -1,98 +1,144 @@
 //! What the legal moves of a board are worth, and the lines that tell it.
 
-ghost use Rattle.std.specs.Prelude.{◌≡◌, ◌≤◌, ◌<◌, ◌+◌, ◌++◌, ◌↔◌, IsOk, IfOk, IfErr, length, sum};
+ghost use Rattle.std.specs.Prelude.{◌≡◌, ◌≤◌, ◌<◌, ◌+◌, ◌++◌, ◌↔◌, IsOk, IfOk, IfErr, length, sum, All, map, Bool, true};
 ghost use Rattle.arrayvec.specs.ArrayVec.{array_vec_len};
-ghost use Rattle.awari_play.specs.Worths.{IsWeighed, end_line, is_planned, plan_mark, weighed_text, worth_line, worth_lines};
+ghost use Rattle.awari_board.specs.Rules.{IsLegal};
+ghost use Rattle.awari_play.specs.Worths.{
+  AreWorths,
+  IsReplied,
+  IsWeighed,
+  end_line,
+  is_planned,
+  move_line,
+  move_lines,
+  plan_mark,
+  replies_mark,
+  weighed_text,
+  worth_in,
+  worth_text,
+};
 
+use crate::replies::{Replies, replies_to};
+use crate::texts::{ANSWER_ROOM, AnswerText, push_bytes, text_of_line};
 use crate::worths::{MoveWorth, move_worths};
 use arrayvec::ArrayVec;
 use awari_board::Board;
 use awari_table::{Entry, NotYet, Shelf, TextLine, push_number, push_signed, push_text};
 
-/// Room, in bytes, for the lines of six moves, at most 69 each, and a line feed. Any other line of an
-/// answer is shorter.
-pub const MOVES_ROOM: usize = 420;
-
-/// The lines of moves, or one other line.
-pub type MovesText = ArrayVec<u8, MOVES_ROOM>;
+/// A legal move of a board that was weighed.
+#[derive(Clone, Copy, Debug, Default, PartialEq, Eq)]
+pub struct WeighedMove {
+    /// What it is worth.
+    pub worth: MoveWorth,
+    /// The replies to it, if they were asked for.
+    pub replies: Option<Replies>,
+}
 
 /// A board's entry, and what each of its legal moves is worth, ascending by pit.
 #[derive(Debug, PartialEq, Eq, Drop)]
 pub struct Weighed {
     /// What the shelf says of the board itself.
     pub entry: Entry,
-    /// What each legal move is worth, none if the play has ended.
-    pub worths: ArrayVec<MoveWorth, 6>,
+    /// Each legal move, none if the play has ended.
+    pub moves: ArrayVec<WeighedMove, 6>,
 }
 
-/// What the shelf says of the board and of its legal moves. It is refused as 59 if the board has at
-/// least as many stones as there are levels, and only then. It takes no memory.
-pub fn weigh(shelf: &Shelf, board: &Board) -> Result<Weighed, NotYet>
+/// What the shelf says of the board and of its legal moves, and of the replies to each if `replies` asks
+/// for them. It is refused as 59 if the board has at least as many stones as there are levels, and only
+/// then. It takes no memory.
+pub fn weigh(shelf: &Shelf, board: &Board, replies: bool) -> Result<Weighed, NotYet>
     ensures known { IsOk result ↔ (sum board.now < length shelf.now) }
-    ensures weighed { IfOk result (IsWeighed shelf.now board.now) }
+    ensures weighed { IfOk result (IsWeighed replies shelf.now board.now) }
     ensures not_yet { IfErr result (λ fault. fault.levels ≡ length shelf.now) }
 {
     let entry = shelf.entry(board)?;
     let worths = move_worths(shelf, board)?;
-    Ok(Weighed { entry, worths })
+    let moves = with_replies(shelf, board, worths.as_slice(), replies);
+    Ok(Weighed { entry, moves })
+}
+
+/// The moves of a board with these worths, and the replies to each if `asked` says so.
+fn with_replies(
+    shelf: &Shelf,
+    board: &Board,
+    worths: &[MoveWorth],
+    asked: bool,
+) -> ArrayVec<WeighedMove, 6>
+    requires known { sum board.now < length shelf.now }
+    requires few { length worths.now ≤ 6 }
+    requires legal { All (λ w. IsLegal board.now w.pit) worths.now }
+    ensures worths { map worth_in result.items ≡ worths.now }
+    ensures replies { All (IsReplied asked shelf.now board.now) result.items }
+{
+    let mut moves = ArrayVec::new();
+    for worth in worths {
+        moves.push(weighed_move(shelf, board, *worth, asked));
+    }
+    moves
+}
+
+/// The move of this worth, and the replies to it if `asked` says so.
+fn weighed_move(shelf: &Shelf, board: &Board, worth: MoveWorth, asked: bool) -> WeighedMove
+    requires known { sum board.now < length shelf.now }
+    requires legal { IsLegal board.now worth.pit }
+    ensures worth { result.worth ≡ worth }
+    ensures replies { IsReplied asked shelf.now board.now result }
+{
+    if asked {
+        let replies = Some(replies_to(shelf, board, worth.pit));
+        return WeighedMove { worth, replies };
+    }
+    WeighedMove {
+        worth,
+        replies: None,
+    }
 }
 
 impl Weighed {
-    /// A line for each move, with its line feed: the pit, what it captures, its value and its
-    /// distance, and whether it is the plan. If there is no move, it is one line with what the mover
-    /// gains by the end. It takes no memory.
-    pub fn text(&self) -> MovesText
+    /// A line for each move, with its line feed: the pit, what it captures, its value and its distance,
+    /// the replies to it if they were asked for, and whether it is the plan. If there is no move, it is
+    /// one line with what the mover gains by the end. It takes no memory.
+    pub fn text(&self) -> AnswerText
         ensures text { result.items ≡ weighed_text self.now }
-        ensures room { array_vec_len result < MOVES_ROOM }
+        ensures room { array_vec_len result < ANSWER_ROOM }
     {
-        if self.worths.is_empty() {
+        if self.moves.is_empty() {
             return text_of_line(&line_of_end(self.entry.value));
         }
-        lines_of(self.entry.plan, self.worths.as_slice())
+        lines_of(self.entry.plan, self.moves.as_slice())
     }
 }
 
 /// The line of each move.
-fn lines_of(plan: Option<u8>, worths: &[MoveWorth]) -> MovesText
-    requires { length worths.now ≤ 6 }
-    ensures text { result.items ≡ worth_lines plan worths.now }
-    ensures room { array_vec_len result < MOVES_ROOM }
+fn lines_of(plan: Option<u8>, moves: &[WeighedMove]) -> AnswerText
+    requires { length moves.now ≤ 6 }
+    ensures text { result.items ≡ move_lines plan moves.now }
+    ensures room { array_vec_len result < ANSWER_ROOM }
 {
-    let mut text = MovesText::new();
-    for worth in worths {
-        let line = line_of_worth(is_planned(plan, worth.pit), *worth);
-        push_line(&mut text, line.as_slice());
+    let mut text = AnswerText::new();
+    for weighed in moves {
+        push_move(&mut text, plan, *weighed);
     }
     text
 }
 
-/// A text of this one line, for an answer without moves. There is room for any line, and for a line
-/// feed behind it. It takes no memory.
-pub fn text_of_line(line: &TextLine) -> MovesText
-    ensures text { result.items ≡ line.now.items }
-    ensures room { array_vec_len result < MOVES_ROOM }
+/// Puts the line of a move behind others.
+fn push_move(text: &mut AnswerText, plan: Option<u8>, weighed: WeighedMove)
+    requires { array_vec_len text.old + 92 ≤ ANSWER_ROOM }
+    ensures items { text.new.items ≡ text.old.items ++ move_line plan weighed }
+    ensures len { array_vec_len text.new ≤ array_vec_len text.old + 92 }
 {
-    let mut text = MovesText::new();
-    push_line(&mut text, line.as_slice());
-    text
+    push_bytes(text, worth_text(weighed.worth).as_slice());
+    push_bytes(text, replies_mark(weighed.replies).as_slice());
+    push_bytes(text, plan_mark(is_planned(plan, weighed.worth.pit)));
+    text.push(b'\n');
 }
 
-/// Puts a line behind others.
-fn push_line(text: &mut MovesText, line: &[u8])
-    requires { array_vec_len text.old + length line.now ≤ MOVES_ROOM }
-    ensures items { text.new.items ≡ text.old.items ++ line.now }
-    ensures len { array_vec_len text.new ≡ array_vec_len text.old + length line.now }
-{
-    let Ok(()) = text.try_extend_from_slice(line) else {
-        unreachable!()
-    };
-}
-
-/// The line of a move.
+/// What is said of a move's worth.
 #[tactic(auto, using(awari_table::proofs::Digits::three_digits, crate::proofs::WorthLines::twenty_digits))]
-fn line_of_worth(is_plan: bool, worth: MoveWorth) -> TextLine
-    ensures items { result.items ≡ worth_line is_plan worth }
-    ensures len { array_vec_len result ≤ 69 }
+fn worth_text(worth: MoveWorth) -> TextLine
+    ensures items { result.items ≡ worth_text worth }
+    ensures len { array_vec_len result ≤ 63 }
 {
     let mut line = TextLine::new();
     push_text(&mut line, b"pit ");
@@ -103,8 +149,23 @@ fn line_of_worth(is_plan: bool, worth: MoveWorth) -> TextLine
     push_signed(&mut line, worth.value);
     push_text(&mut line, b" distance ");
     push_number(&mut line, worth.plies);
-    push_text(&mut line, plan_mark(is_plan));
-    line.push(b'\n');
+    line
+}
+
+/// What is said of the replies to a move.
+#[tactic(auto, using(awari_table::proofs::Digits::three_digits))]
+fn replies_mark(replies: Option<Replies>) -> TextLine
+    ensures items { result.items ≡ replies_mark replies }
+    ensures len { array_vec_len result ≤ 23 }
+{
+    let mut line = TextLine::new();
+    let Some(replies) = replies else {
+        return line;
+    };
+    push_text(&mut line, b" replies ");
+    push_number(&mut line, u64::from(replies.all));
+    push_text(&mut line, b" keep ");
+    push_number(&mut line, u64::from(replies.keep));
     line
 }
 
@@ -128,7 +189,7 @@ fn line_of_end(gain: i8) -> TextLine
 }
 
 /// Whether this pit is the plan.
-fn is_planned(plan: Option<u8>, pit: u8) -> bool
+pub(crate) fn is_planned(plan: Option<u8>, pit: u8) -> bool
     ensures { result ≡ is_planned plan pit }
 {
     match plan {

@@ -1,12 +1,16 @@
-use Rattle.std.proofs.Common.{◌∙◌, ap, arith, length}
+use Rattle.std.proofs.Common.{◌∙◌, ap, arith, rules, refl}
 use Rattle.std.proofs.lemmas.List.{get_or_default}
-use Rattle.awari_play.proofs.WorthLines.{worths_more}
+use Rattle.awari_play.specs.Worths.{move_lines}
+use Rattle.awari_play.proofs.WorthLines.{move_lines-more}
 use Rattle.awari_play.proofs.weighing.lines_of.Goals as goal
 
-pub loop-worth-preserved : goal.loop-worth-preserved
-loop-worth-preserved c =
-    let inside = c.loop-worth-test.true in record {
-      room = omega (arith, ap length c.as_slice.ensures.value);
-      spelled = worths_more c.args.plan c.args.worths.now c.loop-worth.worth-index _ _ _ _ _ inside (get_or_default _ _ _ _ inside) c.is_planned.ensures c.loop-worth.invariant.spelled (c.as_slice.ensures.value ∙ c.line_of_worth-line.ensures.items)
-          c.push_line.ensures.items;
+pub loop-weighed-init : goal.loop-weighed-init
+unfolding move_lines
+loop-weighed-init c = record { room = search rules; spelled = search rules }
+
+pub loop-weighed-preserved : goal.loop-weighed-preserved
+loop-weighed-preserved c =
+    let inside = c.loop-weighed-test.true in record {
+      room = omega arith;
+      spelled = move_lines-more c.args.plan c.args.moves.now c.loop-weighed.weighed-index _ _ _ inside (get_or_default _ _ _ _ inside) c.loop-weighed.invariant.spelled c.push_move.ensures.items;
     }
