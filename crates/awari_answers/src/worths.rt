@@ -27,7 +27,7 @@ fn weigh_in<T: Threads + Sync, F: Folder>(
     ensures board { (fault : BoardFault) → (result ≡ Err (no_answer.Board fault)) ↔ IsFaulty text.now fault }
 {
     let asked = ask_folder(rt, folder, alloc, text)?;
-    Ok(weigh(&asked.shelf, &asked.board)?)
+    Ok(weigh(&asked.shelf, &asked.board, false)?)
 }
 
 /// Prints what each legal move of a board is worth, a line each, or that the play has ended there, or

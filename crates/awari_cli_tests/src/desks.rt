@@ -71,14 +71,16 @@ fn expect_weighed(
     board: &Board,
     expected: Result<MoveWorth, AskFault>,
 ) {
-    let answer = reader.moves(board).map(|weighed| only_move(&weighed));
+    let answer = reader
+        .moves(board, false)
+        .map(|weighed| only_move(&weighed));
     expect_equal(rt, *board, answer, expected.map(Some));
 }
 
 /// The one move of a board that has no other.
 fn only_move(weighed: &Weighed) -> Option<MoveWorth> {
-    match weighed.worths.as_slice() {
-        [worth] => Some(*worth),
+    match weighed.moves.as_slice() {
+        [only] => Some(only.worth),
         _ => None,
     }
 }

@@ -50,12 +50,34 @@ pit 5 captures 0 value -1 distance 1 plan
 seen 2
 ";
 
+const PROBES_INPUT: &str = "\
+replies 0,0,0,0,0,1/0,0,0,0,0,0
+probe 0,0,0,0,0,1/0,0,0,0,0,0
+probe 0,0,0,0,0,0/0,0,1,0,0,0
+probe 1,0,0,0,0,0/1,0,0,0,0,0
+probe \"\\\u{7f}\u{e9}
+probe
+seen
+";
+
+const PROBES_OUTPUT: &str = r#"pit 5 captures 0 value -1 distance 1 replies 0 keep 0 plan
+
+{"board":"0,0,0,0,0,1/0,0,0,0,0,0","value":-1,"plan":5,"distance":1,"moves":[{"pit":5,"captures":0,"value":-1,"distance":1,"plan":true}]}
+{"board":"0,0,0,0,0,0/0,0,1,0,0,0","value":-1,"plan":null,"distance":0,"moves":[]}
+{"request":"probe 1,0,0,0,0,0/1,0,0,0,0,0","refused":74,"name":"NotYet"}
+{"request":"probe \u0022\u005c\u007f\u00c3\u00a9","refused":1,"name":"Shape"}
+what
+seen 2
+"#;
+
 /// Lines, and what is written of them by a reader that knows levels 0 and 1.
 type Lines = (&'static str, &'static str);
 
 const WORKED: Lines = (INPUT, OUTPUT);
 
 const MOVES: Lines = (MOVES_INPUT, MOVES_OUTPUT);
+
+const PROBES: Lines = (PROBES_INPUT, PROBES_OUTPUT);
 
 const ASK_CYCLE: &str = "ask 1,0,0,0,0,0/1,0,0,0,0,0\n";
 
@@ -211,9 +233,10 @@ fn expect_bytes(rt: &impl Abort, failing: Failing, written: &[u8], expected: &[u
 }
 
 /// Requests, and what is written of them by a reader that knows levels 0 and 1.
-const REQUESTS: [Lines; 7] = [
+const REQUESTS: [Lines; 8] = [
     WORKED,
     MOVES,
+    PROBES,
     ("", ""),
     ("\nseen", "what\nseen 2\n"),
     ("quit\nseen\n", "bye\n"),

@@ -4,7 +4,9 @@ use Rattle.awari_table.specs.declared.images.Image.{Image}
 use Rattle.awari_desk.specs.Books.{BeginsWith}
 use Rattle.awari_desk.specs.Service.{Answered, none, more, Served, ended, unended, quits, IsAnswerTo}
 use Rattle.awari_desk.specs.declared.answers.Answer.{Answer}
-use Rattle.awari_desk.specs.declared.answers.Answer.TheVariants.{Found, Moves, NotYet, Gone, Refused, Seen, Bye, What}
+use Rattle.awari_desk.specs.declared.answers.Answer.TheVariants.{Found, Moves, Probed, Unprobed, NotYet, Gone, Refused, Seen, Bye, What}
+use Rattle.awari_desk.specs.declared.faults.AskFault.TheVariants as ask
+use Rattle.awari_desk.specs.declared.faults.ProbeFault.TheVariants.{Board, Ask}
 use Rattle.awari_desk.proofs.Grows.{begins_all, begins_more}
 
 same : (known book : List Image) → book ≡ known → BeginsWith book known
@@ -12,7 +14,11 @@ same known book e = subst (λ (b : List Image). BeginsWith b known) (sym e) (beg
 
 answer_grows : (known : List Image) (line : List ℕ) (answer : Answer) (book : List Image) → IsAnswerTo known line answer book → BeginsWith book known
 answer_grows known line (Found e) book is = let (board, b, l, seen, low, entry) = is in seen.begins
-answer_grows known line (Moves w) book is = let (board, b, l, seen, weighed) = is in seen.begins
+answer_grows known line (Moves w) book is = let (board, replies, b, l, seen, weighed) = is in seen.begins
+answer_grows known line (Probed board w) book is = let (b, l, seen, weighed) = is in seen.begins
+answer_grows known line (Unprobed request (Board f)) book is = let (text, l, short, fault, e) = is.1 in same known book e
+answer_grows known line (Unprobed request (Ask (ask.NotYet n))) book is = let (board, b, l, seen, low, levels) = is.1 in seen.begins
+answer_grows known line (Unprobed request (Ask ask.Gone)) book is = let (board, b, l, e) = is.1 in same known book e
 answer_grows known line (NotYet n) book is = let (board, b, l, seen, low, levels) = is in seen.begins
 answer_grows known line Gone book is = let (board, b, l, e) = is in same known book e
 answer_grows known line (Refused f) book is = let (text, l, short, fault, e) = is in same known book e

@@ -7,7 +7,7 @@ use Rattle.std.specs.Io.KnownBytes.{Appends, Consumes, IsAtEnd}
 use Rattle.std.proofs.KnownBytes.{Appends-trans, Appends-nil}
 use Rattle.awari_table.specs.declared.images.Image.{Image}
 use Rattle.awari_desk.specs.declared.answers.Answer.{Answer}
-use Rattle.awari_desk.specs.declared.answers.Answer.TheVariants.{Found, Moves, NotYet, Gone, Refused, Seen, Bye, What}
+use Rattle.awari_desk.specs.declared.answers.Answer.TheVariants.{Found, Moves, Probed, Unprobed, NotYet, Gone, Refused, Seen, Bye, What}
 use Rattle.awari_desk.specs.declared.lines.Coming.{Coming}
 use Rattle.awari_desk.specs.Service.{Answered, none, more, Served, ended, unended, quits, IsOneLine, IsAnswerTo, answer_text, IsInput, HasServed, HasServedWithin, HasBegun, HasBegunWithin}
 use Rattle.awari_desk.specs.Coming.{Holds, Serving, Closes}
@@ -79,6 +79,8 @@ module _ (first : List Image) (before : Option (List ℕ)) (taken : List ℕ) (n
     line_served done output line ans one Bye at = quits first known book done output line [] ans one at
     line_served done output line ans one (Found e) at = ended first book _ _ (more first known book done output line (Found e) ans one at (λ x. false≢true (ap is_bye x)))
     line_served done output line ans one (Moves w) at = ended first book _ _ (more first known book done output line (Moves w) ans one at (λ x. false≢true (ap is_bye x)))
+    line_served done output line ans one (Probed b w) at = ended first book _ _ (more first known book done output line (Probed b w) ans one at (λ x. false≢true (ap is_bye x)))
+    line_served done output line ans one (Unprobed r f) at = ended first book _ _ (more first known book done output line (Unprobed r f) ans one at (λ x. false≢true (ap is_bye x)))
     line_served done output line ans one (NotYet n) at = ended first book _ _ (more first known book done output line (NotYet n) ans one at (λ x. false≢true (ap is_bye x)))
     line_served done output line ans one Gone at = ended first book _ _ (more first known book done output line Gone ans one at (λ x. false≢true (ap is_bye x)))
     line_served done output line ans one (Refused f) at = ended first book _ _ (more first known book done output line (Refused f) ans one at (λ x. false≢true (ap is_bye x)))

@@ -1,5 +1,5 @@
 -- What readers are answered, and what a clause sees of a publisher.
-use Rattle.std.specs.Prelude.{◌≡◌, ◌≤◌, ◌<◌, ℕ, List, length, drop, sum, Result, Ok, Err}
+use Rattle.std.specs.Prelude.{◌≡◌, ◌≤◌, ◌<◌, ℕ, Bool, List, length, drop, sum, Result, Ok, Err}
 use Rattle.awari_table.specs.declared.images.Image.{Image}
 use Rattle.awari_table.specs.declared.images.Entry.{Entry}
 use Rattle.awari_table.specs.Images.{entry_of}
@@ -22,11 +22,12 @@ IsAnswer known book board (Ok entry) = IsSeen known book × (sum board < length 
 IsAnswer known book board (Err (NotYet levels)) = IsSeen known book × (length book ≤ sum board) × (levels ≡ length book)
 IsAnswer known book board (Err Gone) = book ≡ known
 
--- What is said of a board's moves is so of that one book. It is refused as its entry is.
-abbrev pub IsWeighing : List Image → List Image → List ℕ → Result Weighed AskFault → Type 0
-IsWeighing known book board (Ok weighed) = IsSeen known book × IsWeighed book board weighed
-IsWeighing known book board (Err (NotYet levels)) = IsSeen known book × (length book ≤ sum board) × (levels ≡ length book)
-IsWeighing known book board (Err Gone) = book ≡ known
+-- What is said of a board's moves, and of the replies to them if these are asked for, is so of that one book. It is refused as its
+-- entry is.
+abbrev pub IsWeighing : Bool → List Image → List Image → List ℕ → Result Weighed AskFault → Type 0
+IsWeighing replies known book board (Ok weighed) = IsSeen known book × IsWeighed replies book board weighed
+IsWeighing replies known book board (Err (NotYet levels)) = IsSeen known book × (length book ≤ sum board) × (levels ≡ length book)
+IsWeighing replies known book board (Err Gone) = book ≡ known
 
 -- the levels that are published
 abbrev pub book_of : Pages → List Image

@@ -1,7 +1,8 @@
 -- The service: lines that come in, and the lines that each is answered by.
-use Rattle.std.specs.Prelude.{◌≡◌, ◌≢◌, ◌⊎◌, ◌≤◌, ◌<◌, ℕ, List, [], ◌∷◌, ◌++◌, length, sum, codes, All, Option, Some, None, ⊤}
+use Rattle.std.specs.Prelude.{◌≡◌, ◌≢◌, ◌⊎◌, ◌≤◌, ◌<◌, ℕ, Bool, false, true, List, [], ◌∷◌, ◌++◌, length, sum, codes, All, Option, Some, None, ⊤}
 use Rattle.std.specs.Fmt.{decimal}
 use Rattle.std.specs.Io.KnownBytes.{Appends}
+use Rattle.arrayvec.specs.ArrayVec.{ArrayVec}
 use Rattle.awari_board.specs.Rules.{IsBoard}
 use Rattle.awari_board.specs.Text.{text_of}
 use Rattle.awari_board.specs.BoardFault.{IsFaulty, fault_text as board_fault_text}
@@ -9,15 +10,22 @@ use Rattle.awari_table.specs.declared.images.Image.{Image}
 use Rattle.awari_table.specs.Images.{entry_of}
 use Rattle.awari_table.specs.Spelling.{entry_line}
 use Rattle.awari_desk.specs.Desks.{IsSeen}
+use Rattle.awari_play.specs.Json.{refusal_json, weighed_json}
 use Rattle.awari_play.specs.Worths.{IsWeighed, weighed_text}
+use Rattle.awari_desk.specs.ProbeFault.{name_of, number_of}
+use Rattle.awari_desk.specs.declared.faults.AskFault.TheVariants as ask
+use Rattle.awari_desk.specs.declared.faults.ProbeFault.{ProbeFault}
+use Rattle.awari_desk.specs.declared.faults.ProbeFault.TheVariants.{Board, Ask}
 use Rattle.awari_desk.specs.declared.answers.Answer.{Answer}
-use Rattle.awari_desk.specs.declared.answers.Answer.TheVariants.{Found, Moves, NotYet, Gone, Refused, Seen, Bye, What}
+use Rattle.awari_desk.specs.declared.answers.Answer.TheVariants.{Found, Moves, Probed, Unprobed, NotYet, Gone, Refused, Seen, Bye, What}
 use Rattle.awari_desk.specs.declared.lines.TheConstants.{LONGEST_LINE}
 
 -- the lines of an answer, each with its line feed; behind those of moves stands an empty line
 abbrev pub answer_text : Answer → List ℕ
 answer_text (Found entry) = entry_line entry
 answer_text (Moves weighed) = weighed_text weighed ++ 10 ∷ []
+answer_text (Probed board weighed) = weighed_json board weighed
+answer_text (Unprobed request fault) = refusal_json request.items (number_of fault) (name_of fault)
 answer_text (NotYet levels) = codes "not yet " ++ decimal levels ++ 10 ∷ []
 answer_text Gone = codes "gone" ++ 10 ∷ []
 answer_text (Refused fault) = codes "refused " ++ board_fault_text fault ++ 10 ∷ []
@@ -29,24 +37,53 @@ answer_text What = codes "what" ++ 10 ∷ []
 abbrev pub asking : List ℕ
 asking = codes "ask "
 
-abbrev pub weighing : List ℕ
-weighing = codes "moves "
+-- for the moves of a board, without or with the replies to each
+abbrev pub weighing : Bool → List ℕ
+weighing false = codes "moves "
+weighing true = codes "replies "
+
+-- for all of these as JSON
+abbrev pub probing : List ℕ
+probing = codes "probe "
 
 -- the line asks for what this text spells: for its entry, or for what its moves are worth
 abbrev pub Names : List ℕ → List ℕ → Type 0
-Names line text = (line ≡ asking ++ text) ⊎ (line ≡ weighing ++ text)
+Names line text = (line ≡ asking ++ text) ⊎ ((replies : Bool) × (line ≡ weighing replies ++ text))
+
+-- the line asks for no entry, for no moves without replies, and for nothing of the service itself
+pub record IsNoPlainRequest (line : List ℕ) : Type 0 where
+  pub seen : line ≢ codes "seen"
+  pub quit : line ≢ codes "quit"
+  pub ask : (text : List ℕ) → line ≢ asking ++ text
+  pub moves : (text : List ℕ) → line ≢ weighing false ++ text
 
 abbrev pub IsNoRequest : List ℕ → Type 0
-IsNoRequest line = (line ≢ codes "seen") × (line ≢ codes "quit") × ((text : List ℕ) → line ≢ asking ++ text) × ((text : List ℕ) → line ≢ weighing ++ text)
+IsNoRequest line = IsNoPlainRequest line × ((text : List ℕ) → line ≢ weighing true ++ text) × ((text : List ℕ) → line ≢ probing ++ text)
+
+-- the line was refused for this fault
+abbrev pub IsRefusalOf : List ℕ → ProbeFault → Answer → Type 0
+IsRefusalOf line fault answer = (request : ArrayVec ℕ) × (answer ≡ Unprobed request fault) × (request.items ≡ line)
+
+-- The line asks for all of a board, and has this fault: what is named is no board, or has as many stones as the book that is seen has
+-- levels, or more; or the publisher is gone.
+abbrev pub IsUnprobed : List Image → List ℕ → ProbeFault → List Image → Type 0
+IsUnprobed known line (Board fault) book = (text : List ℕ) × (line ≡ probing ++ text) × (length line ≤ LONGEST_LINE) × IsFaulty text fault × (book ≡ known)
+IsUnprobed known line (Ask (ask.NotYet levels)) book =
+    (board : List ℕ) × IsBoard board × (line ≡ probing ++ text_of board) × IsSeen known book × (length book ≤ sum board) × (levels ≡ length book)
+IsUnprobed known line (Ask ask.Gone) book = (board : List ℕ) × IsBoard board × (line ≡ probing ++ text_of board) × (book ≡ known)
 
 -- The answer to a line, from the book that the reader knows before to the one that it knows then.
 abbrev pub IsAnswerTo : List Image → List ℕ → Answer → List Image → Type 0
 -- it asks for a board, whose entry is that of the book that is seen
 IsAnswerTo known line (Found entry) book =
     (board : List ℕ) × IsBoard board × (line ≡ asking ++ text_of board) × IsSeen known book × (sum board < length book) × (entry ≡ entry_of book board)
--- it asks for the moves of a board, which are weighed by the book that is seen
+-- it asks for the moves of a board, which are weighed by the book that is seen, with the replies if it asks for them
 IsAnswerTo known line (Moves weighed) book =
-    (board : List ℕ) × IsBoard board × (line ≡ weighing ++ text_of board) × IsSeen known book × IsWeighed book board weighed
+    (board : List ℕ) × (replies : Bool) × IsBoard board × (line ≡ weighing replies ++ text_of board) × IsSeen known book × IsWeighed replies book board weighed
+-- it asks for all of this board, which is weighed so
+IsAnswerTo known line (Probed board weighed) book = IsBoard board × (line ≡ probing ++ text_of board) × IsSeen known book × IsWeighed false book board weighed
+-- it asks for that, and has this fault
+IsAnswerTo known line (Unprobed request fault) book = (request.items ≡ line) × IsUnprobed known line fault book
 -- it names a board of as many stones as that book has levels, or more
 IsAnswerTo known line (NotYet levels) book =
     (board : List ℕ) × IsBoard board × Names line (text_of board) × IsSeen known book × (length book ≤ sum board) × (levels ≡ length book)

@@ -6,25 +6,48 @@ ghost use Rattle.awari_board.specs.BoardFault.{fault_text};
 ghost use Rattle.awari_desk.specs.Service.{answer_text};
 ghost use Rattle.awari_play.specs.Worths.{weighed_text};
 
-use awari_board::BoardFault;
-use awari_play::{MovesText, Weighed, text_of_line};
+use crate::faults::ProbeFault;
+use crate::lines::LONGEST_LINE;
+use arrayvec::ArrayVec;
+use awari_board::{Board, BoardFault};
+use awari_play::{AnswerText, Weighed, refusal_json, text_of_line, weighed_json};
 use awari_table::{Entry, TextLine, line_of_entry, push_number, push_text};
 
 /// The answer to one line.
 #[derive(Debug, PartialEq, Eq, Drop)]
 pub enum Answer {
     /// The entry of the board, in the book that was seen.
-    Found { entry: Entry },
+    Found {
+        entry: Entry,
+    },
     /// What the board's legal moves are worth, by the book that was seen.
-    Moves { weighed: Weighed },
+    Moves {
+        weighed: Weighed,
+    },
+    /// The board, its entry and what its legal moves are worth, by the book that was seen.
+    Probed {
+        board: Board,
+        weighed: Weighed,
+    },
+    /// The line that asked for that, and why it has no such answer.
+    Unprobed {
+        request: ArrayVec<u8, LONGEST_LINE>,
+        fault: ProbeFault,
+    },
     /// The book that was seen has only the levels below `levels`.
-    NotYet { levels: u8 },
+    NotYet {
+        levels: u8,
+    },
     /// The publisher is gone.
     Gone,
     /// The text that was asked for is not a board.
-    Refused { fault: BoardFault },
+    Refused {
+        fault: BoardFault,
+    },
     /// How many levels the reader knows: those of the longest book that it has seen or was told of.
-    Seen { levels: u8 },
+    Seen {
+        levels: u8,
+    },
     /// The service ends.
     Bye,
     /// The line asks for nothing.
@@ -65,12 +88,16 @@ fn refused_line_of(fault: BoardFault) -> TextLine
 
 impl Answer {
     /// The lines, each with its line feed; those of moves have an empty line behind them.
-    pub(crate) fn text(&self) -> MovesText
+    pub(crate) fn text(&self) -> AnswerText
         ensures { result.items ≡ answer_text self.now }
     {
         match self {
             Answer::Found { entry } => text_of_line(&line_of_entry(*entry)),
             Answer::Moves { weighed } => text_of_moves(weighed),
+            Answer::Probed { board, weighed } => weighed_json(board, weighed),
+            Answer::Unprobed { request, fault } => {
+                refusal_json(request.as_slice(), fault.number(), fault.name())
+            }
             Answer::NotYet { levels } => text_of_line(&numbered_line_of(b"not yet ", *levels)),
             Answer::Gone => text_of_line(&line_of_text(b"gone\n")),
             Answer::Refused { fault } => text_of_line(&refused_line_of(*fault)),
@@ -82,7 +109,7 @@ impl Answer {
 }
 
 /// The lines of the moves, and an empty line.
-fn text_of_moves(weighed: &Weighed) -> MovesText
+fn text_of_moves(weighed: &Weighed) -> AnswerText
     ensures { result.items ≡ weighed_text weighed.now ++ 10 ∷ [] }
 {
     let mut text = weighed.text();

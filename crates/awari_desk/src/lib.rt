@@ -32,10 +32,10 @@ mod readers;
 mod services;
 
 pub use answers::Answer;
-pub use awari_play::{MOVES_ROOM, MovesText, Weighed, weigh};
+pub use awari_play::{ANSWER_ROOM, AnswerText, Weighed, weigh};
 pub use books::{Book, Growing};
 pub use desks::{MOST_READERS, desk};
-pub use faults::{AskFault, DeskFault, ServeFault};
+pub use faults::{AskFault, DeskFault, ProbeFault, ServeFault};
 pub use laws::{services_have_limits, services_only_grow};
 pub use lines::LONGEST_LINE;
 pub use pages::Pages;

@@ -4,7 +4,7 @@ ghost use Rattle.std.specs.Prelude.{◌≡◌, length, max};
 
 use crate::books::Seat;
 use crate::faults::AskFault;
-use crate::looks::{look, look_at_moves};
+use crate::looks::{Question, look, look_at_moves};
 use awari_board::Board;
 use awari_play::Weighed;
 use awari_table::Entry;
@@ -77,14 +77,19 @@ impl Reader {
         }
     }
 
-    /// What the book that is published now says of the board and of its legal moves. This book begins
-    /// with all that this reader knows, and is what it knows from then on. Refused as 74 `NotYet` if
-    /// the board has at least as many stones as that book has levels, and as 75 `Gone` after the
-    /// publisher was closed. It never waits, and takes no memory.
-    pub fn moves(&mut self, board: &Board) -> Result<Weighed, AskFault>
-        ensures { IsWeighing self.old self.new board.now result }
+    /// What the book that is published now says of the board and of its legal moves, and of the replies
+    /// to each if `replies` asks for them. This book begins with all that this reader knows, and is what
+    /// it knows from then on. Refused as 74 `NotYet` if the board has at least as many stones as that
+    /// book has levels, and as 75 `Gone` after the publisher was closed. It never waits, and takes no
+    /// memory.
+    pub fn moves(&mut self, board: &Board, replies: bool) -> Result<Weighed, AskFault>
+        ensures { IsWeighing replies self.old self.new board.now result }
     {
-        let Some(seen) = replace_with(&mut self.seat, board, look_at_moves) else {
+        let asked = Question {
+            board: *board,
+            replies,
+        };
+        let Some(seen) = replace_with(&mut self.seat, asked, look_at_moves) else {
             return Err(AskFault::Gone);
         };
         self.levels = seen.levels;

@@ -137,15 +137,15 @@ length of best play. With --plies each ply has a line, and there is no other:
 B is the board then, R the first mover's lead. docs/FORMATS.md lists refusals.";
 
 pub const SERVE_HELP: &str = "\
-A thread builds the levels above the folder's, once these are verified, up to
-TOP, and saves none. Meanwhile each line of standard input has its answer, all
-in order. So `awari serve FOLDER 0 0` answers a million: examples/ask_many.py.
+A thread builds the levels above the folder's up to TOP, and saves none. Each
+line of standard input has its answer: examples/ask_many.py asks a million.
 
-    ask BOARD    `V P D`, as `awari help ask` says, `not yet M`, or a refusal
-    moves BOARD  as `awari help moves` says, and an empty line; or as of `ask`
-    seen         `seen M`: the last answers went by levels 0 to M - 1
-    quit         `bye`, and nothing after it is answered
-    other lines  `what`
+    ask BOARD      `V P D`, as `awari help ask` says, `not yet M`, or a refusal
+    moves BOARD    as `awari help moves` says, and an empty line; or as of `ask`
+    replies BOARD  the same; ` replies R keep K` follows each distance
+    probe BOARD    an object in one line: board, value, plan, distance, moves
+    seen           `seen M`: the last answers went by levels 0 to M - 1
+    quit           `bye`, and nothing after it is answered; other lines: `what`
 
 It ends at `quit` or with the input, once the thread has ended, whose refusal is
 printed. The status is 0, or 1 for a refusal. docs/FORMATS.md lists them.";
