@@ -13,11 +13,11 @@ loop-byte-preserved c =
     let (board, whole, is, shows, counted, few) = c.loop-byte.invariant in
     elim c.if-byte-ne32.branch [
       | then-byte-ne32+in-Ok w ↦
-        let more = judging-more _ _ _ _ _ _ shows c.loop-byte-test.true w.if-byte-ne32.true w.pit_named.ensures w.in-Ok.ensures.played in
-        rw (w.game-is, w.played-is) (board, whole, is, more.0, ap (λ n. n + 1) counted ∙ sym more.1, omega (arith, few))
+          let more = judging-more _ _ _ _ _ _ shows c.loop-byte-test.true w.if-byte-ne32.true w.pit_named.ensures w.in-Ok.ensures.played in
+          rw (w.game-is, w.played-is) (board, whole, is, more.0, ap (λ n. n + 1) counted ∙ sym more.1, omega (arith, few))
       | else-byte-ne32 w ↦
-        let same = judging-space _ _ _ _ shows c.loop-byte-test.true w.if-byte-ne32.false in
-        rw (w.game-is, w.played-is) (board, whole, is, same.0, counted ∙ sym same.1, omega (arith, few))
+          let same = judging-space _ _ _ _ shows c.loop-byte-test.true w.if-byte-ne32.false in
+          rw (w.game-is, w.played-is) (board, whole, is, same.0, counted ∙ sym same.1, omega (arith, few))
     ]
 
 pub returns-clause-judged : goal.returns-clause-judged
