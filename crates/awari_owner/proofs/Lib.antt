@@ -32,4 +32,4 @@ pub mod Expecting
 pub mod SpreadNotes
 pub mod Sounding
 pub mod Giving
-pub mod Faults
+pub mod SpreadFaults

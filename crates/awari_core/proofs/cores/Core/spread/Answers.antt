@@ -5,7 +5,7 @@ use Rattle.awari_core.proofs.Effects.{as_many, both_same, core_of, due_here, nev
 use Rattle.awari_owner.specs.Sound.{IsSpreadFault}
 use Rattle.awari_owner.specs.Spread.{IsPartOf}
 use Rattle.awari_owner.specs.declared.faults.OwnerFault.TheVariants.{Far}
-use Rattle.awari_owner.proofs.Faults.{fault_due}
+use Rattle.awari_owner.proofs.SpreadFaults.{fault_due}
 use Rattle.awari_core.proofs.Steps.{part_linked, spread_step}
 use Rattle.awari_core.proofs.cores.Core.spread.Goals as goal
 
