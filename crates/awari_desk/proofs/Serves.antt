@@ -8,7 +8,7 @@ use Rattle.std.proofs.KnownBytes.{Appends-trans, Appends-nil}
 use Rattle.awari_table.specs.declared.images.Image.{Image}
 use Rattle.awari_desk.specs.declared.answers.Answer.{Answer}
 use Rattle.awari_desk.specs.declared.answers.Answer.TheVariants.{Found, Moves, Probed, Unprobed, NotYet, Gone, Refused, Seen, Bye, What}
-use Rattle.awari_desk.specs.declared.lines.Coming.{Coming}
+use Rattle.awari_desk.specs.declared.requests.Coming.{Coming}
 use Rattle.awari_desk.specs.Service.{Answered, none, more, Served, ended, unended, quits, IsOneLine, IsAnswerTo, answer_text, IsInput, HasServed, HasServedWithin, HasBegun, HasBegunWithin}
 use Rattle.awari_desk.specs.Coming.{Holds, Serving, Closes}
 
@@ -21,7 +21,7 @@ is_bye _ = false
 pub starts : (first : List Image) (before : Option (List ℕ)) (coming : Coming) → Holds coming [] → Serving first before [] before first coming
 starts first before coming holds = record {
   done = [];
-  line = [];
+  request = [];
   output = [];
   parts = refl;
   answered = none first;
@@ -31,33 +31,33 @@ starts first before coming holds = record {
 }
 
 module _ (first : List Image) (before : Option (List ℕ)) (taken : List ℕ) (now : Option (List ℕ)) (known : List Image) (coming : Coming) (s : Serving first before taken now known coming) where
-  -- one more byte of the line
-  pub takes : (byte : ℕ) (next : Coming) → byte ≢ 10 → ((line : List ℕ) → Holds coming line → Holds next (line ++ byte ∷ []))
+  -- one more byte of the request
+  pub takes : (byte : ℕ) (next : Coming) → byte ≢ 10 → ((request : List ℕ) → Holds coming request → Holds next (request ++ byte ∷ []))
       → Serving first before (taken ++ byte ∷ []) now known next
   takes byte next other holds = record {
     done = s.done;
-    line = s.line ++ byte ∷ [];
+    request = s.request ++ byte ∷ [];
     output = s.output;
-    parts = ap (λ l. l ++ byte ∷ []) s.parts ∙ append_assoc s.done s.line (byte ∷ []);
+    parts = ap (λ l. l ++ byte ∷ []) s.parts ∙ append_assoc s.done s.request (byte ∷ []);
     answered = s.answered;
-    one = All-append (λ b. b ≢ 10) s.line (byte ∷ []) s.one (All-cons (λ b. b ≢ 10) byte [] other (All-nil (λ b. b ≢ 10)));
-    holds = holds s.line s.holds;
+    one = All-append (λ b. b ≢ 10) s.request (byte ∷ []) s.one (All-cons (λ b. b ≢ 10) byte [] other (All-nil (λ b. b ≢ 10)));
+    holds = holds s.request s.holds;
     wrote = s.wrote;
   }
 
-  -- the line ends
-  line_ends : (rest : List ℕ) → taken ++ 10 ∷ rest ≡ s.done ++ (s.line ++ 10 ∷ rest)
-  line_ends rest = ap (λ l. l ++ 10 ∷ rest) s.parts ∙ append_assoc s.done s.line (10 ∷ rest)
+  -- the request ends
+  request_ends : (rest : List ℕ) → taken ++ 10 ∷ rest ≡ s.done ++ (s.request ++ 10 ∷ rest)
+  request_ends rest = ap (λ l. l ++ 10 ∷ rest) s.parts ∙ append_assoc s.done s.request (10 ∷ rest)
 
-  module _ (answer : Answer) (book : List Image) (is : IsAnswerTo known s.line answer book) (after : Option (List ℕ)) where
+  module _ (answer : Answer) (book : List Image) (is : IsAnswerTo known s.request answer book) (after : Option (List ℕ)) where
     -- its answer was written
     pub answers : answer ≢ Bye → Appends now after (answer_text answer) → (next : Coming) → Holds next [] → Serving first before (taken ++ 10 ∷ []) after book next
     answers other wrote next holds = record {
-      done = s.done ++ (s.line ++ 10 ∷ []);
-      line = [];
+      done = s.done ++ (s.request ++ 10 ∷ []);
+      request = [];
       output = s.output ++ answer_text answer;
-      parts = line_ends [] ∙ sym (append-nil (s.done ++ (s.line ++ 10 ∷ [])));
-      answered = more first known book s.done s.output s.line answer s.answered s.one is other;
+      parts = request_ends [] ∙ sym (append-nil (s.done ++ (s.request ++ 10 ∷ [])));
+      answered = more first known book s.done s.output s.request answer s.answered s.one is other;
       one = All-nil (λ b. b ≢ 10);
       holds = holds;
       wrote = Appends-trans before now after s.output (answer_text answer) s.wrote wrote;
@@ -66,49 +66,49 @@ module _ (first : List Image) (before : Option (List ℕ)) (taken : List ℕ) (n
     -- it ends the service
     pub ends : answer ≡ Bye → Appends now after (answer_text answer) → (rest : List ℕ) → HasServed first before ((taken ++ 10 ∷ []) ++ rest) after book
     ends bye wrote rest =
-        let served : Served first (s.done ++ (s.line ++ 10 ∷ rest)) (s.output ++ answer_text Bye) book =
-        quits first known book s.done s.output s.line rest s.answered s.one (subst (λ (a : Answer). IsAnswerTo known s.line a book) bye is) in (
+        let served : Served first (s.done ++ (s.request ++ 10 ∷ rest)) (s.output ++ answer_text Bye) book =
+        quits first known book s.done s.output s.request rest s.answered s.one (subst (λ (a : Answer). IsAnswerTo known s.request a book) bye is) in (
           s.output ++ answer_text answer,
-          subst (λ (i : List ℕ). Served first i (s.output ++ answer_text answer) book) (sym (append_assoc taken (10 ∷ []) rest ∙ line_ends rest)) (subst (λ (a : Answer). Served first (s.done ++ (s.line ++ 10 ∷ rest)) (s.output ++ answer_text a) book) (sym bye) served),
+          subst (λ (i : List ℕ). Served first i (s.output ++ answer_text answer) book) (sym (append_assoc taken (10 ∷ []) rest ∙ request_ends rest)) (subst (λ (a : Answer). Served first (s.done ++ (s.request ++ 10 ∷ rest)) (s.output ++ answer_text a) book) (sym bye) served),
           Appends-trans before now after s.output (answer_text answer) s.wrote wrote,
         )
 
-    -- the line with its line feed is served
-    line_served : (done output : List ℕ) (line : List ℕ) → Answered first done output known → IsOneLine line → (a : Answer) → IsAnswerTo known line a book
-        → Served first (done ++ (line ++ 10 ∷ [])) (output ++ answer_text a) book
-    line_served done output line ans one Bye at = quits first known book done output line [] ans one at
-    line_served done output line ans one (Found e) at = ended first book _ _ (more first known book done output line (Found e) ans one at (λ x. false≢true (ap is_bye x)))
-    line_served done output line ans one (Moves w) at = ended first book _ _ (more first known book done output line (Moves w) ans one at (λ x. false≢true (ap is_bye x)))
-    line_served done output line ans one (Probed b w) at = ended first book _ _ (more first known book done output line (Probed b w) ans one at (λ x. false≢true (ap is_bye x)))
-    line_served done output line ans one (Unprobed r f) at = ended first book _ _ (more first known book done output line (Unprobed r f) ans one at (λ x. false≢true (ap is_bye x)))
-    line_served done output line ans one (NotYet n) at = ended first book _ _ (more first known book done output line (NotYet n) ans one at (λ x. false≢true (ap is_bye x)))
-    line_served done output line ans one Gone at = ended first book _ _ (more first known book done output line Gone ans one at (λ x. false≢true (ap is_bye x)))
-    line_served done output line ans one (Refused f) at = ended first book _ _ (more first known book done output line (Refused f) ans one at (λ x. false≢true (ap is_bye x)))
-    line_served done output line ans one (Seen n) at = ended first book _ _ (more first known book done output line (Seen n) ans one at (λ x. false≢true (ap is_bye x)))
-    line_served done output line ans one What at = ended first book _ _ (more first known book done output line What ans one at (λ x. false≢true (ap is_bye x)))
+    -- the request with its line feed is served
+    request_served : (done output : List ℕ) (request : List ℕ) → Answered first done output known → IsOneLine request → (a : Answer) → IsAnswerTo known request a book
+        → Served first (done ++ (request ++ 10 ∷ [])) (output ++ answer_text a) book
+    request_served done output request ans one Bye at = quits first known book done output request [] ans one at
+    request_served done output request ans one (Found e) at = ended first book _ _ (more first known book done output request (Found e) ans one at (λ x. false≢true (ap is_bye x)))
+    request_served done output request ans one (Moves w) at = ended first book _ _ (more first known book done output request (Moves w) ans one at (λ x. false≢true (ap is_bye x)))
+    request_served done output request ans one (Probed b w) at = ended first book _ _ (more first known book done output request (Probed b w) ans one at (λ x. false≢true (ap is_bye x)))
+    request_served done output request ans one (Unprobed r f) at = ended first book _ _ (more first known book done output request (Unprobed r f) ans one at (λ x. false≢true (ap is_bye x)))
+    request_served done output request ans one (NotYet n) at = ended first book _ _ (more first known book done output request (NotYet n) ans one at (λ x. false≢true (ap is_bye x)))
+    request_served done output request ans one Gone at = ended first book _ _ (more first known book done output request Gone ans one at (λ x. false≢true (ap is_bye x)))
+    request_served done output request ans one (Refused f) at = ended first book _ _ (more first known book done output request (Refused f) ans one at (λ x. false≢true (ap is_bye x)))
+    request_served done output request ans one (Seen n) at = ended first book _ _ (more first known book done output request (Seen n) ans one at (λ x. false≢true (ap is_bye x)))
+    request_served done output request ans one What at = ended first book _ _ (more first known book done output request What ans one at (λ x. false≢true (ap is_bye x)))
 
     -- the front of its answer was written
     pub breaks : (front rest : List ℕ) → answer_text answer ≡ front ++ rest → Appends now after front → HasBegun first before (taken ++ 10 ∷ []) after book
     breaks front rest e wrote = record {
-      front = s.done ++ (s.line ++ 10 ∷ []);
+      front = s.done ++ (s.request ++ 10 ∷ []);
       behind = [];
       taken = s.output ++ front;
       due = rest;
-      parts = line_ends [] ∙ sym (append-nil (s.done ++ (s.line ++ 10 ∷ [])));
-      served = subst (λ (o : List ℕ). Served first (s.done ++ (s.line ++ 10 ∷ [])) o book) (ap (λ l. s.output ++ l) e ∙ sym (append_assoc s.output front rest))
-          (line_served s.done s.output s.line s.answered s.one answer is);
+      parts = request_ends [] ∙ sym (append-nil (s.done ++ (s.request ++ 10 ∷ [])));
+      served = subst (λ (o : List ℕ). Served first (s.done ++ (s.request ++ 10 ∷ [])) o book) (ap (λ l. s.output ++ l) e ∙ sym (append_assoc s.output front rest))
+          (request_served s.done s.output s.request s.answered s.one answer is);
       wrote = Appends-trans before now after s.output front s.wrote wrote;
     }
 
-    -- it is the last line, with no line feed
-    last_served : s.line ≢ [] → Served first taken (s.output ++ answer_text answer) book
+    -- it is the last request, with no line feed
+    last_served : s.request ≢ [] → Served first taken (s.output ++ answer_text answer) book
     last_served some = subst (λ (i : List ℕ). Served first i (s.output ++ answer_text answer) book) (sym s.parts)
-        (unended first known book s.done s.output s.line answer s.answered s.one some is)
+        (unended first known book s.done s.output s.request answer s.answered s.one some is)
 
-    pub ends_last : s.line ≢ [] → Appends now after (answer_text answer) → HasServed first before taken after book
+    pub ends_last : s.request ≢ [] → Appends now after (answer_text answer) → HasServed first before taken after book
     ends_last some wrote = (s.output ++ answer_text answer, last_served some, Appends-trans before now after s.output (answer_text answer) s.wrote wrote)
 
-    pub breaks_last : s.line ≢ [] → (front rest : List ℕ) → answer_text answer ≡ front ++ rest → Appends now after front → HasBegun first before taken after book
+    pub breaks_last : s.request ≢ [] → (front rest : List ℕ) → answer_text answer ≡ front ++ rest → Appends now after front → HasBegun first before taken after book
     breaks_last some front rest e wrote = record {
       front = taken;
       behind = [];
@@ -120,7 +120,7 @@ module _ (first : List Image) (before : Option (List ℕ)) (taken : List ℕ) (n
     }
 
   -- the input ends behind a line feed
-  pub ends_here : s.line ≡ [] → HasServed first before taken now known
+  pub ends_here : s.request ≡ [] → HasServed first before taken now known
   ends_here nothing =
       let whole : taken ≡ s.done = s.parts ∙ ap (λ l. s.done ++ l) nothing ∙ append-nil s.done in
       (s.output, subst (λ (i : List ℕ). Served first i s.output known) (sym whole) (ended first known s.done s.output s.answered), s.wrote)
@@ -129,10 +129,10 @@ module _ (first : List Image) (before : Option (List ℕ)) (taken : List ℕ) (n
   pub begun : (behind : List ℕ) → HasBegun first before (taken ++ behind) now known
   begun behind = record {
     front = s.done;
-    behind = s.line ++ behind;
+    behind = s.request ++ behind;
     taken = s.output;
     due = [];
-    parts = ap (λ l. l ++ behind) s.parts ∙ append_assoc s.done s.line behind;
+    parts = ap (λ l. l ++ behind) s.parts ∙ append_assoc s.done s.request behind;
     served = subst (λ (o : List ℕ). Served first s.done o known) (sym (append-nil s.output)) (ended first known s.done s.output s.answered);
     wrote = s.wrote;
   }
@@ -166,7 +166,7 @@ input_with (Some xs) (Some ys) bs rest c i = c ∙ ap (λ l. bs ++ l) i
 
 -- a line feed came
 pub line_feed : (first : List Image) (before : Option (List ℕ)) (taken : List ℕ) (now : Option (List ℕ)) (known : List Image) (coming : Coming) (s : Serving first before taken now known coming)
-    (byte : ℕ) → byte ≡ 10 → (answer : Answer) (book : List Image) → IsAnswerTo known s.line answer book → (after : Option (List ℕ)) (quit : Bool) (next : Coming)
+    (byte : ℕ) → byte ≡ 10 → (answer : Answer) (book : List Image) → IsAnswerTo known s.request answer book → (after : Option (List ℕ)) (quit : Bool) (next : Coming)
     → ((quit ≡ true) ↔ (answer ≡ Bye)) → Appends now after (answer_text answer) → Holds next []
     → (quit ≡ true → (rest : List ℕ) → HasServed first before ((taken ++ byte ∷ []) ++ rest) after book) × (quit ≡ false → Serving first before (taken ++ byte ∷ []) after book next)
 line_feed first before taken now known coming s byte ten answer book is after quit next bye wrote holds = (
@@ -175,7 +175,7 @@ line_feed first before taken now known coming s byte ten answer book is after qu
 )
 
 pub line_breaks : (first : List Image) (before : Option (List ℕ)) (taken : List ℕ) (now : Option (List ℕ)) (known : List Image) (coming : Coming) (s : Serving first before taken now known coming)
-    (byte : ℕ) → byte ≡ 10 → (answer : Answer) (book : List Image) → IsAnswerTo known s.line answer book → (after : Option (List ℕ)) (front rest : List ℕ)
+    (byte : ℕ) → byte ≡ 10 → (answer : Answer) (book : List Image) → IsAnswerTo known s.request answer book → (after : Option (List ℕ)) (front rest : List ℕ)
     → answer_text answer ≡ front ++ rest → Appends now after front → HasBegun first before (taken ++ byte ∷ []) after book
 line_breaks first before taken now known coming s byte ten answer book is after front rest e wrote =
     subst (λ (b : ℕ). HasBegun first before (taken ++ b ∷ []) after book) (sym ten) (breaks first before taken now known coming s answer book is after front rest e wrote)

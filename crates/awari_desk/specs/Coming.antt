@@ -4,28 +4,28 @@ use Rattle.std.specs.Io.KnownBytes.{Appends, Consumes}
 use Rattle.awari_table.specs.declared.images.Image.{Image}
 use Rattle.awari_desk.specs.declared.answers.Answer.{Answer}
 use Rattle.awari_desk.specs.declared.answers.Answer.TheVariants.{Bye}
-use Rattle.awari_desk.specs.declared.lines.Coming.{Coming}
-use Rattle.awari_desk.specs.declared.lines.TheConstants.{LONGEST_LINE}
+use Rattle.awari_desk.specs.declared.requests.Coming.{Coming}
+use Rattle.awari_desk.specs.declared.requests.TheConstants.{LONGEST_REQUEST}
 use Rattle.awari_desk.specs.Service.{Answered, IsOneLine, IsAnswerTo, answer_text, IsInput, HasServed, HasBegun}
 
--- these are the bytes of the line that is coming in
+-- these are the bytes of the request that is coming in
 abbrev pub Holds : Coming → List ℕ → Type 0
-Holds c line = ((c.is_long ≡ true) × (LONGEST_LINE < length line)) ⊎ ((c.is_long ≡ false) × (line ≡ c.bytes.items))
+Holds c request = ((c.is_long ≡ true) × (LONGEST_REQUEST < length request)) ⊎ ((c.is_long ≡ false) × (request ≡ c.bytes.items))
 
--- what was taken are lines that were answered, and the line that is coming in
+-- what was taken are requests that were answered, and the request that is coming in
 pub record Serving (first : List Image) (before : Option (List ℕ)) (taken : List ℕ) (now : Option (List ℕ)) (known : List Image) (coming : Coming) : Type 0 where
   pub done : List ℕ
-  pub line : List ℕ
+  pub request : List ℕ
   pub output : List ℕ
-  pub parts : taken ≡ done ++ line
+  pub parts : taken ≡ done ++ request
   pub answered : Answered first done output known
-  pub one : IsOneLine line
-  pub holds : Holds coming line
+  pub one : IsOneLine request
+  pub holds : Holds coming request
   pub wrote : Appends before now output
 
--- an answer to the line was written, or the front of one
+-- an answer to the request was written, or the front of one
 abbrev pub Responds : {E : Type 0} → List Image → List ℕ → Result Bool E → List Image → Option (List ℕ) → Option (List ℕ) → Type 0
-Responds known line result book before after = (answer : Answer) × IsAnswerTo known line answer book × MatchResult result
+Responds known request result book before after = (answer : Answer) × IsAnswerTo known request answer book × MatchResult result
     (λ bye. ((bye ≡ true) ↔ (answer ≡ Bye)) × Appends before after (answer_text answer))
     (λ _. (front rest : List ℕ) × (answer_text answer ≡ front ++ rest) × Appends before after front)
 

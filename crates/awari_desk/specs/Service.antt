@@ -1,4 +1,4 @@
--- The service: lines that come in, and the lines that each is answered by.
+-- The service: requests that come in, each a line, and the lines that each is answered by.
 use Rattle.std.specs.Prelude.{◌≡◌, ◌≢◌, ◌⊎◌, ◌≤◌, ◌<◌, ℕ, Bool, false, true, List, [], ◌∷◌, ◌++◌, length, sum, codes, All, Option, Some, None, ⊤}
 use Rattle.std.specs.Fmt.{decimal}
 use Rattle.std.specs.Io.KnownBytes.{Appends}
@@ -18,7 +18,7 @@ use Rattle.awari_desk.specs.declared.faults.ProbeFault.{ProbeFault}
 use Rattle.awari_desk.specs.declared.faults.ProbeFault.TheVariants.{Board, Ask}
 use Rattle.awari_desk.specs.declared.answers.Answer.{Answer}
 use Rattle.awari_desk.specs.declared.answers.Answer.TheVariants.{Found, Moves, Probed, Unprobed, NotYet, Gone, Refused, Seen, Bye, What}
-use Rattle.awari_desk.specs.declared.lines.TheConstants.{LONGEST_LINE}
+use Rattle.awari_desk.specs.declared.requests.TheConstants.{LONGEST_REQUEST}
 
 -- the lines of an answer, each with its line feed; behind those of moves stands an empty line
 abbrev pub answer_text : Answer → List ℕ
@@ -33,7 +33,7 @@ answer_text (Seen levels) = codes "seen " ++ decimal levels ++ 10 ∷ []
 answer_text Bye = codes "bye" ++ 10 ∷ []
 answer_text What = codes "what" ++ 10 ∷ []
 
--- what a line has to be to ask for something: this, or this with more behind it
+-- what a request has to be to ask for something: this, or this with more behind it
 abbrev pub asking : List ℕ
 asking = codes "ask "
 
@@ -46,83 +46,83 @@ weighing true = codes "replies "
 abbrev pub probing : List ℕ
 probing = codes "probe "
 
--- the line asks for what this text spells: for its entry, or for what its moves are worth
+-- the request asks for what this text spells: for its entry, or for what its moves are worth
 abbrev pub Names : List ℕ → List ℕ → Type 0
-Names line text = (line ≡ asking ++ text) ⊎ ((replies : Bool) × (line ≡ weighing replies ++ text))
+Names request text = (request ≡ asking ++ text) ⊎ ((replies : Bool) × (request ≡ weighing replies ++ text))
 
--- the line asks for no entry, for no moves without replies, and for nothing of the service itself
-pub record IsNoPlainRequest (line : List ℕ) : Type 0 where
-  pub seen : line ≢ codes "seen"
-  pub quit : line ≢ codes "quit"
-  pub ask : (text : List ℕ) → line ≢ asking ++ text
-  pub moves : (text : List ℕ) → line ≢ weighing false ++ text
+-- the request asks for no entry, for no moves without replies, and for nothing of the service itself
+pub record IsNoPlainRequest (request : List ℕ) : Type 0 where
+  pub seen : request ≢ codes "seen"
+  pub quit : request ≢ codes "quit"
+  pub ask : (text : List ℕ) → request ≢ asking ++ text
+  pub moves : (text : List ℕ) → request ≢ weighing false ++ text
 
 abbrev pub IsNoRequest : List ℕ → Type 0
-IsNoRequest line = IsNoPlainRequest line × ((text : List ℕ) → line ≢ weighing true ++ text) × ((text : List ℕ) → line ≢ probing ++ text)
+IsNoRequest request = IsNoPlainRequest request × ((text : List ℕ) → request ≢ weighing true ++ text) × ((text : List ℕ) → request ≢ probing ++ text)
 
--- the line was refused for this fault
+-- the request was refused for this fault
 abbrev pub IsRefusalOf : List ℕ → ProbeFault → Answer → Type 0
-IsRefusalOf line fault answer = (request : ArrayVec ℕ) × (answer ≡ Unprobed request fault) × (request.items ≡ line)
+IsRefusalOf request fault answer = (bytes : ArrayVec ℕ) × (answer ≡ Unprobed bytes fault) × (bytes.items ≡ request)
 
--- The line asks for all of a board, and has this fault: what is named is no board, or has as many stones as the book that is seen has
+-- The request asks for all of a board, and has this fault: what is named is no board, or has as many stones as the book that is seen has
 -- levels, or more; or the publisher is gone.
 abbrev pub IsUnprobed : List Image → List ℕ → ProbeFault → List Image → Type 0
-IsUnprobed known line (Board fault) book = (text : List ℕ) × (line ≡ probing ++ text) × (length line ≤ LONGEST_LINE) × IsFaulty text fault × (book ≡ known)
-IsUnprobed known line (Ask (ask.NotYet levels)) book =
-    (board : List ℕ) × IsBoard board × (line ≡ probing ++ text_of board) × IsSeen known book × (length book ≤ sum board) × (levels ≡ length book)
-IsUnprobed known line (Ask ask.Gone) book = (board : List ℕ) × IsBoard board × (line ≡ probing ++ text_of board) × (book ≡ known)
+IsUnprobed known request (Board fault) book = (text : List ℕ) × (request ≡ probing ++ text) × (length request ≤ LONGEST_REQUEST) × IsFaulty text fault × (book ≡ known)
+IsUnprobed known request (Ask (ask.NotYet levels)) book =
+    (board : List ℕ) × IsBoard board × (request ≡ probing ++ text_of board) × IsSeen known book × (length book ≤ sum board) × (levels ≡ length book)
+IsUnprobed known request (Ask ask.Gone) book = (board : List ℕ) × IsBoard board × (request ≡ probing ++ text_of board) × (book ≡ known)
 
--- The answer to a line, from the book that the reader knows before to the one that it knows then.
+-- The answer to a request, from the book that the reader knows before to the one that it knows then.
 abbrev pub IsAnswerTo : List Image → List ℕ → Answer → List Image → Type 0
 -- it asks for a board, whose entry is that of the book that is seen
-IsAnswerTo known line (Found entry) book =
-    (board : List ℕ) × IsBoard board × (line ≡ asking ++ text_of board) × IsSeen known book × (sum board < length book) × (entry ≡ entry_of book board)
+IsAnswerTo known request (Found entry) book =
+    (board : List ℕ) × IsBoard board × (request ≡ asking ++ text_of board) × IsSeen known book × (sum board < length book) × (entry ≡ entry_of book board)
 -- it asks for the moves of a board, which are weighed by the book that is seen, with the replies if it asks for them
-IsAnswerTo known line (Moves weighed) book =
-    (board : List ℕ) × (replies : Bool) × IsBoard board × (line ≡ weighing replies ++ text_of board) × IsSeen known book × IsWeighed replies book board weighed
+IsAnswerTo known request (Moves weighed) book =
+    (board : List ℕ) × (replies : Bool) × IsBoard board × (request ≡ weighing replies ++ text_of board) × IsSeen known book × IsWeighed replies book board weighed
 -- it asks for all of this board, which is weighed so
-IsAnswerTo known line (Probed board weighed) book = IsBoard board × (line ≡ probing ++ text_of board) × IsSeen known book × IsWeighed false book board weighed
+IsAnswerTo known request (Probed board weighed) book = IsBoard board × (request ≡ probing ++ text_of board) × IsSeen known book × IsWeighed false book board weighed
 -- it asks for that, and has this fault
-IsAnswerTo known line (Unprobed request fault) book = (request.items ≡ line) × IsUnprobed known line fault book
+IsAnswerTo known request (Unprobed bytes fault) book = (bytes.items ≡ request) × IsUnprobed known request fault book
 -- it names a board of as many stones as that book has levels, or more
-IsAnswerTo known line (NotYet levels) book =
-    (board : List ℕ) × IsBoard board × Names line (text_of board) × IsSeen known book × (length book ≤ sum board) × (levels ≡ length book)
+IsAnswerTo known request (NotYet levels) book =
+    (board : List ℕ) × IsBoard board × Names request (text_of board) × IsSeen known book × (length book ≤ sum board) × (levels ≡ length book)
 -- it names a board, and the publisher is gone
-IsAnswerTo known line Gone book = (board : List ℕ) × IsBoard board × Names line (text_of board) × (book ≡ known)
+IsAnswerTo known request Gone book = (board : List ℕ) × IsBoard board × Names request (text_of board) × (book ≡ known)
 -- it names what is no board
-IsAnswerTo known line (Refused fault) book =
-    (text : List ℕ) × Names line text × (length line ≤ LONGEST_LINE) × IsFaulty text fault × (book ≡ known)
+IsAnswerTo known request (Refused fault) book =
+    (text : List ℕ) × Names request text × (length request ≤ LONGEST_REQUEST) × IsFaulty text fault × (book ≡ known)
 -- it asks how many levels the reader knows
-IsAnswerTo known line (Seen levels) book = (line ≡ codes "seen") × (levels ≡ length known) × (book ≡ known)
+IsAnswerTo known request (Seen levels) book = (request ≡ codes "seen") × (levels ≡ length known) × (book ≡ known)
 -- it ends the service
-IsAnswerTo known line Bye book = (line ≡ codes "quit") × (book ≡ known)
+IsAnswerTo known request Bye book = (request ≡ codes "quit") × (book ≡ known)
 -- it is anything else
-IsAnswerTo known line What book = ((LONGEST_LINE < length line) ⊎ IsNoRequest line) × (book ≡ known)
+IsAnswerTo known request What book = ((LONGEST_REQUEST < length request) ⊎ IsNoRequest request) × (book ≡ known)
 
 -- no byte is a line feed
 abbrev pub IsOneLine : List ℕ → Type 0
-IsOneLine line = All (λ b. b ≢ 10) line
+IsOneLine request = All (λ b. b ≢ 10) request
 
--- Lines, each ended by its line feed, and their answers in order; none of them ends the service. What the reader knows goes
+-- Requests, each ended by its line feed, and their answers in order; none of them ends the service. What the reader knows goes
 -- from the first book to the last.
 pub data Answered : List Image → List ℕ → List ℕ → List Image → Type 0 where
   none : (book : List Image) → Answered book [] [] book
-  more : (first known book : List Image) (input output line : List ℕ) (answer : Answer) → Answered first input output known
-      → IsOneLine line → IsAnswerTo known line answer book → answer ≢ Bye
-      → Answered first (input ++ (line ++ 10 ∷ [])) (output ++ answer_text answer) book
+  more : (first known book : List Image) (input output request : List ℕ) (answer : Answer) → Answered first input output known
+      → IsOneLine request → IsAnswerTo known request answer book → answer ≢ Bye
+      → Answered first (input ++ (request ++ 10 ∷ [])) (output ++ answer_text answer) book
 
 -- The output for an input.
 pub data Served : List Image → List ℕ → List ℕ → List Image → Type 0 where
-  -- the input ends behind a line
+  -- the input ends behind a request
   ended : (first last : List Image) (input output : List ℕ) → Answered first input output last → Served first input output last
-  -- the last line has no line feed
-  unended : (first known last : List Image) (input output line : List ℕ) (answer : Answer) → Answered first input output known
-      → IsOneLine line → line ≢ [] → IsAnswerTo known line answer last
-      → Served first (input ++ line) (output ++ answer_text answer) last
-  -- a line ends the service, and nothing behind it is answered
-  quits : (first known last : List Image) (input output line rest : List ℕ) → Answered first input output known
-      → IsOneLine line → IsAnswerTo known line Bye last
-      → Served first (input ++ (line ++ 10 ∷ rest)) (output ++ answer_text Bye) last
+  -- the last request has no line feed
+  unended : (first known last : List Image) (input output request : List ℕ) (answer : Answer) → Answered first input output known
+      → IsOneLine request → request ≢ [] → IsAnswerTo known request answer last
+      → Served first (input ++ request) (output ++ answer_text answer) last
+  -- a request ends the service, and nothing behind it is answered
+  quits : (first known last : List Image) (input output request rest : List ℕ) → Answered first input output known
+      → IsOneLine request → IsAnswerTo known request Bye last
+      → Served first (input ++ (request ++ 10 ∷ rest)) (output ++ answer_text Bye) last
 
 -- an input that is known to be this one, where it is known
 abbrev pub IsInput : Option (List ℕ) → List ℕ → Type 0
@@ -134,7 +134,7 @@ abbrev pub HasServed : List Image → Option (List ℕ) → List ℕ → Option 
 HasServed first before input after last = (output : List ℕ) × Served first input output last × Appends before after output
 
 -- It took the output for a front of the input, of this many bytes at most. Nothing stands behind that front, or the output is
--- the same whatever stands there, as it is where a line of the front ends the service.
+-- the same whatever stands there, as it is where a request of the front ends the service.
 abbrev pub HasServedWithin : ℕ → List Image → Option (List ℕ) → Option (List ℕ) → Option (List ℕ) → List Image → Type 0
 HasServedWithin most first before input after last = (front behind : List ℕ) × IsInput input (front ++ behind) × (length front ≤ most)
     × (((behind ≡ []) × HasServed first before front after last) ⊎ ((rest : List ℕ) → HasServed first before (front ++ rest) after last))

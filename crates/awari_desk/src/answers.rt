@@ -1,4 +1,4 @@
-//! What a line of the service is answered by.
+//! What a request of the service is answered by.
 
 ghost use Rattle.std.specs.Prelude.{◌≡◌, ◌≤◌, ◌++◌, ◌∷◌, [], codes, length};
 ghost use Rattle.std.specs.Fmt.{decimal};
@@ -7,13 +7,13 @@ ghost use Rattle.awari_desk.specs.Service.{answer_text};
 ghost use Rattle.awari_play.specs.Worths.{weighed_text};
 
 use crate::faults::ProbeFault;
-use crate::lines::LONGEST_LINE;
+use crate::requests::LONGEST_REQUEST;
 use arrayvec::ArrayVec;
 use awari_board::{Board, BoardFault};
 use awari_play::{AnswerText, Weighed, refusal_json, text_of_line, weighed_json};
 use awari_table::{Entry, TextLine, line_of_entry, push_number, push_text};
 
-/// The answer to one line.
+/// The answer to one request.
 #[derive(Debug, PartialEq, Eq, Drop)]
 pub enum Answer {
     /// The entry of the board, in the book that was seen.
@@ -29,9 +29,9 @@ pub enum Answer {
         board: Board,
         weighed: Weighed,
     },
-    /// The line that asked for that, and why it has no such answer.
+    /// The request that asked for that, and why it has no such answer.
     Unprobed {
-        request: ArrayVec<u8, LONGEST_LINE>,
+        request: ArrayVec<u8, LONGEST_REQUEST>,
         fault: ProbeFault,
     },
     /// The book that was seen has only the levels below `levels`.
@@ -50,7 +50,7 @@ pub enum Answer {
     },
     /// The service ends.
     Bye,
-    /// The line asks for nothing.
+    /// The request asks for nothing.
     What,
 }
 

@@ -5,17 +5,17 @@ ghost use Rattle.awari_table.specs.declared.images.Image.{Image};
 ghost use Rattle.awari_desk.specs.Books.{BeginsWith};
 ghost use Rattle.awari_desk.specs.Service.{Answered, Served};
 ghost use Rattle.awari_desk.specs.declared.desks.TheConstants.{MOST_READERS};
-ghost use Rattle.awari_desk.specs.declared.lines.TheConstants.{LONGEST_LINE};
+ghost use Rattle.awari_desk.specs.declared.requests.TheConstants.{LONGEST_REQUEST};
 ghost use Rattle.awari_desk.specs.declared.services.TheConstants.{LONGEST_INPUT};
 
 /// What a reader knows only grows while it is served: each book begins with those before it.
 pub fn services_only_grow()
-    ensures lines { (first last : List Image) (input output : List ℕ) → Answered first input output last → BeginsWith last first }
+    ensures requests { (first last : List Image) (input output : List ℕ) → Answered first input output last → BeginsWith last first }
     ensures served { (first last : List Image) (input output : List ℕ) → Served first input output last → BeginsWith last first }
 {}
 
-/// A desk has at most 8 readers. A line that asks for something has at most 200 bytes, and a service
+/// A desk has at most 8 readers. A request that asks for something has at most 200 bytes, and a service
 /// takes at most 100,000,000.
 pub fn services_have_limits()
-    ensures { (MOST_READERS ≡ 8) × (LONGEST_LINE ≡ 200) × (LONGEST_INPUT ≡ 100_000_000) }
+    ensures { (MOST_READERS ≡ 8) × (LONGEST_REQUEST ≡ 200) × (LONGEST_INPUT ≡ 100_000_000) }
 {}

@@ -3,7 +3,7 @@
 //! [`desk`] makes the publisher and its readers. A reader sees every level up to the last one that it
 //! saw or was told of, and maybe more. To tell readers of what is published, pass them what
 //! `Pages::tell` gives, for [`Reader::learn`]. [`Reader::ask`] and [`Reader::moves`] look a board up
-//! and wait for nobody. [`serve`] answers the lines of a stream.
+//! and wait for nobody. [`serve`] answers the requests of a stream.
 //!
 //! A publisher's next level, built and published, in `crates/awari_cli_tests/src/services.rt`:
 //!
@@ -23,12 +23,12 @@ mod books;
 mod desks;
 mod faults;
 mod laws;
-mod lines;
 mod looks;
 mod pages;
 mod publishers;
 mod publishing;
 mod readers;
+mod requests;
 mod services;
 
 pub use answers::Answer;
@@ -37,8 +37,8 @@ pub use books::{Book, Growing};
 pub use desks::{MOST_READERS, desk};
 pub use faults::{AskFault, DeskFault, ProbeFault, ServeFault};
 pub use laws::{services_have_limits, services_only_grow};
-pub use lines::LONGEST_LINE;
 pub use pages::Pages;
 pub use publishers::Publisher;
 pub use readers::{Reader, Told};
+pub use requests::LONGEST_REQUEST;
 pub use services::{LONGEST_INPUT, serve};

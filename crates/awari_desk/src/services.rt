@@ -1,4 +1,4 @@
-//! The service: lines in, and an answer to each out.
+//! The service: requests in, and an answer to each out.
 
 ghost use Rattle.std.specs.Prelude.{◌≡◌, ◌<◌, ◌+◌, ◌++◌, ◌∷◌, [], ℕ, List, Option, length, true, false, Err, IfSome, OnOk, OnErr};
 ghost use Rattle.std.specs.Io.KnownBytes.{Appends};
@@ -10,8 +10,8 @@ ghost use Rattle.awari_desk.specs.declared.faults.ServeFault.TheVariants as serv
 
 use crate::answers::Answer;
 use crate::faults::ServeFault;
-use crate::lines::Coming;
 use crate::readers::Reader;
+use crate::requests::Coming;
 use awari_table::Counted;
 use std::io::{Read, Write};
 
@@ -55,14 +55,14 @@ fn send<W: Write>(output: &mut Counted<W>, bytes: &[u8]) -> Result<(), ServeFaul
     }
 }
 
-/// Answers the line that has come in, and says whether it ends the service.
+/// Answers the request that has come in, and says whether it ends the service.
 fn respond<W: Write>(
     reader: &mut Reader,
     coming: &Coming,
     output: &mut Counted<W>,
 ) -> Result<bool, ServeFault>
-    ensures responds { (line : List ℕ) → Holds coming.now line
-        → Responds reader.old line result reader.new (W.contents (inner_of output.old)) (W.contents (inner_of output.new)) }
+    ensures responds { (request : List ℕ) → Holds coming.now request
+        → Responds reader.old request result reader.new (W.contents (inner_of output.old)) (W.contents (inner_of output.new)) }
     ensures clean { OnOk result (faults_of output.new ≡ faults_of output.old) }
     ensures fault { OnErr result ((result ≡ Err serve_fault.Write) × Grew (faults_of output.old) (faults_of output.new)) }
 {
@@ -114,7 +114,7 @@ fn feed<W: Write>(
     Ok(false)
 }
 
-/// Answers a last line that has no line feed, if there is one.
+/// Answers a last request that has no line feed, if there is one.
 fn finish<W: Write>(
     reader: &mut Reader,
     coming: &Coming,
@@ -133,7 +133,7 @@ fn finish<W: Write>(
     Ok(())
 }
 
-/// Asks the reader once for bytes, of which `left` more may come, and answers each line that ends in
+/// Asks the reader once for bytes, of which `left` more may come, and answers each request that ends in
 /// them. Gives how many more may come then, or none if the service has ended.
 fn take_some<R: Read, W: Write>(
     reader: &mut Reader,
@@ -172,8 +172,8 @@ fn take_some<R: Read, W: Write>(
     Err(ServeFault::TooLong)
 }
 
-/// Answers the lines of the input, in order, until one says `quit` or the input ends. It answers each
-/// complete line before it calls the reader again. It never waits for the publisher, and takes no
+/// Answers the requests of the input, in order, until one says `quit` or the input ends. It answers each
+/// complete request before it calls the reader again. It never waits for the publisher, and takes no
 /// memory.
 ///
 /// After a refusal it reads and writes nothing more:
@@ -195,7 +195,7 @@ pub fn serve<R: Read, W: Write>(
         × HasBegun reader.old (W.contents (inner_of output.old)) bytes (W.contents (inner_of output.new)) reader.new) }
 
     // Either goes by no more than the first `LONGEST_INPUT` bytes. Ok comes only if the input has no
-    // more, or a line within them says `quit`. Before a refusal nothing behind them is answered.
+    // more, or a request within them says `quit`. Before a refusal nothing behind them is answered.
     ensures served_within { OnOk result (HasServedWithin LONGEST_INPUT reader.old (W.contents (inner_of output.old)) (R.remaining (inner_of input.old)) (W.contents (inner_of output.new)) reader.new) }
     ensures begun_within { OnErr result (HasBegunWithin LONGEST_INPUT reader.old (W.contents (inner_of output.old)) (R.remaining (inner_of input.old)) (W.contents (inner_of output.new)) reader.new) }
 
