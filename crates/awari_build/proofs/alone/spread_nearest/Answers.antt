@@ -1,4 +1,4 @@
-use Rattle.std.proofs.Common.{ℕ, ℤ, List, Ok, inl, inr, ap, sym, subst, ◌∙◌, arith}
+use Rattle.std.proofs.Common.{ℕ, ℤ, List, length, Ok, inl, inr, ap, sym, subst, ◌∙◌, arith}
 use Rattle.awari_block.specs.Part.{Part, HasFarthest}
 use Rattle.awari_owner.specs.Scan.{IsWhole}
 use Rattle.awari_owner.proofs.SpreadFaults.{fault_due}
@@ -15,7 +15,7 @@ unreachable-requires-in-Err c =
     let (value, sound) = known in
     let low = c.requires.low in
     let fits = whole_fits value c.args.part.now c.distances_fit.ensures.settled (omega (arith, low)) c.requires.whole sound in
-    elim (fault_due _ _ _ c.in-Err.ensures.fault).1 [
+    elim (fault_due c.if-wave-dist.part (length c.args.outboxes.now.queues) c.in-Err.field-0 c.in-Err.ensures.fault).1 [
       | inl far ↦
           let farthest : HasFarthest c.args.part.now = elim c.if-wave-dist.branch [
             | then-wave-dist w ↦ subst (λ (p : Part). HasFarthest p) (w.part-is ∙ w.open_wave.ensures.wave) far
