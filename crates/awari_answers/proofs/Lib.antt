@@ -3,4 +3,5 @@ pub mod FolderLaws
 pub mod TextLaws
 pub mod PrintLaws
 pub mod LevelLineLaws
+pub mod LineJsonLaws
 pub mod PlyLines

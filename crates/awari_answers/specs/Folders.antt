@@ -3,6 +3,7 @@ use Rattle.std.specs.Prelude.{◌≡◌, ℕ, ◌+◌, ◌/◌, ◌%◌, ◌<◌
 use Rattle.std.specs.Fmt.{decimal}
 use Rattle.std.specs.List.{flat_map}
 use Rattle.std.specs.Io.KnownBytes.{Appends}
+use Rattle.awari_play.specs.Json.{entry_json}
 use Rattle.awari_table.specs.Images.{entry_of}
 use Rattle.awari_table.specs.Spelling.{entry_line}
 use Rattle.awari_table.specs.Shelves.{IsShelf}
@@ -39,10 +40,14 @@ abbrev pub PrintsFolder : (ℕ → Option (Option (List ℕ))) → Option (List 
 PrintsFolder stands before after = (images : List Image) × (summary : Summary) × IsShelf images × (summary.levels ≡ length images)
     × IsStoredIn stands images summary.digest × Appends before after (right_lines images ++ (summary_text summary ++ 10 ∷ []))
 
--- what the levels in the folder say of the board that the text spells
-abbrev pub IsEntryOf : (ℕ → Option (Option (List ℕ))) → List ℕ → Entry → Type 0
-IsEntryOf stands text e = (images : List Image) × (board : List ℕ) × IsAsked stands text images board × (sum board < length images) × (e ≡ entry_of images board)
+-- what the levels in the folder say of this board, which the text spells
+abbrev pub IsEntryOf : (ℕ → Option (Option (List ℕ))) → List ℕ → List ℕ → Entry → Type 0
+IsEntryOf stands text board e = (images : List Image) × IsAsked stands text images board × (sum board < length images) × (e ≡ entry_of images board)
 
 -- Where it is known what the writer holds, what was written is the line of such an entry.
 abbrev pub PrintsEntry : (ℕ → Option (Option (List ℕ))) → List ℕ → Option (List ℕ) → Option (List ℕ) → Type 0
-PrintsEntry stands text before after = (e : Entry) × IsEntryOf stands text e × Appends before after (entry_line e)
+PrintsEntry stands text before after = (board : List ℕ) × (e : Entry) × IsEntryOf stands text board e × Appends before after (entry_line e)
+
+-- The same as JSON, with the board.
+abbrev pub PrintsEntryJson : (ℕ → Option (Option (List ℕ))) → List ℕ → Option (List ℕ) → Option (List ℕ) → Type 0
+PrintsEntryJson stands text before after = (board : List ℕ) × (e : Entry) × IsEntryOf stands text board e × Appends before after (entry_json board e)

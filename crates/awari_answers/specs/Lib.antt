@@ -1,4 +1,5 @@
 pub mod Asked
+pub mod Refusals
 pub mod Playing
 pub mod Judgement
 pub mod Folders

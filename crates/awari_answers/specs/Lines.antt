@@ -1,9 +1,10 @@
 -- The command `line`: the play in which both sides follow the plans of a folder's levels, or one side holds out; and what is printed of it.
-use Rattle.std.specs.Prelude.{◌≡◌, ℕ, ◌<◌, Bool, true, false, List, ◌++◌, ◌∷◌, [], length, sum, codes, ℤ, Option}
+use Rattle.std.specs.Prelude.{◌≡◌, ℕ, ◌<◌, Bool, true, false, List, ◌++◌, ◌∷◌, [], length, map, sum, codes, ℤ, Option}
 use Rattle.std.specs.Fmt.{decimal, signed_decimal}
 use Rattle.std.specs.List.{flat_map}
 use Rattle.std.specs.Io.KnownBytes.{Appends}
 use Rattle.awari_play.specs.BestLine.{IsBestLine}
+use Rattle.awari_play.specs.Json.{array, member, object, quoted}
 use Rattle.awari_play.specs.LongestLine.{IsLongestLine}
 use Rattle.awari_table.specs.Images.{entry_of, greatest_limit, table_of}
 use Rattle.awari_table.specs.declared.images.Image.{Image}
@@ -51,7 +52,34 @@ abbrev pub PrintsLongestLine : (ℕ → Option (Option (List ℕ))) → List ℕ
 PrintsLongestLine stands text before after = (value : ℤ) × (dist : ℕ) × (moves : List ℕ) × IsLongestLineOf stands text value dist moves
     × Appends before after (longest_text value dist moves ++ 10 ∷ [])
 
--- the one in which one side holds out, or the one in which both follow the plans
-abbrev pub PrintsLineBy : Bool → (ℕ → Option (Option (List ℕ))) → List ℕ → Option (List ℕ) → Option (List ℕ) → Type 0
-PrintsLineBy true stands text before after = PrintsLongestLine stands text before after
-PrintsLineBy false stands text before after = PrintsLine stands text before after
+-- the same lines as JSON, with the text of the board
+unfoldable pub line_json : List ℕ → ℤ → List ℕ → ℤ → List ℕ
+line_json board value moves outcome = object (member (codes "board") (quoted board) ∷ member (codes "value") (signed_decimal value)
+    ∷ member (codes "moves") (array (map decimal moves)) ∷ member (codes "outcome") (signed_decimal outcome) ∷ [])
+
+unfoldable pub longest_json : List ℕ → ℤ → ℕ → List ℕ → List ℕ
+longest_json board value dist moves = object (member (codes "board") (quoted board) ∷ member (codes "value") (signed_decimal value)
+    ∷ member (codes "distance") (decimal dist) ∷ member (codes "moves") (array (map decimal moves)) ∷ [])
+
+abbrev pub PrintsLineJson : (ℕ → Option (Option (List ℕ))) → List ℕ → Option (List ℕ) → Option (List ℕ) → Type 0
+PrintsLineJson stands text before after = (value : ℤ) × (moves : List ℕ) × (outcome : ℤ) × IsLineOf stands text value moves outcome
+    × Appends before after (line_json text value moves outcome ++ 10 ∷ [])
+
+abbrev pub PrintsLongestJson : (ℕ → Option (Option (List ℕ))) → List ℕ → Option (List ℕ) → Option (List ℕ) → Type 0
+PrintsLongestJson stands text before after = (value : ℤ) × (dist : ℕ) × (moves : List ℕ) × IsLongestLineOf stands text value dist moves
+    × Appends before after (longest_json text value dist moves ++ 10 ∷ [])
+
+-- the line in which one side holds out, or the one in which both follow the plans; as JSON or not
+abbrev pub PrintsLineBy : Bool → Bool → (ℕ → Option (Option (List ℕ))) → List ℕ → Option (List ℕ) → Option (List ℕ) → Type 0
+PrintsLineBy true true stands text before after = PrintsLongestJson stands text before after
+PrintsLineBy true false stands text before after = PrintsLongestLine stands text before after
+PrintsLineBy false true stands text before after = PrintsLineJson stands text before after
+PrintsLineBy false false stands text before after = PrintsLine stands text before after
+
+-- The pits within such an array. Private functions alone go by these: no public contract does.
+abbrev pub later_pits : List ℕ → List ℕ
+later_pits moves = flat_map (λ pit. codes "," ++ decimal pit) moves
+
+abbrev pub pits_text : List ℕ → List ℕ
+pits_text [] = []
+pits_text (pit ∷ moves) = decimal pit ++ later_pits moves

@@ -1,11 +1,12 @@
 //! What the commands have in common that ask the levels in a folder about one board: the board, the
 //! levels, and why there is no answer.
 
-ghost use Rattle.std.specs.Prelude.{◌≡◌, ◌↔◌, Err, IfOk};
+ghost use Rattle.std.specs.Prelude.{◌≡◌, ◌≤◌, ◌↔◌, Err, IfOk, length};
 ghost use Rattle.awari_board.specs.BoardFault.{IsFaulty};
 ghost use Rattle.awari_board.specs.declared.text.BoardFault.{BoardFault};
 ghost use Rattle.awari_folder.specs.Contents.{Same};
 ghost use Rattle.awari_answers.specs.Asked.{IsAsked};
+ghost use Rattle.awari_answers.specs.Refusals.{folder_name_of};
 ghost use Rattle.awari_answers.specs.declared.asked.NoAnswer.TheVariants as no_answer;
 
 use crate::levels::load_levels;
@@ -35,6 +36,57 @@ pub enum NoAnswer {
     NotYet { fault: NotYet },
     /// The levels have no line of play from the board, or there is no room for it.
     Line { fault: LineFault },
+}
+
+impl NoAnswer {
+    ghost use Rattle.awari_answers.specs.Refusals.{name_of, number_of};
+
+    /// The number of the fault inside it.
+    pub(crate) fn number(self) -> u8
+        ensures { result ≡ number_of self }
+    {
+        match self {
+            NoAnswer::Board { fault } => fault.number(),
+            NoAnswer::Folder { fault } => fault.number(),
+            NoAnswer::NotYet { fault } => fault.number(),
+            NoAnswer::Line { fault } => fault.number(),
+        }
+    }
+
+    /// The name of the fault inside it.
+    pub(crate) fn name(self) -> &'static [u8]
+        ensures name { result.now ≡ name_of self }
+        ensures short { length result.now ≤ 20 }
+    {
+        match self {
+            NoAnswer::Board { fault } => match fault {
+                BoardFault::Shape => b"Shape",
+                BoardFault::Number => b"Number",
+                BoardFault::TooMany => b"TooMany",
+            },
+            NoAnswer::Folder { fault } => folder_name_of(fault),
+            NoAnswer::NotYet { .. } => b"NotYet",
+            NoAnswer::Line { fault } => match fault {
+                LineFault::NotYet { .. } => b"NotYet",
+                LineFault::Memory => b"Memory",
+            },
+        }
+    }
+}
+
+fn folder_name_of(fault: FolderFault) -> &'static [u8]
+    ensures name { result.now ≡ folder_name_of fault }
+    ensures short { length result.now ≤ 20 }
+{
+    match fault {
+        FolderFault::Below { .. } => b"Below",
+        FolderFault::File { .. } => b"File",
+        FolderFault::Open { .. } => b"Open",
+        FolderFault::Verify { .. } => b"Verify",
+        FolderFault::Memory => b"Memory",
+        FolderFault::Occupied { .. } => b"Occupied",
+        FolderFault::Old { .. } => b"Old",
+    }
 }
 
 impl From<BoardFault> for NoAnswer {

@@ -6,14 +6,17 @@ ghost use Rattle.awari_board.specs.BoardFault.{IsFaulty};
 ghost use Rattle.awari_board.specs.declared.text.BoardFault.{BoardFault};
 ghost use Rattle.awari_table.specs.Shelves.{IsShelf};
 ghost use Rattle.awari_folder.specs.Contents.{Same};
-ghost use Rattle.awari_answers.specs.Folders.{IsEntryOf, PrintsFolder, PrintsEntry, digest_text, hex_digit, right_lines};
+ghost use Rattle.awari_answers.specs.Folders.{IsEntryOf, PrintsFolder, PrintsEntry, PrintsEntryJson, digest_text, hex_digit, right_lines};
 ghost use Rattle.awari_answers.specs.declared.asked.NoAnswer.TheVariants as no_answer;
 
 use crate::asked::{NoAnswer, ask_folder};
 use crate::hints::tell_folder_fault;
+use crate::json::refuse_json;
 use crate::printing::{print, print_bytes, refuse, status_of};
 use arrayvec::ArrayString;
+use awari_board::Board;
 use awari_folder::{Folder, Together, load};
+use awari_play::entry_json;
 use awari_table::{Entry, HIGHEST_LEVEL, Shelf, line_of_entry};
 use std::alloc::Global;
 use std::fmt;
@@ -82,19 +85,20 @@ fn hex_digit(value: u8) -> char
     })
 }
 
-/// The entry of the board that `text` spells, as the levels in the folder have it.
+/// The board that `text` spells, and its entry, as the levels in the folder have it.
 fn look_up<T: Threads + Sync, F: Folder>(
     rt: &T,
     folder: &mut F,
     alloc: Global,
     text: &[u8],
-) -> Result<Entry, NoAnswer>
-    ensures entry { IfOk result (IsEntryOf (F.state folder.old).stands text.now) }
+) -> Result<(Board, Entry), NoAnswer>
+    ensures entry { IfOk result (λ found. IsEntryOf (F.state folder.old).stands text.now found.0 found.1) }
     ensures same { Same (F.state folder.old).stands (F.state folder.new).stands }
     ensures board { (fault : BoardFault) → (result ≡ Err (no_answer.Board fault)) ↔ IsFaulty text.now fault }
 {
     let asked = ask_folder(rt, folder, alloc, text)?;
-    Ok(asked.shelf.entry(&asked.board)?)
+    let entry = asked.shelf.entry(&asked.board)?;
+    Ok((asked.board, entry))
 }
 
 /// Prints the entry of a board, or the refusal.
@@ -110,8 +114,29 @@ pub fn run_ask<T: Threads + Sync, F: Folder, W: Write>(
     ensures same { Same (F.state folder.old).stands (F.state folder.new).stands }
 {
     match look_up(rt, folder, alloc, board.as_bytes()) {
-        Ok(entry) => status_of(print_bytes(writer, line_of_entry(entry).as_slice())),
+        Ok((_, entry)) => status_of(print_bytes(writer, line_of_entry(entry).as_slice())),
         Err(fault) => refuse(writer, fault),
+    }
+}
+
+/// Prints the board with its entry, or the refusal, as JSON in one line.
+pub fn run_ask_json<T: Threads + Sync, F: Folder, W: Write>(
+    rt: &T,
+    folder: &mut F,
+    alloc: Global,
+    board: &str,
+    writer: &mut W,
+) -> u8
+    ensures status { result ≤ 1 }
+    ensures found { result ≡ 0 → PrintsEntryJson (F.state folder.old).stands board.now (W.contents writer.old) (W.contents writer.new) }
+    ensures same { Same (F.state folder.old).stands (F.state folder.new).stands }
+{
+    match look_up(rt, folder, alloc, board.as_bytes()) {
+        Ok((found, entry)) => {
+            let line = entry_json(&found, entry);
+            status_of(print_bytes(writer, line.as_slice()))
+        }
+        Err(fault) => refuse_json(writer, "ask", board, fault),
     }
 }
 

@@ -18,6 +18,7 @@
 mod asked;
 mod folders;
 mod hints;
+mod json;
 mod judgements;
 mod levels;
 mod lines;
@@ -28,14 +29,16 @@ mod telling;
 mod texts;
 mod worths;
 
-pub use folders::{Summary, run_ask, run_verify};
+pub use asked::NoAnswer;
+pub use folders::{Summary, run_ask, run_ask_json, run_verify};
 pub use hints::tell_answer;
+pub use json::refuse_json;
 pub use judgements::{JudgeFault, Judgement, judge};
 pub use levels::load_levels;
-pub use lines::{run_line, run_longest_line};
+pub use lines::{run_line, run_line_json, run_longest_json, run_longest_line};
 pub use playing::{PlayFault, Played, play_on};
 pub use plies::run_plies;
 pub use printing::{Refused, print, print_bytes, refuse, status_of};
 pub use telling::{LevelLine, line_of_level};
 pub use texts::run_text;
-pub use worths::run_moves;
+pub use worths::{MovesQuery, run_moves, run_moves_json};

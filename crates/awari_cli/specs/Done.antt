@@ -3,7 +3,7 @@ use Rattle.std.specs.Prelude.{ℕ, List, Option, true, false}
 use Rattle.awari_check.specs.Answer.{PrintsYes}
 use Rattle.awari_folder.specs.Contents.{nothing_known}
 use Rattle.awari_cli.specs.Building.{PrintsBuild}
-use Rattle.awari_answers.specs.Folders.{PrintsFolder, PrintsEntry}
+use Rattle.awari_answers.specs.Folders.{PrintsFolder, PrintsEntry, PrintsEntryJson}
 use Rattle.awari_answers.specs.Judgement.{PrintsJudgement}
 use Rattle.awari_answers.specs.Lines.{PrintsLineBy}
 use Rattle.awari_cli.specs.Migrating.{PrintsMigrated}
@@ -15,7 +15,7 @@ use Rattle.awari_questions.specs.Boards.{PrintsAllBoards, PrintsBoards}
 use Rattle.awari_questions.specs.Counts.{PrintsCounts}
 use Rattle.awari_questions.specs.Places.{PrintsBoard, PrintsPlace}
 use Rattle.awari_questions.specs.Plays.{PrintsPlays}
-use Rattle.awari_answers.specs.Worths.{PrintsWorths}
+use Rattle.awari_answers.specs.Worths.{PrintsWorths, PrintsWorthsJson}
 use Rattle.awari_words.specs.declared.requests.Request.{Request}
 use Rattle.awari_words.specs.declared.requests.Request.TheVariants.{Check, Move, Judge, Build, Verify, Text, Migrate, Ask, Moves, Line, Serve, Rank, Board, Plays, Counts, Boards}
 
@@ -32,10 +32,12 @@ PrintsFor (Verify folder) input before after = PrintsFolder nothing_known before
 PrintsFor (Text folder level false) input before after = PrintsText nothing_known level before after
 PrintsFor (Text folder level true) input before after = PrintsAllBoards nothing_known level before after
 PrintsFor (Migrate from to) input before after = PrintsMigrated nothing_known nothing_known nothing_known before after
-PrintsFor (Ask folder board) input before after = PrintsEntry nothing_known board.now before after
-PrintsFor (Moves folder board) input before after = PrintsWorths nothing_known board.now before after
-PrintsFor (Line folder board longest false) input before after = PrintsLineBy longest nothing_known board.now before after
-PrintsFor (Line folder board longest true) input before after = PrintsPlies nothing_known longest board.now before after
+PrintsFor (Ask folder board false) input before after = PrintsEntry nothing_known board.now before after
+PrintsFor (Ask folder board true) input before after = PrintsEntryJson nothing_known board.now before after
+PrintsFor (Moves folder board replies false) input before after = PrintsWorths replies nothing_known board.now before after
+PrintsFor (Moves folder board replies true) input before after = PrintsWorthsJson replies nothing_known board.now before after
+PrintsFor (Line folder board longest false json) input before after = PrintsLineBy longest json nothing_known board.now before after
+PrintsFor (Line folder board longest true json) input before after = PrintsPlies nothing_known longest board.now before after
 PrintsFor (Serve folder top owners) input before after = PrintsService nothing_known input before after
 PrintsFor (Rank board) input before after = PrintsPlace board.now before after
 PrintsFor (Board level rank) input before after = PrintsBoard level rank before after

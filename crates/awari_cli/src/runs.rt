@@ -18,8 +18,9 @@ use crate::migrating::run_migrate;
 use crate::progress::ProgressLines;
 use crate::serving::run_serve;
 use awari_answers::{
-    Played, judge, play_on, print, refuse, run_ask, run_line, run_longest_line, run_moves,
-    run_plies, run_text, run_verify, status_of, tell_answer,
+    MovesQuery, Played, judge, play_on, print, refuse, run_ask, run_ask_json, run_line,
+    run_line_json, run_longest_json, run_longest_line, run_moves, run_moves_json, run_plies,
+    run_text, run_verify, status_of, tell_answer,
 };
 use awari_build::Pace;
 use awari_check::check_input;
@@ -141,19 +142,48 @@ fn run_request<
             let mut to = host_folder(rt, alloc, to);
             run_migrate(alloc, &mut from, &mut to, writer)
         }
-        Request::Ask { folder, board } => {
+        Request::Ask {
+            folder,
+            board,
+            json: false,
+        } => {
             let mut folder = folder_to_read(rt, alloc, folder, errors);
             run_ask(rt, &mut folder, alloc, board, writer)
         }
-        Request::Moves { folder, board } => {
+        Request::Ask {
+            folder,
+            board,
+            json: true,
+        } => {
             let mut folder = folder_to_read(rt, alloc, folder, errors);
-            run_moves(rt, &mut folder, alloc, board, writer)
+            run_ask_json(rt, &mut folder, alloc, board, writer)
+        }
+        Request::Moves {
+            folder,
+            board,
+            replies,
+            json: false,
+        } => {
+            let mut folder = folder_to_read(rt, alloc, folder, errors);
+            let query = MovesQuery { board, replies };
+            run_moves(rt, &mut folder, alloc, query, writer)
+        }
+        Request::Moves {
+            folder,
+            board,
+            replies,
+            json: true,
+        } => {
+            let mut folder = folder_to_read(rt, alloc, folder, errors);
+            let query = MovesQuery { board, replies };
+            run_moves_json(rt, &mut folder, alloc, query, writer)
         }
         Request::Line {
             folder,
             board,
             longest: false,
             plies: false,
+            json: false,
         } => {
             let mut folder = folder_to_read(rt, alloc, folder, errors);
             run_line(rt, &mut folder, alloc, board, writer)
@@ -161,8 +191,19 @@ fn run_request<
         Request::Line {
             folder,
             board,
+            longest: false,
+            plies: false,
+            json: true,
+        } => {
+            let mut folder = folder_to_read(rt, alloc, folder, errors);
+            run_line_json(rt, &mut folder, alloc, board, writer)
+        }
+        Request::Line {
+            folder,
+            board,
             longest: true,
             plies: false,
+            json: false,
         } => {
             let mut folder = folder_to_read(rt, alloc, folder, errors);
             run_longest_line(rt, &mut folder, alloc, board, writer)
@@ -170,8 +211,19 @@ fn run_request<
         Request::Line {
             folder,
             board,
+            longest: true,
+            plies: false,
+            json: true,
+        } => {
+            let mut folder = folder_to_read(rt, alloc, folder, errors);
+            run_longest_json(rt, &mut folder, alloc, board, writer)
+        }
+        Request::Line {
+            folder,
+            board,
             longest,
             plies: true,
+            ..
         } => {
             let mut folder = folder_to_read(rt, alloc, folder, errors);
             run_plies(rt, &mut folder, alloc, board, longest, writer)

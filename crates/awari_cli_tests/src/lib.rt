@@ -18,6 +18,7 @@ mod expect;
 #[cfg(test)]
 mod files;
 #[cfg(test)]
+mod json;
 mod levels;
 #[cfg(test)]
 mod migrations;

@@ -4,8 +4,8 @@
 
 use awari_build::Pace;
 use awari_cli::{
-    Builder, ProgressLines, run_ask, run_build_in, run_line, run_moves, run_serve, run_text,
-    run_verify,
+    Builder, MovesQuery, ProgressLines, run_ask, run_build_in, run_line, run_moves, run_serve,
+    run_text, run_verify,
 };
 use awari_file_tests::MemoryFolder;
 use awari_phase::{Progress, Silent};
@@ -119,7 +119,11 @@ pub(crate) fn weighed(
     board: &str,
     output: &mut impl Write,
 ) -> u8 {
-    run_moves(rt, folder, rt.alloc(), board, output)
+    let query = MovesQuery {
+        board,
+        replies: false,
+    };
+    run_moves(rt, folder, rt.alloc(), query, output)
 }
 
 /// Prints the text of the levels of the folder, and gives the status.

@@ -11,7 +11,7 @@ unfolding clap_on_literals
 check_row = refl
 
 pub ask_row : named (codes "awari" ∷ codes "ask" ∷ codes "levels" ∷ codes "0/1" ∷ [])
-    ≡ Some (codes "ask", (codes "FOLDER", codes "levels" ∷ []) ∷ (codes "BOARD", codes "0/1" ∷ []) ∷ [])
+    ≡ Some (codes "ask", (codes "FOLDER", codes "levels" ∷ []) ∷ (codes "BOARD", codes "0/1" ∷ []) ∷ (codes "json", codes "false" ∷ []) ∷ [])
 unfolding clap_on_literals
 ask_row = refl
 

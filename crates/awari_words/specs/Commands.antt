@@ -84,12 +84,22 @@ text_command = command (codes "text") (folder ∷ level ∷ flag (codes "boards"
 abbrev pub migrate_command : Shape
 migrate_command = command (codes "migrate") (folder_word (codes "FROM") ∷ folder_word (codes "TO") ∷ [])
 
--- commands that answer of one board
-abbrev pub look_up_command : List ℕ → Shape
-look_up_command name = command name (folder ∷ board ∷ [])
+-- the answer is JSON
+abbrev pub json : Rule
+json = flag (codes "json")
+
+-- a command that answers of one board
+abbrev pub look_up_command : List ℕ → List Rule → Shape
+look_up_command name options = command name (folder ∷ board ∷ options)
+
+abbrev pub ask_command : Shape
+ask_command = look_up_command (codes "ask") (json ∷ [])
+
+abbrev pub moves_command : Shape
+moves_command = look_up_command (codes "moves") (flag (codes "replies") ∷ json ∷ [])
 
 abbrev pub line_command : Shape
-line_command = command (codes "line") (folder ∷ board ∷ flag (codes "longest") ∷ flag (codes "plies") ∷ [])
+line_command = look_up_command (codes "line") (flag (codes "longest") ∷ flag (codes "plies") ∷ json ∷ [])
 
 abbrev pub serve_command : Shape
 serve_command = command (codes "serve") (folder ∷ top ∷ number (codes "OWNERS") (Unsigned 0 16) ∷ [])
@@ -124,7 +134,7 @@ play_commands = check_command ∷ move_command ∷ judge_command ∷ []
 -- the commands that work on a folder, or may
 abbrev pub folder_commands : List Shape
 folder_commands = build_command ∷ verify_command ∷ text_command ∷ migrate_command
-    ∷ look_up_command (codes "ask") ∷ look_up_command (codes "moves") ∷ line_command ∷ serve_command ∷ []
+    ∷ ask_command ∷ moves_command ∷ line_command ∷ serve_command ∷ []
 
 -- the commands that answer what analysts ask
 abbrev pub question_commands : List Shape

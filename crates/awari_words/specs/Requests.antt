@@ -57,10 +57,11 @@ IsRequestOf name given (Build top folder threads pace progress) = (name ≡ code
 IsRequestOf name given (Verify folder) = (name ≡ codes "verify") × Gives given (codes "FOLDER") folder.now
 IsRequestOf name given (Text folder level boards) = (name ≡ codes "text") × Gives given (codes "FOLDER") folder.now × SpellsOr given (codes "LEVEL") level × IsFlagOf given (codes "boards") boards
 IsRequestOf name given (Migrate from to) = (name ≡ codes "migrate") × Gives given (codes "FROM") from.now × Gives given (codes "TO") to.now
-IsRequestOf name given (Ask folder board) = (name ≡ codes "ask") × Gives given (codes "FOLDER") folder.now × Gives given (codes "BOARD") board.now
-IsRequestOf name given (Moves folder board) = (name ≡ codes "moves") × Gives given (codes "FOLDER") folder.now × Gives given (codes "BOARD") board.now
-IsRequestOf name given (Line folder board longest plies) = (name ≡ codes "line") × Gives given (codes "FOLDER") folder.now × Gives given (codes "BOARD") board.now
-    × IsFlagOf given (codes "longest") longest × IsFlagOf given (codes "plies") plies
+IsRequestOf name given (Ask folder board json) = (name ≡ codes "ask") × Gives given (codes "FOLDER") folder.now × Gives given (codes "BOARD") board.now × IsFlagOf given (codes "json") json
+IsRequestOf name given (Moves folder board replies json) = (name ≡ codes "moves") × Gives given (codes "FOLDER") folder.now × Gives given (codes "BOARD") board.now
+    × IsFlagOf given (codes "replies") replies × IsFlagOf given (codes "json") json
+IsRequestOf name given (Line folder board longest plies json) = (name ≡ codes "line") × Gives given (codes "FOLDER") folder.now × Gives given (codes "BOARD") board.now
+    × IsFlagOf given (codes "longest") longest × IsFlagOf given (codes "plies") plies × IsFlagOf given (codes "json") json
 IsRequestOf name given (Serve folder top owners) = (name ≡ codes "serve") × Gives given (codes "FOLDER") folder.now × Spells given (codes "TOP") top × Spells given (codes "OWNERS") owners
 IsRequestOf name given (Rank board) = (name ≡ codes "rank") × Gives given (codes "BOARD") board.now
 IsRequestOf name given (Board level rank) = (name ≡ codes "board") × Spells given (codes "LEVEL") level × Spells given (codes "RANK") rank

@@ -5,6 +5,7 @@ ghost use Rattle.clap.specs.Simple.{App, Shape, new_rule, with_rule, with_subcom
 ghost use Rattle.clap.specs.Walk.{Rule};
 ghost use Rattle.clap.specs.declared.builder.value_parser.ValueParser.TheVariants.{NonEmptyString, Signed, Unsigned};
 ghost use Rattle.awari_words.specs.Commands.{
+  ask_command,
   awari,
   awari_commands,
   board,
@@ -19,13 +20,14 @@ ghost use Rattle.awari_words.specs.Commands.{
   folder_commands,
   folder_option,
   folder_word,
+  json,
   judge_command,
   level,
   levels,
   line_command,
-  look_up_command,
   migrate_command,
   move_command,
+  moves_command,
   number,
   number_option,
   option,
@@ -395,7 +397,7 @@ fn to<'a>(alloc: Global) -> Arg<'a>
 }
 
 fn ask_command<'a>(alloc: Global) -> Result<Command<'a>, AllocError>
-    ensures { MakesCommand result (look_up_command (codes "ask")) }
+    ensures { MakesCommand result ask_command }
 {
     let command = new_command(
         alloc,
@@ -403,11 +405,12 @@ fn ask_command<'a>(alloc: Global) -> Result<Command<'a>, AllocError>
         "Looks a board up in the levels of a folder",
         ASK_HELP,
     );
-    with_board(alloc, command)
+    let command = with_board(alloc, command);
+    with_word(command, json(alloc))
 }
 
 fn moves_command<'a>(alloc: Global) -> Result<Command<'a>, AllocError>
-    ensures { MakesCommand result (look_up_command (codes "moves")) }
+    ensures { MakesCommand result moves_command }
 {
     let command = new_command(
         alloc,
@@ -415,7 +418,27 @@ fn moves_command<'a>(alloc: Global) -> Result<Command<'a>, AllocError>
         "Says what each legal move of a board is worth",
         MOVES_HELP,
     );
-    with_board(alloc, command)
+    let command = with_board(alloc, command);
+    let command = with_word(command, replies(alloc));
+    with_word(command, json(alloc))
+}
+
+fn replies<'a>(alloc: Global) -> Arg<'a>
+    ensures { IsArg result (flag (codes "replies")) }
+{
+    Arg::new(alloc, "replies")
+        .long("replies")
+        .action(ArgAction::SetTrue)
+        .help("Tell of the replies that each move leaves")
+}
+
+fn json<'a>(alloc: Global) -> Arg<'a>
+    ensures { IsArg result json }
+{
+    Arg::new(alloc, "json")
+        .long("json")
+        .action(ArgAction::SetTrue)
+        .help("Print JSON, an object a line")
 }
 
 fn line_command<'a>(alloc: Global) -> Result<Command<'a>, AllocError>
@@ -429,7 +452,8 @@ fn line_command<'a>(alloc: Global) -> Result<Command<'a>, AllocError>
     );
     let command = with_board(alloc, command);
     let command = with_word(command, longest(alloc));
-    with_word(command, each_ply(alloc))
+    let command = with_word(command, each_ply(alloc));
+    with_word(command, json(alloc))
 }
 
 fn longest<'a>(alloc: Global) -> Arg<'a>

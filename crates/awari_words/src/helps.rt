@@ -105,7 +105,9 @@ lists them.";
 pub const ASK_HELP: &str = "\
 It prints `V P D`: the value of the board for its mover, a pit to play (0 to 5,
 or - if the play has ended), and the distance. The levels of the folder are
-verified first, so the answer is right.
+verified first, so the answer is right. With --json it is an object with the
+members board, value, plan and distance; a refusal has request, refused and
+name.
 
 The status is 0, or 1 for a refusal, as `refused 59 NotYet levels M` if the
 folder has only levels 0 to M - 1. docs/FORMATS.md lists them.";
@@ -115,11 +117,11 @@ It prints a line for each pit that the mover may play, the lowest first:
 
     pit P captures C value V distance D
 
-V is what the mover gains by the move: the stones that it captures, C, less the
-value of the board that it leaves. In at most D plies a capture or the end comes
-while the side that V favours follows the plans; D is 0 if V is 0. The line of
-the plan ends in ` plan`. If the play has ended, it prints `ended G`, where G is
-what the mover gains by that. The levels of the folder are verified first.
+V is the stones that the move captures, C, less the value of the board left. In
+at most D plies a capture or the end comes while the side that V favours follows
+the plans. The plan's line ends in ` plan`. If the play has ended, it prints
+`ended G`, what the mover gains by that. With --replies ` replies R keep K`
+follows D: of R legal moves of the board left, K gain what it is worth.
 
 The status is 0, or 1 for a refusal. docs/FORMATS.md lists them.";
 
@@ -134,7 +136,9 @@ length of best play. With --plies each ply has a line, and there is no other:
     ply N pit P captures C running R board B value V distance D
     repeats M    the last, if value 0 comes back to the board after ply M
 
-B is the board then, R the first mover's lead. docs/FORMATS.md lists refusals.";
+B is the board then, R the first mover's lead; a ply has no JSON. Else --json
+prints an object: board, value, distance if --longest, moves, outcome if not.
+docs/FORMATS.md lists refusals.";
 
 pub const SERVE_HELP: &str = "\
 A thread builds the levels above the folder's up to TOP, and saves none. Each
@@ -142,8 +146,8 @@ line of standard input has its answer: examples/ask_many.py asks a million.
 
     ask BOARD      `V P D`, as `awari help ask` says, `not yet M`, or a refusal
     moves BOARD    as `awari help moves` says, and an empty line; or as of `ask`
-    replies BOARD  the same; ` replies R keep K` follows each distance
-    probe BOARD    an object in one line: board, value, plan, distance, moves
+    replies BOARD  the same, with --replies
+    probe BOARD    one line, as `awari moves --json` prints it
     seen           `seen M`: the last answers went by levels 0 to M - 1
     quit           `bye`, and nothing after it is answered; other lines: `what`
 

@@ -19,7 +19,7 @@ pub fn worked_words()
 
     // The values stand under their names, in the order in which they were given.
     ensures ask { named (codes "awari" ∷ codes "ask" ∷ codes "levels" ∷ codes "0/1" ∷ [])
-        ≡ Some (codes "ask", (codes "FOLDER", codes "levels" ∷ []) ∷ (codes "BOARD", codes "0/1" ∷ []) ∷ []) }
+        ≡ Some (codes "ask", (codes "FOLDER", codes "levels" ∷ []) ∷ (codes "BOARD", codes "0/1" ∷ []) ∷ (codes "json", codes "false" ∷ []) ∷ []) }
 
     // An option may stand before the words, and each that isn't given has its default.
     ensures build { named (codes "awari" ∷ codes "build" ∷ codes "--owners" ∷ codes "4" ∷ codes "12" ∷ [])

@@ -65,23 +65,27 @@ pub enum Request<'a> {
         from: &'a str,
         to: &'a str,
     },
-    /// `ask FOLDER BOARD`: the entry of a board.
+    /// `ask FOLDER BOARD [--json]`: the entry of a board.
     Ask {
         folder: &'a str,
         board: &'a str,
+        json: bool,
     },
-    /// `moves FOLDER BOARD`: what each legal move of a board is worth.
+    /// `moves FOLDER BOARD [--replies] [--json]`: what each legal move of a board is worth.
     Moves {
         folder: &'a str,
         board: &'a str,
+        replies: bool,
+        json: bool,
     },
-    /// `line FOLDER BOARD [--longest] [--plies]`: the play from a board in which both sides follow the
-    /// plans, or one side holds out.
+    /// `line FOLDER BOARD [--longest] [--plies] [--json]`: the play from a board in which both sides
+    /// follow the plans, or one side holds out.
     Line {
         folder: &'a str,
         board: &'a str,
         longest: bool,
         plies: bool,
+        json: bool,
     },
     /// `serve FOLDER TOP OWNERS`: the answers to lines, while levels are built.
     Serve {
@@ -242,6 +246,7 @@ fn ask_request<'a>(given: &ArgMatches<'a>) -> Option<Request<'a>>
     Some(Request::Ask {
         folder: text(given, "FOLDER")?,
         board: text(given, "BOARD")?,
+        json: flag(given, "json"),
     })
 }
 
@@ -252,6 +257,8 @@ fn moves_request<'a>(given: &ArgMatches<'a>) -> Option<Request<'a>>
     Some(Request::Moves {
         folder: text(given, "FOLDER")?,
         board: text(given, "BOARD")?,
+        replies: flag(given, "replies"),
+        json: flag(given, "json"),
     })
 }
 
@@ -264,6 +271,7 @@ fn line_request<'a>(given: &ArgMatches<'a>) -> Option<Request<'a>>
         board: text(given, "BOARD")?,
         longest: flag(given, "longest"),
         plies: flag(given, "plies"),
+        json: flag(given, "json"),
     })
 }
 
