@@ -24,6 +24,7 @@
 #![tactic(auto)]
 
 mod building;
+mod folders;
 mod lasting;
 mod laws;
 mod migrating;

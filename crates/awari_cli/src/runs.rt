@@ -14,6 +14,7 @@ ghost use Rattle.clap.specs.Faults.{fault_of};
 ghost use Rattle.clap.specs.Simple.{subcommand_of};
 
 use crate::building::{Builder, run_build, run_build_in};
+use crate::folders::{folder_to_build, folder_to_read, folder_to_write};
 use crate::migrating::run_migrate;
 use crate::progress::ProgressLines;
 use crate::serving::run_serve;
@@ -34,9 +35,8 @@ use awari_words::{Request, request_of};
 use rayon::current_num_threads;
 use std::alloc::Global;
 use std::convert::AsStr;
-use std::fs::{self, File};
-use std::io::{ErrorKind, Read, Write};
-use std::path::Path;
+use std::fs::File;
+use std::io::{Read, Write};
 use std::rt::Files;
 use std::sync::Wait;
 use std::thread::Threads;
@@ -105,17 +105,16 @@ fn run_request<
             folder,
             threads,
             pace,
-            progress: false,
-        } => run_build_by(rt, alloc, top, folder, threads, pace, &mut Silent, writer),
-        Request::Build {
-            top,
-            folder,
-            threads,
-            pace,
-            progress: true,
+            progress,
         } => {
-            let mut lines = ProgressLines::new(rt, errors);
-            run_build_by(rt, alloc, top, folder, threads, pace, &mut lines, writer)
+            let asked = Build {
+                top,
+                folder,
+                threads,
+                pace,
+                progress,
+            };
+            run_build_asked(rt, alloc, asked, writer, errors)
         }
         Request::Verify { folder } => {
             let mut folder = folder_to_read(rt, alloc, folder, errors);
@@ -139,7 +138,7 @@ fn run_request<
         }
         Request::Migrate { from, to } => {
             let mut from = folder_to_read(rt, alloc, from, errors);
-            let mut to = host_folder(rt, alloc, to);
+            let mut to = folder_to_write(rt, alloc, to, errors);
             run_migrate(alloc, &mut from, &mut to, writer)
         }
         Request::Ask {
@@ -276,55 +275,61 @@ fn threads_of(rt: &impl Threads, asked: Option<u8>) -> usize
     }
 }
 
-/// Builds the levels up to `top`, in this folder if there is one.
+/// What the words of `build` ask for.
+#[derive(Clone, Copy)]
+struct Build<'a> {
+    top: u8,
+    folder: Option<&'a str>,
+    threads: Option<u8>,
+    pace: Pace,
+    progress: bool,
+}
+
+/// Builds the levels that are asked for, in the folder if one is named.
+fn run_build_asked<T: Files<File = File> + Threads + Clock + Wait + Sync, W: Write, E: Write>(
+    rt: &T,
+    alloc: Global,
+    asked: Build<'_>,
+    writer: &mut W,
+    errors: &mut E,
+) -> u8
+    ensures status { result ≤ 1 }
+    ensures built { result ≡ 0 → PrintsBuild asked.entry.folder asked.entry.top (W.contents writer.old) (W.contents writer.new) }
+{
+    let folder = match folder_to_build(rt, alloc, asked.folder, asked.top, errors) {
+        Ok(folder) => folder,
+        Err(fault) => return refuse(writer, fault),
+    };
+    if asked.progress {
+        let mut lines = ProgressLines::new(rt, errors);
+        return run_build_by(rt, alloc, &asked, folder, &mut lines, writer);
+    }
+    run_build_by(rt, alloc, &asked, folder, &mut Silent, writer)
+}
+
+/// Builds the levels that are asked for, in this folder if there is one.
 fn run_build_by<T: Files<File = File> + Threads + Wait + Sync, P: Progress, W: Write>(
     rt: &T,
     alloc: Global,
-    top: u8,
-    folder: Option<&str>,
-    threads: Option<u8>,
-    pace: Pace,
+    asked: &Build<'_>,
+    folder: Option<HostFolder<'_, T>>,
     progress: &mut P,
     writer: &mut W,
 ) -> u8
     ensures status { result ≤ 1 }
-    ensures built { result ≡ 0 → PrintsBuild folder.entry top (W.contents writer.old) (W.contents writer.new) }
+    ensures built { result ≡ 0 → PrintsBuild folder.entry asked.now.top (W.contents writer.old) (W.contents writer.new) }
 {
     let mut builder = Builder {
         rt,
         alloc,
-        threads: threads_of(rt, threads),
-        pace,
+        threads: threads_of(rt, asked.threads),
+        pace: asked.pace,
         progress,
     };
     match folder {
-        None => run_build(&mut builder, top, writer),
-        Some(folder) => {
-            let mut folder = host_folder(rt, alloc, folder);
-            run_build_in(&mut builder, &mut folder, top, writer)
-        }
+        None => run_build(&mut builder, asked.top, writer),
+        Some(mut folder) => run_build_in(&mut builder, &mut folder, asked.top, writer),
     }
-}
-
-/// The folder of this name, to be read. One that is not there counts as a folder without levels, which
-/// the error stream says.
-fn folder_to_read<'a, T: Files, E: Write>(
-    files: &'a T,
-    alloc: Global,
-    folder: &'a str,
-    errors: &mut E,
-) -> HostFolder<'a, T> {
-    let found = fs::metadata(files, Path::new(folder));
-    if matches!(found, Err(error) if error.kind() == ErrorKind::NotFound) {
-        // There is nowhere to say that this could not be written.
-        print(errors, &format_args!("no such folder: {folder}"));
-    }
-    host_folder(files, alloc, folder)
-}
-
-/// The folder of this name.
-fn host_folder<'a, T>(files: &'a T, alloc: Global, folder: &'a str) -> HostFolder<'a, T> {
-    HostFolder::new(files, alloc, Path::new(folder))
 }
 
 /// Prints the answer for what the reader has left. If a board is at fault, `errors` is told which.

@@ -19,8 +19,11 @@ use std::{io, str};
 /// Words of the program, what it prints of them, and its status.
 pub(crate) type Line = (&'static [&'static str], &'static str, u8);
 
-/// A folder that is not there, of which the error stream tells if it is to be read.
+/// A folder that is not there, of which the error stream tells.
 pub(crate) const NOWHERE: &str = "awari_cli_test_nowhere";
+
+/// A folder that has a level above one that is missing, of which the error stream tells.
+pub(crate) const GAP: &str = "awari_cli_test_gap";
 
 /// Runs the program on these words, and compares what it prints and its status.
 pub(crate) fn expect_run(
@@ -54,12 +57,14 @@ pub(crate) fn expect_run(
     );
 }
 
-/// Whether the error stream tells something: with status 2, of a folder that is not there, and of a rule
-/// that `check` or `verify` finds broken.
+/// Whether the error stream tells something: with status 2, of a folder that is not there or has a gap, of
+/// a rule that `check` or `verify` finds broken, and of a build with nothing to do.
 fn is_told(words: &[&str], printed: &str, status: u8) -> bool {
     status == 2
-        || words.get(2) == Some(&NOWHERE)
+        || words.contains(&NOWHERE)
+        || words.contains(&GAP)
         || printed.contains(" rule V") && (words.contains(&"check") || words.contains(&"verify"))
+        || printed.is_empty() && words.contains(&"--folder")
 }
 
 /// What was printed of these words is this text.

@@ -1,6 +1,6 @@
 //! Folders whose files are at fault, put to the command `verify`.
 
-use crate::commands::{Line, expect_lines, expect_run};
+use crate::commands::{GAP, Line, expect_lines, expect_run};
 use crate::levels::{LEVELS_0_TO_1, NO_LEVELS, empty_folder};
 use sha2::{Digest, Sha256};
 use std::alloc::Global;
@@ -141,7 +141,7 @@ const WRONG_FIRST: [Line; 1] = [(
     1,
 )];
 
-const NO_FIRST: [Line; 1] = [(&["awari", "verify", FIRST], NO_LEVELS, 0)];
+const NO_FIRST: [Line; 1] = [(&["awari", "verify", GAP], NO_LEVELS, 0)];
 
 #[test]
 fn another_level_is_not_level_0(rt: HostRuntime) -> Result<(), Fail> {
@@ -151,7 +151,8 @@ fn another_level_is_not_level_0(rt: HostRuntime) -> Result<(), Fail> {
     lay_second_as_first(&rt, first, "awari_cli_test_first/level_01.awdb")?;
     expect_lines(&rt, rt.alloc(), &WRONG_FIRST);
     fs::remove_file(&rt, first)?;
+    fs::rename(&rt, FIRST, GAP)?;
     expect_lines(&rt, rt.alloc(), &NO_FIRST);
-    fs::remove_dir_all(&rt, FIRST)?;
+    fs::remove_dir_all(&rt, GAP)?;
     Ok(())
 }
