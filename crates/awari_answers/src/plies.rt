@@ -5,12 +5,13 @@ ghost use Rattle.std.specs.Io.KnownBytes.{Appends};
 ghost use Rattle.awari_board.specs.BoardFault.{IsFaulty};
 ghost use Rattle.awari_board.specs.declared.text.BoardFault.{BoardFault};
 ghost use Rattle.awari_folder.specs.Contents.{Same};
-ghost use Rattle.awari_play.specs.Plies.{plies_text, ply_lines};
-ghost use Rattle.awari_answers.specs.Plies.{ArePliesOf, PrintsPlies};
+ghost use Rattle.awari_answers.specs.Plies.{ArePliesOf, PrintsPlies, shown_line, shown_plies};
 ghost use Rattle.awari_answers.specs.declared.asked.NoAnswer.TheVariants as no_answer;
 
 use crate::asked::{Asked, NoAnswer, ask_folder};
+use crate::json::refuse_json;
 use crate::printing::{print, refuse, status_of};
+use crate::shown::{ShownPly, ShownRepeat};
 use awari_folder::Folder;
 use awari_play::{LinePlies, Ply, line_plies};
 use std::alloc::Global;
@@ -35,12 +36,12 @@ fn plies_in<T: Threads + Sync, F: Folder>(
     Ok(plies)
 }
 
-/// Prints a line for each ply, and says whether the writer took them.
-fn print_plies<W: Write>(plies: &[Ply], writer: &mut W) -> bool
-    ensures { result ≡ true → Appends (W.contents writer.old) (W.contents writer.new) (ply_lines plies.now) }
+/// Prints each ply, and says whether the writer took them.
+fn print_plies<W: Write>(plies: &[Ply], json: bool, writer: &mut W) -> bool
+    ensures { result ≡ true → Appends (W.contents writer.old) (W.contents writer.new) (shown_plies json plies.now) }
 {
     for ply in plies {
-        if !print(writer, ply) {
+        if !print(writer, &ShownPly { ply: *ply, json }) {
             return false;
         }
     }
@@ -48,34 +49,53 @@ fn print_plies<W: Write>(plies: &[Ply], writer: &mut W) -> bool
 }
 
 /// Prints the plies up to the repeat, or all of them, and says whether the writer took that.
-fn print_line<W: Write>(found: &LinePlies, writer: &mut W) -> bool
+fn print_line<W: Write>(found: &LinePlies, json: bool, writer: &mut W) -> bool
     requires { IfSome found.now.repeat (λ r. r.again ≤ length found.now.plies.items) }
-    ensures { result ≡ true → Appends (W.contents writer.old) (W.contents writer.new) (plies_text found.now.plies.items found.now.repeat) }
+    ensures { result ≡ true → Appends (W.contents writer.old) (W.contents writer.new) (shown_line json found.now.plies.items found.now.repeat) }
 {
     let plies = found.plies.as_slice();
     match found.repeat {
-        None => print_plies(plies, writer),
-        Some(repeat) => print_plies(&plies[..repeat.again], writer) && print(writer, &repeat),
+        None => print_plies(plies, json, writer),
+        Some(repeat) => {
+            print_plies(&plies[..repeat.again], json, writer)
+                && print(writer, &ShownRepeat { repeat, json })
+        }
     }
 }
 
-/// Prints a line for each ply of the line of play from a board: by the plans of both sides, or with one
-/// that holds out. If the board's value is 0, it ends where a board comes again, and says so. Or it
-/// prints the refusal.
+/// What is asked of a line ply by ply, in words.
+#[derive(Clone, Copy)]
+pub struct PliesQuery<'a> {
+    /// The text of the board.
+    pub board: &'a str,
+    /// Whether one side holds out.
+    pub longest: bool,
+    /// Whether the answer is JSON.
+    pub json: bool,
+}
+
+/// Prints a line or a JSON object for each ply of the line of play from a board: by the plans of both
+/// sides, or with one that holds out. If the board's value is 0, it ends where a board comes again, and
+/// says so. Or it prints the refusal.
 pub fn run_plies<T: Threads + Sync, F: Folder, W: Write>(
     rt: &T,
     folder: &mut F,
     alloc: Global,
-    board: &str,
-    longest: bool,
+    query: PliesQuery<'_>,
     writer: &mut W,
 ) -> u8
     ensures status { result ≤ 1 }
     ensures same { Same (F.state folder.old).stands (F.state folder.new).stands }
-    ensures found { result ≡ 0 → PrintsPlies (F.state folder.old).stands longest board.now (W.contents writer.old) (W.contents writer.new) }
+    ensures found { result ≡ 0 → PrintsPlies (F.state folder.old).stands query.entry.longest query.entry.json query.entry.board.now (W.contents writer.old) (W.contents writer.new) }
 {
+    let PliesQuery {
+        board,
+        longest,
+        json,
+    } = query;
     match plies_in(rt, folder, alloc, board.as_bytes(), longest) {
-        Ok(found) => status_of(print_line(&found, writer)),
+        Ok(found) => status_of(print_line(&found, json, writer)),
+        Err(fault) if json => refuse_json(writer, "line", board, fault),
         Err(fault) => refuse(writer, fault),
     }
 }

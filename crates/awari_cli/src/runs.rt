@@ -19,7 +19,7 @@ use crate::migrating::run_migrate;
 use crate::progress::ProgressLines;
 use crate::serving::run_serve;
 use awari_answers::{
-    MovesQuery, Played, judge, play_on, print, refuse, run_ask, run_ask_json, run_line,
+    MovesQuery, Played, PliesQuery, judge, play_on, print, refuse, run_ask, run_ask_json, run_line,
     run_line_json, run_longest_json, run_longest_line, run_moves, run_moves_json, run_plies,
     run_text, run_verify, status_of, tell_answer,
 };
@@ -222,10 +222,15 @@ fn run_request<
             board,
             longest,
             plies: true,
-            ..
+            json,
         } => {
             let mut folder = folder_to_read(rt, alloc, folder, errors);
-            run_plies(rt, &mut folder, alloc, board, longest, writer)
+            let query = PliesQuery {
+                board,
+                longest,
+                json,
+            };
+            run_plies(rt, &mut folder, alloc, query, writer)
         }
         Request::Serve {
             folder,

@@ -69,7 +69,7 @@ const REPLIES: [Line; 6] = [
     ),
 ];
 
-const OBJECTS: [Line; 11] = [
+const OBJECTS: [Line; 13] = [
     (&["awari", "build", "2", "--folder", TOLD], LEVELS_0_TO_2, 0),
     (&["awari", "build", "4", "--folder", TOLD], LEVELS_3_TO_4, 0),
     (
@@ -112,6 +112,47 @@ const OBJECTS: [Line; 11] = [
             "--json",
         ],
         r#"{"board":"1,0,0,0,0,1/0,0,0,0,0,2","value":-2,"distance":4,"moves":[5,0,0,5]}
+"#,
+        0,
+    ),
+    (
+        &[
+            "awari",
+            "line",
+            TOLD,
+            "0,0,0,0,1,1/2,0,0,0,0,0",
+            "--plies",
+            "--json",
+        ],
+        r#"{"ply":1,"pit":4,"captures":0,"running":0,"board":"2,0,0,0,0,0/0,0,0,0,0,2","value":0,"distance":0}
+{"ply":2,"pit":0,"captures":0,"running":0,"board":"0,0,0,0,0,2/0,1,1,0,0,0","value":0,"distance":0}
+{"ply":3,"pit":5,"captures":2,"running":2,"board":"1,0,1,0,0,0/0,0,0,0,0,0","value":2,"distance":0}
+"#,
+        0,
+    ),
+    (
+        &[
+            "awari",
+            "line",
+            TOLD,
+            "0,0,0,2,0,0/0,0,0,0,0,1",
+            "--json",
+            "--plies",
+        ],
+        r#"{"ply":1,"pit":3,"captures":0,"running":0,"board":"0,0,0,0,0,1/0,0,0,0,1,1","value":0,"distance":0}
+{"ply":2,"pit":5,"captures":0,"running":0,"board":"1,0,0,0,1,1/0,0,0,0,0,0","value":0,"distance":0}
+{"ply":3,"pit":5,"captures":0,"running":0,"board":"1,0,0,0,0,0/1,0,0,0,1,0","value":0,"distance":0}
+{"ply":4,"pit":0,"captures":0,"running":0,"board":"1,0,0,0,1,0/0,1,0,0,0,0","value":0,"distance":0}
+{"ply":5,"pit":0,"captures":0,"running":0,"board":"0,1,0,0,0,0/0,1,0,0,1,0","value":0,"distance":0}
+{"ply":6,"pit":1,"captures":0,"running":0,"board":"0,1,0,0,1,0/0,0,1,0,0,0","value":0,"distance":0}
+{"ply":7,"pit":1,"captures":0,"running":0,"board":"0,0,1,0,0,0/0,0,1,0,1,0","value":0,"distance":0}
+{"ply":8,"pit":2,"captures":0,"running":0,"board":"0,0,1,0,1,0/0,0,0,1,0,0","value":0,"distance":0}
+{"ply":9,"pit":2,"captures":0,"running":0,"board":"0,0,0,1,0,0/0,0,0,1,1,0","value":0,"distance":0}
+{"ply":10,"pit":3,"captures":0,"running":0,"board":"0,0,0,1,1,0/0,0,0,0,1,0","value":0,"distance":0}
+{"ply":11,"pit":4,"captures":0,"running":0,"board":"0,0,0,0,1,0/0,0,0,1,0,1","value":0,"distance":0}
+{"ply":12,"pit":4,"captures":0,"running":0,"board":"0,0,0,1,0,1/0,0,0,0,0,1","value":0,"distance":0}
+{"ply":13,"pit":3,"captures":0,"running":0,"board":"0,0,0,0,0,1/0,0,0,0,1,1","value":0,"distance":0}
+{"repeats":1}
 "#,
         0,
     ),

@@ -136,9 +136,9 @@ length of best play. With --plies each ply has a line, and there is no other:
     ply N pit P captures C running R board B value V distance D
     repeats M    the last, if value 0 comes back to the board after ply M
 
-B is the board then, R the first mover's lead; a ply has no JSON. Else --json
-prints an object: board, value, distance if --longest, moves, outcome if not.
-docs/FORMATS.md lists refusals.";
+B is the board then, R the first mover's lead. --json makes an object of each
+ply, and one of a line: board, value, distance if --longest, moves, outcome if
+not. docs/FORMATS.md lists refusals.";
 
 pub const SERVE_HELP: &str = "\
 A thread builds the levels above the folder's up to TOP, and saves none. Each
