@@ -42,6 +42,6 @@ PrintsFor (Serve folder top owners) input before after = PrintsService nothing_k
 PrintsFor (Rank board) input before after = PrintsPlace board.now before after
 PrintsFor (Board level rank) input before after = PrintsBoard level rank before after
 PrintsFor (Plays board plies) input before after = PrintsPlays board.now plies before after
-PrintsFor (Counts folder level) input before after = PrintsCounts nothing_known level before after
+PrintsFor (Counts folder level json) input before after = PrintsCounts json nothing_known level before after
 PrintsFor (Boards folder level value distance farthest every count) input before after =
     PrintsBoards nothing_known (record { level = level; value = value; distance = distance; farthest = farthest; every = every; count = count }) before after

@@ -28,7 +28,8 @@ use awari_check::check_input;
 use awari_folder::HostFolder;
 use awari_phase::{Progress, Silent};
 use awari_questions::{
-    BoardsQuery, run_all_boards, run_board, run_boards, run_counts, run_plays, run_rank,
+    BoardsQuery, CountsQuery, run_all_boards, run_board, run_boards, run_counts, run_plays,
+    run_rank,
 };
 use awari_table::Counted;
 use awari_words::{Request, request_of};
@@ -243,9 +244,14 @@ fn run_request<
         Request::Rank { board } => run_rank(board, writer),
         Request::Board { level, rank } => run_board(level, rank, writer),
         Request::Plays { board, plies } => run_plays(board, plies, writer),
-        Request::Counts { folder, level } => {
+        Request::Counts {
+            folder,
+            level,
+            json,
+        } => {
             let mut folder = folder_to_read(rt, alloc, folder, errors);
-            run_counts(rt, &mut folder, alloc, level, writer)
+            let query = CountsQuery { level, json };
+            run_counts(rt, &mut folder, alloc, query, writer)
         }
         Request::Boards {
             folder,

@@ -1,4 +1,4 @@
-//! What `ask`, `moves` and `line` say with `--json`, and `moves` with `--replies`. The replies are those
+//! What `ask`, `moves`, `line` and `counts` say with `--json`, and `moves` with `--replies`. The replies are those
 //! that the moves of the boards left have.
 
 use crate::commands::Line;
@@ -69,7 +69,7 @@ const REPLIES: [Line; 6] = [
     ),
 ];
 
-const OBJECTS: [Line; 13] = [
+const OBJECTS: [Line; 15] = [
     (&["awari", "build", "2", "--folder", TOLD], LEVELS_0_TO_2, 0),
     (&["awari", "build", "4", "--folder", TOLD], LEVELS_3_TO_4, 0),
     (
@@ -155,6 +155,22 @@ const OBJECTS: [Line; 13] = [
 {"repeats":1}
 "#,
         0,
+    ),
+    (
+        &["awari", "counts", TOLD, "1", "--json"],
+        r#"{"level":1,"boards":12,"won":5,"even":0,"lost":7,"limit":1}
+{"value":-1,"boards":7}
+{"value":1,"boards":5}
+{"distance":0,"boards":11}
+{"distance":1,"boards":1}
+"#,
+        0,
+    ),
+    (
+        &["awari", "counts", TOLD, "9", "--json"],
+        r#"{"request":"counts 9","refused":59,"name":"NotYet"}
+"#,
+        1,
     ),
     (
         &["awari", "line", TOLD, "1", "--json", "--longest"],

@@ -3,4 +3,5 @@ pub mod ChoiceLaws
 pub mod ListingLaws
 pub mod ShareLaws
 pub mod CountLaws
+pub mod CountJsonLaws
 pub mod SpanLaws

@@ -1,12 +1,16 @@
 -- The command `counts`: how many boards of a level have each value and each distance, and what is printed of that.
-use Rattle.std.specs.Prelude.{◌≡◌, ℕ, ◌+◌, ◌==◌, if◌then◌else◌, List, ◌++◌, ◌∷◌, [], count_by, slice_get, codes, ℤ, pos, ◌-ℤ◌, Option, Some, None}
+use Rattle.std.specs.Prelude.{◌≡◌, ℕ, ◌+◌, ◌==◌, if◌then◌else◌, Bool, true, false, List, length, ◌++◌, ◌∷◌, [], count_by, slice_get, codes, ℤ, pos, ◌-ℤ◌, Option, Some, None}
 use Rattle.std.specs.Fmt.{decimal, signed_decimal}
 use Rattle.std.specs.Io.KnownBytes.{Appends}
 use Rattle.std.specs.List.{flat_map, range_with_len}
 use Rattle.std.specs.Ordering.{int_eq}
 use Rattle.awari_answers.specs.Asked.{AreLevelsTo}
-use Rattle.awari_answers.specs.LevelLines.{level_line, level_lines}
+use Rattle.awari_answers.specs.LevelLines.{told_text}
+use Rattle.awari_answers.specs.declared.telling.LevelLine.{LevelLine}
+use Rattle.awari_play.specs.Json.{member, object}
+use Rattle.awari_table.specs.Images.{even_boards, lost_boards, won_boards}
 use Rattle.awari_table.specs.declared.TheConstants.{HIGHEST_LEVEL}
+use Rattle.awari_table.specs.declared.images.Counts.{Counts}
 use Rattle.awari_table.specs.declared.images.Entry.{Entry}
 use Rattle.awari_table.specs.declared.images.Image.{Image}
 use Rattle.awari_questions.specs.Loads.{HasLevel}
@@ -22,25 +26,64 @@ boards_of_distance entries distance = count_by (λ e. e.dist == distance) entrie
 abbrev pub value_at : ℕ → ℤ
 value_at place = pos place -ℤ pos 128
 
--- the line of a name and a number of boards, if there are any
-abbrev pub share_line : List ℕ → ℕ → List ℕ
-share_line name boards = if boards == 0 then [] else name ++ codes " boards " ++ decimal boards ++ 10 ∷ []
+-- how many boards have a value, and a distance: as a line, or as JSON
+unfoldable pub value_json : ℤ → ℕ → List ℕ
+value_json value boards = object (member (codes "value") (signed_decimal value) ∷ member (codes "boards") (decimal boards) ∷ [])
+
+unfoldable pub distance_json : ℕ → ℕ → List ℕ
+distance_json distance boards = object (member (codes "distance") (decimal distance) ∷ member (codes "boards") (decimal boards) ∷ [])
+
+abbrev pub shown_value : Bool → ℤ → ℕ → List ℕ
+shown_value true value boards = value_json value boards
+shown_value false value boards = codes "value " ++ signed_decimal value ++ codes " boards " ++ decimal boards
+
+abbrev pub shown_distance : Bool → ℕ → ℕ → List ℕ
+shown_distance true distance boards = distance_json distance boards
+shown_distance false distance boards = codes "distance " ++ decimal distance ++ codes " boards " ++ decimal boards
+
+-- what is told of a level, likewise
+unfoldable pub told_json : LevelLine → List ℕ
+told_json told = object (member (codes "level") (decimal told.level) ∷ member (codes "boards") (decimal told.boards) ∷ member (codes "won") (decimal told.counts.won)
+    ∷ member (codes "even") (decimal told.counts.even) ∷ member (codes "lost") (decimal told.counts.lost) ∷ member (codes "limit") (decimal told.limit) ∷ [])
+
+abbrev pub shown_told : Bool → LevelLine → List ℕ
+shown_told true told = told_json told
+shown_told false told = told_text told
+
+unfoldable pub shown_level : Bool → Image → List ℕ
+shown_level json image = shown_told json (record {
+  level = image.level;
+  boards = length image.entries;
+  counts = record { won = won_boards image.entries; even = even_boards image.entries; lost = lost_boards image.entries };
+  limit = image.limit;
+})
+
+abbrev pub shown_levels : Bool → List Image → List ℕ
+shown_levels json images = flat_map (λ image. shown_level json image ++ 10 ∷ []) images
+
+-- the line of so many boards, if there are any
+abbrev pub share_line : (ℕ → List ℕ) → ℕ → List ℕ
+share_line shown boards = if boards == 0 then [] else shown boards ++ 10 ∷ []
 
 -- a line for each value that a board has, ascending
-unfoldable pub value_lines : List Entry → List ℕ
-value_lines entries = flat_map (λ place. share_line (codes "value " ++ signed_decimal (value_at place)) (boards_of_value entries (value_at place))) (range_with_len 0 256)
+unfoldable pub value_lines : Bool → List Entry → List ℕ
+value_lines json entries = flat_map (λ place. share_line (shown_value json (value_at place)) (boards_of_value entries (value_at place))) (range_with_len 0 256)
 
 -- a line for each distance that a board has, ascending, up to a limit
-unfoldable pub distance_lines : ℕ → List Entry → List ℕ
-distance_lines limit entries = flat_map (λ distance. share_line (codes "distance " ++ decimal distance) (boards_of_distance entries distance)) (range_with_len 0 (limit + 1))
+unfoldable pub distance_lines : Bool → ℕ → List Entry → List ℕ
+distance_lines json limit entries = flat_map (λ distance. share_line (shown_distance json distance) (boards_of_distance entries distance)) (range_with_len 0 (limit + 1))
 
 -- the level's line, and those of its values and distances
-unfoldable pub count_lines : Image → List ℕ
-count_lines image = level_line image ++ 10 ∷ [] ++ value_lines image.entries ++ distance_lines image.limit image.entries
+unfoldable pub count_lines : Bool → Image → List ℕ
+count_lines json image = shown_level json image ++ 10 ∷ [] ++ value_lines json image.entries ++ distance_lines json image.limit image.entries
 
 -- Where it is known what the writer holds, what was written is a line for each of the right levels that the folder stores, or all
--- lines of the one of this number; where it is known what the folder's names have.
-abbrev pub PrintsCounts : (ℕ → Option (Option (List ℕ))) → Option ℕ → Option (List ℕ) → Option (List ℕ) → Type 0
-PrintsCounts stands None before after = (images : List Image) × AreLevelsTo HIGHEST_LEVEL stands images × Appends before after (level_lines images)
-PrintsCounts stands (Some number) before after = (images : List Image) × (image : Image) × HasLevel number stands images × (slice_get images number ≡ Some image)
-    × Appends before after (count_lines image)
+-- lines of the one of this number; where it is known what the folder's names have. Each line is JSON or not.
+abbrev pub PrintsCounts : Bool → (ℕ → Option (Option (List ℕ))) → Option ℕ → Option (List ℕ) → Option (List ℕ) → Type 0
+PrintsCounts json stands None before after = (images : List Image) × AreLevelsTo HIGHEST_LEVEL stands images × Appends before after (shown_levels json images)
+PrintsCounts json stands (Some number) before after = (images : List Image) × (image : Image) × HasLevel number stands images × (slice_get images number ≡ Some image)
+    × Appends before after (count_lines json image)
+
+-- Shares within such an object. Private functions alone go by this: no public contract does.
+abbrev pub shares_json : Counts → List ℕ
+shares_json counts = codes "\"won\":" ++ (decimal counts.won ++ (codes ",\"even\":" ++ (decimal counts.even ++ (codes ",\"lost\":" ++ decimal counts.lost))))

@@ -2,60 +2,34 @@
 
 ghost use Rattle.std.specs.Prelude.{◌≡◌, ◌≤◌, true};
 ghost use Rattle.std.specs.Io.KnownBytes.{Appends};
-ghost use Rattle.awari_answers.specs.LevelLines.{level_lines};
 ghost use Rattle.awari_folder.specs.Contents.{Same};
 ghost use Rattle.awari_questions.specs.Shares.{AreByDistance};
-ghost use Rattle.awari_questions.specs.Counts.{PrintsCounts, count_lines, distance_lines, value_lines};
+ghost use Rattle.awari_questions.specs.Counts.{PrintsCounts, count_lines, distance_lines, shown_levels, value_lines};
 
-use crate::loads::load_to;
+use crate::loads::{LevelFault, load_to};
 use crate::shares::{VALUES, boards_by_distance, boards_by_value, value_of};
-use awari_answers::{line_of_level, load_levels, print, refuse, status_of};
+use crate::shown::{DistanceShare, ShownLevel, ValueShare};
+use arrayvec::ArrayString;
+use awari_answers::{NoAnswer, line_of_level, load_levels, print, refuse, refuse_json, status_of};
 use awari_folder::{Folder, FolderFault};
 use awari_table::{HIGHEST_LEVEL, Level, Shelf};
 use std::alloc::Global;
-use std::fmt;
+use std::fmt::Write as _;
 use std::io::Write;
 use std::thread::Threads;
 
-/// A value, and how many boards have it.
+/// What is asked of the levels in numbers, in words.
 #[derive(Clone, Copy)]
-struct ValueShare {
-    value: i16,
-    boards: u32,
-}
-
-impl fmt::Display for ValueShare {
-    ghost use Rattle.std.specs.Prelude.{Some, ◌++◌, codes};
-    ghost use Rattle.std.specs.Fmt.{decimal, signed_decimal};
-
-    ghost output = { λ share. Some (codes "value " ++ signed_decimal share.value ++ codes " boards " ++ decimal share.boards) };
-
-    fn fmt<W: fmt::Write>(&self, f: &mut fmt::Formatter<W>) -> fmt::Result {
-        write!(f, "value {} boards {}", self.value, self.boards)
-    }
-}
-
-/// A distance, and how many boards have it.
-#[derive(Clone, Copy)]
-struct DistanceShare {
-    distance: u32,
-    boards: u32,
-}
-
-impl fmt::Display for DistanceShare {
-    ghost use Rattle.std.specs.Prelude.{Some, ◌++◌, codes};
-    ghost use Rattle.std.specs.Fmt.{decimal};
-
-    ghost output = { λ share. Some (codes "distance " ++ decimal share.distance ++ codes " boards " ++ decimal share.boards) };
-
-    fn fmt<W: fmt::Write>(&self, f: &mut fmt::Formatter<W>) -> fmt::Result {
-        write!(f, "distance {} boards {}", self.distance, self.boards)
-    }
+pub struct CountsQuery {
+    /// The one level that is asked for.
+    pub level: Option<u8>,
+    /// Whether the answer is JSON.
+    pub json: bool,
 }
 
 /// Prints a line for each value that a board of the level has, and says whether the writer took them.
-fn print_values<W: Write>(level: &Level, writer: &mut W) -> bool
-    ensures { result ≡ true → Appends (W.contents writer.old) (W.contents writer.new) (value_lines level.now.entries) }
+fn print_values<W: Write>(level: &Level, json: bool, writer: &mut W) -> bool
+    ensures { result ≡ true → Appends (W.contents writer.old) (W.contents writer.new) (value_lines json level.now.entries) }
 {
     let counts = boards_by_value(level);
     for place in 0..VALUES {
@@ -64,7 +38,14 @@ fn print_values<W: Write>(level: &Level, writer: &mut W) -> bool
             continue;
         }
         let value = value_of(place);
-        if !print(writer, &ValueShare { value, boards }) {
+        if !print(
+            writer,
+            &ValueShare {
+                value,
+                boards,
+                json,
+            },
+        ) {
             return false;
         }
     }
@@ -73,9 +54,9 @@ fn print_values<W: Write>(level: &Level, writer: &mut W) -> bool
 
 /// Prints a line for each distance that a board of the level has, and says whether the writer took them.
 /// These are how many boards have each.
-fn print_distances<W: Write>(level: &Level, counts: &[u32], writer: &mut W) -> bool
+fn print_distances<W: Write>(level: &Level, counts: &[u32], json: bool, writer: &mut W) -> bool
     requires { AreByDistance level.now counts.now }
-    ensures { result ≡ true → Appends (W.contents writer.old) (W.contents writer.new) (distance_lines level.now.limit level.now.entries) }
+    ensures { result ≡ true → Appends (W.contents writer.old) (W.contents writer.new) (distance_lines json level.now.limit level.now.entries) }
 {
     for place in 0..level.limit() as usize + 1 {
         let boards = counts[place];
@@ -83,7 +64,14 @@ fn print_distances<W: Write>(level: &Level, counts: &[u32], writer: &mut W) -> b
             continue;
         }
         let distance = place as u32;
-        if !print(writer, &DistanceShare { distance, boards }) {
+        if !print(
+            writer,
+            &DistanceShare {
+                distance,
+                boards,
+                json,
+            },
+        ) {
             return false;
         }
     }
@@ -92,29 +80,50 @@ fn print_distances<W: Write>(level: &Level, counts: &[u32], writer: &mut W) -> b
 
 /// Prints the line of the level, and those of its values and distances, and says whether the writer took
 /// them. These are how many boards have each distance.
-fn print_level<W: Write>(level: &Level, counts: &[u32], writer: &mut W) -> bool
+fn print_level<W: Write>(level: &Level, counts: &[u32], json: bool, writer: &mut W) -> bool
     requires { AreByDistance level.now counts.now }
-    ensures { result ≡ true → Appends (W.contents writer.old) (W.contents writer.new) (count_lines level.now) }
+    ensures { result ≡ true → Appends (W.contents writer.old) (W.contents writer.new) (count_lines json level.now) }
 {
-    if !print(writer, &line_of_level(level)) {
+    let told = line_of_level(level);
+    if !print(writer, &ShownLevel { told, json }) {
         return false;
     }
-    if !print_values(level, writer) {
+    if !print_values(level, json, writer) {
         return false;
     }
-    print_distances(level, counts, writer)
+    print_distances(level, counts, json, writer)
 }
 
 /// Prints the line of each level, and says whether the writer took them.
-fn print_levels<W: Write>(shelf: &Shelf, writer: &mut W) -> bool
-    ensures { result ≡ true → Appends (W.contents writer.old) (W.contents writer.new) (level_lines shelf.now) }
+fn print_levels<W: Write>(shelf: &Shelf, json: bool, writer: &mut W) -> bool
+    ensures { result ≡ true → Appends (W.contents writer.old) (W.contents writer.new) (shown_levels json shelf.now) }
 {
     for number in 0..shelf.levels() {
-        if !print(writer, &line_of_level(shelf.level(number))) {
+        let told = line_of_level(shelf.level(number));
+        if !print(writer, &ShownLevel { told, json }) {
             return false;
         }
     }
     true
+}
+
+/// Prints the refusal, and gives the status 1.
+fn refuse_counts<W: Write>(writer: &mut W, query: CountsQuery, fault: LevelFault) -> u8
+    ensures { result ≡ 1 }
+{
+    if !query.json {
+        return refuse(writer, fault);
+    }
+    let mut word = ArrayString::<3>::new();
+    if let Some(level) = query.level {
+        // There is room for any level.
+        let _ = write!(word, "{level}");
+    }
+    let fault = match fault {
+        LevelFault::Folder { fault } => NoAnswer::Folder { fault },
+        LevelFault::NotYet { fault } => NoAnswer::NotYet { fault },
+    };
+    refuse_json(writer, "counts", word.as_str(), fault)
 }
 
 /// Prints the line of each level in a folder, or the line of the one of this number with those of its
@@ -123,26 +132,30 @@ pub fn run_counts<T: Threads + Sync, F: Folder, W: Write>(
     rt: &T,
     folder: &mut F,
     alloc: Global,
-    level: Option<u8>,
+    query: CountsQuery,
     writer: &mut W,
 ) -> u8
     ensures status { result ≤ 1 }
     ensures same { Same (F.state folder.old).stands (F.state folder.new).stands }
-    ensures found { result ≡ 0 → PrintsCounts (F.state folder.old).stands level (W.contents writer.old) (W.contents writer.new) }
+    ensures found { result ≡ 0 → PrintsCounts query.json (F.state folder.old).stands query.level (W.contents writer.old) (W.contents writer.new) }
 {
+    let CountsQuery { level, json } = query;
     let Some(number) = level else {
         return match load_levels(rt, folder, alloc, HIGHEST_LEVEL) {
-            Ok(shelf) => status_of(print_levels(&shelf, writer)),
-            Err(fault) => refuse(writer, fault),
+            Ok(shelf) => status_of(print_levels(&shelf, json, writer)),
+            Err(fault) => refuse_counts(writer, query, LevelFault::Folder { fault }),
         };
     };
     let shelf = match load_to(rt, folder, alloc, number) {
         Ok(shelf) => shelf,
-        Err(fault) => return refuse(writer, fault),
+        Err(fault) => return refuse_counts(writer, query, fault),
     };
     let level = shelf.level(number);
     match boards_by_distance(level, alloc) {
-        Ok(counts) => status_of(print_level(level, counts.as_slice(), writer)),
-        Err(_) => refuse(writer, FolderFault::Memory),
+        Ok(counts) => status_of(print_level(level, counts.as_slice(), json, writer)),
+        Err(_) => {
+            let fault = FolderFault::Memory;
+            refuse_counts(writer, query, LevelFault::Folder { fault })
+        }
     }
 }

@@ -25,11 +25,12 @@ mod listing;
 mod loads;
 mod places;
 mod shares;
+mod shown;
 mod sums;
 
 pub use boards::{BoardsQuery, NoSpan, run_all_boards, run_boards, wanted_of};
 pub use counting::{PlaysFault, plays_from, run_plays};
-pub use counts::run_counts;
+pub use counts::{CountsQuery, run_counts};
 pub use laws::counts_come_to_the_size;
 pub use listing::{Span, Wanted};
 pub use loads::LevelFault;

@@ -114,7 +114,7 @@ abbrev pub plays_command : Shape
 plays_command = command (codes "plays") (board ∷ number (codes "PLIES") (Signed (pos 0) (pos 255)) ∷ [])
 
 abbrev pub counts_command : Shape
-counts_command = command (codes "counts") (folder ∷ level ∷ [])
+counts_command = command (codes "counts") (folder ∷ level ∷ json ∷ [])
 
 -- which boards of a level are wanted
 abbrev pub wishes : List Rule

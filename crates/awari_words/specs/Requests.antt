@@ -66,7 +66,8 @@ IsRequestOf name given (Serve folder top owners) = (name ≡ codes "serve") × G
 IsRequestOf name given (Rank board) = (name ≡ codes "rank") × Gives given (codes "BOARD") board.now
 IsRequestOf name given (Board level rank) = (name ≡ codes "board") × Spells given (codes "LEVEL") level × Spells given (codes "RANK") rank
 IsRequestOf name given (Plays board plies) = (name ≡ codes "plays") × Gives given (codes "BOARD") board.now × Spells given (codes "PLIES") plies
-IsRequestOf name given (Counts folder level) = (name ≡ codes "counts") × Gives given (codes "FOLDER") folder.now × SpellsOr given (codes "LEVEL") level
+IsRequestOf name given (Counts folder level json) = (name ≡ codes "counts") × Gives given (codes "FOLDER") folder.now × SpellsOr given (codes "LEVEL") level
+    × IsFlagOf given (codes "json") json
 IsRequestOf name given (Boards folder level value distance farthest every count) = (name ≡ codes "boards") × Gives given (codes "FOLDER") folder.now × Spells given (codes "LEVEL") level
     × (option_map (λ t. t.now) value ≡ first_of (codes "value") given) × (option_map (λ t. t.now) distance ≡ first_of (codes "distance") given)
     × IsFlagOf given (codes "farthest") farthest × Spells given (codes "every") every × IsFlagOf given (codes "count") count

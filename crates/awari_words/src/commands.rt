@@ -592,7 +592,8 @@ fn counts_command<'a>(alloc: Global) -> Result<Command<'a>, AllocError>
         COUNTS_HELP,
     );
     let command = with_word(command, folder(alloc));
-    with_word(command, level(alloc))
+    let command = with_word(command, level(alloc));
+    with_word(command, json(alloc))
 }
 
 fn boards_command<'a>(alloc: Global) -> Result<Command<'a>, AllocError>

@@ -195,9 +195,8 @@ a line for each value and each distance that some of its boards have:
     value V boards N       N boards have the value V for their mover
     distance D boards N    N boards have the distance D
 
-The levels are verified first. The status is 0, or 1 for a refusal, as `refused
-59 NotYet levels M` if the folder has only levels 0 to M - 1. docs/FORMATS.md
-lists them.";
+With --json each line is an object. The levels are verified first. A refusal has
+status 1, as `refused 59 NotYet levels M` if the folder has levels 0 to M - 1.";
 
 pub const BOARDS_HELP: &str = "\
 It prints a line for each board that has all that is asked for, by rank:

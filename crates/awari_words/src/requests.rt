@@ -107,10 +107,11 @@ pub enum Request<'a> {
         board: &'a str,
         plies: u8,
     },
-    /// `counts FOLDER [LEVEL]`: the levels in a folder in numbers, or one.
+    /// `counts FOLDER [LEVEL] [--json]`: the levels in a folder in numbers, or one.
     Counts {
         folder: &'a str,
         level: Option<u8>,
+        json: bool,
     },
     /// `boards FOLDER LEVEL [--value A..B] [--distance A..B] [--farthest] [--every K] [--count]`: the boards
     /// of a level.
@@ -322,6 +323,7 @@ fn counts_request<'a>(given: &ArgMatches<'a>) -> Option<Request<'a>>
     Some(Request::Counts {
         folder: text(given, "FOLDER")?,
         level: byte(given, "LEVEL"),
+        json: flag(given, "json"),
     })
 }
 

@@ -1,11 +1,8 @@
-use Rattle.std.proofs.Common.{◌++◌}
-use Rattle.std.specs.Fmt.{signed_decimal}
 use Rattle.std.specs.Io.KnownBytes.{Appends}
 use Rattle.std.specs.List.{flat_map, range_with_len}
-use Rattle.std.specs.Prelude.{codes}
-use Rattle.awari_questions.specs.Counts.{boards_of_value, share_line, value_at}
+use Rattle.awari_questions.specs.Counts.{boards_of_value, share_line, shown_value, value_at}
 use Rattle.awari_questions.proofs.counts.print_values.Given as goal
 
 abbrev pub invariant-loop-place : goal.invariant-loop-place
 invariant-loop-place g l = Appends (g.W.Write.contents l.fn.writer) (g.W.Write.contents l.writer)
-    (flat_map (λ k. share_line (codes "value " ++ signed_decimal (value_at k)) (boards_of_value l.level.entries (value_at k))) (range_with_len 0 l.place))
+    (flat_map (λ k. share_line (shown_value l.json (value_at k)) (boards_of_value l.level.entries (value_at k))) (range_with_len 0 l.place))
