@@ -129,16 +129,13 @@ pub const LINE_HELP: &str = "\
 It prints `value V`, `moves P P ..`, `outcome X`, and X is V: both play their
 plans to the end, or until more plies captured nothing than any level's limit.
 A lost board's plan is the lowest pit that keeps V, not the most stubborn one.
-With --longest the losing side holds out longest, whatever it loses so, up to a
-capture or the end: `value V`, `distance D` and D `moves`. So a distance is no
-length of best play. With --plies each ply has a line, and there is no other:
+With --longest the losing side holds out, whatever it loses so, to a capture or
+the end: `value V`, `distance D`, D `moves`. So D is no length of best play.
+With --plies there is a line for each ply, R being the first mover's lead and B
+the board then. With --json all are objects, as docs/FORMATS.md shows.
 
     ply N pit P captures C running R board B value V distance D
-    repeats M    the last, if value 0 comes back to the board after ply M
-
-B is the board then, R the first mover's lead. --json makes an object of each
-ply, and one of a line: board, value, distance if --longest, moves, outcome if
-not. docs/FORMATS.md lists refusals.";
+    repeats M    the last, if value 0 comes back to the board after ply M";
 
 pub const SERVE_HELP: &str = "\
 A thread builds the levels above the folder's up to TOP, and saves none. Each
