@@ -19,6 +19,7 @@ mod expect;
 mod files;
 #[cfg(test)]
 mod json;
+#[cfg(test)]
 mod levels;
 #[cfg(test)]
 mod migrations;
