@@ -31,6 +31,7 @@ still_fresh wave cells after fresh size same sound = record {
     runs = sound.marked.runs;
     inside = λ k marked. let within = sound.marked.inside k marked in omega (arith, within, size);
     count = sound.marked.count ∙ ap (λ n. length (filter (is_marked fresh.words.items) (range_with_len 0 n))) (sym size);
+    filled = sound.marked.filled;
   };
   noted = noted_still cells after (λ k. is_marked fresh.words.items k ≡ true) wave fresh.near.items fresh.first fresh.next same sound.noted;
 }

@@ -1,8 +1,9 @@
 -- What is kept of the boards of the open wave, and of the others, as boards come and go.
-use Rattle.std.proofs.Common.{◌≡◌, ◌≢◌, ℕ, ◌+◌, ◌<◌, ◌≤◌, ◌⊎◌, inl, inr, min, true, List, Option, Some, None, sym, ap, subst, subst₂, ◌∙◌, arith}
+use Rattle.std.proofs.Common.{◌≡◌, ◌≢◌, ℕ, ◌+◌, ◌<◌, ◌≤◌, ◌⊎◌, inl, inr, min, true, List, length, Option, Some, None, sym, ap, subst, subst₂, ◌∙◌, arith}
 use Rattle.std.proofs.lemmas.Bool.{cases_eq, cases_lt, false≢true}
 use Rattle.awari_block.specs.declared.cells.Cell.{Cell}
-use Rattle.awari_block.specs.Fresh.{dist_at, is_marked, lesser, AreNoted, IsMarkedBelow, IsFirst, IsNext, MarksOne, UnmarksOne}
+use Rattle.awari_block.specs.declared.fresh.Fresh.{Fresh}
+use Rattle.awari_block.specs.Fresh.{dist_at, is_marked, lesser, AreMarked, AreNoted, IsMarkedBelow, IsFirst, IsNext, MarksOne, UnmarksOne}
 
 -- one more index that is marked
 pub marked_was : (old new : List ℕ) (index k : ℕ) → MarksOne index old new → is_marked new k ≡ true → (is_marked old k ≡ true) ⊎ (k ≡ index)
@@ -11,7 +12,7 @@ marked_was old new index k marks marked = elim (cases_eq k index) [
   | inr other ↦ inl (sym (marks.others k other) ∙ marked)
 ]
 
-marked_is : (old new : List ℕ) (index k : ℕ) → MarksOne index old new → is_marked old k ≡ true → is_marked new k ≡ true
+pub marked_is : (old new : List ℕ) (index k : ℕ) → MarksOne index old new → is_marked old k ≡ true → is_marked new k ≡ true
 marked_is old new index k marks marked = elim (cases_eq k index) [
   | inl same ↦ ap (is_marked new) same ∙ marks.here
   | inr other ↦ marks.others k other ∙ marked
@@ -23,6 +24,15 @@ still_other old new index k marks marked same = false≢true (sym marks.here ∙
 
 pub still_was : (old new : List ℕ) (index k : ℕ) → UnmarksOne index old new → is_marked new k ≡ true → is_marked old k ≡ true
 still_was old new index k marks marked = sym (marks.others k (still_other old new index k marks marked)) ∙ marked
+
+-- one note after others
+pub same_both : (a b c : Fresh) → b ≡ record a { near = b.near; first = b.first; next = b.next } → c ≡ record b { near = c.near; first = c.first; next = c.next }
+    → c ≡ record a { near = c.near; first = c.first; next = c.next }
+same_both a b c one two = two ∙ ap (λ (f : Fresh). record f { near = c.near; first = c.first; next = c.next }) one
+
+pub marked_still : (cells : List Cell) (old new : Fresh) → new ≡ record old { near = new.near; first = new.first; next = new.next } → length new.near.items ≡ length old.near.items → AreMarked cells old → AreMarked cells new
+marked_still cells old new same size marked =
+    subst (AreMarked cells) (sym same) (record { few = marked.few; room = marked.room; runs = size ∙ marked.runs; inside = marked.inside; count = marked.count; filled = marked.filled })
 
 -- the places of Q are those of P and one more
 pub record Adds (P Q : ℕ → Type 0) (index : ℕ) : Type 0 where
@@ -160,6 +170,14 @@ module _ (cells : List Cell) (P Q : ℕ → Type 0) (wave : ℕ) where
           let is = is_far other in
           subst (λ (l : List ℕ). AreNoted cells Q wave l first' next') (sym is.0) (subst₂ (λ f n. AreNoted cells Q wave near f n) (sym is.1) (sym is.2) (noted_far near first next dist at other noted))
     ]
+
+-- the boards below m are those below n, where none between them is marked
+pub below_same : (cells : List Cell) (words : List ℕ) (n m wave : ℕ) (near : List ℕ) (first next : Option ℕ) → n ≤ m → ((k : ℕ) → n ≤ k → k < m → is_marked words k ≡ true → ⊥)
+    → AreNoted cells (IsMarkedBelow words n) wave near first next → AreNoted cells (IsMarkedBelow words m) wave near first next
+below_same cells words n m wave near first next low none =
+    noted_same cells (IsMarkedBelow words n) (IsMarkedBelow words m) wave near first next
+    (λ k both. (both.0, (let less = both.1 in omega (arith, less, low))))
+    (λ k both. (both.0, elim (cases_lt k n) [ inl less ↦ less | inr more ↦ absurd (none k more both.1 both.0) ]))
 
 -- where the boards keep their distances all stays right
 pub noted_still : (cells after : List Cell) (P : ℕ → Type 0) (wave : ℕ) (near : List ℕ) (first next : Option ℕ) → ((k : ℕ) → P k → dist_at after k ≡ dist_at cells k)

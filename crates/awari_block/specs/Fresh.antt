@@ -52,6 +52,11 @@ pub record AreNoted (cells : List Cell) (P : ℕ → Type 0) (wave : ℕ) (near 
 abbrev pub IsMarkedBelow : List ℕ → ℕ → ℕ → Type 0
 IsMarkedBelow words n k = (is_marked words k ≡ true) × (k < n)
 
+-- there is a bit for each word, which is set where the word marks a board
+unfoldable pub AreFilled : List ℕ → List ℕ → Type 0
+AreFilled words filled = (length words ≤ 64 * length filled) × (length filled ≤ 2 ^ 26) × ((j : ℕ) → is_marked filled j ≡ true → j < length words)
+    × ((k : ℕ) → is_marked words k ≡ true → is_marked filled (k / 64) ≡ true)
+
 -- Marks are of boards of the block, and it is known how many there are.
 pub record AreMarked (cells : List Cell) (fresh : Fresh) : Type 0 where
   pub few : length fresh.words.items ≤ 2 ^ 26
@@ -59,6 +64,7 @@ pub record AreMarked (cells : List Cell) (fresh : Fresh) : Type 0 where
   pub runs : length fresh.near.items ≡ length fresh.words.items
   pub inside : (k : ℕ) → is_marked fresh.words.items k ≡ true → k < length cells
   pub count : fresh.count ≡ length (marked_of cells fresh.words.items)
+  pub filled : AreFilled fresh.words.items fresh.filled.items
 
 -- What is kept of the fresh boards is right, while this distance is open.
 pub record IsFresh (wave : ℕ) (cells : List Cell) (fresh : Fresh) : Type 0 where

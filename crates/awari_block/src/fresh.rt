@@ -3,7 +3,8 @@
 //! A bit for each board says whether it is fresh, and a second one whether it is also of the open
 //! distance. So the boards of that distance come in order of rank, and no cell is read for them. Once
 //! they are spread, no other is of that distance, since boards become fresh at greater ones. The next
-//! distance is opened in one pass, which reads the cells of the boards that are fresh then.
+//! distance is opened in one pass, which reads the cells of the boards that are fresh then. Most words
+//! of bits have none, and a bit for each word leads the pass by those.
 
 ghost use Rattle.std.specs.Prelude.{◌≡◌, ℕ, ◌+◌, ◌*◌, ◌/◌, ◌^◌, ◌<◌, ◌≤◌, false, true, None, Some, List, length, IfOk, IfSome};
 ghost use Rattle.awari_block.specs.declared.cells.Cell.{Cell as CellView};
@@ -21,6 +22,8 @@ pub struct Fresh {
     words: Vec<u64>,
     /// A bit for each board: whether it is fresh and of the open wave.
     near: Vec<u64>,
+    /// A bit for each word: whether a board of its 64 is fresh.
+    filled: Vec<u64>,
     /// How many boards are fresh.
     count: usize,
     /// The index of the first board of the open wave.
@@ -30,8 +33,8 @@ pub struct Fresh {
 }
 
 impl Fresh {
-    /// No fresh boards, with room for so many. It takes two bits a board, and is refused only if
-    /// memory runs out.
+    /// No fresh boards, with room for so many. It takes a little more than two bits a
+    /// board, and is refused only if memory runs out.
     pub fn new(alloc: Global, boards: usize) -> Result<Fresh, AllocError>
         requires { boards < 2 ^ 32 }
         ensures sound { IfOk result (λ fresh. (wave : ℕ) (cells : List CellView) → length cells ≡ boards → IsFresh wave cells fresh) }
@@ -40,9 +43,11 @@ impl Fresh {
         let runs = boards / 64 + 1;
         let words = vec![in alloc; 0; runs]?;
         let near = vec![in alloc; 0; runs]?;
+        let filled = vec![in alloc; 0; runs / 64 + 1]?;
         Ok(Fresh {
             words,
             near,
+            filled,
             count: 0,
             first: None,
             next: None,
@@ -76,6 +81,7 @@ impl Fresh {
         ensures sound { IsFresh wave cells.now self.new }
     {
         mark(&mut self.words, index);
+        mark(&mut self.filled, index / 64);
         self.count += 1;
         self.note(wave, cells[index as usize].dist, index);
     }
@@ -90,10 +96,12 @@ impl Fresh {
         ensures sound { (wave : ℕ) (cells : List CellView) → IsFresh wave cells self.old → IsFresh wave cells self.new }
     {
         let index = self.first?;
+        let run = index / 64;
         unmark(&mut self.words, index);
         unmark(&mut self.near, index);
+        unmark_empty(&mut self.filled, self.words.as_slice(), run);
         self.count -= 1;
-        self.first = first_from(self.near.as_slice(), (index / 64) as usize);
+        self.first = first_from(self.near.as_slice(), run as usize);
         Some(index)
     }
 
@@ -106,8 +114,25 @@ impl Fresh {
     {
         self.first = None;
         self.next = None;
-        for run in 0..self.words.len() {
-            self.note_run(wave, cells, run);
+        for part in 0..self.filled.len() {
+            self.note_part(wave, cells, part);
+        }
+    }
+
+    /// Notes the fresh boards of these 64 words. A word that has none is not read.
+    fn note_part(&mut self, wave: u32, cells: &[Cell], part: usize)
+        requires part { part < length self.old.filled.items }
+        requires marked { AreMarked cells.now self.old }
+        ensures same { self.new ≡ record self.old { near = self.new.near; first = self.new.first; next = self.new.next } }
+        ensures size { length self.new.near.items ≡ length self.old.near.items }
+        ensures noted { AreNoted cells.now (IsMarkedBelow self.old.words.items (4096 * part)) wave self.old.near.items self.old.first self.old.next
+            → AreNoted cells.now (IsMarkedBelow self.old.words.items (4096 * part + 4096)) wave self.new.near.items self.new.first self.new.next }
+    {
+        let word = self.filled[part];
+        let mut from = 0;
+        while let Some(i) = next_bit(word, from) {
+            self.note_run(wave, cells, 64 * part + i as usize);
+            from = i + 1;
         }
     }
 
@@ -167,6 +192,21 @@ fn unmark(words: &mut Vec<u64>, index: u32)
 {
     let run = (index / 64) as usize;
     words[run] = without_bit(words[run], index % 64);
+}
+
+/// Takes the mark of this word away if the word is 0.
+#[inline(always)]
+fn unmark_empty(filled: &mut Vec<u64>, words: &[u64], run: u32)
+    requires word { run < length words.now }
+    requires room { run / 64 < length filled.old.items }
+    ensures size { length filled.new.items ≡ length filled.old.items }
+    ensures only { (j : ℕ) → is_marked filled.new.items j ≡ true → is_marked filled.old.items j ≡ true }
+    ensures filled { (k : ℕ) → is_marked words.now k ≡ true → is_marked filled.old.items (k / 64) ≡ true → is_marked filled.new.items (k / 64) ≡ true }
+{
+    if words[run as usize] != 0 {
+        return;
+    }
+    unmark(filled, run);
 }
 
 /// The index of the first board that is marked. Condition: none is marked in words before this one.

@@ -1,29 +1,8 @@
-use Rattle.std.proofs.Common.{◌≡◌, ◌+◌, ◌*◌, ◌<◌, ◌≤◌, ℕ, List, true, length, inl, inr, get_or, ap, sym, subst, ◌∙◌, refl, arith}
-use Rattle.std.proofs.lemmas.Bool.{cases_lt}
-use Rattle.std.proofs.lemmas.List.{get_or_default}
-use Rattle.std.specs.Int.{bit_at}
-use Rattle.awari_block.specs.declared.fresh.Fresh.{Fresh}
-use Rattle.awari_block.specs.Fresh.{dist_at, is_marked, AreNoted, IsMarkedBelow}
-use Rattle.awari_block.proofs.Marks.{bit_marked, none_marked}
-use Rattle.awari_block.proofs.Noting.{below_add, noted_more, noted_same}
+use Rattle.std.proofs.Common.{◌≡◌, ◌+◌, ◌*◌, subst, ◌∙◌, refl, arith}
+use Rattle.awari_block.specs.Fresh.{dist_at, AreNoted, IsMarkedBelow}
+use Rattle.awari_block.proofs.Marks.{marked_at, none_at}
+use Rattle.awari_block.proofs.Noting.{below_add, below_same, noted_more, same_both}
 use Rattle.awari_block.proofs.fresh.Fresh.note_run.Goals as goal
-
--- one note after others
-same_both : (a b c : Fresh) → b ≡ record a { near = b.near; first = b.first; next = b.next } → c ≡ record b { near = c.near; first = c.first; next = c.next }
-    → c ≡ record a { near = c.near; first = c.first; next = c.next }
-same_both a b c one two = two ∙ ap (λ (f : Fresh). record f { near = c.near; first = c.first; next = c.next }) one
-
--- what is read of a word
-word_is : (words : List ℕ) (run word : ℕ) → run < length words → word ≡ get_or words run word → word ≡ get_or words run 0
-word_is words run word inside read = read ∙ sym (get_or_default words run 0 word inside)
-
-marked_at : (words : List ℕ) (run i word : ℕ) → run < length words → word ≡ get_or words run word → i < 64 → bit_at word i ≡ 1 → is_marked words (64 * run + i) ≡ true
-marked_at words run i word inside read within set = bit_marked words run i within (ap (λ n. bit_at n i) (sym (word_is words run word inside read)) ∙ set)
-
-none_at : (words : List ℕ) (run from to word : ℕ) → run < length words → word ≡ get_or words run word → to ≤ 64 → ((j : ℕ) → from ≤ j → j < to → bit_at word j ≡ 0)
-    → (k : ℕ) → 64 * run + from ≤ k → k < 64 * run + to → is_marked words k ≡ true → ⊥
-none_at words run from to word inside read within clear =
-    none_marked words run from to within (subst (λ n. (j : ℕ) → from ≤ j → j < to → bit_at n j ≡ 0) (word_is words run word inside read) clear)
 
 pub bounds-cells-index : goal.bounds-cells-index
 bounds-cells-index c =
@@ -52,13 +31,6 @@ loop-i-preserved c =
 pub returns-clause-noted : goal.returns-clause-noted
 returns-clause-noted c = λ before.
     let within = c.loop-i.invariant.within in
-    noted_same c.args.cells.now _ _ c.args.wave c.loop-i.self.near.items c.loop-i.self.first c.loop-i.self.next
-    (λ k both. (both.0, (let less = both.1 in omega (arith, less, within))))
-    (λ k both. (
-      both.0,
-      elim (cases_lt k (64 * c.args.run + c.loop-i.from)) [
-        | inl less ↦ less
-        | inr more ↦ absurd (none_at c.args.self.now.words.items c.args.run c.loop-i.from 64 c.index-word.result.now c.requires.run c.index-word.ensures (omega arith) (c.in_default.ensures.none refl) k more both.1 both.0)
-      ],
-    ))
+    below_same c.args.cells.now c.args.self.now.words.items (64 * c.args.run + c.loop-i.from) (64 * c.args.run + 64) c.args.wave c.loop-i.self.near.items c.loop-i.self.first c.loop-i.self.next (omega (arith, within))
+    (none_at c.args.self.now.words.items c.args.run c.loop-i.from 64 c.index-word.result.now c.requires.run c.index-word.ensures (omega arith) (c.in_default.ensures.none refl))
     (c.loop-i.invariant.noted before)

@@ -3,6 +3,7 @@ use Rattle.awari_block.specs.declared.cells.Cell.{Cell}
 use Rattle.awari_block.specs.declared.fresh.Fresh.{Fresh}
 use Rattle.awari_block.specs.Fresh.{is_marked, marked_of, AreNoted, IsFirst, IsFresh, UnmarksOne}
 use Rattle.awari_block.proofs.FreshLists.{count_less}
+use Rattle.awari_block.proofs.Marks.{filled_by, filled_facts, marked_run}
 use Rattle.awari_block.proofs.Noting.{noted_less, still_was}
 use Rattle.awari_block.proofs.fresh.Fresh.take_first.Goals as goal
 
@@ -23,6 +24,13 @@ overflow_sub-self c =
     let was = sound.2.marked.count in
     omega (arith, one, was)
 
+pub unmark_empty-requires-clause-room : goal.unmark_empty-requires-clause-room
+unmark_empty-requires-clause-room c =
+    let sound = c.requires.sound in
+    let wide = (filled_facts _ _ sound.2.marked.filled).0 in
+    let run = marked_run c.args.self.now.words.items c.in_ok-index.index (marked sound.0 sound.1 c.args.self.now c.in_ok-index.index sound.2 c.in_ok-index.was) in
+    omega (arith, wide, run)
+
 pub returns-clause-sound : goal.returns-clause-sound
 returns-clause-sound c = λ wave cells sound.
     let one = less wave cells c.args.self.now c.in_ok-index.index sound c.in_ok-index.was c.unmark.new.words.items c.unmark.ensures in
@@ -34,7 +42,16 @@ returns-clause-sound c = λ wave cells sound.
         runs = c.unmark-2.ensures.size ∙ sound.marked.runs ∙ sym c.unmark.ensures.size;
         inside = λ k is. sound.marked.inside k (still_was c.args.self.now.words.items c.unmark.new.words.items c.in_ok-index.index k c.unmark.ensures is);
         count = omega (arith, one, was);
+        filled = (
+            let facts = filled_facts _ _ sound.marked.filled in
+            let size = c.unmark.ensures.size in
+            let long = c.unmark_empty.ensures.size in
+            filled_by _ _ (let wide = facts.0 in omega (arith, wide, size, long)) (let narrow = facts.1 in omega (arith, narrow, long))
+            (λ j is. let at = facts.2 j (c.unmark_empty.ensures.only j is) in omega (arith, at, size))
+            (λ k is. c.unmark_empty.ensures.filled k (subst (λ (words : List ℕ). is_marked words k ≡ true) (sym c.as_slice.ensures.value) is)
+            (facts.3 k (still_was c.args.self.now.words.items c.unmark.new.words.items c.in_ok-index.index k c.unmark.ensures is)))
+            );
       };
       noted = noted_less cells wave c.in_ok-index.index c.args.self.now.words.items c.unmark.new.words.items c.args.self.now.near.items c.unmark-2.new.words.items c.first_from-self.result c.args.self.now.next
-          (noted wave cells c.args.self.now c.in_ok-index.index sound c.in_ok-index.was) c.unmark.ensures c.unmark-2.ensures (subst (λ (words : List ℕ). IsFirst words c.first_from-self.result) c.as_slice.ensures.value c.first_from-self.ensures);
+          (noted wave cells c.args.self.now c.in_ok-index.index sound c.in_ok-index.was) c.unmark.ensures c.unmark-2.ensures (subst (λ (words : List ℕ). IsFirst words c.first_from-self.result) c.as_slice-2.ensures.value c.first_from-self.ensures);
     }
