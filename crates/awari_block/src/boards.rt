@@ -208,23 +208,6 @@ impl Boards {
         self.put(target, cell);
     }
 
-    /// Does what [`Boards::hear`] does if the board of this rank is settled, and says whether it is. A
-    /// settled board joins no fresh ones, so there is less to look at. The conditions are the same.
-    #[inline(always)]
-    pub fn hear_settled(&mut self, target: u32, pit: u8, kind: Kind) -> bool
-        requires { CanHear self.old target pit }
-        ensures heard { result ≡ true → Settles self.old self.new × HearsNote self.old self.new target pit kind }
-        ensures none { result ≡ false → self.new ≡ self.old }
-    {
-        let mut cell = self.cell(target);
-        if !cell.is_settled() {
-            return false;
-        }
-        cell.hear(self.stake(), pit, kind);
-        self.put(target, cell);
-        true
-    }
-
     /// Opens the next smaller gain. The boards that an end or a capture settles at that gain are
     /// settled, and so become fresh. Conditions: the gain is at least 1, and no board is fresh.
     pub fn open_gain(&mut self, gain: u8)

@@ -19,10 +19,7 @@ use awari_board::moves_keep_boards;
 use awari_packed::PackedBoard;
 use awari_rank::ranks_tell_boards_apart;
 
-/// How many predecessors are looked at before the first of them hears.
-const AHEAD: usize = 32;
-
-/// TellsSources the predecessors of a board that it is won or lost. A block has `span` boards.
+/// Tells the predecessors of a board that it is won or lost. A block has `span` boards.
 ///
 /// All of them are found first, and put into `targets`. What stood there before does not matter.
 pub fn tell_all(
@@ -49,36 +46,14 @@ pub fn tell_all(
 {
     moves_keep_boards();
     let count = find_all(board, targets);
-    let settled = settled_among(boards, &targets[..count]);
     for k in 0..count {
-        let is_settled = k < AHEAD && settled[k];
-        tell_one(boards, queues, span, kind, targets[k], is_settled);
+        tell_one(boards, queues, span, kind, targets[k]);
     }
 }
 
-/// Which of the first targets are settled boards of the block. It only reads and has no branch, so the
-/// next cell is asked for while the last is still on its way.
+/// Tells this board that its quiet move from this pit leads to a won or a lost board.
 #[inline(always)]
-fn settled_among(boards: &Boards, targets: &[Target]) -> [bool; AHEAD] {
-    let mut settled = [false; AHEAD];
-    for k in 0..targets.len().min(AHEAD) {
-        let rank = targets[k].rank;
-        settled[k] = boards.holds(rank) && boards.cell(rank).is_settled();
-    }
-    settled
-}
-
-/// TellsSources this board that its quiet move from this pit leads to a won or a lost board. Whether it is
-/// settled may be guessed: a wrong guess costs time alone.
-#[inline(always)]
-fn tell_one(
-    boards: &mut Boards,
-    queues: &mut Vec<Queue>,
-    span: u32,
-    kind: Kind,
-    target: Target,
-    is_settled: bool,
-)
+fn tell_one(boards: &mut Boards, queues: &mut Vec<Queue>, span: u32, kind: Kind, target: Target)
     requires low { boards.old.level ≤ 24 }
     requires gain { (1 ≤ boards.old.gain) × (boards.old.gain ≤ boards.old.level) }
     requires near { boards.old.wave < 2 ^ 32 - 1 }
@@ -100,9 +75,6 @@ fn tell_one(
     if !boards.holds(target.rank) {
         let note = boards.note(target.rank, target.pit, kind);
         queues[(target.rank / span) as usize].put(note);
-        return;
-    }
-    if is_settled && boards.hear_settled(target.rank, target.pit, kind) {
         return;
     }
     boards.hear(target.rank, target.pit, kind);

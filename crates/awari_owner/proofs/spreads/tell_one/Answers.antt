@@ -1,7 +1,5 @@
 use Rattle.std.proofs.Common.{◌≡◌, ◌/◌, ◌<◌, true, false, length, ap, sym, subst, ◌∙◌, rules}
 use Rattle.std.proofs.lemmas.List.{get_or_default}
-use Rattle.awari_block.specs.Boards.{HearsNote, Settles}
-use Rattle.awari_block.specs.Part.{Part}
 use Rattle.awari_owner.specs.Spread.{is_held}
 use Rattle.awari_owner.specs.Queues.{Queue, no_queue}
 use Rattle.awari_owner.specs.Outboxes.{with_note}
@@ -56,15 +54,6 @@ returns-clause-sent c = λ y at to low.
     let inside : is_held c.args.boards.now c.args.target.rank ≡ true = held_by c.args.boards.now c.args.target.rank c.holds.result c.holds.ensures ∙ c.if-not-holds.false in
     sent_nothing c.args.queues.now.items c.args.boards.now c.args.span c.args.kind y (ap (λ (t : Target). is_held c.args.boards.now t.rank) at ∙ inside) to
 
-pub returns-then-hear_settled-clause-told : goal.returns-then-hear_settled-clause-told
-returns-then-hear_settled-clause-told c = λ y at source value notes unheard tallied.
-    let heard = c.hear_settled.ensures.heard (search rules) in
-    told_here value notes c.args.boards.now c.hear_settled.new.self c.args.kind c.args.target y at c.ranks_tell_boards_apart.ensures c.requires.gain.0 source (c.holds.ensures.0 (search rules)) unheard heard.0.same heard.1 tallied
-
 pub returns-clause-told : goal.returns-clause-told
 returns-clause-told c = λ y at source value notes unheard tallied.
-    let same : c.else-is_settled.boards ≡ c.args.boards.now = search rules in
-    let settles : Settles c.args.boards.now c.hear.new.self = subst (λ (o : Part). Settles o c.hear.new.self) same c.hear.ensures.settles in
-    let hears : HearsNote c.args.boards.now c.hear.new.self c.args.target.rank c.args.target.pit c.args.kind
-    = subst (λ (o : Part). HearsNote o c.hear.new.self c.args.target.rank c.args.target.pit c.args.kind) same c.hear.ensures.hears in
-    told_here value notes c.args.boards.now c.hear.new.self c.args.kind c.args.target y at c.ranks_tell_boards_apart.ensures c.requires.gain.0 source (c.holds.ensures.0 (search rules)) unheard settles.same hears tallied
+    told_here value notes c.args.boards.now c.hear.new.self c.args.kind c.args.target y at c.ranks_tell_boards_apart.ensures c.requires.gain.0 source (c.holds.ensures.0 (search rules)) unheard c.hear.ensures.settles.same c.hear.ensures.hears tallied
