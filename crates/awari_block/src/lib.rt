@@ -11,13 +11,18 @@
 //!
 //!     pub fn unscanned_block(alloc: Global, block: Block) -> Result<ScannedBlock, AllocError>
 //!         requires order { block.start ≤ block.end }
+//!         ensures block { IfOk result (λ found. found.block ≡ block) }
 //!         ensures cells { IfOk result (λ found. length found.cells.items ≡ block.end - block.start) }
 //!         ensures leaving { IfOk result (λ found. length found.leaving.items ≡ block.end - block.start) }
 //!     {
 //!         let boards = (block.end - block.start) as usize;
 //!         let cells = vec![in alloc; Cell::of_end(0); boards]?;
 //!         let leaving = vec![in alloc; 0; boards]?;
-//!         Ok(ScannedBlock { cells, leaving })
+//!         Ok(ScannedBlock {
+//!             block,
+//!             cells,
+//!             leaving,
+//!         })
 //!     }
 #![tactic(auto)]
 

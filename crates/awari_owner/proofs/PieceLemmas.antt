@@ -8,6 +8,7 @@ use Rattle.awari_block.specs.declared.cells.Cell.{Cell}
 use Rattle.awari_block.specs.declared.blocks.Block.{Block}
 use Rattle.awari_owner.specs.declared.scans.ScannedBlock.{ScannedBlock}
 use Rattle.awari_block.specs.Blocks.{no_cell}
+use Rattle.awari_block.specs.Leaving.{IsBlockOf}
 use Rattle.awari_owner.specs.Scan.{IsScannedCell, IsPiece, IsScannedBlock}
 use Rattle.awari_owner.proofs.LeavingMoves.{leaving-both}
 
@@ -32,12 +33,14 @@ piece-both value n block first middle half rest boards low high bytes more meet 
 
 -- a block whose cells and bytes are written over by those of all its boards is scanned
 pub block_scanned : (value : List ℕ → ℤ) (n : ℕ) (block : Block) (found : ScannedBlock) (boards : ℕ) (cells : List Cell) (leaving : List ℕ)
-    → boards ≡ block.end - block.start → vec_len found.cells ≡ boards → vec_len found.leaving ≡ boards
+    → found.block ≡ block → IsBlockOf n block → boards ≡ block.end - block.start → vec_len found.cells ≡ boards → vec_len found.leaving ≡ boards
     → IsPiece value n block block.start boards cells leaving
-    → IsScannedBlock value n block (record { cells = with_items found.cells cells; leaving = with_items found.leaving leaving })
-block_scanned value n block found boards cells leaving all long bytes piece = record {
-  piece = subst₂ (λ (cs : List Cell) (bs : List ℕ). IsPiece value n block block.start (block.end - block.start) cs bs) (sym wrote) (sym put)
-      (subst (λ m. IsPiece value n block block.start m cells leaving) all piece);
+    → IsScannedBlock value n (record { block = found.block; cells = with_items found.cells cells; leaving = with_items found.leaving leaving })
+block_scanned value n block found boards cells leaving same sound all long bytes piece = record {
+  sound = subst (IsBlockOf n) (sym same) sound;
+  piece = subst (λ (b : Block). IsPiece value n b b.start (b.end - b.start) (with_items found.cells cells).items (with_items found.leaving leaving).items) (sym same)
+      (subst₂ (λ (cs : List Cell) (bs : List ℕ). IsPiece value n block block.start (block.end - block.start) cs bs) (sym wrote) (sym put)
+      (subst (λ m. IsPiece value n block block.start m cells leaving) all piece));
 }
   where
     wrote : (with_items found.cells cells).items ≡ cells

@@ -100,9 +100,10 @@ pub record IsPiece (value : List ℕ → ℤ) (n : ℕ) (block : Block) (first b
   pub scanned : AreScanned value n first (first + boards) cells
   pub leaves : AreLeaving n block.start (block.end - block.start) first leaving
 
--- those of all boards of the block
-pub record IsScannedBlock (value : List ℕ → ℤ) (n : ℕ) (block : Block) (found : ScannedBlock) : Type 0 where
-  pub piece : IsPiece value n block block.start (block.end - block.start) found.cells.items found.leaving.items
+-- those of all boards of a block of the boards of n stones
+pub record IsScannedBlock (value : List ℕ → ℤ) (n : ℕ) (found : ScannedBlock) : Type 0 where
+  pub sound : IsBlockOf n found.block
+  pub piece : IsPiece value n found.block found.block.start (found.block.end - found.block.start) found.cells.items found.leaving.items
 
 -- The boards of n stones from rank `first` up to, not including, rank `last`, with no gain open: no note was heard, and no board is
 -- settled.

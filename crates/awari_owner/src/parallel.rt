@@ -1,6 +1,6 @@
 //! The boards of a block, scanned by as many threads as there are processors.
 
-ghost use Rattle.std.specs.Prelude.{◌≤◌, IfOk, length};
+ghost use Rattle.std.specs.Prelude.{◌≡◌, ◌≤◌, IfOk, length};
 ghost use Rattle.std.specs.Thread.{IsSync};
 ghost use Rattle.awari_table.specs.Images.{table_of};
 ghost use Rattle.awari_table.specs.declared.TheConstants.{HIGHEST_LEVEL};
@@ -30,7 +30,8 @@ pub fn scanned_block_parallel<R: Threads + Sync>(
     requires low { length shelf.now ≤ HIGHEST_LEVEL }
     requires ranged { IsRanged (table_of shelf.now).value (length shelf.now) }
     requires block { IsBlockOf (length shelf.now) block }
-    ensures { IfOk result (IsScannedBlock (table_of shelf.now).value (length shelf.now) block) }
+    ensures block { IfOk result (λ found. found.block ≡ block) }
+    ensures scanned { IfOk result (IsScannedBlock (table_of shelf.now).value (length shelf.now)) }
 {
     let mut found = unscanned_block(alloc, block)?;
 

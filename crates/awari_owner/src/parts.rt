@@ -5,12 +5,12 @@ ghost use Rattle.awari_rank.specs.Rank.{size_of};
 ghost use Rattle.awari_block.specs.Cells.{IsWithin, IsBeyond};
 ghost use Rattle.awari_block.specs.Blocks.{due_dist};
 ghost use Rattle.awari_block.specs.Boards.{Settles};
-ghost use Rattle.awari_block.specs.Part.{Part as PartView, InBlock, Leaves, IsExpected, IsTallied, stored_at, settled_at, IsLeastDue, AreFresh, IsClosed};
+ghost use Rattle.awari_block.specs.Part.{Part as PartView, InBlock, Leaves, IsExpected, stored_at, settled_at, IsLeastDue, AreFresh, IsClosed};
 ghost use Rattle.awari_owner.specs.OwnerFault.{IsFaultOf};
-ghost use Rattle.awari_block.specs.Leaving.{IsBlockOf, first_rank};
-ghost use Rattle.awari_owner.specs.Scan.{IsScan, IsScannedBlock, IsWhole};
-ghost use Rattle.awari_owner.specs.Sound.{CanTake, IsSpreadFault, KeepsOwn, KeepsTally, SameStake, SpreadsFirst, TakesNote};
-ghost use Rattle.awari_owner.specs.Spread.{HearsOwn, IsPartOf};
+ghost use Rattle.awari_block.specs.Leaving.{first_rank};
+ghost use Rattle.awari_owner.specs.Scan.{IsScannedBlock, IsWhole};
+ghost use Rattle.awari_owner.specs.Sound.{CanTake, IsScannedOwner, IsSpreadFault, KeepsOwn, KeepsTally, SameStake, SpreadsFirst, TakesNote};
+ghost use Rattle.awari_owner.specs.Spread.{IsPartOf};
 ghost use Rattle.awari_table.specs.Images.{table_of};
 ghost use Rattle.awari_table.specs.declared.TheConstants.{HIGHEST_LEVEL};
 ghost use Rattle.awari_owner.specs.declared.faults.OwnerFault.{OwnerFault};
@@ -65,17 +65,14 @@ impl Part {
         requires owners { (1 ≤ owners) × (owners ≤ 16) }
         requires owner { owner < owners }
         requires low { length shelf.now ≤ HIGHEST_LEVEL }
-        ensures scanned { IfOk result (IsScan (length shelf.now) owners owner) }
+        ensures scanned { IfOk result (IsScannedOwner (table_of shelf.now).value (length shelf.now) owners owner) }
         ensures whole { owners ≡ 1 → IfOk result IsWhole }
-        ensures tallied { IfOk result (λ part. IsTallied (table_of shelf.now).value part []) }
-        ensures hears { IfOk result (λ part. HearsOwn part []) }
-        ensures fresh { IfOk result AreFresh }
         ensures memory { IfErr result (λ fault. fault ≡ OwnerFault.Memory) }
     {
         shelves_are_certificates();
         let block = Block::of(shelf.levels(), owners, owner);
         let found = scanned_block(alloc, shelf, block)?;
-        Part::from_scanned(alloc, shelf, owners, owner, block, found)
+        Part::from_scanned(alloc, shelf, owners, owner, found)
     }
 
     /// Answers what [`Part::scan`] does, with the block shared among as many threads as there are
@@ -90,17 +87,14 @@ impl Part {
         requires owners { (1 ≤ owners) × (owners ≤ 16) }
         requires owner { owner < owners }
         requires low { length shelf.now ≤ HIGHEST_LEVEL }
-        ensures scanned { IfOk result (IsScan (length shelf.now) owners owner) }
+        ensures scanned { IfOk result (IsScannedOwner (table_of shelf.now).value (length shelf.now) owners owner) }
         ensures whole { owners ≡ 1 → IfOk result IsWhole }
-        ensures tallied { IfOk result (λ part. IsTallied (table_of shelf.now).value part []) }
-        ensures hears { IfOk result (λ part. HearsOwn part []) }
-        ensures fresh { IfOk result AreFresh }
         ensures memory { IfErr result (λ fault. fault ≡ OwnerFault.Memory) }
     {
         shelves_are_certificates();
         let block = Block::of(shelf.levels(), owners, owner);
         let found = scanned_block_parallel(rt, alloc, shelf, block)?;
-        Part::from_scanned(alloc, shelf, owners, owner, block, found)
+        Part::from_scanned(alloc, shelf, owners, owner, found)
     }
 
     /// Value in stones and distance in plies of the board of this rank, none if it is not settled.
@@ -289,23 +283,18 @@ impl Part {
         shelf: &Shelf,
         owners: u8,
         owner: u8,
-        block: Block,
         found: ScannedBlock,
     ) -> Result<Part, OwnerFault>
         requires low { length shelf.now ≤ HIGHEST_LEVEL }
         requires some { owner < owners }
-        requires start { block.start ≡ first_rank (size_of (length shelf.now)) owners owner }
-        requires end { block.end ≡ first_rank (size_of (length shelf.now)) owners (owner + 1) }
-        requires block { IsBlockOf (length shelf.now) block }
-        requires found { IsScannedBlock (table_of shelf.now).value (length shelf.now) block found }
-        ensures scanned { IfOk result (IsScan (length shelf.now) owners owner) }
+        requires start { found.block.start ≡ first_rank (size_of (length shelf.now)) owners owner }
+        requires end { found.block.end ≡ first_rank (size_of (length shelf.now)) owners (owner + 1) }
+        requires found { IsScannedBlock (table_of shelf.now).value (length shelf.now) found }
+        ensures scanned { IfOk result (IsScannedOwner (table_of shelf.now).value (length shelf.now) owners owner) }
         ensures whole { owners ≡ 1 → IfOk result IsWhole }
-        ensures tallied { IfOk result (λ part. IsTallied (table_of shelf.now).value part []) }
-        ensures hears { IfOk result (λ part. HearsOwn part []) }
-        ensures fresh { IfOk result AreFresh }
         ensures memory { IfErr result (λ fault. fault ≡ OwnerFault.Memory) }
     {
-        let boards = Boards::unopened(alloc, shelf.levels(), block.start, found.cells)?;
+        let boards = Boards::unopened(alloc, shelf.levels(), found.block.start, found.cells)?;
         let targets = vec![in alloc; Target { rank: 0, pit: 0 }; MOST_PREDECESSORS]?;
         Ok(Part {
             boards,

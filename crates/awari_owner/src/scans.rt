@@ -19,6 +19,7 @@ use std::alloc::{AllocError, Global};
 /// the block, a bit for each.
 #[derive(Drop)]
 pub struct ScannedBlock {
+    pub block: Block,
     pub cells: Vec<Cell>,
     pub leaving: Vec<u8>,
 }
@@ -42,7 +43,8 @@ pub fn scanned_block(alloc: Global, shelf: &Shelf, block: Block) -> Result<Scann
     requires low { length shelf.now ≤ HIGHEST_LEVEL }
     requires ranged { IsRanged (table_of shelf.now).value (length shelf.now) }
     requires block { IsBlockOf (length shelf.now) block }
-    ensures { IfOk result (IsScannedBlock (table_of shelf.now).value (length shelf.now) block) }
+    ensures block { IfOk result (λ found. found.block ≡ block) }
+    ensures scanned { IfOk result (IsScannedBlock (table_of shelf.now).value (length shelf.now)) }
 {
     let mut found = unscanned_block(alloc, block)?;
     scan_boards(
@@ -58,13 +60,18 @@ pub fn scanned_block(alloc: Global, shelf: &Shelf, block: Block) -> Result<Scann
 /// A block with no board scanned yet, and the memory for its cells and bits.
 pub fn unscanned_block(alloc: Global, block: Block) -> Result<ScannedBlock, AllocError>
     requires order { block.start ≤ block.end }
+    ensures block { IfOk result (λ found. found.block ≡ block) }
     ensures cells { IfOk result (λ found. length found.cells.items ≡ block.end - block.start) }
     ensures leaving { IfOk result (λ found. length found.leaving.items ≡ block.end - block.start) }
 {
     let boards = (block.end - block.start) as usize;
     let cells = vec![in alloc; Cell::of_end(0); boards]?;
     let leaving = vec![in alloc; 0; boards]?;
-    Ok(ScannedBlock { cells, leaving })
+    Ok(ScannedBlock {
+        block,
+        cells,
+        leaving,
+    })
 }
 
 /// Scans boards of the block from rank `first` on, one for each cell.

@@ -12,10 +12,9 @@ loop-owner-preserved c =
     let items : List Part = c.loop-owner.parts.items in
     let pushed : items ++ c.in-Ok.part ∷ [] ≡ c.push.new.self.items = sym c.in_ok-push.ensures.items in
     let before = c.loop-owner.invariant in
-    let found = c.in-Ok.ensures in
     record {
       count = ap (λ (l : List Part). length l) (sym pushed) ∙ (let one = length_push items c.in-Ok.part in let n = before.count in omega (arith, one, n));
       scanned = subst (λ (l : List Part). (k : ℕ) → k < c.loop-owner.owner + 1 → IsScannedOwner (table_of c.args.shelf.now).value (length c.args.shelf.now) c.args.owners k (get_or l k no_part)) pushed
           (more_push (λ k (p : Part). IsScannedOwner (table_of c.args.shelf.now).value (length c.args.shelf.now) c.args.owners k p) items no_part c.in-Ok.part c.loop-owner.owner before.count before.scanned
-          (record { scan = found.scanned; tallied = found.tallied; own = found.hears; fresh = found.fresh }));
+          c.in-Ok.ensures.scanned);
     }

@@ -3,7 +3,6 @@ use Rattle.std.proofs.lemmas.List.Elements.{All-replicate}
 use Rattle.awari_table.specs.Images.{table_of}
 use Rattle.awari_owner.specs.Outboxes.{Outboxes}
 use Rattle.awari_block.specs.Part.{Part}
-use Rattle.awari_owner.specs.Scan.{IsScan}
 use Rattle.awari_owner.specs.Sound.{IsScannedOwner}
 use Rattle.awari_block.specs.declared.notes.Note.{Note}
 use Rattle.awari_phase.proofs.making.scanned_owner.Goals as goal
@@ -14,11 +13,7 @@ returns g c =
     let boxes = sym (c.new-2.ensures.outboxes ∙ c.in_ok-outboxes.ensures) in
     record {
       ends = c.new-2.ensures.ends;
-      part = subst (λ (p : Part). IsScannedOwner (table_of c.args.shelf.now).value (length c.args.shelf.now) c.args.owners c.args.ends.owner p) part (record {
-        scan = subst (λ i. IsScan (length c.args.shelf.now) c.args.owners i c.in-Ok.part) c.owner-number.ensures c.in-Ok.ensures.scanned;
-        tallied = c.in-Ok.ensures.tallied;
-        own = c.in-Ok.ensures.hears;
-        fresh = c.in-Ok.ensures.fresh;
-      });
+      part = subst (λ (p : Part). IsScannedOwner (table_of c.args.shelf.now).value (length c.args.shelf.now) c.args.owners c.args.ends.owner p) part
+          (subst (λ i. IsScannedOwner (table_of c.args.shelf.now).value (length c.args.shelf.now) c.args.owners i c.in-Ok.part) c.owner-number.ensures c.in-Ok.ensures.scanned);
       sent = subst (λ (o : Outboxes). All (λ (q : List (List Note)). q ≡ []) o.queues) boxes (All-replicate (λ (q : List (List Note)). q ≡ []) c.args.owners [] refl);
     }

@@ -10,7 +10,13 @@ use Rattle.awari_owner.proofs.Scanning.{hears_none, unopened_fits, unopened_fres
 use Rattle.awari_owner.proofs.parts.Part.from_scanned.Goals as goal
 
 -- what was found of a block, as cells of the boards of a level of so many stones
-module _ (value : List ℕ → ℤ) (n : ℕ) (block : Block) (found : ScannedBlock) (low : n ≤ 24) (sound : IsBlockOf n block) (is : IsScannedBlock value n block found) (level : ℕ) (same : level ≡ n) where
+module _ (value : List ℕ → ℤ) (n : ℕ) (found : ScannedBlock) (low : n ≤ 24) (is : IsScannedBlock value n found) (level : ℕ) (same : level ≡ n) where
+  abbrev block : Block
+  block = found.block
+
+  abbrev sound : IsBlockOf n found.block
+  sound = is.sound
+
   long : block.start + length found.cells.items ≡ block.end
   long = let order = sound.order in let len = is.piece.len in omega (arith, order, len)
 
@@ -33,27 +39,23 @@ module _ (value : List ℕ → ℤ) (n : ℕ) (block : Block) (found : ScannedBl
         (subst₂ (λ m b. AreLeaving m block.start b block.start found.leaving.items) (sym same) (sym is.piece.len) is.piece.leaves)
 
 pub unopened-requires-clause-fit : goal.unopened-requires-clause-fit
-unopened-requires-clause-fit c = fits _ _ c.args.block c.args.found (omega (arith, c.requires.low)) c.requires.block c.requires.found c.levels.result c.levels.ensures.levels
+unopened-requires-clause-fit c = fits _ _ c.args.found (omega (arith, c.requires.low)) c.requires.found c.levels.result c.levels.ensures.levels
 
 pub invariant_of-result : goal.invariant_of-result
 invariant_of-result c = record {
   opened = (let gain = ap (λ (p : Part). p.gain) c.in_ok-boards.ensures in omega (arith, gain));
   each = search rules;
-  leaving = leaves _ _ c.args.block c.args.found (omega (arith, c.requires.low)) c.requires.block c.requires.found c.levels.result c.levels.ensures.levels c.in_ok-boards.boards c.in_ok-boards.ensures;
-  fresh = fresh _ _ c.args.block c.args.found (omega (arith, c.requires.low)) c.requires.block c.requires.found c.levels.result c.levels.ensures.levels c.in_ok-boards.boards c.in_ok-boards.ensures;
+  leaving = leaves _ _ c.args.found (omega (arith, c.requires.low)) c.requires.found c.levels.result c.levels.ensures.levels c.in_ok-boards.boards c.in_ok-boards.ensures;
+  fresh = fresh _ _ c.args.found (omega (arith, c.requires.low)) c.requires.found c.levels.result c.levels.ensures.levels c.in_ok-boards.boards c.in_ok-boards.ensures;
   targets = search rules;
 }
 
 pub returns-clause-scanned : goal.returns-clause-scanned
 returns-clause-scanned c =
-    let part = scanned _ _ c.args.block c.args.found (omega (arith, c.requires.low)) c.requires.block c.requires.found c.levels.result c.levels.ensures.levels c.in_ok-boards.boards c.in_ok-boards.ensures in
-    record { level = part.level; gain = part.gain; wave = part.wave; start = part.start ∙ c.requires.start; end = part.end ∙ c.requires.end; unsettled = part.unsettled; fresh = part.fresh }
-
-pub returns-clause-hears : goal.returns-clause-hears
-returns-clause-hears c =
-    hears_none c.in_ok-boards.boards
-    (scanned _ _ c.args.block c.args.found (omega (arith, c.requires.low)) c.requires.block c.requires.found c.levels.result c.levels.ensures.levels c.in_ok-boards.boards c.in_ok-boards.ensures).unsettled
-
-pub returns-clause-tallied : goal.returns-clause-tallied
-returns-clause-tallied c =
-    (scanned _ _ c.args.block c.args.found (omega (arith, c.requires.low)) c.requires.block c.requires.found c.levels.result c.levels.ensures.levels c.in_ok-boards.boards c.in_ok-boards.ensures).tallied
+    let part = scanned _ _ c.args.found (omega (arith, c.requires.low)) c.requires.found c.levels.result c.levels.ensures.levels c.in_ok-boards.boards c.in_ok-boards.ensures in
+    record {
+      scan = record { level = part.level; gain = part.gain; wave = part.wave; start = part.start ∙ c.requires.start; end = part.end ∙ c.requires.end; unsettled = part.unsettled; fresh = part.fresh };
+      tallied = part.tallied;
+      own = hears_none c.in_ok-boards.boards part.unsettled;
+      fresh = fresh _ _ c.args.found (omega (arith, c.requires.low)) c.requires.found c.levels.result c.levels.ensures.levels c.in_ok-boards.boards c.in_ok-boards.ensures;
+    }
