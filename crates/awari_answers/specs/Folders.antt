@@ -1,9 +1,9 @@
 -- The commands `verify` and `ask`: what is printed of the levels in a folder.
-use Rattle.std.specs.Prelude.{◌≡◌, ℕ, ◌+◌, ◌/◌, ◌%◌, ◌<◌, nat_lt, if◌then◌else◌, List, ◌++◌, ◌∷◌, [], length, sum, codes, Option}
+use Rattle.std.specs.Prelude.{◌≡◌, ℕ, ◌+◌, ◌/◌, ◌%◌, ◌<◌, List, ◌++◌, ◌∷◌, [], length, sum, codes, Option}
 use Rattle.std.specs.Fmt.{decimal}
 use Rattle.std.specs.List.{flat_map}
 use Rattle.std.specs.Io.KnownBytes.{Appends}
-use Rattle.awari_play.specs.Json.{entry_json}
+use Rattle.awari_play.specs.Json.{entry_json, hex_digit}
 use Rattle.awari_table.specs.Images.{entry_of}
 use Rattle.awari_table.specs.Spelling.{entry_line}
 use Rattle.awari_table.specs.Shelves.{IsShelf}
@@ -14,10 +14,7 @@ use Rattle.awari_answers.specs.Asked.{IsAsked}
 use Rattle.awari_answers.specs.declared.folders.RightLevel.{RightLevel}
 use Rattle.awari_answers.specs.declared.folders.Summary.{Summary}
 
--- a hexadecimal digit in lower case, and the two of a byte
-abbrev pub hex_digit : ℕ → ℕ
-hex_digit n = if nat_lt n 10 then 48 + n else 87 + n
-
+-- the two hexadecimal digits of a byte
 abbrev pub byte_text : ℕ → List ℕ
 byte_text b = hex_digit (b / 16) ∷ hex_digit (b % 16) ∷ []
 

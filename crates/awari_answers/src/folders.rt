@@ -6,7 +6,7 @@ ghost use Rattle.awari_board.specs.BoardFault.{IsFaulty};
 ghost use Rattle.awari_board.specs.declared.text.BoardFault.{BoardFault};
 ghost use Rattle.awari_table.specs.Shelves.{IsShelf};
 ghost use Rattle.awari_folder.specs.Contents.{Same};
-ghost use Rattle.awari_answers.specs.Folders.{IsEntryOf, PrintsFolder, PrintsEntry, PrintsEntryJson, digest_text, hex_digit, right_lines};
+ghost use Rattle.awari_answers.specs.Folders.{IsEntryOf, PrintsFolder, PrintsEntry, PrintsEntryJson, digest_text, right_lines};
 ghost use Rattle.awari_answers.specs.declared.asked.NoAnswer.TheVariants as no_answer;
 
 use crate::asked::{NoAnswer, ask_folder};
@@ -16,7 +16,7 @@ use crate::printing::{print, print_bytes, refuse, status_of};
 use arrayvec::ArrayString;
 use awari_board::Board;
 use awari_folder::{Folder, Together, load};
-use awari_play::entry_json;
+use awari_play::{entry_json, hex_digit};
 use awari_table::{Entry, HIGHEST_LEVEL, Shelf, line_of_entry};
 use std::alloc::Global;
 use std::fmt;
@@ -68,21 +68,10 @@ fn hex_of(digest: &[u8; 32]) -> ArrayString<64>
 {
     let mut text = ArrayString::new();
     for byte in digest {
-        text.push(hex_digit(*byte / 16));
-        text.push(hex_digit(*byte % 16));
+        text.push(char::from(hex_digit(*byte / 16)));
+        text.push(char::from(hex_digit(*byte % 16)));
     }
     text
-}
-
-fn hex_digit(value: u8) -> char
-    requires { value < 16 }
-    ensures { result ≡ hex_digit value }
-{
-    char::from(if value < 10 {
-        b'0' + value
-    } else {
-        b'a' + (value - 10)
-    })
 }
 
 /// The board that `text` spells, and its entry, as the levels in the folder have it.

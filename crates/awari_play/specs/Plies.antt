@@ -1,7 +1,6 @@
 -- A line of play ply by ply, where it comes back to a board, and the lines that tell it.
-use Rattle.std.specs.Prelude.{◌≡◌, ℕ, ◌+◌, ◌<◌, Bool, true, false, List, [], ◌∷◌, ◌++◌, length, map, take, slice_get, codes, ℤ, pos, Option, Some, None}
+use Rattle.std.specs.Prelude.{◌≡◌, ℕ, ◌+◌, ◌<◌, Bool, true, false, List, [], ◌∷◌, ◌++◌, length, map, slice_get, codes, ℤ, pos, Option, Some, None}
 use Rattle.std.specs.Fmt.{decimal, signed_decimal}
-use Rattle.std.specs.List.{flat_map}
 use Rattle.std.specs.Ordering.{int_eq}
 use Rattle.awari_board.specs.Rules.{captured}
 use Rattle.awari_board.specs.Text.{text_of}
@@ -67,15 +66,6 @@ ply_text ply = codes "ply " ++ decimal ply.number ++ codes " pit " ++ decimal pl
 
 abbrev pub repeat_text : Repeat → List ℕ
 repeat_text r = codes "repeats " ++ decimal r.first
-
--- the line of each ply, with its line feed (10)
-abbrev pub ply_lines : List Ply → List ℕ
-ply_lines plies = flat_map (λ ply. ply_text ply ++ 10 ∷ []) plies
-
--- the lines of all plies, or of those up to the repeat and what it repeats
-abbrev pub plies_text : List Ply → Option Repeat → List ℕ
-plies_text plies None = ply_lines plies
-plies_text plies (Some r) = ply_lines (take r.again plies) ++ (repeat_text r ++ 10 ∷ [])
 
 -- the line in which one side holds out, or that in which both follow the plans, by the greatest limit of the levels
 abbrev pub IsLineBy : Bool → List Image → List ℕ → List ℕ → Type 0

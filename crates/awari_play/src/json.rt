@@ -233,7 +233,8 @@ fn is_plain(byte: u8) -> bool
     32 <= byte && byte <= 126 && byte != b'"' && byte != b'\\'
 }
 
-fn hex_digit(value: u8) -> u8
+/// A hexadecimal digit in lower case, as a byte of a text. Condition: the value is below 16.
+pub fn hex_digit(value: u8) -> u8
     requires { value < 16 }
     ensures { result ≡ hex_digit value }
 {

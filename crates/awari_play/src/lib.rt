@@ -34,7 +34,7 @@ mod texts;
 mod weighing;
 mod worths;
 
-pub use json::{entry_json, refusal_json, weighed_json};
+pub use json::{entry_json, hex_digit, refusal_json, weighed_json};
 pub use laws::{lowest_levels_are_one, lowest_plans_stay};
 pub use lines::{Line, LineFault, best_line};
 pub use longest::longest_line;
