@@ -1,7 +1,7 @@
 //! The program `awari`: the commands of `awari_cli` over the process's words and streams.
 #![tactic(auto)]
 
-use awari_cli::run;
+use awari_cli::{Streams, run};
 use std::env::Env;
 use std::process::ExitCode;
 use std::{env, io, str};
@@ -11,14 +11,14 @@ const WORD_ROOM: usize = 1 << 17;
 
 fn main(rt: HostRuntime) -> ExitCode {
     match words(rt) {
-        Ok(words) => ExitCode::from(run(
-            &rt,
-            rt.alloc(),
-            words.as_slice(),
-            &mut rt.stdin(),
-            &mut rt.stdout(),
-            &mut rt.stderr(),
-        )),
+        Ok(words) => {
+            let mut streams = Streams {
+                input: rt.stdin(),
+                output: rt.stdout(),
+                errors: rt.stderr(),
+            };
+            ExitCode::from(run(&rt, rt.alloc(), words.as_slice(), &mut streams))
+        }
         Err(error) => {
             // There is nowhere to say that this could not be written.
             let _ = match bad_word(rt) {

@@ -60,20 +60,32 @@ pub fn build_level<R: Threads + Wait + Sync, G: Gate + Sync>(
     // No owner refuses a note that another one sent.
     ensures phase { (fault : PhaseFault) → result ≡ Err (BuildFault.Phase fault) → fault ≡ PhaseFault.NotStarted }
 {
-    build_level_with_progress(rt, alloc, shelf, pace, gate, &mut Silent)
+    let watch = Watch {
+        gate,
+        progress: &mut Silent,
+    };
+    build_level_with_progress(rt, alloc, shelf, pace, watch)
 }
 
-/// Does what `build_level` does, and tells `progress` how far it is: when the level begins, after
-/// each round which gain is open and how many boards are settled, and when the entries are begun. It
-/// asks before it scans the level and after each round whether the level is still wanted, and is
-/// refused as 52 `Phase` with 43 `Stopped` if it is not.
+/// What is beside a level that is built by owners.
+#[derive(Drop)]
+pub struct Watch<'a, G, P> {
+    /// What each owner enters at the start of each of its sweeps.
+    pub gate: &'a G,
+    /// What is told how far the level is.
+    pub progress: &'a mut P,
+}
+
+/// Does what `build_level` does, and tells the progress of `watch` how far it is: when the level
+/// begins, after each round which gain is open and how many boards are settled, and when the entries
+/// are begun. It asks before it scans the level and after each round whether the level is still
+/// wanted, and is refused as 52 `Phase` with 43 `Stopped` if it is not.
 pub fn build_level_with_progress<R: Threads + Wait + Sync, G: Gate + Sync, P: Progress>(
     rt: &R,
     alloc: Global,
     shelf: &Shelf,
     pace: Pace,
-    gate: &G,
-    progress: &mut P,
+    mut watch: Watch<'_, G, P>,
 ) -> Result<Level, BuildFault>
     ensures consistent { IfOk result (λ level. Consistent shelf.now level) }
     ensures meaning { IfOk result (λ level. TellsTruth (shelf.now ++ level ∷ [])) }
@@ -97,9 +109,11 @@ pub fn build_level_with_progress<R: Threads + Wait + Sync, G: Gate + Sync, P: Pr
         return Err(BuildFault::TooHigh);
     }
     let number = shelf.levels();
-    progress.begin(usize::from(number), size(number) as usize);
-    let owners = settled_owners(rt, alloc, shelf, pace, gate, progress)?;
-    progress.plan();
+    watch
+        .progress
+        .begin(usize::from(number), size(number) as usize);
+    let owners = settled_owners(rt, alloc, shelf, pace, &mut watch)?;
+    watch.progress.plan();
     level_of(rt, alloc, shelf, owners)
 }
 
@@ -131,8 +145,7 @@ fn settled_owners<R: Threads + Wait + Sync, G: Gate + Sync, P: Progress>(
     alloc: Global,
     shelf: &Shelf,
     pace: Pace,
-    gate: &G,
-    progress: &mut P,
+    watch: &mut Watch<'_, G, P>,
 ) -> Result<Vec<Owner>, BuildFault>
     requires low { length shelf.now ≤ HIGHEST_LEVEL }
     requires owners { HasOwners pace }
@@ -140,10 +153,10 @@ fn settled_owners<R: Threads + Wait + Sync, G: Gate + Sync, P: Progress>(
     ensures closed { IfOk result (λ owners. AreAt (table_of shelf.now).value (length shelf.now) 1 owners.items) }
     ensures phase { IfErr result (λ fault. IsOfPhase fault ⊎ IsStopped P.stops fault) }
 {
-    expect_wanted(progress)?;
+    expect_wanted(watch.progress)?;
     let mut owners = begun_owners(rt, alloc, shelf, pace)?;
     for _gain in 0..shelf.levels() {
-        owners = closed_gain(rt, owners, gate, pace.sweeps, progress)?;
+        owners = closed_gain(rt, owners, watch.gate, pace.sweeps, watch.progress)?;
     }
     Ok(owners)
 }

@@ -14,8 +14,10 @@ ghost use Rattle.awari_cli.specs.Building.{KeepsLevels, LeavesFiles, PrintsAllLe
 ghost use Rattle.awari_cli.specs.declared.building.BuildingFault.TheVariants as building_fault;
 
 use awari_answers::{LevelLine, Refused, line_of_level, print, refuse};
-use awari_build::{BuildFault, Pace, build_level_with_progress, build_together_with_progress};
-use awari_folder::{Folder, FolderFault, Together, load, save_or_keep};
+use awari_build::{
+    BuildFault, Pace, Watch, build_level_with_progress, build_together_with_progress,
+};
+use awari_folder::{Folder, FolderFault, Stored, Together, load, save_or_keep};
 use awari_phase::{Open, Progress};
 use awari_play::lowest_plans_stay;
 use awari_table::{HIGHEST_LEVEL, Level, Shelf};
@@ -115,14 +117,10 @@ pub fn run_build_in<T: Threads + Wait + Sync, P: Progress, F: Folder, W: Write>(
     ensures keeps { (names : ℕ → Option (List ℕ)) → AreNames (F.state folder.old).stands names
         → KeepsLevels top names (F.state folder.old).stands (F.state folder.new).stands (F.state folder.old).may_leave (F.state folder.new).may_leave }
 {
-    let stored = match load(&Together(builder.rt), builder.alloc, folder, HIGHEST_LEVEL) {
-        Ok(stored) => stored,
-        Err(fault) => return refuse(writer, fault),
-    };
-    let mut shelf = stored.shelf;
-    let mut digest = stored.digest;
-    let status = build_up_in(builder, folder, top, &mut shelf, &mut digest, writer);
-    status
+    match load(&Together(builder.rt), builder.alloc, folder, HIGHEST_LEVEL) {
+        Ok(mut stored) => build_up_in(builder, folder, top, &mut stored, writer),
+        Err(fault) => refuse(writer, fault),
+    }
 }
 
 /// Builds the levels above the shelf up to `top`, and prints the line of each.
@@ -155,29 +153,28 @@ fn build_up<T: Threads + Wait + Sync, P: Progress, W: Write>(
     0
 }
 
-/// Builds the levels above the shelf up to `top`, saves each in the folder, of whose last file this
-/// is the digest, and prints its line.
+/// Builds the levels above those that the folder has stored up to `top`, saves each there, and prints
+/// its line.
 fn build_up_in<T: Threads + Wait + Sync, P: Progress, F: Folder, W: Write>(
     builder: &mut Builder<'_, T, P>,
     folder: &mut F,
     top: u8,
-    shelf: &mut Shelf,
-    digest: &mut [u8; 32],
+    stored: &mut Stored,
     writer: &mut W,
 ) -> u8
     ensures status { result ≤ 1 }
-    ensures shelf { result ≡ 0 → IsShelf shelf.new × (top < length shelf.new) }
-    ensures built { result ≡ 0 → (built : List Image) × (shelf.new ≡ shelf.old ++ built)
+    ensures shelf { result ≡ 0 → IsShelf stored.new.shelf × (top < length stored.new.shelf) }
+    ensures built { result ≡ 0 → (built : List Image) × (stored.new.shelf ≡ stored.old.shelf ++ built)
         × Appends (W.contents writer.old) (W.contents writer.new) (level_lines built) }
-    ensures planned { result ≡ 0 → HasLowestPlans shelf.old → HasLowestPlans shelf.new }
-    ensures holds { HoldsIn (F.state folder.old).stands shelf.old digest.old → result ≡ 0 → HoldsIn (F.state folder.new).stands shelf.new digest.new }
-    ensures same { SameOutside (length shelf.old) top (F.state folder.old).stands (F.state folder.new).stands }
+    ensures planned { result ≡ 0 → HasLowestPlans stored.old.shelf → HasLowestPlans stored.new.shelf }
+    ensures holds { HoldsIn (F.state folder.old).stands stored.old.shelf stored.old.digest → result ≡ 0 → HoldsIn (F.state folder.new).stands stored.new.shelf stored.new.digest }
+    ensures same { SameOutside (length stored.old.shelf) top (F.state folder.old).stands (F.state folder.new).stands }
     ensures kept { KeepsFiles (F.state folder.old).stands (F.state folder.new).stands }
     ensures crash { (names : ℕ → Option (List ℕ)) → AreNames (F.state folder.old).stands names
-        → LeavesFiles (length shelf.old) names (F.state folder.old).may_leave (F.state folder.new).may_leave }
+        → LeavesFiles (length stored.old.shelf) names (F.state folder.old).may_leave (F.state folder.new).may_leave }
 {
-    while shelf.levels() <= top {
-        match save_next(builder, folder, shelf, digest) {
+    while stored.shelf.levels() <= top {
+        match save_next(builder, folder, stored) {
             Ok(told) => {
                 if !print(writer, &told) {
                     return 1;
@@ -208,30 +205,29 @@ fn build_next<T: Threads + Wait + Sync, P: Progress>(
     Ok(told)
 }
 
-/// Builds the level above the shelf, saves it unless its file is there, and puts it on top. Nothing is
-/// refused after the file is saved, so a level that is saved is always answered.
+/// Builds the level above those that are stored, saves it unless its file is there, and puts it on top.
+/// Nothing is refused after the file is saved, so a level that is saved is always answered.
 fn save_next<T: Threads + Wait + Sync, P: Progress, F: Folder>(
     builder: &mut Builder<'_, T, P>,
     folder: &mut F,
-    shelf: &mut Shelf,
-    digest: &mut [u8; 32],
+    stored: &mut Stored,
 ) -> Result<LevelLine, BuildingFault>
-    ensures built { IfOk result (λ told. (image : Image) × (shelf.new ≡ shelf.old ++ image ∷ []) × IsToldOf image told) }
-    ensures planned { OnOk result (HasLowestPlans shelf.old → HasLowestPlans shelf.new) }
-    ensures holds { HoldsIn (F.state folder.old).stands shelf.old digest.old → OnOk result (HoldsIn (F.state folder.new).stands shelf.new digest.new) }
-    ensures others { SameBut (length shelf.old) (F.state folder.old).stands (F.state folder.new).stands }
+    ensures built { IfOk result (λ told. (image : Image) × (stored.new.shelf ≡ stored.old.shelf ++ image ∷ []) × IsToldOf image told) }
+    ensures planned { OnOk result (HasLowestPlans stored.old.shelf → HasLowestPlans stored.new.shelf) }
+    ensures holds { HoldsIn (F.state folder.old).stands stored.old.shelf stored.old.digest → OnOk result (HoldsIn (F.state folder.new).stands stored.new.shelf stored.new.digest) }
+    ensures others { SameBut (length stored.old.shelf) (F.state folder.old).stands (F.state folder.new).stands }
     ensures kept { KeepsFiles (F.state folder.old).stands (F.state folder.new).stands }
     ensures err { OnErr result (Same (F.state folder.old).stands (F.state folder.new).stands) }
-    ensures crash { (names : ℕ → Option (List ℕ)) → (F.state folder.old).stands (length shelf.old) ≡ Some (names (length shelf.old))
-        → LeavesFiles (length shelf.old) names (F.state folder.old).may_leave (F.state folder.new).may_leave }
+    ensures crash { (names : ℕ → Option (List ℕ)) → (F.state folder.old).stands (length stored.old.shelf) ≡ Some (names (length stored.old.shelf))
+        → LeavesFiles (length stored.old.shelf) names (F.state folder.old).may_leave (F.state folder.new).may_leave }
 {
     // Ghost: the plans stay the lowest.
     lowest_plans_stay();
-    let level = built_level(builder, shelf)?;
-    let own = save_or_keep(folder, &level, *digest)?;
-    *digest = own;
+    let level = built_level(builder, &stored.shelf)?;
+    let own = save_or_keep(folder, &level, stored.digest)?;
+    stored.digest = own;
     let told = line_of_level(&level);
-    shelf.push(level);
+    stored.shelf.push(level);
     Ok(told)
 }
 
@@ -248,14 +244,11 @@ fn built_level<T: Threads + Wait + Sync, P: Progress>(
     let level = if builder.pace.owners == 0 {
         build_together_with_progress(builder.rt, builder.alloc, shelf, builder.threads, progress)?
     } else {
-        build_level_with_progress(
-            builder.rt,
-            builder.alloc,
-            shelf,
-            builder.pace,
-            &Open,
+        let watch = Watch {
+            gate: &Open,
             progress,
-        )?
+        };
+        build_level_with_progress(builder.rt, builder.alloc, shelf, builder.pace, watch)?
     };
     let shared = Arc::new(builder.alloc, level)?;
     Ok(shared)

@@ -31,6 +31,7 @@ mod migrating;
 mod progress;
 mod runs;
 mod serving;
+mod streams;
 
 pub use awari_answers::{
     JudgeFault, Judgement, MovesQuery, PlayFault, Played, PliesQuery, judge, play_on, run_ask,
@@ -43,4 +44,5 @@ pub use laws::one_file_for_every_schedule;
 pub use migrating::run_migrate;
 pub use progress::ProgressLines;
 pub use runs::run;
-pub use serving::run_serve;
+pub use serving::{Growth, run_serve};
+pub use streams::Streams;

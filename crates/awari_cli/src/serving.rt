@@ -10,8 +10,11 @@ ghost use Rattle.awari_cli.specs.declared.serving.ServingFault.{ServingFault as 
 ghost use Rattle.awari_cli.specs.declared.serving.ServingFault.TheVariants as serving_fault;
 
 use crate::lasting::{WhileServed, lasting_service};
+use crate::streams::Streams;
 use awari_answers::refuse;
-use awari_build::{BuildFault, Pace, build_level_with_progress, build_together_with_progress};
+use awari_build::{
+    BuildFault, Pace, Watch, build_level_with_progress, build_together_with_progress,
+};
 use awari_desk::{DeskFault, Publisher, Reader, ServeFault, desk, serve};
 use awari_folder::{Folder, FolderFault, Together, load};
 use awari_phase::{Open, PhaseFault};
@@ -127,10 +130,18 @@ struct Grower<T> {
     wanted: WhileServed,
 }
 
-/// Answers the lines of the reader by the levels of the folder, and by the levels above them up to
-/// `top`, which a thread builds and publishes meanwhile. It has `owners` owners, or builds by all
-/// processors together if that is 0. Nothing is saved. A refusal is printed after the answers, unless
-/// these could not be written.
+/// How the levels grow while a service lasts.
+#[derive(Clone, Copy)]
+pub struct Growth {
+    /// The highest level that is built.
+    pub top: u8,
+    /// How many owners build a level; 0 if all processors do it together.
+    pub owners: u8,
+}
+
+/// Answers the lines of the input by the levels of the folder, and by the levels above them, which a
+/// thread builds and publishes meanwhile as `growth` says. Nothing is saved. A refusal is printed
+/// after the answers, unless these could not be written.
 ///
 /// Once nobody can ask any more, the thread stops at the next gain, distance or round, and that is no
 /// refusal. So nothing is promised of the levels above the folder's but that each answer is right.
@@ -139,20 +150,21 @@ pub fn run_serve<
     F: Folder,
     R: Read,
     W: Write,
->(rt: &T, folder: &mut F, alloc: Global, top: u8, owners: u8, reader: &mut R, writer: &mut W) -> u8
+    E: Write,
+>(rt: &T, folder: &mut F, alloc: Global, growth: Growth, streams: &mut Streams<R, W, E>) -> u8
     ensures status { result ≤ 1 }
 
     // What was written is a service by right levels, of which the first are those of the folder.
-    ensures served { result ≡ 0 → PrintsService (F.state folder.old).stands (R.remaining reader.old) (W.contents writer.old) (W.contents writer.new) }
+    ensures served { result ≡ 0 → PrintsService (F.state folder.old).stands (R.remaining streams.old.input) (W.contents streams.old.output) (W.contents streams.new.output) }
 {
-    match serve_beside(rt, folder, alloc, top, owners, reader, writer) {
+    match serve_beside(rt, folder, alloc, growth, streams) {
         Ok(Grown::ToTop | Grown::Stopped) => 0,
         Err(
             ServingFault::Serve {
                 fault: ServeFault::Write,
             },
         ) => 1,
-        Err(fault) => refuse(writer, fault),
+        Err(fault) => refuse(&mut streams.output, fault),
     }
 }
 
@@ -163,17 +175,16 @@ fn serve_beside<
     F: Folder,
     R: Read,
     W: Write,
+    E: Write,
 >(
     rt: &T,
     folder: &mut F,
     alloc: Global,
-    top: u8,
-    owners: u8,
-    reader: &mut R,
-    writer: &mut W,
+    growth: Growth,
+    streams: &mut Streams<R, W, E>,
 ) -> Result<Grown, ServingFault>
-    ensures served { OnOk result (PrintsService (F.state folder.old).stands (R.remaining reader.old) (W.contents writer.old) (W.contents writer.new)) }
-    ensures grown { IfOk result (λ end. end ≡ Grown.ToTop → HasLevelsTo top) }
+    ensures served { OnOk result (PrintsService (F.state folder.old).stands (R.remaining streams.old.input) (W.contents streams.old.output) (W.contents streams.new.output)) }
+    ensures grown { IfOk result (λ end. end ≡ Grown.ToTop → HasLevelsTo growth.top) }
 {
     let stored = load(&Together(rt), alloc, folder, HIGHEST_LEVEL)?;
     let (publisher, known) = published(rt.clone()?, alloc, &stored.shelf)?;
@@ -181,16 +192,17 @@ fn serve_beside<
     let grower = Grower {
         rt: rt.clone()?,
         alloc,
-        owners,
+        owners: growth.owners,
         wanted,
     };
+    let top = growth.top;
     let Ok(builder) = thread::spawn_with(rt, GrowsTo(top), move || grow(grower, publisher, top))
     else {
         return Err(ServingFault::Start {
             fault: PhaseFault::NotStarted,
         });
     };
-    let served = serve_lines(known, reader, writer);
+    let served = serve_lines(known, &mut streams.input, &mut streams.output);
     drop(service);
     let (publisher, grown) = builder.join(rt);
     publisher.close();
@@ -329,7 +341,11 @@ fn next_level<T: Threads + Wait + Sync>(
         build_together_with_progress(&grower.rt, grower.alloc, book, threads, wanted)?
     } else {
         let pace = Pace::usual(grower.owners);
-        build_level_with_progress(&grower.rt, grower.alloc, book, pace, &Open, wanted)?
+        let watch = Watch {
+            gate: &Open,
+            progress: wanted,
+        };
+        build_level_with_progress(&grower.rt, grower.alloc, book, pace, watch)?
     };
     Ok(level)
 }

@@ -2,7 +2,7 @@
 
 use crate::expect::{expect, expect_equal};
 use awari_board::Board;
-use awari_cli::{check, run};
+use awari_cli::{Streams, check, run};
 use awari_rank::successor;
 use awari_table::{Entry, Shelf};
 use std::alloc::{AllocError, Global};
@@ -43,12 +43,14 @@ pub(crate) fn expect_run(
     printed: &str,
     expected: u8,
 ) {
-    let mut reader = input;
-    let mut output = Vec::new(alloc);
-    let mut errors = Vec::new(alloc);
-    let status = run(rt, alloc, words, &mut reader, &mut output, &mut errors);
-    expect_text(rt, words, &output, printed);
-    let found = (status, errors.is_empty());
+    let mut streams = Streams {
+        input,
+        output: Vec::new(alloc),
+        errors: Vec::new(alloc),
+    };
+    let status = run(rt, alloc, words, &mut streams);
+    expect_text(rt, words, &streams.output, printed);
+    let found = (status, streams.errors.is_empty());
     expect_equal(
         rt,
         words,
@@ -350,9 +352,13 @@ fn check_status(
     writer: &mut impl Write,
 ) -> u8 {
     let words = ["awari", "check"];
-    let mut errors = Vec::new(alloc);
-    let status = run(rt, alloc, words.as_slice(), reader, writer, &mut errors);
-    expect(rt, "no errors", errors.is_empty());
+    let mut streams = Streams {
+        input: reader,
+        output: writer,
+        errors: Vec::new(alloc),
+    };
+    let status = run(rt, alloc, words.as_slice(), &mut streams);
+    expect(rt, "no errors", streams.errors.is_empty());
     status
 }
 

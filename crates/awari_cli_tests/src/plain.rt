@@ -4,13 +4,13 @@
 
 use awari_build::Pace;
 use awari_cli::{
-    Builder, MovesQuery, ProgressLines, run_ask, run_build_in, run_line, run_moves, run_serve,
-    run_text, run_verify,
+    Builder, Growth, MovesQuery, ProgressLines, Streams, run_ask, run_build_in, run_line,
+    run_moves, run_serve, run_text, run_verify,
 };
 use awari_file_tests::MemoryFolder;
 use awari_phase::{Progress, Silent};
 use std::alloc::Global;
-use std::io::{Read, Write};
+use std::io::{self, Read, Write};
 use std::sync::Wait;
 use std::thread::Threads;
 use std::time::Clock;
@@ -143,5 +143,10 @@ pub(crate) fn served(
     input: &mut impl Read,
     output: &mut impl Write,
 ) -> u8 {
-    run_serve(rt, folder, rt.alloc(), top, owners, input, output)
+    let mut streams = Streams {
+        input,
+        output,
+        errors: io::sink(),
+    };
+    run_serve(rt, folder, rt.alloc(), Growth { top, owners }, &mut streams)
 }

@@ -3,7 +3,7 @@
 use crate::expect::{expect, expect_equal};
 use crate::levels::LEVELS_0_TO_2;
 use crate::plain::build_telling;
-use awari_cli::run;
+use awari_cli::{Streams, run};
 use std::cell::Cell;
 use std::fs::File;
 use std::process::Abort;
@@ -116,13 +116,16 @@ fn tells(
         + 'static),
     words: &[&str],
 ) -> bool {
-    let mut reader: &[u8] = b"";
-    let mut output = Vec::new(rt.alloc());
-    let mut errors = Vec::new(rt.alloc());
-    let status = run(rt, rt.alloc(), words, &mut reader, &mut output, &mut errors);
+    let mut streams = Streams {
+        input: io::empty(),
+        output: Vec::new(rt.alloc()),
+        errors: Vec::new(rt.alloc()),
+    };
+    let status = run(rt, rt.alloc(), words, &mut streams);
     expect_equal(rt, "status", status, 0);
-    expect_equal(rt, "lines", str::from_utf8(&output), Ok(LEVELS_0_TO_2));
-    !errors.is_empty()
+    let printed = str::from_utf8(&streams.output);
+    expect_equal(rt, "lines", printed, Ok(LEVELS_0_TO_2));
+    !streams.errors.is_empty()
 }
 
 /// The lines on the output are the same, without owners and by them.

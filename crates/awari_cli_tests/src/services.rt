@@ -7,7 +7,7 @@ use crate::expect::{expect, expect_equal};
 use crate::levels::{LEVELS_0_TO_1, LEVELS_0_TO_2, empty_folder};
 use crate::worths::LEVELS_3_TO_4;
 use awari_build::build_alone;
-use awari_cli::run;
+use awari_cli::{Streams, run};
 use awari_desk::{Publisher, Reader, ServeFault, desk, serve};
 use awari_table::Counted;
 use std::alloc::Global;
@@ -487,18 +487,15 @@ fn expect_growing(
     alloc: Global,
 ) -> Result<(), Fail> {
     let input = ASK_CYCLE.repeat(alloc, 2000)?;
-    let mut output = Vec::new(alloc);
     let words = ["awari", "serve", SERVED, "2", "3"];
-    let status = run(
-        rt,
-        alloc,
-        words.as_slice(),
-        &mut input.as_bytes(),
-        &mut output,
-        &mut io::sink(),
-    );
+    let mut streams = Streams {
+        input: input.as_bytes(),
+        output: Vec::new(alloc),
+        errors: io::sink(),
+    };
+    let status = run(rt, alloc, words.as_slice(), &mut streams);
     expect_equal(rt, "status", status, 0);
-    expect_answers(rt, str::from_utf8(output.as_slice())?);
+    expect_answers(rt, str::from_utf8(streams.output.as_slice())?);
     Ok(())
 }
 

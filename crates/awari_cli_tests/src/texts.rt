@@ -4,12 +4,12 @@ use crate::commands::{Broken, Line, NOWHERE, expect_lines, expect_run, levels_0_
 use crate::expect::expect_equal;
 use crate::levels::{LEVELS_0_TO_2, empty_folder, expect_in_folder};
 use crate::worths::LEVELS_3_TO_4;
-use awari_cli::run;
+use awari_cli::{Streams, run};
 use sha2::{Digest, Sha256};
 use std::alloc::Global;
 use std::fs;
 use std::fs::File;
-use std::io::Write;
+use std::io::{self, Write};
 use std::process::Abort;
 use std::rt::Files;
 use std::sync::Wait;
@@ -86,16 +86,12 @@ fn text_status(
     writer: &mut impl Write,
 ) -> u8 {
     let words = ["awari", "text", folder];
-    let mut reader: &[u8] = b"";
-    let mut errors = Vec::new(alloc);
-    run(
-        rt,
-        alloc,
-        words.as_slice(),
-        &mut reader,
-        writer,
-        &mut errors,
-    )
+    let mut streams = Streams {
+        input: io::empty(),
+        output: writer,
+        errors: io::sink(),
+    };
+    run(rt, alloc, words.as_slice(), &mut streams)
 }
 
 const ALL: &str = "awari_cli_test_text_all";

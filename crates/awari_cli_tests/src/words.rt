@@ -3,7 +3,7 @@
 use crate::commands::{Broken, Line, NOWHERE, expect_lines};
 use crate::expect::{expect, expect_equal};
 use crate::levels::{LEVELS_0_TO_1, empty_folder};
-use awari_cli::run;
+use awari_cli::{Streams, run};
 use std::alloc::Global;
 use std::fs::File;
 use std::process::Abort;
@@ -88,12 +88,14 @@ fn expect_usage(
     words: &[&str],
     part: &str,
 ) {
-    let mut reader: &[u8] = b"";
-    let mut output = Vec::new(alloc);
-    let mut errors = Vec::new(alloc);
-    let status = run(rt, alloc, words, &mut reader, &mut output, &mut errors);
-    expect_equal(rt, words, (status, output.is_empty()), (2, true));
-    expect(rt, words, has_part(&errors, part));
+    let mut streams = Streams {
+        input: io::empty(),
+        output: Vec::new(alloc),
+        errors: Vec::new(alloc),
+    };
+    let status = run(rt, alloc, words, &mut streams);
+    expect_equal(rt, words, (status, streams.output.is_empty()), (2, true));
+    expect(rt, words, has_part(&streams.errors, part));
 }
 
 /// Whether these bytes are text, and this is a part of it.
@@ -141,13 +143,14 @@ fn expect_screen(
     alloc: Global,
     command: &str,
 ) {
-    let mut reader: &[u8] = b"";
-    let mut output = Vec::new(alloc);
-    let mut errors = Vec::new(alloc);
     let words = ["awari", "help", command];
-    let words = words.as_slice();
-    let _status = run(rt, alloc, words, &mut reader, &mut output, &mut errors);
-    expect(rt, command, is_screen_of(&errors, command));
+    let mut streams = Streams {
+        input: io::empty(),
+        output: io::sink(),
+        errors: Vec::new(alloc),
+    };
+    let _status = run(rt, alloc, words.as_slice(), &mut streams);
+    expect(rt, command, is_screen_of(&streams.errors, command));
 }
 
 /// Whether these bytes are the help of this command, of at most 24 lines of at most 80 characters.
@@ -183,12 +186,15 @@ fn build_unwritten(
     alloc: Global,
     folder: &str,
 ) {
-    let mut reader: &[u8] = b"";
-    let mut errors = Vec::new(alloc);
     let words = ["awari", "build", "1", "--folder", folder];
     let words = words.as_slice();
-    let status = run(rt, alloc, words, &mut reader, &mut Broken, &mut errors);
-    expect_equal(rt, words, (status, errors.is_empty()), (1, true));
+    let mut streams = Streams {
+        input: io::empty(),
+        output: Broken,
+        errors: Vec::new(alloc),
+    };
+    let status = run(rt, alloc, words, &mut streams);
+    expect_equal(rt, words, (status, streams.errors.is_empty()), (1, true));
 }
 
 const FOLDER: &str = "awari_cli_test_unwritten";

@@ -4,7 +4,7 @@ ghost use Rattle.std.specs.Prelude.{⊤};
 
 use crate::expect::{expect, expect_equal};
 use crate::shelves::levels_below;
-use awari_build::{BuildFault, Pace, build_alone_with_progress, build_level_with_progress};
+use awari_build::{BuildFault, Pace, Watch, build_alone_with_progress, build_level_with_progress};
 use awari_phase::{Open, PhaseFault, Progress};
 use awari_table::{Level, Shelf};
 use std::alloc::Global;
@@ -54,7 +54,11 @@ fn built(
     if owners == 0 {
         return build_alone_with_progress(alloc, shelf, waning);
     }
-    build_level_with_progress(rt, alloc, shelf, Pace::usual(owners), &Open, waning)
+    let watch = Watch {
+        gate: &Open,
+        progress: waning,
+    };
+    build_level_with_progress(rt, alloc, shelf, Pace::usual(owners), watch)
 }
 
 /// Builds while the level is wanted as often as `most` says. Gives the refusal, and how often was

@@ -15,7 +15,7 @@ returns-clause-served g c = (
   c.in_ok-stored.stored.digest,
   c.in_ok-publisher.ensures.shelf,
   c.in_ok-stored.ensures.exact,
-  subst (λ known. IsServed known (g.R.Read.remaining c.args.reader.now) (g.W.Write.contents c.args.writer.now) (g.W.Write.contents c.serve_lines-served.new.writer))
+  subst (λ known. IsServed known (g.R.Read.remaining c.args.streams.now.input) (g.W.Write.contents c.args.streams.now.output) (g.W.Write.contents c.serve_lines-served.new.writer))
       c.in_ok-publisher.ensures.known c.in_ok-served.ensures,
 )
 
