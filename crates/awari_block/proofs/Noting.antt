@@ -3,7 +3,7 @@ use Rattle.std.proofs.Common.{◌≡◌, ◌≢◌, ℕ, ◌+◌, ◌<◌, ◌�
 use Rattle.std.proofs.lemmas.Bool.{cases_eq, cases_lt, false≢true}
 use Rattle.awari_block.specs.declared.cells.Cell.{Cell}
 use Rattle.awari_block.specs.declared.fresh.Fresh.{Fresh}
-use Rattle.awari_block.specs.Fresh.{dist_at, is_marked, lesser, AreMarked, AreNoted, IsMarkedBelow, IsFirst, IsNext, MarksOne, UnmarksOne}
+use Rattle.awari_block.specs.Fresh.{dist_at, is_marked, lesser, AreMarked, AreNoted, IsMarkedBelow, IsFirst, IsNext, IsFirstFrom, MarksOne, UnmarksOne}
 
 -- one more index that is marked
 pub marked_was : (old new : List ℕ) (index k : ℕ) → MarksOne index old new → is_marked new k ≡ true → (is_marked old k ≡ true) ⊎ (k ≡ index)
@@ -24,6 +24,11 @@ still_other old new index k marks marked same = false≢true (sym marks.here ∙
 
 pub still_was : (old new : List ℕ) (index k : ℕ) → UnmarksOne index old new → is_marked new k ≡ true → is_marked old k ≡ true
 still_was old new index k marks marked = sym (marks.others k (still_other old new index k marks marked)) ∙ marked
+
+-- where none before is marked, the first from there on is the first of all
+pub first_of_all : (words : List ℕ) (from : ℕ) (o : Option ℕ) → ((k : ℕ) → is_marked words k ≡ true → from ≤ k) → IsFirstFrom words from o → IsFirst words o
+first_of_all words from None low none = λ k marked. none k (low k marked) marked
+first_of_all words from (Some b) low (behind, is, least) = (is, λ k marked. least k (low k marked) marked)
 
 -- one note after others
 pub same_both : (a b c : Fresh) → b ≡ record a { near = b.near; first = b.first; next = b.next } → c ≡ record b { near = c.near; first = c.first; next = c.next }

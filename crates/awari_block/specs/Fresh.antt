@@ -36,6 +36,11 @@ abbrev pub IsFirst : List ℕ → Option ℕ → Type 0
 IsFirst words None = (k : ℕ) → is_marked words k ≡ true → ⊥
 IsFirst words (Some b) = (is_marked words b ≡ true) × ((k : ℕ) → is_marked words k ≡ true → b ≤ k)
 
+-- the first index from this one on that is marked, or none where none is
+abbrev pub IsFirstFrom : List ℕ → ℕ → Option ℕ → Type 0
+IsFirstFrom words from None = (k : ℕ) → from ≤ k → is_marked words k ≡ true → ⊥
+IsFirstFrom words from (Some b) = (from ≤ b) × (is_marked words b ≡ true) × ((k : ℕ) → from ≤ k → is_marked words k ≡ true → b ≤ k)
+
 -- the least distance of the boards of P that have another one than `wave`, or none where there is none
 abbrev pub IsNext : List Cell → (ℕ → Type 0) → ℕ → Option ℕ → Type 0
 IsNext cells P wave None = (k : ℕ) → P k → dist_at cells k ≡ wave

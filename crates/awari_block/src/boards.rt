@@ -7,7 +7,7 @@ ghost use Rattle.awari_block.specs.Cells.{Fits, FitsBy, view_of};
 ghost use Rattle.awari_block.specs.Steps.{cell_after_opening};
 ghost use Rattle.awari_block.specs.Blocks.{due_dist, no_cell};
 ghost use Rattle.awari_block.specs.Part.{Part as PartView, AreFresh, InBlock, IsLeastDue, settled_at, stored_at, IsClosed};
-ghost use Rattle.awari_block.specs.Boards.{CanHear, CanPut, HearsNote, OpensCells, Settles, TakesFirst, stake_of};
+ghost use Rattle.awari_block.specs.Boards.{CanHear, CanPut, HearsNote, IsNextOfWave, OpensCells, Settles, TakesFirst, stake_of};
 
 use crate::awaited::{awaited_gains, next_awaiting};
 use crate::cells::Cell;
@@ -177,6 +177,18 @@ impl Boards {
             unreachable!()
         };
         self.start + index
+    }
+
+    /// The rank of the first fresh board of the open wave behind the board of this rank, none if there
+    /// is none. Condition: the board of this rank is one of the block.
+    #[inline(always)]
+    pub fn next_of_wave(&self, rank: u32) -> Option<u32>
+        requires held { InBlock self.now rank }
+        ensures next { IsNextOfWave self.now rank result }
+        ensures held { IfSome result (InBlock self.now) }
+    {
+        let index = self.fresh.next_near(rank - self.start + 1)?;
+        Some(self.start + index)
     }
 
     /// A note of the open gain and wave, for the board of this rank in this block or another.

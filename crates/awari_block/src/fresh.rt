@@ -8,7 +8,7 @@
 
 ghost use Rattle.std.specs.Prelude.{◌≡◌, ℕ, ◌+◌, ◌*◌, ◌/◌, ◌^◌, ◌<◌, ◌≤◌, false, true, None, Some, List, length, IfOk, IfSome};
 ghost use Rattle.awari_block.specs.declared.cells.Cell.{Cell as CellView};
-ghost use Rattle.awari_block.specs.Fresh.{AreMarked, AreNoted, IsMarkedBelow, IsFirst, IsFresh, MarksOne, UnmarksOne, is_marked, lesser, nearest_of};
+ghost use Rattle.awari_block.specs.Fresh.{AreMarked, AreNoted, IsMarkedBelow, IsFirstFrom, IsFresh, MarksOne, UnmarksOne, is_marked, lesser, nearest_of};
 
 use crate::cells::Cell;
 use crate::words::{next_bit, with_bit, without_bit};
@@ -101,8 +101,17 @@ impl Fresh {
         unmark(&mut self.near, index);
         unmark_empty(&mut self.filled, self.words.as_slice(), run);
         self.count -= 1;
-        self.first = first_from(self.near.as_slice(), run as usize);
+        self.first = first_from(self.near.as_slice(), index);
         Some(index)
+    }
+
+    /// The index of the first board of the open wave from this index on, none if there is none.
+    #[inline(always)]
+    pub fn next_near(&self, from: u32) -> Option<u32>
+        requires { length self.now.near.items ≤ 2 ^ 26 }
+        ensures { IsFirstFrom self.now.near.items from result }
+    {
+        first_from(self.near.as_slice(), from)
     }
 
     /// Opens this distance. Condition: no fresh board is of the one that was open.
@@ -209,16 +218,16 @@ fn unmark_empty(filled: &mut Vec<u64>, words: &[u64], run: u32)
     unmark(filled, run);
 }
 
-/// The index of the first board that is marked. Condition: none is marked in words before this one.
-fn first_from(words: &[u64], from: usize) -> Option<u32>
-    requires few { length words.now ≤ 2 ^ 26 }
-    requires before { (k : ℕ) → k < 64 * from → is_marked words.now k ≡ true → ⊥ }
-    ensures { IsFirst words.now result }
+/// The index of the first board from this index on that is marked, none if there is none.
+fn first_from(words: &[u64], from: u32) -> Option<u32>
+    requires { length words.now ≤ 2 ^ 26 }
+    ensures { IsFirstFrom words.now from result }
 {
-    for run in from..words.len() {
-        match next_bit(words[run], 0) {
+    let mut start = from % 64;
+    for run in (from / 64) as usize..words.len() {
+        match next_bit(words[run], start) {
             Some(i) => return Some(64 * run as u32 + i),
-            None => {}
+            None => start = 0,
         }
     }
     None

@@ -1,10 +1,10 @@
 use Rattle.std.proofs.Common.{◌≡◌, ℕ, ◌+◌, Some, List, length, true, subst, ◌∙◌, sym, arith}
 use Rattle.awari_block.specs.declared.cells.Cell.{Cell}
 use Rattle.awari_block.specs.declared.fresh.Fresh.{Fresh}
-use Rattle.awari_block.specs.Fresh.{is_marked, marked_of, AreNoted, IsFirst, IsFresh, UnmarksOne}
+use Rattle.awari_block.specs.Fresh.{is_marked, marked_of, AreNoted, IsFirstFrom, IsFresh, UnmarksOne}
 use Rattle.awari_block.proofs.FreshLists.{count_less}
 use Rattle.awari_block.proofs.Marks.{filled_by, filled_facts, marked_run}
-use Rattle.awari_block.proofs.Noting.{noted_less, still_was}
+use Rattle.awari_block.proofs.Noting.{first_of_all, noted_less, still_was}
 use Rattle.awari_block.proofs.fresh.Fresh.take_first.Goals as goal
 
 module _ (wave : ℕ) (cells : List Cell) (fresh : Fresh) (index : ℕ) (sound : IsFresh wave cells fresh) (first : fresh.first ≡ Some index) where
@@ -53,5 +53,6 @@ returns-clause-sound c = λ wave cells sound.
             );
       };
       noted = noted_less cells wave c.in_ok-index.index c.args.self.now.words.items c.unmark.new.words.items c.args.self.now.near.items c.unmark-2.new.words.items c.first_from-self.result c.args.self.now.next
-          (noted wave cells c.args.self.now c.in_ok-index.index sound c.in_ok-index.was) c.unmark.ensures c.unmark-2.ensures (subst (λ (words : List ℕ). IsFirst words c.first_from-self.result) c.as_slice-2.ensures.value c.first_from-self.ensures);
+          (noted wave cells c.args.self.now c.in_ok-index.index sound c.in_ok-index.was) c.unmark.ensures c.unmark-2.ensures (first_of_all _ _ _ (λ k is. (noted wave cells c.args.self.now c.in_ok-index.index sound c.in_ok-index.was).is_first.1 k (still_was _ _ c.in_ok-index.index k c.unmark-2.ensures is))
+          (subst (λ (words : List ℕ). IsFirstFrom words c.in_ok-index.index c.first_from-self.result) c.as_slice-2.ensures.value c.first_from-self.ensures));
     }
