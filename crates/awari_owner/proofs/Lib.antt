@@ -19,6 +19,7 @@ pub mod PieceLemmas
 pub mod Firsts
 pub mod Sending
 pub mod Finding
+pub mod LookingAhead
 pub mod Telling
 pub mod Queueing
 pub mod Sharing

@@ -1,6 +1,7 @@
 pub mod PartFields
 pub mod Spread
 pub mod Found
+pub mod Lookahead
 pub mod OwnerFault
 pub mod Sound
 pub mod Level

@@ -16,12 +16,12 @@ ghost use Rattle.awari_table.specs.declared.TheConstants.{HIGHEST_LEVEL};
 ghost use Rattle.awari_owner.specs.declared.faults.OwnerFault.{OwnerFault};
 
 use crate::faults::OwnerFault;
+use crate::lookahead::Lookahead;
 use crate::outboxes::Outboxes;
 use crate::parallel::scanned_block_parallel;
 use crate::queues::reserve_others;
 use crate::scans::{ScannedBlock, scanned_block};
 use crate::spreads::{kind_of, tell_all};
-use crate::targets::{MOST_PREDECESSORS, Target};
 use awari_block::{Block, Boards, Cell, ClosedPart, Note, block_length};
 use awari_board::{SIDE, moves_keep_boards};
 use awari_rank::{ranks_tell_boards_apart, size};
@@ -32,14 +32,13 @@ use std::thread::Threads;
 
 /// One owner's part of a level that is being built. It has what is known of each board of its block,
 /// and which boards are fresh, that is, settled and not spread yet. For each board it also has the
-/// pits whose quiet moves lead out of the block, a bit for each. And it has room for the predecessors
-/// of one board.
+/// pits whose quiet moves lead out of the block, a bit for each. And it has the boards that are spread
+/// next, with their predecessors.
 #[derive(Drop)]
 pub struct Part {
     boards: Boards,
     leaving: Vec<u8>,
-    /// The boards that are told of the one that is spread, while it is.
-    targets: Vec<Target>,
+    lookahead: Lookahead,
 }
 
 impl Model for Part {
@@ -60,7 +59,7 @@ impl Part {
     /// shelf has at most `HIGHEST_LEVEL` levels. Refused as 33 `Memory` if memory runs out.
     ///
     /// It takes all the memory that the part will ever need: less than eleven bytes a board, an index of
-    /// the level, and 2304 bytes for the predecessors of the board that is spread.
+    /// the level, and 75 kilobytes for the predecessors of the boards that are spread next.
     pub fn scan(alloc: Global, shelf: &Shelf, owners: u8, owner: u8) -> Result<Part, OwnerFault>
         requires owners { (1 ≤ owners) × (owners ≤ 16) }
         requires owner { owner < owners }
@@ -254,15 +253,15 @@ impl Part {
         ranks_tell_boards_apart();
         let span = block_length(size(stake.level), outboxes.queues.len() as u8);
         let rank = self.boards.take_first();
+        let place = self.lookahead.place_of(&self.boards, rank);
         let kind = kind_of(&self.boards.cell(rank));
-        let board = self.boards.board(rank);
+        let predecessors = &self.lookahead.boards[place];
         tell_all(
             &mut self.boards,
             &mut outboxes.queues,
-            self.targets.as_mut_slice(),
+            predecessors,
             span,
             kind,
-            &board,
         );
         Ok(true)
     }
@@ -294,12 +293,13 @@ impl Part {
         ensures whole { owners ≡ 1 → IfOk result IsWhole }
         ensures memory { IfErr result (λ fault. fault ≡ OwnerFault.Memory) }
     {
-        let boards = Boards::unopened(alloc, shelf.levels(), found.block.start, found.cells)?;
-        let targets = vec![in alloc; Target { rank: 0, pit: 0 }; MOST_PREDECESSORS]?;
+        let level = shelf.levels();
+        let boards = Boards::unopened(alloc, level, found.block.start, found.cells)?;
+        let lookahead = Lookahead::new(alloc, level)?;
         Ok(Part {
             boards,
             leaving: found.leaving,
-            targets,
+            lookahead,
         })
     }
 

@@ -8,46 +8,40 @@ ghost use Rattle.awari_unmove.specs.Predecessors.{IsPredecessors};
 ghost use Rattle.awari_block.specs.Notes.{is_heard_at};
 ghost use Rattle.awari_block.specs.Part.{InBlock, IsTallied, notes_for};
 ghost use Rattle.awari_block.specs.Boards.{Settles};
-ghost use Rattle.awari_owner.specs.Found.{target_of};
+ghost use Rattle.awari_owner.specs.Found.{ArePredecessors, target_of};
 ghost use Rattle.awari_owner.specs.Spread.{Source, kind_of, is_held, IsSource, TellsSources, PutsAll, with_own, with_sent};
 ghost use Rattle.awari_block.specs.declared.notes.Note.{Note as NoteView};
 
+use crate::lookahead::Predecessors;
 use crate::queues::Queue;
-use crate::targets::{Target, find_all};
+use crate::targets::Target;
 use awari_block::{Boards, Cell, Kind};
 use awari_board::moves_keep_boards;
-use awari_packed::PackedBoard;
 use awari_rank::ranks_tell_boards_apart;
 
 /// Tells the predecessors of a board that it is won or lost. A block has `span` boards.
-///
-/// All of them are found first, and put into `targets`. What stood there before does not matter.
 pub fn tell_all(
     boards: &mut Boards,
     queues: &mut Vec<Queue>,
-    targets: &mut [Target],
+    predecessors: &Predecessors,
     span: u32,
     kind: Kind,
-    board: &PackedBoard,
 )
     requires low { boards.old.level ≤ 24 }
     requires gain { (1 ≤ boards.old.gain) × (boards.old.gain ≤ boards.old.level) }
     requires near { boards.old.wave < 2 ^ 32 - 1 }
-    requires stones { sum board.now ≡ boards.old.level }
+    requires found { ArePredecessors boards.old.level predecessors.now }
     requires blocks { 0 < span }
-    requires places { 288 ≤ length targets.old }
     requires room { (r : ℕ) → r < size_of boards.old.level → is_held boards.old r ≡ false
         → (r / span < vec_len queues.old) × (288 ≤ room_in queues.old.items (r / span)) }
-    ensures told { (sources : List Source) × IsPredecessors board.now sources × TellsSources boards.old boards.new kind sources
+    ensures told { (sources : List Source) × IsPredecessors predecessors.now.board sources × TellsSources boards.old boards.new kind sources
         × PutsAll boards.old span kind queues.old.items queues.new.items sources }
     ensures queues { vec_len queues.new ≡ vec_len queues.old }
     ensures settles { Settles boards.old boards.new }
-    ensures targets { length targets.new ≡ length targets.old }
 {
     moves_keep_boards();
-    let count = find_all(board, targets);
-    for k in 0..count {
-        tell_one(boards, queues, span, kind, targets[k]);
+    for k in 0..predecessors.count {
+        tell_one(boards, queues, span, kind, predecessors.targets[k]);
     }
 }
 

@@ -2,8 +2,7 @@
 //! that the cells of several are on their way from memory at the same time.
 
 ghost use Rattle.std.specs.Prelude.{◌≡◌, ◌+◌, ◌≤◌, ◌++◌, List, length};
-ghost use Rattle.awari_unmove.specs.Predecessors.{IsPredecessors};
-ghost use Rattle.awari_owner.specs.Found.{Lists};
+ghost use Rattle.awari_owner.specs.Found.{Lists, ListsAll};
 ghost use Rattle.awari_owner.specs.Spread.{Source};
 
 use awari_packed::PackedBoard;
@@ -23,7 +22,7 @@ pub struct Target {
 /// are.
 pub fn find_all(board: &PackedBoard, targets: &mut [Target]) -> usize
     requires room { 288 ≤ length targets.old }
-    ensures found { (sources : List Source) × IsPredecessors board.now sources × Lists targets.new result sources }
+    ensures found { ListsAll board.now targets.new result }
     ensures few { result ≤ 288 }
     ensures same { length targets.new ≡ length targets.old }
 {

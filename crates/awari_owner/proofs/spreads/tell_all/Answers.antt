@@ -10,26 +10,26 @@ pub loop-k-init : goal.loop-k-init
 loop-k-init c = record {
   same_queues = search rules;
   settles = settles_none c.args.boards.now;
-  telling = IsTelling-none c.args.boards.now c.args.span c.args.kind c.args.queues.now.items c.args.board.now c.find_all-count.new.targets c.find_all-count.result c.find_all-count.ensures.found
+  telling = IsTelling-none c.args.boards.now c.args.span c.args.kind c.args.queues.now.items c.args.predecessors.now.board c.args.predecessors.now.targets c.args.predecessors.now.count c.requires.found.listed
       (λ r below out. let at = c.requires.room r below out in (search (rules, at.0), at.1));
 }
 
 pub tell_one-requires-clause-own : goal.tell_one-requires-clause-own
 tell_one-requires-clause-own c =
-    let next = IsTelling-next _ _ _ _ _ _ _ _ _ _ (record { rank = 0; pit = 0 }) (λ p x is move. c.moves_keep_boards.ensures.stones p c.args.board.now x 0 is move) c.requires.stones c.loop-k.invariant.telling c.loop-k-test.true in
+    let next = IsTelling-next _ _ _ _ _ _ _ _ _ _ (record { rank = 0; pit = 0 }) (λ p x is move. c.moves_keep_boards.ensures.stones p c.args.predecessors.now.board x 0 is move) c.requires.found.stones c.loop-k.invariant.telling c.loop-k-test.true in
     subst (λ (t : Target). t.pit < 6) next.at next.source.2.1.legal.own
 
 pub tell_one-requires-clause-room : goal.tell_one-requires-clause-room
 tell_one-requires-clause-room c = λ out.
-    let next = IsTelling-next _ _ _ _ _ _ _ _ _ _ (record { rank = 0; pit = 0 }) (λ p x is move. c.moves_keep_boards.ensures.stones p c.args.board.now x 0 is move) c.requires.stones c.loop-k.invariant.telling c.loop-k-test.true in
+    let next = IsTelling-next _ _ _ _ _ _ _ _ _ _ (record { rank = 0; pit = 0 }) (λ p x is move. c.moves_keep_boards.ensures.stones p c.args.predecessors.now.board x 0 is move) c.requires.found.stones c.loop-k.invariant.telling c.loop-k-test.true in
     let many : length c.loop-k.queues.items ≡ length c.args.queues.now.items = search rules in
-    let room = next_has_room _ _ _ _ _ _ _ _ _ _ next.y c.loop-k.invariant.telling c.loop-k.invariant.settles many c.loop-k-test.true c.find_all-count.ensures.few next.source
+    let room = next_has_room _ _ _ _ _ _ _ _ _ _ next.y c.loop-k.invariant.telling c.loop-k.invariant.settles many c.loop-k-test.true (let room = c.requires.found.listed.2.room in search (rules, room)) next.source
     (ap (λ (t : Target). is_held c.loop-k.boards t.rank) next.at ∙ out) in
     subst (λ (t : Target). (t.rank / c.args.span < vec_len c.loop-k.queues) × (0 < room_in c.loop-k.queues.items (t.rank / c.args.span))) next.at (search (rules, room.0), room.1)
 
 pub loop-k-preserved : goal.loop-k-preserved
 loop-k-preserved c =
-    let next = IsTelling-next _ _ _ _ _ _ _ _ _ _ (record { rank = 0; pit = 0 }) (λ p x is move. c.moves_keep_boards.ensures.stones p c.args.board.now x 0 is move) c.requires.stones c.loop-k.invariant.telling c.loop-k-test.true in
+    let next = IsTelling-next _ _ _ _ _ _ _ _ _ _ (record { rank = 0; pit = 0 }) (λ p x is move. c.moves_keep_boards.ensures.stones p c.args.predecessors.now.board x 0 is move) c.requires.found.stones c.loop-k.invariant.telling c.loop-k-test.true in
     let many : length c.loop-k.queues.items ≡ length c.args.queues.now.items = search rules in
     record {
       same_queues = search rules;

@@ -4,6 +4,7 @@ use Rattle.awari_block.specs.Leaving.{AreLeaving, IsBlockOf}
 use Rattle.awari_block.specs.Part.{Part, AreFresh}
 use Rattle.awari_block.specs.declared.cells.Cell.{Cell}
 use Rattle.awari_block.specs.declared.blocks.Block.{Block}
+use Rattle.awari_owner.specs.Lookahead.{IsAhead}
 use Rattle.awari_owner.specs.Scan.{AreScanned, IsScannedBlock, IsScannedPart}
 use Rattle.awari_owner.specs.declared.scans.ScannedBlock.{ScannedBlock}
 use Rattle.awari_owner.proofs.Scanning.{hears_none, unopened_fits, unopened_fresh, unopened_scanned}
@@ -39,23 +40,23 @@ module _ (value : List ℕ → ℤ) (n : ℕ) (found : ScannedBlock) (low : n �
         (subst₂ (λ m b. AreLeaving m block.start b block.start found.leaving.items) (sym same) (sym is.piece.len) is.piece.leaves)
 
 pub unopened-requires-clause-fit : goal.unopened-requires-clause-fit
-unopened-requires-clause-fit c = fits _ _ c.args.found (omega (arith, c.requires.low)) c.requires.found c.levels.result c.levels.ensures.levels
+unopened-requires-clause-fit c = fits _ _ c.args.found (omega (arith, c.requires.low)) c.requires.found c.levels-level.result c.levels-level.ensures.levels
 
 pub invariant_of-result : goal.invariant_of-result
 invariant_of-result c = record {
   opened = (let gain = ap (λ (p : Part). p.gain) c.in_ok-boards.ensures in omega (arith, gain));
   each = search rules;
-  leaving = leaves _ _ c.args.found (omega (arith, c.requires.low)) c.requires.found c.levels.result c.levels.ensures.levels c.in_ok-boards.boards c.in_ok-boards.ensures;
-  fresh = fresh _ _ c.args.found (omega (arith, c.requires.low)) c.requires.found c.levels.result c.levels.ensures.levels c.in_ok-boards.boards c.in_ok-boards.ensures;
-  targets = search rules;
+  leaving = leaves _ _ c.args.found (omega (arith, c.requires.low)) c.requires.found c.levels-level.result c.levels-level.ensures.levels c.in_ok-boards.boards c.in_ok-boards.ensures;
+  fresh = fresh _ _ c.args.found (omega (arith, c.requires.low)) c.requires.found c.levels-level.result c.levels-level.ensures.levels c.in_ok-boards.boards c.in_ok-boards.ensures;
+  ahead = subst (λ (p : Part). IsAhead p.level c.in_ok-lookahead.lookahead) (sym c.in_ok-boards.ensures) c.in_ok-lookahead.ensures;
 }
 
 pub returns-clause-scanned : goal.returns-clause-scanned
 returns-clause-scanned c =
-    let part = scanned _ _ c.args.found (omega (arith, c.requires.low)) c.requires.found c.levels.result c.levels.ensures.levels c.in_ok-boards.boards c.in_ok-boards.ensures in
+    let part = scanned _ _ c.args.found (omega (arith, c.requires.low)) c.requires.found c.levels-level.result c.levels-level.ensures.levels c.in_ok-boards.boards c.in_ok-boards.ensures in
     record {
       scan = record { level = part.level; gain = part.gain; wave = part.wave; start = part.start ∙ c.requires.start; end = part.end ∙ c.requires.end; unsettled = part.unsettled; fresh = part.fresh };
       tallied = part.tallied;
       own = hears_none c.in_ok-boards.boards part.unsettled;
-      fresh = fresh _ _ c.args.found (omega (arith, c.requires.low)) c.requires.found c.levels.result c.levels.ensures.levels c.in_ok-boards.boards c.in_ok-boards.ensures;
+      fresh = fresh _ _ c.args.found (omega (arith, c.requires.low)) c.requires.found c.levels-level.result c.levels-level.ensures.levels c.in_ok-boards.boards c.in_ok-boards.ensures;
     }

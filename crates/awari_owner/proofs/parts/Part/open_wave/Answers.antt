@@ -4,6 +4,7 @@ use Rattle.awari_block.specs.Part.{Part, IsTallied, cell_at, notes_for}
 use Rattle.awari_block.specs.declared.notes.Note.{Note}
 use Rattle.awari_rank.specs.Rank.{rank_of}
 use Rattle.awari_owner.proofs.PlannedTallies.{wave_tally}
+use Rattle.awari_owner.specs.Lookahead.{IsAhead}
 use Rattle.awari_owner.proofs.parts.Part.open_wave.Goals as goal
 
 pub invariant_of-self : goal.invariant_of-self
@@ -13,7 +14,7 @@ invariant_of-self c =
       each = c.self.invariant.each ∙ ap (λ (o : Part). length o.cells) (sym c.open_wave.ensures.wave);
       leaving = subst (λ (o : Part). AreLeaving o.level o.start (length o.cells) o.start c.self.inside.leaving.items) (sym c.open_wave.ensures.wave) c.self.invariant.leaving;
       fresh = c.open_wave.ensures.fresh;
-      targets = c.self.invariant.targets;
+      ahead = subst (λ (o : Part). IsAhead o.level c.self.inside.lookahead) (sym c.open_wave.ensures.wave) c.self.invariant.ahead;
     }
 
 waved : (value : List ℕ → ℤ) (notes : List Note) (old : Part) (dist : ℕ) → old.wave < dist → IsTallied value old notes → IsTallied value (record old { wave = dist }) notes

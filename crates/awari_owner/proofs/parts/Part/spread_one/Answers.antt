@@ -4,6 +4,8 @@ use Rattle.std.proofs.lemmas.Result.{err_from_is_err_and}
 use Rattle.awari_rank.specs.Rank.{size_of}
 use Rattle.awari_block.specs.Boards.{TakesFirst, stake_of}
 use Rattle.awari_block.specs.Part.{Part, IsLeastDue}
+use Rattle.awari_owner.specs.Lookahead.{IsAhead}
+use Rattle.awari_owner.specs.declared.lookahead.Predecessors.{Predecessors}
 use Rattle.awari_owner.specs.Spread.{Spreads, PutsAll, IsPartOf, is_held}
 use Rattle.awari_owner.specs.Outboxes.{Outboxes}
 use Rattle.awari_owner.specs.Sound.{SameStake, SpreadsFirst}
@@ -11,6 +13,7 @@ use Rattle.awari_owner.specs.Queues.{batches_of, room_in}
 use Rattle.awari_block.specs.declared.stakes.Stake.{Stake}
 use Rattle.awari_owner.proofs.Firsts.{fewer_unspread, spread_first, taken_low, taken_place, taken_settles, IsTold}
 use Rattle.awari_owner.proofs.Giving.{sound_spread}
+use Rattle.awari_owner.proofs.LookingAhead.{ahead_at}
 use Rattle.awari_owner.proofs.Sending.{batches_length, all_batches}
 use Rattle.awari_block.proofs.Settling.{leaving_still}
 use Rattle.awari_owner.proofs.Sharing.{outboxes_of, own_stays, room_for, sends_by}
@@ -27,6 +30,16 @@ span_is old stake boards many owners span at size count is =
 due_now : (old part : Part) (stake : Stake) (dist : ℕ) → stake ≡ stake_of old → dist ≡ stake.wave → old ≡ part → IsLeastDue old (Some dist) → IsLeastDue part (Some part.wave)
 due_now old part stake dist at near view due =
     subst (λ (o : Part). IsLeastDue o (Some o.wave)) view (subst (λ d. IsLeastDue old (Some d)) (near ∙ ap (λ (p : Stake). p.wave) at) due)
+
+pub place_of-place-requires-clause-ahead : goal.place_of-place-requires-clause-ahead
+place_of-place-requires-clause-ahead c =
+    let takes : TakesFirst c.self.inside.boards c.take_first-rank.new.self c.take_first-rank.result = c.take_first-rank.ensures.first in
+    subst (λ (t : Part). IsAhead t.level c.self.inside.lookahead) (sym takes.rest) c.self.invariant.ahead
+
+pub tell_all-requires-clause-found : goal.tell_all-requires-clause-found
+tell_all-requires-clause-found c =
+    let first = ahead_at _ _ _ _ c.index-predecessors.result.now c.place_of-place.ensures.ahead c.place_of-place.ensures.place c.index-predecessors.ensures in
+    first.0
 
 pub tell_all-requires-clause-gain : goal.tell_all-requires-clause-gain
 tell_all-requires-clause-gain c =
@@ -58,7 +71,7 @@ invariant_of-self c =
       each = c.self.invariant.each ∙ sym settles.size;
       leaving = leaving_still c.self.inside.boards c.tell_all.new.boards c.self.inside.leaving.items settles.same.level settles.same.start settles.size c.self.invariant.leaving;
       fresh = c.tell_all.ensures.settles.fresh c.take_first-rank.ensures.fresh;
-      targets = search rules;
+      ahead = subst (λ n. IsAhead n c.place_of-place.new.self) (sym c.tell_all.ensures.settles.same.level) c.place_of-place.ensures.ahead;
     }
 
 pub invariant_of-outboxes-2 : goal.invariant_of-outboxes-2
@@ -69,8 +82,9 @@ invariant_of-outboxes-2 c =
     let told = c.tell_all.ensures.told in
     let puts : PutsAll old c.block_length-span.result c.kind_of-kind.result c.reserve_others.new.queues.items c.tell_all.new.queues.items told.0 =
     subst (λ (t : Part). PutsAll t c.block_length-span.result c.kind_of-kind.result c.reserve_others.new.queues.items c.tell_all.new.queues.items told.0) takes.rest told.3 in
-    let are = sources_of c.board-board.result told.0 (λ p x is move. c.moves_keep_boards.ensures.stones p c.board-board.result x 0 is move) told.1 in
-    let stones = c.board-board.ensures.stones ∙ ap (λ (t : Part). t.level) takes.rest in
+    let are = sources_of c.index-predecessors.result.now.board told.0 (λ p x is move. c.moves_keep_boards.ensures.stones p c.index-predecessors.result.now.board x 0 is move) told.1 in
+    let first = ahead_at _ _ _ _ c.index-predecessors.result.now c.place_of-place.ensures.ahead c.place_of-place.ensures.place c.index-predecessors.ensures in
+    let stones = first.0.stones ∙ ap (λ (t : Part). t.level) takes.rest in
     let many : 0 < size_of old.level = subst (λ (p : Stake). 0 < size_of p.level) c.stake-stake.ensures.stake (subst (λ n. 0 < n) c.size.ensures.boards c.size.ensures.some) in
     let spans = span_is old c.stake-stake.result c.size.result c.len.result (length c.outboxes.inside.queues.items) c.block_length-span.result c.stake-stake.ensures.stake c.size.ensures.boards (search rules) c.block_length-span.ensures in
     let after : length c.tell_all.new.queues.items ≡ length c.outboxes.inside.queues.items = search rules in
@@ -80,7 +94,7 @@ invariant_of-outboxes-2 c =
       few = omega (arith, many', c.outboxes.invariant.few);
       one = omega (arith, many', c.outboxes.invariant.one);
       own =
-          own_stays old c.board-board.result told.0 c.kind_of-kind.result c.block_length-span.result c.outboxes.inside.owner c.outboxes.inside.queues.items c.reserve_others.new.queues.items c.tell_all.new.queues.items
+          own_stays old c.index-predecessors.result.now.board told.0 c.kind_of-kind.result c.block_length-span.result c.outboxes.inside.owner c.outboxes.inside.queues.items c.reserve_others.new.queues.items c.tell_all.new.queues.items
           are stones made many spans c.in_ok-reserve_others.ensures.same puts ∙ c.outboxes.invariant.own;
       batches = all_batches old c.block_length-span.result c.kind_of-kind.result told.0 c.outboxes.inside.queues.items c.reserve_others.new.queues.items c.tell_all.new.queues.items after c.in_ok-reserve_others.ensures.same puts
           c.outboxes.invariant.batches;
@@ -96,20 +110,21 @@ returns-clause-spread c = λ _.
     subst (λ (t : Part). PutsAll t c.block_length-span.result c.kind_of-kind.result c.reserve_others.new.queues.items c.tell_all.new.queues.items told.0) takes.rest told.3 in
     let level = ap (λ (p : Stake). p.level) c.stake-stake.ensures.stake in
     let wave = ap (λ (p : Stake). p.wave) c.stake-stake.ensures.stake in
-    let both : Spreads old c.tell_all.new.boards c.board-board.result told.0 × IsTold old c.board-board.result told.0 c.kind_of-kind.result =
-    spread_first old c.take_first-rank.new.self c.tell_all.new.boards c.take_first-rank.result takes c.tell_all.ensures.settles c.cell.result c.board-board.result told.0 c.kind_of-kind.result
+    let first = ahead_at _ _ _ _ c.index-predecessors.result.now c.place_of-place.ensures.ahead c.place_of-place.ensures.place c.index-predecessors.ensures in
+    let both : Spreads old c.tell_all.new.boards c.index-predecessors.result.now.board told.0 × IsTold old c.index-predecessors.result.now.board told.0 c.kind_of-kind.result =
+    spread_first old c.take_first-rank.new.self c.tell_all.new.boards c.take_first-rank.result takes c.tell_all.ensures.settles c.cell.result c.index-predecessors.result.now.board told.0 c.kind_of-kind.result
     c.ranks_tell_boards_apart.ensures
     (λ p x r is move. c.moves_keep_boards.ensures.board p r x 0 is move)
     (λ p x r is move. c.moves_keep_boards.ensures.stones p r x 0 is move)
-    (let far = c.if-dist.false in let at = c.if-dist-stake.false in search (rules, wave)) c.self.invariant.opened c.board-board.ensures.board (c.board-board.ensures.stones ∙ ap (λ (t : Part). t.level) takes.rest) c.board-board.ensures.rank
+    (let far = c.if-dist.false in let at = c.if-dist-stake.false in search (rules, wave)) c.self.invariant.opened first.0.board (first.0.stones ∙ ap (λ (t : Part). t.level) takes.rest) (first.0.rank ∙ first.1)
     c.cell.ensures.stored c.kind_of-kind.ensures told.1 told.2 in
     let many : 0 < size_of old.level = subst (λ (p : Stake). 0 < size_of p.level) c.stake-stake.ensures.stake (subst (λ n. 0 < n) c.size.ensures.boards c.size.ensures.some) in
     let spans = span_is old c.stake-stake.result c.size.result c.len.result (length c.outboxes.inside.queues.items) c.block_length-span.result c.stake-stake.ensures.stake c.size.ensures.boards (search rules) c.block_length-span.ensures in
     let after : length c.tell_all.new.queues.items ≡ length c.outboxes.inside.queues.items = search rules in
-    let sends = sends_by old c.board-board.result told.0 c.kind_of-kind.result c.block_length-span.result c.outboxes.inside.owner c.outboxes.inside.queues.items c.reserve_others.new.queues.items c.tell_all.new.queues.items
+    let sends = sends_by old c.index-predecessors.result.now.board told.0 c.kind_of-kind.result c.block_length-span.result c.outboxes.inside.owner c.outboxes.inside.queues.items c.reserve_others.new.queues.items c.tell_all.new.queues.items
     c.self.invariant.opened both.1 made many spans after c.in_ok-reserve_others.ensures.same puts in
     let does : SpreadsFirst old c.tell_all.new.boards (outboxes_of c.outboxes.inside.owner c.outboxes.inside.queues.items) (outboxes_of c.outboxes.inside.owner c.tell_all.new.queues.items) = record {
-      board = c.board-board.result;
+      board = c.index-predecessors.result.now.board;
       sources = told.0;
       notes = _;
       spreads = both.0;
@@ -119,7 +134,7 @@ returns-clause-spread c = λ _.
       sound = λ value taken sent coming.
           sound_spread c.ranks_tell_boards_apart.ensures
           (λ p x r is move. (c.moves_keep_boards.ensures.board p r x 0 is move, (let kept = c.moves_keep_boards.ensures.stones p r x 0 is move in omega (arith, kept))))
-          value old c.tell_all.new.boards _ _ taken sent coming c.board-board.result told.0 _ both.0 sends (taken_place old c.take_first-rank.new.self c.tell_all.new.boards c.take_first-rank.result takes c.tell_all.ensures.settles) (c.tell_all.ensures.settles.fresh c.take_first-rank.ensures.fresh);
+          value old c.tell_all.new.boards _ _ taken sent coming c.index-predecessors.result.now.board told.0 _ both.0 sends (taken_place old c.take_first-rank.new.self c.tell_all.new.boards c.take_first-rank.result takes c.tell_all.ensures.settles) (c.tell_all.ensures.settles.fresh c.take_first-rank.ensures.fresh);
     } in
     subst₂ (λ (o : Part) (b : Outboxes). SpreadsFirst o c.tell_all.new.boards b (outboxes_of c.outboxes.inside.owner c.tell_all.new.queues.items)) c.self.view_is c.outboxes.view_is does
 
