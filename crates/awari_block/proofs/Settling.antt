@@ -9,7 +9,6 @@ use Rattle.awari_block.specs.declared.stakes.Stake.{Stake}
 use Rattle.awari_block.specs.Cells.{is_settled, Keeps}
 use Rattle.awari_block.specs.Fresh.{due_of, fresh_of, IsFresh, MarksOne}
 use Rattle.awari_block.specs.Blocks.{Due, cell_in, is_settled_in, IsBlock}
-use Rattle.awari_block.specs.Leaving.{AreLeaving}
 use Rattle.awari_block.specs.Part.{Part, part_of, SameLevel}
 use Rattle.awari_block.specs.Boards.{CanPut, Settles, stake_of}
 use Rattle.awari_block.proofs.BlockLemmas.{JoinsIf, keeps_both, keeps_same, one_if, put_joined, put_joins, put_kept, put_stays, put_unspread}
@@ -53,12 +52,6 @@ settles_both a b c one two =
       unspread = two.unspread ∙ one.unspread;
       fresh = λ are. two.fresh (one.fresh are);
     }
-
--- the pits whose moves leave the block are told of the same boards
-pub leaving_still : (old new : Part) (leaving : List ℕ) → new.level ≡ old.level → new.start ≡ old.start → length new.cells ≡ length old.cells
-    → AreLeaving old.level old.start (length old.cells) old.start leaving → AreLeaving new.level new.start (length new.cells) new.start leaving
-leaving_still old new leaving level start size are =
-    subst (λ b. AreLeaving new.level new.start b new.start leaving) (sym size) (subst₂ (λ n s. AreLeaving n s (length old.cells) s leaving) (sym level) (sym start) are)
 
 -- ---- a cell that is put
 

@@ -57,7 +57,7 @@ pub record AreNoted (cells : List Cell) (P : ℕ → Type 0) (wave : ℕ) (near 
 abbrev pub IsMarkedBelow : List ℕ → ℕ → ℕ → Type 0
 IsMarkedBelow words n k = (is_marked words k ≡ true) × (k < n)
 
--- there is a bit for each word, which is set where the word marks a board
+-- there is a bit for each word, which is set if the word marks a board
 unfoldable pub AreFilled : List ℕ → List ℕ → Type 0
 AreFilled words filled = (length words ≤ 64 * length filled) × (length filled ≤ 2 ^ 26) × ((j : ℕ) → is_marked filled j ≡ true → j < length words)
     × ((k : ℕ) → is_marked words k ≡ true → is_marked filled (k / 64) ≡ true)

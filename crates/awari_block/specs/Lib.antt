@@ -9,7 +9,7 @@ pub mod Fresh
 pub mod Part
 pub mod Boards
 pub mod BoardsFields
-pub mod Leaving
+pub mod Shares
 pub mod ClosedFields
 pub mod Awaited
 pub mod Paces

@@ -1,11 +1,9 @@
 //! Blocks of a level, one for each owner.
 
-ghost use Rattle.std.specs.Prelude.{◌≡◌, ◌≤◌, ◌<◌, ◌+◌, ◌-◌, ◌/◌, ◌↔◌, IsTrue, sum};
-ghost use Rattle.awari_board.specs.Rules.{IsBoard};
-ghost use Rattle.awari_rank.specs.Rank.{rank_of, size_of};
-ghost use Rattle.awari_block.specs.Leaving.{IsAmong, IsBlockOf, first_rank};
+ghost use Rattle.std.specs.Prelude.{◌≡◌, ◌≤◌, ◌<◌, ◌+◌, ◌-◌, ◌/◌};
+ghost use Rattle.awari_rank.specs.Rank.{size_of};
+ghost use Rattle.awari_block.specs.Shares.{IsBlockOf, first_rank};
 
-use awari_packed::PackedBoard;
 use awari_rank::size;
 
 /// A block: the boards of a level from one rank up to, not including, another.
@@ -15,8 +13,6 @@ pub struct Block {
     pub start: u32,
     /// One more than the rank of the last board.
     pub end: u32,
-    /// Whether these are all boards of the level.
-    pub whole: bool,
 }
 
 impl Block {
@@ -31,28 +27,10 @@ impl Block {
         ensures sound { IsBlockOf level result }
     {
         let boards = size(level);
-        let start = first_rank(boards, owners, owner);
-        let end = first_rank(boards, owners, owner + 1);
         Block {
-            start,
-            end,
-            whole: start == 0 && end == boards,
+            start: first_rank(boards, owners, owner),
+            end: first_rank(boards, owners, owner + 1),
         }
-    }
-
-    /// Whether the board is in the block. If the block is the whole level, no rank is computed.
-    #[inline(always)]
-    pub fn holds(self, board: &PackedBoard) -> bool
-        requires board { IsBoard board.now }
-        requires low { sum board.now ≤ 24 }
-        requires sound { IsBlockOf (sum board.now) self }
-        ensures { IsTrue result ↔ IsAmong self.start (self.end - self.start) (rank_of board.now) }
-    {
-        if self.whole {
-            return true;
-        }
-        let rank = board.rank();
-        self.start <= rank && rank < self.end
     }
 }
 

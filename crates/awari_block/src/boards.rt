@@ -52,26 +52,27 @@ impl Model for Boards {
 
 impl Boards {
     /// The boards of a block of this level, from rank `start` on, with no gain open and no board
-    /// fresh. It takes all memory that they will ever need, less than two bytes a board and an [`Index`],
-    /// and is refused only if that runs out.
+    /// fresh. It takes all memory that they will ever need, less than two bytes a board, and is refused
+    /// only if that runs out.
     ///
-    /// Conditions: the level has at most 24 stones, the block lies within the level, and each cell
-    /// fits a level with no gain open.
+    /// Conditions: the level has at most 24 stones, the block lies within the level, each cell fits a
+    /// level with no gain open, and the index is that of the level.
     pub fn unopened(
         alloc: Global,
         level: u8,
         start: u32,
         cells: Vec<Cell>,
+        index: Index,
     ) -> Result<Boards, AllocError>
         requires low { level ≤ 24 }
         requires short { start + vec_len cells < 2 ^ 32 }
         requires within { start + vec_len cells ≤ size_of level }
         requires fit { All (λ c. FitsBy c.mark level (level + 1) c.score c.dist) cells.items }
+        requires index { index ≡ level }
         ensures { IfOk result (λ boards. boards ≡ record { level = level; gain = level + 1; wave = 0; start = start; cells = cells.items; fresh = [] }) }
     {
         let fresh = Fresh::new(alloc, cells.len())?;
         let awaits = awaited_gains(alloc, level, cells.as_slice())?;
-        let index = Index::of(alloc, level)?;
         Ok(Boards {
             start,
             stake: Stake {

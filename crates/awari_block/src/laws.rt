@@ -2,7 +2,7 @@
 //! calling its function, which does nothing.
 
 ghost use Rattle.std.specs.Prelude.{◌≡◌, pos, neg_ℤ};
-ghost use Rattle.awari_block.specs.Leaving.{first_rank};
+ghost use Rattle.awari_block.specs.Shares.{first_rank};
 ghost use Rattle.awari_block.specs.declared.paces.TheConstants.{MOST_OWNERS, MOST_ROOM, MOST_SWEEPS};
 ghost use Rattle.awari_block.specs.Steps.{after_note, after_opening};
 ghost use Rattle.awari_block.specs.Tally.{Open, Settled, Ended, Nothing, ByCapture, ByNotes};

@@ -7,22 +7,16 @@
 //! heard. `Boards::unopened` takes all memory that the boards ever need. A [`Pace`] says how many owners
 //! share a level, and how they work.
 //!
-//! The cells of a block of which nothing is known yet, in `crates/awari_owner/src/scans.rt`:
+//! The kind of the notes that a settled board gives, in `crates/awari_owner/src/spreads.rt`:
 //!
-//!     pub fn unscanned_block(alloc: Global, block: Block) -> Result<ScannedBlock, AllocError>
-//!         requires order { block.start ≤ block.end }
-//!         ensures block { IfOk result (λ found. found.block ≡ block) }
-//!         ensures cells { IfOk result (λ found. length found.cells.items ≡ block.end - block.start) }
-//!         ensures leaving { IfOk result (λ found. length found.leaving.items ≡ block.end - block.start) }
+//!     pub fn kind_of(cell: &Cell) -> Kind
+//!         ensures { result ≡ kind_of cell.now.score }
 //!     {
-//!         let boards = (block.end - block.start) as usize;
-//!         let cells = vec![in alloc; Cell::of_end(0); boards]?;
-//!         let leaving = vec![in alloc; 0; boards]?;
-//!         Ok(ScannedBlock {
-//!             block,
-//!             cells,
-//!             leaving,
-//!         })
+//!         if cell.score > 0 {
+//!             Kind::Won
+//!         } else {
+//!             Kind::Lost
+//!         }
 //!     }
 #![tactic(auto)]
 

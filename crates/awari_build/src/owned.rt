@@ -67,7 +67,7 @@ pub fn build_level<R: Threads + Wait + Sync, G: Gate + Sync>(
     build_level_with_progress(rt, alloc, shelf, pace, watch)
 }
 
-/// What is beside a level that is built by owners.
+/// What looks on while owners build a level.
 #[derive(Drop)]
 pub struct Watch<'a, G, P> {
     /// What each owner enters at the start of each of its sweeps.

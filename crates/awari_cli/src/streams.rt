@@ -7,6 +7,6 @@ pub struct Streams<R, W, E> {
     pub input: R,
     /// Where the answers go.
     pub output: W,
-    /// Where the texts of `clap` go, how far a build is, and what is odd about an answer.
+    /// Where the texts of `clap` go, how far a build is, and remarks on an answer.
     pub errors: E,
 }

@@ -8,7 +8,7 @@ use Rattle.awari_block.specs.Notes.{IsQuietMove, Has, IsNoteOf, is_heard_at}
 use Rattle.awari_block.specs.Tally.{has_pit}
 use Rattle.awari_block.specs.Blocks.{KeepSettled}
 use Rattle.awari_block.specs.Part.{Part, InBlock, Leaves, IsExpected, JoinsFresh, cell_at, stored_at, notes_for}
-use Rattle.awari_block.specs.Leaving.{first_rank}
+use Rattle.awari_block.specs.Shares.{first_rank}
 use Rattle.awari_owner.proofs.PlannedTallies.{unheard_told}
 use Rattle.awari_owner.specs.Spread.{IsSpread, IsSeenAs}
 use Rattle.awari_block.specs.declared.notes.Note.{Note}

@@ -2,7 +2,7 @@
 use Rattle.std.specs.List.{AllZip}
 use Rattle.std.proofs.Math.Nat.{lt-div-mul-add, mul_comm}
 use Rattle.awari_owner.specs.Scan.{IsScan}
-use Rattle.awari_block.specs.Leaving.{first_rank}
+use Rattle.awari_block.specs.Shares.{first_rank}
 use Rattle.std.proofs.Common.{length, ◌≡◌, ℕ, zero, suc, ◌+◌, ◌-◌, ◌<◌, ◌≤◌, ◌==◌, inl, inr, Bool, true, false, cond, List, [], ◌∷◌, get_or, sum, ℤ, All, refl, sym, ap, subst, subst₂, ◌∙◌, arith, eqb-true, ◌++◌, length-append, append-nil, ◌/◌}
 use Rattle.std.proofs.Math.ListN.{get_or-append}
 use Rattle.std.proofs.Math.Seq.{get_or-append_right}

@@ -11,11 +11,9 @@ pub mod Taking
 pub mod Gains
 pub mod Spreading
 pub mod Hearing
-pub mod LeavingMoves
 pub mod Scanning
 pub mod Looks
 pub mod RunMoves
-pub mod PieceLemmas
 pub mod Firsts
 pub mod Sending
 pub mod Finding

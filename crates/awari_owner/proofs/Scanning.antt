@@ -1,9 +1,9 @@
 -- A board of which no note was heard is open before any gain is.
-use Rattle.std.proofs.Common.{◌≡◌, ℕ, zero, suc, ◌+◌, ◌<◌, ◌≤◌, ◌==◌, ◌⊎◌, inl, inr, Bool, true, false, not, ◌&&◌, is_some, All, List, [], ◌∷◌, ◌++◌, ◌-◌, ◌≢◌, length, get_or, length-append, subst₂, sum, take, count_by, ℤ, Option, Some, None, pos, neg_ℤ, ◌-ℤ◌, ◌<ℤ◌, ◌≤ℤ◌, refl, sym, ap, subst, ◌∙◌, arith, eqb-true}
+use Rattle.std.proofs.Common.{◌≡◌, ℕ, zero, suc, ◌+◌, ◌<◌, ◌≤◌, ◌==◌, ◌⊎◌, inl, inr, Bool, true, false, not, ◌&&◌, is_some, All, List, [], ◌-◌, length, get_or, set, subst₂, sum, take, count_by, ℤ, Option, Some, None, pos, neg_ℤ, ◌-ℤ◌, ◌<ℤ◌, ◌≤ℤ◌, refl, sym, ap, subst, ◌∙◌, arith, eqb-true}
+use Rattle.std.proofs.lemmas.Bool.{cases_eq, false≢true}
 use Rattle.std.proofs.lemmas.Bool.Decides.{nat_tests}
 use Rattle.std.proofs.lemmas.Int.{ints}
-use Rattle.std.proofs.lemmas.List.{get_or_append_left, get_or_default}
-use Rattle.std.proofs.Math.Seq.{get_or-append_seam}
+use Rattle.std.proofs.lemmas.List.{get_or_default}
 use Rattle.awari_board.specs.Rules.{IsBoard, IsEnded, IsLegal, IsMove, captured, next_board}
 use Rattle.awari_board.specs.Tests.{is_legal}
 use Rattle.awari_board.proofs.Legal.{legal_is}
@@ -16,16 +16,15 @@ use Rattle.awari_block.specs.declared.cells.Cell.{Cell}
 use Rattle.awari_block.specs.declared.cells.Mark.{Mark}
 use Rattle.awari_block.specs.declared.cells.Mark.TheVariants.{Ended, Quiet, Capturing, Noted, Settled}
 use Rattle.awari_block.specs.declared.stakes.Stake.{Stake}
-use Rattle.awari_owner.specs.Scan.{IsRanged, IsBestBelow, IsCounted, IsScannedCell, IsScannedPart, AreScanned, AreScannedTo}
+use Rattle.awari_owner.specs.Scan.{IsRanged, IsBestBelow, IsCounted, IsScannedCell, IsScannedPart, AreScanned}
 use Rattle.awari_rank.specs.Rank.{rank_of, size_of}
 use Rattle.awari_rank.proofs.Reaching.{board_reached}
 use Rattle.awari_block.proofs.Freshness.{fresh_of_block}
 use Rattle.awari_block.specs.Blocks.{cell_in, no_cell, IsBlock}
 use Rattle.awari_block.specs.Part.{Part, AreFresh, InBlock, part_of, settled_by, settled_at}
 use Rattle.awari_owner.specs.Spread.{HearsOwn}
-use Rattle.std.proofs.lemmas.Bool.{false≢true}
 use Rattle.awari_owner.proofs.Basics.{below_six, count_by-none, count_by-some}
-use Rattle.awari_block.proofs.BlockLemmas.{one_if}
+use Rattle.awari_block.proofs.BlockLemmas.{cell_in-other, cell_in-same, one_if}
 use Rattle.awari_owner.proofs.Legality.{quiet_counted}
 
 pub scanned : (value : List ℕ → ℤ) (p : List ℕ) (best : Option ℤ) → ((x : ℕ) × IsLegal p x) → IsBest value p best
@@ -212,57 +211,18 @@ scanned_tally value p c t w at h = record {
 
 -- ---- the cells, board by board
 
--- the boards of the level of n stones from rank `start` up to this one are scanned, and the board of this rank comes next
-pub record IsScanning (value : List ℕ → ℤ) (n start rank : ℕ) (cells : List Cell) (board : List ℕ) : Type 0 where
-  pub len : start + length cells ≡ rank
-  pub next : IsBoard board
-  pub stones : sum board ≡ n
-  pub ranked : rank_of board ≡ rank
-  pub each : (p : List ℕ) → IsBoard p → sum p ≡ n → start ≤ rank_of p → rank_of p < rank → IsScannedCell value p (cell_in start cells (rank_of p))
-
 module _ (value : List ℕ → ℤ) (n start : ℕ) where
   -- one board more
   pub scanned-more : (rank : ℕ) (cells : List Cell) (c : Cell) (board : List ℕ) → ((b d : List ℕ) → IsBoard b → IsBoard d → sum b ≡ sum d → rank_of b ≡ rank_of d → b ≡ d)
-      → IsScanning value n start rank cells board → IsScannedCell value board c
-      → (p : List ℕ) → IsBoard p → sum p ≡ n → start ≤ rank_of p → rank_of p < rank + 1 → IsScannedCell value p (cell_in start (cells ++ c ∷ []) (rank_of p))
-  scanned-more rank cells c board injective before here p is stones low high = by (rank_of p == rank) refl
-    where
-      differ : (x y : ℕ) → (x == y) ≡ false → x ≢ y
-      differ x y e = grind (arith, nat_tests)
-
-      by : (b : Bool) → (rank_of p == rank) ≡ b → IsScannedCell value p (cell_in start (cells ++ c ∷ []) (rank_of p))
-      by true e =
-          let at : rank_of p ≡ rank = eqb-true (rank_of p) rank e in
-          let same : p ≡ board = injective p board is before.next (stones ∙ sym before.stones) (at ∙ sym before.ranked) in
-          let stake : rank_of p - start ≡ length cells = omega (arith, at, before.len) in
-          subst₂ (IsScannedCell value) (sym same) (sym (ap (λ k. get_or (cells ++ c ∷ []) k no_cell) stake ∙ get_or-append_seam cells c [] no_cell)) here
-      by false e =
-          let ne : rank_of p ≢ rank = differ (rank_of p) rank e in
-          let less : rank_of p - start < length cells = omega (arith, ne, low, high, before.len) in
-          subst (IsScannedCell value p) (sym (get_or_append_left cells (c ∷ []) no_cell (rank_of p - start) less)) (before.each p is stones low (omega (arith, ne, high)))
-
-  pub IsScanning-more : (rank : ℕ) (cells : List Cell) (c : Cell) (board next : List ℕ) → ((b d : List ℕ) → IsBoard b → IsBoard d → sum b ≡ sum d → rank_of b ≡ rank_of d → b ≡ d)
-      → IsScanning value n start rank cells board → IsScannedCell value board c → IsBoard next → sum next ≡ sum board → rank_of next ≡ rank_of board + 1
-      → IsScanning value n start (rank + 1) (cells ++ c ∷ []) next
-  IsScanning-more rank cells c board next injective before here is stones ranked = record {
-    len = omega (arith, before.len, length-append cells (c ∷ []));
-    next = is;
-    stones = stones ∙ before.stones;
-    ranked = omega (arith, ranked, before.ranked);
-    each = scanned-more rank cells c board injective before here;
-  }
-
-  -- ---- with no board at hand
-
-  pub scanned_to-none : (cells : List Cell) → length cells ≡ 0 → AreScannedTo value n start start cells
-  scanned_to-none cells none = record { len = omega (arith, none); each = λ p is stones low high. absurd (omega (arith, low, high)) }
-
-  pub scanned_to-more : (rank : ℕ) (cells : List Cell) (c : Cell) (board : List ℕ) → ((b d : List ℕ) → IsBoard b → IsBoard d → sum b ≡ sum d → rank_of b ≡ rank_of d → b ≡ d)
-      → IsBoard board → sum board ≡ n → rank_of board ≡ rank → IsScannedCell value board c → AreScannedTo value n start rank cells → AreScannedTo value n start (rank + 1) (cells ++ c ∷ [])
-  scanned_to-more rank cells c board injective is stones ranked here before = record {
-    len = (let long = before.len in let more = length-append cells (c ∷ []) in omega (arith, long, more));
-    each = scanned-more rank cells c board injective (record { len = before.len; next = is; stones = stones; ranked = ranked; each = before.each }) here;
-  }
+      → IsBoard board → sum board ≡ n → rank_of board ≡ rank → start ≤ rank → rank - start < length cells → IsScannedCell value board c
+      → AreScanned value n start rank cells → AreScanned value n start (rank + 1) (set cells (rank - start) c)
+  scanned-more rank cells c board injective is stones ranked from inside here before p is_p stones_p low high = elim (cases_eq (rank_of p) rank) [
+    | inl same ↦
+        subst₂ (λ (q : List ℕ) r. IsScannedCell value q (cell_in start (set cells (rank - start) c) r)) (sym (injective p board is_p is (stones_p ∙ sym stones) (same ∙ sym ranked))) (sym same)
+        (subst (IsScannedCell value board) (sym (cell_in-same start cells rank c inside)) here)
+    | inr other ↦
+        subst (IsScannedCell value p) (sym (cell_in-other start cells rank (rank_of p) c from low other)) (before p is_p stones_p low (omega (arith, high, other)))
+  ]
 
 -- ---- the block
 

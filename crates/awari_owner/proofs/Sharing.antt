@@ -9,7 +9,7 @@ use Rattle.awari_rank.specs.Rank.{rank_of, size_of}
 use Rattle.awari_rank.proofs.Ranking.{rank_of-below}
 use Rattle.awari_block.specs.Notes.{IsQuietMove, IsNoteOf}
 use Rattle.awari_owner.specs.Scan.{IsWhole}
-use Rattle.awari_block.specs.Leaving.{first_rank}
+use Rattle.awari_block.specs.Shares.{first_rank}
 use Rattle.awari_owner.specs.Outboxes.{Outboxes, with_note, with_notes}
 use Rattle.awari_owner.specs.Queues.{Queue, batches_of, queue_in, room_in}
 use Rattle.awari_block.specs.Part.{Part, stored_at}

@@ -9,7 +9,7 @@ use Rattle.awari_block.specs.Tally as tally
 use Rattle.awari_block.specs.Cells.{view_of}
 use Rattle.awari_block.specs.Blocks.{cell_in}
 use Rattle.awari_block.specs.Part.{Part, InBlock, IsTallied, settled_at}
-use Rattle.awari_block.specs.Leaving.{first_rank}
+use Rattle.awari_block.specs.Shares.{first_rank}
 use Rattle.awari_owner.specs.Sound.{OwnerSound}
 use Rattle.awari_owner.specs.Spread.{HearsTruth, Hears, IsSpread}
 use Rattle.awari_block.specs.declared.cells.Cell.{Cell}

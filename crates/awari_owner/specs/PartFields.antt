@@ -1,13 +1,10 @@
 -- The fields of a part.
-use Rattle.std.specs.Prelude.{◌≡◌, ◌≤◌, length, vec_len}
-use Rattle.awari_block.specs.Leaving.{AreLeaving}
+use Rattle.std.specs.Prelude.{◌≤◌}
 use Rattle.awari_block.specs.Part.{AreFresh}
 use Rattle.awari_owner.specs.Lookahead.{IsAhead}
 use Rattle.awari_owner.specs.declared.parts.Part.TheInside.{Inside}
 
 pub record IsPart (a : Inside) : Type 0 where
   pub opened : 1 ≤ a.boards.gain
-  pub each : vec_len a.leaving ≡ length a.boards.cells
-  pub leaving : AreLeaving a.boards.level a.boards.start (length a.boards.cells) a.boards.start a.leaving.items
   pub fresh : AreFresh a.boards
   pub ahead : IsAhead a.boards.level a.lookahead

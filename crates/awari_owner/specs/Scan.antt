@@ -1,5 +1,5 @@
 -- What a part is before any gain is open and any note is heard.
-use Rattle.std.specs.Prelude.{◌≡◌, ℕ, ◌+◌, ◌-◌, ◌^◌, ◌<◌, ◌≤◌, ◌==◌, ◌↔◌, ◌⊎◌, if◌then◌else◌, true, false, List, [], length, sum, take, count_by, ℤ, pos, ◌-ℤ◌, ◌≤ℤ◌, Option, Some, None}
+use Rattle.std.specs.Prelude.{◌≡◌, ℕ, ◌+◌, ◌^◌, ◌<◌, ◌≤◌, ◌==◌, ◌↔◌, ◌⊎◌, if◌then◌else◌, true, false, List, [], length, sum, take, count_by, ℤ, pos, ◌-ℤ◌, ◌≤ℤ◌, Option, Some, None}
 use Rattle.awari_board.specs.Rules.{IsBoard, IsLegal, IsMove}
 use Rattle.awari_rank.specs.Rank.{rank_of, size_of}
 use Rattle.awari_block.specs.Tally as tally
@@ -9,12 +9,10 @@ use Rattle.awari_block.specs.Notes.{IsQuietMove}
 use Rattle.awari_block.specs.Tally.{CapturesFrom}
 use Rattle.awari_block.specs.Cells.{view_of, is_settled, IsWithin, FitsBy}
 use Rattle.awari_block.specs.Blocks.{cell_in}
-use Rattle.awari_block.specs.Leaving.{AreLeaving, IsBlockOf, first_rank}
+use Rattle.awari_block.specs.Shares.{first_rank}
 use Rattle.awari_block.specs.Part.{Part, InBlock, IsTallied, settled_at}
 use Rattle.awari_table.specs.declared.TheConstants.{HIGHEST_LEVEL}
 use Rattle.awari_block.specs.declared.cells.Cell.{Cell}
-use Rattle.awari_block.specs.declared.blocks.Block.{Block}
-use Rattle.awari_owner.specs.declared.scans.ScannedBlock.{ScannedBlock}
 
 -- the part of this owner of so many, with no gain open
 pub record IsScan (n owners owner : ℕ) (part : Part) : Type 0 where
@@ -74,36 +72,18 @@ pub record IsScannedCell (value : List ℕ → ℤ) (p : List ℕ) (c : Cell) : 
 abbrev pub AreScanned : (List ℕ → ℤ) → ℕ → ℕ → ℕ → List Cell → Type 0
 AreScanned value n start end cells = (p : List ℕ) → IsBoard p → sum p ≡ n → start ≤ rank_of p → rank_of p < end → IsScannedCell value p (cell_in start cells (rank_of p))
 
--- these are the cells of the boards of n stones from rank `start` up to, not including, this rank
-pub record AreScannedTo (value : List ℕ → ℤ) (n start rank : ℕ) (cells : List Cell) : Type 0 where
-  pub len : start + length cells ≡ rank
-  pub each : AreScanned value n start rank cells
-
 -- Of the pits below k these are the legal ones, and those of `near` are quiet moves.
 pub record AreMovesBelow (p : List ℕ) (k near far : ℕ) : Type 0 where
   pub quiet : (x : ℕ) → has_pit near x ≡ true → (q : List ℕ) × IsQuietMove p x q
   pub legal : (x : ℕ) → has_pit far x ≡ true → IsLegal p x
   pub all : (x : ℕ) → x < k → IsLegal p x → (has_pit near x ≡ true) ⊎ (has_pit far x ≡ true)
 
--- what is needed to scan so many boards of the block from rank `first` on, with as many bytes
-pub record CanScan (value : List ℕ → ℤ) (n : ℕ) (block : Block) (first boards bytes : ℕ) : Type 0 where
+-- what is needed to scan so many boards of n stones from rank `first` on, with an index of this level
+pub record CanScan (n index first boards : ℕ) : Type 0 where
   pub low : n ≤ HIGHEST_LEVEL
-  pub ranged : IsRanged value n
-  pub sound : IsBlockOf n block
-  pub each : bytes ≡ boards
-  pub within : first + boards ≤ block.end
-
--- their cells, and the pits whose moves leave the block
-pub record IsPiece (value : List ℕ → ℤ) (n : ℕ) (block : Block) (first boards : ℕ) (cells : List Cell) (leaving : List ℕ) : Type 0 where
-  pub len : length cells ≡ boards
-  pub each : length leaving ≡ boards
-  pub scanned : AreScanned value n first (first + boards) cells
-  pub leaves : AreLeaving n block.start (block.end - block.start) first leaving
-
--- those of all boards of a block of the boards of n stones
-pub record IsScannedBlock (value : List ℕ → ℤ) (n : ℕ) (found : ScannedBlock) : Type 0 where
-  pub sound : IsBlockOf n found.block
-  pub piece : IsPiece value n found.block found.block.start (found.block.end - found.block.start) found.cells.items found.leaving.items
+  pub level : index ≡ n
+  pub within : first + boards ≤ size_of n
+  pub short : first + boards < 2 ^ 32
 
 -- The boards of n stones from rank `first` up to, not including, rank `last`, with no gain open: no note was heard, and no board is
 -- settled.

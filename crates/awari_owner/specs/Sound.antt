@@ -14,7 +14,7 @@ use Rattle.awari_block.specs.Tally.{has_pit}
 use Rattle.awari_block.specs.Blocks.{KeepSettled}
 use Rattle.awari_block.specs.Boards.{Settles}
 use Rattle.awari_block.specs.Part.{Part, AreFresh, HasFarthest, InBlock, IsExpected, IsLeastDue, IsTallied, Leaves, SameLevel, stored_at, unspread}
-use Rattle.awari_block.specs.Leaving.{first_rank}
+use Rattle.awari_block.specs.Shares.{first_rank}
 use Rattle.awari_owner.specs.OwnerFault.{IsFaultOf}
 use Rattle.awari_owner.specs.Outboxes.{Outboxes, notes_of, queue_to}
 use Rattle.awari_owner.specs.Scan.{IsScan}

@@ -8,7 +8,7 @@ use Rattle.awari_block.specs.Cells.{IsEither}
 use Rattle.awari_block.specs.Blocks.{times_due, due_dist, due_rank, is_settled_in}
 use Rattle.awari_block.specs.declared.notes.Kind.TheVariants.{Won, Lost}
 use Rattle.awari_block.specs.Part.{Part, InBlock, IsTallied, notes_for, settled_at, stored_at}
-use Rattle.awari_block.specs.Leaving.{first_rank}
+use Rattle.awari_block.specs.Shares.{first_rank}
 use Rattle.awari_owner.specs.Outboxes.{Outboxes, queue_to, with_note, with_notes}
 use Rattle.awari_owner.specs.Queues.{Queue, queue_in}
 use Rattle.awari_block.specs.declared.notes.Note.{Note}

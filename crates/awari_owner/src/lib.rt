@@ -34,7 +34,6 @@ mod parallel;
 mod parts;
 mod queues;
 mod runs;
-mod scans;
 mod spreads;
 mod targets;
 

@@ -16,8 +16,8 @@ use awari_block::Boards;
 use awari_packed::PackedBoard;
 use std::alloc::{AllocError, Global};
 
-/// Of how many boards the predecessors are found at a time. Processors wait for fewer reads than these
-/// take.
+/// How many boards have their predecessors found at a time. These have more cells than a processor
+/// waits for at once.
 const AHEAD: usize = 32;
 
 /// The predecessors of a board.

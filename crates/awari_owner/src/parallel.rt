@@ -1,14 +1,15 @@
 //! The boards of a block, scanned by as many threads as there are processors.
 
-ghost use Rattle.std.specs.Prelude.{◌≡◌, ◌≤◌, IfOk, length};
+ghost use Rattle.std.specs.Prelude.{◌≡◌, ◌≤◌, ◌+◌, IfOk, length, vec_len};
 ghost use Rattle.std.specs.Thread.{IsSync};
 ghost use Rattle.awari_table.specs.Images.{table_of};
 ghost use Rattle.awari_table.specs.declared.TheConstants.{HIGHEST_LEVEL};
-ghost use Rattle.awari_block.specs.Leaving.{IsBlockOf};
-ghost use Rattle.awari_owner.specs.Scan.{CanScan, IsPiece, IsRanged, IsScannedBlock};
+ghost use Rattle.awari_block.specs.Shares.{IsBlockOf};
+ghost use Rattle.awari_owner.specs.Scan.{AreScanned, CanScan, IsRanged};
 
-use crate::scans::{ScannedBlock, scan_boards, unscanned_block};
+use crate::runs::{scan_cells, unscanned_cells};
 use awari_block::{Block, Cell};
+use awari_index::Index;
 use awari_table::Shelf;
 use rayon::{current_num_threads, join_mut};
 use std::alloc::{AllocError, Global};
@@ -20,68 +21,64 @@ const MOST_PIECES: usize = 64;
 /// Fewer boards than these are not worth a thread.
 const LEAST_PIECE: usize = 4096;
 
-/// What a scan finds of the boards of a block, by as many threads as there are processors.
-pub fn scanned_block_parallel<R: Threads + Sync>(
+/// Gives what [`scanned_cells`](crate::runs::scanned_cells) does for the boards of this block, by as many
+/// threads as there are processors.
+pub fn scanned_cells_parallel<R: Threads + Sync>(
     rt: &R,
     alloc: Global,
     shelf: &Shelf,
+    index: &Index,
     block: Block,
-) -> Result<ScannedBlock, AllocError>
+) -> Result<Vec<Cell>, AllocError>
     requires low { length shelf.now ≤ HIGHEST_LEVEL }
     requires ranged { IsRanged (table_of shelf.now).value (length shelf.now) }
+    requires level { index.now ≡ length shelf.now }
     requires block { IsBlockOf (length shelf.now) block }
-    ensures block { IfOk result (λ found. found.block ≡ block) }
-    ensures scanned { IfOk result (IsScannedBlock (table_of shelf.now).value (length shelf.now)) }
+    ensures size { IfOk result (λ cells. block.start + vec_len cells ≡ block.end) }
+    ensures scanned { IfOk result (λ cells. AreScanned (table_of shelf.now).value (length shelf.now) block.start block.end cells.items) }
 {
-    let mut found = unscanned_block(alloc, block)?;
+    let mut cells = unscanned_cells(alloc, (block.end - block.start) as usize)?;
 
     // Two pieces a processor, since some boards take longer than others.
     let pieces = current_num_threads(rt).min(MOST_PIECES / 2) * 2;
-    scan_pieces(
-        rt,
-        shelf,
-        block,
-        block.start,
-        pieces,
-        found.cells.as_mut_slice(),
-        found.leaving.as_mut_slice(),
-    );
-    Ok(found)
+    scan_pieces(rt, shelf, index, block.start, pieces, cells.as_mut_slice());
+    Ok(cells)
 }
 
-/// Scans boards of the block from rank `first` on, one for each cell, in at most so many pieces, side
-/// by side.
+/// Scans the boards from rank `first` on, one for each cell, in at most so many pieces, side by side.
 #[cycle(halves)]
 fn scan_pieces<R: Threads + Sync>(
     rt: &R,
     shelf: &Shelf,
-    block: Block,
+    index: &Index,
     first: u32,
     pieces: usize,
     cells: &mut [Cell],
-    leaving: &mut [u8],
 )
-    requires { CanScan (table_of shelf.now).value (length shelf.now) block first (length cells.old) (length leaving.old) }
-    ensures { IsPiece (table_of shelf.now).value (length shelf.now) block first (length cells.old) cells.new leaving.new }
+    requires ranged { IsRanged (table_of shelf.now).value (length shelf.now) }
+    requires can { CanScan (length shelf.now) index.now first (length cells.old) }
+    ensures size { length cells.new ≡ length cells.old }
+    ensures scanned { AreScanned (table_of shelf.now).value (length shelf.now) first (first + length cells.old) cells.new }
 {
     if pieces < 2 || cells.len() < LEAST_PIECE {
-        scan_boards(shelf, block, first, cells, leaving);
+        scan_cells(shelf, index, first, cells);
         return;
     }
     let pieces = pieces / 2;
     let half = cells.len() / 2;
     let middle = first + half as u32;
-    let (low_cells, high_cells) = cells.split_at_mut(half);
-    let (low_leaving, high_leaving) = leaving.split_at_mut(half);
+    let (low, high) = cells.split_at_mut(half);
     join_mut(
         rt,
         &mut ||
-            requires { IsSync R.row × CanScan (table_of shelf.now).value (length shelf.now) block first (length low_cells.now) (length low_leaving.now) }
-            ensures { IsPiece (table_of shelf.entry.now).value (length shelf.entry.now) block first (length low_cells.entry.now) low_cells.exit.now low_leaving.exit.now }
-        { scan_pieces(rt, shelf, block, first, pieces, low_cells, low_leaving) },
+            requires { IsSync R.row × IsRanged (table_of shelf.now).value (length shelf.now) × CanScan (length shelf.now) index.now first (length low.now) }
+            ensures size { length low.exit.now ≡ length low.entry.now }
+            ensures scanned { AreScanned (table_of shelf.entry.now).value (length shelf.entry.now) first (first + length low.entry.now) low.exit.now }
+        { scan_pieces(rt, shelf, index, first, pieces, low) },
         &mut ||
-            requires { IsSync R.row × CanScan (table_of shelf.now).value (length shelf.now) block middle (length high_cells.now) (length high_leaving.now) }
-            ensures { IsPiece (table_of shelf.entry.now).value (length shelf.entry.now) block middle (length high_cells.entry.now) high_cells.exit.now high_leaving.exit.now }
-        { scan_pieces(rt, shelf, block, middle, pieces, high_cells, high_leaving) },
+            requires { IsSync R.row × IsRanged (table_of shelf.now).value (length shelf.now) × CanScan (length shelf.now) index.now middle (length high.now) }
+            ensures size { length high.exit.now ≡ length high.entry.now }
+            ensures scanned { AreScanned (table_of shelf.entry.now).value (length shelf.entry.now) middle (middle + length high.entry.now) high.exit.now }
+        { scan_pieces(rt, shelf, index, middle, pieces, high) },
     );
 }

@@ -1,14 +1,14 @@
 //! One owner's part of a level, and what is asked of it between two spreads.
 
-ghost use Rattle.std.specs.Prelude.{◌≡◌, ◌⊎◌, ℕ, ℤ, ◌+◌, ◌-◌, ◌^◌, ◌<◌, ◌≤◌, ◌↔◌, IsTrue, OnOk, OnErr, IfOk, IfErr, IfSome, All, true, false, length, []};
+ghost use Rattle.std.specs.Prelude.{◌≡◌, ◌⊎◌, ℕ, ℤ, ◌+◌, ◌-◌, ◌^◌, ◌<◌, ◌≤◌, ◌↔◌, IsTrue, OnOk, OnErr, IfOk, IfErr, IfSome, All, true, false, length, vec_len, []};
 ghost use Rattle.awari_rank.specs.Rank.{size_of};
 ghost use Rattle.awari_block.specs.Cells.{IsWithin, IsBeyond};
 ghost use Rattle.awari_block.specs.Blocks.{due_dist};
 ghost use Rattle.awari_block.specs.Boards.{Settles};
 ghost use Rattle.awari_block.specs.Part.{Part as PartView, InBlock, Leaves, IsExpected, stored_at, settled_at, IsLeastDue, AreFresh, IsClosed};
 ghost use Rattle.awari_owner.specs.OwnerFault.{IsFaultOf};
-ghost use Rattle.awari_block.specs.Leaving.{first_rank};
-ghost use Rattle.awari_owner.specs.Scan.{IsScannedBlock, IsWhole};
+ghost use Rattle.awari_block.specs.Shares.{first_rank};
+ghost use Rattle.awari_owner.specs.Scan.{AreScanned, IsWhole};
 ghost use Rattle.awari_owner.specs.Sound.{CanTake, IsScannedOwner, IsSpreadFault, KeepsOwn, KeepsTally, SameStake, SpreadsFirst, TakesNote};
 ghost use Rattle.awari_owner.specs.Spread.{IsPartOf};
 ghost use Rattle.awari_table.specs.Images.{table_of};
@@ -18,12 +18,13 @@ ghost use Rattle.awari_owner.specs.declared.faults.OwnerFault.{OwnerFault};
 use crate::faults::OwnerFault;
 use crate::lookahead::Lookahead;
 use crate::outboxes::Outboxes;
-use crate::parallel::scanned_block_parallel;
+use crate::parallel::scanned_cells_parallel;
 use crate::queues::reserve_others;
-use crate::scans::{ScannedBlock, scanned_block};
+use crate::runs::scanned_cells;
 use crate::spreads::{kind_of, tell_all};
 use awari_block::{Block, Boards, Cell, ClosedPart, Note, block_length};
 use awari_board::{SIDE, moves_keep_boards};
+use awari_index::Index;
 use awari_rank::{ranks_tell_boards_apart, size};
 use awari_table::{Shelf, shelves_are_certificates};
 use std::alloc::Global;
@@ -31,13 +32,11 @@ use std::marker::Model;
 use std::thread::Threads;
 
 /// One owner's part of a level that is being built. It has what is known of each board of its block,
-/// and which boards are fresh, that is, settled and not spread yet. For each board it also has the
-/// pits whose quiet moves lead out of the block, a bit for each. And it has the boards that are spread
-/// next, with their predecessors.
+/// and which boards are fresh, that is, settled and not spread yet. And it has the boards that are
+/// spread next, with their predecessors.
 #[derive(Drop)]
 pub struct Part {
     boards: Boards,
-    leaving: Vec<u8>,
     lookahead: Lookahead,
 }
 
@@ -58,7 +57,7 @@ impl Part {
     /// and no gain is open. Conditions: there are 1 to 16 owners, `owner` is below `owners`, and the
     /// shelf has at most `HIGHEST_LEVEL` levels. Refused as 33 `Memory` if memory runs out.
     ///
-    /// It takes all the memory that the part will ever need: less than eleven bytes a board, an index of
+    /// It takes all the memory that the part will ever need: less than ten bytes a board, an index of
     /// the level, and 75 kilobytes for the predecessors of the boards that are spread next.
     pub fn scan(alloc: Global, shelf: &Shelf, owners: u8, owner: u8) -> Result<Part, OwnerFault>
         requires owners { (1 ≤ owners) × (owners ≤ 16) }
@@ -68,10 +67,11 @@ impl Part {
         ensures whole { owners ≡ 1 → IfOk result IsWhole }
         ensures memory { IfErr result (λ fault. fault ≡ OwnerFault.Memory) }
     {
-        shelves_are_certificates();
-        let block = Block::of(shelf.levels(), owners, owner);
-        let found = scanned_block(alloc, shelf, block)?;
-        Part::from_scanned(alloc, shelf, owners, owner, found)
+        let level = shelf.levels();
+        let block = Block::of(level, owners, owner);
+        let index = Index::of(alloc, level)?;
+        let cells = scanned_cells(alloc, shelf, &index, block.start, block.end)?;
+        Part::from_cells(alloc, shelf, block.start, cells, index)
     }
 
     /// Answers what [`Part::scan`] does, with the block shared among as many threads as there are
@@ -91,9 +91,11 @@ impl Part {
         ensures memory { IfErr result (λ fault. fault ≡ OwnerFault.Memory) }
     {
         shelves_are_certificates();
-        let block = Block::of(shelf.levels(), owners, owner);
-        let found = scanned_block_parallel(rt, alloc, shelf, block)?;
-        Part::from_scanned(alloc, shelf, owners, owner, found)
+        let level = shelf.levels();
+        let block = Block::of(level, owners, owner);
+        let index = Index::of(alloc, level)?;
+        let cells = scanned_cells_parallel(rt, alloc, shelf, &index, block)?;
+        Part::from_cells(alloc, shelf, block.start, cells, index)
     }
 
     /// Value in stones and distance in plies of the board of this rank, none if it is not settled.
@@ -275,32 +277,29 @@ impl Part {
         self.boards.close()
     }
 
-    /// The part of this owner, one of `owners`, of the shelf's next level, made of what was found of
-    /// its block.
-    fn from_scanned(
+    /// The part of these boards of the shelf's next level, from rank `start` on, of which no note was
+    /// heard.
+    fn from_cells(
         alloc: Global,
         shelf: &Shelf,
-        owners: u8,
-        owner: u8,
-        found: ScannedBlock,
+        start: u32,
+        cells: Vec<Cell>,
+        index: Index,
     ) -> Result<Part, OwnerFault>
         requires low { length shelf.now ≤ HIGHEST_LEVEL }
-        requires some { owner < owners }
-        requires start { found.block.start ≡ first_rank (size_of (length shelf.now)) owners owner }
-        requires end { found.block.end ≡ first_rank (size_of (length shelf.now)) owners (owner + 1) }
-        requires found { IsScannedBlock (table_of shelf.now).value (length shelf.now) found }
-        ensures scanned { IfOk result (IsScannedOwner (table_of shelf.now).value (length shelf.now) owners owner) }
-        ensures whole { owners ≡ 1 → IfOk result IsWhole }
+        requires level { index ≡ length shelf.now }
+        requires short { start + vec_len cells < 2 ^ 32 }
+        requires within { start + vec_len cells ≤ size_of (length shelf.now) }
+        requires scanned { AreScanned (table_of shelf.now).value (length shelf.now) start (start + vec_len cells) cells.items }
+        ensures scanned { (owners owner : ℕ) → start ≡ first_rank (size_of (length shelf.now)) owners owner → start + vec_len cells ≡ first_rank (size_of (length shelf.now)) owners (owner + 1)
+            → IfOk result (IsScannedOwner (table_of shelf.now).value (length shelf.now) owners owner) }
+        ensures whole { start ≡ 0 → start + vec_len cells ≡ size_of (length shelf.now) → IfOk result IsWhole }
         ensures memory { IfErr result (λ fault. fault ≡ OwnerFault.Memory) }
     {
         let level = shelf.levels();
-        let boards = Boards::unopened(alloc, level, found.block.start, found.cells)?;
+        let boards = Boards::unopened(alloc, level, start, cells, index)?;
         let lookahead = Lookahead::new(alloc, level)?;
-        Ok(Part {
-            boards,
-            leaving: found.leaving,
-            lookahead,
-        })
+        Ok(Part { boards, lookahead })
     }
 
     /// Whether the note is one that other owners may send now.
@@ -320,12 +319,15 @@ impl Part {
     /// Whether the move from `pit` of the board of this rank is quiet and leads to a board of another
     /// block.
     fn leaves(&self, target: u32, pit: u8) -> bool
-        requires held { InBlock self.now target }
-        requires own { pit < 6 }
+        requires { InBlock self.now target }
         ensures { IsTrue result ↔ Leaves self.now target pit }
     {
-        let (start, _) = self.boards.block();
-        let index = (target - start) as usize;
-        self.leaving[index] & (1 << pit) != 0
+        ranks_tell_boards_apart();
+        let board = self.boards.board(target);
+        if !board.legal(pit) {
+            return false;
+        }
+        let moved = board.play(pit);
+        moved.captured == 0 && !self.boards.holds(moved.board.rank())
     }
 }

@@ -9,7 +9,7 @@ ghost use Rattle.awari_board.specs.Rules.{IsBoard, landing};
 ghost use Rattle.awari_rank.specs.Rank.{size_of};
 ghost use Rattle.awari_table.specs.Images.{table_of};
 ghost use Rattle.awari_table.specs.declared.TheConstants.{HIGHEST_LEVEL};
-ghost use Rattle.awari_owner.specs.Scan.{AreMovesBelow, AreScanned, AreScannedTo, IsOutlook, IsRanged, IsScannedCell};
+ghost use Rattle.awari_owner.specs.Scan.{AreMovesBelow, AreScanned, CanScan, IsOutlook, IsRanged, IsScannedCell};
 
 use crate::outlooks::{Outlook, cell_of, see_capture, see_quiet};
 use awari_block::Cell;
@@ -47,42 +47,55 @@ pub fn scanned_cells(
 {
     shelves_are_certificates();
     let _level = shelf.levels();
-    let mut cells = Vec::with_capacity(alloc, (end - start) as usize)?;
-    let mut rank = start;
-    while rank < end {
-        rank = scan_run(shelf, index, rank, end, &mut cells)?;
-    }
+    let mut cells = unscanned_cells(alloc, (end - start) as usize)?;
+    scan_cells(shelf, index, start, cells.as_mut_slice());
     Ok(cells)
 }
 
-/// Puts the cells of the boards of one run from rank `rank` on, up to rank `end` at most, behind the
-/// others. Gives the rank after them.
-fn scan_run(
-    shelf: &Shelf,
-    index: &Index,
-    rank: u32,
-    end: u32,
-    cells: &mut Vec<Cell>,
-) -> Result<u32, AllocError>
-    requires low { length shelf.now ≤ HIGHEST_LEVEL }
+/// Room for the cells of so many boards.
+pub fn unscanned_cells(alloc: Global, boards: usize) -> Result<Vec<Cell>, AllocError>
+    ensures { IfOk result (λ cells. vec_len cells ≡ boards) }
+{
+    vec![in alloc; Cell::of_end(0); boards]
+}
+
+/// Scans the boards from rank `start` on, one for each cell.
+pub fn scan_cells(shelf: &Shelf, index: &Index, start: u32, cells: &mut [Cell])
     requires ranged { IsRanged (table_of shelf.now).value (length shelf.now) }
-    requires level { index.now ≡ length shelf.now }
-    requires order { rank < end }
-    requires within { end ≤ size_of (length shelf.now) }
-    ensures farther { IfOk result (λ next. rank < next) }
-    ensures within { IfOk result (λ next. next ≤ end) }
-    ensures scanned { IfOk result (λ next. (start : ℕ) → AreScannedTo (table_of shelf.now).value (length shelf.now) start rank cells.old.items
-        → AreScannedTo (table_of shelf.now).value (length shelf.now) start next cells.new.items) }
+    requires can { CanScan (length shelf.now) index.now start (length cells.old) }
+    ensures size { length cells.new ≡ length cells.old }
+    ensures scanned { AreScanned (table_of shelf.now).value (length shelf.now) start (start + length cells.old) cells.new }
+{
+    let end = start + cells.len() as u32;
+    let mut rank = start;
+    while rank < end {
+        rank = scan_run(shelf, index, start, rank, cells);
+    }
+}
+
+/// Scans the boards of one run from rank `rank` on, as far as there are cells, the first of which is
+/// that of rank `start`. Gives the rank after them.
+fn scan_run(shelf: &Shelf, index: &Index, start: u32, rank: u32, cells: &mut [Cell]) -> u32
+    requires ranged { IsRanged (table_of shelf.now).value (length shelf.now) }
+    requires can { CanScan (length shelf.now) index.now start (length cells.old) }
+    requires order { start ≤ rank }
+    requires inside { rank < start + length cells.old }
+    ensures farther { rank < result }
+    ensures within { result ≤ start + length cells.old }
+    ensures size { length cells.new ≡ length cells.old }
+    ensures scanned { AreScanned (table_of shelf.now).value (length shelf.now) start rank cells.old
+        → AreScanned (table_of shelf.now).value (length shelf.now) start result cells.new }
 {
     ranks_tell_boards_apart();
-    let stretch = index.stretch(rank, end);
+    let place = (rank - start) as usize;
+    let stretch = index.stretch(rank, start + cells.len() as u32);
     let moves = moves_of(&stretch.head);
     for k in 0..stretch.tails.len() {
         let tail = stretch.tails[k];
         let board = stretch.head.joined(&tail);
-        cells.push(scanned(shelf, moves, &board))?;
+        cells[place + k] = scanned(shelf, moves, &board);
     }
-    Ok(rank + stretch.tails.len() as u32)
+    rank + stretch.tails.len() as u32
 }
 
 /// The moves of the boards of a run of which this is one.

@@ -4,7 +4,7 @@ use Rattle.awari_block.specs.Part.{Part, IsTallied}
 use Rattle.awari_owner.specs.Spread.{HearsOwn}
 use Rattle.awari_owner.proofs.Gains.{opened}
 use Rattle.awari_owner.proofs.Hearing.{hears_still}
-use Rattle.awari_block.proofs.Settling.{leaving_still, same_stake}
+use Rattle.awari_block.proofs.Settling.{same_stake}
 use Rattle.awari_owner.specs.Lookahead.{IsAhead}
 use Rattle.awari_owner.proofs.parts.Part.open_gain.Goals as goal
 
@@ -13,8 +13,6 @@ invariant_of-self c =
     let settles : Settles (record c.self.inside.boards { gain = c.args.gain; wave = 0 }) c.open_gain.new.self = c.open_gain.ensures.settles in
     record {
       opened = (let now = settles.same.gain in omega (arith, now, c.requires.positive));
-      each = c.self.invariant.each ∙ sym settles.size;
-      leaving = leaving_still c.self.inside.boards c.open_gain.new.self c.self.inside.leaving.items settles.same.level settles.same.start settles.size c.self.invariant.leaving;
       fresh = c.open_gain.ensures.fresh;
       ahead = subst (λ n. IsAhead n c.self.inside.lookahead) (sym settles.same.level) c.self.invariant.ahead;
     }

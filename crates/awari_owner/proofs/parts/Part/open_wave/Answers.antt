@@ -1,5 +1,4 @@
-use Rattle.std.proofs.Common.{◌≤◌, ◌<◌, List, ℤ, ℕ, length, arith, ap, sym, subst, ◌∙◌}
-use Rattle.awari_block.specs.Leaving.{AreLeaving}
+use Rattle.std.proofs.Common.{◌≤◌, ◌<◌, List, ℤ, ℕ, arith, ap, sym, subst, ◌∙◌}
 use Rattle.awari_block.specs.Part.{Part, IsTallied, cell_at, notes_for}
 use Rattle.awari_block.specs.declared.notes.Note.{Note}
 use Rattle.awari_rank.specs.Rank.{rank_of}
@@ -11,8 +10,6 @@ pub invariant_of-self : goal.invariant_of-self
 invariant_of-self c =
     record {
       opened = subst (λ (o : Part). 1 ≤ o.gain) (sym c.open_wave.ensures.wave) c.self.invariant.opened;
-      each = c.self.invariant.each ∙ ap (λ (o : Part). length o.cells) (sym c.open_wave.ensures.wave);
-      leaving = subst (λ (o : Part). AreLeaving o.level o.start (length o.cells) o.start c.self.inside.leaving.items) (sym c.open_wave.ensures.wave) c.self.invariant.leaving;
       fresh = c.open_wave.ensures.fresh;
       ahead = subst (λ (o : Part). IsAhead o.level c.self.inside.lookahead) (sym c.open_wave.ensures.wave) c.self.invariant.ahead;
     }

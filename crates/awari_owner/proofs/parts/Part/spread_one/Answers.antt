@@ -5,7 +5,6 @@ use Rattle.awari_rank.specs.Rank.{size_of}
 use Rattle.awari_block.specs.Boards.{TakesFirst, stake_of}
 use Rattle.awari_block.specs.Part.{Part, IsLeastDue}
 use Rattle.awari_owner.specs.Lookahead.{IsAhead}
-use Rattle.awari_owner.specs.declared.lookahead.Predecessors.{Predecessors}
 use Rattle.awari_owner.specs.Spread.{Spreads, PutsAll, IsPartOf, is_held}
 use Rattle.awari_owner.specs.Outboxes.{Outboxes}
 use Rattle.awari_owner.specs.Sound.{SameStake, SpreadsFirst}
@@ -15,7 +14,6 @@ use Rattle.awari_owner.proofs.Firsts.{fewer_unspread, spread_first, taken_low, t
 use Rattle.awari_owner.proofs.Giving.{sound_spread}
 use Rattle.awari_owner.proofs.LookingAhead.{ahead_at}
 use Rattle.awari_owner.proofs.Sending.{batches_length, all_batches}
-use Rattle.awari_block.proofs.Settling.{leaving_still}
 use Rattle.awari_owner.proofs.Sharing.{outboxes_of, own_stays, room_for, sends_by}
 use Rattle.awari_owner.proofs.Spreading.{sources_of}
 use Rattle.awari_owner.proofs.parts.Part.spread_one.Goals as goal
@@ -68,8 +66,6 @@ invariant_of-self c =
     let settles = taken_settles c.self.inside.boards c.take_first-rank.new.self c.tell_all.new.boards c.take_first-rank.result takes c.tell_all.ensures.settles in
     record {
       opened = (let now = settles.same.gain in let was = c.self.invariant.opened in omega (arith, now, was));
-      each = c.self.invariant.each ∙ sym settles.size;
-      leaving = leaving_still c.self.inside.boards c.tell_all.new.boards c.self.inside.leaving.items settles.same.level settles.same.start settles.size c.self.invariant.leaving;
       fresh = c.tell_all.ensures.settles.fresh c.take_first-rank.ensures.fresh;
       ahead = subst (λ n. IsAhead n c.place_of-place.new.self) (sym c.tell_all.ensures.settles.same.level) c.place_of-place.ensures.ahead;
     }

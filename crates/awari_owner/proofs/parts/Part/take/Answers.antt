@@ -5,7 +5,6 @@ use Rattle.awari_block.specs.Part.{Part, stored_at, IsExpected}
 use Rattle.awari_owner.specs.Sound.{TakesNote}
 use Rattle.awari_block.specs.declared.cells.Cell.{Cell}
 use Rattle.awari_owner.proofs.Hearing.{hears_kept}
-use Rattle.awari_block.proofs.Settling.{leaving_still}
 use Rattle.awari_owner.proofs.Taking.{added_heard, expected_takeable}
 use Rattle.awari_owner.specs.Lookahead.{IsAhead}
 use Rattle.awari_owner.proofs.parts.Part.take.Goals as goal
@@ -15,8 +14,6 @@ invariant_of-self c =
     let settles : Settles c.self.inside.boards c.hear.new.self = c.hear.ensures.settles in
     record {
       opened = (let now = settles.same.gain in let was = c.self.invariant.opened in omega (arith, now, was));
-      each = c.self.invariant.each ∙ sym settles.size;
-      leaving = leaving_still c.self.inside.boards c.hear.new.self c.self.inside.leaving.items settles.same.level settles.same.start settles.size c.self.invariant.leaving;
       fresh = settles.fresh c.self.invariant.fresh;
       ahead = subst (λ n. IsAhead n c.self.inside.lookahead) (sym settles.same.level) c.self.invariant.ahead;
     }
