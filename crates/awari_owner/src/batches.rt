@@ -13,7 +13,9 @@ pub fn take_batch(part: &mut Part, batch: &Batch) -> Result<(), OwnerFault>
     ensures taken { OnOk result (TakesNotes batch.now.items part.old part.new) }
     ensures refused { IfErr result (RefusesNote batch.now.items part.old part.new) }
 {
-    for note in batch.as_slice() {
+    let notes = batch.as_slice();
+    part.look_at(notes);
+    for note in notes {
         part.take(*note)?;
     }
     Ok(())

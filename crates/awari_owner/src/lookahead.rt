@@ -12,7 +12,7 @@ ghost use Rattle.awari_owner.specs.Found.{ArePredecessors};
 ghost use Rattle.awari_owner.specs.Lookahead.{IsAhead, IsRankAt};
 
 use crate::targets::{MOST_PREDECESSORS, Target, find_all};
-use awari_block::Boards;
+use awari_block::{Boards, Note};
 use awari_packed::PackedBoard;
 use std::alloc::{AllocError, Global};
 
@@ -114,6 +114,17 @@ impl Lookahead {
         let place = self.next;
         self.next += 1;
         place
+    }
+
+    /// Reads the cells of the boards that these notes are for.
+    pub fn look_at(&mut self, boards: &Boards, notes: &[Note])
+        ensures { self.new ≡ record self.old { read = self.new.read } }
+    {
+        let mut read = 0;
+        for note in notes {
+            read ^= dist_in(boards, note.target);
+        }
+        self.read = read;
     }
 
     /// Whether the board of this rank is the one that is expected.

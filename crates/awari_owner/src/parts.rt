@@ -220,6 +220,14 @@ impl Part {
         Ok(())
     }
 
+    /// Reads the cells of the boards that these notes are for. Nothing changes, but the notes are heard
+    /// sooner.
+    pub(crate) fn look_at(&mut self, notes: &[Note])
+        ensures { self.new ≡ self.old }
+    {
+        self.lookahead.look_at(&self.boards, notes);
+    }
+
     /// Spreads the first fresh board, which has the least distance and among those the least rank, if
     /// its distance is the open one. Its quiet predecessors hear of it, and it is fresh no longer.
     /// False if no board is fresh, or the first one has a greater distance.
