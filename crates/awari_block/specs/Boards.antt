@@ -50,7 +50,7 @@ pub record HearsNote (old new : Part) (target pit : ℕ) (kind : Kind) : Type 0 
   pub cells : new.cells ≡ slice_set old.cells (target - old.start) (stored_at new target)
   pub cell : view_of (stored_at new target) ≡ cell_after_note (view_of (stored_at old target)) kind pit old.gain old.wave
 
--- the first fresh board of the open wave behind the board of this rank, or none where there is none
+-- the first fresh board of the open wave behind the board of this rank, or none if there is none
 abbrev pub IsNextOfWave : Part → ℕ → Option ℕ → Type 0
 IsNextOfWave part rank None = All (λ f. due_dist f ≡ part.wave → due_rank f ≤ rank) part.fresh
 IsNextOfWave part rank (Some next) =

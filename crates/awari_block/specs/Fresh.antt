@@ -36,7 +36,7 @@ abbrev pub IsFirst : List ℕ → Option ℕ → Type 0
 IsFirst words None = (k : ℕ) → is_marked words k ≡ true → ⊥
 IsFirst words (Some b) = (is_marked words b ≡ true) × ((k : ℕ) → is_marked words k ≡ true → b ≤ k)
 
--- the first index from this one on that is marked, or none where none is
+-- the first index from this one on that is marked, or none if none is
 abbrev pub IsFirstFrom : List ℕ → ℕ → Option ℕ → Type 0
 IsFirstFrom words from None = (k : ℕ) → from ≤ k → is_marked words k ≡ true → ⊥
 IsFirstFrom words from (Some b) = (from ≤ b) × (is_marked words b ≡ true) × ((k : ℕ) → from ≤ k → is_marked words k ≡ true → b ≤ k)

@@ -157,6 +157,11 @@ impl Boards {
         self.fresh.len()
     }
 
+    /// How many fresh boards are of the open wave. It goes over a bit a board.
+    pub fn wave_boards(&self) -> usize {
+        self.fresh.near_len()
+    }
+
     /// The least distance of a fresh board, none if no board is fresh.
     pub fn due(&self) -> Option<u32>
         ensures least { IsLeastDue self.now result }

@@ -61,6 +61,14 @@ impl Fresh {
         self.count
     }
 
+    /// How many boards of the open wave are fresh. It goes over a bit a board.
+    pub fn near_len(&self) -> usize {
+        self.near.iter().fold(
+            0,
+            |sum: usize, word: &u64| sum.saturating_add(word.count_ones() as usize),
+        )
+    }
+
     /// The least distance of a fresh board, none if no board is fresh, while `wave` is the open one.
     pub fn due(&self, wave: u32) -> Option<u32>
         ensures { result ≡ nearest_of wave self.now.first self.now.next }

@@ -4,7 +4,7 @@
 //! found at a time, and the cells of all of them are read before the first of them hears: the waits for
 //! memory overlap.
 
-ghost use Rattle.std.specs.Prelude.{◌≡◌, ◌≤◌, ◌<◌, ℕ, IfOk, IsTrue, length, sum, slice_index_or, vec_len};
+ghost use Rattle.std.specs.Prelude.{◌≡◌, ◌≤◌, ◌<◌, ◌↔◌, ℕ, IfOk, IsTrue, length, sum, slice_index_or, vec_len};
 ghost use Rattle.awari_board.specs.Rules.{IsBoard};
 ghost use Rattle.awari_rank.specs.Rank.{rank_of};
 ghost use Rattle.awari_block.specs.Part.{InBlock};
@@ -130,7 +130,7 @@ impl Lookahead {
     /// Whether the board of this rank is the one that is expected.
     #[inline(always)]
     fn expects(&self, rank: u32) -> bool
-        ensures { IsTrue result → IsRankAt rank self.now self.now.next }
+        ensures { IsTrue result ↔ IsRankAt rank self.now self.now.next }
     {
         self.next < self.boards.len() && self.boards[self.next].rank == rank
     }

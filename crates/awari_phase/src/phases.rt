@@ -10,7 +10,7 @@ ghost use Rattle.awari_phase.specs.declared.phases.Standing.{Standing};
 
 use crate::faults::PhaseFault;
 use crate::gates::Gate;
-use crate::openings::open_waves;
+use crate::openings::{fresh_boards, open_waves};
 use crate::owners::Owner;
 use crate::progress::{Progress, Silent};
 use crate::rounding::{round, round_in_turn};
@@ -18,11 +18,20 @@ use crate::settling::settle_owners;
 use std::sync::Wait;
 use std::thread::Threads;
 
-/// From how many fresh boards on, of all owners together, a distance is begun in threads.
+/// From how many boards on, of all owners together, a wave is begun in threads.
 const MANY_BOARDS: usize = 1000;
 
 /// How many sweeps an owner makes in a round in turn at most, before threads are thought of again.
 const SWEEPS_IN_TURN: u32 = 16;
+
+/// How the rounds of a wave are made.
+#[derive(Clone, Copy)]
+struct Course {
+    /// Whether few of its boards were fresh when it was opened. Then all its rounds are in turn.
+    small: bool,
+    /// Whether the last round was in turn, or the next one is.
+    in_turn: bool,
+}
 
 /// Where owners stand after a round.
 enum Standing {
@@ -81,25 +90,27 @@ pub fn gain_phase_with_progress<R: Threads + Wait + Sync, G: Gate + Sync, P: Pro
     ensures wanting { IfErr result (IfTogether owners.items (λ fault. IsWant fault ⊎ IsStop P.stops fault)) }
 {
     let mut all = next_round(rt, owners, gate, sweeps, false)?;
-    let mut in_turn = false;
+    let mut course = Course {
+        small: false,
+        in_turn: false,
+    };
     for _ in rt.forever() {
         tell(progress, all.as_slice());
         if !progress.is_wanted() {
             return Err(PhaseFault::Stopped);
         }
-        let Some(next) = look_ahead(all.as_mut_slice(), in_turn) else {
+        let Some(next) = look_ahead(rt, all.as_mut_slice(), course) else {
             return Ok(all);
         };
-        in_turn = next;
-        all = next_round(rt, all, gate, sweeps, in_turn)?;
+        course = next;
+        all = next_round(rt, all, gate, sweeps, course.in_turn)?;
     }
     unreachable!()
 }
 
-/// Whether the next round is to be made in turn, given whether the last one was. If nothing is left
-/// of the open wave, it opens the least one that is due. None if no board is fresh, so that no
-/// round is left.
-fn look_ahead(owners: &mut [Owner], in_turn: bool) -> Option<bool>
+/// How the next round is to be made, given how the last one was. If nothing is left of the open wave, it
+/// opens the least one that is due. None if no board is fresh, so that no round is left.
+fn look_ahead<R: Threads + Sync>(rt: &R, owners: &mut [Owner], last: Course) -> Option<Course>
     requires { IsGrid (all_ends owners.old) }
     ensures grown { AllGrown owners.old owners.new }
     ensures together { StayTogether owners.old owners.new }
@@ -108,12 +119,22 @@ fn look_ahead(owners: &mut [Owner], in_turn: bool) -> Option<bool>
     ensures received { IsNone result → AreReceived owners.new }
 {
     match look(owners) {
-        Standing::Busy => Some(!in_turn),
-        Standing::Waiting => Some(true),
+        Standing::Busy => Some(Course {
+            in_turn: last.small || !last.in_turn,
+            ..last
+        }),
+        Standing::Waiting => Some(Course {
+            in_turn: true,
+            ..last
+        }),
         Standing::Done => {
             let dist = least_due(owners)?;
-            open_waves(owners, dist);
-            Some(fresh_boards(owners) < MANY_BOARDS)
+            open_waves(rt, owners, dist);
+            let small = is_small(owners);
+            Some(Course {
+                small,
+                in_turn: small,
+            })
         }
     }
 }
@@ -140,11 +161,17 @@ fn next_round<R: Threads + Wait + Sync, G: Gate + Sync>(
     round(rt, owners, gate, sweeps)
 }
 
-/// How many boards are fresh, of all owners together.
-fn fresh_boards(owners: &[Owner]) -> usize {
+/// Whether few boards of the open wave are fresh. Those of a wave are counted only if many boards are
+/// fresh at all.
+fn is_small(owners: &[Owner]) -> bool {
+    fresh_boards(owners) < MANY_BOARDS || wave_boards(owners) < MANY_BOARDS
+}
+
+/// How many boards of the open wave are fresh, of all owners together.
+fn wave_boards(owners: &[Owner]) -> usize {
     owners.iter().fold(
         0,
-        |sum: usize, owner: &Owner| sum.saturating_add(owner.part.fresh_boards()),
+        |sum: usize, owner: &Owner| sum.saturating_add(owner.part.wave_boards()),
     )
 }
 
