@@ -157,7 +157,7 @@ impl Boards {
         self.fresh.len()
     }
 
-    /// How many fresh boards are of the open wave. It goes over a bit a board.
+    /// How many fresh boards are of the open wave.
     pub fn wave_boards(&self) -> usize {
         self.fresh.near_len()
     }

@@ -26,6 +26,8 @@ pub struct Fresh {
     filled: Vec<u64>,
     /// How many boards are fresh.
     count: usize,
+    /// How many boards are fresh and of the open wave. It steers speed alone, and no clause speaks of it.
+    near_count: usize,
     /// The index of the first board of the open wave.
     first: Option<u32>,
     /// The least distance of the other fresh boards.
@@ -49,6 +51,7 @@ impl Fresh {
             near,
             filled,
             count: 0,
+            near_count: 0,
             first: None,
             next: None,
         })
@@ -61,12 +64,9 @@ impl Fresh {
         self.count
     }
 
-    /// How many boards of the open wave are fresh. It goes over a bit a board.
+    /// How many boards of the open wave are fresh.
     pub fn near_len(&self) -> usize {
-        self.near.iter().fold(
-            0,
-            |sum: usize, word: &u64| sum.saturating_add(word.count_ones() as usize),
-        )
+        self.near_count
     }
 
     /// The least distance of a fresh board, none if no board is fresh, while `wave` is the open one.
@@ -109,6 +109,7 @@ impl Fresh {
         unmark(&mut self.near, index);
         unmark_empty(&mut self.filled, self.words.as_slice(), run);
         self.count -= 1;
+        self.near_count = self.near_count.saturating_sub(1);
         self.first = first_from(self.near.as_slice(), index);
         Some(index)
     }
@@ -129,6 +130,7 @@ impl Fresh {
         ensures words { self.new.words ≡ self.old.words }
         ensures sound { IsFresh wave cells.now self.new }
     {
+        self.near_count = 0;
         self.first = None;
         self.next = None;
         for part in 0..self.filled.len() {
@@ -140,7 +142,7 @@ impl Fresh {
     fn note_part(&mut self, wave: u32, cells: &[Cell], part: usize)
         requires part { part < length self.old.filled.items }
         requires marked { AreMarked cells.now self.old }
-        ensures same { self.new ≡ record self.old { near = self.new.near; first = self.new.first; next = self.new.next } }
+        ensures same { self.new ≡ record self.old { near = self.new.near; near_count = self.new.near_count; first = self.new.first; next = self.new.next } }
         ensures size { length self.new.near.items ≡ length self.old.near.items }
         ensures noted { AreNoted cells.now (IsMarkedBelow self.old.words.items (4096 * part)) wave self.old.near.items self.old.first self.old.next
             → AreNoted cells.now (IsMarkedBelow self.old.words.items (4096 * part + 4096)) wave self.new.near.items self.new.first self.new.next }
@@ -157,7 +159,7 @@ impl Fresh {
     fn note_run(&mut self, wave: u32, cells: &[Cell], run: usize)
         requires run { run < length self.old.words.items }
         requires marked { AreMarked cells.now self.old }
-        ensures same { self.new ≡ record self.old { near = self.new.near; first = self.new.first; next = self.new.next } }
+        ensures same { self.new ≡ record self.old { near = self.new.near; near_count = self.new.near_count; first = self.new.first; next = self.new.next } }
         ensures size { length self.new.near.items ≡ length self.old.near.items }
         ensures noted { AreNoted cells.now (IsMarkedBelow self.old.words.items (64 * run)) wave self.old.near.items self.old.first self.old.next
             → AreNoted cells.now (IsMarkedBelow self.old.words.items (64 * run + 64)) wave self.new.near.items self.new.first self.new.next }
@@ -175,7 +177,7 @@ impl Fresh {
     #[inline(always)]
     fn note(&mut self, wave: u32, dist: u32, index: u32)
         requires { index / 64 < length self.old.near.items }
-        ensures same { self.new ≡ record self.old { near = self.new.near; first = self.new.first; next = self.new.next } }
+        ensures same { self.new ≡ record self.old { near = self.new.near; near_count = self.new.near_count; first = self.new.first; next = self.new.next } }
         ensures size { length self.new.near.items ≡ length self.old.near.items }
         ensures near { dist ≡ wave → MarksOne index self.old.near.items self.new.near.items
             × (self.new.first ≡ Some (lesser self.old.first index)) × (self.new.next ≡ self.old.next) }
@@ -184,6 +186,7 @@ impl Fresh {
     {
         if dist == wave {
             mark(&mut self.near, index);
+            self.near_count = self.near_count.saturating_add(1);
             self.first = Some(lesser(self.first, index));
             return;
         }
