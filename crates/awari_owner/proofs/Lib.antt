@@ -7,6 +7,7 @@ pub mod Knowing
 pub mod HearingPlans
 pub mod OpeningPlans
 pub mod PlannedTallies
+pub mod LeavingMoves
 pub mod Taking
 pub mod Gains
 pub mod Spreading

@@ -1,5 +1,6 @@
 -- A board of which no note was heard is open before any gain is.
-use Rattle.std.proofs.Common.{◌≡◌, ℕ, zero, suc, ◌+◌, ◌<◌, ◌≤◌, ◌==◌, ◌⊎◌, inl, inr, Bool, true, false, not, ◌&&◌, is_some, All, List, [], ◌-◌, length, get_or, set, subst₂, sum, take, count_by, ℤ, Option, Some, None, pos, neg_ℤ, ◌-ℤ◌, ◌<ℤ◌, ◌≤ℤ◌, refl, sym, ap, subst, ◌∙◌, arith, eqb-true}
+use Rattle.std.proofs.Common.{◌≡◌, ℕ, zero, suc, ◌+◌, ◌<◌, ◌≤◌, ◌==◌, ◌⊎◌, inl, inr, Bool, true, false, not, ◌&&◌, is_some, All, List, [], ◌-◌, length, get_or, set, subst₂, sum, take, min, ◌*◌, ◌/◌, count_by, ℤ, Option, Some, None, pos, neg_ℤ, ◌-ℤ◌, ◌<ℤ◌, ◌≤ℤ◌, refl, sym, ap, subst, ◌∙◌, arith, eqb-true}
+use Rattle.std.proofs.Math.Nat.{div-one}
 use Rattle.std.proofs.lemmas.Bool.{cases_eq, false≢true}
 use Rattle.std.proofs.lemmas.Bool.Decides.{nat_tests}
 use Rattle.std.proofs.lemmas.Int.{ints}
@@ -16,7 +17,9 @@ use Rattle.awari_block.specs.declared.cells.Cell.{Cell}
 use Rattle.awari_block.specs.declared.cells.Mark.{Mark}
 use Rattle.awari_block.specs.declared.cells.Mark.TheVariants.{Ended, Quiet, Capturing, Noted, Settled}
 use Rattle.awari_block.specs.declared.stakes.Stake.{Stake}
-use Rattle.awari_owner.specs.Scan.{IsRanged, IsBestBelow, IsCounted, IsScannedCell, IsScannedPart, AreScanned}
+use Rattle.awari_block.specs.Shares.{first_rank}
+use Rattle.awari_owner.specs.Sound.{IsScannedOwner}
+use Rattle.awari_owner.specs.Scan.{IsRanged, IsBestBelow, IsCounted, IsScannedCell, IsScannedPart, IsWhole, AreScanned}
 use Rattle.awari_rank.specs.Rank.{rank_of, size_of}
 use Rattle.awari_rank.proofs.Reaching.{board_reached}
 use Rattle.awari_block.proofs.Freshness.{fresh_of_block}
@@ -290,3 +293,37 @@ hears_none part none = record {
   true_notes = λ p x q is stones in_p in_q quiet m has pit. absurd has;
   all_notes = λ p x q v d is stones in_p in_q quiet spread. absurd (false≢true (sym (ap is_some (sym spread.0 ∙ none (rank_of q) in_q))));
 }
+
+-- the part of one owner of so many
+pub scanned_owner : (value : List ℕ → ℤ) (n owners i first last : ℕ) (part : Part) → first ≡ first_rank (size_of n) owners i → last ≡ first_rank (size_of n) owners (i + 1) → IsScannedPart value n first last part → AreFresh part
+    → IsScannedOwner value n owners i part
+scanned_owner value n owners i first last part start end is fresh = record {
+  scan = record { level = is.level; gain = is.gain; wave = is.wave; start = is.start ∙ start; end = is.end ∙ end; unsettled = is.unsettled; fresh = is.fresh };
+  tallied = is.tallied;
+  own = hears_none part is.unsettled;
+  fresh = fresh;
+}
+
+-- and that of the only one
+pub scanned_whole : (value : List ℕ → ℤ) (n owners i first last : ℕ) (part : Part) → owners ≡ 1 → i < owners → first ≡ first_rank (size_of n) owners i → last ≡ first_rank (size_of n) owners (i + 1) → IsScannedPart value n first last part → IsWhole part
+scanned_whole value n owners i first last part one low start end is = record {
+  start = is.start ∙ start ∙ low_end (size_of n) owners i one low;
+  all = let end = is.end ∙ end ∙ high_end (size_of n) owners i one low in let start = is.start ∙ start ∙ low_end (size_of n) owners i one low in let size = ap size_of is.level in omega (arith, end, start, size);
+}
+  where
+    none : (s boards : ℕ) → min (0 * s) boards ≡ 0
+    none s boards = omega arith
+
+    once : (s boards : ℕ) → s ≡ boards → min (1 * s) boards ≡ boards
+    once s boards same = omega (arith, same)
+
+    low_end : (boards owners i : ℕ) → owners ≡ 1 → i < owners → first_rank boards owners i ≡ 0
+    low_end boards owners i one low =
+        let at : 0 ≡ i = omega (arith, one, low) in
+        subst (λ k. first_rank boards owners k ≡ 0) at (none ((boards + (owners - 1)) / owners) boards)
+
+    high_end : (boards owners i : ℕ) → owners ≡ 1 → i < owners → first_rank boards owners (i + 1) ≡ boards
+    high_end boards owners i one low =
+        let at : 1 ≡ i + 1 = omega (arith, one, low) in
+        subst (λ k. first_rank boards owners k ≡ boards) at (once ((boards + (owners - 1)) / owners) boards
+        (subst (λ k. (boards + (k - 1)) / k ≡ boards) (sym one) (div-one (boards + (1 - 1)) ∙ omega arith)))

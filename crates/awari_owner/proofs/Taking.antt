@@ -1,7 +1,7 @@
 -- What a note makes of a part.
-use Rattle.std.proofs.Common.{◌↔◌, ◌≡◌, ◌≢◌, ℕ, ◌-◌, ◌≤◌, ◌<◌, ◌==◌, Bool, true, false, not, cond, List, ◌∷◌, length, set, sum, ℤ, refl, sym, ap, subst, subst₂, ◌∙◌, arith, eqb-true, length-set}
+use Rattle.std.proofs.Common.{◌≡◌, ◌≢◌, ℕ, ◌-◌, ◌≤◌, ◌<◌, ◌==◌, Bool, true, false, not, cond, List, ◌∷◌, length, set, sum, ℤ, refl, sym, ap, subst, subst₂, ◌∙◌, arith, eqb-true, length-set}
 use Rattle.std.proofs.lemmas.Bool.Decides.{nat_tests}
-use Rattle.awari_board.specs.Rules.{IsBoard, IsMove}
+use Rattle.awari_board.specs.Rules.{IsBoard}
 use Rattle.awari_rank.specs.Rank.{rank_of}
 use Rattle.awari_block.specs.Notes.{IsQuietMove, is_heard_at}
 use Rattle.awari_block.specs.Tally.{IsTally, has_pit}
@@ -10,7 +10,7 @@ use Rattle.awari_block.specs.Steps.{cell_after_note}
 use Rattle.awari_block.specs.Cells.{view_of}
 use Rattle.awari_block.specs.Blocks.{cell_in}
 use Rattle.awari_block.specs.Boards.{HearsNote}
-use Rattle.awari_block.specs.Part.{Part, InBlock, Leaves, IsExpected, IsTallied, SameLevel, cell_at, stored_at, notes_for}
+use Rattle.awari_block.specs.Part.{Part, InBlock, IsExpected, IsTallied, SameLevel, cell_at, stored_at, notes_for}
 use Rattle.awari_block.specs.declared.notes.Note.{Note}
 use Rattle.awari_block.specs.declared.cells.Cell.{Cell}
 use Rattle.awari_owner.proofs.Statuses.{IsNew}
@@ -24,18 +24,6 @@ pub record IsTakeable (part : Part) (note : Note) : Type 0 where
   pub held : InBlock part note.target
   pub own : note.pit < 6
   pub quiet : (p : List ℕ) → IsBoard p → sum p ≡ part.level → rank_of p ≡ note.target → (q : List ℕ) × IsQuietMove p note.pit q
-
--- whether the move leaves, by the one board that has this rank
-module _ (part : Part) (target pit : ℕ) (b : List ℕ) (injective : (p q : List ℕ) → IsBoard p → IsBoard q → sum p ≡ sum q → rank_of p ≡ rank_of q → p ≡ q) (is : IsBoard b) (stones : sum b ≡ part.level) (at : rank_of b ≡ target) where
-  pub leaves_by : (c : ℕ) (q : List ℕ) → IsMove b pit c q → ((c ≡ 0) × (InBlock part (rank_of q) → ⊥)) ↔ Leaves part target pit
-  leaves_by c q move = (
-    λ both p is_p stones_p at_p.
-        subst (λ (p : List ℕ). (r : List ℕ) × IsQuietMove p pit r × (InBlock part (rank_of r) → ⊥)) (injective b p is is_p (stones ∙ sym stones_p) (at ∙ sym at_p))
-        (q, subst (λ n. IsMove b pit n q) both.0 move, both.1),
-    λ leaves.
-        let l = leaves b is stones at in
-        (move.captures ∙ sym l.1.captures, λ inside. l.2 (subst (λ (r : List ℕ). InBlock part (rank_of r)) (move.leaves ∙ sym l.1.leaves) inside)),
-  )
 
 -- a cell that was changed by a note, in a part at the same gain and distance
 pub moved_tally : (value : List ℕ → ℤ) (old new : tally.Cell) (p : List ℕ) (notes : List Note) (t w t' w' : ℕ) → t' ≡ t → w' ≡ w → new ≡ old

@@ -2,6 +2,7 @@ pub mod PartFields
 pub mod Spread
 pub mod Found
 pub mod Lookahead
+pub mod Leaving
 pub mod OwnerFault
 pub mod Sound
 pub mod Level

@@ -27,6 +27,7 @@
 mod batches;
 mod faults;
 mod laws;
+mod leaving;
 mod lookahead;
 mod outboxes;
 mod outlooks;

@@ -116,13 +116,17 @@ impl Lookahead {
         place
     }
 
-    /// Reads the cells of the boards that these notes are for.
-    pub fn look_at(&mut self, boards: &Boards, notes: &[Note])
+    /// Reads the cells of the boards that these notes are for, and their bytes of `leaving`, which has one
+    /// for each board.
+    pub fn look_at(&mut self, boards: &Boards, leaving: &[u8], notes: &[Note])
         ensures { self.new ≡ record self.old { read = self.new.read } }
     {
+        let (start, _) = boards.block();
         let mut read = 0;
         for note in notes {
-            read ^= dist_in(boards, note.target);
+            let place = note.target.wrapping_sub(start) as usize;
+            let pits = leaving.get(place).copied().unwrap_or(0);
+            read ^= dist_in(boards, note.target) ^ u32::from(pits);
         }
         self.read = read;
     }

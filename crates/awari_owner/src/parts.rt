@@ -8,7 +8,8 @@ ghost use Rattle.awari_block.specs.Boards.{Settles};
 ghost use Rattle.awari_block.specs.Part.{Part as PartView, InBlock, Leaves, IsExpected, stored_at, settled_at, IsLeastDue, AreFresh, IsClosed};
 ghost use Rattle.awari_owner.specs.OwnerFault.{IsFaultOf};
 ghost use Rattle.awari_block.specs.Shares.{first_rank};
-ghost use Rattle.awari_owner.specs.Scan.{AreScanned, IsWhole};
+ghost use Rattle.awari_owner.specs.Leaving.{AreLeaving};
+ghost use Rattle.awari_owner.specs.Scan.{AreScanned, IsScannedPart, IsWhole};
 ghost use Rattle.awari_owner.specs.Sound.{CanTake, IsScannedOwner, IsSpreadFault, KeepsOwn, KeepsTally, SameStake, SpreadsFirst, TakesNote};
 ghost use Rattle.awari_owner.specs.Spread.{IsPartOf};
 ghost use Rattle.awari_table.specs.Images.{table_of};
@@ -16,6 +17,7 @@ ghost use Rattle.awari_table.specs.declared.TheConstants.{HIGHEST_LEVEL};
 ghost use Rattle.awari_owner.specs.declared.faults.OwnerFault.{OwnerFault};
 
 use crate::faults::OwnerFault;
+use crate::leaving::{leaving_pits, leaving_pits_parallel};
 use crate::lookahead::Lookahead;
 use crate::outboxes::Outboxes;
 use crate::parallel::scanned_cells_parallel;
@@ -27,17 +29,19 @@ use awari_board::{SIDE, moves_keep_boards};
 use awari_index::Index;
 use awari_rank::{ranks_tell_boards_apart, size};
 use awari_table::{Shelf, shelves_are_certificates};
-use std::alloc::Global;
+use std::alloc::{AllocError, Global};
 use std::marker::Model;
 use std::thread::Threads;
 
 /// One owner's part of a level that is being built. It has what is known of each board of its block,
-/// and which boards are fresh, that is, settled and not spread yet. And it has the boards that are
-/// spread next, with their predecessors.
+/// and which boards are fresh, that is, settled and not spread yet. It has the boards that are spread
+/// next, with their predecessors. And for each board it has the pits whose quiet moves lead out of the
+/// block, a bit for each.
 #[derive(Drop)]
 pub struct Part {
     boards: Boards,
     lookahead: Lookahead,
+    leaving: Vec<u8>,
 }
 
 impl Model for Part {
@@ -57,8 +61,8 @@ impl Part {
     /// and no gain is open. Conditions: there are 1 to 16 owners, `owner` is below `owners`, and the
     /// shelf has at most `HIGHEST_LEVEL` levels. Refused as 33 `Memory` if memory runs out.
     ///
-    /// It takes all the memory that the part will ever need: less than ten bytes a board, an index of
-    /// the level, and 75 kilobytes for the predecessors of the boards that are spread next.
+    /// It takes all the memory that the part will ever need: less than eleven bytes a board, an index
+    /// of the level, and 75 kilobytes for the predecessors of the boards that are spread next.
     pub fn scan(alloc: Global, shelf: &Shelf, owners: u8, owner: u8) -> Result<Part, OwnerFault>
         requires owners { (1 ≤ owners) × (owners ≤ 16) }
         requires owner { owner < owners }
@@ -71,7 +75,9 @@ impl Part {
         let block = Block::of(level, owners, owner);
         let index = Index::of(alloc, level)?;
         let cells = scanned_cells(alloc, shelf, &index, block.start, block.end)?;
-        Part::from_cells(alloc, shelf, block.start, cells, index)
+        let boards = scanned_boards(alloc, shelf, block.start, cells, index)?;
+        let leaving = leaving_pits(alloc, &boards)?;
+        Part::from_boards(alloc, boards, leaving)
     }
 
     /// Answers what [`Part::scan`] does, with the block shared among as many threads as there are
@@ -95,7 +101,9 @@ impl Part {
         let block = Block::of(level, owners, owner);
         let index = Index::of(alloc, level)?;
         let cells = scanned_cells_parallel(rt, alloc, shelf, &index, block)?;
-        Part::from_cells(alloc, shelf, block.start, cells, index)
+        let boards = scanned_boards(alloc, shelf, block.start, cells, index)?;
+        let leaving = leaving_pits_parallel(rt, alloc, &boards)?;
+        Part::from_boards(alloc, boards, leaving)
     }
 
     /// Value in stones and distance in plies of the board of this rank, none if it is not settled.
@@ -170,8 +178,8 @@ impl Part {
         self.boards.fresh_boards()
     }
 
-    /// How many fresh boards are of the open wave. It goes over a bit a board, and tells whether the wave
-    /// is worth threads; no clause speaks of it.
+    /// How many fresh boards are of the open wave. It tells whether the wave is worth threads; no clause
+    /// speaks of it.
     pub fn wave_boards(&self) -> usize {
         self.boards.wave_boards()
     }
@@ -226,12 +234,12 @@ impl Part {
         Ok(())
     }
 
-    /// Reads the cells of the boards that these notes are for. Nothing changes, but the notes are heard
-    /// sooner.
+    /// Reads what is known of the boards that these notes are for. Nothing changes, but the notes are
+    /// heard sooner.
     pub(crate) fn look_at(&mut self, notes: &[Note])
         ensures { self.new ≡ self.old }
     {
-        self.lookahead.look_at(&self.boards, notes);
+        self.lookahead.look_at(&self.boards, &self.leaving, notes);
     }
 
     /// Spreads the first fresh board, which has the least distance and among those the least rank, if
@@ -291,29 +299,19 @@ impl Part {
         self.boards.close()
     }
 
-    /// The part of these boards of the shelf's next level, from rank `start` on, of which no note was
-    /// heard.
-    fn from_cells(
-        alloc: Global,
-        shelf: &Shelf,
-        start: u32,
-        cells: Vec<Cell>,
-        index: Index,
-    ) -> Result<Part, OwnerFault>
-        requires low { length shelf.now ≤ HIGHEST_LEVEL }
-        requires level { index ≡ length shelf.now }
-        requires short { start + vec_len cells < 2 ^ 32 }
-        requires within { start + vec_len cells ≤ size_of (length shelf.now) }
-        requires scanned { AreScanned (table_of shelf.now).value (length shelf.now) start (start + vec_len cells) cells.items }
-        ensures scanned { (owners owner : ℕ) → start ≡ first_rank (size_of (length shelf.now)) owners owner → start + vec_len cells ≡ first_rank (size_of (length shelf.now)) owners (owner + 1)
-            → IfOk result (IsScannedOwner (table_of shelf.now).value (length shelf.now) owners owner) }
-        ensures whole { start ≡ 0 → start + vec_len cells ≡ size_of (length shelf.now) → IfOk result IsWhole }
+    /// The part of these boards, with the pits of the moves that leave them.
+    fn from_boards(alloc: Global, boards: Boards, leaving: Vec<u8>) -> Result<Part, OwnerFault>
+        requires fresh { AreFresh boards }
+        requires leaving { AreLeaving boards leaving.items }
+        ensures same { IfOk result (λ part. part ≡ boards) }
         ensures memory { IfErr result (λ fault. fault ≡ OwnerFault.Memory) }
     {
-        let level = shelf.levels();
-        let boards = Boards::unopened(alloc, level, start, cells, index)?;
-        let lookahead = Lookahead::new(alloc, level)?;
-        Ok(Part { boards, lookahead })
+        let lookahead = Lookahead::new(alloc, boards.stake().level)?;
+        Ok(Part {
+            boards,
+            lookahead,
+            leaving,
+        })
     }
 
     /// Whether the note is one that other owners may send now.
@@ -333,15 +331,30 @@ impl Part {
     /// Whether the move from `pit` of the board of this rank is quiet and leads to a board of another
     /// block.
     fn leaves(&self, target: u32, pit: u8) -> bool
-        requires { InBlock self.now target }
+        requires held { InBlock self.now target }
+        requires own { pit < 6 }
         ensures { IsTrue result ↔ Leaves self.now target pit }
     {
-        ranks_tell_boards_apart();
-        let board = self.boards.board(target);
-        if !board.legal(pit) {
-            return false;
-        }
-        let moved = board.play(pit);
-        moved.captured == 0 && !self.boards.holds(moved.board.rank())
+        let (start, _) = self.boards.block();
+        self.leaving[(target - start) as usize] & (1 << pit) != 0
     }
+}
+
+/// The boards of the shelf's next level from rank `start` on that have these cells. They heard no note.
+fn scanned_boards(
+    alloc: Global,
+    shelf: &Shelf,
+    start: u32,
+    cells: Vec<Cell>,
+    index: Index,
+) -> Result<Boards, AllocError>
+    requires low { length shelf.now ≤ HIGHEST_LEVEL }
+    requires level { index ≡ length shelf.now }
+    requires short { start + vec_len cells < 2 ^ 32 }
+    requires within { start + vec_len cells ≤ size_of (length shelf.now) }
+    requires scanned { AreScanned (table_of shelf.now).value (length shelf.now) start (start + vec_len cells) cells.items }
+    ensures scanned { IfOk result (IsScannedPart (table_of shelf.now).value (length shelf.now) start (start + vec_len cells)) }
+    ensures fresh { IfOk result AreFresh }
+{
+    Boards::unopened(alloc, shelf.levels(), start, cells, index)
 }

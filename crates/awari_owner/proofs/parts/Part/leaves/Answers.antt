@@ -1,29 +1,15 @@
-use Rattle.std.proofs.Common.{◌≡◌, ◌==◌, ◌↔◌, ℕ, Bool, IsTrue, true, false, not, refl, subst, arith}
-use Rattle.std.proofs.lemmas.Bool.{false≢true}
-use Rattle.std.proofs.lemmas.Bool.Decides.{nat_tests}
+use Rattle.std.proofs.Common.{◌≡◌, ◌*◌, ◌-◌, ◌%◌, ◌^◌, ◌==◌, ◌↔◌, ◌∙◌, IsTrue, not, bit_and, get_or, ap, subst}
 use Rattle.awari_block.specs.Part.{Part, InBlock, Leaves}
-use Rattle.awari_owner.proofs.Taking.{leaves_by}
+use Rattle.awari_owner.proofs.LeavingMoves.{leaves_read}
+use Rattle.awari_owner.proofs.PitSets.{small_bit}
 use Rattle.awari_owner.proofs.parts.Part.leaves.Goals as goal
 
--- what is not held is out
-out_is : (held : Bool) (P : Type 0) → IsTrue held ↔ P → IsTrue (not held) ↔ (P → ⊥)
-out_is true P is = (λ t. absurd (false≢true t), λ out. absurd (out (is.0 refl)))
-out_is false P is = (λ t p. absurd (false≢true (is.1 p)), λ out. refl)
-
-zero_is : (n : ℕ) → IsTrue (n == 0) → n ≡ 0
-zero_is n t = grind (arith, nat_tests)
-
-pub returns-then-moved-eq0 : goal.returns-then-moved-eq0
-returns-then-moved-eq0 c =
+pub returns : goal.returns
+returns c =
     let part : Part = c.self.inside.boards in
-    let by = leaves_by part c.args.target c.args.pit c.board-board.result c.ranks_tell_boards_apart.ensures c.board-board.ensures.board c.board-board.ensures.stones c.board-board.ensures.rank c.play-moved.result.captured c.play-moved.result.board c.play-moved.ensures.moved in
-    let out = out_is c.holds.result _ (subst (λ r. IsTrue c.holds.result ↔ InBlock part r) c.rank.ensures.rank c.holds.ensures) in
-    subst (λ (o : Part). IsTrue (not c.holds.result) ↔ Leaves o c.args.target c.args.pit) c.self.view_is
-    (λ t. by.0 (c.if-moved-eq0.true, out.0 t), λ leaves. out.1 (by.1 leaves).1)
-
-pub returns-else-moved-eq0 : goal.returns-else-moved-eq0
-returns-else-moved-eq0 c =
-    let part : Part = c.self.inside.boards in
-    let by = leaves_by part c.args.target c.args.pit c.board-board.result c.ranks_tell_boards_apart.ensures c.board-board.ensures.board c.board-board.ensures.stones c.board-board.ensures.rank c.play-moved.result.captured c.play-moved.result.board c.play-moved.ensures.moved in
-    subst (λ (o : Part). IsTrue (c.play-moved.result.captured == 0) ↔ Leaves o c.args.target c.args.pit) c.self.view_is
-    (λ t. absurd (c.if-moved-eq0.false (zero_is _ t)), λ leaves. absurd (c.if-moved-eq0.false (by.1 leaves).0))
+    let leaving = c.self.inside.leaving.items in
+    let bit = (1 * 2 ^ c.args.pit) % 256 in
+    let at : c.args.target - c.block-start.result.0 ≡ c.args.target - part.start = ap (λ k. c.args.target - k) c.block-start.ensures.start in
+    let read : c.index.result.now ≡ get_or leaving (c.args.target - part.start) c.index.result.now = c.index.ensures ∙ ap (λ k. get_or leaving k c.index.result.now) at in
+    subst (λ (o : Part). InBlock o c.args.target → IsTrue (not (bit_and c.index.result.now bit == 0)) ↔ Leaves o c.args.target c.args.pit) c.self.view_is
+    (λ held. leaves_read part leaving c.args.target c.args.pit c.index.result.now bit c.self.invariant.leaving held c.requires.own read (small_bit c.args.pit c.requires.own)) c.requires.held

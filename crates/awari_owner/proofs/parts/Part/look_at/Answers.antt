@@ -9,4 +9,5 @@ invariant_of-self c =
       opened = c.self.invariant.opened;
       fresh = c.self.invariant.fresh;
       ahead = subst (IsAhead c.self.inside.boards.level) (sym c.look_at.ensures) (record { room = ahead.room; found = ahead.found });
+      leaving = c.self.invariant.leaving;
     }

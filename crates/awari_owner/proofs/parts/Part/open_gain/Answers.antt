@@ -6,6 +6,7 @@ use Rattle.awari_owner.proofs.Gains.{opened}
 use Rattle.awari_owner.proofs.Hearing.{hears_still}
 use Rattle.awari_block.proofs.Settling.{same_stake}
 use Rattle.awari_owner.specs.Lookahead.{IsAhead}
+use Rattle.awari_owner.proofs.LeavingMoves.{leaving_still}
 use Rattle.awari_owner.proofs.parts.Part.open_gain.Goals as goal
 
 pub invariant_of-self : goal.invariant_of-self
@@ -15,6 +16,7 @@ invariant_of-self c =
       opened = (let now = settles.same.gain in omega (arith, now, c.requires.positive));
       fresh = c.open_gain.ensures.fresh;
       ahead = subst (λ n. IsAhead n c.self.inside.lookahead) (sym settles.same.level) c.self.invariant.ahead;
+      leaving = leaving_still c.self.inside.boards c.open_gain.new.self c.self.inside.leaving.items settles.same.level settles.same.start settles.size c.self.invariant.leaving;
     }
 
 pub returns-clause-tallied : goal.returns-clause-tallied

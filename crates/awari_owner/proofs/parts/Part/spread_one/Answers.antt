@@ -16,6 +16,7 @@ use Rattle.awari_owner.proofs.LookingAhead.{ahead_at}
 use Rattle.awari_owner.proofs.Sending.{batches_length, all_batches}
 use Rattle.awari_owner.proofs.Sharing.{outboxes_of, own_stays, room_for, sends_by}
 use Rattle.awari_owner.proofs.Spreading.{sources_of}
+use Rattle.awari_owner.proofs.LeavingMoves.{leaving_still}
 use Rattle.awari_owner.proofs.parts.Part.spread_one.Goals as goal
 
 -- the length of a block, by the level where the boards stand
@@ -68,6 +69,7 @@ invariant_of-self c =
       opened = (let now = settles.same.gain in let was = c.self.invariant.opened in omega (arith, now, was));
       fresh = c.tell_all.ensures.settles.fresh c.take_first-rank.ensures.fresh;
       ahead = subst (λ n. IsAhead n c.place_of-place.new.self) (sym c.tell_all.ensures.settles.same.level) c.place_of-place.ensures.ahead;
+      leaving = leaving_still c.self.inside.boards c.tell_all.new.boards c.self.inside.leaving.items settles.same.level settles.same.start settles.size c.self.invariant.leaving;
     }
 
 pub invariant_of-outboxes-2 : goal.invariant_of-outboxes-2
