@@ -98,7 +98,7 @@ fn open_together<R: Threads + Sync>(rt: &R, owners: &mut [Owner], dist: u32)
 }
 
 /// How many boards are fresh, of all owners together.
-pub(crate) fn fresh_boards(owners: &[Owner]) -> usize {
+fn fresh_boards(owners: &[Owner]) -> usize {
     owners.iter().fold(
         0,
         |sum: usize, owner: &Owner| sum.saturating_add(owner.part.fresh_boards()),

@@ -1,47 +1,27 @@
 //! Rounds, until a gain is closed.
 
-ghost use Rattle.std.specs.Prelude.{◌≡◌, ◌⊎◌, ◌≤◌, All, IsTrue, IsNone, IfSome, IfOk, IfErr, []};
+ghost use Rattle.std.specs.Prelude.{◌≡◌, ◌⊎◌, ◌≤◌, All, IsTrue, false, IsNone, IfSome, IfOk, IfErr, []};
 ghost use Rattle.awari_lines.specs.Rings.{EachTo, IsGrid};
 ghost use Rattle.awari_block.specs.Blocks.{due_dist};
 ghost use Rattle.awari_phase.specs.Owners.{AllGrown, AreIdle, AreReceived, AreSent, Kept, StayFinished, StayTogether, all_ends};
 ghost use Rattle.awari_phase.specs.PhaseFault.{IfTogether, IsPhaseRefusal, IsRefusal, IsStop, IsWant};
 ghost use Rattle.awari_phase.specs.declared.owners.Owner.{Owner as AnOwner};
-ghost use Rattle.awari_phase.specs.declared.phases.Standing.{Standing};
 
 use crate::faults::PhaseFault;
 use crate::gates::Gate;
-use crate::openings::{fresh_boards, open_waves};
+use crate::openings::open_waves;
 use crate::owners::Owner;
 use crate::progress::{Progress, Silent};
-use crate::rounding::{round, round_in_turn};
+use crate::rounding::round_with;
 use crate::settling::settle_owners;
 use std::sync::Wait;
 use std::thread::Threads;
 
-/// From how many boards on, of all owners together, a wave is begun in threads.
-const MANY_BOARDS: usize = 1000;
+/// From how much work on, in boards to be spread, a round is made in threads.
+const MUCH_WORK: usize = 1000;
 
 /// How many sweeps an owner makes in a round in turn at most, before threads are thought of again.
 const SWEEPS_IN_TURN: u32 = 16;
-
-/// How the rounds of a wave are made.
-#[derive(Clone, Copy)]
-struct Course {
-    /// Whether few of its boards were fresh when it was opened. Then all its rounds are in turn.
-    small: bool,
-    /// Whether the last round was in turn, or the next one is.
-    in_turn: bool,
-}
-
-/// Where owners stand after a round.
-enum Standing {
-    /// No board of the open wave is fresh, and nothing is to be sent or waits on a ring.
-    Done,
-    /// Batches wait on rings, and nothing else is to be done.
-    Waiting,
-    /// A board of the open wave is fresh, or something is to be sent.
-    Busy,
-}
 
 /// Makes rounds, one wave after another from the least on, until no board is fresh and
 /// nothing is to be sent or waits on a ring. An owner makes at most `sweeps` sweeps a round.
@@ -49,8 +29,8 @@ enum Standing {
 /// does, and is refused as one is; then the owners are gone. If the owners were sound together, 42
 /// cannot occur.
 ///
-/// A single owner works on the caller's thread. For several, a round is made in threads or in turn;
-/// docs/DECISIONS.md explains which.
+/// The first round is made in threads, and each other one in threads or in turn; docs/DECISIONS.md
+/// explains which. The first owner works on the caller's thread in either.
 pub fn gain_phase<R: Threads + Wait + Sync, G: Gate + Sync>(
     rt: &R,
     owners: Vec<Owner>,
@@ -89,63 +69,46 @@ pub fn gain_phase_with_progress<R: Threads + Wait + Sync, G: Gate + Sync, P: Pro
     ensures refused { IfErr result (λ fault. IsPhaseRefusal owners.items fault ⊎ IsStop P.stops fault) }
     ensures wanting { IfErr result (IfTogether owners.items (λ fault. IsWant fault ⊎ IsStop P.stops fault)) }
 {
-    let mut all = next_round(rt, owners, gate, sweeps, false)?;
-    let mut course = Course {
-        small: false,
-        in_turn: false,
-    };
+    let mut all = round_with(rt, owners, 1, gate, sweeps)?;
     for _ in rt.forever() {
         tell(progress, all.as_slice());
         if !progress.is_wanted() {
             return Err(PhaseFault::Stopped);
         }
-        let Some(next) = look_ahead(rt, all.as_mut_slice(), course) else {
+        if !is_more(rt, all.as_mut_slice()) {
             return Ok(all);
-        };
-        course = next;
-        all = next_round(rt, all, gate, sweeps, course.in_turn)?;
+        }
+        all = next_round(rt, all, gate, sweeps)?;
     }
     unreachable!()
 }
 
-/// How the next round is to be made, given how the last one was. If nothing is left of the open wave, it
-/// opens the least one that is due. None if no board is fresh, so that no round is left.
-fn look_ahead<R: Threads + Sync>(rt: &R, owners: &mut [Owner], last: Course) -> Option<Course>
+/// Whether a round is left. If nothing is left of the open wave, it opens the least one that is due.
+fn is_more<R: Threads + Sync>(rt: &R, owners: &mut [Owner]) -> bool
     requires { IsGrid (all_ends owners.old) }
     ensures grown { AllGrown owners.old owners.new }
     ensures together { StayTogether owners.old owners.new }
-    ensures idle { IsNone result → AreIdle owners.new }
-    ensures sent { IsNone result → AreSent owners.new }
-    ensures received { IsNone result → AreReceived owners.new }
+    ensures idle { result ≡ false → AreIdle owners.new }
+    ensures sent { result ≡ false → AreSent owners.new }
+    ensures received { result ≡ false → AreReceived owners.new }
 {
-    match look(owners) {
-        Standing::Busy => Some(Course {
-            in_turn: last.small || !last.in_turn,
-            ..last
-        }),
-        Standing::Waiting => Some(Course {
-            in_turn: true,
-            ..last
-        }),
-        Standing::Done => {
-            let dist = least_due(owners)?;
-            open_waves(rt, owners, dist);
-            let small = is_small(owners);
-            Some(Course {
-                small,
-                in_turn: small,
-            })
-        }
+    if !is_wave_done(owners) {
+        return true;
     }
+    let Some(dist) = least_due(owners) else {
+        return false;
+    };
+    open_waves(rt, owners, dist);
+    true
 }
 
-/// One round, in threads or in turn. One owner has no others to work beside, and needs no thread.
+/// One round, in turn if little is to be done. Else it is made in threads, with the first owner on the
+/// caller's.
 fn next_round<R: Threads + Wait + Sync, G: Gate + Sync>(
     rt: &R,
     owners: Vec<Owner>,
     gate: &G,
     sweeps: u32,
-    in_turn: bool,
 ) -> Result<Vec<Owner>, PhaseFault>
     requires sweeps { (1 ≤ sweeps) × (sweeps ≤ 1000) }
     requires grid { IsGrid (all_ends owners.items) }
@@ -155,23 +118,18 @@ fn next_round<R: Threads + Wait + Sync, G: Gate + Sync>(
     ensures refused { IfErr result (IsRefusal owners.items) }
     ensures wanting { IfErr result (IfTogether owners.items IsWant) }
 {
-    if in_turn || owners.len() == 1 {
-        return round_in_turn(owners, gate, sweeps.min(SWEEPS_IN_TURN));
+    if work_left(owners.as_slice()) < MUCH_WORK {
+        let here = owners.len();
+        return round_with(rt, owners, here, gate, sweeps.min(SWEEPS_IN_TURN));
     }
-    round(rt, owners, gate, sweeps)
+    round_with(rt, owners, 1, gate, sweeps)
 }
 
-/// Whether few boards of the open wave are fresh. Those of a wave are counted only if many boards are
-/// fresh at all.
-fn is_small(owners: &[Owner]) -> bool {
-    fresh_boards(owners) < MANY_BOARDS || wave_boards(owners) < MANY_BOARDS
-}
-
-/// How many boards of the open wave are fresh, of all owners together.
-fn wave_boards(owners: &[Owner]) -> usize {
+/// The work of all owners together, in boards.
+fn work_left(owners: &[Owner]) -> usize {
     owners.iter().fold(
         0,
-        |sum: usize, owner: &Owner| sum.saturating_add(owner.part.wave_boards()),
+        |sum: usize, owner: &Owner| sum.saturating_add(owner.work_left()),
     )
 }
 
@@ -191,22 +149,17 @@ fn settled_boards(owners: &[Owner]) -> usize {
     )
 }
 
-/// Looks at all owners and at every ring.
-fn look(owners: &mut [Owner]) -> Standing
+/// Looks at all owners and at every ring. True if no board of the open wave is fresh, and nothing is to
+/// be sent or waits on a ring.
+fn is_wave_done(owners: &mut [Owner]) -> bool
     requires { IsGrid (all_ends owners.old) }
     ensures grown { AllGrown owners.old owners.new }
     ensures together { StayTogether owners.old owners.new }
-    ensures sent { result ≡ Standing.Done → AreSent owners.new }
-    ensures received { result ≡ Standing.Done → AreReceived owners.new }
+    ensures sent { IsTrue result → AreSent owners.new }
+    ensures received { IsTrue result → AreReceived owners.new }
 {
     let quiet = settle_owners(owners);
-    if !are_spread(owners) {
-        return Standing::Busy;
-    }
-    if !quiet {
-        return Standing::Waiting;
-    }
-    Standing::Done
+    quiet && are_spread(owners)
 }
 
 /// Whether nothing is to be sent, and no board of the open wave is fresh.

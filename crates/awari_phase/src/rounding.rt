@@ -12,7 +12,7 @@ use crate::faults::PhaseFault;
 use crate::gates::Gate;
 use crate::owners::Owner;
 use crate::settling::settle_owners;
-use crate::starting::start_each;
+use crate::starting::work_all;
 use awari_owner::{OwnerFault, coming_notes_are_expected, distances_fit, sound_parts_are_told};
 use std::sync::Wait;
 use std::thread::Threads;
@@ -47,17 +47,14 @@ pub fn round<R: Threads + Wait + Sync, G: Gate + Sync>(
     ensures refused { IfErr result (IsRefusal owners.items) }
     ensures wanting { IfErr result (IfTogether owners.items IsWant) }
 {
-    let all = start_each(rt, owners, gate, sweeps)?;
-    match first_fault(all.as_slice()) {
-        None => Ok(all),
-        Some(fault) => Err(refused(all, fault)),
-    }
+    round_with(rt, owners, 0, gate, sweeps)
 }
 
-/// The same round on this thread, one owner after the other. It takes memory for notes alone, and none
-/// for threads.
-pub(crate) fn round_in_turn<G: Gate>(
-    mut owners: Vec<Owner>,
+/// The same round, with the first `here` owners on the caller's thread, one after the other.
+pub(crate) fn round_with<R: Threads + Wait + Sync, G: Gate + Sync>(
+    rt: &R,
+    owners: Vec<Owner>,
+    here: usize,
     gate: &G,
     sweeps: u32,
 ) -> Result<Vec<Owner>, PhaseFault>
@@ -70,20 +67,10 @@ pub(crate) fn round_in_turn<G: Gate>(
     ensures refused { IfErr result (IsRefusal owners.items) }
     ensures wanting { IfErr result (IfTogether owners.items IsWant) }
 {
-    work_in_turn(owners.as_mut_slice(), gate, sweeps);
-    match first_fault(owners.as_slice()) {
-        None => Ok(owners),
-        Some(fault) => Err(refused(owners, fault)),
-    }
-}
-
-/// Each owner works in its place in the list.
-fn work_in_turn<G: Gate>(owners: &mut [Owner], gate: &G, sweeps: u32)
-    requires { 1 ≤ sweeps }
-    ensures { HaveWorked owners.old owners.new }
-{
-    for i in 0..owners.len() {
-        owners[i].work(gate, sweeps);
+    let all = work_all(rt, owners, here, gate, sweeps)?;
+    match first_fault(all.as_slice()) {
+        None => Ok(all),
+        Some(fault) => Err(refused(all, fault)),
     }
 }
 

@@ -1,4 +1,5 @@
-//! How owners are started, each in a thread of its own, and how a start that fails is reported.
+//! How owners work, each in a thread of its own or several on the caller's, and how a start that fails is
+//! reported.
 
 ghost use Rattle.std.specs.Prelude.{◌≡◌, ◌≤◌, IfOk, IfErr, vec_len, ◌+◌, ◌++◌, ◌∷◌, [], Ok};
 ghost use Rattle.std.specs.declared.vec.Vec.{Vec as AVec};
@@ -33,13 +34,17 @@ fn worked<G: Gate>(mut owner: Owner, gate: &G, sweeps: u32) -> Owner
     owner
 }
 
-/// Starts the last owner, then the others before it, and joins it whatever became of those. So all
+/// The first `here` owners work on the caller's thread, one after the other, and each other one in a
+/// thread of its own.
+///
+/// It starts the last owner, then the others before it, and joins it whatever became of those. So all
 /// that were started are joined before a refusal is answered. It is 40 `NotStarted` if one could not
 /// be started, and 41 `Memory` if memory runs out.
 #[cycle(starts)]
-pub(crate) fn start_each<R: Threads + Wait + Sync, G: Gate + Sync>(
+pub(crate) fn work_all<R: Threads + Wait + Sync, G: Gate + Sync>(
     rt: &R,
     mut owners: Vec<Owner>,
+    here: usize,
     gate: &G,
     sweeps: u32,
 ) -> Result<Vec<Owner>, PhaseFault>
@@ -48,6 +53,10 @@ pub(crate) fn start_each<R: Threads + Wait + Sync, G: Gate + Sync>(
     ensures worked { IfOk result (λ all. HaveWorked owners.items all.items) }
     ensures wanting { IfErr result IsWant }
 {
+    if owners.len() <= here {
+        work_in_turn(owners.as_mut_slice(), gate, sweeps);
+        return Ok(owners);
+    }
     let Some(owner) = owners.pop() else {
         return Ok(owners);
     };
@@ -61,13 +70,23 @@ pub(crate) fn start_each<R: Threads + Wait + Sync, G: Gate + Sync>(
             let promise = KeptFrom(Snapshot::of(&owner));
             match scope.spawn_with(promise, move || worked(owner, gate, sweeps)) {
                 Ok(child) => {
-                    let others = start_each(rt, owners, gate, sweeps);
+                    let others = work_all(rt, owners, here, gate, sweeps);
                     with_last(others, child.join(rt))
                 }
                 Err(_) => Err(PhaseFault::NotStarted),
             }
         },
     )
+}
+
+/// Each owner works in its place in the list.
+fn work_in_turn<G: Gate>(owners: &mut [Owner], gate: &G, sweeps: u32)
+    requires { 1 ≤ sweeps }
+    ensures { HaveWorked owners.old owners.new }
+{
+    for i in 0..owners.len() {
+        owners[i].work(gate, sweeps);
+    }
 }
 
 /// The owners with one more at the end.

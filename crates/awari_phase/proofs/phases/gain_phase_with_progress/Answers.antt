@@ -1,4 +1,4 @@
-use Rattle.std.proofs.Common.{refl, inl}
+use Rattle.std.proofs.Common.{inl}
 use Rattle.std.proofs.lemmas.Result.{err_from_is_err_and}
 use Rattle.awari_phase.specs.Owners.{AllGrown}
 use Rattle.awari_phase.proofs.Gaining.{all_grown_kept, all_grown_trans, finished_grown}
@@ -11,34 +11,34 @@ loop-init g c = record {
   together = λ value n t. c.in_ok-all.ensures.together value n t;
 }
 
-pub returns-in_default-clause-grown : goal.returns-in_default-clause-grown
-returns-in_default-clause-grown g c =
-    rw (written_back _ _ _ _ c.loop.all.ok.0 c.as_mut_slice.ensures.value c.look_ahead.auto.owners) (all_grown_trans c.args.owners.items c.loop.all.items c.look_ahead.new.owners c.loop.invariant.grown (rw c.as_mut_slice.ensures.value at c.look_ahead.ensures.grown))
+pub returns-then-not-is_more-clause-grown : goal.returns-then-not-is_more-clause-grown
+returns-then-not-is_more-clause-grown g c =
+    rw (written_back _ _ _ _ c.loop.all.ok.0 c.as_mut_slice.ensures.value c.is_more.auto.owners) (all_grown_trans c.args.owners.items c.loop.all.items c.is_more.new.owners c.loop.invariant.grown (rw c.as_mut_slice.ensures.value at c.is_more.ensures.grown))
 
-pub returns-in_default-clause-idle : goal.returns-in_default-clause-idle
-returns-in_default-clause-idle g c =
-    rw (written_back _ _ _ _ c.loop.all.ok.0 c.as_mut_slice.ensures.value c.look_ahead.auto.owners) (c.in_default.ensures.idle refl)
+pub returns-then-not-is_more-clause-idle : goal.returns-then-not-is_more-clause-idle
+returns-then-not-is_more-clause-idle g c =
+    rw (written_back _ _ _ _ c.loop.all.ok.0 c.as_mut_slice.ensures.value c.is_more.auto.owners) (c.is_more.ensures.idle c.if-not-is_more.true)
 
-pub returns-in_default-clause-sent : goal.returns-in_default-clause-sent
-returns-in_default-clause-sent g c =
-    rw (written_back _ _ _ _ c.loop.all.ok.0 c.as_mut_slice.ensures.value c.look_ahead.auto.owners) (c.in_default.ensures.sent refl)
+pub returns-then-not-is_more-clause-sent : goal.returns-then-not-is_more-clause-sent
+returns-then-not-is_more-clause-sent g c =
+    rw (written_back _ _ _ _ c.loop.all.ok.0 c.as_mut_slice.ensures.value c.is_more.auto.owners) (c.is_more.ensures.sent c.if-not-is_more.true)
 
-pub returns-in_default-clause-finished : goal.returns-in_default-clause-finished
-returns-in_default-clause-finished g c = λ value n finished.
-    rw (written_back _ _ _ _ c.loop.all.ok.0 c.as_mut_slice.ensures.value c.look_ahead.auto.owners) (finished_grown value n c.args.owners.items c.look_ahead.new.owners
-    (all_grown_trans c.args.owners.items c.loop.all.items c.look_ahead.new.owners c.loop.invariant.grown (rw c.as_mut_slice.ensures.value at c.look_ahead.ensures.grown))
-    (c.in_default.ensures.sent refl) (c.in_default.ensures.received refl) finished)
+pub returns-then-not-is_more-clause-finished : goal.returns-then-not-is_more-clause-finished
+returns-then-not-is_more-clause-finished g c = λ value n finished.
+    rw (written_back _ _ _ _ c.loop.all.ok.0 c.as_mut_slice.ensures.value c.is_more.auto.owners) (finished_grown value n c.args.owners.items c.is_more.new.owners
+    (all_grown_trans c.args.owners.items c.loop.all.items c.is_more.new.owners c.loop.invariant.grown (rw c.as_mut_slice.ensures.value at c.is_more.ensures.grown))
+    (c.is_more.ensures.sent c.if-not-is_more.true) (c.is_more.ensures.received c.if-not-is_more.true) finished)
 
 pub loop-preserved : goal.loop-preserved
 loop-preserved g c =
-    let back = written_back c.loop.all.items c.as_mut_slice.result.now c.look_ahead.new.owners c.loop.all.len c.loop.all.ok.0 c.as_mut_slice.ensures.value c.look_ahead.auto.owners in
-    let looked : AllGrown c.loop.all.items c.look_ahead.new.owners = rw c.as_mut_slice.ensures.value at c.look_ahead.ensures.grown in
+    let back = written_back c.loop.all.items c.as_mut_slice.result.now c.is_more.new.owners c.loop.all.len c.loop.all.ok.0 c.as_mut_slice.ensures.value c.is_more.auto.owners in
+    let looked : AllGrown c.loop.all.items c.is_more.new.owners = rw c.as_mut_slice.ensures.value at c.is_more.ensures.grown in
     record {
       grown =
-          all_grown_trans c.args.owners.items c.look_ahead.new.owners c.in_ok-all-2.all.items
-          (all_grown_trans c.args.owners.items c.loop.all.items c.look_ahead.new.owners c.loop.invariant.grown looked)
-          (all_grown_kept c.look_ahead.new.owners c.in_ok-all-2.all.items (rw back at c.in_ok-all-2.ensures.kept) looked.grid);
-      together = λ value n t. c.in_ok-all-2.ensures.together value n (rw back (c.look_ahead.ensures.together value n (rw c.as_mut_slice.ensures.value (c.loop.invariant.together value n t))));
+          all_grown_trans c.args.owners.items c.is_more.new.owners c.in_ok-all-2.all.items
+          (all_grown_trans c.args.owners.items c.loop.all.items c.is_more.new.owners c.loop.invariant.grown looked)
+          (all_grown_kept c.is_more.new.owners c.in_ok-all-2.all.items (rw back at c.in_ok-all-2.ensures.kept) looked.grid);
+      together = λ value n t. c.in_ok-all-2.ensures.together value n (rw back (c.is_more.ensures.together value n (rw c.as_mut_slice.ensures.value (c.loop.invariant.together value n t))));
     }
 
 pub returns-in_err-all-clause-wanting : goal.returns-in_err-all-clause-wanting
@@ -49,12 +49,12 @@ returns-in_err-all-clause-wanting g c =
 pub returns-in_err-all-2-clause-wanting : goal.returns-in_err-all-2-clause-wanting
 returns-in_err-all-2-clause-wanting g c =
     let p = err_from_is_err_and c.from_residual-in_err-all-2.result c.from_residual-in_err-all-2.ensures.1 in
-    let back = written_back c.loop.all.items c.as_mut_slice.result.now c.look_ahead.new.owners c.loop.all.len c.loop.all.ok.0 c.as_mut_slice.ensures.value c.look_ahead.auto.owners in
-    rw (p.1, p.2) (λ value n small t. inl (c.in_err-all-2.ensures.wanting value n small (rw back (c.look_ahead.ensures.together value n (rw c.as_mut_slice.ensures.value (c.loop.invariant.together value n t))))))
+    let back = written_back c.loop.all.items c.as_mut_slice.result.now c.is_more.new.owners c.loop.all.len c.loop.all.ok.0 c.as_mut_slice.ensures.value c.is_more.auto.owners in
+    rw (p.1, p.2) (λ value n small t. inl (c.in_err-all-2.ensures.wanting value n small (rw back (c.is_more.ensures.together value n (rw c.as_mut_slice.ensures.value (c.loop.invariant.together value n t))))))
 
 pub returns-in_err-all-2-clause-refused : goal.returns-in_err-all-2-clause-refused
 returns-in_err-all-2-clause-refused g c =
     let p = err_from_is_err_and c.from_residual-in_err-all-2.result c.from_residual-in_err-all-2.ensures.1 in
-    let back = written_back c.loop.all.items c.as_mut_slice.result.now c.look_ahead.new.owners c.loop.all.len c.loop.all.ok.0 c.as_mut_slice.ensures.value c.look_ahead.auto.owners in
-    let looked : AllGrown c.loop.all.items c.look_ahead.new.owners = rw c.as_mut_slice.ensures.value at c.look_ahead.ensures.grown in
-    rw (p.1, p.2) (inl (c.look_ahead.new.owners, all_grown_trans c.args.owners.items c.loop.all.items c.look_ahead.new.owners c.loop.invariant.grown looked, rw back at c.in_err-all-2.ensures.refused))
+    let back = written_back c.loop.all.items c.as_mut_slice.result.now c.is_more.new.owners c.loop.all.len c.loop.all.ok.0 c.as_mut_slice.ensures.value c.is_more.auto.owners in
+    let looked : AllGrown c.loop.all.items c.is_more.new.owners = rw c.as_mut_slice.ensures.value at c.is_more.ensures.grown in
+    rw (p.1, p.2) (inl (c.is_more.new.owners, all_grown_trans c.args.owners.items c.loop.all.items c.is_more.new.owners c.loop.invariant.grown looked, rw back at c.in_err-all-2.ensures.refused))

@@ -10,15 +10,15 @@ pub scope-returns-in-Ok : goal.scope-returns-in-Ok
 scope-returns-in-Ok g t c = (
   IfOk-then c.with_last.result _ _ c.with_last.ensures.ok (λ all h.
       let before = h.0 in
-      let len : vec_len before ≡ vec_len c.captures.owners = rw h.1 at c.start_each-others.ensures.len in
-      let worked = rw h.1 at c.start_each-others.ensures.worked in
+      let len : vec_len before ≡ vec_len c.captures.owners = rw h.1 at c.work_all-others.ensures.len in
+      let worked = rw h.1 at c.work_all-others.ensures.worked in
       let bef = before.ok.0 in
       let last : HasWorked c.captures.owner c.join.result = subst (λ (u : Owner). HasWorked u c.join.result) (ap (λ (p : KeptFrom). p.0.value) c.in-Ok.ensures.ok ∙ c.of.ensures) c.join.ensures in
       let grown = ap length h.2 in
       let more = length-append before.items (c.join.result ∷ []) in
       let whole = all.ok.0 in
       (omega (arith, grown, more, whole, bef, len), pushed_worked c.captures.owners.items before.items all.items c.captures.owner c.join.result h.2 worked last)),
-  c.with_last.ensures.wanting c.start_each-others.ensures.wanting,
+  c.with_last.ensures.wanting c.work_all-others.ensures.wanting,
 )
 
 pub returns-clause-worked : goal.returns-clause-worked

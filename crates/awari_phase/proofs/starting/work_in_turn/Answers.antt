@@ -1,7 +1,7 @@
 use Rattle.std.proofs.Common.{refl, arith}
 use Rattle.awari_phase.specs.Stops.{HasWorked}
 use Rattle.awari_phase.proofs.Each.{done_all, done_more}
-use Rattle.awari_phase.proofs.rounding.work_in_turn.Goals as goal
+use Rattle.awari_phase.proofs.starting.work_in_turn.Goals as goal
 
 pub loop-i-preserved : goal.loop-i-preserved
 loop-i-preserved g c =
