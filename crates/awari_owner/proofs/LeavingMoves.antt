@@ -122,8 +122,8 @@ leaving_still old new leaving level start size are = record {
 pub leaves_read : (part : Part) (leaving : List ℕ) (target pit byte bit : ℕ) → AreLeaving part leaving → InBlock part target → pit < 6 → byte ≡ get_or leaving (target - part.start) byte → bit ≡ 2 ^ pit
     → IsTrue (not (bit_and byte bit == 0)) ↔ Leaves part target pit
 leaves_read part leaving target pit byte bit are held own read is = (
-  λ t. (here.0 (same ∙ true_is (not (bit_and byte bit == 0)) t)).1,
-  λ leaves. is_true (not (bit_and byte bit == 0)) (sym same ∙ here.1 (own, leaves)),
+  λ t. (here.0 (same ∙ t)).1,
+  λ leaves. sym same ∙ here.1 (own, leaves),
 )
   where
     inside : target - part.start < length leaving
@@ -136,9 +136,3 @@ leaves_read part leaving target pit byte bit are held own read is = (
 
     same : has_pit (get_or leaving (target - part.start) 0) pit ≡ not (bit_and byte bit == 0)
     same = ap (λ b. has_pit b pit) (get_or_default leaving (target - part.start) 0 byte inside ∙ sym read) ∙ ap (λ b. not (bit_and byte b == 0)) (sym is)
-
-    true_is : (b : Bool) → IsTrue b → b ≡ true
-    true_is b h = grind arith
-
-    is_true : (b : Bool) → b ≡ true → IsTrue b
-    is_true b h = grind arith

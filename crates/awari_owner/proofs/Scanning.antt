@@ -1,6 +1,5 @@
 -- A board of which no note was heard is open before any gain is.
-use Rattle.std.proofs.Common.{◌≡◌, ℕ, zero, suc, ◌+◌, ◌<◌, ◌≤◌, ◌==◌, ◌⊎◌, inl, inr, Bool, true, false, not, ◌&&◌, is_some, All, List, [], ◌-◌, length, get_or, set, subst₂, sum, take, min, ◌*◌, ◌/◌, count_by, ℤ, Option, Some, None, pos, neg_ℤ, ◌-ℤ◌, ◌<ℤ◌, ◌≤ℤ◌, refl, sym, ap, subst, ◌∙◌, arith, eqb-true}
-use Rattle.std.proofs.Math.Nat.{div-one}
+use Rattle.std.proofs.Common.{◌≡◌, ℕ, zero, suc, ◌+◌, ◌<◌, ◌≤◌, ◌==◌, ◌⊎◌, inl, inr, Bool, true, false, not, ◌&&◌, is_some, All, List, [], ◌-◌, length, get_or, set, subst₂, sum, take, count_by, ℤ, Option, Some, None, pos, neg_ℤ, ◌-ℤ◌, ◌<ℤ◌, ◌≤ℤ◌, refl, sym, ap, subst, ◌∙◌, arith, eqb-true}
 use Rattle.std.proofs.lemmas.Bool.{cases_eq, false≢true}
 use Rattle.std.proofs.lemmas.Bool.Decides.{nat_tests}
 use Rattle.std.proofs.lemmas.Int.{ints}
@@ -29,6 +28,7 @@ use Rattle.awari_owner.specs.Spread.{HearsOwn}
 use Rattle.awari_owner.proofs.Basics.{below_six, count_by-none, count_by-some}
 use Rattle.awari_block.proofs.BlockLemmas.{cell_in-other, cell_in-same, one_if}
 use Rattle.awari_owner.proofs.Legality.{quiet_counted}
+use Rattle.awari_owner.proofs.Sharing.{end_of_one, first_of_one}
 
 pub scanned : (value : List ℕ → ℤ) (p : List ℕ) (best : Option ℤ) → ((x : ℕ) × IsLegal p x) → IsBest value p best
     → ((v : ℤ) → Captures value p v → (neg_ℤ (pos (sum p + 1)) <ℤ v) × (v <ℤ pos (sum p + 1)))
@@ -307,23 +307,15 @@ scanned_owner value n owners i first last part start end is fresh = record {
 -- and that of the only one
 pub scanned_whole : (value : List ℕ → ℤ) (n owners i first last : ℕ) (part : Part) → owners ≡ 1 → i < owners → first ≡ first_rank (size_of n) owners i → last ≡ first_rank (size_of n) owners (i + 1) → IsScannedPart value n first last part → IsWhole part
 scanned_whole value n owners i first last part one low start end is = record {
-  start = is.start ∙ start ∙ low_end (size_of n) owners i one low;
-  all = let end = is.end ∙ end ∙ high_end (size_of n) owners i one low in let start = is.start ∙ start ∙ low_end (size_of n) owners i one low in let size = ap size_of is.level in omega (arith, end, start, size);
+  start = is.start ∙ low_end;
+  all = let start = is.start ∙ low_end in let size = ap size_of is.level in omega (arith, is.end, high_end, start, size);
 }
   where
-    none : (s boards : ℕ) → min (0 * s) boards ≡ 0
-    none s boards = omega arith
+    only : i ≡ 0
+    only = omega (arith, one, low)
 
-    once : (s boards : ℕ) → s ≡ boards → min (1 * s) boards ≡ boards
-    once s boards same = omega (arith, same)
+    low_end : first ≡ 0
+    low_end = start ∙ ap (first_rank (size_of n) owners) only ∙ ap (λ k. first_rank (size_of n) k 0) one ∙ first_of_one (size_of n)
 
-    low_end : (boards owners i : ℕ) → owners ≡ 1 → i < owners → first_rank boards owners i ≡ 0
-    low_end boards owners i one low =
-        let at : 0 ≡ i = omega (arith, one, low) in
-        subst (λ k. first_rank boards owners k ≡ 0) at (none ((boards + (owners - 1)) / owners) boards)
-
-    high_end : (boards owners i : ℕ) → owners ≡ 1 → i < owners → first_rank boards owners (i + 1) ≡ boards
-    high_end boards owners i one low =
-        let at : 1 ≡ i + 1 = omega (arith, one, low) in
-        subst (λ k. first_rank boards owners k ≡ boards) at (once ((boards + (owners - 1)) / owners) boards
-        (subst (λ k. (boards + (k - 1)) / k ≡ boards) (sym one) (div-one (boards + (1 - 1)) ∙ omega arith)))
+    high_end : last ≡ size_of n
+    high_end = end ∙ ap (λ k. first_rank (size_of n) owners (k + 1)) only ∙ ap (λ k. first_rank (size_of n) k (0 + 1)) one ∙ end_of_one (size_of n)

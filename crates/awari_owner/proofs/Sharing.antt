@@ -91,13 +91,13 @@ held_block part outboxes is r =
     at start len a b e f = grind (arith, nat_tests)
 
 -- one owner has the whole level
-first_of_one : (n : ℕ) → first_rank n 1 0 ≡ 0
+pub first_of_one : (n : ℕ) → first_rank n 1 0 ≡ 0
 first_of_one n = at ((n + (1 - 1)) / 1)
   where
     at : (s : ℕ) → min (0 * s) n ≡ 0
     at s = omega arith
 
-end_of_one : (n : ℕ) → first_rank n 1 (0 + 1) ≡ n
+pub end_of_one : (n : ℕ) → first_rank n 1 (0 + 1) ≡ n
 end_of_one n = at ((n + (1 - 1)) / 1) (div-one (n + (1 - 1)))
   where
     at : (s : ℕ) → s ≡ n + (1 - 1) → min ((0 + 1) * s) n ≡ n
