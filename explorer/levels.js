@@ -158,7 +158,10 @@ const Levels = (() => {
       return this.slots.flatMap((slot, number) => number < top && !slot ? [number] : []);
     }
 
-    get limit() { return Math.max(0, ...this.levels.map(level => level.limit)); }
+    /** The greatest limit of the levels with at most so many stones. */
+    limitTo(stones) {
+      return Math.max(0, ...this.levels.filter(({ number }) => number <= stones).map(({ limit }) => limit));
+    }
 
     /** The entry of a board. Its six bytes are read, and no others. */
     async entry(board) {
@@ -238,17 +241,15 @@ const Levels = (() => {
 
   /**
    * The play from a board in which both sides follow the plans, as `awari line` prints it. It ends at the first
-   * repetition, since from there on the same plies come for ever. `repeats` is the ply to which that leads back.
+   * board that its mover has seen before, since from there on the same pits come for ever. `repeats` is the ply
+   * after which that stood, as `awari line --plies` tells it.
    */
   async function bestLine(shelf, board) {
-    const { value } = await shelf.entry(board), limit = shelf.limit;
+    const { value } = await shelf.entry(board), limit = shelf.limitTo(stonesOf(board));
     const plies = [], met = new Map();
     let running = 0, side = 1, quiet = 0, repeats = null;
-    while (!isEnded(board) && quiet <= limit) {
-      const here = `${side} ${print(board)}`;
-      repeats = met.get(here) ?? null;
-      if (repeats !== null) break;
-      met.set(here, plies.length);
+    while (!isEnded(board) && quiet <= limit && repeats === null) {
+      met.set(print(board), plies.length);
       const { plan } = await shelf.entry(board);
       if (plan === null)
         throw new Fault(83, "Verify", `The entry of ${print(board)} names no plan, and play has not ended`);
@@ -256,9 +257,9 @@ const Levels = (() => {
       plies.push({ pit: plan, captured });
       running += side * captured;
       quiet = captured > 0 ? 0 : quiet + 1;
-      if (captured > 0) met.clear();
       board = next;
       side = -side;
+      repeats = met.get(print(board)) ?? null;
     }
     const outcome = running + (isEnded(board) ? side * endGain(board) : 0);
     return { value, plies, ended: isEnded(board), repeats, outcome };

@@ -21,6 +21,11 @@ from selenium.webdriver.common.keys import Keys
 
 # ---- beside the program ----
 
+# Even boards whose line never ends: the first goes on for more plies than a level up to its own has as its
+# limit before a board comes again, and the second comes back to a board before that.
+ENDS_BY_LIMIT = "1,0,0,0,0,0/0,1,0,0,0,0"
+REPEATS = "2,0,1,0,1,1/1,2,1,0,0,1"
+
 
 def boards_agree(page, awari, folder, count):
     boards = [random_board(random.randint(0, 10)) for _ in range(count - 3)]
@@ -52,7 +57,7 @@ def board_agrees(page, board, moves):
 
 
 def lines_agree(page, awari, folder, count):
-    boards = [FIRST, "1,0,0,0,0,0/0,0,1,0,0,0"]
+    boards = [FIRST, "1,0,0,0,0,0/0,0,1,0,0,0", ENDS_BY_LIMIT, REPEATS]
     boards += [random_board(random.randint(1, 9)) for _ in range(count - len(boards))]
     for board in boards:
         value, moves, outcome = run(awari, "line", folder, board).splitlines()
@@ -65,16 +70,16 @@ def line_agrees(page, board, value, moves, outcome):
     page.show(board)
     until(lambda: page.text("#line .outcome"))
     told = page.text("#line .outcome")
-    is_endless = "for ever" in told
+    has_ended = "ended" in told or "ends" in told
     shown = page.plies("#line")
-    check(f"line {board}", shown, moves[: len(shown)] if is_endless else moves)
+    check(f"line {board}", shown, moves[: len(shown)] if "for ever" in told else moves)
     gains = re.search(r"(South|North|neither side) gains ?(\d*)", told)
     check(f"outcome {board}", {"South": 1, "North": -1}.get(gains[1], 0) * int(gains[2] or 0), outcome)
     check(f"value {board}", page.value(), value)
     for move in moves[:40]:
         check(f"plan of {board}", page.js("return document.querySelector('.pit.plan')?.dataset.pit"), move)
         page.click("#best")
-    if not is_endless and len(moves) <= 40:
+    if has_ended and len(moves) <= 40:
         check(f"end of {board}", gained(page, len(moves)), outcome)
         check(f"ended {board}", "Play has ended" in page.text("#worth"))
 

@@ -145,15 +145,56 @@ function textOfLine({ value, plies, repeats, outcome }, length) {
   return `value ${value}\n${["moves", ...pits].join(" ")}\noutcome ${outcome}`;
 }
 
+/** Whether the line that these levels give is the one that the program prints. */
+function expectLine(board, line) {
+  const said = run("line", folder, board), length = said.split("\n")[1].split(" ").length - 1;
+  expect(board, textOfLine(line, length), said);
+}
+
 await section("60 best lines beside `awari line`", async () => {
   for (let turn = 0; turn < 60; turn++) {
-    const board = Rules.randomBoard(below(HIGHEST)), said = run("line", folder, Rules.print(board));
-    const length = said.split("\n")[1].split(" ").length - 1;
-    expect(Rules.print(board), textOfLine(await Levels.bestLine(shelf, board), length), said);
+    const board = Rules.randomBoard(below(HIGHEST));
+    expectLine(Rules.print(board), await Levels.bestLine(shelf, board));
   }
-  const endless = await Levels.Shelf.of(filesIn(folder));
-  endless.level(HIGHEST).limit = 2 ** 32 - 1;
-  const { repeats, outcome } = await Levels.bestLine(endless, Rules.parse("2,0,1,0,1,1/1,2,1,0,0,1"));
+});
+
+/** How many even boards whose line is endless are taken of each level. */
+const ENDLESS = [[2, 13], [3, 30], [4, 30], [6, 30], [7, 30], [8, 30], [9, 37]];
+
+/** The line of a board ply by ply, up to the first board that comes again: its pits, and after which ply that stood. */
+function linePlies(board) {
+  const rows = run("line", folder, board, "--plies").split("\n").map(row => row.split(" "));
+  const plies = rows.filter(([head]) => head === "ply"), repeat = rows.find(([head]) => head === "repeats");
+  return {
+    pits: plies.map(row => Number(row[3])),
+    repeats: repeat ? Number(repeat[1]) : null,
+    last: Rules.parse(plies.at(-1)?.[plies.at(-1).indexOf("board") + 1] ?? board),
+  };
+}
+
+/** So many even boards of a level whose line is endless, from all over the level. */
+function endlessBoards(level, count) {
+  const even = run("boards", folder, String(level), "--value", "0..0").split("\n").map(row => row.split(" ")[0]);
+  const found = [], step = Math.max(1, Math.floor(even.length / (3 * count)));
+  for (let at = 0; at < even.length && found.length < count; at += step) {
+    const line = linePlies(even[at]);
+    if (!Rules.isEnded(line.last)) found.push({ board: even[at], ...line });
+  }
+  return found;
+}
+
+await section("200 endless lines beside `awari line`, below a level of the greatest limit", async () => {
+  const high = await Levels.Shelf.of(filesIn(folder));
+  high.level(HIGHEST).limit = 2 ** 32 - 1;
+  const lines = ENDLESS.flatMap(([level, count]) => endlessBoards(level, count));
+  expect("so many endless lines", lines.length, 200);
+  expect("some of them end by the limit", lines.some(({ repeats }) => repeats === null), true);
+  for (const { board, pits, repeats } of lines) {
+    const line = await Levels.bestLine(high, Rules.parse(board));
+    expect(`plies of ${board}`, [line.plies.map(({ pit }) => pit), line.repeats], [pits, repeats]);
+    expectLine(board, line);
+  }
+  const { repeats, outcome } = await Levels.bestLine(high, Rules.parse("2,0,1,0,1,1/1,2,1,0,0,1"));
   expect("a line ends whatever the limit", [repeats, outcome], [61, 0]);
 });
 
