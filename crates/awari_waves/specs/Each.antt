@@ -58,7 +58,7 @@ IsFarther part rank cell = is_settled (stored_at part rank).mark ≡ false → i
 
 -- ---- which distance is due
 
--- the nearer_of of two numbers, if there is one
+-- the nearer of two numbers, if there is one
 abbrev pub nearer_of : Option ℕ → Option ℕ → Option ℕ
 nearer_of None other = other
 nearer_of (Some a) None = Some a

@@ -275,7 +275,8 @@ fn closed_all(alloc: Global, segments: Vec<Segment>) -> Result<Vec<ClosedPart>, 
 }
 
 /// The power of two that a segment has of boards, if a level has so many: few enough to share them
-/// out among threads, and enough that a list for each segment costs little.
+/// out among threads, and enough that a list for each segment costs little. A list that is not empty
+/// costs the same misses of the cache, however short it is.
 ///
 /// A large level has segments of 32 MB of cells. The C library gives so large a piece back to the
 /// system once it is dropped, so entries need no more memory than cells did.
@@ -285,7 +286,7 @@ fn log_of(boards: u32) -> u32
     if boards >= LARGE {
         return 22;
     }
-    (boards / 48).max(1).ilog2().clamp(12, 16)
+    (boards / 48).max(1).ilog2().clamp(12, 18)
 }
 
 /// How many threads share the work: as many as are wanted, if they are not too many.

@@ -33,7 +33,7 @@ pub fn fresh_at(segments: &[Segment], dist: u32) -> usize {
     boards
 }
 
-/// The nearer_of of two distances, if there is one.
+/// The nearer of two distances, if there is one.
 pub(crate) fn nearer(one: Option<u32>, other: Option<u32>) -> Option<u32>
     ensures { result ≡ nearer_of one other }
 {
