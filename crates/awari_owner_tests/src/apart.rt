@@ -83,7 +83,7 @@ fn taken_apart(alloc: Global, owners: Vec<Owner>) -> Result<Apart, AllocError>
 }
 
 /// Gain 1 is open in each part, and no board is fresh.
-fn expect_closed(rt: &impl Abort, parts: &[Part])
+pub(crate) fn expect_closed(rt: &impl Abort, parts: &[Part])
     ensures { All IsClosed parts.now }
 {
     for part in parts {

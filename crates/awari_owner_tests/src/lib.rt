@@ -20,6 +20,8 @@ mod examples;
 #[cfg(test)]
 mod expect;
 #[cfg(test)]
+mod false_notes;
+#[cfg(test)]
 mod grids;
 #[cfg(test)]
 mod notes;

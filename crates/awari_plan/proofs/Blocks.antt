@@ -15,7 +15,8 @@ use Rattle.awari_block.specs.Cells.{view_of}
 use Rattle.awari_block.specs.Tally as tally
 use Rattle.awari_block.specs.declared.cells.Cell.{Cell}
 use Rattle.awari_owner.proofs.Levels.{holds, known_there}
-use Rattle.awari_plan.specs.Finished.{HasSettled, HasAllSettled}
+use Rattle.awari_plan.specs.Finished.{HasKept, HasSettled, HasStatus, HaveAll}
+use Rattle.awari_play.specs.Planning.{SameSettled}
 use Rattle.awari_plan.specs.Filling.{AreMade, PushesBlock, PutsBlocks}
 
 -- each of these blocks ends at a rank that is not above this
@@ -32,39 +33,39 @@ below_push [] part high below last = (last, tt)
 below_push (first ∷ parts) part high below last = (below.0, below_push parts part high below.1 last)
 
 -- what is put behind changes nothing of what was there
-pub settled_more : (parts : List Part) (low : ℕ) (old now : List Entry) → AllBelow parts low → ((k : ℕ) → k < low → get_or now k no_entry ≡ get_or old k no_entry) → HasAllSettled parts old → HasAllSettled parts now
-settled_more [] low old now below same has = tt
-settled_more (part ∷ parts) low old now below same has = (
-  λ rank inside. subst (HasSettled (cell_at part rank)) (sym (same rank (omega (arith, inside.0, inside.1, below.0)))) (has.0 rank inside),
-  settled_more parts low old now below.1 same has.1,
+pub kept_more : (parts : List Part) (low : ℕ) (old now : List Entry) → AllBelow parts low → ((k : ℕ) → k < low → get_or now k no_entry ≡ get_or old k no_entry) → HaveAll HasKept parts old → HaveAll HasKept parts now
+kept_more [] low old now below same has = tt
+kept_more (part ∷ parts) low old now below same has = (
+  λ rank inside. subst (HasKept (cell_at part rank)) (sym (same rank (omega (arith, inside.0, inside.1, below.0)))) (has.0 rank inside),
+  kept_more parts low old now below.1 same has.1,
 )
 
-pub settled_push : (parts : List Part) (part : Part) (entries : List Entry) → HasAllSettled parts entries
-    → ((rank : ℕ) → InBlock part rank → HasSettled (cell_at part rank) (get_or entries rank no_entry)) → HasAllSettled (parts ++ part ∷ []) entries
-settled_push [] part entries has last = (last, tt)
-settled_push (first ∷ parts) part entries has last = (has.0, settled_push parts part entries has.1 last)
+pub kept_push : (parts : List Part) (part : Part) (entries : List Entry) → HaveAll HasKept parts entries
+    → ((rank : ℕ) → InBlock part rank → HasKept (cell_at part rank) (get_or entries rank no_entry)) → HaveAll HasKept (parts ++ part ∷ []) entries
+kept_push [] part entries has last = (last, tt)
+kept_push (first ∷ parts) part entries has last = (has.0, kept_push parts part entries has.1 last)
 
--- a block that is put where its ranks begin has its settled boards there
-pub block_settled : (part : Part) (old now : List Entry) → part.start ≡ length old → PushesBlock part.cells old now (length part.cells) → (rank : ℕ) → InBlock part rank → HasSettled (cell_at part rank) (get_or now rank no_entry)
-block_settled part old now here pushed rank inside =
+-- a block that is put where its ranks begin has what its cells keep there
+pub block_kept : (part : Part) (old now : List Entry) → part.start ≡ length old → PushesBlock part.cells old now (length part.cells) → (rank : ℕ) → InBlock part rank → HasKept (cell_at part rank) (get_or now rank no_entry)
+block_kept part old now here pushed rank inside =
     let at : length old + (rank - part.start) ≡ rank = omega (arith, inside.0, here) in
-    subst (λ n. HasSettled (cell_at part rank) (get_or now n no_entry)) at (pushed.settled (rank - part.start) inside.1)
+    subst (λ n. HasKept (cell_at part rank) (get_or now n no_entry)) at (pushed.kept (rank - part.start) inside.1)
 
 -- the entry of one more board
-pub push_one : (cells : List Cell) (old now new : List Entry) (count : ℕ) (e : Entry) → PushesBlock cells old now count → new ≡ now ++ e ∷ [] → HasSettled (view_of (get_or cells count no_cell)) e
+pub push_one : (cells : List Cell) (old now new : List Entry) (count : ℕ) (e : Entry) → PushesBlock cells old now count → new ≡ now ++ e ∷ [] → HasKept (view_of (get_or cells count no_cell)) e
     → PushesBlock cells old new (count + 1)
 push_one cells old now new count e before is last = record {
   size = ap (λ (es : List Entry). length es) is ∙ length-append now (e ∷ []) ∙ omega (arith, before.size);
   before = λ k below. ap (λ (es : List Entry). get_or es k no_entry) is ∙ get_or_append_left now (e ∷ []) no_entry k (omega (arith, below, before.size)) ∙ before.before k below;
-  settled = λ k below. elim (cases_lt k count) [
+  kept = λ k below. elim (cases_lt k count) [
     | inl lt ↦
-        subst (HasSettled (view_of (get_or cells k no_cell)))
-        (sym (ap (λ (es : List Entry). get_or es (length old + k) no_entry) is ∙ get_or_append_left now (e ∷ []) no_entry (length old + k) (omega (arith, lt, before.size)))) (before.settled k lt)
+        subst (HasKept (view_of (get_or cells k no_cell)))
+        (sym (ap (λ (es : List Entry). get_or es (length old + k) no_entry) is ∙ get_or_append_left now (e ∷ []) no_entry (length old + k) (omega (arith, lt, before.size)))) (before.kept k lt)
     | inr ge ↦
         let last_one : k ≡ count = omega (arith, ge, below) in
-        subst (HasSettled (view_of (get_or cells k no_cell)))
+        subst (HasKept (view_of (get_or cells k no_cell)))
         (sym (ap (λ (es : List Entry). get_or es (length old + k) no_entry) is ∙ get_or_push now e no_entry (length old + k) (omega (arith, last_one, before.size))))
-        (subst (λ n. HasSettled (view_of (get_or cells n no_cell)) e) (sym last_one) last)
+        (subst (λ n. HasKept (view_of (get_or cells n no_cell)) e) (sym last_one) last)
   ];
 }
 
@@ -91,10 +92,10 @@ pushed_behind cells old block new count made is =
     record {
       size = ap (λ (es : List Entry). length es) is ∙ length-append old block ∙ ap (λ n. length old + n) long;
       before = λ k below. ap (λ (es : List Entry). get_or es k no_entry) is ∙ get_or_append_left old block no_entry k below;
-      settled = λ k below.
+      kept = λ k below.
           let same : length empty + k ≡ k = omega arith in
-          subst (HasSettled (view_of (get_or cells k no_cell))) (sym (ap (λ (es : List Entry). get_or es (length old + k) no_entry) is ∙ get_or-append-add old block k no_entry))
-          (subst (λ n. HasSettled (view_of (get_or cells k no_cell)) (get_or block n no_entry)) same (made.settled k below));
+          subst (HasKept (view_of (get_or cells k no_cell))) (sym (ap (λ (es : List Entry). get_or es (length old + k) no_entry) is ∙ get_or-append-add old block k no_entry))
+          (subst (λ n. HasKept (view_of (get_or cells k no_cell)) (get_or block n no_entry)) same (made.kept k below));
     }
 
 pub joined_more : (parts : List Part) (made : List (Result (List Entry) AllocError)) (i : ℕ) (item : Result (List Entry) AllocError) (block old mid new : List Entry) → AreMade parts made → i < length made
@@ -106,34 +107,48 @@ joined_more parts made i item block old mid new (size, each) inside is right bef
     let pushed : PushesBlock part.cells [] block (length part.cells) = subst P (sym is ∙ right) (each i no_part item within) in
     puts_more parts i part old mid new within (get_or_default parts i no_part part within) before (pushed_behind part.cells mid block new (length part.cells) pushed joined)
 
--- the blocks of a level that are put one after another have all that was settled
-put_from : (level low high : ℕ) (done parts : List Part) (old new : List Entry) → low ≡ length old → AllBelow done low → HasAllSettled done old → AreBlocks level low high parts → PutsBlocks parts old new
-    → (length new ≡ high) × HasAllSettled (done ++ parts) new
+-- the blocks of a level that are put one after another have all that their cells keep
+put_from : (level low high : ℕ) (done parts : List Part) (old new : List Entry) → low ≡ length old → AllBelow done low → HaveAll HasKept done old → AreBlocks level low high parts → PutsBlocks parts old new
+    → (length new ≡ high) × HaveAll HasKept (done ++ parts) new
 put_from level low high done [] old new here below has blocks puts =
-    (ap (λ (es : List Entry). length es) puts ∙ sym here ∙ blocks, subst (λ ps. HasAllSettled ps new) (sym (append-nil done)) (subst (HasAllSettled done) (sym puts) has))
+    (ap (λ (es : List Entry). length es) puts ∙ sym here ∙ blocks, subst (λ ps. HaveAll HasKept ps new) (sym (append-nil done)) (subst (HaveAll HasKept done) (sym puts) has))
 put_from level low high done (part ∷ parts) old new here below has (at, blocks) (next, pushed, rest) =
     let end = low + length part.cells in
     let there : end ≡ length next = omega (arith, here, pushed.size) in
-    let kept = settled_more done low old next below (λ k lt. pushed.before k (omega (arith, here, lt))) has in
-    let more = settled_push done part next kept (block_settled part old next (at.1 ∙ here) pushed) in
+    let kept = kept_more done low old next below (λ k lt. pushed.before k (omega (arith, here, lt))) has in
+    let more = kept_push done part next kept (block_kept part old next (at.1 ∙ here) pushed) in
     let bound = below_push done part end (below_more done low end (omega arith) below) (omega (arith, at.1)) in
     let (size, all) = put_from level end high (done ++ part ∷ []) parts next new there bound more blocks rest in
-    (size, subst (λ ps. HasAllSettled ps new) (append_assoc done (part ∷ []) parts) all)
+    (size, subst (λ ps. HaveAll HasKept ps new) (append_assoc done (part ∷ []) parts) all)
 
-pub puts_whole : (level : ℕ) (parts : List Part) (entries : List Entry) → AreWhole level parts → PutsBlocks parts [] entries → (length entries ≡ size_of level) × HasAllSettled parts entries
+pub puts_whole : (level : ℕ) (parts : List Part) (entries : List Entry) → AreWhole level parts → PutsBlocks parts [] entries → (length entries ≡ size_of level) × HaveAll HasKept parts entries
 puts_whole level parts entries whole puts = put_from level 0 (size_of level) [] parts [] entries refl tt tt whole puts
 
--- what one of the parts has settled
-pub settled_there : (parts : List Part) (entries : List Entry) → HasAllSettled parts entries → (i : ℕ) → i < length parts → (rank : ℕ) → InBlock (part_at parts i) rank
-    → HasSettled (cell_at (part_at parts i) rank) (get_or entries rank no_entry)
-settled_there [] entries has i inside rank held = absurd (omega (arith, inside))
-settled_there (part ∷ parts) entries has zero inside rank held = has.0 rank held
-settled_there (part ∷ parts) entries has (suc i) inside rank held = settled_there parts entries has.1 i (omega (arith, inside)) rank held
+-- what one of the parts has
+pub had_there : (Has : tally.Cell → Entry → Type 0) (parts : List Part) (entries : List Entry) → HaveAll Has parts entries → (i : ℕ) → i < length parts → (rank : ℕ) → InBlock (part_at parts i) rank
+    → Has (cell_at (part_at parts i) rank) (get_or entries rank no_entry)
+had_there Has [] entries has i inside rank held = absurd (omega (arith, inside))
+had_there Has (part ∷ parts) entries has zero inside rank held = has.0 rank held
+had_there Has (part ∷ parts) entries has (suc i) inside rank held = had_there Has parts entries has.1 i (omega (arith, inside)) rank held
 
--- what the level has settled
-pub finished_there : (level : ℕ) (parts : List Part) → AreWhole level parts → (entries : List Entry) → HasAllSettled parts entries → (p : List ℕ) → IsBoard p → sum p ≡ level
-    → HasSettled (known_at parts (rank_of p)) (get_or entries (rank_of p) no_entry)
-finished_there level parts whole entries has p is stones =
+-- what the level has
+pub level_has : (Has : tally.Cell → Entry → Type 0) (level : ℕ) (parts : List Part) → AreWhole level parts → (entries : List Entry) → HaveAll Has parts entries → (p : List ℕ) → IsBoard p → sum p ≡ level
+    → Has (known_at parts (rank_of p)) (get_or entries (rank_of p) no_entry)
+level_has Has level parts whole entries has p is stones =
     let (i, inside, held) = holds level parts whole p is stones in
-    subst (λ (c : tally.Cell). HasSettled c (get_or entries (rank_of p) no_entry)) (sym (known_there level parts whole i inside (rank_of p) held))
-    (settled_there parts entries has i inside (rank_of p) held)
+    subst (λ (c : tally.Cell). Has c (get_or entries (rank_of p) no_entry)) (sym (known_there level parts whole i inside (rank_of p) held))
+    (had_there Has parts entries has i inside (rank_of p) held)
+
+-- an entry of the same value and distance has what was settled
+status_alike : (s : tally.Status) (old now : Entry) → now.value ≡ old.value → now.dist ≡ old.dist → HasStatus s old → HasStatus s now
+status_alike (tally.Ended gain) old now value dist h = (value ∙ h.0, dist ∙ h.1)
+status_alike (tally.Open best plans far) old now value dist h = (value ∙ h.0, dist ∙ h.1)
+status_alike (tally.Settled v d plans) old now value dist h = (value ∙ h.0, dist ∙ h.1)
+
+-- entries of the same values and distances have all that was settled, whatever their plans
+pub settled_alike : (parts : List Part) (old now : List Entry) → SameSettled old now → HaveAll HasKept parts old → HaveAll HasSettled parts now
+settled_alike [] old now same has = tt
+settled_alike (part ∷ parts) old now same has = (
+  λ rank inside. status_alike (cell_at part rank).status _ _ (same.value rank) (same.dist rank) (has.0 rank inside).0,
+  settled_alike parts old now same has.1,
+)

@@ -1,18 +1,23 @@
 -- A finished image is consistent over the shelf, where its parts heard what was due.
-use Rattle.std.proofs.Common.{◌≤◌, List, All, length}
+use Rattle.std.proofs.Common.{◌≤◌, List, [], All, length}
 use Rattle.awari_rank.specs.Rank.{rank_of}
 use Rattle.awari_table.specs.declared.TheConstants.{HIGHEST_LEVEL}
 use Rattle.awari_table.specs.declared.images.Image.{Image}
+use Rattle.awari_table.specs.declared.images.Entry.{Entry}
 use Rattle.awari_table.specs.Images.{table_of}
 use Rattle.awari_table.specs.Shelves.{Consistent, IsShelf}
 use Rattle.awari_table.proofs.CertificateLemmas.{IsCertificate-shelf}
 use Rattle.awari_block.specs.Part.{Part, IsClosed}
 use Rattle.awari_owner.specs.Level.{AreHeard, AreWhole, known_at}
 use Rattle.awari_owner.proofs.Levels.{parts_right}
-use Rattle.awari_plan.specs.Finished.{IsFinished}
+use Rattle.awari_play.specs.Planning.{IsPlannedImage}
+use Rattle.awari_play.proofs.Planned.{next_image}
+use Rattle.awari_play.proofs.Tables.{same_settled}
+use Rattle.awari_plan.specs.Finished.{HasSettled, IsFinished, IsKept, IsKeptImage}
+use Rattle.awari_plan.specs.Filling.{PutsBlocks}
 use Rattle.awari_plan.proofs.Consistency.{consistent}
-use Rattle.awari_plan.proofs.Blocks.{finished_there}
-use Rattle.awari_plan.proofs.Whole.{finished_lowest}
+use Rattle.awari_plan.proofs.Blocks.{level_has, puts_whole, settled_alike}
+use Rattle.awari_plan.proofs.Whole.{kept_lowest}
 
 pub finished_consistent : (shelf : List Image) (parts : List Part) (image : Image) → IsShelf shelf → length shelf ≤ HIGHEST_LEVEL
     → AreWhole (length shelf) parts → All IsClosed parts → AreHeard (table_of shelf).value parts → IsFinished shelf parts image → Consistent shelf image
@@ -21,5 +26,31 @@ finished_consistent shelf parts image on_shelf low whole closed heard finished =
     consistent shelf (λ q. known_at parts (rank_of q)) parts image
     (λ q is few. let range = (cert.right q is few).in_range in (range.0, range.1))
     (λ p is stones. parts_right _ parts whole (table_of shelf).value closed heard p is stones)
-    (λ p is stones. finished_there _ parts whole image.entries finished.settled p is stones)
-    finished (finished_lowest shelf parts image whole closed heard finished) low
+    (λ p is stones. level_has HasSettled _ parts whole image.entries finished.settled p is stones)
+    finished low
+
+-- where the plans are those of these entries, which are those of all blocks, it is finished
+pub planned_finished : (shelf : List Image) (parts : List Part) (entries : List Entry) (image : Image) → AreWhole (length shelf) parts → PutsBlocks parts [] entries → IsPlannedImage shelf entries image
+    → IsFinished shelf parts image
+planned_finished shelf parts entries image whole puts made =
+    let (sized, kept) = puts_whole _ parts entries whole puts in
+    let next = next_image shelf image entries sized made in
+    record { level = next.level; sized = next.sized; settled = settled_alike parts entries image.entries made.same kept; planned = next.planned; limited = next.limited }
+
+-- where its plans are those that the cells kept, it is finished once its parts heard what was due
+kept_finished : (shelf : List Image) (parts : List Part) (image : Image) → AreWhole (length shelf) parts → All IsClosed parts → AreHeard (table_of shelf).value parts → IsKept shelf parts image
+    → IsFinished shelf parts image
+kept_finished shelf parts image whole closed heard made = record {
+  level = made.level;
+  sized = made.sized;
+  settled = settled_alike parts image.entries image.entries (same_settled image.entries) made.kept;
+  planned = kept_lowest shelf parts image whole closed heard made;
+  limited = made.limited;
+}
+
+pub kept_right : (shelf : List Image) (parts : List Part) (image : Image) → IsShelf shelf → length shelf ≤ HIGHEST_LEVEL → AreWhole (length shelf) parts → IsKept shelf parts image → IsKeptImage shelf parts image
+kept_right shelf parts image on_shelf low whole made = record {
+  kept = made;
+  planned = λ closed heard. kept_lowest shelf parts image whole closed heard made;
+  consistent = λ closed heard. finished_consistent shelf parts image on_shelf low whole closed heard (kept_finished shelf parts image whole closed heard made);
+}

@@ -23,21 +23,20 @@ use Rattle.awari_owner.specs.Finish.{value_by, dist_by, gains, IsRightAt}
 use Rattle.awari_block.specs.Part.{Part}
 use Rattle.awari_owner.specs.Scan.{IsRanged}
 use Rattle.awari_plan.specs.Finished.{HasSettled, HasStatus, IsFinished}
-use Rattle.awari_play.specs.Least.{IsPlannedLowest}
 use Rattle.awari_play.specs.Plan.{Serves}
 use Rattle.awari_play.proofs.Serving.{lowest_ended, lowest_own, lowest_serves, lowest_there}
 
 -- an entry has what its board's cell says
-pub has_value : (left : ℕ) (s : Status) (e : Entry) → HasStatus left s e → (e.value ≡ value_by s) × (e.dist ≡ dist_by s)
-has_value left (Ended gain) e h = (h.0, h.1)
-has_value left (Open best plans far) e h = (h.0, h.1)
-has_value left (Settled value dist plans) e h = (h.0, h.1)
+pub has_value : (s : Status) (e : Entry) → HasStatus s e → (e.value ≡ value_by s) × (e.dist ≡ dist_by s)
+has_value (Ended gain) e h = h
+has_value (Open best plans far) e h = h
+has_value (Settled value dist plans) e h = h
 
 module _ (shelf : List Image) (cell : List ℕ → Cell) (parts : List Part) (image : Image)
     (ranged : IsRanged (table_of shelf).value (length shelf))
     (right : (p : List ℕ) → IsBoard p → sum p ≡ length shelf → IsRightAt (table_of shelf).value cell p)
     (has_settled : (p : List ℕ) → IsBoard p → sum p ≡ length shelf → HasSettled (cell p) (get_or image.entries (rank_of p) no_entry))
-    (finished : IsFinished shelf parts image) (planned : IsPlannedLowest shelf image) where
+    (finished : IsFinished shelf parts image) where
   abbrev table : Table
   table = table_of (shelf ++ image ∷ [])
 
@@ -49,7 +48,7 @@ module _ (shelf : List Image) (cell : List ℕ → Cell) (parts : List Part) (im
 
   has : (p : List ℕ) → IsBoard p → sum p ≡ length shelf → (table.value p ≡ value_at p) × (table.dist p ≡ dist_at p)
   has p is stones =
-      let there = has_value (cell p).left (cell p).status (get_or image.entries (rank_of p) no_entry) (has_settled p is stones) in
+      let there = has_value (cell p).status (get_or image.entries (rank_of p) no_entry) (has_settled p is stones) in
       let found = entry_of-rank shelf image p (rank_of p) stones refl in
       (ap (λ (e : Entry). e.value) found ∙ there.0, ap (λ (e : Entry). e.dist) found ∙ there.1)
 
@@ -129,7 +128,7 @@ module _ (shelf : List Image) (cell : List ℕ → Cell) (parts : List Part) (im
               λ y d s other. let by_cells = all y d s other in omega (arith, by_cells, here.1, plies_at p y d s is stones other),
             );
         winning = λ won x c q plan move.
-            let (d, s, serving, gain, near) = lowest_serves table p x (table.plan p) (planned p is stones) plan in
+            let (d, s, serving, gain, near) = lowest_serves table p x (table.plan p) (finished.planned p is stones) plan in
             subst (λ n. (0 < n) ⊎ (table.dist q < table.dist p)) (serving.captures ∙ sym move.captures)
             (subst (λ b. (0 < d) ⊎ (table.dist b < table.dist p)) (serving.leaves ∙ sym move.leaves) (near won));
       }
@@ -188,7 +187,7 @@ module _ (shelf : List Image) (cell : List ℕ → Cell) (parts : List Part) (im
   rules p is stones =
       let here = has p is stones in
       let r = right p is stones in
-      let lowest = planned p is stones in
+      let lowest = finished.planned p is stones in
       let inside : IsWithin (sum p) (table.value p) = subst (λ n. IsWithin n (table.value p)) (sym stones)
       (subst (IsWithin (length shelf)) (sym here.0) (within (dist_at p + 1) p is stones (omega arith))) in
       record {

@@ -22,7 +22,7 @@ use Rattle.awari_owner.proofs.Legality.{quiet_counted, counted_quiet}
 use Rattle.awari_play.specs.Plan.{Serves, IsLowest}
 use Rattle.awari_block.specs.Tally.{Best, Nothing, ByCapture, ByNotes, Cell, Status, Ended, Open, Settled, capture_of, best_gain}
 use Rattle.awari_block.specs.Steps.{even_pits}
-use Rattle.awari_plan.specs.Finished.{HasSettled, HasStatus}
+use Rattle.awari_plan.specs.Finished.{HasKept, IsKeptPlan}
 use Rattle.awari_block.specs.Pits.{IsLowestIn}
 use Rattle.awari_block.specs.Tally.{CapturesFrom, KnowsAt, KnownToServe, IsBestGain, IsOfCapture, IsOpenStatus, IsSettledStatus, IsStatus}
 use Rattle.awari_owner.specs.Finish.{value_by, dist_by, IsQuietAt}
@@ -246,10 +246,10 @@ module _ (value : List ℕ → ℤ) (cell : List ℕ → Cell) (p : List ℕ) (n
     even_serves x own = (even_to x own best h.known, even_from x own)
 
   -- the plan of the cell's entry is the lowest pit that serves
-  pub plan_lowest : (e : Entry) → HasSettled (cell p) e → IsLowest t p e.plan
-  plan_lowest e entry = at (cell p).status refl heard.tallied.1.status entry
+  pub plan_lowest : (e : Entry) → HasKept (cell p) e → IsLowest t p e.plan
+  plan_lowest e entry = at (cell p).status refl heard.tallied.1.status entry.1
     where
-      at : (s : Status) → (cell p).status ≡ s → IsStatus value p notes 1 s → HasStatus (cell p).left s e → IsLowest t p e.plan
-      at (Ended gain) is h entry = subst (IsLowest t p) (sym entry.2) (λ x serves. h.0.stuck x serves.2.legal)
-      at (Open best plans far) is h entry = lowest_of t p (even_pits (cell p).left best plans) e.plan (even_serves best plans far is h) entry.2
-      at (Settled v d plans) is h entry = lowest_of t p plans e.plan (done_serves v d plans is h) entry.2
+      at : (s : Status) → (cell p).status ≡ s → IsStatus value p notes 1 s → IsKeptPlan (cell p).left s e.plan → IsLowest t p e.plan
+      at (Ended gain) is h plan = subst (IsLowest t p) (sym plan) (λ x serves. h.0.stuck x serves.2.legal)
+      at (Open best plans far) is h plan = lowest_of t p (even_pits (cell p).left best plans) e.plan (even_serves best plans far is h) plan
+      at (Settled v d plans) is h plan = lowest_of t p plans e.plan (done_serves v d plans is h) plan

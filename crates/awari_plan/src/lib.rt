@@ -1,6 +1,8 @@
 //! The image of a level whose gains are all closed: its settled values and distances, and for each
-//! board the lowest pit that serves as a plan. [`finish_parallel`] shares the work among threads. The
-//! calls of `awari_play` that follow plans or lower distances have a path here too.
+//! board the lowest pit that serves as a plan. [`finish`] looks at the moves of each board, so it finds
+//! the plans whatever notes the parts heard. [`finish_closed`] takes the pits that the cells keep, and
+//! [`finish_parallel`] shares that work among threads. The calls of `awari_play` that follow plans or
+//! lower distances have a path here too.
 //!
 //! The level that several owners have settled, in `crates/awari_build/src/owned.rt`:
 //!

@@ -5,12 +5,12 @@ ghost use Rattle.awari_table.specs.Images.{table_of};
 ghost use Rattle.awari_table.specs.Shelves.{Consistent};
 ghost use Rattle.awari_owner.specs.Level.{AreHeard, AreWhole};
 ghost use Rattle.awari_block.specs.Part.{Part, IsClosed};
-ghost use Rattle.awari_plan.specs.Finished.{IsFinished};
+ghost use Rattle.awari_plan.specs.Finished.{IsKept};
 ghost use Rattle.awari_plan.specs.Filling.{PushesBlock, PutsBlocks, AreMade};
 ghost use Rattle.awari_play.specs.Least.{IsPlannedLowest};
 ghost use Rattle.awari_table.specs.declared.TheConstants.{HIGHEST_LEVEL};
 
-use crate::finishing::{finished_image, push_block};
+use crate::finishing::{kept_image, push_block};
 use awari_block::ClosedPart;
 use awari_rank::size;
 use awari_table::{Entries, Image, Shelf};
@@ -30,12 +30,12 @@ pub fn finish_parallel<R: Threads + Sync>(
 ) -> Result<Image, AllocError>
     requires low { length shelf.now ≤ HIGHEST_LEVEL }
     requires whole { AreWhole (length shelf.now) parts.items }
-    ensures finished { IfOk result (IsFinished shelf.now parts.items) }
+    ensures kept { IfOk result (IsKept shelf.now parts.items) }
     ensures planned { All IsClosed parts.items → AreHeard (table_of shelf.now).value parts.items → IfOk result (IsPlannedLowest shelf.now) }
     ensures consistent { All IsClosed parts.items → AreHeard (table_of shelf.now).value parts.items → IfOk result (Consistent shelf.now) }
 {
     let entries = entries_in_batches(rt, alloc, shelf.levels(), parts, threads.max(1))?;
-    let image = finished_image(shelf, entries);
+    let image = kept_image(shelf, entries);
     Ok(image)
 }
 

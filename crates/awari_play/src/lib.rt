@@ -2,8 +2,8 @@
 //!
 //! [`best_line`] plays both sides up to the outcome, [`move_worths`] says what each legal move is
 //! worth, and [`replies_to`] what it leaves to the opponent. [`longest_line`] lets the losing side hold
-//! out, and [`line_plies`] tells a line ply by ply. [`least`] brings distances down to the least ones.
-//! All of it works on a finished shelf, and needs nothing of what builds a level.
+//! out, and [`line_plies`] tells a line ply by ply. [`planned_image`] gives a level its plans, and
+//! [`least`] brings its distances down to the least ones first. None of it needs what builds a level.
 //!
 //! The moves of a line and its outcome, as a test expects them, in
 //! `crates/awari_owner_tests/src/best_lines.rt`:
@@ -39,6 +39,7 @@ pub use laws::{lowest_levels_are_one, lowest_plans_stay};
 pub use lines::{Line, LineFault, best_line};
 pub use longest::longest_line;
 pub use lowering::least;
+pub use plans::planned_image;
 pub use plies::{LinePlies, Ply, Repeat, line_plies};
 pub use replies::{Replies, replies_to};
 pub use texts::{ANSWER_ROOM, AnswerText, push_bytes, text_of_line};

@@ -9,11 +9,11 @@ ghost use Rattle.awari_table.specs.Reached.{Reaches};
 ghost use Rattle.awari_play.specs.Lowering.{IsNearest, IsFarthest, IsByMoves, AreAbove, AreBelow, AreBelowTo, IsNearerBy, farther_by, IsLowered, Lowers, LowersBoard, Fell};
 ghost use Rattle.awari_play.specs.Planning.{with_top};
 
-use crate::plans::{reached_by, set_lowest_plans};
+use crate::plans::{planned_image, reached_by};
 use awari_board::SIDE;
 use awari_packed::PackedBoard;
 use awari_rank::size;
-use awari_table::{Distances, Entries, Entry, Image, Reached, Shelf, greatest_dist};
+use awari_table::{Distances, Entry, Image, Reached, Shelf};
 use std::alloc::{AllocError, Global};
 
 /// The image with the same values, the least distances, the lowest plans that these make, and the
@@ -25,15 +25,10 @@ pub fn least(alloc: Global, shelf: &Shelf, image: Image) -> Result<Image, AllocE
     ensures nearer { IfOk result (λ least. NoFarther image.entries least.entries) }
     ensures planned { IfOk result (IsPlannedLowest shelf.now) }
 {
-    let Image { level, entries, .. } = image;
-    let mut entries = entries.into_vec(alloc)?;
+    let mut entries = image.entries.into_vec(alloc)?;
     lower(shelf, &mut entries);
-    set_lowest_plans(shelf, &mut entries);
-    Ok(Image {
-        level,
-        limit: greatest_dist(entries.as_slice()),
-        entries: Entries::from(entries),
-    })
+    let least = planned_image(shelf, entries);
+    Ok(least)
 }
 
 /// Lowers distances until each is what its board's moves give. After k passes no distance of at most k

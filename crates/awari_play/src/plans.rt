@@ -5,11 +5,30 @@ ghost use Rattle.awari_rank.specs.Rank.{rank_of, size_of};
 ghost use Rattle.awari_table.specs.Certificate.{plies};
 ghost use Rattle.awari_table.specs.Images.{entry_of, table_of};
 ghost use Rattle.awari_play.specs.Plan.{IsLowest, Serves};
-ghost use Rattle.awari_play.specs.Planning.{Gains, ArePlannedBelow, SameSettled, with_top};
+ghost use Rattle.awari_play.specs.Planning.{Gains, ArePlannedBelow, IsPlannedImage, SameSettled, with_top};
 
 use awari_packed::{PackedBoard, PackedMove};
 use awari_rank::size;
-use awari_table::{Entry, Reached, Shelf};
+use awari_table::{Entries, Entry, Image, Reached, Shelf, greatest_dist};
+
+/// The image of the level above the shelf with these values and distances, the lowest plans that they
+/// make, and the greatest distance as its limit. A board that no pit serves has no plan. The plans that
+/// the entries had are not read.
+///
+/// Conditions: there is an entry for each board of that level, in order of rank, and the shelf has at
+/// most 24 levels. It takes no memory.
+pub fn planned_image(shelf: &Shelf, mut entries: Vec<Entry>) -> Image
+    requires low { length shelf.now ≤ 24 }
+    requires sized { length entries.items ≡ size_of (length shelf.now) }
+    ensures { IsPlannedImage shelf.now entries.items result }
+{
+    set_lowest_plans(shelf, &mut entries);
+    Image {
+        level: shelf.levels(),
+        limit: greatest_dist(entries.as_slice()),
+        entries: Entries::from(entries),
+    }
+}
 
 /// Gives each board of the level above the shelf its lowest plan, that is, the lowest pit that
 /// serves. A pit serves if its move gains the board's value and, if that is positive, captures or
@@ -18,7 +37,7 @@ use awari_table::{Entry, Reached, Shelf};
 ///
 /// `entries` has an entry for each board of that level, in order of rank. Condition: the shelf has at
 /// most 24 levels. It takes no memory.
-pub(crate) fn set_lowest_plans(shelf: &Shelf, entries: &mut Vec<Entry>)
+fn set_lowest_plans(shelf: &Shelf, entries: &mut Vec<Entry>)
     requires low { length shelf.now ≤ 24 }
     requires sized { length entries.old.items ≡ size_of (length shelf.now) }
     ensures same { SameSettled entries.old.items entries.new.items }

@@ -1,4 +1,4 @@
-use Rattle.std.proofs.Common.{◌≡◌, ◌∙◌, ◌++◌, ap, arith, length, map}
+use Rattle.std.proofs.Common.{◌∙◌, ◌++◌, ap, arith, map}
 use Rattle.std.proofs.lemmas.List.{get_or_default, take_all}
 use Rattle.awari_play.specs.Json.{commas, move_json, moves_json}
 use Rattle.awari_play.proofs.JsonLaws.{commas-behind}

@@ -1,11 +1,9 @@
 use Rattle.std.proofs.Common.{◌∙◌, ap, sym, subst, length, List}
 use Rattle.awari_rank.specs.Rank.{size_of}
 use Rattle.awari_table.specs.declared.images.Entry.{Entry}
-use Rattle.awari_table.specs.Images.{greatest_dist}
 use Rattle.awari_play.specs.Least.{NoFarther}
 use Rattle.awari_play.specs.Lowering.{AreAbove}
-use Rattle.awari_play.specs.Planning.{SameSettled}
-use Rattle.awari_play.proofs.Planned.{next_image, planned}
+use Rattle.awari_play.proofs.Planned.{next_image}
 use Rattle.awari_play.proofs.Lowerings.{above_image, least_consistent}
 use Rattle.awari_play.proofs.lowering.least.Goals as goal
 
@@ -14,16 +12,12 @@ lower-requires-clause-above c = subst (AreAbove c.args.shelf.now) (sym c.in_ok-e
 
 pub returns-clause-planned : goal.returns-clause-planned
 returns-clause-planned c =
-    (next_image c.args.shelf.now _ c.lower.new.entries.items
-    (c.lower.ensures.nearer.size ∙ ap (λ (es : List Entry). length es) c.in_ok-entries.ensures ∙ c.requires.sized ∙ ap size_of c.requires.next)
-    (planned _ _ _ _ c.requires.next c.from.ensures (c.greatest_dist.ensures ∙ ap greatest_dist c.as_slice.ensures.value) c.set_lowest_plans.ensures.same c.set_lowest_plans.ensures.planned)).planned
+    let sized = c.lower.ensures.nearer.size ∙ ap (λ (es : List Entry). length es) c.in_ok-entries.ensures ∙ c.requires.sized ∙ ap size_of c.requires.next in
+    (next_image c.args.shelf.now _ c.lower.new.entries.items sized c.planned_image-least.ensures).planned
 
 pub returns-clause-consistent : goal.returns-clause-consistent
 returns-clause-consistent c =
-    let done =
-    next_image c.args.shelf.now _ c.lower.new.entries.items
-    (c.lower.ensures.nearer.size ∙ ap (λ (es : List Entry). length es) c.in_ok-entries.ensures ∙ c.requires.sized ∙ ap size_of c.requires.next)
-    (planned _ _ _ _ c.requires.next c.from.ensures (c.greatest_dist.ensures ∙ ap greatest_dist c.as_slice.ensures.value) c.set_lowest_plans.ensures.same c.set_lowest_plans.ensures.planned) in
+    let sized = c.lower.ensures.nearer.size ∙ ap (λ (es : List Entry). length es) c.in_ok-entries.ensures ∙ c.requires.sized ∙ ap size_of c.requires.next in
     least_consistent c.args.shelf.now c.args.image _ c.lower.new.entries.items c.requires
     (subst (λ (es : List Entry). NoFarther es c.lower.new.entries.items) c.in_ok-entries.ensures c.lower.ensures.nearer)
-    c.lower.ensures.above c.lower.ensures.below (subst (SameSettled c.lower.new.entries.items) (sym c.from.ensures) c.set_lowest_plans.ensures.same) done
+    c.lower.ensures.above c.lower.ensures.below c.planned_image-least.ensures.same (next_image c.args.shelf.now _ c.lower.new.entries.items sized c.planned_image-least.ensures)

@@ -1,4 +1,4 @@
-use Rattle.std.proofs.Common.{◌∙◌, ap, arith, rules, refl}
+use Rattle.std.proofs.Common.{arith, rules}
 use Rattle.std.proofs.lemmas.List.{get_or_default}
 use Rattle.awari_play.specs.Worths.{move_lines}
 use Rattle.awari_play.proofs.WorthLines.{move_lines-more}

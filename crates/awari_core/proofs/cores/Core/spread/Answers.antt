@@ -1,4 +1,4 @@
-use Rattle.std.proofs.Common.{rules, ◌<◌, Ok, Some, inl, inr, length, ap, sym, subst, subst₂, arith, ◌∙◌}
+use Rattle.std.proofs.Common.{rules, ◌<◌, Ok, Some, inl, inr, length, ap, sym, subst, subst₂, arith}
 use Rattle.awari_block.specs.Part.{IsLeastDue, Part}
 use Rattle.awari_core.specs.Core.{Core, Sender, Sound, DoesSpread, owner_part, sender_at}
 use Rattle.awari_core.proofs.Effects.{as_many, both_same, core_of, due_here, never_far, part_was, sender_was, spread_does, with_both}
