@@ -1,7 +1,8 @@
-//! The program `awari`: the commands of `awari_cli` over the process's words and streams.
+//! The program `awari`: the commands of `awari_cli` over the process's words and streams, and the
+//! host's disk.
 #![tactic(auto)]
 
-use awari_cli::{Streams, run};
+use awari_cli::{Disk, Streams, run};
 use std::env::Env;
 use std::process::ExitCode;
 use std::{env, io, str};
@@ -17,7 +18,9 @@ fn main(rt: HostRuntime) -> ExitCode {
                 output: rt.stdout(),
                 errors: rt.stderr(),
             };
-            ExitCode::from(run(&rt, rt.alloc(), words.as_slice(), &mut streams))
+            let mut disk = Disk::new(&rt, rt.alloc());
+            let status = run(&rt, &mut disk, rt.alloc(), words.as_slice(), &mut streams);
+            ExitCode::from(status)
         }
         Err(error) => {
             // There is nowhere to say that this could not be written.

@@ -1,5 +1,6 @@
 -- The command `judge`: a play from a board that is given as text, and what is printed of it.
-use Rattle.std.specs.Prelude.{◌≡◌, ℕ, ◌+◌, ◌-◌, ◌&&◌, ◌==◌, nat_le, if◌then◌else◌, min, List, ◌++◌, ◌∷◌, [], length, codes, ℤ, Option, Some, None, ◌↔◌}
+use Rattle.std.specs.Prelude.{◌≡◌, ℕ, ◌+◌, ◌-◌, ◌&&◌, nat_le, if◌then◌else◌, min, List, ◌++◌, ◌∷◌, [], length, map, codes, ℤ, Option, Some, None, ◌↔◌}
+use Rattle.std.specs.Borrow.{Bor}
 use Rattle.std.specs.List.{flat_map}
 use Rattle.std.specs.Fmt.{decimal, signed_decimal}
 use Rattle.std.specs.Io.KnownBytes.{Appends}
@@ -18,12 +19,13 @@ use Rattle.awari_answers.specs.declared.judgements.JudgeFault.TheVariants.{Board
 abbrev pub pit_named : ℕ → ℕ
 pit_named byte = if nat_le 48 byte && nat_le byte 57 then byte - 48 else 255
 
--- the pits that a byte names: a space names none, and any other byte one
-abbrev pub pits_of : ℕ → List ℕ
-pits_of byte = if byte == 32 then [] else pit_named byte ∷ []
-
+-- the pits that some bytes name, one each
 abbrev pub pits_named : List ℕ → List ℕ
-pits_named moves = flat_map pits_of moves
+pits_named moves = map pit_named moves
+
+-- the bytes of all these words, one word after the other
+abbrev pub bytes_of : List (Bor (List ℕ)) → List ℕ
+bytes_of words = flat_map (λ word. word.now) words
 
 -- Where the play of these pits from the board stands, and its outcome for the limit if there is one.
 pub record IsJudged (board : List ℕ) (limit : ℕ) (pits : List ℕ) (judgement : Judgement) : Type 0 where

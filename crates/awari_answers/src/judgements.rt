@@ -1,10 +1,10 @@
 //! The command `judge`: where a play stands, and its outcome.
 
-ghost use Rattle.std.specs.Prelude.{◌≡◌, ◌↔◌, ℤ, IfOk, IfErr, Some};
+ghost use Rattle.std.specs.Prelude.{◌≡◌, ◌+◌, ◌≤◌, ◌++◌, ◌↔◌, ℕ, ℤ, List, length, IfOk, IfErr, OnOk, Some};
 ghost use Rattle.awari_game.specs.Plays.{Standing, IsOutcome};
-ghost use Rattle.awari_game.specs.Shown.{IsShown};
+ghost use Rattle.awari_game.specs.Shown.{IsShown, Shows};
 ghost use Rattle.awari_answers.specs.declared.judgements.JudgeFault.TheVariants as judge_fault;
-ghost use Rattle.awari_answers.specs.Judgement.{IsJudgement, IsJudgeFault, pit_named};
+ghost use Rattle.awari_answers.specs.Judgement.{IsJudgement, IsJudgeFault, IsRefusedAt, bytes_of, pit_named, pits_named};
 
 use awari_board::{Board, BoardFault, MoveFault};
 use awari_game::Game;
@@ -29,8 +29,9 @@ pub struct Judgement {
 pub enum JudgeFault {
     /// The text is not a board.
     Board { fault: BoardFault },
-    /// The move of this number, counted from 1, can't be played. Spaces are not counted.
-    Move { fault: MoveFault, number: usize },
+    /// The move of this number, counted from 1 over all words, can't be played. The words may share
+    /// their bytes, so the number need not fit into a `usize`.
+    Move { fault: MoveFault, number: u128 },
 }
 
 impl fmt::Display for JudgeFault {
@@ -56,33 +57,54 @@ impl From<BoardFault> for JudgeFault {
 }
 
 /// Plays the moves from the board that `text` spells, and says where the play then stands. It has an
-/// outcome if the play has ended, or once more than `limit` plies captured nothing. Each byte of
-/// `moves` is the digit of a pit, or a space, which is passed over; any other byte is 4 `NoPit`. It
-/// takes no memory.
+/// outcome if the play has ended, or once more than `limit` plies captured nothing. The moves are the
+/// bytes of all `words`, one word after the other: each is the digit of a pit, and any other byte is
+/// 4 `NoPit`. It takes no memory.
 ///
 /// A text that is not a board is refused as [`Board::parse`] refuses it. After that, the first move
 /// that can't be played is refused.
-pub fn judge(text: &[u8], limit: u32, moves: &[u8]) -> Result<Judgement, JudgeFault>
-    ensures judged { IfOk result (IsJudgement text.now limit moves.now) }
-    ensures fault { IfErr result (IsJudgeFault text.now moves.now) }
+pub fn judge(text: &[u8], limit: u32, words: &[&str]) -> Result<Judgement, JudgeFault>
+    ensures judged { IfOk result (IsJudgement text.now limit (bytes_of words.now)) }
+    ensures fault { IfErr result (IsJudgeFault text.now (bytes_of words.now)) }
 {
     let board = Board::parse(text)?;
     let mut game = Game::start(board);
-    let mut played: usize = 0;
-    for byte in moves {
-        if *byte != b' ' {
-            match game.step(pit_named(*byte)) {
-                Ok(()) => played += 1,
-                Err(fault) => {
-                    return Err(JudgeFault::Move {
-                        fault,
-                        number: played + 1,
-                    });
-                }
+    let mut played: u128 = 0;
+    for word in words {
+        match play_word(&mut game, word.as_bytes()) {
+            Ok(()) => played += word.len() as u128,
+            Err(refused) => {
+                return Err(JudgeFault::Move {
+                    fault: refused.fault,
+                    number: played + refused.number as u128,
+                });
             }
         }
     }
     Ok(judgement_of(&game, limit))
+}
+
+/// The first move of a word that can't be played, and its number, counted from 1 in this word.
+#[derive(Clone, Copy)]
+struct Refused {
+    fault: MoveFault,
+    number: usize,
+}
+
+/// Plays the moves that these bytes name, up to the first that can't be played.
+fn play_word(game: &mut Game, word: &[u8]) -> Result<(), Refused>
+    ensures played { OnOk result ((board pits : List ℕ) → Shows game.old board pits → Shows game.new board (pits ++ pits_named word.now)) }
+    ensures refused { IfErr result (λ r. (board pits : List ℕ) → Shows game.old board pits → IsRefusedAt board (pits ++ pits_named word.now) (length pits + r.number) r.fault) }
+    ensures inside { IfErr result (λ r. r.number ≤ length word.now) }
+{
+    let mut number: usize = 1;
+    for byte in word {
+        match game.step(pit_named(*byte)) {
+            Ok(()) => number += 1,
+            Err(fault) => return Err(Refused { fault, number }),
+        }
+    }
+    Ok(())
 }
 
 /// Where the game stands.

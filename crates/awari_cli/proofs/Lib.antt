@@ -1,3 +1,4 @@
+pub mod HostLaws
 pub mod BuildLaws
 pub mod FolderBuilds
 pub mod MigratedLaws

@@ -1,5 +1,5 @@
 -- The command `build`: what is printed of the levels that were built.
-use Rattle.std.specs.Prelude.{◌≡◌, ◌<◌, ◌≤◌, ◌⊎◌, ◌+◌, ℕ, List, ◌++◌, length, Option, Some, None}
+use Rattle.std.specs.Prelude.{◌≡◌, ◌<◌, ◌≤◌, ◌⊎◌, ◌+◌, ℕ, List, ◌++◌, length, Option, None}
 use Rattle.std.specs.Io.KnownBytes.{Appends}
 use Rattle.awari_answers.specs.LevelLines.{level_lines}
 use Rattle.awari_build.specs.BuildFault.{fault_text as build_fault_text}
@@ -7,7 +7,7 @@ use Rattle.awari_folder.specs.FolderFault.{fault_text as folder_fault_text}
 use Rattle.awari_play.specs.Least.{HasLowestPlans}
 use Rattle.awari_table.specs.Shelves.{IsShelf}
 use Rattle.awari_table.specs.declared.images.Image.{Image}
-use Rattle.awari_folder.specs.Contents.{AreNames, HoldsIn, IsStored, LeavesNoMore, Same, nothing_known}
+use Rattle.awari_folder.specs.Contents.{AreNames, HoldsIn, IsStored, LeavesNoMore, Same}
 use Rattle.awari_folder.specs.Migration.{IsWholeFile}
 use Rattle.awari_cli.specs.declared.building.BuildingFault.{BuildingFault}
 use Rattle.awari_cli.specs.declared.building.BuildingFault.TheVariants.{Build, Folder}
@@ -33,11 +33,6 @@ PrintsLevels top old new before after = (below built : List Image) × IsShelf (b
 -- plans. There is one list of such levels, so it is one text.
 abbrev pub PrintsAllLevels : ℕ → Option (List ℕ) → Option (List ℕ) → Type 0
 PrintsAllLevels top before after = (built : List Image) × IsShelf built × (length built ≡ top + 1) × HasLowestPlans built × Appends before after (level_lines built)
-
--- The same without a folder; of what a folder holds nothing is known.
-abbrev pub PrintsBuild : {A : Type 0} → Option A → ℕ → Option (List ℕ) → Option (List ℕ) → Type 0
-PrintsBuild None top before after = PrintsAllLevels top before after
-PrintsBuild (Some folder) top before after = PrintsLevels top nothing_known nothing_known before after
 
 -- each of the levels below `low` and above `top` has what it had
 abbrev pub SameOutside : ℕ → ℕ → (ℕ → Option (Option (List ℕ))) → (ℕ → Option (Option (List ℕ))) → Type 0

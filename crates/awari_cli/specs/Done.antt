@@ -1,47 +1,87 @@
--- What the program has printed for a request where it ends with status 0.
-use Rattle.std.specs.Prelude.{ℕ, List, Option, true, false}
+-- What the program has printed for a request where it ends with status 0, and what it leaves of the host's folders.
+use Rattle.std.specs.Prelude.{◌≡◌, ◌≢◌, ℕ, List, [], Option, Some, None, true, false}
+use Rattle.std.specs.Borrow.{Bor}
 use Rattle.awari_check.specs.Answer.{PrintsYes}
-use Rattle.awari_folder.specs.Contents.{nothing_known}
-use Rattle.awari_cli.specs.Building.{PrintsBuild}
-use Rattle.awari_answers.specs.Folders.{PrintsFolder, PrintsEntry, PrintsEntryJson}
-use Rattle.awari_answers.specs.Judgement.{PrintsJudgement}
-use Rattle.awari_answers.specs.Lines.{PrintsLineBy}
+use Rattle.awari_folder.specs.Contents.{Same}
+use Rattle.awari_folder.specs.Migration.{KeepsFiles}
+use Rattle.awari_cli.specs.Building.{PrintsAllLevels, PrintsLevels}
+use Rattle.awari_cli.specs.Hosts.{Stands}
 use Rattle.awari_cli.specs.Migrating.{PrintsMigrated}
+use Rattle.awari_cli.specs.Serving.{PrintsService}
+use Rattle.awari_answers.specs.Folders.{PrintsFolder, PrintsEntry, PrintsEntryJson}
+use Rattle.awari_answers.specs.Judgement.{PrintsJudgement, bytes_of}
+use Rattle.awari_answers.specs.Lines.{PrintsLineBy}
 use Rattle.awari_answers.specs.Playing.{PrintsMove}
 use Rattle.awari_answers.specs.Plies.{PrintsPlies}
-use Rattle.awari_cli.specs.Serving.{PrintsService}
 use Rattle.awari_answers.specs.Texts.{PrintsText}
+use Rattle.awari_answers.specs.Worths.{PrintsWorths, PrintsWorthsJson}
 use Rattle.awari_questions.specs.Boards.{PrintsAllBoards, PrintsBoards}
 use Rattle.awari_questions.specs.Counts.{PrintsCounts}
 use Rattle.awari_questions.specs.Places.{PrintsBoard, PrintsPlace}
 use Rattle.awari_questions.specs.Plays.{PrintsPlays}
-use Rattle.awari_answers.specs.Worths.{PrintsWorths, PrintsWorthsJson}
+use Rattle.awari_words.specs.declared.requests.Question.{Question}
+use Rattle.awari_words.specs.declared.requests.Question.TheVariants.{Verify, Text, Ask, Moves, Line, Serve, Counts, Boards}
 use Rattle.awari_words.specs.declared.requests.Request.{Request}
-use Rattle.awari_words.specs.declared.requests.Request.TheVariants.{Check, Move, Judge, Build, Verify, Text, Migrate, Ask, Moves, Line, Serve, Rank, Board, Plays, Counts, Boards}
+use Rattle.awari_words.specs.declared.requests.Request.TheVariants.{Check, Move, Judge, Build, Migrate, Rank, Board, Plays, Read}
 
--- the yes for what the reader had left, the move, the judgement of the play, the lines of levels that were built, that lie in a
--- folder or that were brought over, the text of levels, the board's entry, its legal moves, a line of play from it, the answers to
--- the lines that the reader had left, the board's place, the board of a place, the counts of plays, those of levels, or boards of a
--- level; of what a folder's names have nothing is known
-abbrev pub PrintsFor : Request → Option (List ℕ) → Option (List ℕ) → Option (List ℕ) → Type 0
-PrintsFor Check input before after = PrintsYes input before after
-PrintsFor (Move board pit) input before after = PrintsMove board.now pit before after
-PrintsFor (Judge board limit moves) input before after = PrintsJudgement board.now limit moves.now before after
-PrintsFor (Build top folder threads pace progress) input before after = PrintsBuild folder top before after
-PrintsFor (Verify folder) input before after = PrintsFolder nothing_known before after
-PrintsFor (Text folder level false) input before after = PrintsText nothing_known level before after
-PrintsFor (Text folder level true) input before after = PrintsAllBoards nothing_known level before after
-PrintsFor (Migrate from to) input before after = PrintsMigrated nothing_known nothing_known nothing_known before after
-PrintsFor (Ask folder board false) input before after = PrintsEntry nothing_known board.now before after
-PrintsFor (Ask folder board true) input before after = PrintsEntryJson nothing_known board.now before after
-PrintsFor (Moves folder board replies false) input before after = PrintsWorths replies nothing_known board.now before after
-PrintsFor (Moves folder board replies true) input before after = PrintsWorthsJson replies nothing_known board.now before after
-PrintsFor (Line folder board longest false json) input before after = PrintsLineBy longest json nothing_known board.now before after
-PrintsFor (Line folder board longest true json) input before after = PrintsPlies nothing_known longest json board.now before after
-PrintsFor (Serve folder top owners) input before after = PrintsService nothing_known input before after
-PrintsFor (Rank board) input before after = PrintsPlace board.now before after
-PrintsFor (Board level rank) input before after = PrintsBoard level rank before after
-PrintsFor (Plays board plies) input before after = PrintsPlays board.now plies before after
-PrintsFor (Counts folder level json) input before after = PrintsCounts json nothing_known level before after
-PrintsFor (Boards folder level value distance farthest every count) input before after =
-    PrintsBoards nothing_known (record { level = level; value = value; distance = distance; farthest = farthest; every = every; count = count }) before after
+-- the lines of the levels that lie in a folder, their text, the board's entry, its legal moves, a line of play from it, the answers
+-- to the lines that the reader had left, the counts of levels, or boards of a level
+abbrev pub PrintsAnswer : Question → Stands → Option (List ℕ) → Option (List ℕ) → Option (List ℕ) → Type 0
+PrintsAnswer Verify stands input before after = PrintsFolder stands before after
+PrintsAnswer (Text level false) stands input before after = PrintsText stands level before after
+PrintsAnswer (Text level true) stands input before after = PrintsAllBoards stands level before after
+PrintsAnswer (Ask board false) stands input before after = PrintsEntry stands board.now before after
+PrintsAnswer (Ask board true) stands input before after = PrintsEntryJson stands board.now before after
+PrintsAnswer (Moves board replies false) stands input before after = PrintsWorths replies stands board.now before after
+PrintsAnswer (Moves board replies true) stands input before after = PrintsWorthsJson replies stands board.now before after
+PrintsAnswer (Line board longest false json) stands input before after = PrintsLineBy longest json stands board.now before after
+PrintsAnswer (Line board longest true json) stands input before after = PrintsPlies stands longest json board.now before after
+PrintsAnswer (Serve top owners) stands input before after = PrintsService stands input before after
+PrintsAnswer (Counts level json) stands input before after = PrintsCounts json stands level before after
+PrintsAnswer (Boards level value distance farthest every count) stands input before after =
+    PrintsBoards stands (record { level = level; value = value; distance = distance; farthest = farthest; every = every; count = count }) before after
+
+-- The lines of the levels that were built in the folder of this name, which holds them now if the host keeps it.
+abbrev pub PrintsBuilt : (List ℕ → Type 0) → ℕ → List ℕ → (List ℕ → Stands) → (List ℕ → Stands) → Option (List ℕ) → Option (List ℕ) → Type 0
+PrintsBuilt keeps top name old new before after = (stands : Stands) × (keeps name → new name ≡ stands) × PrintsLevels top (old name) stands before after
+
+-- The lines of the levels that were built, in a folder if one is named.
+abbrev pub PrintsBuild : (List ℕ → Type 0) → ℕ → Option (Bor (List ℕ)) → (List ℕ → Stands) → (List ℕ → Stands) → Option (List ℕ) → Option (List ℕ) → Type 0
+PrintsBuild keeps top None old new before after = PrintsAllLevels top before after
+PrintsBuild keeps top (Some folder) old new before after = PrintsBuilt keeps top folder.now old new before after
+
+-- The lines of the levels that were brought over from one folder into the other. If both have one name, nothing is known of the
+-- other.
+abbrev pub PrintsBrought : (List ℕ → Type 0) → List ℕ → List ℕ → (List ℕ → Stands) → (List ℕ → Stands) → Option (List ℕ) → Option (List ℕ) → Type 0
+PrintsBrought keeps from to old new before after = (others stands : Stands) × (from ≢ to → old to ≡ others) × (from ≢ to → keeps to → new to ≡ stands)
+    × PrintsMigrated (old from) others stands before after
+
+-- the yes for what the reader had left, the move, the judgement of the play, the lines of levels that were built, in a folder or
+-- not, or that were brought over, the board's place, the board of a place, the counts of plays, or the answer to a question
+abbrev pub PrintsFor : (List ℕ → Type 0) → Request → (List ℕ → Stands) → (List ℕ → Stands) → Option (List ℕ) → Option (List ℕ) → Option (List ℕ) → Type 0
+PrintsFor keeps Check old new input before after = PrintsYes input before after
+PrintsFor keeps (Move board pit) old new input before after = PrintsMove board.now pit before after
+PrintsFor keeps (Judge board limit None) old new input before after = PrintsJudgement board.now limit [] before after
+PrintsFor keeps (Judge board limit (Some moves)) old new input before after = PrintsJudgement board.now limit (bytes_of moves.now) before after
+PrintsFor keeps (Build top folder threads pace progress) old new input before after = PrintsBuild keeps top folder old new before after
+PrintsFor keeps (Migrate from to) old new input before after = PrintsBrought keeps from.now to.now old new before after
+PrintsFor keeps (Rank board) old new input before after = PrintsPlace board.now before after
+PrintsFor keeps (Board level rank) old new input before after = PrintsBoard level rank before after
+PrintsFor keeps (Plays board plies) old new input before after = PrintsPlays board.now plies before after
+PrintsFor keeps (Read folder question) old new input before after = PrintsAnswer question (old folder.now) input before after
+
+-- it is the name of this folder, if one is named
+abbrev pub IsFolder : Option (Bor (List ℕ)) → List ℕ → Type 0
+IsFolder None name = ⊥
+IsFolder (Some folder) name = name ≡ folder.now
+
+-- the request writes into the folder of this name
+abbrev pub WritesInto : Request → List ℕ → Type 0
+WritesInto (Build top folder threads pace progress) name = IsFolder folder name
+WritesInto (Migrate from to) name = name ≡ to.now
+WritesInto request name = ⊥
+
+-- Each file stays in the folders that the host keeps, and a folder stays as it was if it is none of these names.
+pub record LeavesFolders (keeps names : List ℕ → Type 0) (old new : List ℕ → Stands) : Type 0 where
+  pub files : (name : List ℕ) → keeps name → KeepsFiles (old name) (new name)
+  pub others : (name : List ℕ) → keeps name → (names name → ⊥) → Same (old name) (new name)

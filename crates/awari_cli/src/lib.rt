@@ -1,7 +1,9 @@
 //! The commands of the program `awari`, over words, streams and folders that are lent to them.
 //!
-//! [`run`] reads the words and runs the command that they name. The other calls are single commands,
-//! for folders of any kind. What a command prints is right if it ends with status 0.
+//! [`run`] reads the words and runs the command that they name, over the folders of a [`Host`]: what it
+//! prints is held to the folders that the words name. [`Disk`] is the host of the program. The other
+//! calls are single commands, for folders of any kind. What a command prints is right if it ends with
+//! status 0.
 //!
 //! Levels are built up to `top` in a folder in memory, in `crates/awari_cli_tests/src/plain.rt`:
 //!
@@ -24,14 +26,17 @@
 #![tactic(auto)]
 
 mod building;
-mod folders;
+mod disk;
+mod hosts;
 mod lasting;
 mod laws;
 mod migrating;
 mod progress;
+mod reading;
 mod runs;
 mod serving;
 mod streams;
+mod writing;
 
 pub use awari_answers::{
     JudgeFault, Judgement, MovesQuery, PlayFault, Played, PliesQuery, judge, play_on, run_ask,
@@ -40,6 +45,8 @@ pub use awari_answers::{
 };
 pub use awari_check::check;
 pub use building::{Builder, run_build_in};
+pub use disk::Disk;
+pub use hosts::{Host, Purpose};
 pub use laws::one_file_for_every_schedule;
 pub use migrating::run_migrate;
 pub use progress::ProgressLines;

@@ -1,53 +1,38 @@
-//! The commands of the program, over its words and its streams.
+//! The commands of the program, over its words, its streams and the folders of a host.
 
-ghost use Rattle.std.specs.Prelude.{◌≡◌, ◌≢◌, ◌≤◌, [], Some, map, ℕ};
+ghost use Rattle.std.specs.Prelude.{◌≡◌, ◌≢◌, ◌≤◌, [], Some, map};
 ghost use Rattle.std.specs.Io.KnownBytes.{Keeps};
 ghost use Rattle.awari_check.specs.Answer.{PrintsYes};
-ghost use Rattle.awari_cli.specs.Building.{PrintsBuild};
-ghost use Rattle.awari_cli.specs.Done.{PrintsFor};
-ghost use Rattle.awari_answers.specs.Judgement.{PrintsJudgement};
-ghost use Rattle.awari_answers.specs.Lines.{PrintsLineBy};
+ghost use Rattle.awari_cli.specs.Done.{LeavesFolders, PrintsFor, WritesInto};
+ghost use Rattle.awari_cli.specs.Hosts.{AllStay};
+ghost use Rattle.awari_answers.specs.Judgement.{PrintsJudgement, bytes_of};
 ghost use Rattle.awari_answers.specs.Playing.{PrintsMove};
 ghost use Rattle.awari_words.specs.Commands.{awari_commands};
 ghost use Rattle.awari_words.specs.Requests.{IsAsked};
-ghost use Rattle.awari_words.specs.declared.requests.Request.{Request};
+ghost use Rattle.awari_words.specs.declared.requests.Request.{Request as ARequest};
 ghost use Rattle.clap.specs.Faults.{fault_of};
-ghost use Rattle.clap.specs.Simple.{subcommand_of};
+ghost use Rattle.clap.specs.Simple.{subcommand_of, subcommand_rows_of};
 
-use crate::building::{Builder, run_build, run_build_in};
-use crate::folders::{folder_to_build, folder_to_read, folder_to_write};
-use crate::migrating::run_migrate;
-use crate::progress::ProgressLines;
-use crate::serving::{Growth, run_serve};
+use crate::hosts::Host;
+use crate::reading::{Reading, run_reading};
 use crate::streams::Streams;
-use awari_answers::{
-    MovesQuery, Played, PliesQuery, judge, play_on, print, refuse, run_ask, run_ask_json, run_line,
-    run_line_json, run_longest_json, run_longest_line, run_moves, run_moves_json, run_plies,
-    run_text, run_verify, status_of, tell_answer,
-};
-use awari_build::Pace;
+use crate::writing::{AskedBuild, Build, Migration, run_build_asked, run_migration};
+use awari_answers::{Played, judge, play_on, print, refuse, status_of, tell_answer};
 use awari_check::check_input;
-use awari_folder::{Folder, HostFolder};
-use awari_phase::{Progress, Silent};
-use awari_questions::{
-    BoardsQuery, CountsQuery, run_all_boards, run_board, run_boards, run_counts, run_plays,
-    run_rank,
-};
+use awari_questions::{run_board, run_plays, run_rank};
 use awari_table::Counted;
-use awari_words::{Request, request_of};
-use rayon::current_num_threads;
+use awari_words::{Request, request_of, understand};
+use clap::ArgMatches;
 use std::alloc::Global;
 use std::convert::AsStr;
-use std::fs::File;
 use std::io::{Read, Write};
-use std::rt::Files;
 use std::sync::Wait;
 use std::thread::Threads;
 use std::time::Clock;
 
-/// Runs the command that the words name. The first word is the program's own name. What the command
-/// prints goes to the output, and the text of `clap` to the errors. It takes memory for the words, and
-/// for what the commands read and build; want of it is a refusal.
+/// Runs the command that the words name, over the folders of the host. The first word is the program's
+/// own name. What the command prints goes to the output, and the text of `clap` to the errors. It takes
+/// memory for the words, and for what the commands read and build; want of it is a refusal.
 ///
 /// It gives the status that the program ends with:
 ///
@@ -55,29 +40,31 @@ use std::time::Clock;
 /// - 1: it was refused, or the output gave a fault.
 /// - 2: the words were not understood, or asked for help.
 pub fn run<
-    T: Files<File = File> + Threads + Clock + Wait + Sync + Send + Clone + Drop + 'static,
+    'a,
+    T: Threads + Clock + Wait + Sync + Send + Clone + Drop + 'static,
+    H: Host<'a>,
     S: AsStr,
     R: Read,
     W: Write,
     E: Write,
->(rt: &T, alloc: Global, words: &[S], streams: &mut Streams<R, W, E>) -> u8
+>(rt: &T, host: &mut H, alloc: Global, words: &'a [S], streams: &mut Streams<R, W, E>) -> u8
     ensures status { result ≤ 2 }
 
     // Unless it ends with 2, the words name a request, and have no fault. If it ends with 0, what is
-    // printed is due for that request. A yes is said only of tables that are right, a move or a
-    // judgement only of a right play, and a level, an entry, a move's worth, a line of play or an
-    // answer only of right levels.
+    // printed is due for that request, by what is known of the folders that it names. A yes is said only
+    // of tables that are right, a move or a judgement only of a right play, and a level, an entry, a
+    // move's worth, a line of play or an answer only of right levels.
     ensures understood { result ≢ 2 → fault_of awari_commands (map S.text words.entry.now) ≡ [] }
-    ensures done { result ≢ 2 → (request : Request) × IsAsked (subcommand_of awari_commands (map S.text words.entry.now)) (Some request)
-        × (result ≡ 0 → PrintsFor request (R.remaining streams.old.input) (W.contents streams.old.output) (W.contents streams.new.output)) }
+    ensures done { result ≢ 2 → (request : ARequest) × IsAsked (subcommand_of awari_commands (map S.text words.entry.now)) (Some request)
+        × LeavesFolders H.keeps (WritesInto request) (H.holds host.old) (H.holds host.new)
+        × (result ≡ 0 → PrintsFor H.keeps request (H.holds host.old) (H.holds host.new) (R.remaining streams.old.input)
+        (W.contents streams.old.output) (W.contents streams.new.output)) }
 
-    // If the words were not understood, nothing is printed.
-    ensures nothing { result ≡ 2 → Keeps (W.contents streams.old.output) (W.contents streams.new.output) }
+    // If the words were not understood, nothing is printed, and no folder is touched.
+    ensures nothing { result ≡ 2 → Keeps (W.contents streams.old.output) (W.contents streams.new.output) × AllStay H.keeps (H.holds host.old) (H.holds host.new) }
 {
-    match request_of(alloc, words) {
-        Ok(Some(request)) => run_request(rt, alloc, request, streams),
-        // `clap` lets no other command through.
-        Ok(None) => 2,
+    match understand(alloc, words) {
+        Ok(matches) => run_understood(rt, host, alloc, &matches, streams),
         Err(error) => {
             // There is nowhere to say that this could not be written.
             let _ = write!(streams.errors, "{error}");
@@ -86,14 +73,53 @@ pub fn run<
     }
 }
 
-fn run_request<
-    T: Files<File = File> + Threads + Clock + Wait + Sync + Send + Clone + Drop + 'static,
+/// Runs what the words ask for that `clap` understood.
+fn run_understood<
+    'a,
+    T: Threads + Clock + Wait + Sync + Send + Clone + Drop + 'static,
+    H: Host<'a>,
     R: Read,
     W: Write,
     E: Write,
->(rt: &T, alloc: Global, request: Request<'_>, streams: &mut Streams<R, W, E>) -> u8
+>(
+    rt: &T,
+    host: &mut H,
+    alloc: Global,
+    matches: &ArgMatches<'a>,
+    streams: &mut Streams<R, W, E>,
+) -> u8
+    ensures status { result ≤ 2 }
+    ensures done { result ≢ 2 → (request : ARequest) × IsAsked (subcommand_rows_of matches.now) (Some request)
+        × LeavesFolders H.keeps (WritesInto request) (H.holds host.old) (H.holds host.new)
+        × (result ≡ 0 → PrintsFor H.keeps request (H.holds host.old) (H.holds host.new) (R.remaining streams.old.input)
+        (W.contents streams.old.output) (W.contents streams.new.output)) }
+    ensures nothing { result ≡ 2 → Keeps (W.contents streams.old.output) (W.contents streams.new.output) × AllStay H.keeps (H.holds host.old) (H.holds host.new) }
+{
+    match request_of(matches) {
+        Some(request) => run_request(rt, host, alloc, request, streams),
+        // `clap` lets no other command through.
+        None => 2,
+    }
+}
+
+fn run_request<
+    'a,
+    T: Threads + Clock + Wait + Sync + Send + Clone + Drop + 'static,
+    H: Host<'a>,
+    R: Read,
+    W: Write,
+    E: Write,
+>(
+    rt: &T,
+    host: &mut H,
+    alloc: Global,
+    request: Request<'_, 'a>,
+    streams: &mut Streams<R, W, E>,
+) -> u8
     ensures status { result ≤ 1 }
-    ensures done { result ≡ 0 → PrintsFor request.entry (R.remaining streams.old.input) (W.contents streams.old.output) (W.contents streams.new.output) }
+    ensures leaves { LeavesFolders H.keeps (WritesInto request.entry) (H.holds host.old) (H.holds host.new) }
+    ensures done { result ≡ 0 → PrintsFor H.keeps request.entry (H.holds host.old) (H.holds host.new) (R.remaining streams.old.input)
+        (W.contents streams.old.output) (W.contents streams.new.output) }
 {
     match request {
         Request::Check => run_check(
@@ -106,8 +132,16 @@ fn run_request<
         Request::Judge {
             board,
             limit,
-            moves,
+            moves: None,
+        } => run_judge(board, limit, &[], &mut streams.output),
+        Request::Judge {
+            board,
+            limit,
+            moves: Some(moves),
         } => run_judge(board, limit, moves, &mut streams.output),
+        Request::Rank { board } => run_rank(board, &mut streams.output),
+        Request::Board { level, rank } => run_board(level, rank, &mut streams.output),
+        Request::Plays { board, plies } => run_plays(board, plies, &mut streams.output),
         Request::Build {
             top,
             folder,
@@ -115,224 +149,20 @@ fn run_request<
             pace,
             progress,
         } => {
-            let asked = Build {
+            let build = Build {
                 top,
-                folder,
                 threads,
                 pace,
                 progress,
             };
-            run_build_asked(rt, alloc, asked, streams)
-        }
-        Request::Verify { folder } => {
-            let mut folder = folder_to_read(rt, alloc, folder, &mut streams.errors);
-            run_verify(
-                rt,
-                &mut folder,
-                alloc,
-                &mut streams.output,
-                &mut streams.errors,
-            )
-        }
-        Request::Text {
-            folder,
-            level,
-            boards,
-        } => {
-            let mut folder = folder_to_read(rt, alloc, folder, &mut streams.errors);
-            if boards {
-                run_all_boards(rt, &mut folder, alloc, level, &mut streams.output)
-            } else {
-                run_text(rt, &mut folder, alloc, level, &mut streams.output)
-            }
+            run_build_asked(rt, host, alloc, AskedBuild { folder, build }, streams)
         }
         Request::Migrate { from, to } => {
-            let mut from = folder_to_read(rt, alloc, from, &mut streams.errors);
-            let mut to = folder_to_write(rt, alloc, to, &mut streams.errors);
-            run_migrate(alloc, &mut from, &mut to, &mut streams.output)
+            run_migration(host, alloc, Migration { from, to }, streams)
         }
-        Request::Ask {
-            folder,
-            board,
-            json,
-        } => {
-            let mut folder = folder_to_read(rt, alloc, folder, &mut streams.errors);
-            if json {
-                run_ask_json(rt, &mut folder, alloc, board, &mut streams.output)
-            } else {
-                run_ask(rt, &mut folder, alloc, board, &mut streams.output)
-            }
+        Request::Read { folder, question } => {
+            run_reading(rt, host, alloc, Reading { folder, question }, streams)
         }
-        Request::Moves {
-            folder,
-            board,
-            replies,
-            json,
-        } => {
-            let mut folder = folder_to_read(rt, alloc, folder, &mut streams.errors);
-            let query = MovesQuery { board, replies };
-            if json {
-                run_moves_json(rt, &mut folder, alloc, query, &mut streams.output)
-            } else {
-                run_moves(rt, &mut folder, alloc, query, &mut streams.output)
-            }
-        }
-        Request::Line {
-            folder,
-            board,
-            longest,
-            plies,
-            json,
-        } => {
-            let mut folder = folder_to_read(rt, alloc, folder, &mut streams.errors);
-            let query = PliesQuery {
-                board,
-                longest,
-                json,
-            };
-            if plies {
-                run_plies(rt, &mut folder, alloc, query, &mut streams.output)
-            } else {
-                run_line_of(rt, &mut folder, alloc, query, &mut streams.output)
-            }
-        }
-        Request::Serve {
-            folder,
-            top,
-            owners,
-        } => {
-            let mut folder = folder_to_read(rt, alloc, folder, &mut streams.errors);
-            let growth = Growth { top, owners };
-            run_serve(rt, &mut folder, alloc, growth, streams)
-        }
-        Request::Rank { board } => run_rank(board, &mut streams.output),
-        Request::Board { level, rank } => run_board(level, rank, &mut streams.output),
-        Request::Plays { board, plies } => run_plays(board, plies, &mut streams.output),
-        Request::Counts {
-            folder,
-            level,
-            json,
-        } => {
-            let mut folder = folder_to_read(rt, alloc, folder, &mut streams.errors);
-            let query = CountsQuery { level, json };
-            run_counts(rt, &mut folder, alloc, query, &mut streams.output)
-        }
-        Request::Boards {
-            folder,
-            level,
-            value,
-            distance,
-            farthest,
-            every,
-            count,
-        } => {
-            let mut folder = folder_to_read(rt, alloc, folder, &mut streams.errors);
-            let query = BoardsQuery {
-                level,
-                value,
-                distance,
-                farthest,
-                every,
-                count,
-            };
-            run_boards(rt, &mut folder, alloc, &query, &mut streams.output)
-        }
-    }
-}
-
-/// Prints the line of play that is asked for, in one line.
-fn run_line_of<T: Threads + Sync, F: Folder, W: Write>(
-    rt: &T,
-    folder: &mut F,
-    alloc: Global,
-    query: PliesQuery<'_>,
-    writer: &mut W,
-) -> u8
-    ensures status { result ≤ 1 }
-    ensures printed { result ≡ 0 → PrintsLineBy query.entry.longest query.entry.json (F.state folder.old).stands query.entry.board.now (W.contents writer.old) (W.contents writer.new) }
-{
-    match (query.longest, query.json) {
-        (false, false) => run_line(rt, folder, alloc, query.board, writer),
-        (false, true) => run_line_json(rt, folder, alloc, query.board, writer),
-        (true, false) => run_longest_line(rt, folder, alloc, query.board, writer),
-        (true, true) => run_longest_json(rt, folder, alloc, query.board, writer),
-    }
-}
-
-/// How many threads build together: as many as were asked for, or else one for each processor.
-fn threads_of(rt: &impl Threads, asked: Option<u8>) -> usize
-    ensures { (n : ℕ) → asked ≡ Some n → result ≡ n }
-{
-    match asked {
-        Some(threads) => usize::from(threads),
-        None => current_num_threads(rt),
-    }
-}
-
-/// What the words of `build` ask for.
-#[derive(Clone, Copy)]
-struct Build<'a> {
-    top: u8,
-    folder: Option<&'a str>,
-    threads: Option<u8>,
-    pace: Pace,
-    progress: bool,
-}
-
-/// Builds the levels that are asked for, in the folder if one is named.
-fn run_build_asked<
-    T: Files<File = File> + Threads + Clock + Wait + Sync,
-    R: Read,
-    W: Write,
-    E: Write,
->(rt: &T, alloc: Global, asked: Build<'_>, streams: &mut Streams<R, W, E>) -> u8
-    ensures status { result ≤ 1 }
-    ensures built { result ≡ 0 → PrintsBuild asked.entry.folder asked.entry.top (W.contents streams.old.output) (W.contents streams.new.output) }
-{
-    let found = folder_to_build(rt, alloc, asked.folder, asked.top, &mut streams.errors);
-    let folder = match found {
-        Ok(folder) => folder,
-        Err(fault) => return refuse(&mut streams.output, fault),
-    };
-    if asked.progress {
-        let mut lines = ProgressLines::new(rt, &mut streams.errors);
-        let mut builder = builder_for(rt, alloc, asked, &mut lines);
-        return run_build_by(&mut builder, folder, asked.top, &mut streams.output);
-    }
-    let mut silent = Silent;
-    let mut builder = builder_for(rt, alloc, asked, &mut silent);
-    run_build_by(&mut builder, folder, asked.top, &mut streams.output)
-}
-
-/// What builds the levels that are asked for.
-fn builder_for<'a, T: Threads, P: Progress>(
-    rt: &'a T,
-    alloc: Global,
-    asked: Build<'_>,
-    progress: &'a mut P,
-) -> Builder<'a, T, P> {
-    Builder {
-        rt,
-        alloc,
-        threads: threads_of(rt, asked.threads),
-        pace: asked.pace,
-        progress,
-    }
-}
-
-/// Builds the levels up to `top`, in this folder if there is one.
-fn run_build_by<T: Files<File = File> + Threads + Wait + Sync, P: Progress, W: Write>(
-    builder: &mut Builder<'_, T, P>,
-    folder: Option<HostFolder<'_, T>>,
-    top: u8,
-    writer: &mut W,
-) -> u8
-    ensures status { result ≤ 1 }
-    ensures built { result ≡ 0 → PrintsBuild folder.entry top (W.contents writer.old) (W.contents writer.new) }
-{
-    match folder {
-        None => run_build(builder, top, writer),
-        Some(mut folder) => run_build_in(builder, &mut folder, top, writer),
     }
 }
 
@@ -367,11 +197,11 @@ fn run_move<W: Write>(board: &str, pit: u8, writer: &mut W) -> u8
 }
 
 /// Prints where a play stands.
-fn run_judge<W: Write>(board: &str, limit: u32, moves: &str, writer: &mut W) -> u8
+fn run_judge<W: Write>(board: &str, limit: u32, moves: &[&str], writer: &mut W) -> u8
     ensures status { result ≤ 1 }
-    ensures judged { result ≡ 0 → PrintsJudgement board.now limit moves.now (W.contents writer.old) (W.contents writer.new) }
+    ensures judged { result ≡ 0 → PrintsJudgement board.now limit (bytes_of moves.now) (W.contents writer.old) (W.contents writer.new) }
 {
-    match judge(board.as_bytes(), limit, moves.as_bytes()) {
+    match judge(board.as_bytes(), limit, moves) {
         Ok(judgement) => status_of(print(writer, &judgement)),
         Err(fault) => refuse(writer, fault),
     }

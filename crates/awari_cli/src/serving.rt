@@ -4,6 +4,7 @@
 ghost use Rattle.std.specs.Prelude.{◌≡◌, ◌≤◌, ◌<◌, ◌+◌, ◌↔◌, [], length, Ok, Err, IsOk, IfOk, OnOk};
 ghost use Rattle.awari_desk.specs.Desks.{book_of};
 ghost use Rattle.awari_desk.specs.declared.faults.DeskFault.TheVariants as desk_fault;
+ghost use Rattle.awari_folder.specs.Contents.{Same};
 ghost use Rattle.awari_table.specs.Shelves.{Consistent, IsShelf};
 ghost use Rattle.awari_cli.specs.Serving.{PrintsService, HasLevelsTo, IsServed, nobody_asks};
 ghost use Rattle.awari_cli.specs.declared.serving.ServingFault.{ServingFault as AServingFault};
@@ -154,7 +155,9 @@ pub fn run_serve<
 >(rt: &T, folder: &mut F, alloc: Global, growth: Growth, streams: &mut Streams<R, W, E>) -> u8
     ensures status { result ≤ 1 }
 
-    // What was written is a service by right levels, of which the first are those of the folder.
+    // What was written is a service by right levels, of which the first are those of the folder, which
+    // stays as it was.
+    ensures same { Same (F.state folder.old).stands (F.state folder.new).stands }
     ensures served { result ≡ 0 → PrintsService (F.state folder.old).stands (R.remaining streams.old.input) (W.contents streams.old.output) (W.contents streams.new.output) }
 {
     match serve_beside(rt, folder, alloc, growth, streams) {
@@ -183,6 +186,7 @@ fn serve_beside<
     growth: Growth,
     streams: &mut Streams<R, W, E>,
 ) -> Result<Grown, ServingFault>
+    ensures same { Same (F.state folder.old).stands (F.state folder.new).stands }
     ensures served { OnOk result (PrintsService (F.state folder.old).stands (R.remaining streams.old.input) (W.contents streams.old.output) (W.contents streams.new.output)) }
     ensures grown { IfOk result (λ end. end ≡ Grown.ToTop → HasLevelsTo growth.top) }
 {

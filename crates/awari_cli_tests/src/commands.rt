@@ -1,8 +1,9 @@
 //! The commands of the program, on words and streams in memory.
 
 use crate::expect::{expect, expect_equal};
+use crate::plain::run_on_disk;
 use awari_board::Board;
-use awari_cli::{Streams, check, run};
+use awari_cli::{Streams, check};
 use awari_rank::successor;
 use awari_table::{Entry, Shelf};
 use std::alloc::{AllocError, Global};
@@ -48,7 +49,7 @@ pub(crate) fn expect_run(
         output: Vec::new(alloc),
         errors: Vec::new(alloc),
     };
-    let status = run(rt, alloc, words, &mut streams);
+    let status = run_on_disk(rt, alloc, words, &mut streams);
     expect_text(rt, words, &streams.output, printed);
     let found = (status, streams.errors.is_empty());
     expect_equal(
@@ -357,7 +358,7 @@ fn check_status(
         output: writer,
         errors: Vec::new(alloc),
     };
-    let status = run(rt, alloc, words.as_slice(), &mut streams);
+    let status = run_on_disk(rt, alloc, words.as_slice(), &mut streams);
     expect(rt, "no errors", streams.errors.is_empty());
     status
 }

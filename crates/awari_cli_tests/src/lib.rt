@@ -1,4 +1,5 @@
-//! Tests of the program's commands, on words and streams in memory.
+//! Tests of the program's commands, on words and streams in memory. [`MemoryHost`] is a host whose
+//! folders are known.
 #![tactic(auto)]
 
 #[cfg(test)]
@@ -17,12 +18,15 @@ mod examples;
 mod expect;
 #[cfg(test)]
 mod files;
+mod hosts;
 #[cfg(test)]
 mod json;
 #[cfg(test)]
 mod levels;
 #[cfg(test)]
 mod migrations;
+#[cfg(test)]
+mod named;
 #[cfg(test)]
 mod plain;
 #[cfg(test)]
@@ -47,3 +51,5 @@ mod words;
 mod worked;
 #[cfg(test)]
 mod worths;
+
+pub use hosts::{FIRST, MemoryHost, SECOND};

@@ -4,13 +4,15 @@
 
 use awari_build::Pace;
 use awari_cli::{
-    Builder, Growth, MovesQuery, ProgressLines, Streams, run_ask, run_build_in, run_line,
-    run_moves, run_serve, run_text, run_verify,
+    Builder, Disk, Growth, MovesQuery, ProgressLines, Streams, run, run_ask, run_build_in,
+    run_line, run_moves, run_serve, run_text, run_verify,
 };
 use awari_file_tests::MemoryFolder;
 use awari_phase::{Progress, Silent};
 use std::alloc::Global;
+use std::fs::File;
 use std::io::{self, Read, Write};
+use std::rt::Files;
 use std::sync::Wait;
 use std::thread::Threads;
 use std::time::Clock;
@@ -149,4 +151,22 @@ pub(crate) fn served(
         errors: io::sink(),
     };
     run_serve(rt, folder, rt.alloc(), Growth { top, owners }, &mut streams)
+}
+
+/// Runs the program on these words over the host's disk, and gives the status.
+pub(crate) fn run_on_disk<'a>(
+    rt: &'a (impl Files<File = File>
+        + Threads
+        + Clock
+        + Wait
+        + Sync
+        + Send
+        + Clone
+        + Drop
+        + 'static),
+    alloc: Global,
+    words: &'a [&'a str],
+    streams: &mut Streams<impl Read, impl Write, impl Write>,
+) -> u8 {
+    run(rt, &mut Disk::new(rt, alloc), alloc, words, streams)
 }

@@ -112,7 +112,7 @@ fn moves_are_refused(rt: HostRuntime) {
 }
 
 /// Boards, limits and moves.
-const JUDGED: [Line; 12] = [
+const JUDGED: [Line; 19] = [
     (
         &["awari", "judge", TWO_ARE_CAPTURED, "9", "5"],
         "board 0,0,1,0,0,0/0,0,0,0,0,0\nrunning 2\nquiet 0\noutcome 1\n",
@@ -159,6 +159,44 @@ const JUDGED: [Line; 12] = [
         1,
     ),
     (&["awari", "judge", "1,0", "9", "x"], "refused 1 Shape\n", 1),
+    // A space or a tab inside a word is no pit.
+    (
+        &["awari", "judge", WON, "9", "0 2"],
+        "refused 4 NoPit at 2\n",
+        1,
+    ),
+    (
+        &["awari", "judge", WON, "9", "0\t2"],
+        "refused 4 NoPit at 2\n",
+        1,
+    ),
+    // The moves of several words, of which some are empty.
+    (
+        &["awari", "judge", WON, "9", "0", "2", "13", "", "24", "35"],
+        "board 1,0,0,0,1,0/0,0,0,0,0,0\nrunning 0\nquiet 8\noutcome 2\n",
+        0,
+    ),
+    (
+        &["awari", "judge", WON, "9", "", "0", ""],
+        "board 0,0,1,0,0,0/0,1,0,0,0,0\nrunning 0\nquiet 1\noutcome none\n",
+        0,
+    ),
+    // A move of a later word that is refused has its number among those of all words.
+    (
+        &["awari", "judge", WON, "9", "02", "1", "33"],
+        "refused 5 EmptyPit at 5\n",
+        1,
+    ),
+    (
+        &["awari", "judge", WON, "9", "021", "3 "],
+        "refused 4 NoPit at 5\n",
+        1,
+    ),
+    (
+        &["awari", "judge", WON, "9", "02", "x", "13"],
+        "refused 4 NoPit at 3\n",
+        1,
+    ),
     // No moves are played.
     (
         &["awari", "judge", WON, "9"],

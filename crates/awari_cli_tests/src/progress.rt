@@ -2,8 +2,8 @@
 
 use crate::expect::{expect, expect_equal};
 use crate::levels::LEVELS_0_TO_2;
-use crate::plain::build_telling;
-use awari_cli::{Streams, run};
+use crate::plain::{build_telling, run_on_disk};
+use awari_cli::Streams;
 use std::cell::Cell;
 use std::fs::File;
 use std::process::Abort;
@@ -121,7 +121,7 @@ fn tells(
         output: Vec::new(rt.alloc()),
         errors: Vec::new(rt.alloc()),
     };
-    let status = run(rt, rt.alloc(), words, &mut streams);
+    let status = run_on_disk(rt, rt.alloc(), words, &mut streams);
     expect_equal(rt, "status", status, 0);
     let printed = str::from_utf8(&streams.output);
     expect_equal(rt, "lines", printed, Ok(LEVELS_0_TO_2));

@@ -5,9 +5,10 @@ ghost use Rattle.std.specs.Prelude.{◌≡◌, IfOk};
 use crate::commands::{Line, expect_lines, expect_run};
 use crate::expect::{expect, expect_equal};
 use crate::levels::{LEVELS_0_TO_1, LEVELS_0_TO_2, empty_folder};
+use crate::plain::run_on_disk;
 use crate::worths::LEVELS_3_TO_4;
 use awari_build::build_alone;
-use awari_cli::{Streams, run};
+use awari_cli::Streams;
 use awari_desk::{Publisher, Reader, ServeFault, desk, serve};
 use awari_table::Counted;
 use std::alloc::Global;
@@ -493,7 +494,7 @@ fn expect_growing(
         output: Vec::new(alloc),
         errors: io::sink(),
     };
-    let status = run(rt, alloc, words.as_slice(), &mut streams);
+    let status = run_on_disk(rt, alloc, words.as_slice(), &mut streams);
     expect_equal(rt, "status", status, 0);
     expect_answers(rt, str::from_utf8(streams.output.as_slice())?);
     Ok(())

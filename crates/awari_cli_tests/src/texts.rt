@@ -3,8 +3,9 @@
 use crate::commands::{Broken, Line, NOWHERE, expect_lines, expect_run, levels_0_to_2};
 use crate::expect::expect_equal;
 use crate::levels::{LEVELS_0_TO_2, empty_folder, expect_in_folder};
+use crate::plain::run_on_disk;
 use crate::worths::LEVELS_3_TO_4;
-use awari_cli::{Streams, run};
+use awari_cli::Streams;
 use sha2::{Digest, Sha256};
 use std::alloc::Global;
 use std::fs;
@@ -91,7 +92,7 @@ fn text_status(
         output: writer,
         errors: io::sink(),
     };
-    run(rt, alloc, words.as_slice(), &mut streams)
+    run_on_disk(rt, alloc, words.as_slice(), &mut streams)
 }
 
 const ALL: &str = "awari_cli_test_text_all";

@@ -3,7 +3,8 @@
 use crate::commands::{Broken, Line, NOWHERE, expect_lines};
 use crate::expect::{expect, expect_equal};
 use crate::levels::{LEVELS_0_TO_1, empty_folder};
-use awari_cli::{Streams, run};
+use crate::plain::run_on_disk;
+use awari_cli::Streams;
 use std::alloc::Global;
 use std::fs::File;
 use std::process::Abort;
@@ -93,7 +94,7 @@ fn expect_usage(
         output: Vec::new(alloc),
         errors: Vec::new(alloc),
     };
-    let status = run(rt, alloc, words, &mut streams);
+    let status = run_on_disk(rt, alloc, words, &mut streams);
     expect_equal(rt, words, (status, streams.output.is_empty()), (2, true));
     expect(rt, words, has_part(&streams.errors, part));
 }
@@ -149,7 +150,7 @@ fn expect_screen(
         output: io::sink(),
         errors: Vec::new(alloc),
     };
-    let _status = run(rt, alloc, words.as_slice(), &mut streams);
+    let _status = run_on_disk(rt, alloc, words.as_slice(), &mut streams);
     expect(rt, command, is_screen_of(&streams.errors, command));
 }
 
@@ -193,7 +194,7 @@ fn build_unwritten(
         output: Broken,
         errors: Vec::new(alloc),
     };
-    let status = run(rt, alloc, words, &mut streams);
+    let status = run_on_disk(rt, alloc, words, &mut streams);
     expect_equal(rt, words, (status, streams.errors.is_empty()), (1, true));
 }
 

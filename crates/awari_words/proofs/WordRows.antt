@@ -15,6 +15,16 @@ pub ask_row : named (codes "awari" ∷ codes "ask" ∷ codes "levels" ∷ codes 
 unfolding clap_on_literals
 ask_row = refl
 
+pub judge_row : named (codes "awari" ∷ codes "judge" ∷ codes "0/1" ∷ codes "9" ∷ codes "02" ∷ codes "1" ∷ codes "3" ∷ [])
+    ≡ Some (codes "judge", (codes "BOARD", codes "0/1" ∷ []) ∷ (codes "LIMIT", codes "9" ∷ []) ∷ (codes "MOVES", codes "02" ∷ codes "1" ∷ codes "3" ∷ []) ∷ [])
+unfolding clap_on_literals
+judge_row = refl
+
+pub no_moves_row : named (codes "awari" ∷ codes "judge" ∷ codes "0/1" ∷ codes "9" ∷ [])
+    ≡ Some (codes "judge", (codes "BOARD", codes "0/1" ∷ []) ∷ (codes "LIMIT", codes "9" ∷ []) ∷ [])
+unfolding clap_on_literals
+no_moves_row = refl
+
 pub build_row : named (codes "awari" ∷ codes "build" ∷ codes "--owners" ∷ codes "4" ∷ codes "12" ∷ [])
     ≡ Some (
       codes "build",

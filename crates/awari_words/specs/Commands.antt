@@ -3,7 +3,7 @@
 use Rattle.std.specs.Prelude.{ℕ, List, [], ◌∷◌, ◌++◌, Some, true, false, codes, pos}
 use Rattle.clap.specs.Walk.{Rule}
 use Rattle.clap.specs.Simple.{App, Shape, new_rule, new_shape}
-use Rattle.clap.specs.declared.builder.action.ArgAction.TheVariants.{SetTrue}
+use Rattle.clap.specs.declared.builder.action.ArgAction.TheVariants.{Append, SetTrue}
 use Rattle.clap.specs.declared.builder.value_parser.ValueParser.{ValueParser}
 use Rattle.clap.specs.declared.builder.value_parser.ValueParser.TheVariants.{NonEmptyString, Signed, Unsigned}
 
@@ -56,8 +56,12 @@ check_command = command (codes "check") []
 abbrev pub move_command : Shape
 move_command = command (codes "move") (board ∷ number (codes "PIT") (Signed (pos 0) (pos 255)) ∷ [])
 
+-- any number of words of any text
+abbrev pub moves : Rule
+moves = record (new_rule (codes "MOVES")) { action = Some Append }
+
 abbrev pub judge_command : Shape
-judge_command = command (codes "judge") (board ∷ number (codes "LIMIT") (Signed (pos 0) (pos 4294967295)) ∷ new_rule (codes "MOVES") ∷ [])
+judge_command = command (codes "judge") (board ∷ number (codes "LIMIT") (Signed (pos 0) (pos 4294967295)) ∷ moves ∷ [])
 
 -- how many threads build a level without owners
 abbrev pub threads : Rule

@@ -1,12 +1,14 @@
 -- Which request the words make: that of the command that they name, with the values that they give to each of its names.
-use Rattle.std.specs.Prelude.{◌≡◌, ◌≢◌, ◌⊎◌, ℕ, ◌<◌, ◌^◌, Bool, true, false, List, [], Some, None, codes, Option, option_map, unwrap_or}
+use Rattle.std.specs.Prelude.{◌≡◌, ◌≢◌, ◌⊎◌, ℕ, ◌<◌, ◌^◌, Bool, true, false, List, Some, None, codes, Option, option_map}
 use Rattle.std.specs.Str.Parse.{IsNumeral, digits_value, without_leading_plus}
 use Rattle.clap.specs.Matches.{found_of}
-use Rattle.clap.specs.Walk.{Row, first_of, one_of, rows_of}
+use Rattle.clap.specs.Walk.{Row, all_of, first_of, one_of, rows_of, texts}
 use Rattle.clap.specs.declared.parser.matches.ArgMatches.{ArgMatches}
 use Rattle.awari_block.specs.declared.paces.Pace.{Pace}
+use Rattle.awari_words.specs.declared.requests.Question.{Question}
+use Rattle.awari_words.specs.declared.requests.Question.TheVariants.{Verify, Text, Ask, Moves, Line, Serve, Counts, Boards}
 use Rattle.awari_words.specs.declared.requests.Request.{Request}
-use Rattle.awari_words.specs.declared.requests.Request.TheVariants.{Check, Move, Judge, Build, Verify, Text, Migrate, Ask, Moves, Line, Serve, Rank, Board, Plays, Counts, Boards}
+use Rattle.awari_words.specs.declared.requests.Request.TheVariants.{Check, Move, Judge, Build, Migrate, Rank, Board, Plays, Read}
 
 -- the values that `clap` found, by name
 abbrev pub values : ArgMatches → List Row
@@ -46,31 +48,34 @@ pub record IsFlagOf (given : List Row) (id : List ℕ) (flag : Bool) : Type 0 wh
   pub set : one_of id given ≡ Some (codes "true") → flag ≡ true
   pub unset : one_of id given ≡ Some (codes "false") → flag ≡ false
 
--- The request is that of the command's name, with the values that were given for each of its names.
+-- The question is that of the command's name, with the values that were given for each of its names.
+abbrev pub IsQuestionOf : List ℕ → List Row → Question → Type 0
+IsQuestionOf name given Verify = name ≡ codes "verify"
+IsQuestionOf name given (Text level boards) = (name ≡ codes "text") × SpellsOr given (codes "LEVEL") level × IsFlagOf given (codes "boards") boards
+IsQuestionOf name given (Ask board json) = (name ≡ codes "ask") × Gives given (codes "BOARD") board.now × IsFlagOf given (codes "json") json
+IsQuestionOf name given (Moves board replies json) = (name ≡ codes "moves") × Gives given (codes "BOARD") board.now
+    × IsFlagOf given (codes "replies") replies × IsFlagOf given (codes "json") json
+IsQuestionOf name given (Line board longest plies json) = (name ≡ codes "line") × Gives given (codes "BOARD") board.now
+    × IsFlagOf given (codes "longest") longest × IsFlagOf given (codes "plies") plies × IsFlagOf given (codes "json") json
+IsQuestionOf name given (Serve top owners) = (name ≡ codes "serve") × Spells given (codes "TOP") top × Spells given (codes "OWNERS") owners
+IsQuestionOf name given (Counts level json) = (name ≡ codes "counts") × SpellsOr given (codes "LEVEL") level × IsFlagOf given (codes "json") json
+IsQuestionOf name given (Boards level value distance farthest every count) = (name ≡ codes "boards") × Spells given (codes "LEVEL") level
+    × (option_map (λ t. t.now) value ≡ first_of (codes "value") given) × (option_map (λ t. t.now) distance ≡ first_of (codes "distance") given)
+    × IsFlagOf given (codes "farthest") farthest × Spells given (codes "every") every × IsFlagOf given (codes "count") count
+
+-- The same of the request. A question's folder has one name in all commands.
 abbrev pub IsRequestOf : List ℕ → List Row → Request → Type 0
 IsRequestOf name given Check = name ≡ codes "check"
 IsRequestOf name given (Move board pit) = (name ≡ codes "move") × Gives given (codes "BOARD") board.now × Spells given (codes "PIT") pit
 IsRequestOf name given (Judge board limit moves) = (name ≡ codes "judge") × Gives given (codes "BOARD") board.now × Spells given (codes "LIMIT") limit
-    × (moves.now ≡ unwrap_or (first_of (codes "MOVES") given) [])
+    × (option_map (λ words. texts words.now) moves ≡ all_of (codes "MOVES") given)
 IsRequestOf name given (Build top folder threads pace progress) = (name ≡ codes "build") × Spells given (codes "TOP") top × (option_map (λ f. f.now) folder ≡ first_of (codes "folder") given)
     × SpellsOr given (codes "threads") threads × IsPaceOf given pace × IsFlagOf given (codes "progress") progress
-IsRequestOf name given (Verify folder) = (name ≡ codes "verify") × Gives given (codes "FOLDER") folder.now
-IsRequestOf name given (Text folder level boards) = (name ≡ codes "text") × Gives given (codes "FOLDER") folder.now × SpellsOr given (codes "LEVEL") level × IsFlagOf given (codes "boards") boards
 IsRequestOf name given (Migrate from to) = (name ≡ codes "migrate") × Gives given (codes "FROM") from.now × Gives given (codes "TO") to.now
-IsRequestOf name given (Ask folder board json) = (name ≡ codes "ask") × Gives given (codes "FOLDER") folder.now × Gives given (codes "BOARD") board.now × IsFlagOf given (codes "json") json
-IsRequestOf name given (Moves folder board replies json) = (name ≡ codes "moves") × Gives given (codes "FOLDER") folder.now × Gives given (codes "BOARD") board.now
-    × IsFlagOf given (codes "replies") replies × IsFlagOf given (codes "json") json
-IsRequestOf name given (Line folder board longest plies json) = (name ≡ codes "line") × Gives given (codes "FOLDER") folder.now × Gives given (codes "BOARD") board.now
-    × IsFlagOf given (codes "longest") longest × IsFlagOf given (codes "plies") plies × IsFlagOf given (codes "json") json
-IsRequestOf name given (Serve folder top owners) = (name ≡ codes "serve") × Gives given (codes "FOLDER") folder.now × Spells given (codes "TOP") top × Spells given (codes "OWNERS") owners
 IsRequestOf name given (Rank board) = (name ≡ codes "rank") × Gives given (codes "BOARD") board.now
 IsRequestOf name given (Board level rank) = (name ≡ codes "board") × Spells given (codes "LEVEL") level × Spells given (codes "RANK") rank
 IsRequestOf name given (Plays board plies) = (name ≡ codes "plays") × Gives given (codes "BOARD") board.now × Spells given (codes "PLIES") plies
-IsRequestOf name given (Counts folder level json) = (name ≡ codes "counts") × Gives given (codes "FOLDER") folder.now × SpellsOr given (codes "LEVEL") level
-    × IsFlagOf given (codes "json") json
-IsRequestOf name given (Boards folder level value distance farthest every count) = (name ≡ codes "boards") × Gives given (codes "FOLDER") folder.now × Spells given (codes "LEVEL") level
-    × (option_map (λ t. t.now) value ≡ first_of (codes "value") given) × (option_map (λ t. t.now) distance ≡ first_of (codes "distance") given)
-    × IsFlagOf given (codes "farthest") farthest × Spells given (codes "every") every × IsFlagOf given (codes "count") count
+IsRequestOf name given (Read folder question) = Gives given (codes "FOLDER") folder.now × IsQuestionOf name given question
 
 -- The name is no command's, or a value that its command needs is not there.
 pub record IsNoRequest (name : List ℕ) (given : List Row) : Type 0 where

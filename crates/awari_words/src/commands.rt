@@ -27,6 +27,7 @@ ghost use Rattle.awari_words.specs.Commands.{
   line_command,
   migrate_command,
   move_command,
+  moves,
   moves_command,
   number,
   number_option,
@@ -211,9 +212,11 @@ fn limit<'a>(alloc: Global) -> Arg<'a>
 }
 
 fn moves<'a>(alloc: Global) -> Arg<'a>
-    ensures { IsArg result (new_rule (codes "MOVES")) }
+    ensures { IsArg result moves }
 {
-    Arg::new(alloc, "MOVES").help("The pits played, a digit each, as 502 or \"5 0 2\"")
+    Arg::new(alloc, "MOVES")
+        .action(ArgAction::Append)
+        .help("The pits played, a digit each, as 502 or 5 0 2")
 }
 
 fn build_command<'a>(alloc: Global) -> Result<Command<'a>, AllocError>

@@ -40,9 +40,9 @@ opponent's pits 6 to 11. It prints one line:
 The status is 0 for a move, and 1 for a refusal. docs/FORMATS.md lists them.";
 
 pub const JUDGE_HELP: &str = "\
-The moves are played from the board. Spaces among them are passed over, so a
-line that `awari line` prints goes as one word. It prints four lines, or a
-refusal alone:
+The moves are played from the board: a digit each, in any number of words, so
+the pits of `awari line` can be pasted. Any other byte, also a space in a word,
+is refused as 4 NoPit. It prints four lines, or a refusal alone:
 
     board BOARD    the board then, as the player to move sees it
     running R      the stones that the first mover captured less the second's

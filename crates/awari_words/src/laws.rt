@@ -21,6 +21,12 @@ pub fn worked_words()
     ensures ask { named (codes "awari" ∷ codes "ask" ∷ codes "levels" ∷ codes "0/1" ∷ [])
         ≡ Some (codes "ask", (codes "FOLDER", codes "levels" ∷ []) ∷ (codes "BOARD", codes "0/1" ∷ []) ∷ (codes "json", codes "false" ∷ []) ∷ []) }
 
+    // Any number of words of moves may stand behind the limit.
+    ensures judge { named (codes "awari" ∷ codes "judge" ∷ codes "0/1" ∷ codes "9" ∷ codes "02" ∷ codes "1" ∷ codes "3" ∷ [])
+        ≡ Some (codes "judge", (codes "BOARD", codes "0/1" ∷ []) ∷ (codes "LIMIT", codes "9" ∷ []) ∷ (codes "MOVES", codes "02" ∷ codes "1" ∷ codes "3" ∷ []) ∷ []) }
+    ensures no_moves { named (codes "awari" ∷ codes "judge" ∷ codes "0/1" ∷ codes "9" ∷ [])
+        ≡ Some (codes "judge", (codes "BOARD", codes "0/1" ∷ []) ∷ (codes "LIMIT", codes "9" ∷ []) ∷ []) }
+
     // An option may stand before the words, and each that isn't given has its default.
     ensures build { named (codes "awari" ∷ codes "build" ∷ codes "--owners" ∷ codes "4" ∷ codes "12" ∷ [])
         ≡ Some (

@@ -1,14 +1,14 @@
 //! What the words ask for that the program is called with.
 //!
-//! [`request_of`] reads them by `clap`, and gives a [`Request`] or the text that `clap` prints. The
-//! help texts stand here too.
+//! [`understand`] reads them by `clap`, and gives what they name or the text that `clap` prints.
+//! [`request_of`] gives the [`Request`] that this is. The help texts stand here too.
 //!
 //! The words of a move are read, in `crates/awari_cli_tests/src/examples.rt`:
 //!
 //!     fn words_ask_for_a_move(rt: HostRuntime) -> Result<(), Fail> {
 //!         let words = ["awari", "move", "0,0,0,0,0,1/1,0,1,0,0,0", "5"];
-//!         let request = request_of(rt.alloc(), words.as_slice())?;
-//!         let Some(Request::Move { board, pit }) = request else {
+//!         let matches = understand(rt.alloc(), words.as_slice())?;
+//!         let Some(Request::Move { board, pit }) = request_of(&matches) else {
 //!             return Err(Fail::new("another request"));
 //!         };
 //!         expect_equal(&rt, pit, board, "0,0,0,0,0,1/1,0,1,0,0,0");
@@ -22,4 +22,4 @@ mod laws;
 mod requests;
 
 pub use laws::worked_words;
-pub use requests::{Request, request_of};
+pub use requests::{Question, Request, request_of, understand};

@@ -4,7 +4,7 @@ ghost use Rattle.std.specs.Prelude.{◌≡◌, ◌⊎◌, IfOk, IfSome, IsNone, 
 ghost use Rattle.clap.specs.Kinds.{FailsBy};
 ghost use Rattle.clap.specs.Faults.{fault_of};
 ghost use Rattle.clap.specs.Simple.{subcommand_of, subcommand_rows_of};
-ghost use Rattle.clap.specs.Walk.{first_of};
+ghost use Rattle.clap.specs.Walk.{all_of, first_of, texts};
 ghost use Rattle.awari_words.specs.Commands.{awari_commands};
 ghost use Rattle.awari_words.specs.Requests.{
   IsAsked,
@@ -27,7 +27,7 @@ use std::convert::AsStr;
 
 /// What the words ask for.
 #[derive(Clone, Copy)]
-pub enum Request<'a> {
+pub enum Request<'m, 'a> {
     /// `check`: whether the tables on standard input are right.
     Check,
     /// `move BOARD PIT`: the board after a move.
@@ -35,11 +35,12 @@ pub enum Request<'a> {
         board: &'a str,
         pit: u8,
     },
-    /// `judge BOARD LIMIT [MOVES]`: where a play stands.
+    /// `judge BOARD LIMIT [MOVES]..`: where a play stands. The moves are the bytes of all these words, if
+    /// there are any.
     Judge {
         board: &'a str,
         limit: u32,
-        moves: &'a str,
+        moves: Option<&'m [&'a str]>,
     },
     /// `build TOP [--folder FOLDER] [--progress] [--threads N] [--owners W] [--room R] [--sweeps S]`: the
     /// levels up to this one.
@@ -50,48 +51,10 @@ pub enum Request<'a> {
         pace: Pace,
         progress: bool,
     },
-    /// `verify FOLDER`: whether the levels in a folder are right.
-    Verify {
-        folder: &'a str,
-    },
-    /// `text FOLDER [LEVEL] [--boards]`: the text of the levels in a folder, or of one.
-    Text {
-        folder: &'a str,
-        level: Option<u8>,
-        boards: bool,
-    },
     /// `migrate FROM TO`: the levels of a folder brought over into another one.
     Migrate {
         from: &'a str,
         to: &'a str,
-    },
-    /// `ask FOLDER BOARD [--json]`: the entry of a board.
-    Ask {
-        folder: &'a str,
-        board: &'a str,
-        json: bool,
-    },
-    /// `moves FOLDER BOARD [--replies] [--json]`: what each legal move of a board is worth.
-    Moves {
-        folder: &'a str,
-        board: &'a str,
-        replies: bool,
-        json: bool,
-    },
-    /// `line FOLDER BOARD [--longest] [--plies] [--json]`: the play from a board in which both sides
-    /// follow the plans, or one side holds out.
-    Line {
-        folder: &'a str,
-        board: &'a str,
-        longest: bool,
-        plies: bool,
-        json: bool,
-    },
-    /// `serve FOLDER TOP OWNERS`: the answers to lines, while levels are built.
-    Serve {
-        folder: &'a str,
-        top: u8,
-        owners: u8,
     },
     /// `rank BOARD`: a board's number in its level.
     Rank {
@@ -107,16 +70,55 @@ pub enum Request<'a> {
         board: &'a str,
         plies: u8,
     },
-    /// `counts FOLDER [LEVEL] [--json]`: the levels in a folder in numbers, or one.
-    Counts {
+    /// A question about the levels in one folder, which stays as it is.
+    Read {
         folder: &'a str,
+        question: Question<'a>,
+    },
+}
+
+/// What is asked of the levels in a folder.
+#[derive(Clone, Copy)]
+pub enum Question<'a> {
+    /// `verify FOLDER`: whether they are right.
+    Verify,
+    /// `text FOLDER [LEVEL] [--boards]`: their text, or that of one.
+    Text {
+        level: Option<u8>,
+        boards: bool,
+    },
+    /// `ask FOLDER BOARD [--json]`: the entry of a board.
+    Ask {
+        board: &'a str,
+        json: bool,
+    },
+    /// `moves FOLDER BOARD [--replies] [--json]`: what each legal move of a board is worth.
+    Moves {
+        board: &'a str,
+        replies: bool,
+        json: bool,
+    },
+    /// `line FOLDER BOARD [--longest] [--plies] [--json]`: the play from a board in which both sides
+    /// follow the plans, or one side holds out.
+    Line {
+        board: &'a str,
+        longest: bool,
+        plies: bool,
+        json: bool,
+    },
+    /// `serve FOLDER TOP OWNERS`: the answers to lines, while levels are built.
+    Serve {
+        top: u8,
+        owners: u8,
+    },
+    /// `counts FOLDER [LEVEL] [--json]`: the levels in numbers, or one.
+    Counts {
         level: Option<u8>,
         json: bool,
     },
     /// `boards FOLDER LEVEL [--value A..B] [--distance A..B] [--farthest] [--every K] [--count]`: the boards
     /// of a level.
     Boards {
-        folder: &'a str,
         level: u8,
         value: Option<&'a str>,
         distance: Option<&'a str>,
@@ -126,23 +128,24 @@ pub enum Request<'a> {
     },
 }
 
-/// What the words ask for. The first word is the program's own name. The error has the text of
-/// `clap`, also for `--help`. `None` comes only if `clap` lets words through that the program does
-/// not offer: no command of its own, or one without the values that it needs. It takes memory.
-pub fn request_of<'a, S: AsStr>(alloc: Global, words: &'a [S]) -> Result<Option<Request<'a>>, Error>
-    // The request is that of the command that the words name, with the values that they give.
-    ensures asked { IfOk result (IsAsked (subcommand_of awari_commands (map S.text words.entry.now))) }
+/// What `clap` makes of the words. The first word is the program's own name. The error has the text of
+/// `clap`, also for `--help`. It takes memory.
+pub fn understand<'a, S: AsStr>(alloc: Global, words: &'a [S]) -> Result<ArgMatches<'a>, Error>
+    // They name a command, and give these values to it.
+    ensures understood { IfOk result (λ given. subcommand_rows_of given ≡ subcommand_of awari_commands (map S.text words.entry.now)) }
 
     // Words are refused for their first fault. Only if they have none are they refused for want of
     // memory.
     ensures faults { FailsBy (fault_of awari_commands (map S.text words.entry.now)) result }
 {
     let matches = commands(alloc)?.try_get_matches_from(words)?;
-    Ok(named(&matches))
+    Ok(matches)
 }
 
-/// The request of the command that was found, with the values that were given to it.
-fn named<'a>(matches: &ArgMatches<'a>) -> Option<Request<'a>>
+/// What the words ask for that `clap` understood. `None` comes only if it lets words through that the
+/// program does not offer: no command of its own, or one without the values that it needs.
+pub fn request_of<'m, 'a: 'm>(matches: &'m ArgMatches<'a>) -> Option<Request<'m, 'a>>
+    // The request is that of the command that the words name, with the values that they give.
     ensures { IsAsked (subcommand_rows_of matches.now) result }
 {
     match matches.subcommand() {
@@ -151,7 +154,7 @@ fn named<'a>(matches: &ArgMatches<'a>) -> Option<Request<'a>>
     }
 }
 
-fn requested<'a>(name: &str, given: &ArgMatches<'a>) -> Option<Request<'a>>
+fn requested<'m, 'a: 'm>(name: &str, given: &'m ArgMatches<'a>) -> Option<Request<'m, 'a>>
     ensures asked { IfSome result (IsRequestOf name.now (values given.now)) }
     ensures none { IsNone result → IsNoRequest name.now (values given.now) }
 {
@@ -176,7 +179,7 @@ fn requested<'a>(name: &str, given: &ArgMatches<'a>) -> Option<Request<'a>>
     }
 }
 
-fn move_request<'a>(given: &ArgMatches<'a>) -> Option<Request<'a>>
+fn move_request<'m, 'a: 'm>(given: &'m ArgMatches<'a>) -> Option<Request<'m, 'a>>
     ensures asked { IfSome result (IsRequestOf (codes "move") (values given.now)) }
     ensures none { IsNone result → Lacks (values given.now) (codes "BOARD") ⊎ SpellsNone 8 (values given.now) (codes "PIT") }
 {
@@ -186,18 +189,18 @@ fn move_request<'a>(given: &ArgMatches<'a>) -> Option<Request<'a>>
     })
 }
 
-fn judge_request<'a>(given: &ArgMatches<'a>) -> Option<Request<'a>>
+fn judge_request<'m, 'a: 'm>(given: &'m ArgMatches<'a>) -> Option<Request<'m, 'a>>
     ensures asked { IfSome result (IsRequestOf (codes "judge") (values given.now)) }
     ensures none { IsNone result → Lacks (values given.now) (codes "BOARD") ⊎ SpellsNone 32 (values given.now) (codes "LIMIT") }
 {
     Some(Request::Judge {
         board: text(given, "BOARD")?,
         limit: number(given, "LIMIT")?,
-        moves: text(given, "MOVES").unwrap_or(""),
+        moves: texts(given, "MOVES"),
     })
 }
 
-fn build_request<'a>(given: &ArgMatches<'a>) -> Option<Request<'a>>
+fn build_request<'m, 'a: 'm>(given: &'m ArgMatches<'a>) -> Option<Request<'m, 'a>>
     ensures asked { IfSome result (IsRequestOf (codes "build") (values given.now)) }
     ensures none { IsNone result → SpellsNone 8 (values given.now) (codes "TOP") ⊎ IsNoPace (values given.now) }
 {
@@ -210,27 +213,30 @@ fn build_request<'a>(given: &ArgMatches<'a>) -> Option<Request<'a>>
     })
 }
 
-fn verify_request<'a>(given: &ArgMatches<'a>) -> Option<Request<'a>>
+fn verify_request<'m, 'a: 'm>(given: &'m ArgMatches<'a>) -> Option<Request<'m, 'a>>
     ensures asked { IfSome result (IsRequestOf (codes "verify") (values given.now)) }
     ensures none { IsNone result → Lacks (values given.now) (codes "FOLDER") }
 {
-    Some(Request::Verify {
+    Some(Request::Read {
         folder: text(given, "FOLDER")?,
+        question: Question::Verify,
     })
 }
 
-fn text_request<'a>(given: &ArgMatches<'a>) -> Option<Request<'a>>
+fn text_request<'m, 'a: 'm>(given: &'m ArgMatches<'a>) -> Option<Request<'m, 'a>>
     ensures asked { IfSome result (IsRequestOf (codes "text") (values given.now)) }
     ensures none { IsNone result → Lacks (values given.now) (codes "FOLDER") }
 {
-    Some(Request::Text {
+    Some(Request::Read {
         folder: text(given, "FOLDER")?,
-        level: byte(given, "LEVEL"),
-        boards: flag(given, "boards"),
+        question: Question::Text {
+            level: byte(given, "LEVEL"),
+            boards: flag(given, "boards"),
+        },
     })
 }
 
-fn migrate_request<'a>(given: &ArgMatches<'a>) -> Option<Request<'a>>
+fn migrate_request<'m, 'a: 'm>(given: &'m ArgMatches<'a>) -> Option<Request<'m, 'a>>
     ensures asked { IfSome result (IsRequestOf (codes "migrate") (values given.now)) }
     ensures none { IsNone result → Lacks (values given.now) (codes "FROM") ⊎ Lacks (values given.now) (codes "TO") }
 {
@@ -240,54 +246,62 @@ fn migrate_request<'a>(given: &ArgMatches<'a>) -> Option<Request<'a>>
     })
 }
 
-fn ask_request<'a>(given: &ArgMatches<'a>) -> Option<Request<'a>>
+fn ask_request<'m, 'a: 'm>(given: &'m ArgMatches<'a>) -> Option<Request<'m, 'a>>
     ensures asked { IfSome result (IsRequestOf (codes "ask") (values given.now)) }
     ensures none { IsNone result → Lacks (values given.now) (codes "FOLDER") ⊎ Lacks (values given.now) (codes "BOARD") }
 {
-    Some(Request::Ask {
+    Some(Request::Read {
         folder: text(given, "FOLDER")?,
-        board: text(given, "BOARD")?,
-        json: flag(given, "json"),
+        question: Question::Ask {
+            board: text(given, "BOARD")?,
+            json: flag(given, "json"),
+        },
     })
 }
 
-fn moves_request<'a>(given: &ArgMatches<'a>) -> Option<Request<'a>>
+fn moves_request<'m, 'a: 'm>(given: &'m ArgMatches<'a>) -> Option<Request<'m, 'a>>
     ensures asked { IfSome result (IsRequestOf (codes "moves") (values given.now)) }
     ensures none { IsNone result → Lacks (values given.now) (codes "FOLDER") ⊎ Lacks (values given.now) (codes "BOARD") }
 {
-    Some(Request::Moves {
+    Some(Request::Read {
         folder: text(given, "FOLDER")?,
-        board: text(given, "BOARD")?,
-        replies: flag(given, "replies"),
-        json: flag(given, "json"),
+        question: Question::Moves {
+            board: text(given, "BOARD")?,
+            replies: flag(given, "replies"),
+            json: flag(given, "json"),
+        },
     })
 }
 
-fn line_request<'a>(given: &ArgMatches<'a>) -> Option<Request<'a>>
+fn line_request<'m, 'a: 'm>(given: &'m ArgMatches<'a>) -> Option<Request<'m, 'a>>
     ensures asked { IfSome result (IsRequestOf (codes "line") (values given.now)) }
     ensures none { IsNone result → Lacks (values given.now) (codes "FOLDER") ⊎ Lacks (values given.now) (codes "BOARD") }
 {
-    Some(Request::Line {
+    Some(Request::Read {
         folder: text(given, "FOLDER")?,
-        board: text(given, "BOARD")?,
-        longest: flag(given, "longest"),
-        plies: flag(given, "plies"),
-        json: flag(given, "json"),
+        question: Question::Line {
+            board: text(given, "BOARD")?,
+            longest: flag(given, "longest"),
+            plies: flag(given, "plies"),
+            json: flag(given, "json"),
+        },
     })
 }
 
-fn serve_request<'a>(given: &ArgMatches<'a>) -> Option<Request<'a>>
+fn serve_request<'m, 'a: 'm>(given: &'m ArgMatches<'a>) -> Option<Request<'m, 'a>>
     ensures asked { IfSome result (IsRequestOf (codes "serve") (values given.now)) }
     ensures none { IsNone result → Lacks (values given.now) (codes "FOLDER") ⊎ SpellsNone 8 (values given.now) (codes "TOP") ⊎ SpellsNone 8 (values given.now) (codes "OWNERS") }
 {
-    Some(Request::Serve {
+    Some(Request::Read {
         folder: text(given, "FOLDER")?,
-        top: byte(given, "TOP")?,
-        owners: byte(given, "OWNERS")?,
+        question: Question::Serve {
+            top: byte(given, "TOP")?,
+            owners: byte(given, "OWNERS")?,
+        },
     })
 }
 
-fn rank_request<'a>(given: &ArgMatches<'a>) -> Option<Request<'a>>
+fn rank_request<'m, 'a: 'm>(given: &'m ArgMatches<'a>) -> Option<Request<'m, 'a>>
     ensures asked { IfSome result (IsRequestOf (codes "rank") (values given.now)) }
     ensures none { IsNone result → Lacks (values given.now) (codes "BOARD") }
 {
@@ -296,7 +310,7 @@ fn rank_request<'a>(given: &ArgMatches<'a>) -> Option<Request<'a>>
     })
 }
 
-fn board_request<'a>(given: &ArgMatches<'a>) -> Option<Request<'a>>
+fn board_request<'m, 'a: 'm>(given: &'m ArgMatches<'a>) -> Option<Request<'m, 'a>>
     ensures asked { IfSome result (IsRequestOf (codes "board") (values given.now)) }
     ensures none { IsNone result → SpellsNone 8 (values given.now) (codes "LEVEL") ⊎ SpellsNone 32 (values given.now) (codes "RANK") }
 {
@@ -306,7 +320,7 @@ fn board_request<'a>(given: &ArgMatches<'a>) -> Option<Request<'a>>
     })
 }
 
-fn plays_request<'a>(given: &ArgMatches<'a>) -> Option<Request<'a>>
+fn plays_request<'m, 'a: 'm>(given: &'m ArgMatches<'a>) -> Option<Request<'m, 'a>>
     ensures asked { IfSome result (IsRequestOf (codes "plays") (values given.now)) }
     ensures none { IsNone result → Lacks (values given.now) (codes "BOARD") ⊎ SpellsNone 8 (values given.now) (codes "PLIES") }
 {
@@ -316,29 +330,33 @@ fn plays_request<'a>(given: &ArgMatches<'a>) -> Option<Request<'a>>
     })
 }
 
-fn counts_request<'a>(given: &ArgMatches<'a>) -> Option<Request<'a>>
+fn counts_request<'m, 'a: 'm>(given: &'m ArgMatches<'a>) -> Option<Request<'m, 'a>>
     ensures asked { IfSome result (IsRequestOf (codes "counts") (values given.now)) }
     ensures none { IsNone result → Lacks (values given.now) (codes "FOLDER") }
 {
-    Some(Request::Counts {
+    Some(Request::Read {
         folder: text(given, "FOLDER")?,
-        level: byte(given, "LEVEL"),
-        json: flag(given, "json"),
+        question: Question::Counts {
+            level: byte(given, "LEVEL"),
+            json: flag(given, "json"),
+        },
     })
 }
 
-fn boards_request<'a>(given: &ArgMatches<'a>) -> Option<Request<'a>>
+fn boards_request<'m, 'a: 'm>(given: &'m ArgMatches<'a>) -> Option<Request<'m, 'a>>
     ensures asked { IfSome result (IsRequestOf (codes "boards") (values given.now)) }
     ensures none { IsNone result → Lacks (values given.now) (codes "FOLDER") ⊎ SpellsNone 8 (values given.now) (codes "LEVEL") ⊎ SpellsNone 32 (values given.now) (codes "every") }
 {
-    Some(Request::Boards {
+    Some(Request::Read {
         folder: text(given, "FOLDER")?,
-        level: byte(given, "LEVEL")?,
-        value: text(given, "value"),
-        distance: text(given, "distance"),
-        farthest: flag(given, "farthest"),
-        every: number(given, "every")?,
-        count: flag(given, "count"),
+        question: Question::Boards {
+            level: byte(given, "LEVEL")?,
+            value: text(given, "value"),
+            distance: text(given, "distance"),
+            farthest: flag(given, "farthest"),
+            every: number(given, "every")?,
+            count: flag(given, "count"),
+        },
     })
 }
 
@@ -359,6 +377,13 @@ fn text<'a>(given: &ArgMatches<'a>, name: &str) -> Option<&'a str>
     ensures { option_map (λ s. s.now) result ≡ first_of name.now (values given.now) }
 {
     given.get_str(name)
+}
+
+/// All values of this name, as they were written, if there are any.
+fn texts<'m, 'a: 'm>(given: &'m ArgMatches<'a>, name: &str) -> Option<&'m [&'a str]>
+    ensures { option_map (λ s. texts s.now) result ≡ all_of name.now (values given.now) }
+{
+    given.get_strs(name)
 }
 
 /// Whether the flag of this name was given.

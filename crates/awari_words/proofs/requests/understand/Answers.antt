@@ -1,8 +1,7 @@
 use Rattle.std.proofs.Common.{◌≡◌, [], map, rules, subst, true}
 use Rattle.clap.specs.Words.{HasKind, HasMatchesOf, fault_of, is_simple_and_free}
 use Rattle.awari_words.proofs.CommandLaws.{commands_are_free, commands_are_simple}
-use Rattle.awari_words.specs.Requests.{IsAsked}
-use Rattle.awari_words.proofs.requests.request_of.Goals as goal
+use Rattle.awari_words.proofs.requests.understand.Goals as goal
 
 pub returns-in_err-matches-clause-faults : goal.returns-in_err-matches-clause-faults
 returns-in_err-matches-clause-faults g c =
@@ -10,11 +9,11 @@ returns-in_err-matches-clause-faults g c =
     c.in_ok-commands.ensures.0 c.in_err-matches.ensures.kinds commands_are_free in
     search rules
 
-pub returns-clause-asked : goal.returns-clause-asked
-returns-clause-asked g c =
+pub returns-clause-understood : goal.returns-clause-understood
+returns-clause-understood g c =
     let found = subst (λ app. HasMatchesOf app (map g.S.AsStr.text c.args.words.now) c.in_ok-matches.matches)
     c.in_ok-commands.ensures.0 c.in_ok-matches.ensures.matches commands_are_simple in
-    subst (λ asked. IsAsked asked c.named.result) found.1 c.named.ensures
+    found.1
 
 pub returns-clause-faults : goal.returns-clause-faults
 returns-clause-faults g c =

@@ -1,0 +1,15 @@
+-- What is known of the folders on a host, by their names.
+use Rattle.std.specs.Prelude.{◌≡◌, ◌≢◌, ℕ, List, Option}
+use Rattle.awari_folder.specs.Contents.{Same}
+
+-- what the names of levels have in a folder, if that is known
+abbrev pub Stands : Type 0
+Stands = ℕ → Option (Option (List ℕ))
+
+-- Each folder has what it had, but the one of this name.
+abbrev pub OthersStay : List ℕ → (List ℕ → Stands) → (List ℕ → Stands) → Type 0
+OthersStay name old new = (other : List ℕ) → other ≢ name → new other ≡ old other
+
+-- Each folder that the host keeps has what it had.
+abbrev pub AllStay : (List ℕ → Type 0) → (List ℕ → Stands) → (List ℕ → Stands) → Type 0
+AllStay keeps old new = (name : List ℕ) → keeps name → Same (old name) (new name)

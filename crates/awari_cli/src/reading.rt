@@ -1,0 +1,164 @@
+//! Questions about the levels in a folder of the host.
+
+ghost use Rattle.std.specs.Prelude.{◌≡◌, ◌≤◌};
+ghost use Rattle.awari_answers.specs.Lines.{PrintsLineBy};
+ghost use Rattle.awari_cli.specs.Done.{PrintsAnswer};
+ghost use Rattle.awari_cli.specs.Hosts.{AllStay};
+ghost use Rattle.awari_folder.specs.Contents.{Same};
+
+use crate::hosts::{Host, Purpose};
+use crate::serving::{Growth, run_serve};
+use crate::streams::Streams;
+use awari_answers::{
+    MovesQuery, PliesQuery, run_ask, run_ask_json, run_line, run_line_json, run_longest_json,
+    run_longest_line, run_moves, run_moves_json, run_plies, run_text, run_verify,
+};
+use awari_folder::Folder;
+use awari_questions::{BoardsQuery, CountsQuery, run_all_boards, run_boards, run_counts};
+use awari_words::Question;
+use std::alloc::Global;
+use std::io::{Read, Write};
+use std::sync::Wait;
+use std::thread::Threads;
+
+/// A question, and the name of the folder that it is about.
+#[derive(Clone, Copy)]
+pub(crate) struct Reading<'a> {
+    pub(crate) folder: &'a str,
+    pub(crate) question: Question<'a>,
+}
+
+/// Answers the question by the levels in the folder of this name.
+pub(crate) fn run_reading<
+    'a,
+    T: Threads + Wait + Sync + Send + Clone + Drop + 'static,
+    H: Host<'a>,
+    R: Read,
+    W: Write,
+    E: Write,
+>(rt: &T, host: &mut H, alloc: Global, reading: Reading<'a>, streams: &mut Streams<R, W, E>) -> u8
+    ensures status { result ≤ 1 }
+    ensures same { AllStay H.keeps (H.holds host.old) (H.holds host.new) }
+    ensures answered { result ≡ 0 → PrintsAnswer reading.entry.question (H.holds host.old reading.entry.folder.now) (R.remaining streams.old.input)
+        (W.contents streams.old.output) (W.contents streams.new.output) }
+{
+    let mut folder = host.open(reading.folder, Purpose::Read, &mut streams.errors);
+    let status = run_question(rt, &mut folder, alloc, reading.question, streams);
+    host.close(reading.folder, folder);
+    status
+}
+
+/// Answers the question by the levels in this folder.
+fn run_question<
+    T: Threads + Wait + Sync + Send + Clone + Drop + 'static,
+    F: Folder,
+    R: Read,
+    W: Write,
+    E: Write,
+>(
+    rt: &T,
+    folder: &mut F,
+    alloc: Global,
+    question: Question<'_>,
+    streams: &mut Streams<R, W, E>,
+) -> u8
+    ensures status { result ≤ 1 }
+    ensures same { Same (F.state folder.old).stands (F.state folder.new).stands }
+    ensures answered { result ≡ 0 → PrintsAnswer question.entry (F.state folder.old).stands (R.remaining streams.old.input)
+        (W.contents streams.old.output) (W.contents streams.new.output) }
+{
+    let output = &mut streams.output;
+    match question {
+        Question::Verify => run_verify(rt, folder, alloc, output, &mut streams.errors),
+        Question::Text {
+            level,
+            boards: false,
+        } => run_text(rt, folder, alloc, level, output),
+        Question::Text {
+            level,
+            boards: true,
+        } => run_all_boards(rt, folder, alloc, level, output),
+        Question::Ask { board, json: false } => run_ask(rt, folder, alloc, board, output),
+        Question::Ask { board, json: true } => run_ask_json(rt, folder, alloc, board, output),
+        Question::Moves {
+            board,
+            replies,
+            json: false,
+        } => run_moves(rt, folder, alloc, MovesQuery { board, replies }, output),
+        Question::Moves {
+            board,
+            replies,
+            json: true,
+        } => run_moves_json(rt, folder, alloc, MovesQuery { board, replies }, output),
+        Question::Line {
+            board,
+            longest,
+            plies: false,
+            json,
+        } => {
+            let query = PliesQuery {
+                board,
+                longest,
+                json,
+            };
+            run_line_of(rt, folder, alloc, query, output)
+        }
+        Question::Line {
+            board,
+            longest,
+            plies: true,
+            json,
+        } => {
+            let query = PliesQuery {
+                board,
+                longest,
+                json,
+            };
+            run_plies(rt, folder, alloc, query, output)
+        }
+        Question::Serve { top, owners } => {
+            run_serve(rt, folder, alloc, Growth { top, owners }, streams)
+        }
+        Question::Counts { level, json } => {
+            run_counts(rt, folder, alloc, CountsQuery { level, json }, output)
+        }
+        Question::Boards {
+            level,
+            value,
+            distance,
+            farthest,
+            every,
+            count,
+        } => {
+            let query = BoardsQuery {
+                level,
+                value,
+                distance,
+                farthest,
+                every,
+                count,
+            };
+            run_boards(rt, folder, alloc, &query, output)
+        }
+    }
+}
+
+/// Prints the line of play that is asked for, in one line.
+fn run_line_of<T: Threads + Sync, F: Folder, W: Write>(
+    rt: &T,
+    folder: &mut F,
+    alloc: Global,
+    query: PliesQuery<'_>,
+    writer: &mut W,
+) -> u8
+    ensures status { result ≤ 1 }
+    ensures same { Same (F.state folder.old).stands (F.state folder.new).stands }
+    ensures printed { result ≡ 0 → PrintsLineBy query.entry.longest query.entry.json (F.state folder.old).stands query.entry.board.now (W.contents writer.old) (W.contents writer.new) }
+{
+    match (query.longest, query.json) {
+        (false, false) => run_line(rt, folder, alloc, query.board, writer),
+        (false, true) => run_line_json(rt, folder, alloc, query.board, writer),
+        (true, false) => run_longest_line(rt, folder, alloc, query.board, writer),
+        (true, true) => run_longest_json(rt, folder, alloc, query.board, writer),
+    }
+}

@@ -1,0 +1,196 @@
+//! Commands that write into folders of the host: `build` and `migrate`.
+
+ghost use Rattle.std.specs.Prelude.{◌≡◌, ◌≢◌, ◌≤◌, ℕ, List, Some};
+ghost use Rattle.awari_cli.specs.Building.{PrintsAllLevels, PrintsLevels};
+ghost use Rattle.awari_cli.specs.Done.{IsFolder, LeavesFolders, PrintsBrought, PrintsBuild, PrintsBuilt};
+ghost use Rattle.awari_cli.specs.Hosts.{OthersStay};
+ghost use Rattle.awari_folder.specs.Contents.{Same};
+ghost use Rattle.awari_folder.specs.Migration.{KeepsFiles};
+
+use crate::building::{Builder, run_build, run_build_in};
+use crate::hosts::{Host, Purpose};
+use crate::migrating::run_migrate;
+use crate::progress::ProgressLines;
+use crate::streams::Streams;
+use awari_answers::refuse;
+use awari_build::Pace;
+use awari_folder::Folder;
+use awari_phase::{Progress, Silent};
+use rayon::current_num_threads;
+use std::alloc::Global;
+use std::io::{Read, Write};
+use std::sync::Wait;
+use std::thread::Threads;
+use std::time::Clock;
+
+/// What the words of `build` ask for, but its folder.
+#[derive(Clone, Copy)]
+pub(crate) struct Build {
+    pub(crate) top: u8,
+    pub(crate) threads: Option<u8>,
+    pub(crate) pace: Pace,
+    pub(crate) progress: bool,
+}
+
+/// A build, and the name of the folder in which it is to be, if one is named.
+#[derive(Clone, Copy)]
+pub(crate) struct AskedBuild<'a> {
+    pub(crate) folder: Option<&'a str>,
+    pub(crate) build: Build,
+}
+
+/// A build in the folder of this name.
+#[derive(Clone, Copy)]
+struct BuildIn<'a> {
+    folder: &'a str,
+    build: Build,
+}
+
+/// Builds the levels that are asked for, in the folder if one is named.
+pub(crate) fn run_build_asked<
+    'a,
+    T: Threads + Clock + Wait + Sync,
+    H: Host<'a>,
+    R: Read,
+    W: Write,
+    E: Write,
+>(rt: &T, host: &mut H, alloc: Global, asked: AskedBuild<'a>, streams: &mut Streams<R, W, E>) -> u8
+    ensures status { result ≤ 1 }
+    ensures leaves { LeavesFolders H.keeps (IsFolder asked.entry.folder) (H.holds host.old) (H.holds host.new) }
+    ensures built { result ≡ 0 → PrintsBuild H.keeps asked.entry.build.top asked.entry.folder (H.holds host.old) (H.holds host.new)
+        (W.contents streams.old.output) (W.contents streams.new.output) }
+{
+    let AskedBuild { folder, build } = asked;
+    match folder {
+        None => run_build_alone(rt, alloc, build, streams),
+        Some(folder) => run_build_on(rt, host, alloc, BuildIn { folder, build }, streams),
+    }
+}
+
+/// Builds the levels that are asked for.
+fn run_build_alone<T: Threads + Clock + Wait + Sync, R: Read, W: Write, E: Write>(
+    rt: &T,
+    alloc: Global,
+    build: Build,
+    streams: &mut Streams<R, W, E>,
+) -> u8
+    ensures status { result ≤ 1 }
+    ensures built { result ≡ 0 → PrintsAllLevels build.top (W.contents streams.old.output) (W.contents streams.new.output) }
+{
+    if build.progress {
+        let mut lines = ProgressLines::new(rt, &mut streams.errors);
+        let mut builder = builder_for(rt, alloc, build, &mut lines);
+        return run_build(&mut builder, build.top, &mut streams.output);
+    }
+    let mut silent = Silent;
+    let mut builder = builder_for(rt, alloc, build, &mut silent);
+    run_build(&mut builder, build.top, &mut streams.output)
+}
+
+/// Builds the levels that are asked for in the folder of this name.
+fn run_build_on<'a, T: Threads + Clock + Wait + Sync, H: Host<'a>, R: Read, W: Write, E: Write>(
+    rt: &T,
+    host: &mut H,
+    alloc: Global,
+    asked: BuildIn<'a>,
+    streams: &mut Streams<R, W, E>,
+) -> u8
+    ensures status { result ≤ 1 }
+    ensures others { OthersStay asked.entry.folder.now (H.holds host.old) (H.holds host.new) }
+    ensures kept { H.keeps asked.entry.folder.now → KeepsFiles (H.holds host.old asked.entry.folder.now) (H.holds host.new asked.entry.folder.now) }
+    ensures built { result ≡ 0 → PrintsBuilt H.keeps asked.entry.build.top asked.entry.folder.now (H.holds host.old) (H.holds host.new)
+        (W.contents streams.old.output) (W.contents streams.new.output) }
+{
+    let BuildIn {
+        folder: name,
+        build,
+    } = asked;
+    let mut folder = host.open(name, Purpose::Build, &mut streams.errors);
+    match host.lock(name, &mut folder, build.top, &mut streams.errors) {
+        Ok(()) => {}
+        Err(fault) => {
+            host.close(name, folder);
+            return refuse(&mut streams.output, fault);
+        }
+    }
+    let status = run_build_of(rt, &mut folder, alloc, build, streams);
+    host.close(name, folder);
+    status
+}
+
+/// Builds the levels that are asked for in this folder.
+fn run_build_of<T: Threads + Clock + Wait + Sync, F: Folder, R: Read, W: Write, E: Write>(
+    rt: &T,
+    folder: &mut F,
+    alloc: Global,
+    build: Build,
+    streams: &mut Streams<R, W, E>,
+) -> u8
+    ensures status { result ≤ 1 }
+    ensures kept { KeepsFiles (F.state folder.old).stands (F.state folder.new).stands }
+    ensures built { result ≡ 0 → PrintsLevels build.top (F.state folder.old).stands (F.state folder.new).stands (W.contents streams.old.output) (W.contents streams.new.output) }
+{
+    if build.progress {
+        let mut lines = ProgressLines::new(rt, &mut streams.errors);
+        let mut builder = builder_for(rt, alloc, build, &mut lines);
+        return run_build_in(&mut builder, folder, build.top, &mut streams.output);
+    }
+    let mut silent = Silent;
+    let mut builder = builder_for(rt, alloc, build, &mut silent);
+    run_build_in(&mut builder, folder, build.top, &mut streams.output)
+}
+
+/// What builds the levels that are asked for.
+fn builder_for<'a, T: Threads, P: Progress>(
+    rt: &'a T,
+    alloc: Global,
+    build: Build,
+    progress: &'a mut P,
+) -> Builder<'a, T, P> {
+    Builder {
+        rt,
+        alloc,
+        threads: threads_of(rt, build.threads),
+        pace: build.pace,
+        progress,
+    }
+}
+
+/// How many threads build together: as many as were asked for, or else one for each processor.
+fn threads_of(rt: &impl Threads, asked: Option<u8>) -> usize
+    ensures { (n : ℕ) → asked ≡ Some n → result ≡ n }
+{
+    match asked {
+        Some(threads) => usize::from(threads),
+        None => current_num_threads(rt),
+    }
+}
+
+/// The names of the folder that is read in a migration, and of the one that is written into.
+#[derive(Clone, Copy)]
+pub(crate) struct Migration<'a> {
+    pub(crate) from: &'a str,
+    pub(crate) to: &'a str,
+}
+
+/// Brings the levels of one folder over into the other.
+pub(crate) fn run_migration<'a, H: Host<'a>, R: Read, W: Write, E: Write>(
+    host: &mut H,
+    alloc: Global,
+    migration: Migration<'a>,
+    streams: &mut Streams<R, W, E>,
+) -> u8
+    ensures status { result ≤ 1 }
+    ensures others { (name : List ℕ) → H.keeps name → name ≢ migration.entry.to.now → Same (H.holds host.old name) (H.holds host.new name) }
+    ensures kept { H.keeps migration.entry.to.now → KeepsFiles (H.holds host.old migration.entry.to.now) (H.holds host.new migration.entry.to.now) }
+    ensures brought { result ≡ 0 → PrintsBrought H.keeps migration.entry.from.now migration.entry.to.now (H.holds host.old) (H.holds host.new)
+        (W.contents streams.old.output) (W.contents streams.new.output) }
+{
+    let Migration { from, to } = migration;
+    let mut source = host.open(from, Purpose::Read, &mut streams.errors);
+    let mut target = host.open(to, Purpose::Write, &mut streams.errors);
+    let status = run_migrate(alloc, &mut source, &mut target, &mut streams.output);
+    host.close(to, target);
+    host.close(from, source);
+    status
+}
