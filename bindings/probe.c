@@ -1,69 +1,41 @@
 /* probe FOLDER BOARD: prints what `awari moves FOLDER BOARD` prints. */
 #include "awari.h"
 #include <stdio.h>
-#include <stdlib.h>
+#include <string.h>
 
-/* All bytes of a file, or NULL. */
-static uint8_t *read_file(const char *path, size_t *len) {
-    FILE *file = fopen(path, "rb");
-    uint8_t *bytes = NULL;
-    if (file && fseek(file, 0, SEEK_END) == 0 && ftell(file) >= 0) {
-        *len = (size_t)ftell(file);
-        rewind(file);
-        bytes = malloc(*len + 1);
-        if (bytes && fread(bytes, 1, *len, file) != *len) {
-            free(bytes);
-            bytes = NULL;
-        }
-    }
-    if (file) fclose(file);
-    return bytes;
+static int refused(uint8_t answer, const awari_fault *fault) {
+    printf("refused %d: %s\n", answer, awari_text(answer));
+    if (answer >= AWARI_BELOW && answer != AWARI_MEMORY) printf("level %d\n", fault->level);
+    if (fault->inner) printf("for %d: %s\n", fault->inner, awari_text(fault->inner));
+    if (fault->rule) printf("rank %u rule V%d\n", fault->rank, fault->rule);
+    return 1;
 }
 
-/* Puts on the levels of a folder, up to the first that is not there, or to `most`. */
-static int load(awari_handle *handle, const char *folder, int most) {
-    for (int level = 0; level <= most; level++) {
-        char path[4096];
-        size_t len;
-        awari_fault fault = {0};
-        snprintf(path, sizeof path, "%s/level_%02d.awdb", folder, level);
-        uint8_t *bytes = read_file(path, &len);
-        if (!bytes) return 0;
-        int refused = awari_add_level(handle, bytes, len, &fault);
-        free(bytes);
-        if (refused) {
-            printf("refused %d level %d: %d rule V%d rank %u\n", refused, fault.level, fault.inner, fault.rule, fault.rank);
-            return 1;
-        }
-    }
-    return 0;
+/* Prints each legal pit with what it is worth. */
+static void print_moves(const awari_entry *entry, const awari_move moves[6]) {
+    for (int pit = 0; pit < 6; pit++)
+        if (moves[pit].legal)
+            printf("pit %d captures %d value %d distance %u%s\n", pit, moves[pit].captures, moves[pit].value,
+                   moves[pit].distance, pit == entry->plan ? " plan" : "");
+    if (entry->plan == AWARI_NO_PLAN) printf("ended %d\n", entry->value);
 }
 
 int main(int argc, char **argv) {
     awari_handle handle = AWARI_CLOSED;
-    uint8_t pits[12];
+    awari_fault fault = {0, 0, 0, 0};
     awari_entry entry;
     awari_move moves[6];
-    int stones = 0, legal = 0;
-    if (argc != 3 || sscanf(argv[2], "%hhu,%hhu,%hhu,%hhu,%hhu,%hhu/%hhu,%hhu,%hhu,%hhu,%hhu,%hhu", &pits[0], &pits[1], &pits[2], &pits[3],
-                            &pits[4], &pits[5], &pits[6], &pits[7], &pits[8], &pits[9], &pits[10], &pits[11]) != 12)
-        return 2;
-    for (int i = 0; i < 12; i++) stones += pits[i];
-    int wrong = load(&handle, argv[1], stones < 24 ? stones : 24);
-    int refused = awari_probe(&handle, pits, &entry);
-    if (!refused) refused = awari_probe_moves(&handle, pits, moves);
+    uint8_t pits[12];
+    if (argc != 3) return 2;
+    uint8_t answer = awari_parse(argv[2], strlen(argv[2]), pits);
+    if (answer) return refused(answer, &fault);
+    unsigned stones = 0;
+    for (int pit = 0; pit < 12; pit++) stones += pits[pit];
+    answer = awari_open(argv[1], stones, &handle, &fault);
+    if (!answer) answer = awari_probe(&handle, pits, &entry);
+    if (!answer) answer = awari_probe_moves(&handle, pits, moves);
     awari_close(&handle);
-    if (wrong) return 1;
-    if (refused) {
-        printf("refused %d\n", refused);
-        return 1;
-    }
-    for (int pit = 0; pit < 6; pit++) {
-        if (!moves[pit].legal) continue;
-        legal++;
-        printf("pit %d captures %d value %d distance %llu%s\n", pit, moves[pit].captured, moves[pit].value,
-               (unsigned long long)moves[pit].plies, pit == entry.plan ? " plan" : "");
-    }
-    if (!legal) printf("ended %d\n", entry.value);
+    if (answer) return refused(answer, &fault);
+    print_moves(&entry, moves);
     return 0;
 }

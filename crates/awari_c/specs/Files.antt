@@ -1,15 +1,17 @@
 -- What the bytes of a file say, and whether they are one.
-use Rattle.std.specs.Prelude.{◌≡◌, ◌⊎◌, ℕ, List, slice_index_or}
-use Rattle.awari_rank.specs.Rank.{rank_of}
+use Rattle.std.specs.Prelude.{◌≡◌, ◌≢◌, ◌⊎◌, ◌↔◌, ℕ, ◌+◌, ◌*◌, ◌<◌, ◌≤◌, List, [], length, sum, Err, slice_index_or}
+use Rattle.awari_rank.specs.Rank.{rank_of, size_of}
 use Rattle.awari_table.specs.declared.images.Entry.{Entry}
 use Rattle.awari_table.specs.declared.images.Image.{Image}
-use Rattle.awari_table.specs.Images.{no_entry}
+use Rattle.awari_table.specs.Images.{no_entry, no_image}
 use Rattle.awari_file.specs.FileFault.{number_of}
-use Rattle.awari_file.specs.FileText.{IsFileOf}
-use Rattle.awari_file.specs.Reading.{Fails, file_in}
+use Rattle.awari_file.specs.FileText.{HasFile, IsFileOf, file_text}
+use Rattle.awari_file.specs.Reading.{file_in}
 use Rattle.awari_file.specs.declared.contents.Loaded.{Loaded}
 use Rattle.awari_file.specs.declared.faults.FileFault.{FileFault}
 use Rattle.awari_folder.specs.NextFile.{IsOld, IsOverAnother}
+use Rattle.awari_c.specs.Told.{told_entry}
+use Rattle.awari_c.specs.declared.answers.PlainEntry.{PlainEntry}
 
 -- what an image says of a board of its level
 abbrev pub entry_in : Image → List ℕ → Entry
@@ -27,5 +29,37 @@ pub record IsOver (below bytes digest : List ℕ) : Type 0 where
 -- memory.
 abbrev pub IsUnfit : List ℕ → List ℕ → ℕ → Type 0
 IsUnfit below bytes number =
-    ((fault : FileFault) × Fails fault (file_in bytes) × (number ≡ number_of fault))
+    ((fault : FileFault) × (file_in bytes ≡ Err fault) × (number ≡ number_of fault))
     ⊎ (((number ≡ 86) × IsOld bytes) ⊎ (((number ≡ 80) × IsOverAnother 2 below bytes) ⊎ (number ≡ 84)))
+
+-- There are as many bytes as the file of this level has.
+abbrev pub IsSized : ℕ → List ℕ → Type 0
+IsSized level bytes = length bytes ≡ 84 + 6 * size_of level
+
+-- It is what the bytes say of the board, if they are the file of its level.
+abbrev pub TellsEntry : List ℕ → List ℕ → PlainEntry → Type 0
+TellsEntry bytes board told = (version : ℕ) (image : Image) (below : List ℕ) → HasFile version image below → image.level ≡ sum board
+    → bytes ≡ file_text version image below → told ≡ told_entry (entry_in image board)
+
+-- The bytes are the file of this image, which is of this level.
+pub record IsFileOfLevel (level : ℕ) (bytes : List ℕ) (image : Image) : Type 0 where
+  pub version : ℕ
+  pub below : List ℕ
+  pub has : HasFile version image below
+  pub own : image.level ≡ level
+  pub text : bytes ≡ file_text version image below
+
+-- Each of the files is that of the level at its place.
+abbrev pub AreFilesOf : List (List ℕ) → List Image → Type 0
+AreFilesOf files levels = (i : ℕ) → i < length files → IsFileOfLevel i (slice_index_or files i []) (slice_index_or levels i no_image)
+
+-- Each of the first files has as many bytes as that of its level.
+abbrev pub AreSized : List (List ℕ) → ℕ → Type 0
+AreSized files count = (i : ℕ) → i < count → IsSized i (slice_index_or files i [])
+
+-- The answer for a board of so many stones by these files: 0 if they are all there up to its level, each as long as it should be.
+pub record IsFilesAnswer (stones : ℕ) (files : List (List ℕ)) (answer : ℕ) : Type 0 where
+  pub many : 48 < stones → answer ≡ 3
+  pub high : stones ≤ 48 → (24 < stones) ⊎ (length files ≤ stones) → answer ≡ 59
+  pub short : stones ≤ 24 → stones < length files → answer ≢ 0 → answer ≡ 60
+  pub sized : stones ≤ 24 → stones < length files → (answer ≡ 0) ↔ AreSized files (stones + 1)

@@ -1,3 +1,5 @@
+pub mod Boards
 pub mod Files
 pub mod Owned
+pub mod Texts
 pub mod Told

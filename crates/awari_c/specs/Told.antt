@@ -1,9 +1,11 @@
 -- What is told as numbers.
-use Rattle.std.specs.Prelude.{◌≡◌, ◌↔◌, ℕ, true, false, List, pos}
+use Rattle.std.specs.Prelude.{◌≡◌, ◌≢◌, ◌↔◌, ℕ, ◌+◌, ◌<◌, ◌≤◌, true, false, List, [], ◌++◌, drop, length, map, slice_index_or, sum, take, pos, min}
 use Rattle.awari_board.specs.Rules.{IsLegal}
+use Rattle.awari_play.specs.BestLine.{IsBestLine}
 use Rattle.awari_play.specs.MoveWorth.{IsWorthOf}
 use Rattle.awari_play.specs.declared.worths.MoveWorth.{MoveWorth}
 use Rattle.awari_table.specs.Certificate.{Table}
+use Rattle.awari_table.specs.Images.{entry_of, greatest_limit, table_of}
 use Rattle.awari_table.specs.declared.images.Entry.{Entry}
 use Rattle.awari_table.specs.declared.images.Image.{Image}
 use Rattle.awari_file.specs.FileFault.{number_of as file_number}
@@ -18,6 +20,7 @@ use Rattle.awari_folder.specs.FolderFault.{number_of}
 use Rattle.awari_folder.specs.NextFile.{IsFileFault}
 use Rattle.awari_folder.specs.declared.faults.FolderFault.{FolderFault}
 use Rattle.awari_folder.specs.declared.faults.FolderFault.TheVariants.{Below, File, Open, Verify, Memory, Occupied, Old}
+use Rattle.awari_c.specs.Boards.{IsAnswer}
 use Rattle.awari_c.specs.declared.answers.PlainEntry.{PlainEntry}
 use Rattle.awari_c.specs.declared.answers.PlainFault.{PlainFault}
 use Rattle.awari_c.specs.declared.answers.PlainMove.{PlainMove}
@@ -68,16 +71,36 @@ pub record IsRefusal (levels : List Image) (below bytes : List ℕ) (number : �
   pub numbered : number ≡ number_of fault
   pub tells : told ≡ told_fault fault
 
--- the worth of a legal pit
+-- the worth of a legal pit; of its plies at most the greatest number of 32 bits is told
 abbrev pub told_worth : MoveWorth → PlainMove
-told_worth w = record { legal = true; captured = w.captured; value = w.value; plies = w.plies }
+told_worth w = record { legal = true; captures = w.captured; value = w.value; distance = min w.plies 4294967295 }
 
 -- a pit that can't be played
 abbrev pub no_move : PlainMove
-no_move = record { legal = false; captured = 0; value = pos 0; plies = 0 }
+no_move = record { legal = false; captures = 0; value = pos 0; distance = 0 }
 
 -- It is said to be legal exactly where it is, and then what it is worth.
 pub record TellsMove (t : Table) (board : List ℕ) (pit : ℕ) (m : PlainMove) : Type 0 where
   pub legal : (m.legal ≡ true) ↔ IsLegal board pit
   pub worth : m.legal ≡ true → (w : MoveWorth) × IsWorthOf t board pit w × (m ≡ told_worth w)
   pub rest : m.legal ≡ false → m ≡ no_move
+
+-- The line of play by the plans of both sides, which ends by the limit of the levels up to the board's: its first outcome is the
+-- board's value. It is as long as is told, and lies in the room that there was as far as it goes.
+pub record TellsLine (levels : List Image) (board room told : List ℕ) (length_told : ℕ) : Type 0 where
+  pub moves : List ℕ
+  pub best : IsBestLine (table_of levels) (greatest_limit (take (sum board + 1) levels)) board moves (entry_of levels board).value
+  pub long : length_told ≡ length moves
+  pub lies : told ≡ take (length room) moves ++ drop (length moves) room
+
+-- what is told of boards, each in its turn
+abbrev pub told_entries : List Image → List (List ℕ) → List PlainEntry
+told_entries levels boards = map (λ board. told_entry (entry_of levels board)) boards
+
+-- How many boards are told, and the answer: all for which there is room, and 0; or those before the first that is refused, and
+-- what refuses it.
+pub record IsTold (levels : List Image) (boards : List (List ℕ)) (room told answer : ℕ) : Type 0 where
+  pub most : told ≤ min (length boards) room
+  pub known : (i : ℕ) → i < told → sum (slice_index_or boards i []) < length levels
+  pub all : answer ≡ 0 → told ≡ min (length boards) room
+  pub refused : answer ≢ 0 → (told < min (length boards) room) × IsAnswer (sum (slice_index_or boards told [])) (length levels) answer

@@ -1,17 +1,38 @@
 //! What is told to a program in C, as numbers.
 
-ghost use Rattle.std.specs.Prelude.{◌≡◌, ◌<◌, ℕ, length, slice_index_or, sum};
+ghost use Rattle.std.specs.Prelude.{◌≡◌, ◌<◌, ℕ, length, min, slice_index_or, sum};
 ghost use Rattle.awari_c.specs.declared.answers.PlainMove.{PlainMove as AMove};
 ghost use Rattle.awari_table.specs.Images.{table_of};
 ghost use Rattle.awari_file.specs.FileText.{plan_byte};
 ghost use Rattle.awari_folder.specs.declared.faults.FolderFault.TheVariants.{Verify};
-ghost use Rattle.awari_c.specs.Told.{rule_number, told_entry, told_fault, told_worth, TellsMove};
+ghost use Rattle.awari_c.specs.Told.{rule_number, told_entry, told_fault, told_worth, no_move, TellsMove};
 
 use awari_board::Board;
 use awari_folder::FolderFault;
 use awari_play::{MoveWorth, worth_of};
 use awari_table::{Entry, Shelf};
 use awari_verify::{Rule, VerifyFault};
+
+/// More than 48 stones: the number of `BoardFault::TooMany`.
+pub(crate) const TOO_MANY: u8 = 3;
+
+/// The board's level is not there: the number of `NotYet`.
+pub(crate) const NOT_YET: u8 = 59;
+
+/// The bytes are not as many as those of the file: the number of `FileFault::Truncated`.
+pub(crate) const TRUNCATED: u8 = 60;
+
+/// The file does not name that digest: the number of `FolderFault::Below`.
+pub(crate) const BELOW: u8 = 80;
+
+/// Memory ran out: the number of `FolderFault::Memory`.
+pub(crate) const MEMORY: u8 = 84;
+
+/// The file is of version 1: the number of `FolderFault::Old`.
+pub(crate) const OLD: u8 = 86;
+
+/// The level has fewer boards: the number of `NoRank`.
+pub(crate) const NO_RANK: u8 = 93;
 
 /// What the levels say of a board.
 #[repr(C)]
@@ -32,11 +53,12 @@ pub struct PlainMove {
     /// Whether the pit can be played. If not, the other fields are 0.
     pub legal: bool,
     /// The stones that the move captures.
-    pub captured: u8,
+    pub captures: u8,
     /// What the mover gains, in stones.
     pub value: i16,
-    /// In how many plies a capture or the end comes, 0 if no side is favoured.
-    pub plies: u64,
+    /// The plies within which a capture or the end comes, 0 if no side is favoured. The greatest u32
+    /// stands for more.
+    pub distance: u32,
 }
 
 /// What is wrong with the file of a level, beside the number of the refusal.
@@ -56,7 +78,7 @@ pub struct PlainFault {
 // The structs of `bindings/awari.h` have the same sizes.
 const _: () = prove!(size_of::<PlainEntry>() == 8);
 
-const _: () = prove!(size_of::<PlainMove>() == 16);
+const _: () = prove!(size_of::<PlainMove>() == 8);
 
 const _: () = prove!(size_of::<PlainFault>() == 8);
 
@@ -168,24 +190,41 @@ fn told_move(shelf: &Shelf, board: &Board, pit: u8) -> PlainMove
     ensures { TellsMove (table_of shelf.now) board.now pit result }
 {
     if !board.legal(pit) {
-        return PlainMove {
-            legal: false,
-            captured: 0,
-            value: 0,
-            plies: 0,
-        };
+        return no_move();
     }
     told_worth(worth_of(shelf, board, pit))
 }
 
+/// What is told of a pit that can't be played.
+pub(crate) fn no_move() -> PlainMove
+    ensures { result ≡ no_move }
+{
+    PlainMove {
+        legal: false,
+        captures: 0,
+        value: 0,
+        distance: 0,
+    }
+}
+
 /// The worth of a legal pit as numbers.
-fn told_worth(worth: MoveWorth) -> PlainMove
+pub(crate) fn told_worth(worth: MoveWorth) -> PlainMove
     ensures { result ≡ told_worth worth }
 {
     PlainMove {
         legal: true,
-        captured: worth.captured,
+        captures: worth.captured,
         value: worth.value,
-        plies: worth.plies,
+        distance: at_most_u32(worth.plies),
+    }
+}
+
+/// The number, or the greatest u32 if that is less.
+fn at_most_u32(plies: u64) -> u32
+    ensures { result ≡ min plies 4294967295 }
+{
+    match u32::try_from(plies) {
+        Ok(plies) => plies,
+        Err(_) => u32::MAX,
     }
 }

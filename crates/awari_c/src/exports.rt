@@ -1,35 +1,30 @@
 //! What C calls with a handle. A parameter of type `Global` takes no bytes: C passes nothing for it.
 
-ghost use Rattle.std.specs.Prelude.{◌≡◌, ◌≢◌, ◌<◌, ◌≤◌, ◌↔◌, ℕ, false, length, sum, slice_index_or, IfSome};
-ghost use Rattle.awari_board.specs.MoveFault.{IsDue, number_of};
-ghost use Rattle.awari_board.specs.Rules.{IsLegal, IsMove};
-ghost use Rattle.awari_board.specs.declared.moves.MoveFault.{MoveFault};
+ghost use Rattle.std.specs.Prelude.{◌≡◌, ◌≢◌, ◌<◌, ◌≤◌, ℕ, ◌+◌, ◌++◌, false, drop, length, map, min, sum, take, slice_index_or, slice_get, Some, IfOk, IfErr, IsOk, ◌↔◌};
 ghost use Rattle.awari_table.specs.Images.{entry_of, table_of};
 ghost use Rattle.awari_theory.specs.Truth.{TellsTruth};
 ghost use Rattle.awari_folder.specs.NextFile.{IsNextFile};
+ghost use Rattle.awari_c.specs.Boards.{IsAnswer, IsAnswerWithRoom};
 ghost use Rattle.awari_c.specs.Owned.{stored_in, levels_in, digest_in};
-ghost use Rattle.awari_c.specs.Told.{told_entry, TellsMove, IsRefusal};
+ghost use Rattle.awari_c.specs.Told.{told_entry, IsRefusal, TellsLine, TellsMove};
 ghost use Rattle.awari_c.specs.declared.answers.PlainMove.{PlainMove as AMove};
 
-use crate::answers::{PlainEntry, PlainFault, PlainMove, told_entry, told_fault, told_moves};
+use crate::answers::{
+    MEMORY, NOT_YET, PlainEntry, PlainFault, PlainMove, TOO_MANY, told_entry, told_fault,
+    told_moves,
+};
 use crate::handles::{Handle, put, take};
+use crate::lines::{copy_to, line_of};
+use crate::storing::{add_first, add_to, shared_levels};
 use awari_board::Board;
-use awari_folder::{FolderFault, Stored};
+use awari_packed::PackedBoard;
+use awari_play::LineFault;
 use awari_theory::shelves_tell_the_truth;
 use std::alloc::Global;
 
-/// Memory ran out: the number of `FolderFault::Memory`.
-pub(crate) const MEMORY: u8 = 84;
-
-/// The board's level is not there: the number of `NotYet`.
-pub(crate) const NOT_YET: u8 = 59;
-
-/// More than 48 stones: the number of `BoardFault::TooMany`.
-pub(crate) const TOO_MANY: u8 = 3;
-
 /// Puts the next level on the levels behind the handle, if these bytes are its file, and answers 0.
-/// Otherwise the levels stay as they are, and the number of the refusal is answered, 80, 81, 83, 84 or
-/// 86, with more of it in `fault`.
+/// Otherwise the handle stays as it is, closed if it was, and the number of the refusal is answered, 80,
+/// 81, 83, 84 or 86, with more of it in `fault`.
 #[unsafe(no_mangle)]
 pub extern "C" fn awari_add_level(
     handle: &mut Handle,
@@ -42,21 +37,12 @@ pub extern "C" fn awari_add_level(
     // value, soon, the value is what the board is worth, and the distance is the least.
     ensures meaning { result ≡ 0 → TellsTruth (levels_in handle.new.is_open handle.new.stored) }
     ensures refused { result ≢ 0 → IsRefusal (levels_in handle.old.is_open handle.old.stored) (digest_in handle.old.is_open handle.old.stored) bytes.now result fault.new }
-    ensures kept { result ≢ 0 → levels_in handle.new.is_open handle.new.stored ≡ levels_in handle.old.is_open handle.old.stored }
-    ensures digest { result ≢ 0 → digest_in handle.new.is_open handle.new.stored ≡ digest_in handle.old.is_open handle.old.stored }
+    ensures kept { result ≢ 0 → stored_in handle.new.is_open handle.new.stored ≡ stored_in handle.old.is_open handle.old.stored }
 {
-    let mut stored = match take(handle, alloc) {
-        Some(stored) => stored,
-        None => match Box::new(alloc, Stored::empty()) {
-            Ok(stored) => stored,
-            Err(_) => {
-                *fault = told_fault(FolderFault::Memory);
-                return MEMORY;
-            }
-        },
+    let added = match take(handle, alloc) {
+        Some(stored) => add_to(handle, alloc, stored, bytes),
+        None => add_first(handle, alloc, bytes),
     };
-    let added = stored.add(alloc, bytes);
-    put(handle, stored);
     match added {
         Ok(()) => 0,
         Err(refusal) => {
@@ -89,9 +75,7 @@ pub extern "C" fn awari_probe(
     pits: &[u8; 12],
     out: &mut PlainEntry,
 ) -> u8
-    ensures many { 48 < sum pits.now → result ≡ 3 }
-    ensures known { sum pits.now ≤ 48 → (result ≡ 0) ↔ (sum pits.now < length (levels_in handle.old.is_open handle.old.stored)) }
-    ensures not_yet { sum pits.now ≤ 48 → result ≢ 0 → result ≡ 59 }
+    ensures answer { IsAnswer (sum pits.now) (length (levels_in handle.old.is_open handle.old.stored)) result }
     ensures entry { result ≡ 0 → out.new ≡ told_entry (entry_of (levels_in handle.old.is_open handle.old.stored) pits.now) }
     // What the levels say of each of their boards is the truth.
     ensures meaning { result ≡ 0 → TellsTruth (levels_in handle.old.is_open handle.old.stored) }
@@ -117,6 +101,40 @@ pub extern "C" fn awari_probe(
     }
 }
 
+/// The value of a board alone, and 0; or 3 or 59 as `awari_probe` answers. Neither plan nor distance is
+/// read. It takes no memory.
+#[unsafe(no_mangle)]
+pub extern "C" fn awari_probe_value(
+    handle: &mut Handle,
+    alloc: Global,
+    pits: &[u8; 12],
+    value: &mut i8,
+) -> u8
+    ensures answer { IsAnswer (sum pits.now) (length (levels_in handle.old.is_open handle.old.stored)) result }
+    ensures value { result ≡ 0 → value.new ≡ (entry_of (levels_in handle.old.is_open handle.old.stored) pits.now).value }
+    // What the levels say of each of their boards is the truth.
+    ensures meaning { result ≡ 0 → TellsTruth (levels_in handle.old.is_open handle.old.stored) }
+    ensures untouched { result ≢ 0 → value.new ≡ value.old }
+    ensures kept { stored_in handle.new.is_open handle.new.stored ≡ stored_in handle.old.is_open handle.old.stored }
+{
+    let Ok(board) = Board::of(*pits) else {
+        return TOO_MANY;
+    };
+    let Some(stored) = take(handle, alloc) else {
+        return NOT_YET;
+    };
+    let stones = board.stones();
+    if stones >= stored.shelf.levels() {
+        put(handle, stored);
+        return NOT_YET;
+    }
+    shelves_tell_the_truth();
+    let found = stored.shelf.value_below(&PackedBoard::new(&board), stones);
+    put(handle, stored);
+    *value = found;
+    0
+}
+
 /// What each pit of a board is worth, and 0; or 3 or 59 as `awari_probe` answers. It takes no memory.
 #[unsafe(no_mangle)]
 pub extern "C" fn awari_probe_moves(
@@ -125,9 +143,7 @@ pub extern "C" fn awari_probe_moves(
     pits: &[u8; 12],
     out: &mut [PlainMove; 6],
 ) -> u8
-    ensures many { 48 < sum pits.now → result ≡ 3 }
-    ensures known { sum pits.now ≤ 48 → (result ≡ 0) ↔ (sum pits.now < length (levels_in handle.old.is_open handle.old.stored)) }
-    ensures not_yet { sum pits.now ≤ 48 → result ≢ 0 → result ≡ 59 }
+    ensures answer { IsAnswer (sum pits.now) (length (levels_in handle.old.is_open handle.old.stored)) result }
     // What the levels say of each of their boards is the truth.
     ensures meaning { result ≡ 0 → TellsTruth (levels_in handle.old.is_open handle.old.stored) }
     ensures moves { result ≡ 0 → (pit : ℕ) (d : AMove) → pit < 6 → TellsMove (table_of (levels_in handle.old.is_open handle.old.stored)) pits.now pit (slice_index_or out.new pit d) }
@@ -151,33 +167,49 @@ pub extern "C" fn awari_probe_moves(
     0
 }
 
-/// Plays a pit: 0, with the board as the other player sees it and what is captured; or 3 for a board of
-/// more than 48 stones, or 4 to 7 as `MoveFault` has it.
+/// The line of play by the plans of both sides, up to its first outcome, and 0; or 3 or 59 as
+/// `awari_probe` answers, or 84 if memory runs out. As much of the line is written as there is room for;
+/// `moves` is how many it has. It takes a byte a move, and gives it back.
 #[unsafe(no_mangle)]
-pub extern "C" fn awari_play(pits: &[u8; 12], pit: u8, out: &mut [u8; 12], captured: &mut u8) -> u8
-    ensures many { 48 < sum pits.now → result ≡ 3 }
-    ensures legal { sum pits.now ≤ 48 → (result ≡ 0) ↔ IsLegal pits.now pit }
-    ensures moved { result ≡ 0 → IsMove pits.now pit captured.new out.new }
-    ensures refused { sum pits.now ≤ 48 → result ≢ 0 → (fault : MoveFault) × IsDue pits.now pit fault × (result ≡ number_of fault) }
-    ensures untouched { result ≢ 0 → (out.new ≡ out.old) × (captured.new ≡ captured.old) }
+pub extern "C" fn awari_line(
+    handle: &mut Handle,
+    alloc: Global,
+    pits: &[u8; 12],
+    out: &mut [u8],
+    moves: &mut usize,
+) -> u8
+    ensures answer { IsAnswerWithRoom (sum pits.now) (length (levels_in handle.old.is_open handle.old.stored)) result }
+    ensures line { result ≡ 0 → TellsLine (levels_in handle.old.is_open handle.old.stored) pits.now out.old out.new moves.new }
+    // What the levels say of each of their boards is the truth.
+    ensures meaning { result ≡ 0 → TellsTruth (levels_in handle.old.is_open handle.old.stored) }
+    ensures untouched { result ≢ 0 → (out.new ≡ out.old) × (moves.new ≡ moves.old) }
+    ensures kept { stored_in handle.new.is_open handle.new.stored ≡ stored_in handle.old.is_open handle.old.stored }
 {
     let Ok(board) = Board::of(*pits) else {
         return TOO_MANY;
     };
-    match board.play(pit) {
-        Ok(moved) => {
-            *out = moved.board.pits();
-            *captured = moved.captured;
+    let Some(stored) = take(handle, alloc) else {
+        return NOT_YET;
+    };
+    shelves_tell_the_truth();
+    let _levels = stored.shelf.levels();
+    let found = line_of(alloc, &stored.shelf, board);
+    put(handle, stored);
+    match found {
+        Ok(line) => {
+            *moves = line.moves.len();
+            copy_to(out, line.moves.as_slice());
             0
         }
-        Err(fault) => fault.number(),
+        Err(LineFault::NotYet { .. }) => NOT_YET,
+        Err(LineFault::Memory) => MEMORY,
     }
 }
 
 /// Lets `to` have the levels of `from` too, with no copy of them, and answers 0; or 84 if memory runs
 /// out, and `to` is closed then. What `to` held before is given back.
 #[unsafe(no_mangle)]
-pub extern "C" fn awari_share(from: &mut Handle, to: &mut Handle, alloc: Global) -> u8
+pub extern "C" fn awari_share_with(from: &mut Handle, to: &mut Handle, alloc: Global) -> u8
     ensures shared { result ≡ 0 → stored_in to.new.is_open to.new.stored ≡ stored_in from.old.is_open from.old.stored }
     ensures kept { stored_in from.new.is_open from.new.stored ≡ stored_in from.old.is_open from.old.stored }
     ensures refused { result ≢ 0 → (result ≡ 84) × (to.new.is_open ≡ false) }
@@ -195,21 +227,6 @@ pub extern "C" fn awari_share(from: &mut Handle, to: &mut Handle, alloc: Global)
         }
         None => MEMORY,
     }
-}
-
-/// The same levels once more, none if memory runs out.
-fn shared_levels(stored: &Stored, alloc: Global) -> Option<Box<Stored>>
-    ensures { IfSome result (λ shared. shared.value ≡ stored.now) }
-{
-    let shelf = stored.shelf.share().ok()?;
-    Box::new(
-        alloc,
-        Stored {
-            shelf,
-            digest: stored.digest,
-        },
-    )
-    .ok()
 }
 
 /// Gives back what the handle holds, if it is open. It is closed then.

@@ -1,29 +1,26 @@
-//! What C calls with the bytes of a file, where they lie, and with no handle.
+//! What C calls with the bytes of files, where they lie, and with no handle.
 
-ghost use Rattle.std.specs.Prelude.{◌≡◌, ◌≢◌, ◌<◌, ◌≤◌, ◌+◌, ◌*◌, ◌↔◌, ℕ, List, sum, length, take, drop, slice_index, [], ◌∷◌};
+ghost use Rattle.std.specs.Prelude.{◌≡◌, ◌≢◌, ◌<◌, ◌≤◌, ◌+◌, ◌*◌, ◌↔◌, ℕ, List, IsTrue, false, sum, length, take, drop, map, pos, ◌-ℤ◌, slice_index, slice_index_or, [], ◌∷◌};
 ghost use Rattle.std.specs.Int.{w8, w32, cast_signed, from_be_bytes};
+ghost use Rattle.awari_board.specs.Rules.{IsLegal};
 ghost use Rattle.awari_rank.specs.Rank.{size_of};
+ghost use Rattle.awari_table.specs.Certificate.{plies};
+ghost use Rattle.awari_table.specs.Images.{table_of};
 ghost use Rattle.awari_table.specs.declared.images.Image.{Image};
-ghost use Rattle.awari_file.specs.FileText.{HasFile, file_text};
-ghost use Rattle.awari_c.specs.Files.{IsUnfit, IsOver, entry_in};
-ghost use Rattle.awari_c.specs.Told.{told_entry};
+ghost use Rattle.awari_c.specs.Boards.{IsAnswer};
+ghost use Rattle.awari_c.specs.Files.{AreFilesOf, AreSized, IsFilesAnswer, IsOver, IsSized, IsUnfit, TellsEntry};
+ghost use Rattle.awari_c.specs.Told.{TellsMove};
+ghost use Rattle.awari_c.specs.declared.answers.PlainMove.{PlainMove as AMove};
 
-use crate::answers::PlainEntry;
-use crate::exports::{MEMORY, NOT_YET, TOO_MANY};
+use crate::answers::{
+    BELOW, MEMORY, NOT_YET, OLD, PlainEntry, PlainMove, TOO_MANY, TRUNCATED, no_move, told_worth,
+};
 use awari_board::Board;
 use awari_file::{FileFault, OLD_VERSION, read_image};
+use awari_play::MoveWorth;
 use awari_rank::{rank, size};
 use awari_table::{Counted, HIGHEST_LEVEL};
 use std::alloc::Global;
-
-/// The bytes are not as many as those of the file: the number of `FileFault::Truncated`.
-const TRUNCATED: u8 = 60;
-
-/// The file is of version 1: the number of `FolderFault::Old`.
-const OLD: u8 = 86;
-
-/// The file does not name that digest: the number of `FolderFault::Below`.
-const BELOW: u8 = 80;
 
 /// How many bytes of a file come before its entries.
 const HEADER: usize = 52;
@@ -37,12 +34,11 @@ const ENTRY: usize = 6;
 /// nothing, and takes no memory.
 #[unsafe(no_mangle)]
 pub extern "C" fn awari_probe_file(bytes: &[u8], pits: &[u8; 12], out: &mut PlainEntry) -> u8
-    ensures entry { result ≡ 0 → (version : ℕ) (image : Image) (below : List ℕ) → HasFile version image below → image.level ≡ sum pits.now
-        → bytes.now ≡ file_text version image below → out.new ≡ told_entry (entry_in image pits.now) }
+    ensures entry { result ≡ 0 → TellsEntry bytes.now pits.now out.new }
     ensures many { 48 < sum pits.now → result ≡ 3 }
     ensures high { 24 < sum pits.now → sum pits.now ≤ 48 → result ≡ 59 }
     ensures short { sum pits.now ≤ 24 → result ≢ 0 → result ≡ 60 }
-    ensures sized { sum pits.now ≤ 24 → (result ≡ 0) ↔ (length bytes.now ≡ 84 + 6 * size_of (sum pits.now)) }
+    ensures sized { sum pits.now ≤ 24 → (result ≡ 0) ↔ IsSized (sum pits.now) bytes.now }
     ensures untouched { result ≢ 0 → out.new ≡ out.old }
 {
     let Ok(board) = Board::of(*pits) else {
@@ -52,13 +48,136 @@ pub extern "C" fn awari_probe_file(bytes: &[u8], pits: &[u8; 12], out: &mut Plai
     if stones > HIGHEST_LEVEL {
         return NOT_YET;
     }
-    if bytes.len() != HEADER + ENTRY * size(stones) as usize + 32 {
+    if !is_sized(bytes, stones) {
         return TRUNCATED;
     }
-    let place = rank(&board) as usize;
-    let found = told_by(six_at(bytes, HEADER + ENTRY * place));
+    let found = entry_at(bytes, &board);
     *out = found;
     0
+}
+
+/// What each pit of a board is worth by the files of level 0 up to the board's, and 0; `files` has each at
+/// its level's place. It is 3 if the board has more than 48 stones, 59 if it has more than 24 or the file
+/// of its level is not there, and 60 if one of them has not as many bytes as the file of its level.
+/// Nothing is verified, as by `awari_probe_file`. It copies nothing, and takes no memory.
+#[unsafe(no_mangle)]
+pub extern "C" fn awari_probe_moves_files(
+    files: &[&[u8]],
+    pits: &[u8; 12],
+    out: &mut [PlainMove; 6],
+) -> u8
+    ensures moves { result ≡ 0 → (levels : List Image) → AreFilesOf (map (λ file. file.now) files.now) levels
+        → (pit : ℕ) (d : AMove) → pit < 6 → TellsMove (table_of levels) pits.now pit (slice_index_or out.new pit d) }
+    ensures answer { IsFilesAnswer (sum pits.now) (map (λ file. file.now) files.now) result }
+    ensures untouched { result ≢ 0 → out.new ≡ out.old }
+{
+    let Ok(board) = Board::of(*pits) else {
+        return TOO_MANY;
+    };
+    let stones = board.stones();
+    if stones > HIGHEST_LEVEL || stones as usize >= files.len() {
+        return NOT_YET;
+    }
+    if !are_sized(files, stones) {
+        return TRUNCATED;
+    }
+    let moves = moves_by(files, &board);
+    *out = moves;
+    0
+}
+
+/// Whether there are as many bytes as the file of this level has.
+fn is_sized(bytes: &[u8], level: u8) -> bool
+    requires { level ≤ 24 }
+    ensures { IsTrue result ↔ IsSized level bytes.now }
+{
+    bytes.len() == HEADER + ENTRY * size(level) as usize + 32
+}
+
+/// Whether each file up to this level's has as many bytes as it should.
+fn are_sized(files: &[&[u8]], highest: u8) -> bool
+    requires low { highest ≤ 24 }
+    requires there { highest < length files.now }
+    ensures { IsTrue result ↔ AreSized (map (λ file. file.now) files.now) (highest + 1) }
+{
+    for level in 0..highest + 1 {
+        if !is_sized(file_at(files, level), level) {
+            return false;
+        }
+    }
+    true
+}
+
+/// The file at this level's place.
+fn file_at<'a>(files: &[&'a [u8]], level: u8) -> &'a [u8]
+    requires { level < length files.now }
+    ensures { result.now ≡ slice_index_or (map (λ file. file.now) files.now) level [] }
+{
+    files[level as usize]
+}
+
+/// What the pits of a board are worth by the files of the levels up to the board's.
+fn moves_by(files: &[&[u8]], board: &Board) -> [PlainMove; 6]
+    requires low { sum board.now ≤ 24 }
+    requires there { sum board.now < length files.now }
+    requires sized { AreSized (map (λ file. file.now) files.now) (sum board.now + 1) }
+    ensures { (levels : List Image) → AreFilesOf (map (λ file. file.now) files.now) levels → (pit : ℕ) (d : AMove) → pit < 6 → TellsMove (table_of levels) board.now pit (slice_index_or result pit d) }
+{
+    [
+        move_by(files, board, 0),
+        move_by(files, board, 1),
+        move_by(files, board, 2),
+        move_by(files, board, 3),
+        move_by(files, board, 4),
+        move_by(files, board, 5),
+    ]
+}
+
+/// What a pit of a board is worth by the files of the levels up to the board's.
+fn move_by(files: &[&[u8]], board: &Board, pit: u8) -> PlainMove
+    requires low { sum board.now ≤ 24 }
+    requires there { sum board.now < length files.now }
+    requires sized { AreSized (map (λ file. file.now) files.now) (sum board.now + 1) }
+    ensures { (levels : List Image) → AreFilesOf (map (λ file. file.now) files.now) levels → TellsMove (table_of levels) board.now pit result }
+{
+    let Ok(moved) = board.play(pit) else {
+        return no_move();
+    };
+    let left = moved.board.stones();
+    let entry = entry_at(file_at(files, left), &moved.board);
+    told_worth(worth_by(pit, moved.captured, entry))
+}
+
+/// What a move is worth that captures so many stones and leaves a board of this entry.
+fn worth_by(pit: u8, captured: u8, entry: PlainEntry) -> MoveWorth
+    ensures pit { result.pit ≡ pit }
+    ensures captured { result.captured ≡ captured }
+    ensures gain { result.value ≡ pos captured -ℤ entry.value }
+    ensures even { result.value ≡ pos 0 → result.plies ≡ 0 }
+    ensures uneven { result.value ≢ pos 0 → result.plies ≡ plies captured entry.distance }
+{
+    let value = i16::from(captured) - i16::from(entry.value);
+    let plies = match (value, captured) {
+        (0, _) => 0,
+        (_, 0) => u64::from(entry.distance) + 1,
+        _ => 1,
+    };
+    MoveWorth {
+        pit,
+        captured,
+        value,
+        plies,
+    }
+}
+
+/// What the file of the board's level says of the board.
+fn entry_at(bytes: &[u8], board: &Board) -> PlainEntry
+    requires low { sum board.now ≤ 24 }
+    requires sized { IsSized (sum board.now) bytes.now }
+    ensures { TellsEntry bytes.now board.now result }
+{
+    let place = rank(board) as usize;
+    told_by(six_at(bytes, HEADER + ENTRY * place))
 }
 
 /// The six bytes from there on.
@@ -103,7 +222,8 @@ pub extern "C" fn awari_check_file(
 {
     let loaded = match read_image(alloc, &mut Counted::new(bytes)) {
         Ok(loaded) => loaded,
-        Err(FileFault::Memory) => return MEMORY,
+        // Bytes in memory answer no fault, though no contract of a reader says so.
+        Err(FileFault::Memory | FileFault::Read) => return MEMORY,
         Err(fault) => return fault.number(),
     };
     if loaded.version == OLD_VERSION {

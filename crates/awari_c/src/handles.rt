@@ -28,11 +28,14 @@ impl Model for Handle {
     ghost also_owns = { λ h. owned h.is_open h.at h.stored };
 }
 
+// C gives a handle to another thread.
+unsafe impl Send for Handle {}
+
 impl Handle {
     ghost use Rattle.awari_c.specs.Owned.{stored_in};
 
     /// The handle that holds no levels.
-    fn closed() -> Handle
+    pub(crate) fn closed() -> Handle
         ensures { result.is_open ≡ false }
     {
         Handle {

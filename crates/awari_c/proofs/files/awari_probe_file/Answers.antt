@@ -1,14 +1,6 @@
-use Rattle.std.proofs.Common.{◌≡◌, ℕ, List, ◌<◌, sym, ap, ◌∙◌, subst}
-use Rattle.std.specs.Prelude.{sum, slice_index_or}
-use Rattle.awari_rank.specs.Rank.{rank_of, size_of}
-use Rattle.awari_table.specs.Images.{no_entry}
-use Rattle.awari_c.specs.Told.{told_entry}
-use Rattle.awari_c.proofs.Mapping.{told_in_file}
+use Rattle.std.proofs.Common.{ℕ, List, subst}
+use Rattle.awari_c.specs.Files.{TellsEntry}
 use Rattle.awari_c.proofs.files.awari_probe_file.Goals as goal
 
 pub returns-clause-entry : goal.returns-clause-entry
-returns-clause-entry c = λ _ version image below has level text.
-    let k = c.rank-place.result in let said = c.told_by-found.ensures in let is : c.in-Ok.board ≡ c.args.pits.now = c.in-Ok.ensures.board.0 in
-    let low : k < size_of image.level = subst (λ (n : ℕ). k < size_of n) (ap (λ (p : List ℕ). sum p) is ∙ sym level) c.rank-place.ensures.below in
-    told_in_file version image below c.args.bytes.now c.six_at.result.now k c.told_by-found.result has text low c.six_at.ensures.bytes said.value said.plan said.distance
-    ∙ ap (λ (n : ℕ). told_entry (slice_index_or image.entries n no_entry)) (c.rank-place.ensures.rank ∙ ap (λ (p : List ℕ). rank_of p) is)
+returns-clause-entry c = λ _. subst (λ (p : List ℕ). TellsEntry c.args.bytes.now p c.entry_at-found.result) c.in-Ok.ensures.board.0 c.entry_at-found.ensures

@@ -1,0 +1,73 @@
+/* The levels of a folder, for awari.h. Compile it in, or copy it. */
+#define _POSIX_C_SOURCE 200809L
+#include "awari.h"
+#include <errno.h>
+#include <fcntl.h>
+#include <stdio.h>
+#include <string.h>
+#include <sys/mman.h>
+#include <sys/stat.h>
+#include <unistd.h>
+
+/* The answer, with the level and the fault within. */
+static uint8_t refuse(uint8_t answer, uint8_t level, uint8_t inner, awari_fault *fault) {
+    memset(fault, 0, sizeof *fault);
+    fault->level = level;
+    fault->inner = inner;
+    return answer;
+}
+
+/* Maps one file; an empty one has no bytes to map. */
+static uint8_t map_file(int descriptor, uint8_t level, awari_file *file, awari_fault *fault) {
+    struct stat state;
+    if (fstat(descriptor, &state) || !S_ISREG(state.st_mode)) return refuse(AWARI_OPEN, level, 0, fault);
+    file->bytes = (const uint8_t *)"";
+    file->len = (size_t)state.st_size;
+    if (file->len == 0) return AWARI_OK;
+    void *bytes = mmap(NULL, file->len, PROT_READ, MAP_PRIVATE, descriptor, 0);
+    if (bytes == MAP_FAILED) return refuse(AWARI_FILE, level, AWARI_READ, fault);
+    file->bytes = (const uint8_t *)bytes;
+    return AWARI_OK;
+}
+
+uint8_t awari_map(const char *folder, unsigned most, awari_files *files, awari_fault *fault) {
+    awari_fault unasked;
+    if (!fault) fault = &unasked;
+    files->count = 0;
+    int place = open(folder, O_RDONLY | O_DIRECTORY | O_CLOEXEC);
+    if (place < 0) return refuse(AWARI_OPEN, 0, 0, fault);
+    uint8_t answer = AWARI_OK;
+    for (unsigned level = 0; level <= most && level <= 24 && !answer; level++) {
+        char name[24];
+        snprintf(name, sizeof name, "level_%02u.awdb", level);
+        int descriptor = openat(place, name, O_RDONLY | O_NONBLOCK | O_CLOEXEC);
+        if (descriptor < 0) {
+            if (errno != ENOENT) answer = refuse(AWARI_OPEN, (uint8_t)level, 0, fault);
+            break;
+        }
+        answer = map_file(descriptor, (uint8_t)level, &files->level[level], fault);
+        close(descriptor);
+        if (!answer) files->count++;
+    }
+    close(place);
+    if (answer) awari_unmap(files);
+    return answer;
+}
+
+void awari_unmap(awari_files *files) {
+    for (size_t i = 0; i < files->count; i++)
+        if (files->level[i].len) munmap((void *)files->level[i].bytes, files->level[i].len);
+    files->count = 0;
+}
+
+uint8_t awari_open(const char *folder, unsigned most, awari_handle *handle, awari_fault *fault) {
+    awari_fault unasked;
+    awari_files files;
+    if (!fault) fault = &unasked;
+    uint8_t answer = awari_map(folder, most, &files, fault);
+    for (size_t i = 0; i < files.count && !answer; i++)
+        answer = awari_add_level(handle, files.level[i].bytes, files.level[i].len, fault);
+    if (answer) awari_close(handle);
+    awari_unmap(&files);
+    return answer;
+}
