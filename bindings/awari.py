@@ -1,4 +1,4 @@
-"""Awari's endgame levels, by libawari.so, which `bindings/make` builds.
+"""Awari's endgame levels, by the library of awari.h: `pip install ./bindings`.
 
     with Levels("levels") as levels:
         print(levels.entry("1,0,0,0,0,0/0,0,1,0,0,0"))
@@ -6,24 +6,31 @@
             print(move)
 
 A board is its word, or the twelve numbers of its pits. `Levels` reads a folder and verifies each level,
-so what it says is right. A refusal is a `Refused`, with the number and the name of docs/FORMATS.md. The
-library lies beside this file, or where the environment's LIBAWARI says.
+so what it says is right. `Levels.mapped` answers from the files where they lie, and verifies nothing: that
+is the truth if `awari verify` says yes to these files, or if their last digest is one that you trust.
+A refusal is a `Refused`, with the number and the name of docs/FORMATS.md.
+
+The calls that give or take arrays want numpy. The rest wants nothing.
 """
 from __future__ import annotations
 
 import ctypes
+import mmap
 import os
-import re
+import threading
+from math import comb
 from pathlib import Path
+from struct import Struct
 from typing import NamedTuple, Sequence, Union
 
 HIGHEST_LEVEL = 24
+PITS = 12
 NO_PLAN = 255
 NAMES = {
     1: "Shape", 2: "Number", 3: "TooMany", 4: "NoPit", 5: "EmptyPit", 6: "MustFeed", 7: "Ended",
     20: "WrongLevel", 21: "WrongSize", 22: "Refused", 59: "NotYet", 60: "Truncated", 61: "Magic",
     62: "Version", 63: "LevelOutOfRange", 64: "Count", 65: "EntryForm", 66: "Digest", 67: "Trailing",
-    80: "Below", 81: "File", 83: "Verify", 84: "Memory", 86: "Old",
+    80: "Below", 81: "File", 82: "Open", 83: "Verify", 84: "Memory", 86: "Old",
 }
 
 Board = Union[str, Sequence[int]]
@@ -41,9 +48,17 @@ class Move(NamedTuple):
     """What a legal pit is worth."""
 
     pit: int
-    captured: int
+    captures: int
     value: int
     distance: int
+
+
+class Replies(NamedTuple):
+    """How many replies a legal pit leaves, and how many of them keep what the board is worth then."""
+
+    pit: int
+    replies: int
+    keep: int
 
 
 class Line(NamedTuple):
@@ -51,6 +66,18 @@ class Line(NamedTuple):
 
     moves: list[int]
     outcome: int
+
+
+class Counts(NamedTuple):
+    """A level in numbers: how many boards there are of each kind, value and distance."""
+
+    boards: int
+    won: int
+    even: int
+    lost: int
+    limit: int
+    values: dict[int, int]
+    distances: dict[int, int]
 
 
 class Refused(Exception):
@@ -63,6 +90,13 @@ class Refused(Exception):
         self.rule = f"V{fault.rule}" if fault and fault.rule else None
         self.rank = fault.rank if fault and fault.rule else None
         super().__init__(self._text())
+
+    @property
+    def sentence(self) -> str:
+        """What the refusal means, for a person."""
+        found = _Sentence()
+        _awari.awari_text_of(self.number, ctypes.addressof(found))
+        return found.text.decode()
 
     def _text(self) -> str:
         text = f"{self.number} {self.name}"
@@ -79,142 +113,169 @@ class _Handle(ctypes.Structure):
     _fields_ = [("at", ctypes.c_void_p), ("open", ctypes.c_bool)]
 
 
-class _Entry(ctypes.Structure):
-    _fields_ = [("value", ctypes.c_int8), ("plan", ctypes.c_uint8), ("distance", ctypes.c_uint32)]
-
-
-class _Move(ctypes.Structure):
-    _fields_ = [("legal", ctypes.c_bool), ("captured", ctypes.c_uint8), ("value", ctypes.c_int16), ("plies", ctypes.c_uint64)]
-
-
 class _Fault(ctypes.Structure):
     _fields_ = [("level", ctypes.c_uint8), ("inner", ctypes.c_uint8), ("rule", ctypes.c_uint8), ("rank", ctypes.c_uint32)]
 
 
-_Pits = ctypes.c_uint8 * 12
-_Moves = _Move * 6
-_at = ctypes.POINTER
+class _File(ctypes.Structure):
+    _fields_ = [("bytes", ctypes.c_void_p), ("len", ctypes.c_size_t)]
+
+
+class _Sentence(ctypes.Structure):
+    _fields_ = [("text", ctypes.c_char_p), ("size", ctypes.c_size_t)]
+
+
+_ENTRY = Struct("<bBxxI")
+_MOVE = Struct("<?BhI")
+_HEADER_BYTES = 52
+_ENTRY_BYTES = 6
+_LIMIT = Struct(">16xI")
+
+
+class _Scratch(threading.local):
+    """Where calls of one thread read and write. A call of the library takes addresses."""
+
+    def __init__(self) -> None:
+        self.pits, self.after = ctypes.create_string_buffer(PITS), ctypes.create_string_buffer(PITS)
+        self.entry, self.moves = ctypes.create_string_buffer(_ENTRY.size), ctypes.create_string_buffer(6 * _MOVE.size)
+        self.byte, self.size = ctypes.c_uint8(), ctypes.c_size_t()
+        self.pits_at, self.after_at = ctypes.addressof(self.pits), ctypes.addressof(self.after)
+        self.entry_at, self.moves_at = ctypes.addressof(self.entry), ctypes.addressof(self.moves)
+        self.byte_at, self.size_at = ctypes.addressof(self.byte), ctypes.addressof(self.size)
+
+
+_AT, _SIZE, _BYTE = ctypes.c_void_p, ctypes.c_size_t, ctypes.c_uint8
+_CALLS = {
+    "awari_version": (ctypes.c_uint32, []),
+    "awari_text_of": (None, [_BYTE, _AT]),
+    "awari_parse": (_BYTE, [ctypes.c_char_p, _SIZE, _AT]),
+    "awari_play": (_BYTE, [_AT, _BYTE, _AT, _AT]),
+    "awari_add_level": (_BYTE, [_AT, _AT, _SIZE, _AT]),
+    "awari_levels": (_BYTE, [_AT]),
+    "awari_probe": (_BYTE, [_AT, _AT, _AT]),
+    "awari_probe_moves": (_BYTE, [_AT, _AT, _AT]),
+    "awari_probe_many": (_BYTE, [_AT, _AT, _SIZE, _AT, _SIZE, _AT]),
+    "awari_line": (_BYTE, [_AT, _AT, _AT, _SIZE, _AT]),
+    "awari_share_with": (_BYTE, [_AT, _AT]),
+    "awari_close": (None, [_AT]),
+    "awari_probe_file": (_BYTE, [_AT, _SIZE, _AT, _AT]),
+    "awari_probe_moves_files": (_BYTE, [_AT, _SIZE, _AT, _AT]),
+    "awari_check_file": (_BYTE, [_AT, _SIZE, _AT, _AT]),
+}
 
 
 def _library() -> ctypes.CDLL:
-    beside = Path(__file__).resolve().parent / "libawari.so"
-    library = ctypes.CDLL(os.environ.get("LIBAWARI", str(beside)))
-    for name, takes in {
-        "awari_add_level": [_at(_Handle), ctypes.c_char_p, ctypes.c_size_t, _at(_Fault)],
-        "awari_levels": [_at(_Handle)],
-        "awari_probe": [_at(_Handle), _at(_Pits), _at(_Entry)],
-        "awari_probe_moves": [_at(_Handle), _at(_Pits), _at(_Moves)],
-        "awari_share": [_at(_Handle), _at(_Handle)],
-        "awari_play": [_at(_Pits), ctypes.c_uint8, _at(_Pits), _at(ctypes.c_uint8)],
-        "awari_close": [_at(_Handle)],
-    }.items():
-        function = getattr(library, name)
-        function.argtypes = takes
-        function.restype = None if name == "awari_close" else ctypes.c_uint8
+    """The library that the environment's LIBAWARI names, or that lies beside this file, or on the system's path."""
+    here = Path(__file__).resolve().parent
+    beside = [str(here / name) for name in ("libawari.so.0", "libawari.so") if (here / name).exists()]
+    path = os.environ.get("LIBAWARI") or (beside or ["libawari.so.0"])[0]
+    try:
+        library = ctypes.CDLL(path)
+    except OSError as error:
+        raise ImportError(
+            f"{error}: `pip install ./bindings` packs libawari.so.0 with this module, `bindings/make` puts it beside "
+            "it, and the environment's LIBAWARI may name it"
+        ) from None
+    for name, (gives, takes) in _CALLS.items():
+        try:
+            function = getattr(library, name)
+        except AttributeError:
+            raise ImportError(f"{path} has no {name}: it is of another version than this module") from None
+        function.restype, function.argtypes = gives, takes
     return library
 
 
 _awari = _library()
-_SHAPE = re.compile("[^,/]*(?:,[^,/]*){5}/[^,/]*(?:,[^,/]*){5}")
-_NUMBER = re.compile("0|[1-9][0-9]?")
+_parse, _probe, _probe_moves, _probe_file = (
+    _awari.awari_parse, _awari.awari_probe, _awari.awari_probe_moves, _awari.awari_probe_file,
+)
+_scratch = _Scratch()
+_SOME_BYTE = ctypes.c_uint8()
 
 
-def _pits(board: Board) -> ctypes.Array:
-    """The board's twelve pits. That they are at most 48 stones, the library sees to."""
+def version() -> str:
+    """The version of the library."""
+    number = _awari.awari_version()
+    return f"{number // 10000}.{number // 100 % 100}.{number % 100}"
+
+
+def _read(board: Board, pits: ctypes.Array, at: int) -> None:
+    """Writes the board's twelve pits there. That they are at most 48 stones, the library sees to."""
     if isinstance(board, str):
-        if not _SHAPE.fullmatch(board):
-            raise Refused(1)
-        fields = re.split("[,/]", board)
-        if not all(_NUMBER.fullmatch(field) for field in fields):
-            raise Refused(2)
-        board = [int(field) for field in fields]
-    pits = list(board)
-    if len(pits) != 12:
+        word = board.encode("utf-8", "surrogatepass")
+        answer = _parse(word, len(word), at)
+        if answer:
+            raise Refused(answer)
+        return
+    try:
+        stones = bytes(list(board))
+    except ValueError:
+        raise Refused(2) from None
+    except TypeError:
+        raise TypeError("a board is its word, or the twelve whole numbers of its pits") from None
+    if len(stones) != PITS:
         raise Refused(1)
-    if not all(0 <= stones < 100 for stones in pits):
-        raise Refused(2)
-    return _Pits(*pits)
+    pits.raw = stones
 
 
-def _expect(number: int, fault: _Fault | None = None) -> None:
-    if number:
-        raise Refused(number, fault)
+def _expect(answer: int, fault: _Fault | None = None) -> None:
+    if answer:
+        raise Refused(answer, fault)
 
 
 def play(board: Board, pit: int) -> tuple[list[int], int]:
     """The board after a move, as the other player sees it, and the stones captured."""
-    if not 0 <= pit <= 255:
-        raise Refused(4)
-    after, captured = _Pits(), ctypes.c_uint8()
-    _expect(_awari.awari_play(_pits(board), pit, after, captured))
-    return list(after), captured.value
+    at = _scratch
+    _read(board, at.pits, at.pits_at)
+    _expect(_awari.awari_play(at.pits_at, pit if 0 <= pit <= 255 else 255, at.after_at, at.byte_at))
+    return list(at.after.raw), at.byte.value
 
 
-class Levels:
-    """The levels of a folder, each verified: level 0 up to the first whose file is not there.
+def size(level: int) -> int:
+    """How many boards a level has."""
+    return comb(level + PITS - 1, PITS - 1)
 
-    With `most`, levels of more stones are not read. An object is for one thread at a time; `share` gives
-    another thread one of its own.
-    """
 
-    def __init__(self, folder: str | os.PathLike, most: int = HIGHEST_LEVEL):
-        self._handle, self._limits = _Handle(), []
-        fault = _Fault()
-        for level in range(most + 1):
-            path = Path(folder) / f"level_{level:02}.awdb"
-            if not path.exists():
-                return
-            file = path.read_bytes()
-            number = _awari.awari_add_level(self._handle, file, len(file), fault)
-            if number:
-                self.close()
-            _expect(number, fault)
-            # Verified: a level's limit is its greatest distance.
-            self._limits.append(int.from_bytes(file[16:20], "big"))
+class _Answers:
+    """What levels are asked for, wherever they lie."""
 
     def __len__(self) -> int:
-        return _awari.awari_levels(self._handle)
+        """How many levels there are."""
+        raise NotImplementedError
 
     def entry(self, board: Board) -> Entry:
         """What the levels say of a board."""
-        found = _Entry()
-        _expect(_awari.awari_probe(self._handle, _pits(board), found))
-        return Entry(found.value, None if found.plan == NO_PLAN else found.plan, found.distance)
+        raise NotImplementedError
 
     def moves(self, board: Board) -> list[Move]:
         """What each legal pit is worth, ascending; none if the play has ended."""
-        found = _Moves()
-        _expect(_awari.awari_probe_moves(self._handle, _pits(board), found))
-        return [Move(pit, move.captured, move.value, move.plies) for pit, move in enumerate(found) if move.legal]
+        raise NotImplementedError
 
     def line(self, board: Board) -> Line:
         """The play by the plans of both sides, to its first outcome by the limit of the levels up to the board's."""
-        pits = list(_pits(board))
-        entry = self.entry(pits)
-        limit = max(self._limits[: sum(pits) + 1])
-        moves, running, quiet, side = [], 0, 0, 1
-        while entry.plan is not None and quiet <= limit:
-            moves.append(entry.plan)
-            pits, captured = play(pits, entry.plan)
-            running += side * captured
-            quiet = 0 if captured else quiet + 1
-            side = -side
-            entry = self.entry(pits)
-        # The value of an ended board is what its mover gains by the end.
-        return Line(moves, running + side * entry.value if entry.plan is None else running)
+        raise NotImplementedError
 
-    def share(self) -> Levels:
-        """The same levels for another thread. None is copied."""
-        shared = Levels.__new__(Levels)
-        shared._handle, shared._limits = _Handle(), self._limits
-        _expect(_awari.awari_share(self._handle, shared._handle))
-        return shared
+    def replies(self, board: Board) -> list[Replies]:
+        """How many replies each legal pit leaves, and how many of them keep what the board is worth then."""
+        found = []
+        for move in self.moves(board):
+            after, _ = play(board, move.pit)
+            value, replies = self.entry(after).value, self.moves(after)
+            found.append(Replies(move.pit, len(replies), sum(reply.value == value for reply in replies)))
+        return found
 
-    def close(self) -> None:
-        """Gives the levels back, if no other object shares them."""
-        _awari.awari_close(self._handle)
+    def longest(self, board: Board) -> list[int]:
+        """The play in which the losing side holds out, to the first capture or the end: as many plies as the distance."""
+        pits = []
+        for _ in range(self.entry(board).distance):
+            entry = self.entry(board)
+            # The losing side plays its lowest pit that takes longest.
+            pit = entry.plan if entry.value > 0 else next(m.pit for m in self.moves(board) if m.distance == entry.distance)
+            pits.append(pit)
+            board, _ = play(board, pit)
+        return pits
 
-    def __enter__(self) -> Levels:
+    def __enter__(self):
         return self
 
     def __exit__(self, *_: object) -> None:
@@ -222,3 +283,291 @@ class Levels:
 
     def __del__(self) -> None:
         self.close()
+
+    def close(self) -> None:
+        raise NotImplementedError
+
+
+class Levels(_Answers):
+    """The levels of a folder, each verified: level 0 up to the first whose file is not there.
+
+    With `most`, levels of more stones are not read. An object is for one thread at a time; `share` gives
+    another thread one of its own.
+    """
+
+    def __init__(self, folder: str | os.PathLike, most: int = HIGHEST_LEVEL):
+        self._handle = _Handle()
+        self._at = ctypes.addressof(self._handle)
+        fault = _Fault()
+        with Mapped(folder, most) as files:
+            for file in files._files:
+                answer = _awari.awari_add_level(self._at, file.bytes, file.len, ctypes.addressof(fault))
+                if answer:
+                    self.close()
+                _expect(answer, fault)
+
+    @staticmethod
+    def mapped(folder: str | os.PathLike, most: int = HIGHEST_LEVEL) -> Mapped:
+        """The levels of a folder in their files, where they lie. Nothing is loaded, and nothing is verified."""
+        return Mapped(folder, most)
+
+    def __len__(self) -> int:
+        return _awari.awari_levels(self._at)
+
+    def entry(self, board: Board) -> Entry:
+        at = _scratch
+        _read(board, at.pits, at.pits_at)
+        return _entry(_probe(self._at, at.pits_at, at.entry_at), at.entry)
+
+    def moves(self, board: Board) -> list[Move]:
+        at = _scratch
+        _read(board, at.pits, at.pits_at)
+        _expect(_probe_moves(self._at, at.pits_at, at.moves_at))
+        return _moves(at.moves)
+
+    def line(self, board: Board) -> Line:
+        at = _scratch
+        _read(board, at.pits, at.pits_at)
+        value, room = self.entry(list(at.pits.raw)).value, 64
+        while True:
+            pits = ctypes.create_string_buffer(room)
+            _expect(_awari.awari_line(self._at, at.pits_at, ctypes.addressof(pits), room, at.size_at))
+            if at.size.value <= room:
+                return Line(list(pits.raw[: at.size.value]), value)
+            room = at.size.value
+
+    def probe_many(self, boards):
+        """What the levels say of an array of boards, twelve pits each: an array of value, plan and distance."""
+        import numpy
+
+        boards = _pits_of(boards)
+        found = numpy.empty(len(boards), _entry_type(numpy, "<"))
+        told = ctypes.c_size_t()
+        _expect(_awari.awari_probe_many(self._at, boards.ctypes.data, len(boards), found.ctypes.data, len(found), ctypes.addressof(told)))
+        return found
+
+    def share(self) -> Levels:
+        """The same levels for another thread. None is copied."""
+        shared = Levels.__new__(Levels)
+        shared._handle = _Handle()
+        shared._at = ctypes.addressof(shared._handle)
+        _expect(_awari.awari_share_with(self._at, shared._at))
+        return shared
+
+    def close(self) -> None:
+        """Gives the levels back, if no other object shares them."""
+        _awari.awari_close(self._at)
+
+
+class Mapped(_Answers):
+    """The levels of a folder in their files, where they lie: level 0 up to the first whose file is not there.
+
+    It opens at once, and takes no memory for levels. Nothing is verified; `check` compares the files with a
+    digest that you trust. Any number of threads may ask at once.
+    """
+
+    def __init__(self, folder: str | os.PathLike, most: int = HIGHEST_LEVEL):
+        self._maps: list[mmap.mmap | bytes] = []
+        self._files = (_File * 0)()
+        if not os.path.isdir(folder):
+            raise Refused(82, _Fault())
+        for level in range(most + 1):
+            try:
+                with open(Path(folder) / f"level_{level:02}.awdb", "rb") as file:
+                    self._maps.append(_map(file))
+            except FileNotFoundError:
+                break
+            except OSError:
+                raise Refused(82, _Fault(level)) from None
+        self._files = (_File * len(self._maps))(*map(_place, self._maps))
+
+    def __len__(self) -> int:
+        return len(self._maps)
+
+    def _file(self, level: int) -> _File:
+        if not 0 <= level < len(self._maps):
+            raise Refused(59)
+        return self._files[level]
+
+    def entry(self, board: Board) -> Entry:
+        at = _scratch
+        _read(board, at.pits, at.pits_at)
+        stones = sum(at.pits.raw)
+        if stones > 48:
+            raise Refused(3)
+        file = self._file(stones)
+        return _entry(_probe_file(file.bytes, file.len, at.pits_at, at.entry_at), at.entry)
+
+    def moves(self, board: Board) -> list[Move]:
+        at = _scratch
+        _read(board, at.pits, at.pits_at)
+        _expect(_awari.awari_probe_moves_files(ctypes.addressof(self._files), len(self._files), at.pits_at, at.moves_at))
+        return _moves(at.moves)
+
+    def line(self, board: Board) -> Line:
+        entry = self.entry(board)
+        pits = list(_scratch.pits.raw)
+        limit = max(self.limit(level) for level in range(sum(pits) + 1))
+        moves, running, quiet, side = [], 0, 0, 1
+        while entry.plan is not None and quiet <= limit:
+            moves.append(entry.plan)
+            pits, captures = play(pits, entry.plan)
+            running += side * captures
+            quiet = 0 if captures else quiet + 1
+            side = -side
+            entry = self.entry(pits)
+        # The value of an ended board is what its mover gains by the end.
+        return Line(moves, running + side * entry.value if entry.plan is None else running)
+
+    def limit(self, level: int) -> int:
+        """The level's greatest distance, as its file says."""
+        if self._file(level).len < _HEADER_BYTES:
+            raise Refused(60)
+        return _LIMIT.unpack_from(self._maps[level])[0]
+
+    def check(self, digest: str) -> bool:
+        """Whether the last file ends in this digest, in hexadecimal, and each file is one over the file below it.
+
+        Form and digests are judged, and not the entries. A file at fault is a `Refused`. It reads all bytes.
+        """
+        below, own = ctypes.create_string_buffer(32), ctypes.create_string_buffer(32)
+        for level, file in enumerate(self._files):
+            answer = _awari.awari_check_file(file.bytes, file.len, ctypes.addressof(below), ctypes.addressof(own))
+            if 60 <= answer <= 67:
+                raise Refused(81, _Fault(level, answer))
+            _expect(answer, _Fault(level))
+            below.raw = own.raw
+        return below.raw.hex() == digest.lower()
+
+    def entries(self, level: int):
+        """The level's entries by rank, as an array over the mapped file: value, plan and distance."""
+        import numpy
+
+        if self._file(level).len < _HEADER_BYTES + _ENTRY_BYTES * size(level):
+            raise Refused(60)
+        return numpy.frombuffer(self._maps[level], _entry_type(numpy, ">"), size(level), _HEADER_BYTES)
+
+    def values(self, level: int):
+        """The level's values by rank, as an array over the mapped file."""
+        return self.entries(level)["value"]
+
+    def probe_many(self, boards):
+        """What the files say of an array of boards, twelve pits each: an array of value, plan and distance."""
+        import numpy
+
+        boards = _pits_of(boards)
+        levels, ranks = rank_many(boards)
+        found = numpy.empty(len(boards), _entry_type(numpy, "<"))
+        for level in numpy.unique(levels):
+            here = levels == level
+            found[here] = self.entries(int(level))[ranks[here]]
+        return found
+
+    def counts(self, level: int) -> Counts:
+        """The level in numbers, as `awari counts` prints them."""
+        import numpy
+
+        entries = self.entries(level)
+        value, distance = entries["value"], entries["distance"]
+        won, lost = int((value > 0).sum()), int((value < 0).sum())
+        numbers = [dict(zip(map(int, found), map(int, times))) for found, times in (
+            numpy.unique(value, return_counts=True), numpy.unique(distance, return_counts=True),
+        )]
+        return Counts(len(entries), won, len(entries) - won - lost, lost, self.limit(level), *numbers)
+
+    def close(self) -> None:
+        """Gives the files back. An array over a file keeps that file's bytes as long as it lives."""
+        self._files, self._maps = (_File * 0)(), []
+
+
+def _map(file) -> mmap.mmap | bytes:
+    """The bytes of a file, where they lie."""
+    length = os.fstat(file.fileno()).st_size
+    if length == 0:
+        return b""
+    # An address is given of what may be written alone; what is written so would stay in this process.
+    flags = mmap.MAP_PRIVATE | getattr(mmap, "MAP_NORESERVE", 0)
+    return mmap.mmap(file.fileno(), length, flags, mmap.PROT_READ | mmap.PROT_WRITE)
+
+
+def _place(content: mmap.mmap | bytes) -> tuple[int, int]:
+    """The address and the length of mapped bytes. An empty file has some address."""
+    if not content:
+        return ctypes.addressof(_SOME_BYTE), 0
+    return ctypes.addressof(ctypes.c_char.from_buffer(content)), len(content)
+
+
+def _entry(answer: int, found: ctypes.Array) -> Entry:
+    """What a look-up has found, unless it is refused."""
+    if answer:
+        raise Refused(answer)
+    value, plan, distance = _ENTRY.unpack_from(found)
+    return Entry(value, None if plan == NO_PLAN else plan, distance)
+
+
+def _moves(found: ctypes.Array) -> list[Move]:
+    rows = enumerate(_MOVE.iter_unpack(found))
+    return [Move(pit, captures, value, distance) for pit, (legal, captures, value, distance) in rows if legal]
+
+
+def _entry_type(numpy, order: str):
+    """The type of entries: those of a file, big-endian, or those of the library."""
+    if order == ">":
+        return numpy.dtype([("value", "i1"), ("plan", "u1"), ("distance", ">u4")])
+    return numpy.dtype([("value", "i1"), ("plan", "u1"), ("distance", "<u4")], align=True)
+
+
+def _pits_of(boards):
+    """An array of boards as rows of twelve bytes."""
+    import numpy
+
+    boards = numpy.asarray(boards)
+    if boards.ndim != 2 or boards.shape[1] != PITS:
+        raise Refused(1)
+    if boards.dtype != numpy.uint8:
+        if not numpy.issubdtype(boards.dtype, numpy.integer):
+            raise TypeError("boards are rows of twelve whole numbers")
+        if boards.size and not (0 <= boards.min() and boards.max() < 256):
+            raise Refused(2)
+    return numpy.ascontiguousarray(boards, numpy.uint8)
+
+
+def rank_many(boards):
+    """The levels and the ranks of an array of boards, twelve pits each, of at most 24 stones."""
+    import numpy
+
+    boards = _pits_of(boards)
+    left = boards.sum(axis=1, dtype=numpy.int64)
+    levels, ranks = left.copy(), numpy.zeros(len(boards), numpy.int64)
+    if len(levels) and levels.max() > HIGHEST_LEVEL:
+        raise Refused(59 if levels.max() <= 48 else 3)
+    for pit in range(PITS - 1):
+        before = _before(numpy, PITS - 1 - pit)
+        ranks += before[left]
+        left -= boards[:, pit]
+        ranks -= before[left]
+    return levels, ranks
+
+
+def boards(level: int, ranks):
+    """The boards of an array of ranks of a level, twelve pits each."""
+    import numpy
+
+    ranks = numpy.array(ranks, numpy.int64)
+    if len(ranks) and not (0 <= ranks.min() and ranks.max() < size(level)):
+        raise IndexError(f"level {level} has ranks 0 to {size(level) - 1}")
+    found, left = numpy.zeros((len(ranks), PITS), numpy.uint8), numpy.full(len(ranks), level, numpy.int64)
+    for pit in range(PITS - 1):
+        before = _before(numpy, PITS - 1 - pit)
+        # The stones that stay behind this pit are the fewest that leave room for the rank.
+        stay = numpy.searchsorted(before, before[left] - ranks)
+        found[:, pit] = left - stay
+        ranks -= before[left] - before[stay]
+        left = stay
+    found[:, PITS - 1] = left
+    return found
+
+
+def _before(numpy, pits: int):
+    """For each number of stones: in how many ways at most so many lie in so many pits."""
+    return numpy.array([comb(stones + pits, pits) for stones in range(HIGHEST_LEVEL + 1)], numpy.int64)

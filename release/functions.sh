@@ -1,5 +1,6 @@
 # shellcheck shell=bash disable=SC2154
-# Functions of ./awari, ./prove, ./test and release/make, which set `top` to the repository's folder.
+# Functions of ./awari, ./install, ./prove, ./test, bindings/make and release/make, which set `top` to the
+# repository's folder.
 
 # the digest of the sources: of the list of crates, and of the code, definitions and proofs of each crate
 sources_digest() {
@@ -10,19 +11,42 @@ sources_digest() {
   )
 }
 
+# the folder for what is kept between two runs: out/, or one of the user's if nothing can be written there
+kept_folder() {
+  local folder
+  for folder in "$top/out" "${XDG_CACHE_HOME:-${HOME:-/nonexistent}/.cache}/luqhimay"; do
+    if mkdir -p "$folder" 2>/dev/null && [ -w "$folder" ]; then
+      echo "$folder"
+      return
+    fi
+  done
+  fail "nothing can be written to $top/out, nor to $folder; set XDG_CACHE_HOME to a folder where that can be"
+}
+
 # the same digest, hashed anew only if a file has changed since the last time: its name, its size, when it
 # was written, or when anything of it was changed, which no program can set
 known_digest() {
-  local files was digest kept=$top/out/digest
+  local files was digest kept=$1/digest
   files=$(cd "$top" && find crates.txt crates/*/src crates/*/specs crates/*/proofs -type f -printf '%p %s %T@ %C@\n' | sha256sum | cut -c 1-64)
   if ! { read -r was digest <"$kept"; } 2>/dev/null || [ "$was" != "$files" ]; then
     digest=$(sources_digest)
-    mkdir -p "$top/out" && echo "$files $digest" >"$kept.$$" && mv "$kept.$$" "$kept"
+    echo "$files $digest" >"$kept.$$" && mv "$kept.$$" "$kept"
   fi
   echo "$digest"
 }
 
-# what the manifest says under this word: `program`, `sources` or `toolchain`
+# the first sources that are not those of the shipped program, as far as git knows
+changed_sources() {
+  local shipped
+  shipped=$(git -C "$top" log -1 --format=%H -- release/MANIFEST 2>/dev/null) || return 0
+  [ -n "$shipped" ] || return 0
+  {
+    git -C "$top" diff --name-only "$shipped" -- crates.txt crates
+    git -C "$top" ls-files --others --exclude-standard -- crates
+  } 2>/dev/null | grep -E '^(crates\.txt|crates/[^/]+/(src|specs|proofs)/.*)$' | head -n 3
+}
+
+# what the manifest says under this word: `program`, `library`, `archive`, `sources`, `toolchain`, `linker`
 manifest() { sed -n "s/^$1 //p" "$top/release/MANIFEST"; }
 
 # says it, but only to a person who looks on
@@ -33,13 +57,22 @@ fail() {
   exit 1
 }
 
-# keeps a program under this name in out/, in place of those kept before; the move is one step, so
+# keeps a program under this name in the folder, in place of those kept before; the move is one step, so
 # that nobody who starts at the same time runs half a program
 keep() {
-  local from=$1 name=$2
+  local from=$1 folder=$2 name=$3
   chmod 755 "$from"
-  find "$top/out" -maxdepth 1 -name 'awari-*' ! -name "$name" -delete
-  mv "$from" "$top/out/$name"
+  find "$folder" -maxdepth 1 -name 'awari-*' ! -name "$name" -delete
+  mv "$from" "$folder/$name"
+}
+
+# the file is the one that the manifest names under this word; if not, it goes
+expect_shipped() {
+  local file=$1 word=$2 from=$3
+  if [ "$(sha256sum <"$file" | cut -c 1-64)" != "$(manifest "$word")" ]; then
+    rm -f "$file"
+    fail "$from is not the $word that release/MANIFEST names"
+  fi
 }
 
 # unpacks the program that is shipped to this file, which stays only if it is the one that the manifest
@@ -47,23 +80,56 @@ keep() {
 unpack() {
   if ! xz -dc "$top/release/awari-x86_64.xz" >"$1"; then
     rm -f "$1"
-    fail "release/awari-x86_64.xz can't be unpacked by xz"
+    fail "release/awari-x86_64.xz can't be unpacked by xz to $1"
   fi
-  if [ "$(sha256sum <"$1" | cut -c 1-64)" != "$(manifest program)" ]; then
-    rm -f "$1"
-    fail "release/awari-x86_64.xz is not the program that release/MANIFEST names"
-  fi
+  expect_shipped "$1" program release/awari-x86_64.xz
 }
 
-# proves and builds the program in this copy of the repository; what the build says is shown if it fails
-build_in() {
-  local log
-  command -v rt >/dev/null || fail "to prove and build the program, the toolchain's rt has to be on the path"
+# unpacks the library that is shipped into this folder: libawari.a and libawari.so.0
+unpack_library() {
+  if ! xz -dc "$top/release/libawari-x86_64.tar.xz" | tar -x -C "$1" libawari.a libawari.so.0; then
+    fail "release/libawari-x86_64.tar.xz can't be unpacked by xz and tar to $1"
+  fi
+  expect_shipped "$1/libawari.a" archive release/libawari-x86_64.tar.xz
+  expect_shipped "$1/libawari.so.0" library release/libawari-x86_64.tar.xz
+}
+
+# proves and builds one crate in this copy of the repository; what the build says is shown if it fails
+build_crate() {
+  local copy=$1 crate=$2 log
+  shift 2
+  command -v rt >/dev/null || fail "to prove and build $crate, the toolchain's rt has to be on the path"
   log=$(mktemp)
-  if ! (cd "$1/crates/awari" && rt run -- check) </dev/null >"$log" 2>&1; then
+  if ! (cd "$copy/crates/$crate" && rt "$@") </dev/null >"$log" 2>&1; then
     cat "$log" >&2
     rm -f "$log"
-    fail "the program could not be built"
+    fail "$crate could not be built"
   fi
   rm -f "$log"
+}
+
+# proves and builds the program in this copy of the repository
+build_in() { build_crate "$1" awari run -- check; }
+
+# proves the library in this copy of the repository, and links it into a folder
+build_library_in() {
+  build_crate "$1" awari_c lib
+  link_library "$1/crates/awari_c/out/libawari_c.a" "$2"
+}
+
+# what links the shared library
+linker() { "${CC:-cc}" -Wl,--version 2>/dev/null | head -n 1; }
+
+# makes libawari.a and libawari.so.0 in a folder of what the toolchain built of `awari_c`, and of the part
+# of the C library that the toolchain brings
+link_library() {
+  local built=$1 to=$2 kit
+  kit=$(dirname "$(rt doc)")
+  rm -f "$to/libawari.a"
+  printf '%s\n' "create $to/libawari.a" "addlib $built" "addlib $kit/c/liblibc_c.a" save end | ar -M
+  # a program sees the calls of awari.h, and no other name
+  printf '%s\n' '{ global: awari_*; local: *; };' >"$to/names"
+  "${CC:-cc}" -shared -o "$to/libawari.so.0" -Wl,-soname,libawari.so.0 -Wl,--version-script="$to/names" \
+    -Wl,--whole-archive "$to/libawari.a" -Wl,--no-whole-archive
+  rm "$to/names"
 }

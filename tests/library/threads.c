@@ -1,63 +1,77 @@
-/* Eight threads ask the same levels at once, each by a handle of its own: threads FOLDER. */
+/* Eight threads ask the same levels at once: each by a handle of its own, and all in the same mapped files.
+ * threads FOLDER */
+#define _POSIX_C_SOURCE 200809L
 #include "awari.h"
 #include <pthread.h>
-#include <stdio.h>
-#include <stdlib.h>
 #include <string.h>
 
-enum { THREADS = 8, BOARDS = 200000 };
+enum { THREADS = 8, BOARDS = 20000 };
 
 static int levels;
+static awari_files files;
 
-/* The sum of what many boards are worth, which is the same for each thread. */
-static void *ask(void *handle) {
-    uint64_t seed = 88172645463325252u, sum = 0;
-    for (int i = 0; i < BOARDS; i++) {
-        uint8_t pits[12] = {0};
-        awari_entry entry;
-        awari_move moves[6];
-        for (int stone = 1; stone < levels; stone++) {
-            seed ^= seed << 13, seed ^= seed >> 7, seed ^= seed << 17;
-            pits[seed % 12]++;
-        }
-        if (awari_probe(handle, pits, &entry) || awari_probe_moves(handle, pits, moves)) return NULL;
-        sum += (uint64_t)entry.value * 31 + entry.distance;
-        for (int pit = 0; pit < 6; pit++) sum = sum * 7 + (uint64_t)moves[pit].value + moves[pit].plies;
+typedef struct {
+    awari_handle handle;
+    uint64_t sum;
+    int wrong;
+} asker;
+
+/* The next board of a row that is the same for each thread, of the highest level. */
+static void next(uint64_t *seed, uint8_t pits[12]) {
+    memset(pits, 0, 12);
+    for (int stone = 1; stone < levels; stone++) {
+        *seed ^= *seed << 13, *seed ^= *seed >> 7, *seed ^= *seed << 17;
+        pits[*seed % 12]++;
     }
-    uint64_t *result = malloc(sizeof sum);
-    if (result) *result = sum;
-    return result;
+}
+
+static int are_same(const awari_move moves[6], const awari_move others[6]) {
+    for (int pit = 0; pit < 6; pit++)
+        if (moves[pit].legal != others[pit].legal || moves[pit].captures != others[pit].captures ||
+            moves[pit].value != others[pit].value || moves[pit].distance != others[pit].distance)
+            return 0;
+    return 1;
+}
+
+/* Adds up what many boards are worth, which is the same for each thread. */
+static void *ask(void *given) {
+    asker *self = (asker *)given;
+    uint64_t seed = 88172645463325252u;
+    for (int i = 0; i < BOARDS && !self->wrong; i++) {
+        uint8_t pits[12], line[64];
+        awari_entry entry, filed;
+        awari_move moves[6], others[6];
+        size_t long_as;
+        int8_t value;
+        next(&seed, pits);
+        self->wrong = awari_probe(&self->handle, pits, &entry) || awari_probe_moves(&self->handle, pits, moves) ||
+                      awari_probe_value(&self->handle, pits, &value) ||
+                      awari_line(&self->handle, pits, line, sizeof line, &long_as) ||
+                      awari_probe_file(files.level[levels - 1].bytes, files.level[levels - 1].len, pits, &filed) ||
+                      awari_probe_moves_files(files.level, files.count, pits, others) || value != entry.value ||
+                      filed.value != entry.value || filed.plan != entry.plan || filed.distance != entry.distance ||
+                      !are_same(moves, others);
+        self->sum = self->sum * 31 + (uint64_t)value * 7 + entry.distance + long_as;
+    }
+    return NULL;
 }
 
 int main(int argc, char **argv) {
-    awari_handle first = AWARI_CLOSED, handles[THREADS];
+    awari_handle first = AWARI_CLOSED;
+    static asker askers[THREADS];
     pthread_t threads[THREADS];
-    uint64_t *sums[THREADS];
-    int wrong = argc != 2;
-    memset(handles, 0, sizeof handles);
-    for (int level = 0; level <= 24 && !wrong; level++) {
-        char path[4096];
-        awari_fault fault;
-        snprintf(path, sizeof path, "%s/level_%02d.awdb", argv[1], level);
-        FILE *file = fopen(path, "rb");
-        if (!file) break;
-        fseek(file, 0, SEEK_END);
-        size_t len = (size_t)ftell(file);
-        rewind(file);
-        uint8_t *bytes = malloc(len);
-        wrong |= !bytes || fread(bytes, 1, len, file) != len || awari_add_level(&first, bytes, len, &fault) != 0;
-        free(bytes);
-        fclose(file);
-    }
+    int wrong = argc != 2 || awari_open(argv[1], 24, &first, NULL) || awari_map(argv[1], 24, &files, NULL);
     levels = awari_levels(&first);
-    for (int i = 0; i < THREADS; i++) wrong |= awari_share(&first, &handles[i]) != 0;
+    for (int i = 0; i < THREADS; i++) wrong |= awari_share(&first, &askers[i].handle) != 0;
     awari_close(&first); /* the others keep the levels */
-    for (int i = 0; i < THREADS; i++) wrong |= pthread_create(&threads[i], NULL, ask, &handles[i]) != 0;
+    if (wrong) return 1;
+    for (int i = 0; i < THREADS; i++)
+        if (pthread_create(&threads[i], NULL, ask, &askers[i])) return 1;
     for (int i = 0; i < THREADS; i++) {
-        pthread_join(threads[i], (void **)&sums[i]);
-        awari_close(&handles[i]);
-        wrong |= !sums[i] || !sums[0] || *sums[i] != *sums[0];
+        pthread_join(threads[i], NULL);
+        awari_close(&askers[i].handle);
+        wrong |= askers[i].wrong || askers[i].sum != askers[0].sum;
     }
-    for (int i = 0; i < THREADS; i++) free(sums[i]);
+    awari_unmap(&files);
     return wrong;
 }

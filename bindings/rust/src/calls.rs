@@ -1,0 +1,79 @@
+//! The calls of `awari.h`.
+
+use std::ffi::{c_char, c_void};
+use std::ptr;
+
+/// Levels in memory. It begins closed, stays where it is, and is closed before it goes.
+#[repr(C)]
+pub(crate) struct Handle {
+    at: *mut c_void,
+    open: bool,
+}
+
+impl Handle {
+    pub(crate) const CLOSED: Handle = Handle { at: ptr::null_mut(), open: false };
+}
+
+#[repr(C)]
+#[derive(Clone, Copy, Default)]
+pub(crate) struct PlainEntry {
+    pub(crate) value: i8,
+    pub(crate) plan: u8,
+    pub(crate) distance: u32,
+}
+
+#[repr(C)]
+#[derive(Clone, Copy, Default)]
+pub(crate) struct PlainMove {
+    pub(crate) legal: bool,
+    pub(crate) captures: u8,
+    pub(crate) value: i16,
+    pub(crate) distance: u32,
+}
+
+#[repr(C)]
+#[derive(Clone, Copy, Default)]
+pub(crate) struct PlainFault {
+    pub(crate) level: u8,
+    pub(crate) inner: u8,
+    pub(crate) rule: u8,
+    pub(crate) rank: u32,
+}
+
+#[repr(C)]
+pub(crate) struct Sentence {
+    pub(crate) text: *const c_char,
+    pub(crate) size: usize,
+}
+
+extern "C" {
+    pub(crate) fn awari_text_of(answer: u8, sentence: *mut Sentence);
+    pub(crate) fn awari_parse(text: *const u8, len: usize, pits: *mut [u8; 12]) -> u8;
+    pub(crate) fn awari_legal(pits: *const [u8; 12]) -> u8;
+    pub(crate) fn awari_play(pits: *const [u8; 12], pit: u8, out: *mut [u8; 12], captures: *mut u8) -> u8;
+    pub(crate) fn awari_size(level: u8) -> u32;
+    pub(crate) fn awari_rank(pits: *const [u8; 12], level: *mut u8, rank: *mut u32) -> u8;
+    pub(crate) fn awari_board(level: u8, rank: u32, pits: *mut [u8; 12]) -> u8;
+    pub(crate) fn awari_add_level(handle: *mut Handle, bytes: *const u8, len: usize, fault: *mut PlainFault) -> u8;
+    pub(crate) fn awari_levels(handle: *mut Handle) -> u8;
+    pub(crate) fn awari_probe(handle: *mut Handle, pits: *const [u8; 12], out: *mut PlainEntry) -> u8;
+    pub(crate) fn awari_probe_value(handle: *mut Handle, pits: *const [u8; 12], value: *mut i8) -> u8;
+    pub(crate) fn awari_probe_moves(handle: *mut Handle, pits: *const [u8; 12], out: *mut [PlainMove; 6]) -> u8;
+    pub(crate) fn awari_probe_many(
+        handle: *mut Handle,
+        boards: *const u8,
+        count: usize,
+        out: *mut PlainEntry,
+        room: usize,
+        told: *mut usize,
+    ) -> u8;
+    pub(crate) fn awari_line(
+        handle: *mut Handle,
+        pits: *const [u8; 12],
+        out: *mut u8,
+        room: usize,
+        moves: *mut usize,
+    ) -> u8;
+    pub(crate) fn awari_share_with(from: *mut Handle, to: *mut Handle) -> u8;
+    pub(crate) fn awari_close(handle: *mut Handle);
+}

@@ -1,0 +1,213 @@
+//! Levels in memory, each verified before it is kept.
+
+use crate::boards::Board;
+use crate::calls::{
+    awari_add_level, awari_close, awari_levels, awari_line, awari_probe, awari_probe_many, awari_probe_moves,
+    awari_probe_value, awari_share_with, Handle, PlainEntry, PlainFault, PlainMove,
+};
+use crate::refusals::{refused, refused_with, Refusal};
+use crate::HIGHEST_LEVEL;
+use std::fs;
+use std::io::ErrorKind;
+use std::path::Path;
+use std::sync::{Mutex, MutexGuard, PoisonError};
+
+/// What the levels say of a board.
+#[derive(Clone, Copy, Debug, PartialEq, Eq)]
+pub struct Entry {
+    /// What the mover can still gain, in stones.
+    pub value: i8,
+    /// The pit to play; none if the play has ended.
+    pub plan: Option<u8>,
+    /// The plies within which a capture or the end comes; 0 if the value is 0.
+    pub distance: u32,
+}
+
+/// What a legal pit is worth.
+#[derive(Clone, Copy, Debug, PartialEq, Eq)]
+pub struct Move {
+    pub pit: u8,
+    /// The stones that it captures.
+    pub captures: u8,
+    /// What the mover gains by it, in stones.
+    pub value: i16,
+    /// The plies within which a capture or the end comes by it; 0 if the value is 0.
+    pub distance: u32,
+}
+
+/// The levels of a folder, each verified: level 0 up to the first whose file is not there. So what they say
+/// is right.
+///
+/// Threads may ask one value at once; then they wait for each other. [`Levels::share`] gives each thread
+/// one of its own over the same levels, and then none waits.
+///
+/// ```
+/// use awari::{Board, Levels, Refusal};
+/// use std::thread;
+///
+/// # fn main() -> Result<(), Refusal> {
+/// # let folder = concat!(env!("CARGO_MANIFEST_DIR"), "/../../examples/levels");
+/// let levels = Levels::open(folder)?;
+/// let board: Board = "1,0,0,0,0,0/0,0,1,0,0,0".parse()?;
+/// let entry = levels.entry(&board)?;
+/// assert_eq!((entry.value, entry.plan, entry.distance), (2, Some(0), 8));
+/// assert_eq!(levels.line(&board)?, [0, 2, 1, 3, 2, 4, 3, 5]);
+/// thread::scope(|scope| {
+///     for _ in 0..4 {
+///         scope.spawn(|| assert_eq!(levels.value(&board), Ok(2)));
+///     }
+/// });
+/// assert_eq!(Levels::open("no such folder").err(), Some(Refusal::Open { level: 0 }));
+/// # Ok(())
+/// # }
+/// ```
+pub struct Levels {
+    // It is not moved, as the library asks.
+    handle: Mutex<Box<Handle>>,
+}
+
+// SAFETY: a handle may be used by any thread, by one at a time, which the lock sees to.
+unsafe impl Send for Levels {}
+// SAFETY: the same.
+unsafe impl Sync for Levels {}
+
+impl Levels {
+    /// Reads and verifies the levels of a folder. Refused as 80 to 84 or 86. It takes three bytes a board,
+    /// and for a time the room of a file.
+    pub fn open(folder: impl AsRef<Path>) -> Result<Levels, Refusal> {
+        Levels::open_to(folder, HIGHEST_LEVEL)
+    }
+
+    /// The same, and levels of more than `most` stones are not read.
+    pub fn open_to(folder: impl AsRef<Path>, most: u8) -> Result<Levels, Refusal> {
+        let levels = Levels::closed();
+        let folder = folder.as_ref();
+        if !folder.is_dir() {
+            return Err(Refusal::Open { level: 0 });
+        }
+        for level in 0..=most.min(HIGHEST_LEVEL) {
+            match fs::read(folder.join(format!("level_{level:02}.awdb"))) {
+                Ok(bytes) => levels.add(&bytes)?,
+                Err(error) if error.kind() == ErrorKind::NotFound => break,
+                Err(_) => return Err(Refusal::Open { level }),
+            }
+        }
+        Ok(levels)
+    }
+
+    fn closed() -> Levels {
+        Levels { handle: Mutex::new(Box::new(Handle::CLOSED)) }
+    }
+
+    fn handle(&self) -> MutexGuard<'_, Box<Handle>> {
+        // A call of the library never panics, so a handle is sound even after another thread has.
+        self.handle.lock().unwrap_or_else(PoisonError::into_inner)
+    }
+
+    fn add(&self, bytes: &[u8]) -> Result<(), Refusal> {
+        let mut fault = PlainFault::default();
+        // SAFETY: the library reads these bytes, and writes into the fault.
+        let answer = unsafe { awari_add_level(&mut **self.handle(), bytes.as_ptr(), bytes.len(), &mut fault) };
+        refused_with(answer, fault)
+    }
+
+    /// How many levels there are.
+    pub fn len(&self) -> usize {
+        // SAFETY: the handle is ours.
+        usize::from(unsafe { awari_levels(&mut **self.handle()) })
+    }
+
+    /// Whether there is no level.
+    pub fn is_empty(&self) -> bool {
+        self.len() == 0
+    }
+
+    /// What the levels say of a board. Refused as 59 if its level is not there.
+    pub fn entry(&self, board: &Board) -> Result<Entry, Refusal> {
+        let mut entry = PlainEntry::default();
+        // SAFETY: the library reads twelve bytes, and writes into the entry.
+        refused(unsafe { awari_probe(&mut **self.handle(), board.pits(), &mut entry) })?;
+        Ok(entry.into())
+    }
+
+    /// The value of a board alone. Refused as 59 if its level is not there.
+    pub fn value(&self, board: &Board) -> Result<i8, Refusal> {
+        let mut value = 0;
+        // SAFETY: the library reads twelve bytes, and writes into the value.
+        refused(unsafe { awari_probe_value(&mut **self.handle(), board.pits(), &mut value) })?;
+        Ok(value)
+    }
+
+    /// What the levels say of many boards, which costs less than to ask for each. Refused as 59 if a
+    /// board's level is not there.
+    pub fn entries(&self, boards: &[Board]) -> Result<Vec<Entry>, Refusal> {
+        let mut found = vec![PlainEntry::default(); boards.len()];
+        let mut told = 0;
+        // SAFETY: a board is twelve bytes. The library reads so many, and writes as many entries.
+        refused(unsafe {
+            awari_probe_many(
+                &mut **self.handle(),
+                boards.as_ptr().cast(),
+                boards.len(),
+                found.as_mut_ptr(),
+                found.len(),
+                &mut told,
+            )
+        })?;
+        Ok(found.into_iter().map(Entry::from).collect())
+    }
+
+    /// What each legal pit is worth, ascending; none if the play has ended. Refused as 59.
+    pub fn moves(&self, board: &Board) -> Result<Vec<Move>, Refusal> {
+        let mut found = [PlainMove::default(); 6];
+        // SAFETY: the library reads twelve bytes, and writes six moves.
+        refused(unsafe { awari_probe_moves(&mut **self.handle(), board.pits(), &mut found) })?;
+        let legal = (0..).zip(found).filter(|(_, found)| found.legal);
+        Ok(legal.map(|(pit, found)| Move::of(pit, found)).collect())
+    }
+
+    /// The play by the plans of both sides, to its first outcome, which is the board's value. Refused as 59
+    /// or 84.
+    pub fn line(&self, board: &Board) -> Result<Vec<u8>, Refusal> {
+        let mut moves = vec![0; 64];
+        loop {
+            let mut count = 0;
+            // SAFETY: the library reads twelve bytes, and writes as many moves as there is room for.
+            refused(unsafe {
+                awari_line(&mut **self.handle(), board.pits(), moves.as_mut_ptr(), moves.len(), &mut count)
+            })?;
+            let fits = count <= moves.len();
+            moves.resize(count, 0);
+            if fits {
+                return Ok(moves);
+            }
+        }
+    }
+
+    /// The same levels for another thread. None is copied. Refused as 84.
+    pub fn share(&self) -> Result<Levels, Refusal> {
+        let shared = Levels::closed();
+        // SAFETY: the two handles are apart.
+        refused(unsafe { awari_share_with(&mut **self.handle(), &mut **shared.handle()) })?;
+        Ok(shared)
+    }
+}
+
+impl Drop for Levels {
+    fn drop(&mut self) {
+        // SAFETY: nobody has the handle any more.
+        unsafe { awari_close(&mut **self.handle()) }
+    }
+}
+
+impl From<PlainEntry> for Entry {
+    fn from(PlainEntry { value, plan, distance }: PlainEntry) -> Entry {
+        Entry { value, plan: (plan < 6).then_some(plan), distance }
+    }
+}
+
+impl Move {
+    fn of(pit: u8, PlainMove { captures, value, distance, .. }: PlainMove) -> Move {
+        Move { pit, captures, value, distance }
+    }
+}

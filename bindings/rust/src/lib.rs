@@ -1,0 +1,31 @@
+//! Awari's endgame levels: what each board is worth, which pit to play for that, and how soon it comes.
+//! Each level is verified before it is kept, and what the library says of it is proved right.
+//!
+//! ```
+//! use awari::{Board, Levels};
+//!
+//! # fn main() -> Result<(), Box<dyn std::error::Error>> {
+//! # let folder = concat!(env!("CARGO_MANIFEST_DIR"), "/../../examples/levels");
+//! let levels = Levels::open(folder)?;
+//! let board: Board = "1,0,0,0,0,1/1,0,1,0,0,0".parse()?;
+//! assert_eq!(levels.entry(&board)?.value, 4);
+//! for found in levels.moves(&board)? {
+//!     println!("pit {} is worth {} in {} plies", found.pit, found.value, found.distance);
+//! }
+//! # Ok(())
+//! # }
+//! ```
+//!
+//! The library is `libawari.a`: see `build.rs` for where it is looked for. It runs on x86-64 Linux.
+
+mod boards;
+mod calls;
+mod levels;
+mod refusals;
+
+pub use boards::{Board, Played};
+pub use levels::{Entry, Levels, Move};
+pub use refusals::Refusal;
+
+/// The highest level that there is.
+pub const HIGHEST_LEVEL: u8 = 24;

@@ -1,0 +1,130 @@
+//! Why a call refuses.
+
+use crate::calls::{awari_text_of, PlainFault, Sentence};
+use std::error::Error;
+use std::ffi::CStr;
+use std::{fmt, ptr};
+
+/// Why a call refuses. It is printed as a sentence for a person.
+#[derive(Clone, Copy, Debug, PartialEq, Eq, Hash)]
+#[non_exhaustive]
+pub enum Refusal {
+    /// 1: the text is not six numbers, a slash and six numbers.
+    Shape,
+    /// 2: a number of the text is not one of 0 to 99.
+    Number,
+    /// 3: a board has at most 48 stones.
+    TooMany,
+    /// 4: a pit is 0 to 5.
+    NoPit,
+    /// 5: the pit is empty.
+    EmptyPit,
+    /// 6: the opponent has no stones, and the move gives none.
+    MustFeed,
+    /// 7: the play has ended.
+    Ended,
+    /// 59: the board's level is not there.
+    NotYet,
+    /// 80: the file of the level is over another file than the one below it.
+    Below { level: u8 },
+    /// 81: the file of the level is none; `inner` is the number of what is wrong, 60 to 68.
+    File { level: u8, inner: u8 },
+    /// 82: the folder, or the file of the level, does not open.
+    Open { level: u8 },
+    /// 83: the level is not right; `inner` is 20 to 22. With 22, the board of this rank breaks the rule.
+    Verify { level: u8, inner: u8, rule: u8, rank: u32 },
+    /// 84: memory has run out.
+    Memory,
+    /// 86: the file of the level is of an older version.
+    Old { level: u8 },
+    /// 93: the level has no board of this rank.
+    NoRank,
+}
+
+impl Refusal {
+    /// The number of the refusal.
+    pub fn number(self) -> u8 {
+        match self {
+            Refusal::Shape => 1,
+            Refusal::Number => 2,
+            Refusal::TooMany => 3,
+            Refusal::NoPit => 4,
+            Refusal::EmptyPit => 5,
+            Refusal::MustFeed => 6,
+            Refusal::Ended => 7,
+            Refusal::NotYet => 59,
+            Refusal::Below { .. } => 80,
+            Refusal::File { .. } => 81,
+            Refusal::Open { .. } => 82,
+            Refusal::Verify { .. } => 83,
+            Refusal::Memory => 84,
+            Refusal::Old { .. } => 86,
+            Refusal::NoRank => 93,
+        }
+    }
+
+    /// The refusal that an answer of the library is, with the fault that was told beside it.
+    fn of(answer: u8, fault: PlainFault) -> Refusal {
+        let PlainFault { level, inner, rule, rank } = fault;
+        match answer {
+            1 => Refusal::Shape,
+            2 => Refusal::Number,
+            3 => Refusal::TooMany,
+            4 => Refusal::NoPit,
+            5 => Refusal::EmptyPit,
+            6 => Refusal::MustFeed,
+            7 => Refusal::Ended,
+            59 => Refusal::NotYet,
+            80 => Refusal::Below { level },
+            81 => Refusal::File { level, inner },
+            82 => Refusal::Open { level },
+            83 => Refusal::Verify { level, inner, rule, rank },
+            84 => Refusal::Memory,
+            86 => Refusal::Old { level },
+            93 => Refusal::NoRank,
+            other => unreachable!("the library has no answer {other} to these calls"),
+        }
+    }
+}
+
+/// No refusal if the answer is 0.
+pub(crate) fn refused(answer: u8) -> Result<(), Refusal> {
+    refused_with(answer, PlainFault::default())
+}
+
+/// The same, with the fault that was told beside the answer.
+pub(crate) fn refused_with(answer: u8, fault: PlainFault) -> Result<(), Refusal> {
+    match answer {
+        0 => Ok(()),
+        answer => Err(Refusal::of(answer, fault)),
+    }
+}
+
+/// The sentence of a number.
+fn sentence(number: u8) -> &'static str {
+    let mut lent = Sentence { text: ptr::null(), size: 0 };
+    // SAFETY: the library writes a text that is never freed, with a zero byte behind it.
+    let text = unsafe {
+        awari_text_of(number, &mut lent);
+        CStr::from_ptr(lent.text)
+    };
+    text.to_str().unwrap_or("")
+}
+
+impl fmt::Display for Refusal {
+    fn fmt(&self, f: &mut fmt::Formatter<'_>) -> fmt::Result {
+        match *self {
+            Refusal::File { level, inner } => write!(f, "level {level}: {}", sentence(inner)),
+            Refusal::Verify { level, inner: 22, rule, rank } => {
+                write!(f, "level {level}: the board of rank {rank} breaks rule V{rule}")
+            }
+            Refusal::Verify { level, inner, .. } => write!(f, "level {level}: {}", sentence(inner)),
+            Refusal::Below { level } | Refusal::Open { level } | Refusal::Old { level } => {
+                write!(f, "level {level}: {}", sentence(self.number()))
+            }
+            _ => f.write_str(sentence(self.number())),
+        }
+    }
+}
+
+impl Error for Refusal {}
