@@ -11,7 +11,7 @@ unfolding clap_on_literals
 check_row = refl
 
 pub ask_row : named (codes "awari" ∷ codes "ask" ∷ codes "levels" ∷ codes "0/1" ∷ [])
-    ≡ Some (codes "ask", (codes "FOLDER", codes "levels" ∷ []) ∷ (codes "BOARD", codes "0/1" ∷ []) ∷ (codes "json", codes "false" ∷ []) ∷ [])
+    ≡ Some (codes "ask", (codes "FOLDER", codes "levels" ∷ []) ∷ (codes "BOARD", codes "0/1" ∷ []) ∷ (codes "json", codes "false" ∷ []) ∷ (codes "unverified", codes "false" ∷ []) ∷ [])
 unfolding clap_on_literals
 ask_row = refl
 
@@ -28,7 +28,7 @@ no_moves_row = refl
 pub build_row : named (codes "awari" ∷ codes "build" ∷ codes "--owners" ∷ codes "4" ∷ codes "12" ∷ [])
     ≡ Some (
       codes "build",
-      (codes "owners", codes "4" ∷ []) ∷ (codes "TOP", codes "12" ∷ []) ∷ (codes "progress", codes "false" ∷ [])
+      (codes "owners", codes "4" ∷ []) ∷ (codes "TOP", codes "12" ∷ []) ∷ (codes "progress", codes "false" ∷ []) ∷ (codes "estimate", codes "false" ∷ [])
           ∷ (codes "room", codes "64" ∷ []) ∷ (codes "sweeps", codes "1000" ∷ []) ∷ [],
     )
 unfolding clap_on_literals
@@ -37,23 +37,23 @@ build_row = refl
 pub progress_row : named (codes "awari" ∷ codes "build" ∷ codes "12" ∷ codes "--progress" ∷ [])
     ≡ Some (
       codes "build",
-      (codes "TOP", codes "12" ∷ []) ∷ (codes "progress", codes "true" ∷ []) ∷ (codes "owners", codes "0" ∷ [])
+      (codes "TOP", codes "12" ∷ []) ∷ (codes "progress", codes "true" ∷ []) ∷ (codes "estimate", codes "false" ∷ []) ∷ (codes "owners", codes "0" ∷ [])
           ∷ (codes "room", codes "64" ∷ []) ∷ (codes "sweeps", codes "1000" ∷ []) ∷ [],
     )
 unfolding clap_on_literals
 progress_row = refl
 
-pub threads_row : named (codes "awari" ∷ codes "build" ∷ codes "--threads" ∷ codes "3" ∷ codes "12" ∷ [])
+pub threads_row : named (codes "awari" ∷ codes "build" ∷ codes "-j" ∷ codes "3" ∷ codes "12" ∷ [])
     ≡ Some (
       codes "build",
-      (codes "threads", codes "3" ∷ []) ∷ (codes "TOP", codes "12" ∷ []) ∷ (codes "progress", codes "false" ∷ []) ∷ (codes "owners", codes "0" ∷ [])
+      (codes "threads", codes "3" ∷ []) ∷ (codes "TOP", codes "12" ∷ []) ∷ (codes "progress", codes "false" ∷ []) ∷ (codes "estimate", codes "false" ∷ []) ∷ (codes "owners", codes "0" ∷ [])
           ∷ (codes "room", codes "64" ∷ []) ∷ (codes "sweeps", codes "1000" ∷ []) ∷ [],
     )
 unfolding clap_on_literals
 threads_row = refl
 
 pub hyphen_row : named (codes "awari" ∷ codes "verify" ∷ codes "--" ∷ codes "-levels" ∷ [])
-    ≡ Some (codes "verify", (codes "FOLDER", codes "-levels" ∷ []) ∷ [])
+    ≡ Some (codes "verify", (codes "FOLDER", codes "-levels" ∷ []) ∷ (codes "progress", codes "false" ∷ []) ∷ [])
 unfolding clap_on_literals
 hyphen_row = refl
 

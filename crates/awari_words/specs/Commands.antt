@@ -34,8 +34,9 @@ command name words = record (new_shape name) { rules = words }
 abbrev pub folder_word : List ℕ → Rule
 folder_word name = record (word name) { parser = Some NonEmptyString }
 
-abbrev pub folder_option : List ℕ → Rule
-folder_option name = record (option name) { parser = Some NonEmptyString }
+-- `--folder FOLDER`, or `-f FOLDER` (102)
+abbrev pub start_folder : Rule
+start_folder = record (option (codes "folder")) { parser = Some NonEmptyString; short = Some 102 }
 
 abbrev pub folder : Rule
 folder = folder_word (codes "FOLDER")
@@ -63,9 +64,9 @@ moves = record (new_rule (codes "MOVES")) { action = Some Append }
 abbrev pub judge_command : Shape
 judge_command = command (codes "judge") (board ∷ number (codes "LIMIT") (Signed (pos 0) (pos 4294967295)) ∷ moves ∷ [])
 
--- how many threads build a level without owners
+-- how many threads build a level without owners: `--threads N`, or `-j N` (106)
 abbrev pub threads : Rule
-threads = record (option (codes "threads")) { parser = Some (Unsigned 1 64) }
+threads = record (option (codes "threads")) { parser = Some (Unsigned 1 64); short = Some 106 }
 
 -- up to 16 owners, 1 to 256 batches a line, 1 to 1000 sweeps a round
 abbrev pub pace : List Rule
@@ -73,10 +74,14 @@ pace = number_option (codes "owners") (Unsigned 0 16) (codes "0") ∷ number_opt
     ∷ number_option (codes "sweeps") (Unsigned 1 1000) (codes "1000") ∷ []
 
 abbrev pub build_command : Shape
-build_command = command (codes "build") (top ∷ folder_option (codes "folder") ∷ flag (codes "progress") ∷ threads ∷ pace)
+build_command = command (codes "build") (top ∷ start_folder ∷ flag (codes "progress") ∷ flag (codes "estimate") ∷ threads ∷ pace)
+
+-- the highest level that the folder has to have
+abbrev pub levels_wish : Rule
+levels_wish = record (option (codes "levels")) { parser = Some levels }
 
 abbrev pub verify_command : Shape
-verify_command = command (codes "verify") (folder ∷ [])
+verify_command = command (codes "verify") (folder ∷ levels_wish ∷ option (codes "digest") ∷ flag (codes "progress") ∷ [])
 
 -- the one level to tell of
 abbrev pub level : Rule
@@ -92,21 +97,25 @@ migrate_command = command (codes "migrate") (folder_word (codes "FROM") ∷ fold
 abbrev pub json : Rule
 json = flag (codes "json")
 
+-- the answer is by what the files say, and nothing is verified
+abbrev pub unverified : Rule
+unverified = flag (codes "unverified")
+
 -- a command that answers of one board
 abbrev pub look_up_command : List ℕ → List Rule → Shape
 look_up_command name options = command name (folder ∷ board ∷ options)
 
 abbrev pub ask_command : Shape
-ask_command = look_up_command (codes "ask") (json ∷ [])
+ask_command = look_up_command (codes "ask") (json ∷ unverified ∷ [])
 
 abbrev pub moves_command : Shape
-moves_command = look_up_command (codes "moves") (flag (codes "replies") ∷ json ∷ [])
+moves_command = look_up_command (codes "moves") (flag (codes "replies") ∷ json ∷ unverified ∷ [])
 
 abbrev pub line_command : Shape
-line_command = look_up_command (codes "line") (flag (codes "longest") ∷ flag (codes "plies") ∷ json ∷ [])
+line_command = look_up_command (codes "line") (flag (codes "longest") ∷ flag (codes "plies") ∷ json ∷ unverified ∷ [])
 
 abbrev pub serve_command : Shape
-serve_command = command (codes "serve") (folder ∷ top ∷ number (codes "OWNERS") (Unsigned 0 16) ∷ [])
+serve_command = command (codes "serve") (folder ∷ top ∷ number (codes "OWNERS") (Unsigned 0 16) ∷ unverified ∷ [])
 
 abbrev pub rank_command : Shape
 rank_command = command (codes "rank") (board ∷ [])
@@ -118,11 +127,11 @@ abbrev pub plays_command : Shape
 plays_command = command (codes "plays") (board ∷ number (codes "PLIES") (Signed (pos 0) (pos 255)) ∷ [])
 
 abbrev pub counts_command : Shape
-counts_command = command (codes "counts") (folder ∷ level ∷ json ∷ [])
+counts_command = command (codes "counts") (folder ∷ level ∷ json ∷ unverified ∷ [])
 
 -- which boards of a level are wanted
 abbrev pub wishes : List Rule
-wishes = option (codes "value") ∷ option (codes "distance") ∷ flag (codes "farthest") ∷ number_option (codes "every") (Unsigned 1 4294967295) (codes "1") ∷ flag (codes "count") ∷ []
+wishes = option (codes "value") ∷ option (codes "distance") ∷ flag (codes "farthest") ∷ number_option (codes "every") (Unsigned 1 4294967295) (codes "1") ∷ flag (codes "count") ∷ unverified ∷ []
 
 abbrev pub boards_command : Shape
 boards_command = command (codes "boards") (folder ∷ number (codes "LEVEL") levels ∷ wishes)

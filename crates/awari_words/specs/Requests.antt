@@ -50,18 +50,24 @@ pub record IsFlagOf (given : List Row) (id : List ℕ) (flag : Bool) : Type 0 wh
 
 -- The question is that of the command's name, with the values that were given for each of its names.
 abbrev pub IsQuestionOf : List ℕ → List Row → Question → Type 0
-IsQuestionOf name given Verify = name ≡ codes "verify"
+IsQuestionOf name given (Verify levels digest progress) = (name ≡ codes "verify") × SpellsOr given (codes "levels") levels
+    × (option_map (λ t. t.now) digest ≡ first_of (codes "digest") given) × IsFlagOf given (codes "progress") progress
 IsQuestionOf name given (Text level boards) = (name ≡ codes "text") × SpellsOr given (codes "LEVEL") level × IsFlagOf given (codes "boards") boards
-IsQuestionOf name given (Ask board json) = (name ≡ codes "ask") × Gives given (codes "BOARD") board.now × IsFlagOf given (codes "json") json
-IsQuestionOf name given (Moves board replies json) = (name ≡ codes "moves") × Gives given (codes "BOARD") board.now
-    × IsFlagOf given (codes "replies") replies × IsFlagOf given (codes "json") json
-IsQuestionOf name given (Line board longest plies json) = (name ≡ codes "line") × Gives given (codes "BOARD") board.now
+IsQuestionOf name given (Ask board json unverified) = (name ≡ codes "ask") × Gives given (codes "BOARD") board.now × IsFlagOf given (codes "json") json
+    × IsFlagOf given (codes "unverified") unverified
+IsQuestionOf name given (Moves board replies json unverified) = (name ≡ codes "moves") × Gives given (codes "BOARD") board.now
+    × IsFlagOf given (codes "replies") replies × IsFlagOf given (codes "json") json × IsFlagOf given (codes "unverified") unverified
+IsQuestionOf name given (Line board longest plies json unverified) = (name ≡ codes "line") × Gives given (codes "BOARD") board.now
     × IsFlagOf given (codes "longest") longest × IsFlagOf given (codes "plies") plies × IsFlagOf given (codes "json") json
-IsQuestionOf name given (Serve top owners) = (name ≡ codes "serve") × Spells given (codes "TOP") top × Spells given (codes "OWNERS") owners
-IsQuestionOf name given (Counts level json) = (name ≡ codes "counts") × SpellsOr given (codes "LEVEL") level × IsFlagOf given (codes "json") json
-IsQuestionOf name given (Boards level value distance farthest every count) = (name ≡ codes "boards") × Spells given (codes "LEVEL") level
+    × IsFlagOf given (codes "unverified") unverified
+IsQuestionOf name given (Serve top owners unverified) = (name ≡ codes "serve") × Spells given (codes "TOP") top × Spells given (codes "OWNERS") owners
+    × IsFlagOf given (codes "unverified") unverified
+IsQuestionOf name given (Counts level json unverified) = (name ≡ codes "counts") × SpellsOr given (codes "LEVEL") level × IsFlagOf given (codes "json") json
+    × IsFlagOf given (codes "unverified") unverified
+IsQuestionOf name given (Boards level value distance farthest every count unverified) = (name ≡ codes "boards") × Spells given (codes "LEVEL") level
     × (option_map (λ t. t.now) value ≡ first_of (codes "value") given) × (option_map (λ t. t.now) distance ≡ first_of (codes "distance") given)
     × IsFlagOf given (codes "farthest") farthest × Spells given (codes "every") every × IsFlagOf given (codes "count") count
+    × IsFlagOf given (codes "unverified") unverified
 
 -- The same of the request. A question's folder has one name in all commands.
 abbrev pub IsRequestOf : List ℕ → List Row → Request → Type 0
@@ -69,8 +75,8 @@ IsRequestOf name given Check = name ≡ codes "check"
 IsRequestOf name given (Move board pit) = (name ≡ codes "move") × Gives given (codes "BOARD") board.now × Spells given (codes "PIT") pit
 IsRequestOf name given (Judge board limit moves) = (name ≡ codes "judge") × Gives given (codes "BOARD") board.now × Spells given (codes "LIMIT") limit
     × (option_map (λ words. texts words.now) moves ≡ all_of (codes "MOVES") given)
-IsRequestOf name given (Build top folder threads pace progress) = (name ≡ codes "build") × Spells given (codes "TOP") top × (option_map (λ f. f.now) folder ≡ first_of (codes "folder") given)
-    × SpellsOr given (codes "threads") threads × IsPaceOf given pace × IsFlagOf given (codes "progress") progress
+IsRequestOf name given (Build top folder threads pace progress estimate) = (name ≡ codes "build") × Spells given (codes "TOP") top × (option_map (λ f. f.now) folder ≡ first_of (codes "folder") given)
+    × SpellsOr given (codes "threads") threads × IsPaceOf given pace × IsFlagOf given (codes "progress") progress × IsFlagOf given (codes "estimate") estimate
 IsRequestOf name given (Migrate from to) = (name ≡ codes "migrate") × Gives given (codes "FROM") from.now × Gives given (codes "TO") to.now
 IsRequestOf name given (Rank board) = (name ≡ codes "rank") × Gives given (codes "BOARD") board.now
 IsRequestOf name given (Board level rank) = (name ≡ codes "board") × Spells given (codes "LEVEL") level × Spells given (codes "RANK") rank

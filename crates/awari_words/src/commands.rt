@@ -1,64 +1,24 @@
 //! The commands, as `clap` takes them: the words of each, and what its help says.
 
-ghost use Rattle.std.specs.Prelude.{◌≡◌, ◌∷◌, [], Some, codes, pos};
-ghost use Rattle.clap.specs.Simple.{App, Shape, new_rule, with_rule, with_subcommand};
+ghost use Rattle.std.specs.Prelude.{◌≡◌, ◌∷◌, []};
+ghost use Rattle.clap.specs.Simple.{App, Shape, with_rule, with_subcommand};
 ghost use Rattle.clap.specs.Walk.{Rule};
-ghost use Rattle.clap.specs.declared.builder.value_parser.ValueParser.TheVariants.{NonEmptyString, Signed, Unsigned};
-ghost use Rattle.awari_words.specs.Commands.{
-  ask_command,
-  awari,
-  awari_commands,
-  board,
-  board_command,
-  boards_command,
-  build_command,
-  check_command,
-  command,
-  counts_command,
-  flag,
-  folder,
-  folder_commands,
-  folder_option,
-  folder_word,
-  json,
-  judge_command,
-  level,
-  levels,
-  line_command,
-  migrate_command,
-  move_command,
-  moves,
-  moves_command,
-  number,
-  number_option,
-  option,
-  pace,
-  play_commands,
-  plays_command,
-  question_commands,
-  rank_command,
-  serve_command,
-  text_command,
-  threads,
-  top,
-  verify_command,
-  wishes,
-};
+ghost use Rattle.awari_words.specs.Commands.{ask_command, awari, awari_commands, board, board_command, boards_command, build_command, check_command, command, counts_command, folder, folder_commands, judge_command, line_command, migrate_command, move_command, moves_command, pace, play_commands, plays_command, question_commands, rank_command, serve_command, text_command, verify_command, wishes};
 ghost use Rattle.awari_words.specs.Making.{IsArg, IsCommand, MakesApp, MakesCommand, with_subcommands, with_words};
 
+use crate::arguments::{
+    board, count, digest, distance, each_ply, estimate, every, farthest, folder, from, json, level,
+    levels_wish, limit, listed_level, longest, moves, owners, pit, plies, progress, rank,
+    ranked_level, replies, room, served_owners, served_top, start_folder, sweeps, threads, to, top,
+    unverified, value, with_boards,
+};
 use crate::helps::{
     ASK_HELP, AWARI_HELP, BOARD_HELP, BOARDS_HELP, BUILD_HELP, CHECK_HELP, COUNTS_HELP, JUDGE_HELP,
     LINE_HELP, MIGRATE_HELP, MOVE_HELP, MOVES_HELP, PLAYS_HELP, RANK_HELP, SERVE_HELP, TEXT_HELP,
     VERIFY_HELP, VERSION,
 };
-use awari_block::{MOST_OWNERS, MOST_ROOM, MOST_SWEEPS};
-use awari_table::HIGHEST_LEVEL;
-use clap::builder::ValueParser;
-use clap::{Arg, ArgAction, Command, value_parser};
+use clap::{Arg, Command};
 use std::alloc::{AllocError, Global};
-
-/// The most threads that may be asked for.
-const MOST_THREADS: u64 = 64;
 
 /// The program with all its commands.
 pub(crate) fn commands<'a>(alloc: Global) -> Result<Command<'a>, AllocError>
@@ -179,15 +139,6 @@ fn move_command<'a>(alloc: Global) -> Result<Command<'a>, AllocError>
     with_word(command, pit(alloc))
 }
 
-fn pit<'a>(alloc: Global) -> Arg<'a>
-    ensures { IsArg result (number (codes "PIT") (Signed (pos 0) (pos 255))) }
-{
-    Arg::new(alloc, "PIT")
-        .required(true)
-        .value_parser(value_parser!(u8))
-        .help("The pit to play, 0 to 255")
-}
-
 fn judge_command<'a>(alloc: Global) -> Result<Command<'a>, AllocError>
     ensures { MakesCommand result judge_command }
 {
@@ -202,23 +153,6 @@ fn judge_command<'a>(alloc: Global) -> Result<Command<'a>, AllocError>
     with_word(command, moves(alloc))
 }
 
-fn limit<'a>(alloc: Global) -> Arg<'a>
-    ensures { IsArg result (number (codes "LIMIT") (Signed (pos 0) (pos 4294967295))) }
-{
-    Arg::new(alloc, "LIMIT")
-        .required(true)
-        .value_parser(value_parser!(u32))
-        .help("The plies without a capture that are not yet an outcome")
-}
-
-fn moves<'a>(alloc: Global) -> Arg<'a>
-    ensures { IsArg result moves }
-{
-    Arg::new(alloc, "MOVES")
-        .action(ArgAction::Append)
-        .help("The pits played, a digit each, as 502 or 5 0 2")
-}
-
 fn build_command<'a>(alloc: Global) -> Result<Command<'a>, AllocError>
     ensures { MakesCommand result build_command }
 {
@@ -231,53 +165,9 @@ fn build_command<'a>(alloc: Global) -> Result<Command<'a>, AllocError>
     let command = with_word(command, top(alloc));
     let command = with_word(command, start_folder(alloc));
     let command = with_word(command, progress(alloc));
+    let command = with_word(command, estimate(alloc));
     let command = with_word(command, threads(alloc));
     with_pace(alloc, command)
-}
-
-fn top<'a>(alloc: Global) -> Arg<'a>
-    ensures { IsArg result top }
-{
-    Arg::new(alloc, "TOP")
-        .required(true)
-        .value_parser(ValueParser::unsigned(0, u64::from(HIGHEST_LEVEL)))
-        .help("The highest level to build, 0 to 24")
-}
-
-fn start_folder<'a>(alloc: Global) -> Arg<'a>
-    ensures { IsArg result (folder_option (codes "folder")) }
-{
-    let folder = Arg::new(alloc, "folder")
-        .long("folder")
-        .value_name("FOLDER")
-        .help("Begin above this folder's levels, and save each there");
-    named(folder)
-}
-
-/// The word or option, whose text may not be empty.
-fn named<'a>(word: Arg<'a>) -> Arg<'a>
-    ensures { result ≡ record word.entry { value_parser = Some NonEmptyString } }
-{
-    word.value_parser(ValueParser::NonEmptyString)
-}
-
-fn progress<'a>(alloc: Global) -> Arg<'a>
-    ensures { IsArg result (flag (codes "progress")) }
-{
-    Arg::new(alloc, "progress")
-        .long("progress")
-        .action(ArgAction::SetTrue)
-        .help("Tell on the error stream how far a level is")
-}
-
-fn threads<'a>(alloc: Global) -> Arg<'a>
-    ensures { IsArg result threads }
-{
-    Arg::new(alloc, "threads")
-        .long("threads")
-        .value_name("N")
-        .value_parser(ValueParser::unsigned(1, MOST_THREADS))
-        .help("Threads that build a level without owners, 1 to 64")
 }
 
 /// The command with the options of a pace.
@@ -292,39 +182,6 @@ fn with_pace<'a>(
     with_word(command, sweeps(alloc))
 }
 
-fn owners<'a>(alloc: Global) -> Arg<'a>
-    ensures { IsArg result (number_option (codes "owners") (Unsigned 0 16) (codes "0")) }
-{
-    Arg::new(alloc, "owners")
-        .long("owners")
-        .value_name("W")
-        .value_parser(ValueParser::unsigned(0, u64::from(MOST_OWNERS)))
-        .default_value("0")
-        .help("Owners, 0 to 16; 0: all threads together")
-}
-
-fn room<'a>(alloc: Global) -> Arg<'a>
-    ensures { IsArg result (number_option (codes "room") (Unsigned 1 256) (codes "64")) }
-{
-    Arg::new(alloc, "room")
-        .long("room")
-        .value_name("R")
-        .value_parser(ValueParser::unsigned(1, u64::from(MOST_ROOM)))
-        .default_value("64")
-        .help("Batches that a line holds, 1 to 256")
-}
-
-fn sweeps<'a>(alloc: Global) -> Arg<'a>
-    ensures { IsArg result (number_option (codes "sweeps") (Unsigned 1 1000) (codes "1000")) }
-{
-    Arg::new(alloc, "sweeps")
-        .long("sweeps")
-        .value_name("S")
-        .value_parser(ValueParser::unsigned(1, u64::from(MOST_SWEEPS)))
-        .default_value("1000")
-        .help("Most sweeps in a round, 1 to 1000")
-}
-
 fn verify_command<'a>(alloc: Global) -> Result<Command<'a>, AllocError>
     ensures { MakesCommand result verify_command }
 {
@@ -334,7 +191,10 @@ fn verify_command<'a>(alloc: Global) -> Result<Command<'a>, AllocError>
         "Says of the levels in a folder whether each is right",
         VERIFY_HELP,
     );
-    with_word(command, folder(alloc))
+    let command = with_word(command, folder(alloc));
+    let command = with_word(command, levels_wish(alloc));
+    let command = with_word(command, digest(alloc));
+    with_word(command, progress(alloc))
 }
 
 fn text_command<'a>(alloc: Global) -> Result<Command<'a>, AllocError>
@@ -351,23 +211,6 @@ fn text_command<'a>(alloc: Global) -> Result<Command<'a>, AllocError>
     with_word(command, with_boards(alloc))
 }
 
-fn with_boards<'a>(alloc: Global) -> Arg<'a>
-    ensures { IsArg result (flag (codes "boards")) }
-{
-    Arg::new(alloc, "boards")
-        .long("boards")
-        .action(ArgAction::SetTrue)
-        .help("Put each board before its line, and leave out the headers")
-}
-
-fn level<'a>(alloc: Global) -> Arg<'a>
-    ensures { IsArg result level }
-{
-    Arg::new(alloc, "LEVEL")
-        .value_parser(ValueParser::unsigned(0, u64::from(HIGHEST_LEVEL)))
-        .help("The one level to tell of, 0 to 24; without it all are")
-}
-
 fn migrate_command<'a>(alloc: Global) -> Result<Command<'a>, AllocError>
     ensures { MakesCommand result migrate_command }
 {
@@ -381,24 +224,6 @@ fn migrate_command<'a>(alloc: Global) -> Result<Command<'a>, AllocError>
     with_word(command, to(alloc))
 }
 
-fn from<'a>(alloc: Global) -> Arg<'a>
-    ensures { IsArg result (folder_word (codes "FROM")) }
-{
-    let from = Arg::new(alloc, "FROM").required(true).help(
-        "A folder with the files level_00.awdb and so on, which is only read",
-    );
-    named(from)
-}
-
-fn to<'a>(alloc: Global) -> Arg<'a>
-    ensures { IsArg result (folder_word (codes "TO")) }
-{
-    let to = Arg::new(alloc, "TO")
-        .required(true)
-        .help("The folder that the new files are written into");
-    named(to)
-}
-
 fn ask_command<'a>(alloc: Global) -> Result<Command<'a>, AllocError>
     ensures { MakesCommand result ask_command }
 {
@@ -409,7 +234,8 @@ fn ask_command<'a>(alloc: Global) -> Result<Command<'a>, AllocError>
         ASK_HELP,
     );
     let command = with_board(alloc, command);
-    with_word(command, json(alloc))
+    let command = with_word(command, json(alloc));
+    with_word(command, unverified(alloc))
 }
 
 fn moves_command<'a>(alloc: Global) -> Result<Command<'a>, AllocError>
@@ -423,25 +249,8 @@ fn moves_command<'a>(alloc: Global) -> Result<Command<'a>, AllocError>
     );
     let command = with_board(alloc, command);
     let command = with_word(command, replies(alloc));
-    with_word(command, json(alloc))
-}
-
-fn replies<'a>(alloc: Global) -> Arg<'a>
-    ensures { IsArg result (flag (codes "replies")) }
-{
-    Arg::new(alloc, "replies")
-        .long("replies")
-        .action(ArgAction::SetTrue)
-        .help("Tell of the replies that each move leaves")
-}
-
-fn json<'a>(alloc: Global) -> Arg<'a>
-    ensures { IsArg result json }
-{
-    Arg::new(alloc, "json")
-        .long("json")
-        .action(ArgAction::SetTrue)
-        .help("Print JSON, an object a line")
+    let command = with_word(command, json(alloc));
+    with_word(command, unverified(alloc))
 }
 
 fn line_command<'a>(alloc: Global) -> Result<Command<'a>, AllocError>
@@ -456,25 +265,8 @@ fn line_command<'a>(alloc: Global) -> Result<Command<'a>, AllocError>
     let command = with_board(alloc, command);
     let command = with_word(command, longest(alloc));
     let command = with_word(command, each_ply(alloc));
-    with_word(command, json(alloc))
-}
-
-fn longest<'a>(alloc: Global) -> Arg<'a>
-    ensures { IsArg result (flag (codes "longest")) }
-{
-    Arg::new(alloc, "longest")
-        .long("longest")
-        .action(ArgAction::SetTrue)
-        .help("Let the losing side hold out as long as it can")
-}
-
-fn each_ply<'a>(alloc: Global) -> Arg<'a>
-    ensures { IsArg result (flag (codes "plies")) }
-{
-    Arg::new(alloc, "plies")
-        .long("plies")
-        .action(ArgAction::SetTrue)
-        .help("Print a line for each ply")
+    let command = with_word(command, json(alloc));
+    with_word(command, unverified(alloc))
 }
 
 /// The command, which answers of a board by the levels of a folder.
@@ -499,25 +291,8 @@ fn serve_command<'a>(alloc: Global) -> Result<Command<'a>, AllocError>
     );
     let command = with_word(command, folder(alloc));
     let command = with_word(command, served_top(alloc));
-    with_word(command, served_owners(alloc))
-}
-
-fn served_top<'a>(alloc: Global) -> Arg<'a>
-    ensures { IsArg result top }
-{
-    Arg::new(alloc, "TOP")
-        .required(true)
-        .value_parser(ValueParser::unsigned(0, u64::from(HIGHEST_LEVEL)))
-        .help("The highest level to build meanwhile, 0 to 24")
-}
-
-fn served_owners<'a>(alloc: Global) -> Arg<'a>
-    ensures { IsArg result (number (codes "OWNERS") (Unsigned 0 16)) }
-{
-    Arg::new(alloc, "OWNERS")
-        .required(true)
-        .value_parser(ValueParser::unsigned(0, u64::from(MOST_OWNERS)))
-        .help("Owners of a level, 0 to 16; with 0 all threads build it together")
+    let command = with_word(command, served_owners(alloc));
+    with_word(command, unverified(alloc))
 }
 
 fn rank_command<'a>(alloc: Global) -> Result<Command<'a>, AllocError>
@@ -545,24 +320,6 @@ fn board_command<'a>(alloc: Global) -> Result<Command<'a>, AllocError>
     with_word(command, rank(alloc))
 }
 
-fn ranked_level<'a>(alloc: Global) -> Arg<'a>
-    ensures { IsArg result (number (codes "LEVEL") (Signed (pos 0) (pos 255))) }
-{
-    Arg::new(alloc, "LEVEL")
-        .required(true)
-        .value_parser(value_parser!(u8))
-        .help("The stones on the board, 0 to 24")
-}
-
-fn rank<'a>(alloc: Global) -> Arg<'a>
-    ensures { IsArg result (number (codes "RANK") (Signed (pos 0) (pos 4294967295))) }
-{
-    Arg::new(alloc, "RANK")
-        .required(true)
-        .value_parser(value_parser!(u32))
-        .help("The number of the board, from 0 on")
-}
-
 fn plays_command<'a>(alloc: Global) -> Result<Command<'a>, AllocError>
     ensures { MakesCommand result plays_command }
 {
@@ -576,15 +333,6 @@ fn plays_command<'a>(alloc: Global) -> Result<Command<'a>, AllocError>
     with_word(command, plies(alloc))
 }
 
-fn plies<'a>(alloc: Global) -> Arg<'a>
-    ensures { IsArg result (number (codes "PLIES") (Signed (pos 0) (pos 255))) }
-{
-    Arg::new(alloc, "PLIES")
-        .required(true)
-        .value_parser(value_parser!(u8))
-        .help("The length of the plays, 0 to 255")
-}
-
 fn counts_command<'a>(alloc: Global) -> Result<Command<'a>, AllocError>
     ensures { MakesCommand result counts_command }
 {
@@ -596,7 +344,8 @@ fn counts_command<'a>(alloc: Global) -> Result<Command<'a>, AllocError>
     );
     let command = with_word(command, folder(alloc));
     let command = with_word(command, level(alloc));
-    with_word(command, json(alloc))
+    let command = with_word(command, json(alloc));
+    with_word(command, unverified(alloc))
 }
 
 fn boards_command<'a>(alloc: Global) -> Result<Command<'a>, AllocError>
@@ -613,15 +362,6 @@ fn boards_command<'a>(alloc: Global) -> Result<Command<'a>, AllocError>
     with_wishes(alloc, command)
 }
 
-fn listed_level<'a>(alloc: Global) -> Arg<'a>
-    ensures { IsArg result (number (codes "LEVEL") levels) }
-{
-    Arg::new(alloc, "LEVEL")
-        .required(true)
-        .value_parser(ValueParser::unsigned(0, u64::from(HIGHEST_LEVEL)))
-        .help("The stones on each board, 0 to 24")
-}
-
 /// The command with the options that say which boards are wanted.
 fn with_wishes<'a>(
     alloc: Global,
@@ -633,69 +373,6 @@ fn with_wishes<'a>(
     let command = with_word(command, distance(alloc));
     let command = with_word(command, farthest(alloc));
     let command = with_word(command, every(alloc));
-    with_word(command, count(alloc))
-}
-
-fn value<'a>(alloc: Global) -> Arg<'a>
-    ensures { IsArg result (option (codes "value")) }
-{
-    Arg::new(alloc, "value")
-        .long("value")
-        .value_name("A..B")
-        .help("Boards of these values, as --value=-3..2")
-}
-
-fn distance<'a>(alloc: Global) -> Arg<'a>
-    ensures { IsArg result (option (codes "distance")) }
-{
-    Arg::new(alloc, "distance")
-        .long("distance")
-        .value_name("A..B")
-        .help("Boards of these distances, as --distance 5..9")
-}
-
-fn farthest<'a>(alloc: Global) -> Arg<'a>
-    ensures { IsArg result (flag (codes "farthest")) }
-{
-    Arg::new(alloc, "farthest")
-        .long("farthest")
-        .action(ArgAction::SetTrue)
-        .help("Boards of the level's greatest distance")
-}
-
-fn every<'a>(alloc: Global) -> Arg<'a>
-    ensures { IsArg result (number_option (codes "every") (Unsigned 1 4294967295) (codes "1")) }
-{
-    Arg::new(alloc, "every")
-        .long("every")
-        .value_name("K")
-        .value_parser(ValueParser::unsigned(1, u64::from(u32::MAX)))
-        .default_value("1")
-        .help("Each K-th of these")
-}
-
-fn count<'a>(alloc: Global) -> Arg<'a>
-    ensures { IsArg result (flag (codes "count")) }
-{
-    Arg::new(alloc, "count")
-        .long("count")
-        .action(ArgAction::SetTrue)
-        .help("Print how many these are, and no board")
-}
-
-fn folder<'a>(alloc: Global) -> Arg<'a>
-    ensures { IsArg result folder }
-{
-    let folder = Arg::new(alloc, "FOLDER").required(true).help(
-        "A folder with the files level_00.awdb, level_01.awdb and so on",
-    );
-    named(folder)
-}
-
-fn board<'a>(alloc: Global) -> Arg<'a>
-    ensures { IsArg result board }
-{
-    Arg::new(alloc, "BOARD")
-        .required(true)
-        .help("The stones in the pits, as 0,0,0,0,0,1/1,0,0,0,0,0")
+    let command = with_word(command, count(alloc));
+    with_word(command, unverified(alloc))
 }

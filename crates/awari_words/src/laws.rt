@@ -19,7 +19,7 @@ pub fn worked_words()
 
     // The values stand under their names, in the order in which they were given.
     ensures ask { named (codes "awari" ∷ codes "ask" ∷ codes "levels" ∷ codes "0/1" ∷ [])
-        ≡ Some (codes "ask", (codes "FOLDER", codes "levels" ∷ []) ∷ (codes "BOARD", codes "0/1" ∷ []) ∷ (codes "json", codes "false" ∷ []) ∷ []) }
+        ≡ Some (codes "ask", (codes "FOLDER", codes "levels" ∷ []) ∷ (codes "BOARD", codes "0/1" ∷ []) ∷ (codes "json", codes "false" ∷ []) ∷ (codes "unverified", codes "false" ∷ []) ∷ []) }
 
     // Any number of words of moves may stand behind the limit.
     ensures judge { named (codes "awari" ∷ codes "judge" ∷ codes "0/1" ∷ codes "9" ∷ codes "02" ∷ codes "1" ∷ codes "3" ∷ [])
@@ -31,7 +31,7 @@ pub fn worked_words()
     ensures build { named (codes "awari" ∷ codes "build" ∷ codes "--owners" ∷ codes "4" ∷ codes "12" ∷ [])
         ≡ Some (
           codes "build",
-          (codes "owners", codes "4" ∷ []) ∷ (codes "TOP", codes "12" ∷ []) ∷ (codes "progress", codes "false" ∷ [])
+          (codes "owners", codes "4" ∷ []) ∷ (codes "TOP", codes "12" ∷ []) ∷ (codes "progress", codes "false" ∷ []) ∷ (codes "estimate", codes "false" ∷ [])
               ∷ (codes "room", codes "64" ∷ []) ∷ (codes "sweeps", codes "1000" ∷ []) ∷ [],
         ) }
 
@@ -39,21 +39,21 @@ pub fn worked_words()
     ensures progress { named (codes "awari" ∷ codes "build" ∷ codes "12" ∷ codes "--progress" ∷ [])
         ≡ Some (
           codes "build",
-          (codes "TOP", codes "12" ∷ []) ∷ (codes "progress", codes "true" ∷ []) ∷ (codes "owners", codes "0" ∷ [])
+          (codes "TOP", codes "12" ∷ []) ∷ (codes "progress", codes "true" ∷ []) ∷ (codes "estimate", codes "false" ∷ []) ∷ (codes "owners", codes "0" ∷ [])
               ∷ (codes "room", codes "64" ∷ []) ∷ (codes "sweeps", codes "1000" ∷ []) ∷ [],
         ) }
 
-    // An option that has no default is not there if it isn't given.
-    ensures threads { named (codes "awari" ∷ codes "build" ∷ codes "--threads" ∷ codes "3" ∷ codes "12" ∷ [])
+    // An option that has no default is not there if it isn't given. It may have a short name.
+    ensures threads { named (codes "awari" ∷ codes "build" ∷ codes "-j" ∷ codes "3" ∷ codes "12" ∷ [])
         ≡ Some (
           codes "build",
-          (codes "threads", codes "3" ∷ []) ∷ (codes "TOP", codes "12" ∷ []) ∷ (codes "progress", codes "false" ∷ []) ∷ (codes "owners", codes "0" ∷ [])
+          (codes "threads", codes "3" ∷ []) ∷ (codes "TOP", codes "12" ∷ []) ∷ (codes "progress", codes "false" ∷ []) ∷ (codes "estimate", codes "false" ∷ []) ∷ (codes "owners", codes "0" ∷ [])
               ∷ (codes "room", codes "64" ∷ []) ∷ (codes "sweeps", codes "1000" ∷ []) ∷ [],
         ) }
 
     // Behind `--` a word may begin with a hyphen.
     ensures hyphen { named (codes "awari" ∷ codes "verify" ∷ codes "--" ∷ codes "-levels" ∷ [])
-        ≡ Some (codes "verify", (codes "FOLDER", codes "-levels" ∷ []) ∷ []) }
+        ≡ Some (codes "verify", (codes "FOLDER", codes "-levels" ∷ []) ∷ (codes "progress", codes "false" ∷ []) ∷ []) }
 
     // No command, a word that is none, for either of two reasons, a word too few, a level above the
     // highest, and threads out of range.

@@ -16,6 +16,7 @@
 //!     }
 #![tactic(auto)]
 
+mod arguments;
 mod commands;
 mod helps;
 mod laws;

@@ -42,14 +42,15 @@ pub enum Request<'m, 'a> {
         limit: u32,
         moves: Option<&'m [&'a str]>,
     },
-    /// `build TOP [--folder FOLDER] [--progress] [--threads N] [--owners W] [--room R] [--sweeps S]`: the
-    /// levels up to this one.
+    /// `build TOP [--folder FOLDER] [--progress] [--estimate] [--threads N] [--owners W] [--room R]
+    /// [--sweeps S]`: the levels up to this one, or what they take.
     Build {
         top: u8,
         folder: Option<&'a str>,
         threads: Option<u8>,
         pace: Pace,
         progress: bool,
+        estimate: bool,
     },
     /// `migrate FROM TO`: the levels of a folder brought over into another one.
     Migrate {
@@ -80,44 +81,53 @@ pub enum Request<'m, 'a> {
 /// What is asked of the levels in a folder.
 #[derive(Clone, Copy)]
 pub enum Question<'a> {
-    /// `verify FOLDER`: whether they are right.
-    Verify,
+    /// `verify FOLDER [--levels TOP] [--digest HEX] [--progress]`: whether they are right.
+    Verify {
+        levels: Option<u8>,
+        digest: Option<&'a str>,
+        progress: bool,
+    },
     /// `text FOLDER [LEVEL] [--boards]`: their text, or that of one.
     Text {
         level: Option<u8>,
         boards: bool,
     },
-    /// `ask FOLDER BOARD [--json]`: the entry of a board.
+    /// `ask FOLDER BOARD [--json] [--unverified]`: the entry of a board.
     Ask {
         board: &'a str,
         json: bool,
+        unverified: bool,
     },
-    /// `moves FOLDER BOARD [--replies] [--json]`: what each legal move of a board is worth.
+    /// `moves FOLDER BOARD [--replies] [--json] [--unverified]`: what each legal move of a board is worth.
     Moves {
         board: &'a str,
         replies: bool,
         json: bool,
+        unverified: bool,
     },
-    /// `line FOLDER BOARD [--longest] [--plies] [--json]`: the play from a board in which both sides
-    /// follow the plans, or one side holds out.
+    /// `line FOLDER BOARD [--longest] [--plies] [--json] [--unverified]`: the play from a board in which
+    /// both sides follow the plans, or one side holds out.
     Line {
         board: &'a str,
         longest: bool,
         plies: bool,
         json: bool,
+        unverified: bool,
     },
-    /// `serve FOLDER TOP OWNERS`: the answers to lines, while levels are built.
+    /// `serve FOLDER TOP OWNERS [--unverified]`: the answers to lines, while levels are built.
     Serve {
         top: u8,
         owners: u8,
+        unverified: bool,
     },
-    /// `counts FOLDER [LEVEL] [--json]`: the levels in numbers, or one.
+    /// `counts FOLDER [LEVEL] [--json] [--unverified]`: the levels in numbers, or one.
     Counts {
         level: Option<u8>,
         json: bool,
+        unverified: bool,
     },
-    /// `boards FOLDER LEVEL [--value A..B] [--distance A..B] [--farthest] [--every K] [--count]`: the boards
-    /// of a level.
+    /// `boards FOLDER LEVEL [--value A..B] [--distance A..B] [--farthest] [--every K] [--count]
+    /// [--unverified]`: the boards of a level.
     Boards {
         level: u8,
         value: Option<&'a str>,
@@ -125,6 +135,7 @@ pub enum Question<'a> {
         farthest: bool,
         every: u32,
         count: bool,
+        unverified: bool,
     },
 }
 
@@ -210,6 +221,7 @@ fn build_request<'m, 'a: 'm>(given: &'m ArgMatches<'a>) -> Option<Request<'m, 'a
         threads: byte(given, "threads"),
         pace: pace_of(given)?,
         progress: flag(given, "progress"),
+        estimate: flag(given, "estimate"),
     })
 }
 
@@ -219,7 +231,11 @@ fn verify_request<'m, 'a: 'm>(given: &'m ArgMatches<'a>) -> Option<Request<'m, '
 {
     Some(Request::Read {
         folder: text(given, "FOLDER")?,
-        question: Question::Verify,
+        question: Question::Verify {
+            levels: byte(given, "levels"),
+            digest: text(given, "digest"),
+            progress: flag(given, "progress"),
+        },
     })
 }
 
@@ -255,6 +271,7 @@ fn ask_request<'m, 'a: 'm>(given: &'m ArgMatches<'a>) -> Option<Request<'m, 'a>>
         question: Question::Ask {
             board: text(given, "BOARD")?,
             json: flag(given, "json"),
+            unverified: flag(given, "unverified"),
         },
     })
 }
@@ -269,6 +286,7 @@ fn moves_request<'m, 'a: 'm>(given: &'m ArgMatches<'a>) -> Option<Request<'m, 'a
             board: text(given, "BOARD")?,
             replies: flag(given, "replies"),
             json: flag(given, "json"),
+            unverified: flag(given, "unverified"),
         },
     })
 }
@@ -284,6 +302,7 @@ fn line_request<'m, 'a: 'm>(given: &'m ArgMatches<'a>) -> Option<Request<'m, 'a>
             longest: flag(given, "longest"),
             plies: flag(given, "plies"),
             json: flag(given, "json"),
+            unverified: flag(given, "unverified"),
         },
     })
 }
@@ -297,6 +316,7 @@ fn serve_request<'m, 'a: 'm>(given: &'m ArgMatches<'a>) -> Option<Request<'m, 'a
         question: Question::Serve {
             top: byte(given, "TOP")?,
             owners: byte(given, "OWNERS")?,
+            unverified: flag(given, "unverified"),
         },
     })
 }
@@ -339,6 +359,7 @@ fn counts_request<'m, 'a: 'm>(given: &'m ArgMatches<'a>) -> Option<Request<'m, '
         question: Question::Counts {
             level: byte(given, "LEVEL"),
             json: flag(given, "json"),
+            unverified: flag(given, "unverified"),
         },
     })
 }
@@ -356,6 +377,7 @@ fn boards_request<'m, 'a: 'm>(given: &'m ArgMatches<'a>) -> Option<Request<'m, '
             farthest: flag(given, "farthest"),
             every: number(given, "every")?,
             count: flag(given, "count"),
+            unverified: flag(given, "unverified"),
         },
     })
 }

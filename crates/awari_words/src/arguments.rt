@@ -1,0 +1,353 @@
+//! The arguments and options of the commands: how each is written, and what its help says.
+
+ghost use Rattle.std.specs.Prelude.{◌≡◌, Some, codes, pos};
+ghost use Rattle.clap.specs.declared.builder.value_parser.ValueParser.TheVariants.{NonEmptyString, Signed, Unsigned};
+ghost use Rattle.awari_words.specs.Commands.{board, flag, folder, folder_word, json, level, levels, levels_wish, moves, number, number_option, option, start_folder, threads, top, unverified};
+ghost use Rattle.awari_words.specs.Making.{IsArg};
+
+use awari_block::{MOST_OWNERS, MOST_ROOM, MOST_SWEEPS};
+use awari_table::HIGHEST_LEVEL;
+use clap::builder::ValueParser;
+use clap::{Arg, ArgAction, value_parser};
+use std::alloc::Global;
+
+/// The most threads that may be asked for.
+const MOST_THREADS: u64 = 64;
+
+/// What stands above the options of owners.
+const STUDY: &str = "To study the method; it is slower";
+
+pub(crate) fn pit<'a>(alloc: Global) -> Arg<'a>
+    ensures { IsArg result (number (codes "PIT") (Signed (pos 0) (pos 255))) }
+{
+    Arg::new(alloc, "PIT")
+        .required(true)
+        .value_parser(value_parser!(u8))
+        .help("The pit to play, 0 to 255")
+}
+
+pub(crate) fn limit<'a>(alloc: Global) -> Arg<'a>
+    ensures { IsArg result (number (codes "LIMIT") (Signed (pos 0) (pos 4294967295))) }
+{
+    Arg::new(alloc, "LIMIT")
+        .required(true)
+        .value_parser(value_parser!(u32))
+        .help("The plies without a capture that are not yet an outcome")
+}
+
+pub(crate) fn moves<'a>(alloc: Global) -> Arg<'a>
+    ensures { IsArg result moves }
+{
+    Arg::new(alloc, "MOVES")
+        .action(ArgAction::Append)
+        .help("The pits played, a digit each, as 502 or 5 0 2")
+}
+
+pub(crate) fn top<'a>(alloc: Global) -> Arg<'a>
+    ensures { IsArg result top }
+{
+    Arg::new(alloc, "TOP")
+        .required(true)
+        .value_parser(ValueParser::unsigned(0, u64::from(HIGHEST_LEVEL)))
+        .help("The highest level to build, 0 to 24")
+}
+
+pub(crate) fn start_folder<'a>(alloc: Global) -> Arg<'a>
+    ensures { IsArg result start_folder }
+{
+    let folder = Arg::new(alloc, "folder")
+        .long("folder")
+        .short('f')
+        .value_name("FOLDER")
+        .help("Begin above this folder's levels, and save each there");
+    named(folder)
+}
+
+/// The word or option, whose text may not be empty.
+pub(crate) fn named<'a>(word: Arg<'a>) -> Arg<'a>
+    ensures { result ≡ record word.entry { value_parser = Some NonEmptyString } }
+{
+    word.value_parser(ValueParser::NonEmptyString)
+}
+
+pub(crate) fn progress<'a>(alloc: Global) -> Arg<'a>
+    ensures { IsArg result (flag (codes "progress")) }
+{
+    Arg::new(alloc, "progress")
+        .long("progress")
+        .action(ArgAction::SetTrue)
+        .help("Tell on the error stream how far it is")
+}
+
+pub(crate) fn threads<'a>(alloc: Global) -> Arg<'a>
+    ensures { IsArg result threads }
+{
+    Arg::new(alloc, "threads")
+        .long("threads")
+        .short('j')
+        .value_name("N")
+        .value_parser(ValueParser::unsigned(1, MOST_THREADS))
+        .help("Threads that build a level without owners, 1 to 64")
+}
+
+pub(crate) fn owners<'a>(alloc: Global) -> Arg<'a>
+    ensures { IsArg result (number_option (codes "owners") (Unsigned 0 16) (codes "0")) }
+{
+    Arg::new(alloc, "owners")
+        .help_heading(STUDY)
+        .long("owners")
+        .value_name("W")
+        .value_parser(ValueParser::unsigned(0, u64::from(MOST_OWNERS)))
+        .default_value("0")
+        .help("Owners that share out a level, 0 to 16")
+}
+
+pub(crate) fn room<'a>(alloc: Global) -> Arg<'a>
+    ensures { IsArg result (number_option (codes "room") (Unsigned 1 256) (codes "64")) }
+{
+    Arg::new(alloc, "room")
+        .help_heading(STUDY)
+        .long("room")
+        .value_name("R")
+        .value_parser(ValueParser::unsigned(1, u64::from(MOST_ROOM)))
+        .default_value("64")
+        .help("Batches that a ring between two owners holds, 1 to 256")
+}
+
+pub(crate) fn sweeps<'a>(alloc: Global) -> Arg<'a>
+    ensures { IsArg result (number_option (codes "sweeps") (Unsigned 1 1000) (codes "1000")) }
+{
+    Arg::new(alloc, "sweeps")
+        .help_heading(STUDY)
+        .long("sweeps")
+        .value_name("S")
+        .value_parser(ValueParser::unsigned(1, u64::from(MOST_SWEEPS)))
+        .default_value("1000")
+        .help("Most sweeps in a round, 1 to 1000")
+}
+
+pub(crate) fn with_boards<'a>(alloc: Global) -> Arg<'a>
+    ensures { IsArg result (flag (codes "boards")) }
+{
+    Arg::new(alloc, "boards")
+        .long("boards")
+        .action(ArgAction::SetTrue)
+        .help("Put each board before its line, and leave out the headers")
+}
+
+pub(crate) fn level<'a>(alloc: Global) -> Arg<'a>
+    ensures { IsArg result level }
+{
+    Arg::new(alloc, "LEVEL")
+        .value_parser(ValueParser::unsigned(0, u64::from(HIGHEST_LEVEL)))
+        .help("The one level to tell of, 0 to 24; without it all are")
+}
+
+pub(crate) fn from<'a>(alloc: Global) -> Arg<'a>
+    ensures { IsArg result (folder_word (codes "FROM")) }
+{
+    let from = Arg::new(alloc, "FROM").required(true).help(
+        "A folder with the files level_00.awdb and so on, which is only read",
+    );
+    named(from)
+}
+
+pub(crate) fn to<'a>(alloc: Global) -> Arg<'a>
+    ensures { IsArg result (folder_word (codes "TO")) }
+{
+    let to = Arg::new(alloc, "TO")
+        .required(true)
+        .help("The folder that the new files are written into");
+    named(to)
+}
+
+pub(crate) fn replies<'a>(alloc: Global) -> Arg<'a>
+    ensures { IsArg result (flag (codes "replies")) }
+{
+    Arg::new(alloc, "replies")
+        .long("replies")
+        .action(ArgAction::SetTrue)
+        .help("Tell of the replies that each move leaves")
+}
+
+pub(crate) fn json<'a>(alloc: Global) -> Arg<'a>
+    ensures { IsArg result json }
+{
+    Arg::new(alloc, "json")
+        .long("json")
+        .action(ArgAction::SetTrue)
+        .help("Print JSON, an object a line")
+}
+
+pub(crate) fn longest<'a>(alloc: Global) -> Arg<'a>
+    ensures { IsArg result (flag (codes "longest")) }
+{
+    Arg::new(alloc, "longest")
+        .long("longest")
+        .action(ArgAction::SetTrue)
+        .help("Let the losing side hold out as long as it can")
+}
+
+pub(crate) fn each_ply<'a>(alloc: Global) -> Arg<'a>
+    ensures { IsArg result (flag (codes "plies")) }
+{
+    Arg::new(alloc, "plies")
+        .long("plies")
+        .action(ArgAction::SetTrue)
+        .help("Print a line for each ply")
+}
+
+pub(crate) fn served_top<'a>(alloc: Global) -> Arg<'a>
+    ensures { IsArg result top }
+{
+    Arg::new(alloc, "TOP")
+        .required(true)
+        .value_parser(ValueParser::unsigned(0, u64::from(HIGHEST_LEVEL)))
+        .help("The highest level to build meanwhile, 0 to 24")
+}
+
+pub(crate) fn served_owners<'a>(alloc: Global) -> Arg<'a>
+    ensures { IsArg result (number (codes "OWNERS") (Unsigned 0 16)) }
+{
+    Arg::new(alloc, "OWNERS")
+        .required(true)
+        .value_parser(ValueParser::unsigned(0, u64::from(MOST_OWNERS)))
+        .help("Owners of a level, 0 to 16; with 0 all threads build it together")
+}
+
+pub(crate) fn ranked_level<'a>(alloc: Global) -> Arg<'a>
+    ensures { IsArg result (number (codes "LEVEL") (Signed (pos 0) (pos 255))) }
+{
+    Arg::new(alloc, "LEVEL")
+        .required(true)
+        .value_parser(value_parser!(u8))
+        .help("The stones on the board, 0 to 24")
+}
+
+pub(crate) fn rank<'a>(alloc: Global) -> Arg<'a>
+    ensures { IsArg result (number (codes "RANK") (Signed (pos 0) (pos 4294967295))) }
+{
+    Arg::new(alloc, "RANK")
+        .required(true)
+        .value_parser(value_parser!(u32))
+        .help("The number of the board, from 0 on")
+}
+
+pub(crate) fn plies<'a>(alloc: Global) -> Arg<'a>
+    ensures { IsArg result (number (codes "PLIES") (Signed (pos 0) (pos 255))) }
+{
+    Arg::new(alloc, "PLIES")
+        .required(true)
+        .value_parser(value_parser!(u8))
+        .help("The length of the plays, 0 to 255")
+}
+
+pub(crate) fn listed_level<'a>(alloc: Global) -> Arg<'a>
+    ensures { IsArg result (number (codes "LEVEL") levels) }
+{
+    Arg::new(alloc, "LEVEL")
+        .required(true)
+        .value_parser(ValueParser::unsigned(0, u64::from(HIGHEST_LEVEL)))
+        .help("The stones on each board, 0 to 24")
+}
+
+pub(crate) fn value<'a>(alloc: Global) -> Arg<'a>
+    ensures { IsArg result (option (codes "value")) }
+{
+    Arg::new(alloc, "value")
+        .long("value")
+        .value_name("A..B")
+        .help("Boards of these values, as --value -3..2")
+}
+
+pub(crate) fn distance<'a>(alloc: Global) -> Arg<'a>
+    ensures { IsArg result (option (codes "distance")) }
+{
+    Arg::new(alloc, "distance")
+        .long("distance")
+        .value_name("A..B")
+        .help("Boards of these distances, as --distance 5..9")
+}
+
+pub(crate) fn farthest<'a>(alloc: Global) -> Arg<'a>
+    ensures { IsArg result (flag (codes "farthest")) }
+{
+    Arg::new(alloc, "farthest")
+        .long("farthest")
+        .action(ArgAction::SetTrue)
+        .help("Boards of the level's greatest distance")
+}
+
+pub(crate) fn every<'a>(alloc: Global) -> Arg<'a>
+    ensures { IsArg result (number_option (codes "every") (Unsigned 1 4294967295) (codes "1")) }
+{
+    Arg::new(alloc, "every")
+        .long("every")
+        .value_name("K")
+        .value_parser(ValueParser::unsigned(1, u64::from(u32::MAX)))
+        .default_value("1")
+        .help("Each K-th of these")
+}
+
+pub(crate) fn count<'a>(alloc: Global) -> Arg<'a>
+    ensures { IsArg result (flag (codes "count")) }
+{
+    Arg::new(alloc, "count")
+        .long("count")
+        .action(ArgAction::SetTrue)
+        .help("Print how many these are, and no board")
+}
+
+pub(crate) fn folder<'a>(alloc: Global) -> Arg<'a>
+    ensures { IsArg result folder }
+{
+    let folder = Arg::new(alloc, "FOLDER").required(true).help(
+        "A folder with the files level_00.awdb, level_01.awdb and so on",
+    );
+    named(folder)
+}
+
+pub(crate) fn board<'a>(alloc: Global) -> Arg<'a>
+    ensures { IsArg result board }
+{
+    Arg::new(alloc, "BOARD")
+        .required(true)
+        .help("The stones in the pits, as 0,0,0,0,0,1/1,0,0,0,0,0")
+}
+
+pub(crate) fn estimate<'a>(alloc: Global) -> Arg<'a>
+    ensures { IsArg result (flag (codes "estimate")) }
+{
+    Arg::new(alloc, "estimate")
+        .long("estimate")
+        .action(ArgAction::SetTrue)
+        .help("Build nothing, and tell on the error stream what it takes")
+}
+
+pub(crate) fn levels_wish<'a>(alloc: Global) -> Arg<'a>
+    ensures { IsArg result levels_wish }
+{
+    Arg::new(alloc, "levels")
+        .long("levels")
+        .value_name("TOP")
+        .value_parser(ValueParser::unsigned(0, u64::from(HIGHEST_LEVEL)))
+        .help("Say yes only to levels 0 to TOP, with none missing and none above")
+}
+
+pub(crate) fn digest<'a>(alloc: Global) -> Arg<'a>
+    ensures { IsArg result (option (codes "digest")) }
+{
+    Arg::new(alloc, "digest")
+        .long("digest")
+        .value_name("HEX")
+        .help("Say yes only if the last digest is this one, of 64 digits")
+}
+
+pub(crate) fn unverified<'a>(alloc: Global) -> Arg<'a>
+    ensures { IsArg result unverified }
+{
+    Arg::new(alloc, "unverified")
+        .long("unverified")
+        .action(ArgAction::SetTrue)
+        .help("Answer at once by what the files say, and verify nothing")
+}
