@@ -1,2 +1,3 @@
 pub mod CommandLaws
+pub mod JoinedWords
 pub mod WordRows

@@ -1,4 +1,5 @@
 pub mod Commands
+pub mod Joined
 pub mod Making
 pub mod Named
 pub mod Requests

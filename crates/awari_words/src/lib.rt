@@ -1,6 +1,6 @@
 //! What the words ask for that the program is called with.
 //!
-//! [`understand`] reads them by `clap`, and gives what they name or the text that `clap` prints.
+//! [`joined`] joins spans below zero to their options. [`understand`] reads the words by `clap`, and gives what they name or the text that `clap` prints.
 //! [`request_of`] gives the [`Request`] that this is. The help texts stand here too.
 //!
 //! The words of a move are read, in `crates/awari_cli_tests/src/examples.rt`:
@@ -19,8 +19,10 @@
 mod arguments;
 mod commands;
 mod helps;
+mod joining;
 mod laws;
 mod requests;
 
+pub use joining::joined;
 pub use laws::worked_words;
 pub use requests::{Question, Request, request_of, understand};

@@ -1,0 +1,22 @@
+-- Words in which a span that begins below zero is joined to the option before it: `--value -3..2` is `--value=-3..2`.
+use Rattle.std.specs.Prelude.{ℕ, Bool, true, false, ◌&&◌, ◌||◌, ◌==◌, if◌then◌else◌, List, [], ◌∷◌, ◌++◌, codes, nat_le}
+use Rattle.std.specs.Str.{bytes_eq}
+
+-- the option has a span as its value
+abbrev pub takes_span : List ℕ → Bool
+takes_span word = bytes_eq word (codes "--value") || bytes_eq word (codes "--distance")
+
+-- the text begins with a hyphen (45) and a digit (48 to 57)
+abbrev pub is_below_zero : List ℕ → Bool
+is_below_zero [] = false
+is_below_zero (c ∷ []) = false
+is_below_zero (c ∷ (d ∷ rest)) = c == 45 && (nat_le 48 d && nat_le d 57)
+
+abbrev pub is_joined : List ℕ → List ℕ → Bool
+is_joined word span = takes_span word && is_below_zero span
+
+-- the words in turn, each with its span
+unfoldable pub joined : List (List ℕ) → List (List ℕ)
+joined [] = []
+joined (word ∷ []) = word ∷ []
+joined (word ∷ (next ∷ rest)) = if is_joined word next then (word ++ (codes "=" ++ next)) ∷ joined rest else word ∷ joined (next ∷ rest)

@@ -1,0 +1,74 @@
+//! Spans that begin below zero, joined to the option that takes them.
+
+ghost use Rattle.std.specs.Prelude.{◌≡◌, ◌≤◌, ◌∷◌, ◌++◌, IfOk, codes, length, map};
+ghost use Rattle.std.specs.String.{string_bytes};
+ghost use Rattle.awari_words.specs.Joined.{is_below_zero, is_joined, joined, takes_span};
+
+use std::alloc::{AllocError, Global};
+use std::convert::AsStr;
+
+/// The words, with each span that begins below zero joined by `=` to the option before it, as
+/// `--value=-3..2` of `--value` and `-3..2`. For `clap` takes a word that begins with a hyphen for an
+/// option. It takes memory for the words.
+pub fn joined<S: AsStr>(alloc: Global, words: &[S]) -> Result<Vec<String>, AllocError>
+    ensures { IfOk result (λ all. map string_bytes all.items ≡ joined (map S.text words.now)) }
+{
+    let mut all = Vec::new(alloc);
+    let mut rest = words;
+    while let [word, after @ ..] = rest {
+        let (text, others) = next_word(alloc, word.as_str(), after)?;
+        all.push(text)?;
+        rest = others;
+    }
+    Ok(all)
+}
+
+/// The word, joined with the one after it if that is its span, and the words that are left.
+fn next_word<'w, S: AsStr>(
+    alloc: Global,
+    word: &str,
+    after: &'w [S],
+) -> Result<(String, &'w [S]), AllocError>
+    ensures joined { IfOk result (λ next. string_bytes next.0 ∷ joined (map S.text next.1.now) ≡ joined (word.now ∷ map S.text after.now)) }
+    ensures fewer { IfOk result (λ next. length next.1.now ≤ length after.now) }
+{
+    match after.split_first() {
+        Some((span, others)) if is_joined(word, span.as_str()) => {
+            Ok((with_span(alloc, word, span.as_str())?, others))
+        }
+        _ => Ok((String::from_str(alloc, word)?, after)),
+    }
+}
+
+/// The option and its span in one word.
+fn with_span(alloc: Global, option: &str, span: &str) -> Result<String, AllocError>
+    ensures { IfOk result (λ word. string_bytes word ≡ option.now ++ (codes "=" ++ span.now)) }
+{
+    let mut word = String::from_str(alloc, option)?;
+    word.push_str("=")?;
+    word.push_str(span)?;
+    Ok(word)
+}
+
+/// Whether the second word is a span below zero, and the first an option that takes spans.
+fn is_joined(option: &str, span: &str) -> bool
+    ensures { result ≡ is_joined option.now span.now }
+{
+    takes_span(option) && is_below_zero(span.as_bytes())
+}
+
+fn takes_span(option: &str) -> bool
+    ensures { result ≡ takes_span option.now }
+{
+    option == "--value" || option == "--distance"
+}
+
+/// Whether the text begins with a hyphen and a digit.
+fn is_below_zero(text: &[u8]) -> bool
+    ensures { result ≡ is_below_zero text.now }
+{
+    match text {
+        [b'-', digit, ..] => digit.is_ascii_digit(),
+        _ => false,
+    }
+}
