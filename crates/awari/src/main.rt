@@ -3,6 +3,7 @@
 #![tactic(auto)]
 
 use awari_cli::{Disk, Streams, run};
+use awari_words::joined;
 use std::env::Env;
 use std::process::ExitCode;
 use std::{env, io, str};
@@ -33,9 +34,10 @@ fn main(rt: HostRuntime) -> ExitCode {
     }
 }
 
-/// The program's words, of which the first is its own name.
+/// The program's words, of which the first is its own name. Each span below zero is joined to its option.
 fn words(rt: HostRuntime) -> io::Result<Vec<String>> {
-    Ok(env::args(&rt)?.collect(rt.alloc())?)
+    let words: Vec<String> = env::args(&rt)?.collect(rt.alloc())?;
+    Ok(joined(rt.alloc(), words.as_slice())?)
 }
 
 /// Which word is the first that is not UTF-8. The first one behind the program's name has number 1.

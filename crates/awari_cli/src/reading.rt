@@ -69,7 +69,7 @@ fn run_question<
 {
     let output = &mut streams.output;
     match question {
-        Question::Verify => run_verify(rt, folder, alloc, output, &mut streams.errors),
+        Question::Verify { .. } => run_verify(rt, folder, alloc, output, &mut streams.errors),
         Question::Text {
             level,
             boards: false,
@@ -78,23 +78,26 @@ fn run_question<
             level,
             boards: true,
         } => run_all_boards(rt, folder, alloc, level, output),
-        Question::Ask { board, json: false } => run_ask(rt, folder, alloc, board, output),
-        Question::Ask { board, json: true } => run_ask_json(rt, folder, alloc, board, output),
+        Question::Ask { board, json: false, .. } => run_ask(rt, folder, alloc, board, output),
+        Question::Ask { board, json: true, .. } => run_ask_json(rt, folder, alloc, board, output),
         Question::Moves {
             board,
             replies,
             json: false,
+            ..
         } => run_moves(rt, folder, alloc, MovesQuery { board, replies }, output),
         Question::Moves {
             board,
             replies,
             json: true,
+            ..
         } => run_moves_json(rt, folder, alloc, MovesQuery { board, replies }, output),
         Question::Line {
             board,
             longest,
             plies: false,
             json,
+            ..
         } => {
             let query = PliesQuery {
                 board,
@@ -108,6 +111,7 @@ fn run_question<
             longest,
             plies: true,
             json,
+            ..
         } => {
             let query = PliesQuery {
                 board,
@@ -116,10 +120,10 @@ fn run_question<
             };
             run_plies(rt, folder, alloc, query, output)
         }
-        Question::Serve { top, owners } => {
+        Question::Serve { top, owners, .. } => {
             run_serve(rt, folder, alloc, Growth { top, owners }, streams)
         }
-        Question::Counts { level, json } => {
+        Question::Counts { level, json, .. } => {
             run_counts(rt, folder, alloc, CountsQuery { level, json }, output)
         }
         Question::Boards {
@@ -129,6 +133,7 @@ fn run_question<
             farthest,
             every,
             count,
+            ..
         } => {
             let query = BoardsQuery {
                 level,

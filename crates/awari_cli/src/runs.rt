@@ -148,6 +148,7 @@ fn run_request<
             threads,
             pace,
             progress,
+            ..
         } => {
             let build = Build {
                 top,

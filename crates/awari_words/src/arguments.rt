@@ -111,7 +111,7 @@ pub(crate) fn room<'a>(alloc: Global) -> Arg<'a>
         .value_name("R")
         .value_parser(ValueParser::unsigned(1, u64::from(MOST_ROOM)))
         .default_value("64")
-        .help("Batches that a ring between two owners holds, 1 to 256")
+        .help("Batches that a ring holds, 1 to 256")
 }
 
 pub(crate) fn sweeps<'a>(alloc: Global) -> Arg<'a>
@@ -321,7 +321,7 @@ pub(crate) fn estimate<'a>(alloc: Global) -> Arg<'a>
     Arg::new(alloc, "estimate")
         .long("estimate")
         .action(ArgAction::SetTrue)
-        .help("Build nothing, and tell on the error stream what it takes")
+        .help("Build nothing, and tell what it would take")
 }
 
 pub(crate) fn levels_wish<'a>(alloc: Global) -> Arg<'a>
@@ -331,7 +331,7 @@ pub(crate) fn levels_wish<'a>(alloc: Global) -> Arg<'a>
         .long("levels")
         .value_name("TOP")
         .value_parser(ValueParser::unsigned(0, u64::from(HIGHEST_LEVEL)))
-        .help("Say yes only to levels 0 to TOP, with none missing and none above")
+        .help("Want just levels 0 to TOP: none missing, and none above")
 }
 
 pub(crate) fn digest<'a>(alloc: Global) -> Arg<'a>
@@ -340,7 +340,7 @@ pub(crate) fn digest<'a>(alloc: Global) -> Arg<'a>
     Arg::new(alloc, "digest")
         .long("digest")
         .value_name("HEX")
-        .help("Say yes only if the last digest is this one, of 64 digits")
+        .help("Want this digest of the last file, of 64 digits")
 }
 
 pub(crate) fn unverified<'a>(alloc: Global) -> Arg<'a>

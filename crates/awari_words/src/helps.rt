@@ -54,27 +54,23 @@ EmptyPit at 2` of the second move. docs/FORMATS.md lists them, and docs/RULES.md
 says when a play has an outcome.";
 
 pub const BUILD_HELP: &str = "\
-It prints a line for each level that it builds, the lowest first:
+A line for each level, the lowest first: S boards, of which the mover wins A,
+holds B even and loses C, and the greatest distance K. A folder's levels are
+verified first, and no file is replaced. docs/MANUAL.md has more of all this.
 
-    level L boards S won A even B lost C limit K
-
-Of S boards the mover wins A, holds B even and loses C; K is the greatest
-distance. A folder's levels are verified first, and no file is replaced. One
-builder at a time may save there. N, W, R and S change no level. Without N each
-processor has a thread. The status is 0, or 1 for a refusal; see docs/MANUAL.md.";
+    level L boards S won A even B lost C limit K";
 
 pub const VERIFY_HELP: &str = "\
-It prints a line for each level, in order, and one for them all:
+It prints a line for each level, and one for them all; or a refusal alone:
 
     level L ok limit K    the level is right; K is its greatest distance
     levels M digest H     there are M levels; H is the SHA-256 that the last
                           one's file ends in, zeros for none
+    refused N Name ..     of the first file that is at fault
 
-or else one line, of the first file that is at fault:
-
-    refused N Name level L ..
-
-The status is 0, or 1 for a refusal. A folder that is not there is an empty one.
+The status is 0, or 1 for a refusal. A folder that is not there is an empty one,
+so a script says what it wants: `awari verify FOLDER --levels TOP --digest HEX`.
+If the folder has something else, the status is 1, and the error stream says so.
 docs/FORMATS.md lists the refusals, and has the form of the files.";
 
 pub const TEXT_HELP: &str = "\
@@ -121,18 +117,16 @@ V is the stones that the move captures, C, less the value of the board left. In
 at most D plies a capture or the end comes while the side that V favours follows
 the plans. The plan's line ends in ` plan`. If the play has ended, it prints
 `ended G`, what the mover gains by that. With --replies ` replies R keep K`
-follows D: of R legal moves of the board left, K gain what it is worth.
-
-The status is 0, or 1 for a refusal. docs/FORMATS.md lists them.";
+follows D: of R legal moves of the board left, K gain what it is worth. The
+status is 0, or 1 for a refusal. docs/FORMATS.md lists them.";
 
 pub const LINE_HELP: &str = "\
 It prints `value V`, `moves P P ..`, `outcome X`, and X is V: both play their
 plans to the end, or until more plies captured nothing than any level's limit.
 A lost board's plan is the lowest pit that keeps V, not the most stubborn one.
-With --longest the losing side holds out, whatever it loses so, to a capture or
-the end: `value V`, `distance D`, D `moves`. So D is no length of best play.
-With --plies there is a line for each ply, R being the first mover's lead and B
-the board then. With --json all are objects, as docs/FORMATS.md shows.
+With --longest the losing side holds out to a capture or the end: `value V`,
+`distance D`, D `moves`. With --plies there is a line for each ply, R being the
+first mover's lead and B the board then. With --json all are objects.
 
     ply N pit P captures C running R board B value V distance D
     repeats M    the last, if value 0 comes back to the board after ply M";
@@ -148,8 +142,7 @@ line of standard input has its answer: examples/ask_many.py asks a million.
     seen           `seen M`: the last answers went by levels 0 to M - 1
     quit           `bye`, and nothing after it is answered; other lines: `what`
 
-It ends at `quit` or with the input, once the thread has ended, whose refusal is
-printed. The status is 0, or 1 for a refusal. docs/FORMATS.md lists them.";
+It ends at `quit` or with the input, and prints the thread's refusal if it has.";
 
 pub const RANK_HELP: &str = "\
 It prints `L R`: the board has L stones, and R is its number among the boards of
@@ -192,14 +185,13 @@ a line for each value and each distance that some of its boards have:
     value V boards N       N boards have the value V for their mover
     distance D boards N    N boards have the distance D
 
-With --json each line is an object. The levels are verified first. A refusal has
-status 1, as `refused 59 NotYet levels M` if the folder has levels 0 to M - 1.";
+With --json each line is an object. docs/FORMATS.md lists the refusals.";
 
 pub const BOARDS_HELP: &str = "\
 It prints a line for each board that has all that is asked for, by rank:
 
     BOARD V P D    the board, its value, a pit to play or -, and its distance
 
-A..B are the numbers from A to B. The levels are verified first. The status is
-0, or 1 for a refusal, as `refused 59 NotYet levels M` if the folder has only
-levels 0 to M - 1, or `refused 95 Span` if A..B is no such word.";
+A..B are the numbers from A to B; A.. and ..B have one end, and A is one number.
+The levels are verified first. The status is 0, or 1 for a refusal, as `refused
+95 Span` if A..B is no such word. docs/FORMATS.md lists them.";
