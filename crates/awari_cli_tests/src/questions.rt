@@ -256,9 +256,13 @@ const BOARDS: [Line; 17] = [
         0,
     ),
     (&["awari", "boards", LISTED, "2", "--count"], "78\n", 0),
-    (&["awari", "boards", LISTED, "2", "--value", "2..1"], "", 0),
     (
-        &["awari", "boards", LISTED, "2", "--value", "1"],
+        &["awari", "boards", LISTED, "2", "--value", "1..", "--count"],
+        "24\n",
+        0,
+    ),
+    (
+        &["awari", "boards", LISTED, "2", "--value", "2..1"],
         "refused 95 Span\n",
         1,
     ),

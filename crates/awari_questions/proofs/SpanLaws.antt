@@ -1,13 +1,14 @@
 -- Spans that are spelled.
-use Rattle.std.proofs.Common.{◌≡◌, ◌≢◌, ℕ, zero, suc, ◌<◌, ◌==◌, Bool, true, false, List, [], ◌∷◌, length, get_or, drop, cond, ℤ, Some, None, Result, Ok, Err, FitsSigned, subst, sym, ap, ◌∙◌, refl, arith}
+use Rattle.std.proofs.Common.{◌≡◌, ◌≢◌, ℕ, zero, suc, ◌<◌, ◌==◌, Bool, true, false, List, [], ◌∷◌, ◌++◌, length, get_or, drop, cond, ℤ, Some, None, Result, Ok, Err, FitsSigned, subst, sym, ap, ◌∙◌, refl, arith}
 use mir.Syntax.{w64}
 use mir.Val.{of_z, to_z}
 use Rattle.std.proofs.lemmas.Bool.Decides.{nat_tests}
+use Rattle.std.proofs.lemmas.Grind.{common_steps}
 use Rattle.std.proofs.lemmas.Int.{to_z-of_z}
 use Rattle.std.proofs.lemmas.Str.Parse.{digit_at}
 use Rattle.std.specs.Result.{result_ok}
 use Rattle.std.specs.Str.Parse.{AllDigits, IsNumeral, ParsesSigned, signed_digits_value, without_leading_sign}
-use Rattle.awari_questions.specs.Boards.{SpellsNumber}
+use Rattle.awari_questions.specs.Spans.{IsEnd, SpellsNumber}
 
 -- a number that was read
 pub spells-parsed : {E : Type 0} (text : List ℕ) (read : Result ℤ E) (number : ℤ) → ParsesSigned w64 10 text read → result_ok read ≡ Some number → SpellsNumber text (to_z w64 (of_z w64 number))
@@ -46,3 +47,20 @@ no_dot (c ∷ cs) numeral i inside = go (c == 45) (c == 43) refl refl numeral.1 
     go true plus is_minus is_plus digits = behind digits (λ dot. grind (arith, nat_tests))
     go false true is_minus is_plus digits = behind digits (λ dot. grind (arith, nat_tests))
     go false false is_minus is_plus digits = digit-no_dot (c ∷ cs) digits
+
+-- no dot is in what spells an end
+pub end-no_dot : (otherwise : ℤ) (text : List ℕ) (n : ℤ) → IsEnd otherwise text n → (i : ℕ) → i < length text → get_or text i 0 ≢ 46
+end-no_dot otherwise [] n is i inside = absurd (omega (arith, inside))
+end-no_dot otherwise (c ∷ cs) n is i inside = no_dot (c ∷ cs) is.numeral i inside
+
+-- a text spells one end
+pub one_end : (otherwise : ℤ) (text : List ℕ) (n m : ℤ) → IsEnd otherwise text n → IsEnd otherwise text m → n ≡ m
+one_end otherwise [] n m is also = is ∙ sym also
+one_end otherwise (c ∷ cs) n m is also = is.value ∙ sym also.value
+
+-- a text with a dot in it is not free of dots
+pub dot_in : (text low rest : List ℕ) → text ≡ low ++ 46 ∷ rest → ((i : ℕ) → i < length text → get_or text i 0 ≢ 46) → ⊥
+dot_in text low rest parts free =
+    let inside : length low < length text = grind (arith, common_steps) in
+    let dot : get_or text (length low) 0 ≡ 46 = grind (arith, common_steps) in
+    free (length low) inside dot

@@ -1,46 +1,17 @@
 -- The commands `boards` and `text --boards`: what is printed of the boards of a level.
-use Rattle.std.specs.Prelude.{◌≡◌, ℕ, max, Bool, true, false, List, ◌++◌, ◌∷◌, [], length, codes, ℤ, Option, Some, None, FitsSigned}
+use Rattle.std.specs.Prelude.{◌≡◌, ℕ, max, Bool, true, false, List, ◌++◌, ◌∷◌, [], length, Option, Some, None}
 use Rattle.std.specs.Fmt.{decimal}
-use Rattle.std.specs.Int.{w64}
 use Rattle.std.specs.Io.KnownBytes.{Appends}
 use Rattle.std.specs.List.{flat_map, range_with_len}
-use Rattle.std.specs.Borrow.{Bor}
-use Rattle.std.specs.Str.Parse.{IsNumeral, signed_digits_value, without_leading_sign}
 use Rattle.awari_answers.specs.Asked.{AreLevelsTo}
 use Rattle.awari_rank.specs.Tuples.{tuples}
 use Rattle.awari_table.specs.declared.TheConstants.{HIGHEST_LEVEL}
 use Rattle.awari_table.specs.declared.images.Image.{Image}
 use Rattle.awari_questions.specs.Listing.{board_lines, wanted_boards}
 use Rattle.awari_questions.specs.Loads.{HasLevel}
+use Rattle.awari_questions.specs.Spans.{AsksFor}
 use Rattle.awari_questions.specs.declared.boards.BoardsQuery.{BoardsQuery}
-use Rattle.awari_questions.specs.declared.listing.Span.{Span}
 use Rattle.awari_questions.specs.declared.listing.Wanted.{Wanted}
-
--- the text is a decimal number of at most 64 bits, with a sign or not
-pub record SpellsNumber (text : List ℕ) (number : ℤ) : Type 0 where
-  pub numeral : IsNumeral 10 (without_leading_sign text)
-  pub value : number ≡ signed_digits_value 10 text
-  pub fits : FitsSigned w64 number
-
--- the text is two numbers with two dots between them
-pub record IsSpan (text : List ℕ) (span : Span) : Type 0 where
-  pub low : List ℕ
-  pub high : List ℕ
-  pub parts : text ≡ low ++ (codes ".." ++ high)
-  pub lowest : SpellsNumber low span.low
-  pub highest : SpellsNumber high span.high
-
--- the span that a text asks for, if there is one
-abbrev pub AsksFor : Option (Bor (List ℕ)) → Option Span → Type 0
-AsksFor None None = Unit {0}
-AsksFor None (Some span) = ⊥
-AsksFor (Some text) None = ⊥
-AsksFor (Some text) (Some span) = IsSpan text.now span
-
--- a text asks for a span that no numbers have
-abbrev pub AsksForNone : Option (Bor (List ℕ)) → Type 0
-AsksForNone None = ⊥
-AsksForNone (Some text) = (span : Span) → IsSpan text.now span → ⊥
 
 -- the boards that are asked for; each 0th counts as each
 pub record IsWanted (query : BoardsQuery) (wanted : Wanted) : Type 0 where

@@ -1,8 +1,9 @@
-pub mod Places
-pub mod Plays
 pub mod Batches
-pub mod Listing
-pub mod Loads
 pub mod Boards
 pub mod Counts
+pub mod Listing
+pub mod Loads
+pub mod Places
+pub mod Plays
 pub mod Shares
+pub mod Spans

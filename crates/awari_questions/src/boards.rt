@@ -1,20 +1,20 @@
 //! The commands `boards` and `text --boards`: the boards of a level with what is known of them.
 
-ghost use Rattle.std.specs.Prelude.{◌≡◌, ◌≤◌, ◌<◌, true, length, IfSome, IsNone, IfOk, OnErr, ◌⊎◌};
+ghost use Rattle.std.specs.Prelude.{◌≡◌, ◌≤◌, ◌<◌, true, length, IfOk, OnErr, ◌⊎◌};
 ghost use Rattle.std.specs.Io.KnownBytes.{Appends};
 ghost use Rattle.awari_folder.specs.Contents.{Same};
-ghost use Rattle.awari_questions.specs.Boards.{AppendsWanted, AsksFor, AsksForNone, IsSpan, IsWanted, PrintsAllBoards, PrintsBoards, all_lines};
+ghost use Rattle.awari_questions.specs.Boards.{AppendsWanted, IsWanted, PrintsAllBoards, PrintsBoards, all_lines};
 ghost use Rattle.awari_questions.specs.Listing.{board_lines};
-ghost use Rattle.awari_questions.specs.declared.listing.Span.{Span};
+ghost use Rattle.awari_questions.specs.Spans.{AsksForNone};
 ghost use Rattle.awari_rank.specs.Tuples.{tuples};
 
-use crate::listing::{Span, Wanted, count_boards, print_boards};
+use crate::listing::{Wanted, count_boards, print_boards};
 use crate::loads::load_to;
+use crate::spans::{NoSpan, asked_span};
 use awari_answers::{load_levels, print, refuse, status_of};
 use awari_folder::Folder;
 use awari_table::{HIGHEST_LEVEL, Shelf};
 use std::alloc::Global;
-use std::fmt;
 use std::io::Write;
 use std::thread::Threads;
 
@@ -23,9 +23,9 @@ use std::thread::Threads;
 pub struct BoardsQuery<'a> {
     /// The stones on each board.
     pub level: u8,
-    /// Values, as `-3..2`.
+    /// Values, as `-3..2`, `1..`, `..0` or `5`.
     pub value: Option<&'a str>,
-    /// Distances, as `1..9`.
+    /// Distances, likewise.
     pub distance: Option<&'a str>,
     /// Those of the greatest distance alone.
     pub farthest: bool,
@@ -35,21 +35,6 @@ pub struct BoardsQuery<'a> {
     pub count: bool,
 }
 
-/// 95: the values or the distances are not two numbers with two dots between them. It is printed as its
-/// number and its name.
-#[derive(Clone, Copy, Debug, PartialEq, Eq)]
-pub struct NoSpan;
-
-impl fmt::Display for NoSpan {
-    ghost use Rattle.std.specs.Prelude.{Some, codes};
-
-    ghost output = { λ _. Some (codes "95 Span") };
-
-    fn fmt<W: fmt::Write>(&self, f: &mut fmt::Formatter<W>) -> fmt::Result {
-        write!(f, "95 Span")
-    }
-}
-
 /// All boards of a level.
 const ALL: Wanted = Wanted {
     values: None,
@@ -57,33 +42,6 @@ const ALL: Wanted = Wanted {
     farthest: false,
     every: 1,
 };
-
-/// The numbers that the text names, if it is two numbers with two dots between them.
-fn span_of(text: &str) -> Option<Span>
-    ensures some { IfSome result (IsSpan text.now) }
-    ensures none { IsNone result → (span : Span) → IsSpan text.now span → ⊥ }
-{
-    let (low, rest) = text.split_once('.')?;
-    let high = rest.strip_prefix('.')?;
-    Some(Span {
-        low: low.parse::<i64>().ok()?,
-        high: high.parse::<i64>().ok()?,
-    })
-}
-
-/// The span that is asked for, if there is one.
-fn asked_span(text: Option<&str>) -> Result<Option<Span>, NoSpan>
-    ensures asked { IfOk result (AsksFor text.entry) }
-    ensures none { OnErr result (AsksForNone text.entry) }
-{
-    let Some(text) = text else {
-        return Ok(None);
-    };
-    match span_of(text) {
-        Some(span) => Ok(Some(span)),
-        None => Err(NoSpan),
-    }
-}
 
 /// The boards that the query asks for. It is refused as 95 if values or distances are not as they have
 /// to be.

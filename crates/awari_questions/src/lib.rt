@@ -26,13 +26,15 @@ mod loads;
 mod places;
 mod shares;
 mod shown;
+mod spans;
 mod sums;
 
-pub use boards::{BoardsQuery, NoSpan, run_all_boards, run_boards, wanted_of};
+pub use boards::{BoardsQuery, run_all_boards, run_boards, wanted_of};
 pub use counting::{PlaysFault, plays_from, run_plays};
 pub use counts::{CountsQuery, run_counts};
 pub use laws::counts_come_to_the_size;
 pub use listing::{Span, Wanted};
 pub use loads::LevelFault;
 pub use places::{Place, PlaceFault, board_at, place_of, run_board, run_rank};
+pub use spans::NoSpan;
 pub use sums::PlayCounts;
