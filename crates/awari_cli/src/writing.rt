@@ -109,11 +109,13 @@ fn run_build_on<'a, T: Threads + Clock + Wait + Sync, H: Host<'a>, R: Read, W: R
     match host.lock(name, &mut folder, build.top, &mut streams.errors) {
         Ok(()) => {}
         Err(fault) => {
+            host.tell(name, &folder, &mut streams.errors);
             host.close(name, folder);
             return refuse(&mut streams.output, fault);
         }
     }
     let status = run_build_of(rt, &mut folder, alloc, build, streams);
+    host.tell(name, &folder, &mut streams.errors);
     host.close(name, folder);
     status
 }
@@ -190,6 +192,8 @@ pub(crate) fn run_migration<'a, H: Host<'a>, R: Read, W: Replies, E: Write>(
     let mut source = host.open(from, Purpose::Read, &mut streams.errors);
     let mut target = host.open(to, Purpose::Write, &mut streams.errors);
     let status = run_migrate(alloc, &mut source, &mut target, &mut streams.output);
+    host.tell(to, &target, &mut streams.errors);
+    host.tell(from, &source, &mut streams.errors);
     host.close(to, target);
     host.close(from, source);
     status
