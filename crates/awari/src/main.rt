@@ -2,7 +2,7 @@
 //! host's disk.
 #![tactic(auto)]
 
-use awari_cli::{Disk, Streams, run};
+use awari_cli::{Answers, Disk, Streams, run};
 use awari_words::joined;
 use std::env::Env;
 use std::process::ExitCode;
@@ -16,11 +16,12 @@ fn main(rt: HostRuntime) -> ExitCode {
         Ok(words) => {
             let mut streams = Streams {
                 input: rt.stdin(),
-                output: rt.stdout(),
+                output: Answers::new(rt.stdout()),
                 errors: rt.stderr(),
             };
             let mut disk = Disk::new(&rt, rt.alloc());
             let status = run(&rt, &mut disk, rt.alloc(), words.as_slice(), &mut streams);
+            streams.output.tell(&mut streams.errors);
             ExitCode::from(status)
         }
         Err(error) => {

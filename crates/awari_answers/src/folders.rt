@@ -10,9 +10,10 @@ ghost use Rattle.awari_answers.specs.Folders.{IsEntryOf, PrintsFolder, PrintsEnt
 ghost use Rattle.awari_answers.specs.declared.asked.NoAnswer.TheVariants as no_answer;
 
 use crate::asked::{NoAnswer, ask_folder};
-use crate::hints::tell_folder_fault;
+use crate::hints::refuse_folder;
 use crate::json::refuse_json;
 use crate::printing::{print, print_bytes, refuse, status_of};
+use crate::remarks::Replies;
 use arrayvec::ArrayString;
 use awari_board::Board;
 use awari_folder::{Folder, Together, load};
@@ -91,7 +92,7 @@ fn look_up<T: Threads + Sync, F: Folder>(
 }
 
 /// Prints the entry of a board, or the refusal.
-pub fn run_ask<T: Threads + Sync, F: Folder, W: Write>(
+pub fn run_ask<T: Threads + Sync, F: Folder, W: Replies>(
     rt: &T,
     folder: &mut F,
     alloc: Global,
@@ -109,7 +110,7 @@ pub fn run_ask<T: Threads + Sync, F: Folder, W: Write>(
 }
 
 /// Prints the board with its entry, or the refusal, as JSON in one line.
-pub fn run_ask_json<T: Threads + Sync, F: Folder, W: Write>(
+pub fn run_ask_json<T: Threads + Sync, F: Folder, W: Replies>(
     rt: &T,
     folder: &mut F,
     alloc: Global,
@@ -130,7 +131,8 @@ pub fn run_ask_json<T: Threads + Sync, F: Folder, W: Write>(
 }
 
 /// Verifies the levels of a folder, and prints a line for each and one for all. A refusal is
-/// printed alone. If a board is at fault, `errors` is told which, and what its rule asks.
+/// printed alone, and `errors` is told what it means. If a board is at fault, it is told which, and what
+/// its rule asks.
 pub fn run_verify<T: Threads + Sync, F: Folder, W: Write, E: Write>(
     rt: &T,
     folder: &mut F,
@@ -144,11 +146,7 @@ pub fn run_verify<T: Threads + Sync, F: Folder, W: Write, E: Write>(
 {
     let stored = match load(&Together(rt), alloc, folder, HIGHEST_LEVEL) {
         Ok(stored) => stored,
-        Err(fault) => {
-            let status = refuse(writer, fault);
-            tell_folder_fault(errors, fault);
-            return status;
-        }
+        Err(fault) => return refuse_folder(writer, errors, fault),
     };
     if !print_levels(&stored.shelf, writer) {
         return 1;

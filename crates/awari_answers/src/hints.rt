@@ -1,7 +1,10 @@
 //! What the error stream says of a level that breaks a rule: which board does, where its entry stands, and
 //! what the rule asks. It is said beside a refusal, and nothing is promised of it.
 
-use crate::printing::print;
+ghost use Rattle.std.specs.Prelude.{◌≡◌};
+
+use crate::printing::{Refused, print};
+use crate::remarks::Explained;
 use awari_board::Board;
 use awari_check::{Answer, CheckFault};
 use awari_folder::FolderFault;
@@ -11,8 +14,18 @@ use awari_verify::{Rule, VerifyFault};
 use std::fmt;
 use std::io::Write;
 
-/// Says which board of a folder's levels breaks a rule, if that is the fault.
-pub(crate) fn tell_folder_fault<E: Write>(errors: &mut E, fault: FolderFault) {
+/// Writes the refusal of a folder, and gives the status 1. It says what the fault means, and which board
+/// of the levels breaks a rule, if that is the fault.
+pub(crate) fn refuse_folder<W: Write, E: Write>(
+    writer: &mut W,
+    errors: &mut E,
+    fault: FolderFault,
+) -> u8
+    ensures { result ≡ 1 }
+{
+    print(writer, &Refused(fault));
+    // There is nowhere to say that this could not be written.
+    print(errors, &Explained(fault));
     if let FolderFault::Verify {
         level,
         fault: VerifyFault::Refused { rank, rule },
@@ -21,19 +34,35 @@ pub(crate) fn tell_folder_fault<E: Write>(errors: &mut E, fault: FolderFault) {
         let place = Place::Byte(byte_of(rank, rule));
         tell_broken(errors, level, rank, rule, place);
     }
+    1
 }
 
-/// Says which board of a text's levels breaks a rule, if that is the answer.
+/// Says which board of a text's levels breaks a rule, if that is the answer, or what a refusal means.
 pub fn tell_answer<E: Write>(errors: &mut E, answer: Answer) {
-    if let Answer::Fault {
-        fault: CheckFault::Verify {
+    match answer {
+        Answer::Yes { .. } => {}
+        Answer::Fault { fault } => tell_check_fault(errors, fault),
+        Answer::Read => {
+            print(errors, &Explained("14 Read"));
+        }
+    }
+}
+
+fn tell_check_fault<E: Write>(errors: &mut E, fault: CheckFault) {
+    match fault {
+        CheckFault::Verify {
             level,
             fault: VerifyFault::Refused { rank, rule },
-        },
-    } = answer
-    {
-        let place = Place::Line(line_of(level, rank, rule));
-        tell_broken(errors, level, rank, rule, place);
+        } => {
+            let place = Place::Line(line_of(level, rank, rule));
+            tell_broken(errors, level, rank, rule, place);
+        }
+        CheckFault::Verify { fault, .. } => {
+            print(errors, &Explained(fault));
+        }
+        CheckFault::Table { fault } => {
+            print(errors, &Explained(fault));
+        }
     }
 }
 

@@ -11,12 +11,12 @@ ghost use Rattle.awari_answers.specs.declared.asked.NoAnswer.TheVariants as no_a
 use crate::asked::{Asked, NoAnswer, ask_folder};
 use crate::json::refuse_json;
 use crate::printing::{print, refuse, status_of};
+use crate::remarks::Replies;
 use awari_folder::Folder;
 use awari_play::{Line, best_line, longest_line};
 use awari_table::Entry;
 use std::alloc::Global;
 use std::fmt;
-use std::io::Write;
 use std::thread::Threads;
 
 /// The entry of a board, and the line of play from it. It is printed as three lines, without the last
@@ -102,7 +102,7 @@ fn line_of<T: Threads + Sync, F: Folder>(
 }
 
 /// Prints the value of a board and the line of play from it, or the refusal.
-pub fn run_line<T: Threads + Sync, F: Folder, W: Write>(
+pub fn run_line<T: Threads + Sync, F: Folder, W: Replies>(
     rt: &T,
     folder: &mut F,
     alloc: Global,
@@ -140,7 +140,7 @@ fn longest_line_of<T: Threads + Sync, F: Folder>(
 
 /// Prints the value and the distance of a board, and the play from it in which the favoured side
 /// follows the plans and the other side holds out, or the refusal.
-pub fn run_longest_line<T: Threads + Sync, F: Folder, W: Write>(
+pub fn run_longest_line<T: Threads + Sync, F: Folder, W: Replies>(
     rt: &T,
     folder: &mut F,
     alloc: Global,
@@ -248,7 +248,7 @@ impl fmt::Display for LaterPits<'_> {
 }
 
 /// Prints the value of a board and the line of play from it, or the refusal, as JSON in one line.
-pub fn run_line_json<T: Threads + Sync, F: Folder, W: Write>(
+pub fn run_line_json<T: Threads + Sync, F: Folder, W: Replies>(
     rt: &T,
     folder: &mut F,
     alloc: Global,
@@ -274,7 +274,7 @@ pub fn run_line_json<T: Threads + Sync, F: Folder, W: Write>(
 }
 
 /// Prints the same as [`run_longest_line`], or the refusal, as JSON in one line.
-pub fn run_longest_json<T: Threads + Sync, F: Folder, W: Write>(
+pub fn run_longest_json<T: Threads + Sync, F: Folder, W: Replies>(
     rt: &T,
     folder: &mut F,
     alloc: Global,

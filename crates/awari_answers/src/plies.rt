@@ -11,6 +11,7 @@ ghost use Rattle.awari_answers.specs.declared.asked.NoAnswer.TheVariants as no_a
 use crate::asked::{Asked, NoAnswer, ask_folder};
 use crate::json::refuse_json;
 use crate::printing::{print, refuse, status_of};
+use crate::remarks::Replies;
 use crate::shown::{ShownPly, ShownRepeat};
 use awari_folder::Folder;
 use awari_play::{LinePlies, Ply, line_plies};
@@ -77,7 +78,7 @@ pub struct PliesQuery<'a> {
 /// Prints a line or a JSON object for each ply of the line of play from a board: by the plans of both
 /// sides, or with one that holds out. If the board's value is 0, it ends where a board comes again, and
 /// says so. Or it prints the refusal.
-pub fn run_plies<T: Threads + Sync, F: Folder, W: Write>(
+pub fn run_plies<T: Threads + Sync, F: Folder, W: Replies>(
     rt: &T,
     folder: &mut F,
     alloc: Global,

@@ -3,6 +3,7 @@
 ghost use Rattle.std.specs.Prelude.{◌≡◌, ◌≤◌, ◌++◌, ◌∷◌, [], ◌↔◌, true, IfSome};
 ghost use Rattle.std.specs.Io.KnownBytes.{Appends};
 
+use crate::remarks::{Explained, Replies};
 use arrayvec::ArrayString;
 use std::fmt::{self, Display, Write as _};
 use std::io::Write;
@@ -63,10 +64,12 @@ pub fn status_of(written: bool) -> u8
     u8::from(!written)
 }
 
-/// Writes a refusal, and gives the status 1, whether the writer took it or not.
-pub fn refuse<W: Write, T: Display + Copy>(writer: &mut W, fault: T) -> u8
+/// Writes a refusal, and gives the status 1, whether the writer took it or not. What it means is told as a
+/// remark.
+pub fn refuse<W: Replies, T: Display + Copy>(writer: &mut W, fault: T) -> u8
     ensures { result ≡ 1 }
 {
     print(writer, &Refused(fault));
+    writer.remark(&Explained(fault));
     1
 }

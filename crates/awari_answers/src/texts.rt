@@ -7,6 +7,7 @@ ghost use Rattle.awari_folder.specs.Contents.{Same};
 ghost use Rattle.awari_answers.specs.Texts.{AppendsText, PrintsText};
 
 use crate::printing::{refuse, status_of};
+use crate::remarks::Replies;
 use awari_folder::{Folder, Together, load};
 use awari_table::{Counted, HIGHEST_LEVEL, NotYet, Shelf, write_level_text, write_shelf_text};
 use core::mem::replace_with;
@@ -16,7 +17,7 @@ use std::thread::Threads;
 
 /// Prints the text of the levels in a folder, or of the one of this number, or the refusal. It is 59
 /// if the folder has no level of this number.
-pub fn run_text<T: Threads + Sync, F: Folder, W: Write>(
+pub fn run_text<T: Threads + Sync, F: Folder, W: Replies>(
     rt: &T,
     folder: &mut F,
     alloc: Global,

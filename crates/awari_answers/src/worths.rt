@@ -10,11 +10,11 @@ ghost use Rattle.awari_answers.specs.declared.asked.NoAnswer.TheVariants as no_a
 use crate::asked::{NoAnswer, ask_folder};
 use crate::json::refuse_json;
 use crate::printing::{print_bytes, refuse, status_of};
+use crate::remarks::Replies;
 use awari_board::Board;
 use awari_folder::Folder;
 use awari_play::{Weighed, weigh, weighed_json};
 use std::alloc::Global;
-use std::io::Write;
 use std::thread::Threads;
 
 /// What is asked of a board's moves, in words.
@@ -45,7 +45,7 @@ fn weigh_in<T: Threads + Sync, F: Folder>(
 
 /// Prints what each legal move of a board is worth, a line each, with its replies if these are asked for;
 /// or that the play has ended there, or the refusal.
-pub fn run_moves<T: Threads + Sync, F: Folder, W: Write>(
+pub fn run_moves<T: Threads + Sync, F: Folder, W: Replies>(
     rt: &T,
     folder: &mut F,
     alloc: Global,
@@ -63,7 +63,7 @@ pub fn run_moves<T: Threads + Sync, F: Folder, W: Write>(
 }
 
 /// Prints the same, or the refusal, as JSON in one line.
-pub fn run_moves_json<T: Threads + Sync, F: Folder, W: Write>(
+pub fn run_moves_json<T: Threads + Sync, F: Folder, W: Replies>(
     rt: &T,
     folder: &mut F,
     alloc: Global,

@@ -13,7 +13,7 @@ ghost use Rattle.awari_answers.specs.LevelLines.{IsToldOf, level_lines};
 ghost use Rattle.awari_cli.specs.Building.{KeepsLevels, LeavesFiles, PrintsAllLevels, PrintsLevels, SameOutside};
 ghost use Rattle.awari_cli.specs.declared.building.BuildingFault.TheVariants as building_fault;
 
-use awari_answers::{LevelLine, Refused, line_of_level, print, refuse};
+use awari_answers::{LevelLine, Replies, line_of_level, print, refuse};
 use awari_build::{
     BuildFault, Pace, Watch, build_level_with_progress, build_together_with_progress,
 };
@@ -23,7 +23,6 @@ use awari_play::lowest_plans_stay;
 use awari_table::{HIGHEST_LEVEL, Level, Shelf};
 use std::alloc::{AllocFailed, Global};
 use std::fmt;
-use std::io::Write;
 use std::sync::{Arc, Wait};
 use std::thread::Threads;
 
@@ -87,7 +86,7 @@ impl fmt::Display for BuildingFault {
 
 /// Builds the levels up to `top` and prints the line of each. A refusal is printed behind the lines
 /// before it.
-pub fn run_build<T: Threads + Wait + Sync, P: Progress, W: Write>(
+pub fn run_build<T: Threads + Wait + Sync, P: Progress, W: Replies>(
     builder: &mut Builder<'_, T, P>,
     top: u8,
     writer: &mut W,
@@ -101,7 +100,7 @@ pub fn run_build<T: Threads + Wait + Sync, P: Progress, W: Write>(
 /// Builds the levels above those of the folder, up to `top`, and prints the line of each once it is
 /// saved there. A file that stands there already stays: it counts as saved if it is the level's, and
 /// else the level is refused as 85. A refusal is printed behind the lines before it.
-pub fn run_build_in<T: Threads + Wait + Sync, P: Progress, F: Folder, W: Write>(
+pub fn run_build_in<T: Threads + Wait + Sync, P: Progress, F: Folder, W: Replies>(
     builder: &mut Builder<'_, T, P>,
     folder: &mut F,
     top: u8,
@@ -124,7 +123,7 @@ pub fn run_build_in<T: Threads + Wait + Sync, P: Progress, F: Folder, W: Write>(
 }
 
 /// Builds the levels above the shelf up to `top`, and prints the line of each.
-fn build_up<T: Threads + Wait + Sync, P: Progress, W: Write>(
+fn build_up<T: Threads + Wait + Sync, P: Progress, W: Replies>(
     builder: &mut Builder<'_, T, P>,
     top: u8,
     shelf: &mut Shelf,
@@ -144,10 +143,7 @@ fn build_up<T: Threads + Wait + Sync, P: Progress, W: Write>(
                     return 1;
                 }
             }
-            Err(fault) => {
-                print(writer, &Refused(fault));
-                return 1;
-            }
+            Err(fault) => return refuse(writer, fault),
         }
     }
     0
@@ -155,7 +151,7 @@ fn build_up<T: Threads + Wait + Sync, P: Progress, W: Write>(
 
 /// Builds the levels above those that the folder has stored up to `top`, saves each there, and prints
 /// its line.
-fn build_up_in<T: Threads + Wait + Sync, P: Progress, F: Folder, W: Write>(
+fn build_up_in<T: Threads + Wait + Sync, P: Progress, F: Folder, W: Replies>(
     builder: &mut Builder<'_, T, P>,
     folder: &mut F,
     top: u8,
@@ -180,10 +176,7 @@ fn build_up_in<T: Threads + Wait + Sync, P: Progress, F: Folder, W: Write>(
                     return 1;
                 }
             }
-            Err(fault) => {
-                print(writer, &Refused(fault));
-                return 1;
-            }
+            Err(fault) => return refuse(writer, fault),
         }
     }
     0

@@ -3,7 +3,7 @@
 
 use crate::hosts::{Host, Purpose};
 use awari_answers::print;
-use awari_folder::{FolderFault, HostFolder, LockFault};
+use awari_folder::{FolderFault, HostFolder, LockFault, Named, Said};
 use awari_table::HIGHEST_LEVEL;
 use std::alloc::Global;
 use std::fmt;
@@ -84,7 +84,30 @@ impl<'a, T: Files<File = File>> Host<'a> for Disk<'a, T> {
         Err(FolderFault::Open { level })
     }
 
+    /// It tells the system's own words, and of which file they are.
+    fn tell<E: Write>(&self, name: &'a str, folder: &HostFolder<'a, T>, errors: &mut E) {
+        if let Some(said) = folder.said() {
+            tell_said(name, said, errors);
+        }
+    }
+
     fn close(&mut self, _name: &'a str, _folder: HostFolder<'a, T>) {}
+}
+
+/// Tells the error stream what the system said. That there is no such folder was told before.
+fn tell_said<E: Write>(name: &str, said: Said, errors: &mut E) {
+    let Said { named, error } = said;
+    // There is nowhere to say that this could not be written.
+    match (named, error.kind()) {
+        (_, ErrorKind::NotADirectory) | (Named::Folder, ErrorKind::NotFound) => {}
+        (Named::Folder, _) => {
+            print(errors, &format_args!("{name}: {error}"));
+        }
+        (file, _) => {
+            let folder = name.strip_suffix('/').unwrap_or(name);
+            print(errors, &format_args!("{folder}/{file}: {error}"));
+        }
+    }
 }
 
 /// Tells the error stream if there is no folder of this name, or which of its levels are not read.

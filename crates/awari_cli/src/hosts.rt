@@ -45,6 +45,10 @@ pub trait Host<'a> {
     ) -> Result<(), FolderFault>
         ensures { (Self.Folder.state folder.new).stands ≡ (Self.Folder.state folder.old).stands };
 
+    /// Tells why a call on the folder was refused, if one was. The folder was opened under this name. A
+    /// host that keeps no words of its own tells nothing.
+    fn tell<E: Write>(&self, _name: &'a str, _folder: &Self::Folder, _errors: &mut E) {}
+
     /// Closes the folder, which was opened under this name.
     fn close(&mut self, name: &'a str, folder: Self::Folder)
         ensures closed { keeps name.now → holds self.new name.now ≡ (Self.Folder.state folder).stands }

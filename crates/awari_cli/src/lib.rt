@@ -12,7 +12,7 @@
 //!         folder: &mut MemoryFolder,
 //!         top: u8,
 //!         progress: &mut impl Progress,
-//!         output: &mut impl Write,
+//!         output: &mut impl Replies,
 //!     ) -> u8 {
 //!         let mut builder = Builder {
 //!             rt,
@@ -39,9 +39,9 @@ mod streams;
 mod writing;
 
 pub use awari_answers::{
-    JudgeFault, Judgement, MovesQuery, PlayFault, Played, PliesQuery, judge, play_on, run_ask,
-    run_ask_json, run_line, run_line_json, run_longest_json, run_longest_line, run_moves,
-    run_moves_json, run_plies, run_text, run_verify,
+    Answers, JudgeFault, Judgement, MovesQuery, PlayFault, Played, PliesQuery, Replies, judge,
+    play_on, run_ask, run_ask_json, run_line, run_line_json, run_longest_json, run_longest_line,
+    run_moves, run_moves_json, run_plies, run_text, run_verify,
 };
 pub use awari_check::check;
 pub use building::{Builder, run_build_in};

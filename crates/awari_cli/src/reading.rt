@@ -10,8 +10,8 @@ use crate::hosts::{Host, Purpose};
 use crate::serving::{Growth, run_serve};
 use crate::streams::Streams;
 use awari_answers::{
-    MovesQuery, PliesQuery, run_ask, run_ask_json, run_line, run_line_json, run_longest_json,
-    run_longest_line, run_moves, run_moves_json, run_plies, run_text, run_verify,
+    MovesQuery, PliesQuery, Replies, run_ask, run_ask_json, run_line, run_line_json,
+    run_longest_json, run_longest_line, run_moves, run_moves_json, run_plies, run_text, run_verify,
 };
 use awari_folder::Folder;
 use awari_questions::{BoardsQuery, CountsQuery, run_all_boards, run_boards, run_counts};
@@ -34,7 +34,7 @@ pub(crate) fn run_reading<
     T: Threads + Wait + Sync + Send + Clone + Drop + 'static,
     H: Host<'a>,
     R: Read,
-    W: Write,
+    W: Replies,
     E: Write,
 >(rt: &T, host: &mut H, alloc: Global, reading: Reading<'a>, streams: &mut Streams<R, W, E>) -> u8
     ensures status { result ≤ 1 }
@@ -44,6 +44,7 @@ pub(crate) fn run_reading<
 {
     let mut folder = host.open(reading.folder, Purpose::Read, &mut streams.errors);
     let status = run_question(rt, &mut folder, alloc, reading.question, streams);
+    host.tell(reading.folder, &folder, &mut streams.errors);
     host.close(reading.folder, folder);
     status
 }
@@ -53,7 +54,7 @@ fn run_question<
     T: Threads + Wait + Sync + Send + Clone + Drop + 'static,
     F: Folder,
     R: Read,
-    W: Write,
+    W: Replies,
     E: Write,
 >(
     rt: &T,
@@ -149,7 +150,7 @@ fn run_question<
 }
 
 /// Prints the line of play that is asked for, in one line.
-fn run_line_of<T: Threads + Sync, F: Folder, W: Write>(
+fn run_line_of<T: Threads + Sync, F: Folder, W: Replies>(
     rt: &T,
     folder: &mut F,
     alloc: Global,

@@ -17,7 +17,7 @@ use crate::hosts::Host;
 use crate::reading::{Reading, run_reading};
 use crate::streams::Streams;
 use crate::writing::{AskedBuild, Build, Migration, run_build_asked, run_migration};
-use awari_answers::{Played, judge, play_on, print, refuse, status_of, tell_answer};
+use awari_answers::{Played, Replies, judge, play_on, print, refuse, status_of, tell_answer};
 use awari_check::check_input;
 use awari_questions::{run_board, run_plays, run_rank};
 use awari_table::Counted;
@@ -45,7 +45,7 @@ pub fn run<
     H: Host<'a>,
     S: AsStr,
     R: Read,
-    W: Write,
+    W: Replies,
     E: Write,
 >(rt: &T, host: &mut H, alloc: Global, words: &'a [S], streams: &mut Streams<R, W, E>) -> u8
     ensures status { result ≤ 2 }
@@ -79,7 +79,7 @@ fn run_understood<
     T: Threads + Clock + Wait + Sync + Send + Clone + Drop + 'static,
     H: Host<'a>,
     R: Read,
-    W: Write,
+    W: Replies,
     E: Write,
 >(
     rt: &T,
@@ -107,7 +107,7 @@ fn run_request<
     T: Threads + Clock + Wait + Sync + Send + Clone + Drop + 'static,
     H: Host<'a>,
     R: Read,
-    W: Write,
+    W: Replies,
     E: Write,
 >(
     rt: &T,
@@ -187,7 +187,7 @@ fn run_check<R: Read, W: Write, E: Write>(
 }
 
 /// Prints the board after a move.
-fn run_move<W: Write>(board: &str, pit: u8, writer: &mut W) -> u8
+fn run_move<W: Replies>(board: &str, pit: u8, writer: &mut W) -> u8
     ensures status { result ≤ 1 }
     ensures played { result ≡ 0 → PrintsMove board.now pit (W.contents writer.old) (W.contents writer.new) }
 {
@@ -198,7 +198,7 @@ fn run_move<W: Write>(board: &str, pit: u8, writer: &mut W) -> u8
 }
 
 /// Prints where a play stands.
-fn run_judge<W: Write>(board: &str, limit: u32, moves: &[&str], writer: &mut W) -> u8
+fn run_judge<W: Replies>(board: &str, limit: u32, moves: &[&str], writer: &mut W) -> u8
     ensures status { result ≤ 1 }
     ensures judged { result ≡ 0 → PrintsJudgement board.now limit (bytes_of moves.now) (W.contents writer.old) (W.contents writer.new) }
 {

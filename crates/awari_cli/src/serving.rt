@@ -12,7 +12,7 @@ ghost use Rattle.awari_cli.specs.declared.serving.ServingFault.TheVariants as se
 
 use crate::lasting::{WhileServed, lasting_service};
 use crate::streams::Streams;
-use awari_answers::refuse;
+use awari_answers::{Replies, refuse};
 use awari_build::{
     BuildFault, Pace, Watch, build_level_with_progress, build_together_with_progress,
 };
@@ -150,7 +150,7 @@ pub fn run_serve<
     T: Threads + Wait + Sync + Send + Clone + Drop + 'static,
     F: Folder,
     R: Read,
-    W: Write,
+    W: Replies,
     E: Write,
 >(rt: &T, folder: &mut F, alloc: Global, growth: Growth, streams: &mut Streams<R, W, E>) -> u8
     ensures status { result ≤ 1 }

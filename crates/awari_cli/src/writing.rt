@@ -12,7 +12,7 @@ use crate::hosts::{Host, Purpose};
 use crate::migrating::run_migrate;
 use crate::progress::ProgressLines;
 use crate::streams::Streams;
-use awari_answers::refuse;
+use awari_answers::{Replies, refuse};
 use awari_build::Pace;
 use awari_folder::Folder;
 use awari_phase::{Progress, Silent};
@@ -52,7 +52,7 @@ pub(crate) fn run_build_asked<
     T: Threads + Clock + Wait + Sync,
     H: Host<'a>,
     R: Read,
-    W: Write,
+    W: Replies,
     E: Write,
 >(rt: &T, host: &mut H, alloc: Global, asked: AskedBuild<'a>, streams: &mut Streams<R, W, E>) -> u8
     ensures status { result ≤ 1 }
@@ -68,7 +68,7 @@ pub(crate) fn run_build_asked<
 }
 
 /// Builds the levels that are asked for.
-fn run_build_alone<T: Threads + Clock + Wait + Sync, R: Read, W: Write, E: Write>(
+fn run_build_alone<T: Threads + Clock + Wait + Sync, R: Read, W: Replies, E: Write>(
     rt: &T,
     alloc: Global,
     build: Build,
@@ -88,7 +88,7 @@ fn run_build_alone<T: Threads + Clock + Wait + Sync, R: Read, W: Write, E: Write
 }
 
 /// Builds the levels that are asked for in the folder of this name.
-fn run_build_on<'a, T: Threads + Clock + Wait + Sync, H: Host<'a>, R: Read, W: Write, E: Write>(
+fn run_build_on<'a, T: Threads + Clock + Wait + Sync, H: Host<'a>, R: Read, W: Replies, E: Write>(
     rt: &T,
     host: &mut H,
     alloc: Global,
@@ -109,17 +109,19 @@ fn run_build_on<'a, T: Threads + Clock + Wait + Sync, H: Host<'a>, R: Read, W: W
     match host.lock(name, &mut folder, build.top, &mut streams.errors) {
         Ok(()) => {}
         Err(fault) => {
+            host.tell(name, &folder, &mut streams.errors);
             host.close(name, folder);
             return refuse(&mut streams.output, fault);
         }
     }
     let status = run_build_of(rt, &mut folder, alloc, build, streams);
+    host.tell(name, &folder, &mut streams.errors);
     host.close(name, folder);
     status
 }
 
 /// Builds the levels that are asked for in this folder.
-fn run_build_of<T: Threads + Clock + Wait + Sync, F: Folder, R: Read, W: Write, E: Write>(
+fn run_build_of<T: Threads + Clock + Wait + Sync, F: Folder, R: Read, W: Replies, E: Write>(
     rt: &T,
     folder: &mut F,
     alloc: Global,
@@ -174,7 +176,7 @@ pub(crate) struct Migration<'a> {
 }
 
 /// Brings the levels of one folder over into the other.
-pub(crate) fn run_migration<'a, H: Host<'a>, R: Read, W: Write, E: Write>(
+pub(crate) fn run_migration<'a, H: Host<'a>, R: Read, W: Replies, E: Write>(
     host: &mut H,
     alloc: Global,
     migration: Migration<'a>,
@@ -190,6 +192,8 @@ pub(crate) fn run_migration<'a, H: Host<'a>, R: Read, W: Write, E: Write>(
     let mut source = host.open(from, Purpose::Read, &mut streams.errors);
     let mut target = host.open(to, Purpose::Write, &mut streams.errors);
     let status = run_migrate(alloc, &mut source, &mut target, &mut streams.output);
+    host.tell(to, &target, &mut streams.errors);
+    host.tell(from, &source, &mut streams.errors);
     host.close(to, target);
     host.close(from, source);
     status

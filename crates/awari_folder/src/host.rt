@@ -4,9 +4,10 @@ ghost use Rattle.std.specs.Prelude.{◌≡◌, ◌↔◌, None, IsTrue};
 
 use crate::calls::{Draft, Folder, Refusal};
 use crate::names::{path_of, path_of_itself, path_of_new};
-use std::alloc::Global;
+use crate::words::{Named, Said, Words};
+use std::alloc::{AllocError, Global};
 use std::fs::{self, File, OpenOptions, TryLockError};
-use std::io::{self, Error, ErrorKind, Write};
+use std::io::{self, Error, ErrorKind, Read, Write};
 use std::path::Path;
 use std::rt::Files;
 
@@ -18,6 +19,7 @@ pub struct HostFolder<'a, R> {
     alloc: Global,
     path: Path<'a>,
     lock: Option<File>,
+    words: Option<Words>,
     refused: u64,
     stuck: u64,
 }
@@ -31,6 +33,7 @@ impl<'a, R> HostFolder<'a, R> {
             alloc,
             path,
             lock: None,
+            words: None,
             refused: 0,
             stuck: 0,
         }
@@ -61,15 +64,39 @@ impl<R: Files<File = File>> HostFolder<'_, R> {
         fs::metadata(self.files, path.as_path()).is_ok()
     }
 
+    /// What the host said last of a call that it refused, of this folder or of a file in it.
+    pub fn said(&self) -> Option<Said> {
+        self.words.as_ref()?.last()
+    }
+
+    /// The place for the host's words, which is made if there is none.
+    fn words(&mut self) -> Result<Words, AllocError>
+        ensures refusals { (state_of self.new).refusals ≡ (state_of self.old).refusals }
+        ensures stuck { (state_of self.new).stuck ≡ (state_of self.old).stuck }
+    {
+        if let Some(words) = &self.words {
+            return words.share();
+        }
+        let words = Words::new(self.alloc)?;
+        let own = words.share()?;
+        self.words = Some(own);
+        Ok(words)
+    }
+
     /// Locks the folder for one builder, until this value is dropped. Otherwise the first save does so. A
     /// folder that is locked by this value stays so. It takes memory for a name.
     pub fn lock(&mut self) -> Result<(), LockFault>
         ensures refusals { (state_of self.new).refusals ≡ (state_of self.old).refusals }
         ensures stuck { (state_of self.new).stuck ≡ (state_of self.old).stuck }
     {
-        if self.lock.is_none() {
-            self.lock = Some(locked(self.files, self.alloc, self.path)?);
+        if self.lock.is_some() {
+            return Ok(());
         }
+        let Ok(words) = self.words() else {
+            return Err(LockFault::Memory);
+        };
+        let lock = locked(self.files, self.alloc, self.path, &words)?;
+        self.lock = Some(lock);
         Ok(())
     }
 }
@@ -89,25 +116,33 @@ fn locked<R: Files<File = File>>(
     files: &R,
     alloc: Global,
     folder: Path<'_>,
+    words: &Words,
 ) -> Result<File, LockFault> {
     let Ok(path) = path_of_itself(alloc, folder) else {
         return Err(LockFault::Memory);
     };
-    let Ok(place) = fs::open(files, path.as_path()) else {
-        return Err(LockFault::Refused);
+    let place = match fs::open(files, path.as_path()) {
+        Ok(place) => place,
+        Err(error) => {
+            words.keep(Named::Folder, error);
+            return Err(LockFault::Refused);
+        }
     };
     match place.try_lock() {
         Ok(()) => Ok(place),
         Err(TryLockError::WouldBlock) => Err(LockFault::Held),
         Err(TryLockError::Error(error)) if needs_no_lock(error.kind()) => Ok(place),
-        Err(TryLockError::Error(_)) => Err(LockFault::Refused),
+        Err(TryLockError::Error(error)) => {
+            words.keep(Named::Folder, error);
+            Err(LockFault::Refused)
+        }
     }
 }
 
 /// Opens what is a file, and nothing that could keep its reader waiting, as a pipe does.
 fn open_file<R: Files>(files: &R, path: Path<'_>) -> io::Result<R::File> {
     if !fs::metadata(files, path)?.is_file() {
-        return Err(Error::from(ErrorKind::Other));
+        return Err(Error::other("not a regular file"));
     }
     fs::open(files, path)
 }
@@ -123,15 +158,39 @@ fn create_file<R: Files>(files: &R, path: Path<'_>) -> io::Result<R::File> {
     how.open(files, path)
 }
 
+/// The file of a level on disk.
+#[derive(Drop)]
+pub struct HostFile {
+    file: File,
+    level: u8,
+    words: Words,
+}
+
+impl Read for HostFile {
+    fn read(&mut self, buf: &mut [u8]) -> io::Result<usize> {
+        let read = self.file.read(buf);
+        if let Err(error) = read {
+            self.words.keep(Named::Level(self.level), error);
+        }
+        read
+    }
+}
+
 /// A new file on disk.
 #[derive(Drop)]
 pub struct HostDraft {
     file: File,
+    level: u8,
+    words: Words,
 }
 
 impl Write for HostDraft {
     fn write(&mut self, buf: &[u8]) -> io::Result<usize> {
-        self.file.write(buf)
+        let written = self.file.write(buf);
+        if let Err(error) = written {
+            self.words.keep(Named::New(self.level), error);
+        }
+        written
     }
 
     fn flush(&mut self) -> io::Result<()> {
@@ -145,7 +204,10 @@ impl Draft for HostDraft {
     fn sync(&mut self) -> Result<(), Refusal> {
         match self.file.sync_all() {
             Ok(()) => Ok(()),
-            Err(_) => Err(Refusal::Refused),
+            Err(error) => {
+                self.words.keep(Named::New(self.level), error);
+                Err(Refusal::Refused)
+            }
         }
     }
 }
@@ -153,21 +215,25 @@ impl Draft for HostDraft {
 impl<R: Files<File = File>> Folder for HostFolder<'_, R> {
     ghost use Rattle.awari_folder.specs.Host.{state_of};
 
-    type File = File;
+    type File = HostFile;
 
     type New = HostDraft;
 
     // Of the host's files nothing is known.
     ghost state = { λ folder. state_of folder };
 
-    fn open(&mut self, level: u8) -> Result<Option<File>, Refusal> {
+    fn open(&mut self, level: u8) -> Result<Option<HostFile>, Refusal> {
         let Ok(path) = path_of(self.alloc, self.path, level) else {
             return Err(Refusal::Memory);
         };
+        let Ok(words) = self.words() else {
+            return Err(Refusal::Memory);
+        };
         match open_file(self.files, path.as_path()) {
-            Ok(file) => Ok(Some(file)),
+            Ok(file) => Ok(Some(HostFile { file, level, words })),
             Err(error) if error.kind() == ErrorKind::NotFound => Ok(None),
-            Err(_) => {
+            Err(error) => {
+                words.keep(Named::Level(level), error);
                 self.refused = self.refused.saturating_add(1);
                 Err(Refusal::Refused)
             }
@@ -176,6 +242,9 @@ impl<R: Files<File = File>> Folder for HostFolder<'_, R> {
 
     fn create(&mut self, level: u8) -> Result<HostDraft, Refusal> {
         let Ok(path) = path_of_new(self.alloc, self.path, level) else {
+            return Err(Refusal::Memory);
+        };
+        let Ok(words) = self.words() else {
             return Err(Refusal::Memory);
         };
         match self.lock() {
@@ -187,8 +256,9 @@ impl<R: Files<File = File>> Folder for HostFolder<'_, R> {
             }
         }
         match create_file(self.files, path.as_path()) {
-            Ok(file) => Ok(HostDraft { file }),
-            Err(_) => {
+            Ok(file) => Ok(HostDraft { file, level, words }),
+            Err(error) => {
+                words.keep(Named::New(level), error);
                 self.refused = self.refused.saturating_add(1);
                 Err(Refusal::Refused)
             }
@@ -211,7 +281,10 @@ impl<R: Files<File = File>> Folder for HostFolder<'_, R> {
                 }
                 Ok(())
             }
-            Err(_) => {
+            Err(error) => {
+                if let Some(words) = &self.words {
+                    words.keep(Named::Level(level), error);
+                }
                 self.refused = self.refused.saturating_add(1);
                 Err(Refusal::Refused)
             }

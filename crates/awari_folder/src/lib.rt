@@ -30,13 +30,15 @@ mod migrating;
 mod names;
 mod saving;
 mod verifiers;
+mod words;
 
 pub use calls::{Draft, Folder, Refusal};
 pub use faults::FolderFault;
-pub use host::{HostDraft, HostFolder, LockFault};
+pub use host::{HostDraft, HostFile, HostFolder, LockFault};
 pub use keeping::save_or_keep;
 pub use laws::{folders_hold_one_shelf, stored_shelves_are_loaded};
 pub use loading::{Stored, load};
 pub use migrating::{Limits, Migrated, migrate};
 pub use saving::save;
 pub use verifiers::{Alone, Together, Verifier};
+pub use words::{Named, Said};

@@ -11,7 +11,7 @@ ghost use Rattle.awari_rank.specs.Tuples.{tuples};
 use crate::listing::{Wanted, count_boards, print_boards};
 use crate::loads::load_to;
 use crate::spans::{NoSpan, asked_span};
-use awari_answers::{load_levels, print, refuse, status_of};
+use awari_answers::{Replies, load_levels, print, refuse, status_of};
 use awari_folder::Folder;
 use awari_table::{HIGHEST_LEVEL, Shelf};
 use std::alloc::Global;
@@ -80,7 +80,7 @@ fn print_wanted<W: Write>(
 
 /// Prints the boards of a level that the query asks for, in order of rank, or how many there are, or the
 /// refusal.
-pub fn run_boards<T: Threads + Sync, F: Folder, W: Write>(
+pub fn run_boards<T: Threads + Sync, F: Folder, W: Replies>(
     rt: &T,
     folder: &mut F,
     alloc: Global,
@@ -123,7 +123,7 @@ fn print_levels<W: Write>(shelf: &Shelf, writer: &mut W) -> bool
 }
 
 /// Prints all boards of the level of this number, or of all levels in a folder, or the refusal.
-pub fn run_all_boards<T: Threads + Sync, F: Folder, W: Write>(
+pub fn run_all_boards<T: Threads + Sync, F: Folder, W: Replies>(
     rt: &T,
     folder: &mut F,
     alloc: Global,

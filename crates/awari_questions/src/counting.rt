@@ -5,10 +5,9 @@ ghost use Rattle.awari_questions.specs.Plays.{AreCounts, IsCounted, IsNotCounted
 ghost use Rattle.awari_questions.specs.declared.counting.PlaysFault.TheVariants as plays_fault;
 
 use crate::sums::PlayCounts;
-use awari_answers::{print, refuse, status_of};
+use awari_answers::{Replies, print, refuse, status_of};
 use awari_board::{Board, BoardFault};
 use std::fmt;
-use std::io::Write;
 
 /// Why plays are not counted. It is printed as the fault inside it, or as its number and its name.
 #[derive(Clone, Copy, Debug, PartialEq, Eq)]
@@ -85,7 +84,7 @@ pub fn plays_from(text: &[u8], plies: u8) -> Result<PlayCounts, PlaysFault>
 }
 
 /// Prints how many plays of so many plies there are from a board, or the refusal.
-pub fn run_plays<W: Write>(board: &str, plies: u8, writer: &mut W) -> u8
+pub fn run_plays<W: Replies>(board: &str, plies: u8, writer: &mut W) -> u8
     ensures status { result ≤ 1 }
     ensures counted { result ≡ 0 → PrintsPlays board.now plies (W.contents writer.old) (W.contents writer.new) }
 {

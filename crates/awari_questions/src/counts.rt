@@ -10,7 +10,7 @@ use crate::loads::{LevelFault, load_to};
 use crate::shares::{VALUES, boards_by_distance, boards_by_value, value_of};
 use crate::shown::{DistanceShare, ShownLevel, ValueShare};
 use arrayvec::ArrayString;
-use awari_answers::{NoAnswer, line_of_level, load_levels, print, refuse, refuse_json, status_of};
+use awari_answers::{NoAnswer, Replies, line_of_level, load_levels, print, refuse, refuse_json, status_of};
 use awari_folder::{Folder, FolderFault};
 use awari_table::{HIGHEST_LEVEL, Level, Shelf};
 use std::alloc::Global;
@@ -108,7 +108,7 @@ fn print_levels<W: Write>(shelf: &Shelf, json: bool, writer: &mut W) -> bool
 }
 
 /// Prints the refusal, and gives the status 1.
-fn refuse_counts<W: Write>(writer: &mut W, query: CountsQuery, fault: LevelFault) -> u8
+fn refuse_counts<W: Replies>(writer: &mut W, query: CountsQuery, fault: LevelFault) -> u8
     ensures { result ≡ 1 }
 {
     if !query.json {
@@ -128,7 +128,7 @@ fn refuse_counts<W: Write>(writer: &mut W, query: CountsQuery, fault: LevelFault
 
 /// Prints the line of each level in a folder, or the line of the one of this number with those of its
 /// values and distances, or the refusal. It takes memory for the levels, and four bytes for each distance.
-pub fn run_counts<T: Threads + Sync, F: Folder, W: Write>(
+pub fn run_counts<T: Threads + Sync, F: Folder, W: Replies>(
     rt: &T,
     folder: &mut F,
     alloc: Global,

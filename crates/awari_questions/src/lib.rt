@@ -5,7 +5,7 @@
 //!
 //! A board's place, printed, in `crates/awari_questions/src/places.rt`:
 //!
-//!     pub fn run_rank<W: Write>(board: &str, writer: &mut W) -> u8
+//!     pub fn run_rank<W: Replies>(board: &str, writer: &mut W) -> u8
 //!         ensures status { result ≤ 1 }
 //!         ensures placed { result ≡ 0 → PrintsPlace board.now (W.contents writer.old) (W.contents writer.new) }
 //!     {

@@ -4,12 +4,11 @@ ghost use Rattle.std.specs.Prelude.{◌≡◌, ◌≤◌, IfOk, IfErr};
 ghost use Rattle.awari_questions.specs.Places.{IsBoardAt, IsNoBoard, IsNoPlace, IsPlaceOf, PrintsBoard, PrintsPlace};
 ghost use Rattle.awari_questions.specs.declared.places.PlaceFault.TheVariants as place_fault;
 
-use awari_answers::{print, refuse, status_of};
+use awari_answers::{Replies, print, refuse, status_of};
 use awari_board::{Board, BoardFault};
 use awari_rank::{rank, size, unrank};
 use awari_table::{HIGHEST_LEVEL, NotYet};
 use std::fmt;
-use std::io::Write;
 
 /// How many levels have ranks: 0 to the highest.
 const LEVELS: u8 = HIGHEST_LEVEL + 1;
@@ -112,7 +111,7 @@ fn above_highest() -> PlaceFault
 }
 
 /// Prints the place of a board, or the refusal.
-pub fn run_rank<W: Write>(board: &str, writer: &mut W) -> u8
+pub fn run_rank<W: Replies>(board: &str, writer: &mut W) -> u8
     ensures status { result ≤ 1 }
     ensures placed { result ≡ 0 → PrintsPlace board.now (W.contents writer.old) (W.contents writer.new) }
 {
@@ -123,7 +122,7 @@ pub fn run_rank<W: Write>(board: &str, writer: &mut W) -> u8
 }
 
 /// Prints the board of a place, or the refusal.
-pub fn run_board<W: Write>(level: u8, rank: u32, writer: &mut W) -> u8
+pub fn run_board<W: Replies>(level: u8, rank: u32, writer: &mut W) -> u8
     ensures status { result ≤ 1 }
     ensures found { result ≡ 0 → PrintsBoard level rank (W.contents writer.old) (W.contents writer.new) }
 {

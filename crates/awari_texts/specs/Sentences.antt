@@ -1,0 +1,90 @@
+-- What is said to a person of each number that is answered.
+use Rattle.std.specs.Prelude.{ℕ, ◌==◌, nat_lt, if◌then◌else◌, List, codes}
+
+-- of boards, moves, texts and levels
+abbrev pub of_tables : ℕ → List ℕ
+of_tables n =
+    if n == 0 then codes "Nothing is refused" else
+    if n == 1 then codes "A board is six numbers, a slash and six numbers, parted by commas" else
+    if n == 2 then codes "Each number of a board is from 0 to 99, in its shortest form" else
+    if n == 3 then codes "A board has at most 48 stones" else
+    if n == 4 then codes "The mover has no such pit" else
+    if n == 5 then codes "The pit is empty" else
+    if n == 6 then codes "The opponent has no stones, and the pit would give none while another does" else
+    if n == 7 then codes "The play has ended" else
+    if n == 10 then codes "The line has not the form that is due there" else
+    if n == 11 then codes "The line is the header of another level than the next one" else
+    if n == 12 then codes "The line is the header of a level above 24, the highest" else
+    if n == 13 then codes "The text ends inside a level, or its last line has no line feed" else
+    if n == 14 then codes "The input can't be read" else
+    if n == 15 then codes "There is not enough memory for the input or for a level" else
+    if n == 20 then codes "The level is not the next one" else
+    if n == 21 then codes "The level has not an entry for each board" else
+    if n == 22 then codes "The entry of a board breaks a rule" else
+    if n == 23 then codes "There is not enough memory to verify a level" else
+    codes "No answer has this number"
+
+-- of builds, and commands that ask a level
+abbrev pub of_builds : ℕ → List ℕ
+of_builds n =
+    if n == 30 then codes "A part of the level was told a note that it does not hear now" else
+    if n == 31 then codes "A note of the same board and pit came before" else
+    if n == 32 then codes "The distance is the greatest that can be stored" else
+    if n == 33 then codes "There is not enough memory for a part of the level" else
+    if n == 34 then codes "The event is not one that may happen now" else
+    if n == 35 then codes "A model has 1 to 16 owners" else
+    if n == 36 then codes "A line of the model has room for 1 to 256 batches" else
+    if n == 37 then codes "The model has all levels already" else
+    if n == 38 then codes "There is not enough memory for the model" else
+    if n == 39 then codes "The model has work to do before that" else
+    if n == 40 then codes "A thread could not be started" else
+    if n == 41 then codes "There is not enough memory for the owners of a level" else
+    if n == 42 then codes "An owner of a part of the level met a fault" else
+    if n == 43 then codes "The level was not wanted any more" else
+    if n == 50 then codes "A level has 1 to 16 owners" else
+    if n == 51 then codes "No level is above 24" else
+    if n == 52 then codes "The owners of a level could not work, or were stopped" else
+    if n == 53 then codes "There is not enough memory to build the level" else
+    if n == 55 then codes "A line has room for 1 to 256 batches, and a round has 1 to 1000 sweeps" else
+    if n == 56 then codes "The level of the boards with as many stones is not there" else
+    if n == 57 then codes "There is not enough memory for the moves" else
+    if n == 59 then codes "The level of the boards with as many stones is not there" else
+    codes "No answer has this number"
+
+-- of files, folders, desks and services
+abbrev pub of_files : ℕ → List ℕ
+of_files n =
+    if n == 60 then codes "The file is cut off" else
+    if n == 61 then codes "The file is no file of a level: it does not begin with AWDB" else
+    if n == 62 then codes "The file has an unknown version; known are 1 and 2" else
+    if n == 63 then codes "The file says that it is of a level that its version has not" else
+    if n == 64 then codes "The file counts other boards than its level has" else
+    if n == 65 then codes "The file has a plan that is no pit" else
+    if n == 66 then codes "The digest is wrong: the file is damaged" else
+    if n == 67 then codes "The file is too long" else
+    if n == 68 then codes "The file can't be read" else
+    if n == 69 then codes "There is not enough memory for the entries of the file" else
+    if n == 70 then codes "The file can't be written, or not be brought to the disk" else
+    if n == 71 then codes "The level that is published is not the next one" else
+    if n == 72 then codes "There is no place for so many readers" else
+    if n == 73 then codes "There is not enough memory for the levels and their readers" else
+    if n == 74 then codes "The level of the boards with as many stones is not there" else
+    if n == 75 then codes "Nobody publishes levels any more" else
+    if n == 80 then codes "The level was built over another file than the one below" else
+    if n == 81 then codes "The file of a level is refused" else
+    if n == 82 then codes "The folder or a file does not open" else
+    if n == 83 then codes "A level is not right" else
+    if n == 84 then codes "There is not enough memory" else
+    if n == 85 then codes "A file of this level is there already, and stays as it is" else
+    if n == 86 then codes "The file is of version 1, whose distances need not be the least" else
+    if n == 90 then codes "The lines of the service can't be read" else
+    if n == 91 then codes "The lines of the service have more than 100,000,000 bytes" else
+    if n == 92 then codes "The answers of the service can't be written" else
+    if n == 93 then codes "The level has fewer boards" else
+    if n == 94 then codes "There are 2^64 plays or more, which are not counted" else
+    if n == 95 then codes "Values and distances are two numbers with two dots between them" else
+    codes "No answer has this number"
+
+-- the sentence of an answer, and of each other number that it is none
+abbrev pub sentence : ℕ → List ℕ
+sentence n = if nat_lt n 30 then of_tables n else if nat_lt n 60 then of_builds n else of_files n
