@@ -8,7 +8,8 @@ use Rattle.awari_cli.specs.Building.{PrintsAllLevels, PrintsLevels}
 use Rattle.awari_cli.specs.Hosts.{Stands}
 use Rattle.awari_cli.specs.Migrating.{PrintsMigrated}
 use Rattle.awari_cli.specs.Serving.{PrintsService}
-use Rattle.awari_answers.specs.Folders.{PrintsFolder, PrintsEntry, PrintsEntryJson}
+use Rattle.awari_answers.specs.Folders.{PrintsEntry, PrintsEntryJson}
+use Rattle.awari_answers.specs.Wishes.{PrintsFolder}
 use Rattle.awari_answers.specs.Judgement.{PrintsJudgement, bytes_of}
 use Rattle.awari_answers.specs.Lines.{PrintsLineBy}
 use Rattle.awari_answers.specs.Playing.{PrintsMove}
@@ -27,7 +28,7 @@ use Rattle.awari_words.specs.declared.requests.Request.TheVariants.{Check, Move,
 -- the lines of the levels that lie in a folder, their text, the board's entry, its legal moves, a line of play from it, the answers
 -- to the lines that the reader had left, the counts of levels, or boards of a level
 abbrev pub PrintsAnswer : Question → Stands → Option (List ℕ) → Option (List ℕ) → Option (List ℕ) → Type 0
-PrintsAnswer Verify stands input before after = PrintsFolder stands before after
+PrintsAnswer Verify stands input before after = PrintsFolder None None stands before after
 PrintsAnswer (Text level false) stands input before after = PrintsText stands level before after
 PrintsAnswer (Text level true) stands input before after = PrintsAllBoards stands level before after
 PrintsAnswer (Ask board false) stands input before after = PrintsEntry stands board.now before after

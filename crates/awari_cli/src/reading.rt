@@ -8,10 +8,9 @@ ghost use Rattle.awari_folder.specs.Contents.{Same};
 
 use crate::hosts::{Host, Purpose};
 use crate::serving::{Growth, run_serve};
-use crate::streams::Streams;
 use awari_answers::{
-    MovesQuery, PliesQuery, run_ask, run_ask_json, run_line, run_line_json, run_longest_json,
-    run_longest_line, run_moves, run_moves_json, run_plies, run_text, run_verify,
+    MovesQuery, PliesQuery, Streams, VerifyQuery, run_ask, run_ask_json, run_line, run_line_json,
+    run_longest_json, run_longest_line, run_moves, run_moves_json, run_plies, run_text, run_verify,
 };
 use awari_folder::Folder;
 use awari_questions::{BoardsQuery, CountsQuery, run_all_boards, run_boards, run_counts};
@@ -69,7 +68,14 @@ fn run_question<
 {
     let output = &mut streams.output;
     match question {
-        Question::Verify => run_verify(rt, folder, alloc, output, &mut streams.errors),
+        Question::Verify => {
+            let query = VerifyQuery {
+                levels: None,
+                digest: None,
+                progress: false,
+            };
+            run_verify(rt, folder, alloc, query, streams)
+        }
         Question::Text {
             level,
             boards: false,
