@@ -1,5 +1,6 @@
 pub mod JudgeLaws
 pub mod FolderLaws
+pub mod WishLaws
 pub mod TextLaws
 pub mod PrintLaws
 pub mod LevelLineLaws

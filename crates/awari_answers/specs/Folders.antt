@@ -1,5 +1,5 @@
 -- The commands `verify` and `ask`: what is printed of the levels in a folder.
-use Rattle.std.specs.Prelude.{◌≡◌, ℕ, ◌+◌, ◌/◌, ◌%◌, ◌<◌, List, ◌++◌, ◌∷◌, [], length, sum, codes, Option}
+use Rattle.std.specs.Prelude.{◌≡◌, ℕ, ◌/◌, ◌%◌, ◌<◌, List, ◌++◌, ◌∷◌, [], length, sum, codes, Option}
 use Rattle.std.specs.Fmt.{decimal}
 use Rattle.std.specs.List.{flat_map}
 use Rattle.std.specs.Io.KnownBytes.{Appends}
@@ -9,7 +9,6 @@ use Rattle.awari_table.specs.Spelling.{entry_line}
 use Rattle.awari_table.specs.Shelves.{IsShelf}
 use Rattle.awari_table.specs.declared.images.Entry.{Entry}
 use Rattle.awari_table.specs.declared.images.Image.{Image}
-use Rattle.awari_folder.specs.Contents.{IsStoredIn}
 use Rattle.awari_answers.specs.Asked.{IsAsked}
 use Rattle.awari_answers.specs.declared.folders.RightLevel.{RightLevel}
 use Rattle.awari_answers.specs.declared.folders.Summary.{Summary}
@@ -31,11 +30,10 @@ right_lines images = flat_map (λ image. right_text (record { level = image.leve
 abbrev pub summary_text : Summary → List ℕ
 summary_text summary = codes "levels " ++ decimal summary.levels ++ codes " digest " ++ digest_text summary.digest
 
--- Where it is known what the writer holds, what was written are the lines of right levels, and the line of them all. They are
--- those that the folder stores, where it is known what its names have.
-abbrev pub PrintsFolder : (ℕ → Option (Option (List ℕ))) → Option (List ℕ) → Option (List ℕ) → Type 0
-PrintsFolder stands before after = (images : List Image) × (summary : Summary) × IsShelf images × (summary.levels ≡ length images)
-    × IsStoredIn stands images summary.digest × Appends before after (right_lines images ++ (summary_text summary ++ 10 ∷ []))
+-- Where it is known what the writer holds, what was written are the lines of these levels, which are right, and the line of them all.
+abbrev pub PrintsStored : List Image → List ℕ → Option (List ℕ) → Option (List ℕ) → Type 0
+PrintsStored images digest before after = IsShelf images
+    × Appends before after (right_lines images ++ (summary_text (record { levels = length images; digest = digest }) ++ 10 ∷ []))
 
 -- what the levels in the folder say of this board, which the text spells
 abbrev pub IsEntryOf : (ℕ → Option (Option (List ℕ))) → List ℕ → List ℕ → Entry → Type 0

@@ -3,6 +3,7 @@ pub mod Refusals
 pub mod Playing
 pub mod Judgement
 pub mod Folders
+pub mod Wishes
 pub mod Lines
 pub mod Worths
 pub mod Texts

@@ -6,7 +6,8 @@ ghost use Rattle.awari_board.specs.BoardFault.{IsFaulty};
 ghost use Rattle.awari_board.specs.declared.text.BoardFault.{BoardFault};
 ghost use Rattle.awari_table.specs.Shelves.{IsShelf};
 ghost use Rattle.awari_folder.specs.Contents.{Same};
-ghost use Rattle.awari_answers.specs.Folders.{IsEntryOf, PrintsFolder, PrintsEntry, PrintsEntryJson, digest_text, right_lines};
+ghost use Rattle.awari_answers.specs.Folders.{IsEntryOf, PrintsEntry, PrintsEntryJson, PrintsStored, digest_text, right_lines};
+ghost use Rattle.awari_answers.specs.Wishes.{PrintsFolder};
 ghost use Rattle.awari_answers.specs.declared.asked.NoAnswer.TheVariants as no_answer;
 
 use crate::asked::{NoAnswer, ask_folder};
@@ -14,11 +15,14 @@ use crate::hints::refuse_folder;
 use crate::json::refuse_json;
 use crate::printing::{print, print_bytes, refuse, status_of};
 use crate::remarks::Replies;
+use crate::streams::Streams;
+use crate::watching::load_watched;
+use crate::wishes::{VerifyQuery, has_wished_digest, has_wished_levels};
 use arrayvec::ArrayString;
 use awari_board::Board;
-use awari_folder::{Folder, Together, load};
+use awari_folder::{Folder, Stored};
 use awari_play::{entry_json, hex_digit};
-use awari_table::{Entry, HIGHEST_LEVEL, Shelf, line_of_entry};
+use awari_table::{Entry, Shelf, line_of_entry};
 use std::alloc::Global;
 use std::fmt;
 use std::io::Write;
@@ -64,7 +68,7 @@ impl fmt::Display for Summary {
 }
 
 /// The digest in hexadecimal.
-fn hex_of(digest: &[u8; 32]) -> ArrayString<64>
+pub(crate) fn hex_of(digest: &[u8; 32]) -> ArrayString<64>
     ensures { result.bytes ≡ digest_text digest.now }
 {
     let mut text = ArrayString::new();
@@ -130,30 +134,52 @@ pub fn run_ask_json<T: Threads + Sync, F: Folder, W: Replies>(
     }
 }
 
-/// Verifies the levels of a folder, and prints a line for each and one for all. A refusal is
-/// printed alone, and `errors` is told what it means. If a board is at fault, it is told which, and what
+/// Verifies the levels of a folder, and prints a line for each and one for all. A refusal is printed
+/// alone, and the error stream is told what it means. If a board is at fault, it is told which, and what
 /// its rule asks.
-pub fn run_verify<T: Threads + Sync, F: Folder, W: Write, E: Write>(
+///
+/// If the folder is right and not as it is wished, the same lines are printed, and the status is 1. The
+/// error stream is told what was wished, and what was found.
+pub fn run_verify<T: Threads + Sync, F: Folder, R, W: Write, E: Write>(
     rt: &T,
     folder: &mut F,
     alloc: Global,
-    writer: &mut W,
-    errors: &mut E,
+    query: VerifyQuery<'_>,
+    streams: &mut Streams<R, W, E>,
 ) -> u8
     ensures status { result ≤ 1 }
-    ensures verified { result ≡ 0 → PrintsFolder (F.state folder.old).stands (W.contents writer.old) (W.contents writer.new) }
+    ensures verified { result ≡ 0 → PrintsFolder query.entry.levels query.entry.digest (F.state folder.old).stands (W.contents streams.old.output) (W.contents streams.new.output) }
     ensures same { Same (F.state folder.old).stands (F.state folder.new).stands }
 {
-    let stored = match load(&Together(rt), alloc, folder, HIGHEST_LEVEL) {
+    let stored = match load_watched(rt, folder, alloc, query.progress, &mut streams.errors) {
         Ok(stored) => stored,
-        Err(fault) => return refuse_folder(writer, errors, fault),
+        Err(fault) => return refuse_folder(&mut streams.output, &mut streams.errors, fault),
     };
-    if !print_levels(&stored.shelf, writer) {
+    let errors = &mut streams.errors;
+    let has_levels = match has_wished_levels(folder, &stored.shelf, query.levels, errors) {
+        Ok(has_levels) => has_levels,
+        Err(fault) => return refuse_folder(&mut streams.output, &mut streams.errors, fault),
+    };
+    let has_digest = has_wished_digest(&stored.digest, query.digest, &mut streams.errors);
+    if !print_stored(&stored, &mut streams.output) {
         return 1;
+    }
+    if !has_levels {
+        return 1;
+    }
+    status_of(has_digest)
+}
+
+/// Prints the line of each level and the one for all, and says whether the writer took them.
+fn print_stored<W: Write>(stored: &Stored, writer: &mut W) -> bool
+    ensures { result ≡ true → PrintsStored stored.now.shelf stored.now.digest (W.contents writer.old) (W.contents writer.new) }
+{
+    if !print_levels(&stored.shelf, writer) {
+        return false;
     }
     let levels = usize::from(stored.shelf.levels());
     let digest = stored.digest;
-    status_of(print(writer, &Summary { levels, digest }))
+    print(writer, &Summary { levels, digest })
 }
 
 /// Prints the line of each level, and says whether the writer took them.

@@ -1,6 +1,7 @@
 -- What the program has printed for a request where it ends with status 0, and what it leaves of the host's folders.
 use Rattle.std.specs.Prelude.{◌≡◌, ◌≢◌, ℕ, List, [], Option, Some, None, true, false}
 use Rattle.std.specs.Borrow.{Bor}
+use Rattle.std.specs.Io.KnownBytes.{Keeps}
 use Rattle.awari_check.specs.Answer.{PrintsYes}
 use Rattle.awari_folder.specs.Contents.{Same}
 use Rattle.awari_folder.specs.Migration.{KeepsFiles}
@@ -8,7 +9,8 @@ use Rattle.awari_cli.specs.Building.{PrintsAllLevels, PrintsLevels}
 use Rattle.awari_cli.specs.Hosts.{Stands}
 use Rattle.awari_cli.specs.Migrating.{PrintsMigrated}
 use Rattle.awari_cli.specs.Serving.{PrintsService}
-use Rattle.awari_answers.specs.Folders.{PrintsFolder, PrintsEntry, PrintsEntryJson}
+use Rattle.awari_answers.specs.Folders.{PrintsEntry, PrintsEntryJson}
+use Rattle.awari_answers.specs.Wishes.{PrintsFolder}
 use Rattle.awari_answers.specs.Judgement.{PrintsJudgement, bytes_of}
 use Rattle.awari_answers.specs.Lines.{PrintsLineBy}
 use Rattle.awari_answers.specs.Playing.{PrintsMove}
@@ -27,18 +29,18 @@ use Rattle.awari_words.specs.declared.requests.Request.TheVariants.{Check, Move,
 -- the lines of the levels that lie in a folder, their text, the board's entry, its legal moves, a line of play from it, the answers
 -- to the lines that the reader had left, the counts of levels, or boards of a level
 abbrev pub PrintsAnswer : Question → Stands → Option (List ℕ) → Option (List ℕ) → Option (List ℕ) → Type 0
-PrintsAnswer Verify stands input before after = PrintsFolder stands before after
+PrintsAnswer (Verify levels digest progress) stands input before after = PrintsFolder levels digest stands before after
 PrintsAnswer (Text level false) stands input before after = PrintsText stands level before after
 PrintsAnswer (Text level true) stands input before after = PrintsAllBoards stands level before after
-PrintsAnswer (Ask board false) stands input before after = PrintsEntry stands board.now before after
-PrintsAnswer (Ask board true) stands input before after = PrintsEntryJson stands board.now before after
-PrintsAnswer (Moves board replies false) stands input before after = PrintsWorths replies stands board.now before after
-PrintsAnswer (Moves board replies true) stands input before after = PrintsWorthsJson replies stands board.now before after
-PrintsAnswer (Line board longest false json) stands input before after = PrintsLineBy longest json stands board.now before after
-PrintsAnswer (Line board longest true json) stands input before after = PrintsPlies stands longest json board.now before after
-PrintsAnswer (Serve top owners) stands input before after = PrintsService stands input before after
-PrintsAnswer (Counts level json) stands input before after = PrintsCounts json stands level before after
-PrintsAnswer (Boards level value distance farthest every count) stands input before after =
+PrintsAnswer (Ask board false unverified) stands input before after = PrintsEntry stands board.now before after
+PrintsAnswer (Ask board true unverified) stands input before after = PrintsEntryJson stands board.now before after
+PrintsAnswer (Moves board replies false unverified) stands input before after = PrintsWorths replies stands board.now before after
+PrintsAnswer (Moves board replies true unverified) stands input before after = PrintsWorthsJson replies stands board.now before after
+PrintsAnswer (Line board longest false json unverified) stands input before after = PrintsLineBy longest json stands board.now before after
+PrintsAnswer (Line board longest true json unverified) stands input before after = PrintsPlies stands longest json board.now before after
+PrintsAnswer (Serve top owners unverified) stands input before after = PrintsService stands input before after
+PrintsAnswer (Counts level json unverified) stands input before after = PrintsCounts json stands level before after
+PrintsAnswer (Boards level value distance farthest every count unverified) stands input before after =
     PrintsBoards stands (record { level = level; value = value; distance = distance; farthest = farthest; every = every; count = count }) before after
 
 -- The lines of the levels that were built in the folder of this name, which holds them now if the host keeps it.
@@ -57,13 +59,14 @@ PrintsBrought keeps from to old new before after = (others stands : Stands) × (
     × PrintsMigrated (old from) others stands before after
 
 -- the yes for what the reader had left, the move, the judgement of the play, the lines of levels that were built, in a folder or
--- not, or that were brought over, the board's place, the board of a place, the counts of plays, or the answer to a question
+-- not, nothing for an estimate, the lines of levels that were brought over, the board's place, the board of a place, the counts of plays, or the answer to a question
 abbrev pub PrintsFor : (List ℕ → Type 0) → Request → (List ℕ → Stands) → (List ℕ → Stands) → Option (List ℕ) → Option (List ℕ) → Option (List ℕ) → Type 0
 PrintsFor keeps Check old new input before after = PrintsYes input before after
 PrintsFor keeps (Move board pit) old new input before after = PrintsMove board.now pit before after
 PrintsFor keeps (Judge board limit None) old new input before after = PrintsJudgement board.now limit [] before after
 PrintsFor keeps (Judge board limit (Some moves)) old new input before after = PrintsJudgement board.now limit (bytes_of moves.now) before after
-PrintsFor keeps (Build top folder threads pace progress) old new input before after = PrintsBuild keeps top folder old new before after
+PrintsFor keeps (Build top folder threads pace progress false) old new input before after = PrintsBuild keeps top folder old new before after
+PrintsFor keeps (Build top folder threads pace progress true) old new input before after = Keeps before after
 PrintsFor keeps (Migrate from to) old new input before after = PrintsBrought keeps from.now to.now old new before after
 PrintsFor keeps (Rank board) old new input before after = PrintsPlace board.now before after
 PrintsFor keeps (Board level rank) old new input before after = PrintsBoard level rank before after
@@ -75,9 +78,9 @@ abbrev pub IsFolder : Option (Bor (List ℕ)) → List ℕ → Type 0
 IsFolder None name = ⊥
 IsFolder (Some folder) name = name ≡ folder.now
 
--- the request writes into the folder of this name
+-- the request writes into the folder of this name; an estimate writes into none
 abbrev pub WritesInto : Request → List ℕ → Type 0
-WritesInto (Build top folder threads pace progress) name = IsFolder folder name
+WritesInto (Build top folder threads pace progress false) name = IsFolder folder name
 WritesInto (Migrate from to) name = name ≡ to.now
 WritesInto request name = ⊥
 

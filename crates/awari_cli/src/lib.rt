@@ -35,11 +35,10 @@ mod progress;
 mod reading;
 mod runs;
 mod serving;
-mod streams;
 mod writing;
 
 pub use awari_answers::{
-    Answers, JudgeFault, Judgement, MovesQuery, PlayFault, Played, PliesQuery, Replies, judge,
+    Answers, JudgeFault, Judgement, MovesQuery, PlayFault, Played, PliesQuery, Replies, Streams, VerifyQuery, judge,
     play_on, run_ask, run_ask_json, run_line, run_line_json, run_longest_json, run_longest_line,
     run_moves, run_moves_json, run_plies, run_text, run_verify,
 };
@@ -52,4 +51,3 @@ pub use migrating::run_migrate;
 pub use progress::ProgressLines;
 pub use runs::run;
 pub use serving::{Growth, run_serve};
-pub use streams::Streams;

@@ -8,9 +8,8 @@ ghost use Rattle.awari_folder.specs.Contents.{Same};
 
 use crate::hosts::{Host, Purpose};
 use crate::serving::{Growth, run_serve};
-use crate::streams::Streams;
 use awari_answers::{
-    MovesQuery, PliesQuery, Replies, run_ask, run_ask_json, run_line, run_line_json,
+    MovesQuery, PliesQuery, Replies, Streams, VerifyQuery, run_ask, run_ask_json, run_line, run_line_json,
     run_longest_json, run_longest_line, run_moves, run_moves_json, run_plies, run_text, run_verify,
 };
 use awari_folder::Folder;
@@ -70,7 +69,18 @@ fn run_question<
 {
     let output = &mut streams.output;
     match question {
-        Question::Verify { .. } => run_verify(rt, folder, alloc, output, &mut streams.errors),
+        Question::Verify {
+            levels,
+            digest,
+            progress,
+        } => {
+            let query = VerifyQuery {
+                levels,
+                digest,
+                progress,
+            };
+            run_verify(rt, folder, alloc, query, streams)
+        }
         Question::Text {
             level,
             boards: false,

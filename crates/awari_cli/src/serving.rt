@@ -11,8 +11,7 @@ ghost use Rattle.awari_cli.specs.declared.serving.ServingFault.{ServingFault as 
 ghost use Rattle.awari_cli.specs.declared.serving.ServingFault.TheVariants as serving_fault;
 
 use crate::lasting::{WhileServed, lasting_service};
-use crate::streams::Streams;
-use awari_answers::{Replies, refuse};
+use awari_answers::{Replies, Streams, refuse};
 use awari_build::{
     BuildFault, Pace, Watch, build_level_with_progress, build_together_with_progress,
 };

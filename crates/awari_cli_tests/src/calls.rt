@@ -126,7 +126,7 @@ fn a_level_that_is_not_written_is_refused(rt: HostRuntime) {
 }
 
 /// Gives these bytes the name of a level.
-fn lay(folder: &mut MemoryFolder, level: u8, bytes: &[u8]) -> Result<(), Fail> {
+pub(crate) fn lay(folder: &mut MemoryFolder, level: u8, bytes: &[u8]) -> Result<(), Fail> {
     if level > HIGHEST_LEVEL {
         return Err(Fail::new("a level"));
     }

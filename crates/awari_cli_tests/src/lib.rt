@@ -46,6 +46,8 @@ mod stubborn;
 #[cfg(test)]
 mod texts;
 #[cfg(test)]
+mod wishes;
+#[cfg(test)]
 mod words;
 #[cfg(test)]
 mod worked;

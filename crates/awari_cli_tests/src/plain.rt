@@ -4,8 +4,8 @@
 
 use awari_build::Pace;
 use awari_cli::{
-    Builder, Disk, Growth, MovesQuery, ProgressLines, Streams, run, run_ask, run_build_in,
-    run_line, run_moves, run_serve, run_text, run_verify,
+    Builder, Disk, Growth, MovesQuery, ProgressLines, Streams, VerifyQuery, run, run_ask,
+    run_build_in, run_line, run_moves, run_serve, run_text, run_verify,
 };
 use awari_file_tests::MemoryFolder;
 use awari_phase::{Progress, Silent};
@@ -90,8 +90,28 @@ pub(crate) fn verified(
     folder: &mut MemoryFolder,
     output: &mut impl Write,
 ) -> u8 {
-    let mut errors = Vec::new(rt.alloc());
-    run_verify(rt, folder, rt.alloc(), output, &mut errors)
+    let query = VerifyQuery {
+        levels: None,
+        digest: None,
+        progress: false,
+    };
+    verified_as(rt, folder, query, output, &mut io::sink())
+}
+
+/// Verifies the folder as it is wished, and gives the status.
+pub(crate) fn verified_as(
+    rt: &(impl AllocGlobal + Threads + Wait + Sync),
+    folder: &mut MemoryFolder,
+    query: VerifyQuery<'_>,
+    output: &mut impl Write,
+    errors: &mut impl Write,
+) -> u8 {
+    let mut streams = Streams {
+        input: io::empty(),
+        output,
+        errors,
+    };
+    run_verify(rt, folder, rt.alloc(), query, &mut streams)
 }
 
 /// Asks the folder for a board, and gives the status.
