@@ -4,11 +4,14 @@ use awari_table::Image;
 
 /// What stands before the entries.
 #[derive(Clone, Copy)]
-pub(crate) struct Header {
+pub struct Header {
     /// The version, which sets the highest level that the file may have.
     pub version: u16,
+    /// The level, in stones.
     pub level: u8,
+    /// The greatest distance, in plies.
     pub limit: u32,
+    /// The digest that the file gives for the file of the level below, zeros for level 0.
     pub below: [u8; 32],
 }
 

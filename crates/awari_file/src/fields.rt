@@ -126,9 +126,11 @@ pub(crate) fn bytes_at(bytes: &[u8], short: FileFault) -> Result<([u8; 32], &[u8
     Ok((*taken, rest))
 }
 
-/// All that stands before the entries.
+/// All that stands before the entries, at the front of these bytes, and the bytes behind it. It is
+/// refused as the first of its fields that is wrong: 61 to 64, or `short` if there are too few bytes. It
+/// takes no memory.
 #[tactic(auto, unfolding(crate::specs::Reading::header_at))]
-pub(crate) fn header_of(bytes: &[u8], short: FileFault) -> Result<(Header, &[u8]), FileFault>
+pub fn header_of(bytes: &[u8], short: FileFault) -> Result<(Header, &[u8]), FileFault>
     ensures value { Gives (λ x. (x.0, x.1.now)) result (header_at short bytes.now) }
     ensures low { IfOk result (λ x. x.0.level ≤ HIGHEST_LEVEL) }
 {
@@ -150,8 +152,9 @@ pub(crate) fn header_of(bytes: &[u8], short: FileFault) -> Result<(Header, &[u8]
     ))
 }
 
-/// One entry.
-pub(crate) fn entry_at(bytes: &[u8], short: FileFault) -> Result<(Entry, &[u8]), FileFault>
+/// The entry at the front of these bytes, and the bytes behind it. It is refused as 65 if its plan is
+/// neither a pit nor none, or as `short` if there are too few bytes. It takes no memory.
+pub fn entry_at(bytes: &[u8], short: FileFault) -> Result<(Entry, &[u8]), FileFault>
     ensures { Gives (λ x. (x.0, x.1.now)) result (field 6 entry_of short bytes.now) }
 {
     let Some((front, rest)) = bytes.split_first_chunk::<ENTRY_LEN>() else {

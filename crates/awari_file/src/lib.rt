@@ -32,10 +32,11 @@ mod source;
 mod writing;
 
 pub use comparing::compare_level;
-pub use contents::Loaded;
+pub use contents::{Header, Loaded};
 pub use faults::FileFault;
-pub use fields::OLD_VERSION;
+pub use fields::{OLD_VERSION, entry_at, header_of};
 pub use laws::files_tell_images_apart;
 pub use reading::{read_image, read_unsealed};
 pub use sealing::{Behind, Unsealed};
+pub use sizes::{ENTRY_LEN, HEADER_LEN};
 pub use writing::write_level;

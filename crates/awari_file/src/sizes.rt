@@ -1,10 +1,10 @@
 //! How long the parts of a file are, and how much of it is read or written at once.
 
 /// The bytes before the entries.
-pub(crate) const HEADER_LEN: usize = 52;
+pub const HEADER_LEN: usize = 52;
 
 /// The bytes of an entry.
-pub(crate) const ENTRY_LEN: usize = 6;
+pub const ENTRY_LEN: usize = 6;
 
 /// The bytes of a digest, and the one that has to be missing behind it.
 pub(crate) const END_LEN: usize = 33;

@@ -1,6 +1,6 @@
 //! A folder in memory, of which chosen calls are refused.
 
-ghost use Rattle.std.specs.Prelude.{◌≡◌, ℕ, Some, None, option_map, ◌++◌, ◌∷◌, [], OnOk, OnErr, IfErr};
+ghost use Rattle.std.specs.Prelude.{◌≡◌, ◌≤◌, ◌+◌, ℕ, Some, None, option_map, ◌++◌, ◌∷◌, [], OnOk, OnErr, IfErr, length, take, drop};
 ghost use Rattle.awari_file_tests.specs.Log.{named};
 
 use awari_folder::{Draft, Folder, Refusal};
@@ -156,6 +156,20 @@ fn newest(puts: &[Put], level: u8) -> Option<&[u8]>
     None
 }
 
+/// Copies the bytes from a place on, if there are so many.
+fn copy_at(bytes: &[u8], place: u64, room: &mut [u8])
+    ensures { place + length room.new ≤ length bytes.now → room.new ≡ take (length room.new) (drop place bytes.now) }
+{
+    let place = place as usize;
+    if place > bytes.len() {
+        return;
+    }
+    let rest = &bytes[place..];
+    if room.len() <= rest.len() {
+        room.copy_from_slice(&rest[..room.len()]);
+    }
+}
+
 impl Folder for MemoryFolder {
     ghost use Rattle.awari_file_tests.specs.Log.{state_of};
 
@@ -177,6 +191,18 @@ impl Folder for MemoryFolder {
             Ok(copy) => Ok(Some(VecDeque::from(copy))),
             Err(_) => Err(Refusal::Memory),
         }
+    }
+
+    fn read_at(&mut self, level: u8, place: u64, room: &mut [u8]) -> Result<Option<u64>, Refusal> {
+        if self.is_refused() {
+            self.refused = self.refused.saturating_add(1);
+            return Err(Refusal::Refused);
+        }
+        let Some(bytes) = newest(&self.puts, level) else {
+            return Ok(None);
+        };
+        copy_at(bytes, place, room);
+        Ok(Some(bytes.len() as u64))
     }
 
     fn create(&mut self, level: u8) -> Result<MemoryDraft, Refusal> {

@@ -1,5 +1,5 @@
 -- What stands under the names of a folder's levels, and what its calls do to that.
-use Rattle.std.specs.Prelude.{◌≡◌, ◌≢◌, ◌<◌, ◌≤◌, ◌+◌, ◌⊎◌, ⊤, ℕ, zero, suc, List, [], length, replicate, Option, Some, None, IfSome, IsSomeAnd, IsNone, Result, Err}
+use Rattle.std.specs.Prelude.{◌≡◌, ◌≢◌, ◌<◌, ◌≤◌, ◌+◌, ◌⊎◌, ⊤, ℕ, zero, suc, List, [], length, take, drop, replicate, Option, Some, None, IfSome, IsSomeAnd, IsNone, Result, Err}
 use Rattle.awari_table.specs.Counted.{Grew}
 use Rattle.awari_table.specs.declared.TheConstants.{HIGHEST_LEVEL}
 use Rattle.awari_table.specs.declared.images.Image.{Image}
@@ -30,6 +30,13 @@ abbrev pub Opens : {F : Type 0} → (F → Option (List ℕ)) → Option (Option
 Opens remaining None opened = ⊤
 Opens remaining (Some None) opened = IsNone opened
 Opens remaining (Some (Some bytes)) opened = IsSomeAnd opened (λ file. remaining file ≡ Some bytes)
+
+-- What reading so many bytes at a place answers where it is known what has the name: none where no file has it, else how many bytes
+-- the file has. Where it has so many there, these are they.
+abbrev pub Reads : Option (Option (List ℕ)) → ℕ → List ℕ → Option ℕ → Type 0
+Reads None place got read = ⊤
+Reads (Some None) place got read = IsNone read
+Reads (Some (Some bytes)) place got read = (read ≡ Some (length bytes)) × (place + length got ≤ length bytes → got ≡ take (length got) (drop place bytes))
 
 -- Where it was known what had the name, a file of these bytes, as far as they are known, has it now.
 abbrev pub Becomes : Option (Option (List ℕ)) → Option (Option (List ℕ)) → Option (List ℕ) → Type 0

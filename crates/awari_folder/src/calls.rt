@@ -3,7 +3,7 @@
 ghost use Rattle.std.specs.Prelude.{◌≡◌, ◌≤◌, ℕ, List, [], Option, Some, IfSome, IfOk, OnOk, OnErr};
 ghost use Rattle.awari_table.specs.declared.TheConstants.{HIGHEST_LEVEL};
 ghost use Rattle.awari_table.specs.Counted.{Grew};
-ghost use Rattle.awari_folder.specs.Contents.{Same, Opens, IsLeftOf, IsWhole, Counts};
+ghost use Rattle.awari_folder.specs.Contents.{Same, Opens, Reads, IsLeftOf, IsWhole, Counts};
 ghost use Rattle.awari_folder.specs.State.{DraftsOnly, GetsName, MayName, State, Unchanged};
 
 use std::io::{Read, Write};
@@ -40,6 +40,14 @@ pub trait Folder {
     fn open(&mut self, level: u8) -> Result<Option<Self::File>, Refusal>
         requires { level ≤ HIGHEST_LEVEL }
         ensures opened { IfOk result (λ opened. Opens Self.File.remaining ((state self.old).stands level) opened) }
+        ensures unchanged { Unchanged (state self.old) (state self.new) }
+        ensures refused { Counts result (state self.old).refusals (state self.new).refusals };
+
+    /// How many bytes the file of a level has, if there is one. If so many are there from `place` on,
+    /// `room` is filled with them; otherwise nothing is said of `room`.
+    fn read_at(&mut self, level: u8, place: u64, room: &mut [u8]) -> Result<Option<u64>, Refusal>
+        requires { level ≤ HIGHEST_LEVEL }
+        ensures read { IfOk result (Reads ((state self.old).stands level) place room.new) }
         ensures unchanged { Unchanged (state self.old) (state self.new) }
         ensures refused { Counts result (state self.old).refusals (state self.new).refusals };
 

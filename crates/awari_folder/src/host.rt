@@ -1,6 +1,6 @@
 //! The folder of the host: what its files hold is not known to any proof.
 
-ghost use Rattle.std.specs.Prelude.{◌≡◌, ◌↔◌, None, IsTrue};
+ghost use Rattle.std.specs.Prelude.{◌≡◌, ◌≤◌, ◌+◌, ◌↔◌, None, IsTrue};
 
 use crate::calls::{Draft, Folder, Refusal};
 use crate::names::{path_of, path_of_itself, path_of_new};
@@ -8,6 +8,7 @@ use crate::words::{Named, Said, Words};
 use std::alloc::{AllocError, Global};
 use std::fs::{self, File, OpenOptions, TryLockError};
 use std::io::{self, Error, ErrorKind, Read, Write};
+use std::os::unix::fs::FileExt;
 use std::path::Path;
 use std::rt::Files;
 
@@ -147,6 +148,31 @@ fn open_file<R: Files>(files: &R, path: Path<'_>) -> io::Result<R::File> {
     fs::open(files, path)
 }
 
+/// How many bytes a file has. If so many are there from `place` on, `room` is filled with them.
+fn read_file<R: Files<File = File>>(
+    files: &R,
+    path: Path<'_>,
+    place: u64,
+    room: &mut [u8],
+) -> io::Result<u64> {
+    let file = open_file(files, path)?;
+    let length = file.metadata()?.len();
+    if has_room(length, place, room.len()) {
+        file.read_exact_at(room, place)?;
+    }
+    Ok(length)
+}
+
+/// Whether a file of this length has so many bytes from a place on.
+fn has_room(length: u64, place: u64, count: usize) -> bool
+    ensures { IsTrue result ↔ (place + count ≤ length) }
+{
+    match length.checked_sub(place) {
+        Some(left) => count as u64 <= left,
+        None => false,
+    }
+}
+
 /// Makes a file that was not there, in place of what a save that was killed may have left. What has
 /// the name is removed and not written to, so that no link is followed.
 fn create_file<R: Files>(files: &R, path: Path<'_>) -> io::Result<R::File> {
@@ -234,6 +260,23 @@ impl<R: Files<File = File>> Folder for HostFolder<'_, R> {
             Err(error) if error.kind() == ErrorKind::NotFound => Ok(None),
             Err(error) => {
                 words.keep(Named::Level(level), error);
+                self.refused = self.refused.saturating_add(1);
+                Err(Refusal::Refused)
+            }
+        }
+    }
+
+    fn read_at(&mut self, level: u8, place: u64, room: &mut [u8]) -> Result<Option<u64>, Refusal> {
+        let Ok(path) = path_of(self.alloc, self.path, level) else {
+            return Err(Refusal::Memory);
+        };
+        match read_file(self.files, path.as_path(), place, room) {
+            Ok(length) => Ok(Some(length)),
+            Err(error) if error.kind() == ErrorKind::NotFound => Ok(None),
+            Err(error) => {
+                if let Ok(words) = self.words() {
+                    words.keep(Named::Level(level), error);
+                }
                 self.refused = self.refused.saturating_add(1);
                 Err(Refusal::Refused)
             }

@@ -36,12 +36,12 @@ mod worths;
 
 pub use json::{entry_json, hex_digit, refusal_json, weighed_json};
 pub use laws::{lowest_levels_are_one, lowest_plans_stay};
-pub use lines::{Line, LineFault, best_line};
+pub use lines::{Line, LineFault, best_line, play_pit};
 pub use longest::longest_line;
 pub use lowering::least;
 pub use plans::planned_image;
-pub use plies::{LinePlies, Ply, Repeat, line_plies};
-pub use replies::{Replies, replies_to};
+pub use plies::{LinePlies, Ply, Repeat, line_plies, repeat_of};
+pub use replies::{Replies, count_keeping, replies_to};
 pub use texts::{ANSWER_ROOM, AnswerText, push_bytes, text_of_line};
 pub use weighing::{Weighed, WeighedMove, weigh};
-pub use worths::{MoveWorth, move_worths, worth_of};
+pub use worths::{MoveWorth, move_worths, worth_by, worth_of};

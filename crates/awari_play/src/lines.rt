@@ -116,8 +116,8 @@ fn play_plan(shelf: &Shelf, game: &mut Game) -> u8
     pit
 }
 
-/// Plays a legal pit.
-pub(crate) fn play_pit(game: &mut Game, pit: u8)
+/// Plays a pit of the game's board. Condition: it is legal. It takes no memory.
+pub fn play_pit(game: &mut Game, pit: u8)
     requires { IsLegal game.old.board pit }
     ensures { (board pits : List ℕ) → Shows game.old board pits → Shows game.new board (pits ++ pit ∷ []) }
 {

@@ -255,8 +255,9 @@ fn first_repeat(board: &Board, plies: &[Ply]) -> Option<Repeat>
     None
 }
 
-/// The same, but none is looked for if the value is not 0.
-fn repeat_of(value: i8, board: &Board, plies: &[Ply]) -> Option<Repeat>
+/// Where the plies from a board first come back to a board that stood before; but none is looked for
+/// if the value is not 0. It takes no memory.
+pub fn repeat_of(value: i8, board: &Board, plies: &[Ply]) -> Option<Repeat>
     ensures { IsRepeatIf (int_eq value (pos 0)) (boards_in board.now plies.now) result }
 {
     match value {

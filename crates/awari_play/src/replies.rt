@@ -39,8 +39,9 @@ pub fn replies_to(shelf: &Shelf, board: &Board, pit: u8) -> Replies
     }
 }
 
-/// How many of these moves of a board gain what its entry says.
-fn count_keeping(entry: Entry, replies: &[MoveWorth]) -> u8
+/// How many of these moves of a board gain what its entry says. Condition: there are at most six. It
+/// takes no memory.
+pub fn count_keeping(entry: Entry, replies: &[MoveWorth]) -> u8
     requires { length replies.now ≤ 6 }
     ensures { result ≡ count_by (keeps entry.value) replies.now }
 {

@@ -86,8 +86,8 @@ pub(crate) fn reached(shelf: &Shelf, board: &Board, pit: u8) -> Option<Reached>
     Some(Reached::of(moved.captured, entry))
 }
 
-/// What a move of this pit is worth that captures and leads to this.
-fn worth_by(pit: u8, reached: Reached) -> MoveWorth
+/// What a move of this pit is worth that captures and leads to this. It takes no memory.
+pub fn worth_by(pit: u8, reached: Reached) -> MoveWorth
     ensures pit { result.pit ≡ pit }
     ensures captured { result.captured ≡ reached.captured }
     ensures gain { result.value ≡ gain_of reached }

@@ -1,0 +1,4 @@
+pub mod Lying
+pub mod Saying
+pub mod Reading
+pub mod Framing

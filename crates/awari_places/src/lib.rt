@@ -1,0 +1,18 @@
+//! Boards looked up in the files of a folder where they lie, with no level read whole and none verified.
+//!
+//! [`open_levels`] looks at the headers and the lengths of the files, and [`entry`] reads the six bytes
+//! that stand for a board. What is answered is what the files say, whether that is right or not. If
+//! `verify` says yes to the files, it is the truth: [`right_files_say_their_shelf`] says so.
+#![tactic(auto)]
+
+mod entries;
+mod laws;
+mod opening;
+mod replies;
+mod weighing;
+mod worths;
+
+pub use entries::entry;
+pub use laws::{right_files_are_opened, right_files_say_their_shelf};
+pub use opening::{Opened, open_levels};
+pub use weighing::weigh;

@@ -1,0 +1,124 @@
+//! The levels whose files are there, by their headers and lengths.
+
+ghost use Rattle.std.specs.Prelude.{◌≡◌, ◌≤◌, ◌+◌, ℕ, List, Option, Some, IfErr, IfOk, MatchResult, max};
+ghost use Rattle.awari_table.specs.declared.TheConstants.{HIGHEST_LEVEL};
+ghost use Rattle.awari_folder.specs.Contents.{AreNames, IsOfFile};
+ghost use Rattle.awari_folder.specs.State.{OnlyReads};
+ghost use Rattle.awari_places.specs.Opening.{AreFramed, IsFrame, IsFrameFault, IsOpenFault, framed_of, length_of};
+
+use awari_file::{ENTRY_LEN, FileFault, HEADER_LEN, OLD_VERSION, header_of};
+use awari_folder::{Folder, FolderFault, Refusal};
+use awari_rank::size;
+
+/// The bytes of a file besides its entries: the header and the digest.
+const FRAME_LEN: u64 = 84;
+
+/// The levels of a folder whose files are there.
+#[derive(Clone, Copy, Debug, PartialEq, Eq)]
+pub struct Opened {
+    /// How many there are. They are numbered from 0.
+    pub levels: u8,
+    /// The greatest limit that their headers say, in plies; 0 if there is no level.
+    pub limit: u32,
+}
+
+/// The levels of a folder with at most `most` stones, up to the first that has no file. Condition: `most`
+/// is at most `HIGHEST_LEVEL`. It reads the header of each file and looks at its length, and nothing of
+/// its entries. So it answers at once at any level, and takes memory for names alone.
+///
+/// The files are taken in turn, and each is refused as the first of these that is due:
+///
+/// - 82: it is there and does not open.
+/// - 81: it does not begin as the file of a level, is that of another level, or has another length.
+/// - 86: it is of version 1.
+///
+/// It is refused as 84 if there was no room for a name.
+pub fn open_levels<F: Folder>(folder: &mut F, most: u8) -> Result<Opened, FolderFault>
+    requires { most ≤ HIGHEST_LEVEL }
+    ensures exact { (names : ℕ → Option (List ℕ)) → AreNames (F.state folder.old).stands names
+        → MatchResult result (AreFramed most names) (IsOpenFault most names) }
+    ensures few { IfOk result (λ opened. opened.levels ≤ most + 1) }
+    ensures reads { OnlyReads result (F.state folder.old) (F.state folder.new) }
+{
+    let mut opened = Opened {
+        levels: 0,
+        limit: 0,
+    };
+    for level in 0..=most {
+        match frame_of(folder, level) {
+            Ok(Some(limit)) => opened = with_level(opened, limit),
+            Ok(None) => break,
+            Err(fault) => return Err(fault),
+        }
+    }
+    Ok(opened)
+}
+
+/// The same, with one level more.
+fn with_level(opened: Opened, limit: u32) -> Opened
+    requires { opened.levels ≤ 24 }
+    ensures levels { result.levels ≡ opened.levels + 1 }
+    ensures limit { result.limit ≡ max opened.limit limit }
+{
+    Opened {
+        levels: opened.levels + 1,
+        limit: opened.limit.max(limit),
+    }
+}
+
+/// The limit in the header of a level's file, or none if there is no file.
+fn frame_of<F: Folder>(folder: &mut F, level: u8) -> Result<Option<u32>, FolderFault>
+    requires { level ≤ HIGHEST_LEVEL }
+    ensures exact { (name : Option (List ℕ)) → (F.state folder.old).stands level ≡ Some name
+        → MatchResult result (IsFrame level name) (IsFrameFault level name) }
+    ensures reads { OnlyReads result (F.state folder.old) (F.state folder.new) }
+{
+    let mut front = [0; HEADER_LEN];
+    match folder.read_at(level, 0, &mut front) {
+        Ok(Some(size)) => match judge(level, size, &front) {
+            Ok(limit) => Ok(Some(limit)),
+            Err(fault) => Err(fault),
+        },
+        Ok(None) => Ok(None),
+        Err(Refusal::Refused) => Err(FolderFault::Open { level }),
+        Err(Refusal::Memory) => Err(FolderFault::Memory),
+    }
+}
+
+/// The limit in the header of a level's file that has so many bytes.
+fn judge(level: u8, size: u64, front: &[u8]) -> Result<u32, FolderFault>
+    requires { level ≤ HIGHEST_LEVEL }
+    ensures exact { result ≡ framed_of level size front.now }
+    ensures of_file { IfErr result IsOfFile }
+{
+    let file = |fault| Err(FolderFault::File { level, fault });
+    if size < HEADER_LEN as u64 {
+        return file(FileFault::Truncated);
+    }
+    let header = match header_of(front, FileFault::Truncated) {
+        Ok((header, _)) => header,
+        Err(fault) => return file(fault),
+    };
+    if header.version == OLD_VERSION {
+        return Err(FolderFault::Old { level });
+    }
+    if header.level != level {
+        return file(FileFault::LevelOutOfRange);
+    }
+    let whole = length_of(level);
+    if size < whole {
+        return file(FileFault::Truncated);
+    }
+    if size > whole {
+        return file(FileFault::Trailing);
+    }
+    Ok(header.limit)
+}
+
+/// The bytes of a level's file.
+fn length_of(level: u8) -> u64
+    requires { level ≤ HIGHEST_LEVEL }
+    ensures { result ≡ length_of level }
+{
+    FRAME_LEN + ENTRY_LEN as u64 * u64::from(size(level))
+}

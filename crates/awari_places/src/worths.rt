@@ -1,0 +1,84 @@
+//! What each legal move of a board is worth, by the entries of the boards that they leave.
+
+ghost use Rattle.std.specs.Prelude.{◌≡◌, ◌<◌, ◌≤◌, ◌+◌, ◌↔◌, ℕ, All, Contains, List, Some, IfOk, sum};
+ghost use Rattle.awari_board.specs.Rules.{IsLegal};
+ghost use Rattle.awari_folder.specs.State.{Unchanged};
+ghost use Rattle.awari_play.specs.MoveWorth.{IsWorthOf, pit_of};
+ghost use Rattle.awari_play.specs.Worths.{AreWorths};
+ghost use Rattle.awari_table.specs.Images.{table_of};
+ghost use Rattle.awari_table.specs.Reached.{Reaches};
+ghost use Rattle.awari_table.specs.declared.TheConstants.{HIGHEST_LEVEL};
+ghost use Rattle.awari_table.specs.declared.images.Image.{Image};
+ghost use Rattle.awari_places.specs.Places.{Says};
+
+use crate::entries::entry;
+use arrayvec::ArrayVec;
+use awari_board::Board;
+use awari_folder::{Folder, FolderFault};
+use awari_play::{MoveWorth, worth_by};
+use awari_table::Reached;
+
+/// What each legal pit of a board is worth, ascending by pit.
+pub(crate) fn worths_of<F: Folder>(
+    folder: &mut F,
+    levels: u8,
+    board: &Board,
+) -> Result<ArrayVec<MoveWorth, 6>, FolderFault>
+    requires low { levels ≤ HIGHEST_LEVEL + 1 }
+    requires known { sum board.now < levels }
+    ensures legal { IfOk result (λ worths. All (λ w. IsLegal board.now w.pit) worths.items) }
+    ensures worths { (images : List Image) → Says (F.state folder.old).stands levels images → IfOk result (λ worths. AreWorths images board.now worths.items) }
+    ensures same { Unchanged (F.state folder.old) (F.state folder.new) }
+{
+    let mut worths = ArrayVec::new();
+    let moves = board.moves();
+    for pit in moves.as_slice() {
+        match worth_of(folder, levels, board, *pit) {
+            Ok(worth) => worths.push(worth),
+            Err(fault) => return Err(fault),
+        }
+    }
+    Ok(worths)
+}
+
+/// What a legal pit of a board is worth.
+fn worth_of<F: Folder>(
+    folder: &mut F,
+    levels: u8,
+    board: &Board,
+    pit: u8,
+) -> Result<MoveWorth, FolderFault>
+    requires low { levels ≤ HIGHEST_LEVEL + 1 }
+    requires known { sum board.now < levels }
+    requires legal { IsLegal board.now pit }
+    ensures pit { IfOk result (λ worth. worth.pit ≡ pit) }
+    ensures worth { (images : List Image) → Says (F.state folder.old).stands levels images → IfOk result (IsWorthOf (table_of images) board.now pit) }
+    ensures same { Unchanged (F.state folder.old) (F.state folder.new) }
+{
+    match reached(folder, levels, board, pit) {
+        Ok(reached) => Ok(worth_by(pit, reached)),
+        Err(fault) => Err(fault),
+    }
+}
+
+/// What a legal pit of a board captures and leads to.
+pub(crate) fn reached<F: Folder>(
+    folder: &mut F,
+    levels: u8,
+    board: &Board,
+    pit: u8,
+) -> Result<Reached, FolderFault>
+    requires low { levels ≤ HIGHEST_LEVEL + 1 }
+    requires known { sum board.now < levels }
+    requires legal { IsLegal board.now pit }
+    ensures reached { (images : List Image) → Says (F.state folder.old).stands levels images → IfOk result (λ m. Reaches (table_of images) board.now pit (Some m)) }
+    ensures same { Unchanged (F.state folder.old) (F.state folder.new) }
+{
+    let Ok(moved) = board.play(pit) else {
+        unreachable!()
+    };
+    match entry(folder, levels, &moved.board) {
+        Ok(entry) => Ok(Reached::of(moved.captured, entry)),
+        Err(fault) => Err(fault),
+    }
+}
