@@ -38,7 +38,7 @@ PrintsAnswer (Moves board replies false unverified) stands input before after = 
 PrintsAnswer (Moves board replies true unverified) stands input before after = PrintsWorthsJson replies stands board.now before after
 PrintsAnswer (Line board longest false json unverified) stands input before after = PrintsLineBy longest json stands board.now before after
 PrintsAnswer (Line board longest true json unverified) stands input before after = PrintsPlies stands longest json board.now before after
-PrintsAnswer (Serve top owners unverified) stands input before after = PrintsService stands input before after
+PrintsAnswer (Serve top owners) stands input before after = PrintsService stands input before after
 PrintsAnswer (Counts level json unverified) stands input before after = PrintsCounts json stands level before after
 PrintsAnswer (Boards level value distance farthest every count unverified) stands input before after =
     PrintsBoards stands (record { level = level; value = value; distance = distance; farthest = farthest; every = every; count = count }) before after

@@ -131,7 +131,7 @@ fn run_question<
             };
             run_plies(rt, folder, alloc, query, output)
         }
-        Question::Serve { top, owners, .. } => {
+        Question::Serve { top, owners } => {
             run_serve(rt, folder, alloc, Growth { top, owners }, streams)
         }
         Question::Counts { level, json, .. } => {

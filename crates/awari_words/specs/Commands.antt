@@ -115,7 +115,7 @@ abbrev pub line_command : Shape
 line_command = look_up_command (codes "line") (flag (codes "longest") ∷ flag (codes "plies") ∷ json ∷ unverified ∷ [])
 
 abbrev pub serve_command : Shape
-serve_command = command (codes "serve") (folder ∷ top ∷ number (codes "OWNERS") (Unsigned 0 16) ∷ unverified ∷ [])
+serve_command = command (codes "serve") (folder ∷ top ∷ number (codes "OWNERS") (Unsigned 0 16) ∷ [])
 
 abbrev pub rank_command : Shape
 rank_command = command (codes "rank") (board ∷ [])

@@ -291,8 +291,7 @@ fn serve_command<'a>(alloc: Global) -> Result<Command<'a>, AllocError>
     );
     let command = with_word(command, folder(alloc));
     let command = with_word(command, served_top(alloc));
-    let command = with_word(command, served_owners(alloc));
-    with_word(command, unverified(alloc))
+    with_word(command, served_owners(alloc))
 }
 
 fn rank_command<'a>(alloc: Global) -> Result<Command<'a>, AllocError>

@@ -114,11 +114,10 @@ pub enum Question<'a> {
         json: bool,
         unverified: bool,
     },
-    /// `serve FOLDER TOP OWNERS [--unverified]`: the answers to lines, while levels are built.
+    /// `serve FOLDER TOP OWNERS`: the answers to lines, while levels are built.
     Serve {
         top: u8,
         owners: u8,
-        unverified: bool,
     },
     /// `counts FOLDER [LEVEL] [--json] [--unverified]`: the levels in numbers, or one.
     Counts {
@@ -316,7 +315,6 @@ fn serve_request<'m, 'a: 'm>(given: &'m ArgMatches<'a>) -> Option<Request<'m, 'a
         question: Question::Serve {
             top: byte(given, "TOP")?,
             owners: byte(given, "OWNERS")?,
-            unverified: flag(given, "unverified"),
         },
     })
 }
