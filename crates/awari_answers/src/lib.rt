@@ -28,6 +28,7 @@ mod printing;
 mod shown;
 mod telling;
 mod texts;
+mod unverified;
 mod worths;
 
 pub use asked::NoAnswer;
@@ -42,4 +43,7 @@ pub use plies::{PliesQuery, run_plies};
 pub use printing::{Refused, print, print_bytes, refuse, status_of};
 pub use telling::{LevelLine, line_of_level};
 pub use texts::run_text;
+pub use unverified::{
+    run_ask_json_unverified, run_ask_unverified, run_moves_json_unverified, run_moves_unverified,
+};
 pub use worths::{MovesQuery, run_moves, run_moves_json};
