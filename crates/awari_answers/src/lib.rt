@@ -32,6 +32,7 @@ mod telling;
 mod texts;
 mod watching;
 mod wishes;
+mod unverified;
 mod worths;
 
 pub use asked::NoAnswer;
@@ -50,4 +51,7 @@ pub use telling::{LevelLine, line_of_level};
 pub use texts::run_text;
 pub use watching::load_watched;
 pub use wishes::VerifyQuery;
+pub use unverified::{
+    run_ask_json_unverified, run_ask_unverified, run_moves_json_unverified, run_moves_unverified,
+};
 pub use worths::{MovesQuery, run_moves, run_moves_json};
