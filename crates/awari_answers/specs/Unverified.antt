@@ -1,5 +1,5 @@
 -- What the files in a folder say of a board, whether that is right or not.
-use Rattle.std.specs.Prelude.{◌≡◌, ℕ, ◌<◌, Bool, List, Option, min, sum}
+use Rattle.std.specs.Prelude.{◌≡◌, ℕ, ◌<◌, Bool, false, true, List, Option, min, sum}
 use Rattle.std.specs.Io.KnownBytes.{Appends}
 use Rattle.awari_board.specs.Rules.{IsBoard}
 use Rattle.awari_board.specs.Text.{text_of}
@@ -38,6 +38,11 @@ PrintsEntrySaid stands text before after = (board : List ℕ) × (e : Entry) × 
 abbrev pub PrintsEntrySaidJson : (ℕ → Option (Option (List ℕ))) → List ℕ → Option (List ℕ) → Option (List ℕ) → Type 0
 PrintsEntrySaidJson stands text before after = (board : List ℕ) × (e : Entry) × IsSaid stands text board (λ images. e ≡ entry_of images board) × Appends before after (entry_json board e)
 
+-- The one or the other.
+abbrev pub PrintsEntrySaidBy : Bool → (ℕ → Option (Option (List ℕ))) → List ℕ → Option (List ℕ) → Option (List ℕ) → Type 0
+PrintsEntrySaidBy false = PrintsEntrySaid
+PrintsEntrySaidBy true = PrintsEntrySaidJson
+
 -- Where it is known what the writer holds, what was written are the moves of the board as the files weigh them, or the end.
 abbrev pub PrintsWorthsSaid : Bool → (ℕ → Option (Option (List ℕ))) → List ℕ → Option (List ℕ) → Option (List ℕ) → Type 0
 PrintsWorthsSaid replies stands text before after = (board : List ℕ) × (w : Weighed) × IsSaid stands text board (λ images. IsWeighed replies images board w) × Appends before after (weighed_text w)
@@ -45,3 +50,8 @@ PrintsWorthsSaid replies stands text before after = (board : List ℕ) × (w : W
 -- The same as JSON.
 abbrev pub PrintsWorthsSaidJson : Bool → (ℕ → Option (Option (List ℕ))) → List ℕ → Option (List ℕ) → Option (List ℕ) → Type 0
 PrintsWorthsSaidJson replies stands text before after = (board : List ℕ) × (w : Weighed) × IsSaid stands text board (λ images. IsWeighed replies images board w) × Appends before after (weighed_json board w)
+
+-- The one or the other.
+abbrev pub PrintsWorthsSaidBy : Bool → Bool → (ℕ → Option (Option (List ℕ))) → List ℕ → Option (List ℕ) → Option (List ℕ) → Type 0
+PrintsWorthsSaidBy false = PrintsWorthsSaid
+PrintsWorthsSaidBy true = PrintsWorthsSaidJson

@@ -30,9 +30,9 @@ mod shown;
 mod streams;
 mod telling;
 mod texts;
+mod unverified;
 mod watching;
 mod wishes;
-mod unverified;
 mod worths;
 
 pub use asked::NoAnswer;
@@ -49,9 +49,9 @@ pub use remarks::{Answers, Explained, Replies};
 pub use streams::Streams;
 pub use telling::{LevelLine, line_of_level};
 pub use texts::run_text;
-pub use watching::load_watched;
-pub use wishes::VerifyQuery;
 pub use unverified::{
     run_ask_json_unverified, run_ask_unverified, run_moves_json_unverified, run_moves_unverified,
 };
+pub use watching::load_watched;
+pub use wishes::VerifyQuery;
 pub use worths::{MovesQuery, run_moves, run_moves_json};

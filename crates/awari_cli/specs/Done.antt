@@ -16,6 +16,7 @@ use Rattle.awari_answers.specs.Lines.{PrintsLineBy}
 use Rattle.awari_answers.specs.Playing.{PrintsMove}
 use Rattle.awari_answers.specs.Plies.{PrintsPlies}
 use Rattle.awari_answers.specs.Texts.{PrintsText}
+use Rattle.awari_answers.specs.Unverified.{PrintsEntrySaidBy, PrintsWorthsSaidBy}
 use Rattle.awari_answers.specs.Worths.{PrintsWorths, PrintsWorthsJson}
 use Rattle.awari_questions.specs.Boards.{PrintsAllBoards, PrintsBoards}
 use Rattle.awari_questions.specs.Counts.{PrintsCounts}
@@ -27,15 +28,17 @@ use Rattle.awari_words.specs.declared.requests.Request.{Request}
 use Rattle.awari_words.specs.declared.requests.Request.TheVariants.{Check, Move, Judge, Build, Migrate, Rank, Board, Plays, Read}
 
 -- the lines of the levels that lie in a folder, their text, the board's entry, its legal moves, a line of play from it, the answers
--- to the lines that the reader had left, the counts of levels, or boards of a level
+-- to the lines that the reader had left, the counts of levels, or boards of a level; unverified: what the files say of the board
 abbrev pub PrintsAnswer : Question → Stands → Option (List ℕ) → Option (List ℕ) → Option (List ℕ) → Type 0
 PrintsAnswer (Verify levels digest progress) stands input before after = PrintsFolder levels digest stands before after
 PrintsAnswer (Text level false) stands input before after = PrintsText stands level before after
 PrintsAnswer (Text level true) stands input before after = PrintsAllBoards stands level before after
-PrintsAnswer (Ask board false unverified) stands input before after = PrintsEntry stands board.now before after
-PrintsAnswer (Ask board true unverified) stands input before after = PrintsEntryJson stands board.now before after
-PrintsAnswer (Moves board replies false unverified) stands input before after = PrintsWorths replies stands board.now before after
-PrintsAnswer (Moves board replies true unverified) stands input before after = PrintsWorthsJson replies stands board.now before after
+PrintsAnswer (Ask board false false) stands input before after = PrintsEntry stands board.now before after
+PrintsAnswer (Ask board true false) stands input before after = PrintsEntryJson stands board.now before after
+PrintsAnswer (Ask board json true) stands input before after = PrintsEntrySaidBy json stands board.now before after
+PrintsAnswer (Moves board replies false false) stands input before after = PrintsWorths replies stands board.now before after
+PrintsAnswer (Moves board replies true false) stands input before after = PrintsWorthsJson replies stands board.now before after
+PrintsAnswer (Moves board replies json true) stands input before after = PrintsWorthsSaidBy json replies stands board.now before after
 PrintsAnswer (Line board longest false json unverified) stands input before after = PrintsLineBy longest json stands board.now before after
 PrintsAnswer (Line board longest true json unverified) stands input before after = PrintsPlies stands longest json board.now before after
 PrintsAnswer (Serve top owners) stands input before after = PrintsService stands input before after

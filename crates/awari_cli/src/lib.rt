@@ -38,9 +38,9 @@ mod serving;
 mod writing;
 
 pub use awari_answers::{
-    Answers, JudgeFault, Judgement, MovesQuery, PlayFault, Played, PliesQuery, Replies, Streams, VerifyQuery, judge,
-    play_on, run_ask, run_ask_json, run_line, run_line_json, run_longest_json, run_longest_line,
-    run_moves, run_moves_json, run_plies, run_text, run_verify,
+    Answers, JudgeFault, Judgement, MovesQuery, PlayFault, Played, PliesQuery, Replies, Streams,
+    VerifyQuery, judge, play_on, run_ask, run_ask_json, run_line, run_line_json, run_longest_json,
+    run_longest_line, run_moves, run_moves_json, run_plies, run_text, run_verify,
 };
 pub use awari_check::check;
 pub use building::{Builder, run_build_in};

@@ -2,6 +2,7 @@
 
 ghost use Rattle.std.specs.Prelude.{◌≡◌, ◌≤◌};
 ghost use Rattle.awari_answers.specs.Lines.{PrintsLineBy};
+ghost use Rattle.awari_answers.specs.Unverified.{PrintsEntrySaidBy, PrintsWorthsSaidBy};
 ghost use Rattle.awari_cli.specs.Done.{PrintsAnswer};
 ghost use Rattle.awari_cli.specs.Hosts.{AllStay};
 ghost use Rattle.awari_folder.specs.Contents.{Same};
@@ -9,8 +10,10 @@ ghost use Rattle.awari_folder.specs.Contents.{Same};
 use crate::hosts::{Host, Purpose};
 use crate::serving::{Growth, run_serve};
 use awari_answers::{
-    MovesQuery, PliesQuery, Replies, Streams, VerifyQuery, run_ask, run_ask_json, run_line, run_line_json,
-    run_longest_json, run_longest_line, run_moves, run_moves_json, run_plies, run_text, run_verify,
+    MovesQuery, PliesQuery, Replies, Streams, VerifyQuery, print, run_ask, run_ask_json,
+    run_ask_json_unverified, run_ask_unverified, run_line, run_line_json, run_longest_json,
+    run_longest_line, run_moves, run_moves_json, run_moves_json_unverified, run_moves_unverified,
+    run_plies, run_text, run_verify,
 };
 use awari_folder::Folder;
 use awari_questions::{BoardsQuery, CountsQuery, run_all_boards, run_boards, run_counts};
@@ -42,6 +45,13 @@ pub(crate) fn run_reading<
         (W.contents streams.old.output) (W.contents streams.new.output) }
 {
     let mut folder = host.open(reading.folder, Purpose::Read, &mut streams.errors);
+    if is_unverified(reading.question) {
+        // There is nowhere to say that this could not be written.
+        print(
+            &mut streams.errors,
+            &format_args!("{}: nothing is verified", reading.folder),
+        );
+    }
     let status = run_question(rt, &mut folder, alloc, reading.question, streams);
     host.tell(reading.folder, &folder, &mut streams.errors);
     host.close(reading.folder, folder);
@@ -89,8 +99,27 @@ fn run_question<
             level,
             boards: true,
         } => run_all_boards(rt, folder, alloc, level, output),
-        Question::Ask { board, json: false, .. } => run_ask(rt, folder, alloc, board, output),
-        Question::Ask { board, json: true, .. } => run_ask_json(rt, folder, alloc, board, output),
+        Question::Ask {
+            board,
+            json,
+            unverified: true,
+        } => run_ask_said(folder, board, json, output),
+        Question::Ask {
+            board,
+            json: false,
+            ..
+        } => run_ask(rt, folder, alloc, board, output),
+        Question::Ask {
+            board,
+            json: true,
+            ..
+        } => run_ask_json(rt, folder, alloc, board, output),
+        Question::Moves {
+            board,
+            replies,
+            json,
+            unverified: true,
+        } => run_moves_said(folder, MovesQuery { board, replies }, json, output),
         Question::Moves {
             board,
             replies,
@@ -156,6 +185,54 @@ fn run_question<
             };
             run_boards(rt, folder, alloc, &query, output)
         }
+    }
+}
+
+/// Prints the entry that the files say of a board.
+fn run_ask_said<F: Folder, W: Replies>(
+    folder: &mut F,
+    board: &str,
+    json: bool,
+    writer: &mut W,
+) -> u8
+    ensures status { result ≤ 1 }
+    ensures same { Same (F.state folder.old).stands (F.state folder.new).stands }
+    ensures printed { result ≡ 0 → PrintsEntrySaidBy json (F.state folder.old).stands board.now (W.contents writer.old) (W.contents writer.new) }
+{
+    if json {
+        run_ask_json_unverified(folder, board, writer)
+    } else {
+        run_ask_unverified(folder, board, writer)
+    }
+}
+
+/// Prints what each legal move of a board is worth by the files.
+fn run_moves_said<F: Folder, W: Replies>(
+    folder: &mut F,
+    query: MovesQuery<'_>,
+    json: bool,
+    writer: &mut W,
+) -> u8
+    ensures status { result ≤ 1 }
+    ensures same { Same (F.state folder.old).stands (F.state folder.new).stands }
+    ensures printed { result ≡ 0 → PrintsWorthsSaidBy json query.entry.replies (F.state folder.old).stands query.entry.board.now (W.contents writer.old) (W.contents writer.new) }
+{
+    if json {
+        run_moves_json_unverified(folder, query, writer)
+    } else {
+        run_moves_unverified(folder, query, writer)
+    }
+}
+
+/// Whether the question is to be answered by what the files say, with nothing verified.
+fn is_unverified(question: Question<'_>) -> bool {
+    match question {
+        Question::Ask { unverified, .. }
+        | Question::Moves { unverified, .. }
+        | Question::Line { unverified, .. }
+        | Question::Counts { unverified, .. }
+        | Question::Boards { unverified, .. } => unverified,
+        Question::Verify { .. } | Question::Text { .. } | Question::Serve { .. } => false,
     }
 }
 

@@ -16,7 +16,9 @@ ghost use Rattle.clap.specs.Simple.{subcommand_of, subcommand_rows_of};
 use crate::hosts::Host;
 use crate::reading::{Reading, run_reading};
 use crate::writing::{AskedBuild, Build, Migration, run_build_asked, run_migration};
-use awari_answers::{Played, Replies, Streams, judge, play_on, print, refuse, status_of, tell_answer};
+use awari_answers::{
+    Played, Replies, Streams, judge, play_on, print, refuse, status_of, tell_answer,
+};
 use awari_check::check_input;
 use awari_questions::{run_board, run_plays, run_rank};
 use awari_table::Counted;
