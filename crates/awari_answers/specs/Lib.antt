@@ -9,3 +9,4 @@ pub mod Texts
 pub mod LevelLines
 pub mod Plies
 pub mod Unverified
+pub mod UnverifiedLines

@@ -29,6 +29,7 @@ mod shown;
 mod telling;
 mod texts;
 mod unverified;
+mod unverified_lines;
 mod worths;
 
 pub use asked::NoAnswer;
@@ -46,4 +47,5 @@ pub use texts::run_text;
 pub use unverified::{
     run_ask_json_unverified, run_ask_unverified, run_moves_json_unverified, run_moves_unverified,
 };
+pub use unverified_lines::{run_line_unverified, run_plies_unverified};
 pub use worths::{MovesQuery, run_moves, run_moves_json};
