@@ -10,3 +10,4 @@ pub mod Texts
 pub mod LevelLines
 pub mod Plies
 pub mod Unverified
+pub mod UnverifiedLines

@@ -31,6 +31,7 @@ mod streams;
 mod telling;
 mod texts;
 mod unverified;
+mod unverified_lines;
 mod watching;
 mod wishes;
 mod worths;
@@ -52,6 +53,7 @@ pub use texts::run_text;
 pub use unverified::{
     run_ask_json_unverified, run_ask_unverified, run_moves_json_unverified, run_moves_unverified,
 };
+pub use unverified_lines::{run_line_unverified, run_plies_unverified};
 pub use watching::load_watched;
 pub use wishes::VerifyQuery;
 pub use worths::{MovesQuery, run_moves, run_moves_json};

@@ -22,9 +22,9 @@ use std::thread::Threads;
 /// The entry of a board, and the line of play from it. It is printed as three lines, without the last
 /// line feed.
 #[derive(Drop)]
-struct ValuedLine {
-    entry: Entry,
-    line: Line,
+pub(crate) struct ValuedLine {
+    pub(crate) entry: Entry,
+    pub(crate) line: Line,
 }
 
 impl fmt::Display for ValuedLine {
@@ -44,9 +44,9 @@ impl fmt::Display for ValuedLine {
 /// The entry of a board, and the pits of the longest line of play from it. It is printed as three
 /// lines, without the last line feed.
 #[derive(Drop)]
-struct LongestLine {
-    entry: Entry,
-    moves: Vec<u8>,
+pub(crate) struct LongestLine {
+    pub(crate) entry: Entry,
+    pub(crate) moves: Vec<u8>,
 }
 
 impl fmt::Display for LongestLine {
@@ -159,11 +159,11 @@ pub fn run_longest_line<T: Threads + Sync, F: Folder, W: Replies>(
 
 /// A line of play from a board, with the text of the board. It is printed as a JSON object.
 #[derive(Clone, Copy)]
-struct LineJson<'a> {
-    board: &'a str,
-    value: i8,
-    moves: &'a [u8],
-    outcome: i16,
+pub(crate) struct LineJson<'a> {
+    pub(crate) board: &'a str,
+    pub(crate) value: i8,
+    pub(crate) moves: &'a [u8],
+    pub(crate) outcome: i16,
 }
 
 impl fmt::Display for LineJson<'_> {
@@ -186,11 +186,11 @@ impl fmt::Display for LineJson<'_> {
 
 /// A line of play in which one side holds out, with the text of its board. It is printed as a JSON object.
 #[derive(Clone, Copy)]
-struct LongestJson<'a> {
-    board: &'a str,
-    value: i8,
-    distance: u32,
-    moves: &'a [u8],
+pub(crate) struct LongestJson<'a> {
+    pub(crate) board: &'a str,
+    pub(crate) value: i8,
+    pub(crate) distance: u32,
+    pub(crate) moves: &'a [u8],
 }
 
 impl fmt::Display for LongestJson<'_> {

@@ -50,7 +50,7 @@ fn print_plies<W: Write>(plies: &[Ply], json: bool, writer: &mut W) -> bool
 }
 
 /// Prints the plies up to the repeat, or all of them, and says whether the writer took that.
-fn print_line<W: Write>(found: &LinePlies, json: bool, writer: &mut W) -> bool
+pub(crate) fn print_line<W: Write>(found: &LinePlies, json: bool, writer: &mut W) -> bool
     requires { IfSome found.now.repeat (λ r. r.again ≤ length found.now.plies.items) }
     ensures { result ≡ true → Appends (W.contents writer.old) (W.contents writer.new) (shown_line json found.now.plies.items found.now.repeat) }
 {

@@ -1,7 +1,7 @@
 //! The commands `ask` and `moves` with `--unverified`: what the files in a folder say of a board, read
 //! where they lie, whether that is right or not.
 
-ghost use Rattle.std.specs.Prelude.{◌≡◌, ◌≤◌, ◌<◌, ◌+◌, ◌↔◌, Err, IfOk, sum};
+ghost use Rattle.std.specs.Prelude.{◌≡◌, ◌≢◌, ◌≤◌, ◌<◌, ◌+◌, ◌↔◌, Err, IfOk, sum};
 ghost use Rattle.awari_board.specs.BoardFault.{IsFaulty};
 ghost use Rattle.awari_board.specs.declared.text.BoardFault.{BoardFault};
 ghost use Rattle.awari_folder.specs.Contents.{Same};
@@ -19,7 +19,7 @@ use crate::worths::MovesQuery;
 use awari_board::{Board, one_board_fault_is_due};
 use awari_folder::Folder;
 use awari_places::{Opened, entry, open_levels, weigh};
-use awari_play::{Weighed, entry_json, weighed_json};
+use awari_play::{LineFault, Weighed, entry_json, weighed_json};
 use awari_table::{Entry, HIGHEST_LEVEL, NotYet, line_of_entry};
 
 /// A board, and the levels in a folder up to the board's, by their headers.
@@ -44,8 +44,12 @@ pub(crate) fn open_for<F: Folder>(folder: &mut F, text: &[u8]) -> Result<OpenedF
     Ok(OpenedFor { board, opened })
 }
 
-/// The same, if the board's level is there. It is refused as 59 if not.
-fn open_level_of<F: Folder>(folder: &mut F, text: &[u8]) -> Result<OpenedFor, NoAnswer>
+/// The same, if the board's level is there. It is refused as 59 if not, or as 56 for a line.
+pub(crate) fn open_level_of<F: Folder>(
+    folder: &mut F,
+    text: &[u8],
+    line: bool,
+) -> Result<OpenedFor, NoAnswer>
     ensures opened { IfOk result (λ found. IsOpened (F.state folder.old).stands text.now found.board found.opened) }
     ensures few { IfOk result (λ found. found.opened.levels ≤ HIGHEST_LEVEL + 1) }
     ensures known { IfOk result (λ found. sum found.board < found.opened.levels) }
@@ -55,11 +59,23 @@ fn open_level_of<F: Folder>(folder: &mut F, text: &[u8]) -> Result<OpenedFor, No
     let found = open_for(folder, text)?;
     let levels = found.opened.levels;
     if found.board.stones() >= levels {
-        return Err(NoAnswer::NotYet {
-            fault: NotYet { levels },
-        });
+        return Err(not_there(levels, line));
     }
     Ok(found)
+}
+
+/// The refusal of a board whose level is not one of so many.
+fn not_there(levels: u8, line: bool) -> NoAnswer
+    ensures { (fault : BoardFault) → result ≢ no_answer.Board fault }
+{
+    if line {
+        return NoAnswer::Line {
+            fault: LineFault::NotYet { levels },
+        };
+    }
+    NoAnswer::NotYet {
+        fault: NotYet { levels },
+    }
 }
 
 /// The board that `text` spells, and the entry that the files say.
@@ -68,7 +84,7 @@ fn look_up_unverified<F: Folder>(folder: &mut F, text: &[u8]) -> Result<(Board, 
     ensures same { Same (F.state folder.old).stands (F.state folder.new).stands }
     ensures board { (fault : BoardFault) → (result ≡ Err (no_answer.Board fault)) ↔ IsFaulty text.now fault }
 {
-    let OpenedFor { board, opened } = open_level_of(folder, text)?;
+    let OpenedFor { board, opened } = open_level_of(folder, text, false)?;
     let entry = entry(folder, opened.levels, &board)?;
     Ok((board, entry))
 }
@@ -114,7 +130,7 @@ fn weigh_unverified<F: Folder>(
     ensures same { Same (F.state folder.old).stands (F.state folder.new).stands }
     ensures board { (fault : BoardFault) → (result ≡ Err (no_answer.Board fault)) ↔ IsFaulty query.entry.board.now fault }
 {
-    let OpenedFor { board, opened } = open_level_of(folder, query.board.as_bytes())?;
+    let OpenedFor { board, opened } = open_level_of(folder, query.board.as_bytes(), false)?;
     let weighed = weigh(folder, opened.levels, &board, query.replies)?;
     Ok((board, weighed))
 }

@@ -17,6 +17,7 @@ use Rattle.awari_answers.specs.Playing.{PrintsMove}
 use Rattle.awari_answers.specs.Plies.{PrintsPlies}
 use Rattle.awari_answers.specs.Texts.{PrintsText}
 use Rattle.awari_answers.specs.Unverified.{PrintsEntrySaidBy, PrintsWorthsSaidBy}
+use Rattle.awari_answers.specs.UnverifiedLines.{PrintsLineSaid, PrintsPliesSaid}
 use Rattle.awari_answers.specs.Worths.{PrintsWorths, PrintsWorthsJson}
 use Rattle.awari_questions.specs.Boards.{PrintsAllBoards, PrintsBoards}
 use Rattle.awari_questions.specs.Counts.{PrintsCounts}
@@ -39,8 +40,10 @@ PrintsAnswer (Ask board json true) stands input before after = PrintsEntrySaidBy
 PrintsAnswer (Moves board replies false false) stands input before after = PrintsWorths replies stands board.now before after
 PrintsAnswer (Moves board replies true false) stands input before after = PrintsWorthsJson replies stands board.now before after
 PrintsAnswer (Moves board replies json true) stands input before after = PrintsWorthsSaidBy json replies stands board.now before after
-PrintsAnswer (Line board longest false json unverified) stands input before after = PrintsLineBy longest json stands board.now before after
-PrintsAnswer (Line board longest true json unverified) stands input before after = PrintsPlies stands longest json board.now before after
+PrintsAnswer (Line board longest false json false) stands input before after = PrintsLineBy longest json stands board.now before after
+PrintsAnswer (Line board longest false json true) stands input before after = PrintsLineSaid longest json stands board.now before after
+PrintsAnswer (Line board longest true json false) stands input before after = PrintsPlies stands longest json board.now before after
+PrintsAnswer (Line board longest true json true) stands input before after = PrintsPliesSaid stands longest json board.now before after
 PrintsAnswer (Serve top owners) stands input before after = PrintsService stands input before after
 PrintsAnswer (Counts level json unverified) stands input before after = PrintsCounts json stands level before after
 PrintsAnswer (Boards level value distance farthest every count unverified) stands input before after =

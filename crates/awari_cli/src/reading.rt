@@ -11,9 +11,9 @@ use crate::hosts::{Host, Purpose};
 use crate::serving::{Growth, run_serve};
 use awari_answers::{
     MovesQuery, PliesQuery, Replies, Streams, VerifyQuery, print, run_ask, run_ask_json,
-    run_ask_json_unverified, run_ask_unverified, run_line, run_line_json, run_longest_json,
-    run_longest_line, run_moves, run_moves_json, run_moves_json_unverified, run_moves_unverified,
-    run_plies, run_text, run_verify,
+    run_ask_json_unverified, run_ask_unverified, run_line, run_line_json, run_line_unverified,
+    run_longest_json, run_longest_line, run_moves, run_moves_json, run_moves_json_unverified,
+    run_moves_unverified, run_plies, run_plies_unverified, run_text, run_verify,
 };
 use awari_folder::Folder;
 use awari_questions::{BoardsQuery, CountsQuery, run_all_boards, run_boards, run_counts};
@@ -135,30 +135,21 @@ fn run_question<
         Question::Line {
             board,
             longest,
-            plies: false,
+            plies,
             json,
-            ..
+            unverified,
         } => {
             let query = PliesQuery {
                 board,
                 longest,
                 json,
             };
-            run_line_of(rt, folder, alloc, query, output)
-        }
-        Question::Line {
-            board,
-            longest,
-            plies: true,
-            json,
-            ..
-        } => {
-            let query = PliesQuery {
-                board,
-                longest,
-                json,
-            };
-            run_plies(rt, folder, alloc, query, output)
+            match (plies, unverified) {
+                (false, false) => run_line_of(rt, folder, alloc, query, output),
+                (false, true) => run_line_unverified(folder, alloc, query, output),
+                (true, false) => run_plies(rt, folder, alloc, query, output),
+                (true, true) => run_plies_unverified(folder, alloc, query, output),
+            }
         }
         Question::Serve { top, owners } => {
             run_serve(rt, folder, alloc, Growth { top, owners }, streams)

@@ -2,3 +2,4 @@ pub mod Lying
 pub mod Saying
 pub mod Reading
 pub mod Framing
+pub mod Playing

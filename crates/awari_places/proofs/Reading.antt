@@ -68,6 +68,9 @@ levels_said stands levels images says = ap length says.said ∙ length-map-range
 pub still_says : (old new : ℕ → Option (Option (List ℕ))) (levels : ℕ) (images : List Image) → Same old new → Says old levels images → Says new levels images
 still_says old new levels images same says = record { names = says.names; known = λ n. same n ∙ says.known n; said = says.said }
 
+pub said_before : (old new : ℕ → Option (Option (List ℕ))) (levels : ℕ) (images : List Image) → Same old new → Says new levels images → Says old levels images
+said_before old new levels images same says = record { names = says.names; known = λ n. sym (same n) ∙ says.known n; said = says.said }
+
 -- replies that were asked for
 pub replied : (asked : Bool) (images : List Image) (board : List ℕ) (m : WeighedMove) (replies : Replies) → asked ≡ true → m.replies ≡ Some replies → AreReplies images board m.worth.pit replies → IsReplied asked images board m
 replied true images board m replies asks some are = (replies, some, are)

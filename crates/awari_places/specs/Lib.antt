@@ -1,2 +1,3 @@
 pub mod Places
 pub mod Opening
+pub mod Judging

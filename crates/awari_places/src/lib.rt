@@ -6,13 +6,20 @@
 #![tactic(auto)]
 
 mod entries;
+mod judging;
 mod laws;
+mod lines;
+mod longest;
 mod opening;
+mod plies;
 mod replies;
 mod weighing;
 mod worths;
 
 pub use entries::entry;
 pub use laws::{right_files_are_opened, right_files_say_their_shelf};
+pub use lines::best_line;
+pub use longest::longest_line;
 pub use opening::{Opened, open_levels};
+pub use plies::line_plies;
 pub use weighing::weigh;

@@ -33,5 +33,5 @@ mod verdicts;
 
 pub use laws::one_fault_is_due;
 pub use parallel::{fault_of_parallel, verify_parallel};
-pub use rules::Rule;
+pub use rules::{Rule, Seen, first_broken_rule};
 pub use verdicts::{VerifyFault, fault_of, verify, verify_old};

@@ -1,0 +1,120 @@
+//! Boards that are judged by the rules of a table, one by one.
+
+ghost use Rattle.std.specs.Prelude.{◌≡◌, ◌<◌, ◌≤◌, ◌+◌, ℕ, List, None, IfOk, length, slice_index_or, sum};
+ghost use Rattle.awari_folder.specs.State.{Unchanged};
+ghost use Rattle.awari_table.specs.Certificate.{IsRightBy};
+ghost use Rattle.awari_table.specs.Images.{table_of};
+ghost use Rattle.awari_table.specs.Reached.{Reaches};
+ghost use Rattle.awari_table.specs.declared.TheConstants.{HIGHEST_LEVEL};
+ghost use Rattle.awari_table.specs.declared.images.Image.{Image};
+ghost use Rattle.awari_verify.specs.Sights.{Sees};
+ghost use Rattle.awari_places.specs.Places.{Says};
+
+use crate::entries::entry;
+use crate::worths::reached;
+use awari_board::{Board, SIDE};
+use awari_folder::{Folder, FolderFault};
+use awari_rank::rank;
+use awari_table::{Distances, Reached};
+use awari_verify::{Rule, Seen, VerifyFault, first_broken_rule};
+
+/// What the files say of a board and of its moves. It is refused as 83 if the board breaks a rule by
+/// that.
+pub(crate) fn judged<F: Folder>(
+    folder: &mut F,
+    levels: u8,
+    board: &Board,
+) -> Result<Seen, FolderFault>
+    requires low { levels ≤ HIGHEST_LEVEL + 1 }
+    requires known { sum board.now < levels }
+    ensures sees { (images : List Image) → Says (F.state folder.old).stands levels images → IfOk result (Sees (table_of images) board.now) }
+    ensures right { (images : List Image) → Says (F.state folder.old).stands levels images → IfOk result (λ _. IsRightBy Distances.Least (table_of images) board.now) }
+    ensures same { Unchanged (F.state folder.old) (F.state folder.new) }
+{
+    match see(folder, levels, board) {
+        Ok(seen) => match first_broken_rule(Distances::Least, &seen) {
+            None => Ok(seen),
+            Some(rule) => Err(broken(board, rule)),
+        },
+        Err(fault) => Err(fault),
+    }
+}
+
+/// The refusal of a board that breaks a rule.
+fn broken(board: &Board, rule: Rule) -> FolderFault
+    requires { sum board.now ≤ HIGHEST_LEVEL }
+{
+    FolderFault::Verify {
+        level: board.stones(),
+        fault: VerifyFault::Refused {
+            rank: rank(board),
+            rule,
+        },
+    }
+}
+
+/// What the files say of a board and of its moves.
+fn see<F: Folder>(folder: &mut F, levels: u8, board: &Board) -> Result<Seen, FolderFault>
+    requires low { levels ≤ HIGHEST_LEVEL + 1 }
+    requires known { sum board.now < levels }
+    ensures sees { (images : List Image) → Says (F.state folder.old).stands levels images → IfOk result (Sees (table_of images) board.now) }
+    ensures same { Unchanged (F.state folder.old) (F.state folder.new) }
+{
+    let entry = match entry(folder, levels, board) {
+        Ok(entry) => entry,
+        Err(fault) => return Err(fault),
+    };
+    match see_moves(folder, levels, board) {
+        Ok(moves) => Ok(Seen {
+            stones: board.stones(),
+            entry,
+            end: board.end(),
+            moves,
+        }),
+        Err(fault) => Err(fault),
+    }
+}
+
+/// Where the moves of a board's pits lead, none for a pit that is not legal.
+fn see_moves<F: Folder>(
+    folder: &mut F,
+    levels: u8,
+    board: &Board,
+) -> Result<[Option<Reached>; 6], FolderFault>
+    requires low { levels ≤ HIGHEST_LEVEL + 1 }
+    requires known { sum board.now < levels }
+    ensures six { IfOk result (λ moves. length moves ≡ 6) }
+    ensures moves { (images : List Image) → Says (F.state folder.old).stands levels images
+        → IfOk result (λ moves. (x : ℕ) → x < 6 → Reaches (table_of images) board.now x (slice_index_or moves x None)) }
+    ensures same { Unchanged (F.state folder.old) (F.state folder.new) }
+{
+    let mut moves = [None; 6];
+    for pit in 0..SIDE {
+        match see_move(folder, levels, board, pit) {
+            Ok(reached) => moves[pit as usize] = reached,
+            Err(fault) => return Err(fault),
+        }
+    }
+    Ok(moves)
+}
+
+/// Where the move of a pit leads, if the pit is legal.
+fn see_move<F: Folder>(
+    folder: &mut F,
+    levels: u8,
+    board: &Board,
+    pit: u8,
+) -> Result<Option<Reached>, FolderFault>
+    requires low { levels ≤ HIGHEST_LEVEL + 1 }
+    requires known { sum board.now < levels }
+    ensures reached { (images : List Image) → Says (F.state folder.old).stands levels images → IfOk result (Reaches (table_of images) board.now pit) }
+    ensures same { Unchanged (F.state folder.old) (F.state folder.new) }
+{
+    if !board.legal(pit) {
+        return Ok(None);
+    }
+    match reached(folder, levels, board, pit) {
+        Ok(reached) => Ok(Some(reached)),
+        Err(fault) => Err(fault),
+    }
+}

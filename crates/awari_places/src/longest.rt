@@ -1,0 +1,148 @@
+//! Play in which the favoured side follows the plans that the files say, and the other side holds out.
+
+ghost use Rattle.std.specs.Prelude.{◌≡◌, ◌<◌, ◌≤◌, ◌+◌, ◌↔◌, ◌++◌, ◌∷◌, [], ℕ, List, Some, Option, IsTrue, IfOk, IfSome, pos, ◌<ℤ◌, ◌≤ℤ◌, sum};
+ghost use Rattle.awari_board.specs.Rules.{IsBoard, IsLegal};
+ghost use Rattle.awari_folder.specs.State.{Unchanged};
+ghost use Rattle.awari_game.specs.Plays.{IsPlay, Standing, start};
+ghost use Rattle.awari_game.specs.Shown.{Shows};
+ghost use Rattle.awari_play.specs.Holding.{TakesPlies};
+ghost use Rattle.awari_play.specs.LongestLine.{HoldsLongest, IsLongestLine};
+ghost use Rattle.awari_table.specs.Certificate.{IsRightBy, MovesNoLater, Table};
+ghost use Rattle.awari_table.specs.Images.{table_of};
+ghost use Rattle.awari_table.specs.Reached.{Reaches};
+ghost use Rattle.awari_table.specs.declared.TheConstants.{HIGHEST_LEVEL};
+ghost use Rattle.awari_table.specs.declared.images.Image.{Image};
+ghost use Rattle.awari_verify.specs.Sights.{Sees};
+ghost use Rattle.awari_places.specs.Judging.{IsDueAt};
+ghost use Rattle.awari_places.specs.Places.{Says};
+
+use crate::judging::judged;
+use crate::lines::legal_pit;
+use awari_board::{Board, SIDE};
+use awari_folder::{Folder, FolderFault};
+use awari_game::Game;
+use awari_play::play_pit;
+use awari_table::{Distances, Reached};
+use awari_verify::Seen;
+use std::alloc::Global;
+
+/// The pits of the play from a board in which the side that it favours follows the plans that the files
+/// say, and the other side holds out as long as it can. Condition: the board's level is one of the
+/// `levels` that [`open_levels`](crate::open_levels) found. It always returns, whatever the files say.
+///
+/// Each board of the play is judged by the rules V1 to V6. It is refused as 83 if one breaks a rule, and
+/// as [`entry`](crate::entry) is, and as 84 if memory runs out. It takes memory for the moves, a byte
+/// each, and for names.
+pub fn longest_line<F: Folder>(
+    alloc: Global,
+    folder: &mut F,
+    levels: u8,
+    board: Board,
+) -> Result<Vec<u8>, FolderFault>
+    requires low { levels ≤ HIGHEST_LEVEL + 1 }
+    requires known { sum board < levels }
+    ensures line { (images : List Image) → Says (F.state folder.old).stands levels images → IfOk result (λ moves. IsLongestLine (table_of images) board moves.items) }
+    ensures play { IfOk result (λ moves. (last : Standing) × IsPlay (start board) moves.items last) }
+    ensures same { Unchanged (F.state folder.old) (F.state folder.new) }
+{
+    match judged(folder, levels, &board) {
+        Ok(seen) => hold_out(alloc, folder, levels, board, seen.entry.dist),
+        Err(fault) => Err(fault),
+    }
+}
+
+/// Plays as many plies as the distance of a board that was judged.
+fn hold_out<F: Folder>(
+    alloc: Global,
+    folder: &mut F,
+    levels: u8,
+    board: Board,
+    dist: u32,
+) -> Result<Vec<u8>, FolderFault>
+    requires low { levels ≤ HIGHEST_LEVEL + 1 }
+    requires board { IsBoard board }
+    requires known { sum board < levels }
+    requires judged { (images : List Image) → Says (F.state folder.old).stands levels images → IsRightBy Distances.Least (table_of images) board × (dist ≡ (table_of images).dist board) }
+    ensures line { (images : List Image) → Says (F.state folder.old).stands levels images → IfOk result (λ moves. IsLongestLine (table_of images) board moves.items) }
+    ensures play { IfOk result (λ moves. (last : Standing) × IsPlay (start board) moves.items last) }
+    ensures same { Unchanged (F.state folder.old) (F.state folder.new) }
+{
+    let mut game = Game::start(board);
+    let mut moves = Vec::new(alloc);
+    for _ in 0..dist {
+        match play_due(folder, levels, &mut game) {
+            Ok(pit) => moves.push(pit)?,
+            Err(fault) => return Err(fault),
+        }
+    }
+    match judged(folder, levels, &game.board()) {
+        Ok(_) => Ok(moves),
+        Err(fault) => Err(fault),
+    }
+}
+
+/// Plays the pit that is due on the game's board, and answers it.
+fn play_due<F: Folder>(folder: &mut F, levels: u8, game: &mut Game) -> Result<u8, FolderFault>
+    requires low { levels ≤ HIGHEST_LEVEL + 1 }
+    requires known { sum game.old.board < levels }
+    ensures board { IsBoard game.old.board }
+    ensures due { (images : List Image) → Says (F.state folder.old).stands levels images → IfOk result (IsDueAt (table_of images) game.old.board) }
+    ensures legal { IfOk result (IsLegal game.old.board) }
+    ensures played { IfOk result (λ pit. (board pits : List ℕ) → Shows game.old board pits → Shows game.new board (pits ++ pit ∷ [])) }
+    ensures same { Unchanged (F.state folder.old) (F.state folder.new) }
+{
+    match due_pit(folder, levels, &game.board()) {
+        Ok(pit) => {
+            play_pit(game, pit);
+            Ok(pit)
+        }
+        Err(fault) => Err(fault),
+    }
+}
+
+/// The pit that is due on a board, which is judged first.
+fn due_pit<F: Folder>(folder: &mut F, levels: u8, board: &Board) -> Result<u8, FolderFault>
+    requires low { levels ≤ HIGHEST_LEVEL + 1 }
+    requires known { sum board.now < levels }
+    ensures due { (images : List Image) → Says (F.state folder.old).stands levels images → IfOk result (IsDueAt (table_of images) board.now) }
+    ensures legal { IfOk result (IsLegal board.now) }
+    ensures same { Unchanged (F.state folder.old) (F.state folder.new) }
+{
+    match judged(folder, levels, board) {
+        Ok(seen) => legal_pit(board, pit_by(&seen)),
+        Err(fault) => Err(fault),
+    }
+}
+
+/// The plan of a board that favours its mover, and the pit that holds out longest on one that does not.
+fn pit_by(seen: &Seen) -> Option<u8>
+    ensures favoured { pos 0 <ℤ seen.now.entry.value → result ≡ seen.now.entry.plan }
+    ensures other { seen.now.entry.value <ℤ pos 0 → (t : Table) (p : List ℕ) → Sees t p seen.now → MovesNoLater t p seen.now.entry.dist → IfSome result (HoldsLongest t p) }
+{
+    if seen.entry.value > 0 {
+        return seen.entry.plan;
+    }
+    stubborn_pit(seen)
+}
+
+/// The lowest pit whose move takes as many plies as the board's distance.
+fn stubborn_pit(seen: &Seen) -> Option<u8>
+    ensures { (t : Table) (p : List ℕ) → Sees t p seen.now → MovesNoLater t p seen.now.entry.dist → IfSome result (HoldsLongest t p) }
+{
+    for pit in 0..SIDE {
+        if takes(seen.moves[pit as usize], seen.entry.dist) {
+            return Some(pit);
+        }
+    }
+    None
+}
+
+/// Whether a move takes so many plies.
+fn takes(reached: Option<Reached>, plies: u32) -> bool
+    ensures { (t : Table) (p : List ℕ) (x : ℕ) → Reaches t p x reached → IsTrue result ↔ TakesPlies t p x plies }
+{
+    match reached {
+        Some(reached) => reached.plies == u64::from(plies),
+        None => false,
+    }
+}
