@@ -4,7 +4,7 @@
 
 use awari_build::Pace;
 use awari_cli::{
-    Builder, Disk, Growth, MovesQuery, ProgressLines, Streams, run, run_ask, run_build_in,
+    Builder, Disk, Growth, MovesQuery, ProgressLines, Replies, Streams, run, run_ask, run_build_in,
     run_line, run_moves, run_serve, run_text, run_verify,
 };
 use awari_file_tests::MemoryFolder;
@@ -48,7 +48,7 @@ pub(crate) fn has_draft(folder: &MemoryFolder) -> bool {
 pub(crate) fn build(
     rt: &(impl AllocGlobal + Threads + Wait + Sync),
     folder: &mut MemoryFolder,
-    output: &mut impl Write,
+    output: &mut impl Replies,
 ) -> u8 {
     build_to(rt, folder, 1, &mut Silent, output)
 }
@@ -59,7 +59,7 @@ fn build_to(
     folder: &mut MemoryFolder,
     top: u8,
     progress: &mut impl Progress,
-    output: &mut impl Write,
+    output: &mut impl Replies,
 ) -> u8 {
     let mut builder = Builder {
         rt,
@@ -88,7 +88,7 @@ pub(crate) fn build_telling(
 pub(crate) fn verified(
     rt: &(impl AllocGlobal + Threads + Wait + Sync),
     folder: &mut MemoryFolder,
-    output: &mut impl Write,
+    output: &mut impl Replies,
 ) -> u8 {
     let mut errors = Vec::new(rt.alloc());
     run_verify(rt, folder, rt.alloc(), output, &mut errors)
@@ -109,7 +109,7 @@ pub(crate) fn lined(
     rt: &(impl AllocGlobal + Threads + Wait + Sync),
     folder: &mut MemoryFolder,
     board: &str,
-    output: &mut impl Write,
+    output: &mut impl Replies,
 ) -> u8 {
     run_line(rt, folder, rt.alloc(), board, output)
 }
@@ -119,7 +119,7 @@ pub(crate) fn weighed(
     rt: &(impl AllocGlobal + Threads + Wait + Sync),
     folder: &mut MemoryFolder,
     board: &str,
-    output: &mut impl Write,
+    output: &mut impl Replies,
 ) -> u8 {
     let query = MovesQuery {
         board,
@@ -132,7 +132,7 @@ pub(crate) fn weighed(
 pub(crate) fn texted(
     rt: &(impl AllocGlobal + Threads + Wait + Sync),
     folder: &mut MemoryFolder,
-    output: &mut impl Write,
+    output: &mut impl Replies,
 ) -> u8 {
     run_text(rt, folder, rt.alloc(), None, output)
 }
@@ -143,7 +143,7 @@ pub(crate) fn served(
     folder: &mut MemoryFolder,
     (top, owners): (u8, u8),
     input: &mut impl Read,
-    output: &mut impl Write,
+    output: &mut impl Replies,
 ) -> u8 {
     let mut streams = Streams {
         input,
@@ -166,7 +166,7 @@ pub(crate) fn run_on_disk<'a>(
         + 'static),
     alloc: Global,
     words: &'a [&'a str],
-    streams: &mut Streams<impl Read, impl Write, impl Write>,
+    streams: &mut Streams<impl Read, impl Replies, impl Write>,
 ) -> u8 {
     run(rt, &mut Disk::new(rt, alloc), alloc, words, streams)
 }
