@@ -3,16 +3,21 @@
 ghost use Rattle.std.specs.Prelude.{◌≡◌};
 
 use crate::asked::NoAnswer;
-use crate::printing::print_bytes;
-use crate::remarks::{Explained, Replies};
+use crate::printing::print;
+use crate::remarks::{Explained, Printed, Replies};
 use arrayvec::ArrayVec;
 use awari_play::refusal_json;
+use std::{fmt, str};
 
 /// How many bytes of a request are told with its refusal, as in the service.
 const REQUEST_ROOM: usize = 200;
 
+/// More fields than a refusal has.
+const MOST_FIELDS: usize = 4;
+
 /// Writes a refusal as JSON in one line, with the request, which is a command and a word. A request is
-/// cut at 200 bytes. It gives the status 1, whether the writer took that or not.
+/// cut at 200 bytes. It gives the status 1, whether the writer took that or not. What the refusal means is
+/// told as a remark.
 pub fn refuse_json<W: Replies>(writer: &mut W, command: &str, word: &str, fault: NoAnswer) -> u8
     ensures { result ≡ 1 }
 {
@@ -21,7 +26,10 @@ pub fn refuse_json<W: Replies>(writer: &mut W, command: &str, word: &str, fault:
     push_cut(&mut request, b" ");
     push_cut(&mut request, word.as_bytes());
     let line = refusal_json(request.as_slice(), fault.number(), fault.name());
-    print_bytes(writer, line.as_slice());
+    let line = str::from_utf8(line.as_slice()).unwrap_or("");
+    let members = line.strip_suffix("}\n").unwrap_or(line);
+    let fields = Members(fault);
+    print(writer, &format_args!("{members}{fields}}}"));
     writer.remark(&Explained(fault));
     1
 }
@@ -32,5 +40,56 @@ fn push_cut(text: &mut ArrayVec<u8, REQUEST_ROOM>, bytes: &[u8]) {
         if text.try_push(*byte).is_err() {
             return;
         }
+    }
+}
+
+/// The fields of a refusal, and the refusals inside it, as members of an object behind others. They are
+/// those that are printed.
+#[derive(Clone, Copy)]
+struct Members(NoAnswer);
+
+impl fmt::Display for Members {
+    fn fmt<W: fmt::Write>(&self, f: &mut fmt::Formatter<W>) -> fmt::Result {
+        let printed = Printed::of(&self.0);
+        for (place, refusal) in printed.refusals().enumerate() {
+            let refusal = Member {
+                refusal,
+                is_inside: place > 0,
+            };
+            write!(f, "{refusal}")?;
+        }
+        for _inside in printed.refusals().skip(1) {
+            f.write_str("}")?;
+        }
+        Ok(())
+    }
+}
+
+/// The members of a refusal as it is printed. One inside another is an object, which is left open.
+#[derive(Clone, Copy)]
+struct Member<'a> {
+    refusal: &'a str,
+    is_inside: bool,
+}
+
+impl fmt::Display for Member<'_> {
+    fn fmt<W: fmt::Write>(&self, f: &mut fmt::Formatter<W>) -> fmt::Result {
+        let mut words = self.refusal.split_whitespace();
+        let (Some(number), Some(name)) = (words.next(), words.next()) else {
+            return Ok(());
+        };
+        if self.is_inside {
+            write!(f, ",\"inside\":{{\"refused\":{number},\"name\":\"{name}\"")?;
+        }
+        for _field in 0..MOST_FIELDS {
+            let (Some(field), Some(value)) = (words.next(), words.next()) else {
+                return Ok(());
+            };
+            match value.parse::<u64>() {
+                Ok(number) => write!(f, ",\"{field}\":{number}")?,
+                Err(_) => write!(f, ",\"{field}\":\"{value}\"")?,
+            }
+        }
+        Ok(())
     }
 }

@@ -7,7 +7,7 @@ use awari_table::HIGHEST_LEVEL;
 use awari_texts::sentence;
 use std::fmt::{self, Display, Write as _};
 use std::io::{self, ErrorKind, Write};
-use std::str;
+use std::str::{self, Split};
 
 /// More bytes than a refusal has.
 const REFUSAL_ROOM: usize = 256;
@@ -57,12 +57,14 @@ impl<W: Write> Answers<W> {
         let _ = errors.write_all(self.remarks.as_bytes());
     }
 
-    /// Keeps the fault that a call gave. One that was interrupted is made again.
+    /// Keeps the fault that a call gave. A call that was interrupted is made again, and that a reader wants no
+    /// more is nothing to tell.
     fn keep_fault(&mut self, fault: io::Error)
         ensures { self.new.output ≡ self.old.output }
     {
-        if fault.kind() != ErrorKind::Interrupted {
-            self.fault = Some(fault);
+        match fault.kind() {
+            ErrorKind::Interrupted | ErrorKind::BrokenPipe => {}
+            _ => self.fault = Some(fault),
         }
     }
 }
@@ -102,15 +104,33 @@ pub struct Explained<T>(pub T);
 
 impl<T: Display> Display for Explained<T> {
     fn fmt<W: fmt::Write>(&self, f: &mut fmt::Formatter<W>) -> fmt::Result {
-        let mut printed = ArrayString::<REFUSAL_ROOM>::new();
-        write!(printed, "{}", self.0)?;
-        for (place, refusal) in printed.as_str().split(':').enumerate() {
+        let printed = Printed::of(&self.0);
+        for (place, refusal) in printed.refusals().enumerate() {
             if place > 0 {
                 f.write_str("\n")?;
             }
             write!(f, "{}", Sentence(refusal.trim_start()))?;
         }
         Ok(())
+    }
+}
+
+/// A refusal as it is printed.
+#[derive(Drop)]
+pub(crate) struct Printed(ArrayString<REFUSAL_ROOM>);
+
+impl Printed {
+    /// What is printed of a refusal.
+    pub(crate) fn of<T: Display>(fault: &T) -> Printed {
+        let mut text = ArrayString::new();
+        // There is room for any refusal.
+        let _ = write!(text, "{fault}");
+        Printed(text)
+    }
+
+    /// The refusal, and then those inside it, each up to its colon.
+    pub(crate) fn refusals(&self) -> Split<'_, char> {
+        self.0.as_str().split(':')
     }
 }
 

@@ -1,5 +1,4 @@
 pub mod Boards
 pub mod Files
 pub mod Owned
-pub mod Texts
 pub mod Told

@@ -227,6 +227,6 @@ fn answers_have_sentences(rt: HostRuntime) {
     awari_text_of(3, &mut text);
     assert_eq!(rt; text, b"A board has at most 48 stones\0".as_slice());
     awari_text_of(255, &mut text);
-    assert_eq!(rt; text, b"The library has no such answer\0".as_slice());
+    assert_eq!(rt; text, b"No answer has this number\0".as_slice());
     assert_eq!(rt; awari_version(), 100);
 }

@@ -5,6 +5,7 @@ ghost use Rattle.std.specs.Arc.{arc_value};
 ghost use Rattle.std.specs.Io.KnownBytes.{Appends};
 ghost use Rattle.awari_build.specs.declared.faults.BuildFault.TheVariants as build_fault;
 ghost use Rattle.awari_table.specs.declared.images.Image.{Image};
+ghost use Rattle.awari_table.specs.declared.TheConstants.{HIGHEST_LEVEL};
 ghost use Rattle.awari_play.specs.Least.{HasLowestPlans, IsPlannedLowest};
 ghost use Rattle.awari_table.specs.Shelves.{Consistent, IsShelf};
 ghost use Rattle.awari_folder.specs.Contents.{AreNames, HoldsIn, Same, SameBut};
@@ -20,6 +21,7 @@ use awari_build::{
 use awari_folder::{Folder, FolderFault, Stored, Together, load, save_or_keep};
 use awari_phase::{Open, Progress};
 use awari_play::lowest_plans_stay;
+use awari_rank::size;
 use awari_table::{HIGHEST_LEVEL, Level, Shelf};
 use std::alloc::{AllocFailed, Global};
 use std::fmt;
@@ -143,7 +145,7 @@ fn build_up<T: Threads + Wait + Sync, P: Progress, W: Replies>(
                     return 1;
                 }
             }
-            Err(fault) => return refuse(writer, fault),
+            Err(fault) => return refuse_level(writer, shelf.levels(), fault),
         }
     }
     0
@@ -176,10 +178,42 @@ fn build_up_in<T: Threads + Wait + Sync, P: Progress, F: Folder, W: Replies>(
                     return 1;
                 }
             }
-            Err(fault) => return refuse(writer, fault),
+            Err(fault) => return refuse_level(writer, stored.shelf.levels(), fault),
         }
     }
     0
+}
+
+/// Writes the refusal of the level of this number, and gives the status 1. If memory ran out, it is told how
+/// much the level takes.
+fn refuse_level<W: Replies>(writer: &mut W, level: u8, fault: BuildingFault) -> u8
+    ensures { result ≡ 1 }
+{
+    let status = refuse(writer, fault);
+    if let BuildingFault::Build {
+        fault: BuildFault::Memory,
+    } = fault
+        && level <= HIGHEST_LEVEL
+    {
+        let megabytes = megabytes_for(level);
+        writer.remark(&format_args!(
+            "level {level} takes some {megabytes} MB, with the levels below it"
+        ));
+    }
+    status
+}
+
+/// How many megabytes the level takes while it is built, with those below it. A board below takes three
+/// bytes, and one of the level some 13, or ten from level 20 on.
+fn megabytes_for(level: u8) -> u64
+    requires { level ≤ HIGHEST_LEVEL }
+{
+    let own = if level < 20 { 13 } else { 10 };
+    let mut bytes = own * u64::from(size(level));
+    for below in 0..level {
+        bytes = bytes.saturating_add(3 * u64::from(size(below)));
+    }
+    bytes.div_ceil(1_000_000)
 }
 
 /// Builds the level above the shelf, and puts it on top.

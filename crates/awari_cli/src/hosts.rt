@@ -47,7 +47,7 @@ pub trait Host<'a> {
 
     /// Tells why a call on the folder was refused, if one was. The folder was opened under this name. A
     /// host that keeps no words of its own tells nothing.
-    fn tell<E: Write>(&self, _name: &'a str, _folder: &Self::Folder, _errors: &mut E) {}
+    fn tell<E: Write>(&self, name: &'a str, folder: &Self::Folder, errors: &mut E);
 
     /// Closes the folder, which was opened under this name.
     fn close(&mut self, name: &'a str, folder: Self::Folder)

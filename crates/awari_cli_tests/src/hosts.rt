@@ -69,6 +69,8 @@ impl<'a> Host<'a> for MemoryHost {
         Ok(())
     }
 
+    fn tell<E: Write>(&self, _name: &'a str, _folder: &MemoryFolder, _errors: &mut E) {}
+
     fn close(&mut self, name: &'a str, folder: MemoryFolder) {
         if name == FIRST {
             self.first = folder;

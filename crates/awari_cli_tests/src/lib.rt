@@ -38,6 +38,8 @@ mod questions;
 #[cfg(test)]
 mod refusals;
 #[cfg(test)]
+mod sentences;
+#[cfg(test)]
 mod services;
 #[cfg(test)]
 mod serving;

@@ -4,7 +4,7 @@
 
 use awari_build::Pace;
 use awari_cli::{
-    Builder, Disk, Growth, MovesQuery, ProgressLines, Streams, VerifyQuery, run, run_ask,
+    Builder, Disk, Growth, MovesQuery, ProgressLines, Replies, Streams, VerifyQuery, run, run_ask,
     run_build_in, run_line, run_moves, run_serve, run_text, run_verify,
 };
 use awari_file_tests::MemoryFolder;
@@ -48,7 +48,7 @@ pub(crate) fn has_draft(folder: &MemoryFolder) -> bool {
 pub(crate) fn build(
     rt: &(impl AllocGlobal + Threads + Wait + Sync),
     folder: &mut MemoryFolder,
-    output: &mut impl Write,
+    output: &mut impl Replies,
 ) -> u8 {
     build_to(rt, folder, 1, &mut Silent, output)
 }
@@ -59,7 +59,7 @@ fn build_to(
     folder: &mut MemoryFolder,
     top: u8,
     progress: &mut impl Progress,
-    output: &mut impl Write,
+    output: &mut impl Replies,
 ) -> u8 {
     let mut builder = Builder {
         rt,
@@ -88,7 +88,7 @@ pub(crate) fn build_telling(
 pub(crate) fn verified(
     rt: &(impl AllocGlobal + Threads + Wait + Sync),
     folder: &mut MemoryFolder,
-    output: &mut impl Write,
+    output: &mut impl Replies,
 ) -> u8 {
     let query = VerifyQuery {
         levels: None,
@@ -103,7 +103,7 @@ pub(crate) fn verified_as(
     rt: &(impl AllocGlobal + Threads + Wait + Sync),
     folder: &mut MemoryFolder,
     query: VerifyQuery<'_>,
-    output: &mut impl Write,
+    output: &mut impl Replies,
     errors: &mut impl Write,
 ) -> u8 {
     let mut streams = Streams {
@@ -129,7 +129,7 @@ pub(crate) fn lined(
     rt: &(impl AllocGlobal + Threads + Wait + Sync),
     folder: &mut MemoryFolder,
     board: &str,
-    output: &mut impl Write,
+    output: &mut impl Replies,
 ) -> u8 {
     run_line(rt, folder, rt.alloc(), board, output)
 }
@@ -139,7 +139,7 @@ pub(crate) fn weighed(
     rt: &(impl AllocGlobal + Threads + Wait + Sync),
     folder: &mut MemoryFolder,
     board: &str,
-    output: &mut impl Write,
+    output: &mut impl Replies,
 ) -> u8 {
     let query = MovesQuery {
         board,
@@ -152,7 +152,7 @@ pub(crate) fn weighed(
 pub(crate) fn texted(
     rt: &(impl AllocGlobal + Threads + Wait + Sync),
     folder: &mut MemoryFolder,
-    output: &mut impl Write,
+    output: &mut impl Replies,
 ) -> u8 {
     run_text(rt, folder, rt.alloc(), None, output)
 }
@@ -163,7 +163,7 @@ pub(crate) fn served(
     folder: &mut MemoryFolder,
     (top, owners): (u8, u8),
     input: &mut impl Read,
-    output: &mut impl Write,
+    output: &mut impl Replies,
 ) -> u8 {
     let mut streams = Streams {
         input,
@@ -186,7 +186,7 @@ pub(crate) fn run_on_disk<'a>(
         + 'static),
     alloc: Global,
     words: &'a [&'a str],
-    streams: &mut Streams<impl Read, impl Write, impl Write>,
+    streams: &mut Streams<impl Read, impl Replies, impl Write>,
 ) -> u8 {
     run(rt, &mut Disk::new(rt, alloc), alloc, words, streams)
 }

@@ -3,6 +3,7 @@
 use crate::commands::Broken;
 use crate::expect::expect_equal;
 use crate::plain::{build, lined, memory_folder, served, texted, verified, weighed};
+use awari_cli::Replies;
 use awari_file_tests::MemoryFolder;
 use std::alloc::Global;
 use std::cell::Cell;
@@ -60,6 +61,8 @@ impl Write for Watching<'_> {
         Ok(())
     }
 }
+
+impl Replies for Watching<'_> {}
 
 /// Serves an empty folder until the board is answered, while levels up to this one are built by so
 /// many owners.
@@ -180,6 +183,8 @@ fn nothing_is_printed_after_a_write_that_failed(rt: HostRuntime) {
     expect_equal(&rt, "status and writes", (status, output.writes), (1, 1));
 }
 
+impl Replies for Full {}
+
 /// Counts the writes of bytes, and the flushes that pass them on.
 #[derive(Drop)]
 struct Passing {
@@ -205,6 +210,8 @@ impl Write for Passing {
         Ok(())
     }
 }
+
+impl Replies for Passing {}
 
 impl Passing {
     /// A stream to which nothing came yet.

@@ -5,18 +5,17 @@ use crate::expect::expect_equal;
 use crate::levels::{LEVELS_0_TO_2, empty_folder, expect_in_folder};
 use crate::plain::run_on_disk;
 use crate::worths::LEVELS_3_TO_4;
-use awari_cli::Streams;
+use awari_cli::{Replies, Streams};
 use sha2::{Digest, Sha256};
 use std::alloc::Global;
-use std::fs;
 use std::fs::File;
-use std::io::{self, Write};
 use std::process::Abort;
 use std::rt::Files;
 use std::sync::Wait;
 use std::test::Fail;
 use std::thread::Threads;
 use std::time::Clock;
+use std::{fs, io};
 
 const ALONE: &str = "awari_cli_test_text_alone";
 
@@ -84,7 +83,7 @@ fn text_status(
         + 'static),
     alloc: Global,
     folder: &str,
-    writer: &mut impl Write,
+    writer: &mut impl Replies,
 ) -> u8 {
     let words = ["awari", "text", folder];
     let mut streams = Streams {

@@ -147,7 +147,7 @@ fn expect_screen(
     let words = ["awari", "help", command];
     let mut streams = Streams {
         input: io::empty(),
-        output: io::sink(),
+        output: Vec::new(alloc),
         errors: Vec::new(alloc),
     };
     let _status = run_on_disk(rt, alloc, words.as_slice(), &mut streams);

@@ -27,7 +27,7 @@ pub struct HostFolder<'a, R> {
 
 impl<'a, R> HostFolder<'a, R> {
     /// The folder at this path, whether it is there or not. It takes no memory; its calls take some
-    /// for names.
+    /// for names and for the host's words.
     pub fn new(files: &'a R, alloc: Global, path: Path<'a>) -> Self {
         HostFolder {
             files,

@@ -10,7 +10,9 @@ use crate::loads::{LevelFault, load_to};
 use crate::shares::{VALUES, boards_by_distance, boards_by_value, value_of};
 use crate::shown::{DistanceShare, ShownLevel, ValueShare};
 use arrayvec::ArrayString;
-use awari_answers::{NoAnswer, Replies, line_of_level, load_levels, print, refuse, refuse_json, status_of};
+use awari_answers::{
+    NoAnswer, Replies, line_of_level, load_levels, print, refuse, refuse_json, status_of,
+};
 use awari_folder::{Folder, FolderFault};
 use awari_table::{HIGHEST_LEVEL, Level, Shelf};
 use std::alloc::Global;

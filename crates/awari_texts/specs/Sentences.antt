@@ -46,9 +46,9 @@ of_builds n =
     if n == 52 then codes "The owners of a level could not work, or were stopped" else
     if n == 53 then codes "There is not enough memory to build the level" else
     if n == 55 then codes "A line has room for 1 to 256 batches, and a round has 1 to 1000 sweeps" else
-    if n == 56 then codes "The level of the boards with as many stones is not there" else
+    if n == 56 then codes "The level of that many stones is not there" else
     if n == 57 then codes "There is not enough memory for the moves" else
-    if n == 59 then codes "The level of the boards with as many stones is not there" else
+    if n == 59 then codes "The level of that many stones is not there" else
     codes "No answer has this number"
 
 -- of files, folders, desks and services
@@ -68,7 +68,7 @@ of_files n =
     if n == 71 then codes "The level that is published is not the next one" else
     if n == 72 then codes "There is no place for so many readers" else
     if n == 73 then codes "There is not enough memory for the levels and their readers" else
-    if n == 74 then codes "The level of the boards with as many stones is not there" else
+    if n == 74 then codes "The level of that many stones is not there" else
     if n == 75 then codes "Nobody publishes levels any more" else
     if n == 80 then codes "The level was built over another file than the one below" else
     if n == 81 then codes "The file of a level is refused" else

@@ -82,9 +82,9 @@ fn of_builds(answer: u8) -> &'static [u8]
         52 => b"The owners of a level could not work, or were stopped\0",
         53 => b"There is not enough memory to build the level\0",
         55 => b"A line has room for 1 to 256 batches, and a round has 1 to 1000 sweeps\0",
-        56 => b"The level of the boards with as many stones is not there\0",
+        56 => b"The level of that many stones is not there\0",
         57 => b"There is not enough memory for the moves\0",
-        59 => b"The level of the boards with as many stones is not there\0",
+        59 => b"The level of that many stones is not there\0",
         _ => b"No answer has this number\0",
     }
 }
@@ -108,7 +108,7 @@ fn of_files(answer: u8) -> &'static [u8]
         71 => b"The level that is published is not the next one\0",
         72 => b"There is no place for so many readers\0",
         73 => b"There is not enough memory for the levels and their readers\0",
-        74 => b"The level of the boards with as many stones is not there\0",
+        74 => b"The level of that many stones is not there\0",
         75 => b"Nobody publishes levels any more\0",
         80 => b"The level was built over another file than the one below\0",
         81 => b"The file of a level is refused\0",
