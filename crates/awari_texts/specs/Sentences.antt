@@ -82,7 +82,7 @@ of_files n =
     if n == 92 then codes "The answers of the service can't be written" else
     if n == 93 then codes "The level has fewer boards" else
     if n == 94 then codes "There are 2^64 plays or more, which are not counted" else
-    if n == 95 then codes "Values and distances are two numbers with two dots between them" else
+    if n == 95 then codes "Values and distances are A..B, A.., ..B or A, the lower end first" else
     codes "No answer has this number"
 
 -- the sentence of an answer, and of each other number that it is none

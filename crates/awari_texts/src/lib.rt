@@ -122,7 +122,7 @@ fn of_files(answer: u8) -> &'static [u8]
         92 => b"The answers of the service can't be written\0",
         93 => b"The level has fewer boards\0",
         94 => b"There are 2^64 plays or more, which are not counted\0",
-        95 => b"Values and distances are two numbers with two dots between them\0",
+        95 => b"Values and distances are A..B, A.., ..B or A, the lower end first\0",
         _ => b"No answer has this number\0",
     }
 }
