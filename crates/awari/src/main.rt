@@ -4,6 +4,7 @@
 
 use awari_cli::{Disk, Streams, run};
 use std::env::Env;
+use std::io::IsTerminal;
 use std::process::ExitCode;
 use std::{env, io, str};
 
@@ -18,7 +19,8 @@ fn main(rt: HostRuntime) -> ExitCode {
                 output: rt.stdout(),
                 errors: rt.stderr(),
             };
-            let mut disk = Disk::new(&rt, rt.alloc());
+            let on_terminal = streams.errors.is_terminal();
+            let mut disk = Disk::new(&rt, rt.alloc()).told_on_terminal(on_terminal);
             let status = run(&rt, &mut disk, rt.alloc(), words.as_slice(), &mut streams);
             ExitCode::from(status)
         }

@@ -155,7 +155,7 @@ fn build_up<T: Threads + Wait + Sync, P: Progress, W: Write>(
 
 /// Builds the levels above those that the folder has stored up to `top`, saves each there, and prints
 /// its line.
-fn build_up_in<T: Threads + Wait + Sync, P: Progress, F: Folder, W: Write>(
+pub(crate) fn build_up_in<T: Threads + Wait + Sync, P: Progress, F: Folder, W: Write>(
     builder: &mut Builder<'_, T, P>,
     folder: &mut F,
     top: u8,

@@ -153,6 +153,7 @@ fn run_request<
                 threads,
                 pace,
                 progress,
+                anew: host.machine().on_terminal,
             };
             run_build_asked(rt, host, alloc, AskedBuild { folder, build }, streams)
         }

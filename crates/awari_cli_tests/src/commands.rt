@@ -60,12 +60,13 @@ pub(crate) fn expect_run(
     );
 }
 
-/// Whether the error stream tells something: with status 2, of a folder that is not there or has a gap, of
-/// a rule that `check` or `verify` finds broken, and of a build with nothing to do.
+/// Whether the error stream tells something: with status 2, of a folder that is not there, is empty or has
+/// a gap, of a rule that `check` or `verify` finds broken, and of a build with nothing to do.
 fn is_told(words: &[&str], printed: &str, status: u8) -> bool {
     status == 2
         || words.contains(&NOWHERE)
         || words.contains(&GAP)
+        || printed.contains("levels 0") && !words.contains(&"check")
         || printed.contains(" rule V") && (words.contains(&"check") || words.contains(&"verify"))
         || printed.is_empty() && words.contains(&"--folder")
 }
