@@ -5,6 +5,7 @@
 use awari_cli::{Answers, Disk, Streams, run};
 use awari_words::joined;
 use std::env::Env;
+use std::io::IsTerminal;
 use std::process::ExitCode;
 use std::{env, io, str};
 
@@ -19,7 +20,8 @@ fn main(rt: HostRuntime) -> ExitCode {
                 output: Answers::new(rt.stdout()),
                 errors: rt.stderr(),
             };
-            let mut disk = Disk::new(&rt, rt.alloc());
+            let on_terminal = streams.errors.is_terminal();
+            let mut disk = Disk::new(&rt, rt.alloc()).told_on_terminal(on_terminal);
             let status = run(&rt, &mut disk, rt.alloc(), words.as_slice(), &mut streams);
             streams.output.tell(&mut streams.errors);
             ExitCode::from(status)

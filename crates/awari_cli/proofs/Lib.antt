@@ -1,3 +1,4 @@
+pub mod EstimateLaws
 pub mod HostLaws
 pub mod BuildLaws
 pub mod FolderBuilds

@@ -1,4 +1,5 @@
 pub mod Done
+pub mod Estimates
 pub mod Building
 pub mod Hosts
 pub mod Migrating

@@ -5,7 +5,6 @@ ghost use Rattle.std.specs.Arc.{arc_value};
 ghost use Rattle.std.specs.Io.KnownBytes.{Appends};
 ghost use Rattle.awari_build.specs.declared.faults.BuildFault.TheVariants as build_fault;
 ghost use Rattle.awari_table.specs.declared.images.Image.{Image};
-ghost use Rattle.awari_table.specs.declared.TheConstants.{HIGHEST_LEVEL};
 ghost use Rattle.awari_play.specs.Least.{HasLowestPlans, IsPlannedLowest};
 ghost use Rattle.awari_table.specs.Shelves.{Consistent, IsShelf};
 ghost use Rattle.awari_folder.specs.Contents.{AreNames, HoldsIn, Same, SameBut};
@@ -14,6 +13,7 @@ ghost use Rattle.awari_answers.specs.LevelLines.{IsToldOf, level_lines};
 ghost use Rattle.awari_cli.specs.Building.{KeepsLevels, LeavesFiles, PrintsAllLevels, PrintsLevels, SameOutside};
 ghost use Rattle.awari_cli.specs.declared.building.BuildingFault.TheVariants as building_fault;
 
+use crate::estimates::{Bytes, Estimate};
 use awari_answers::{LevelLine, Replies, line_of_level, print, refuse};
 use awari_build::{
     BuildFault, Pace, Watch, build_level_with_progress, build_together_with_progress,
@@ -21,7 +21,6 @@ use awari_build::{
 use awari_folder::{Folder, FolderFault, Stored, Together, load, save_or_keep};
 use awari_phase::{Open, Progress};
 use awari_play::lowest_plans_stay;
-use awari_rank::size;
 use awari_table::{HIGHEST_LEVEL, Level, Shelf};
 use std::alloc::{AllocFailed, Global};
 use std::fmt;
@@ -153,7 +152,7 @@ fn build_up<T: Threads + Wait + Sync, P: Progress, W: Replies>(
 
 /// Builds the levels above those that the folder has stored up to `top`, saves each there, and prints
 /// its line.
-fn build_up_in<T: Threads + Wait + Sync, P: Progress, F: Folder, W: Replies>(
+pub(crate) fn build_up_in<T: Threads + Wait + Sync, P: Progress, F: Folder, W: Replies>(
     builder: &mut Builder<'_, T, P>,
     folder: &mut F,
     top: u8,
@@ -193,27 +192,13 @@ fn refuse_level<W: Replies>(writer: &mut W, level: u8, fault: BuildingFault) -> 
     if let BuildingFault::Build {
         fault: BuildFault::Memory,
     } = fault
-        && level <= HIGHEST_LEVEL
     {
-        let megabytes = megabytes_for(level);
+        let needed = Bytes(Estimate::of(level, level).memory());
         writer.remark(&format_args!(
-            "level {level} takes some {megabytes} MB, with the levels below it"
+            "level {level} takes {needed} of memory, with the levels below it"
         ));
     }
     status
-}
-
-/// How many megabytes the level takes while it is built, with those below it. A board below takes three
-/// bytes, and one of the level some 13, or ten from level 20 on.
-fn megabytes_for(level: u8) -> u64
-    requires { level ≤ HIGHEST_LEVEL }
-{
-    let own = if level < 20 { 13 } else { 10 };
-    let mut bytes = own * u64::from(size(level));
-    for below in 0..level {
-        bytes = bytes.saturating_add(3 * u64::from(size(below)));
-    }
-    bytes.div_ceil(1_000_000)
 }
 
 /// Builds the level above the shelf, and puts it on top.

@@ -1,9 +1,10 @@
 //! The folders on disk, and what the error stream says of them beside a number. Of what it says nothing
 //! is promised.
 
-use crate::hosts::{Host, Purpose};
+use crate::hosts::{Host, Machine, Purpose};
+use crate::machine::memory_left;
 use awari_answers::print;
-use awari_folder::{FolderFault, HostFolder, LockFault, Named, Said};
+use awari_folder::{Folder, FolderFault, HostFolder, LockFault, Named, Refusal, Said};
 use awari_table::HIGHEST_LEVEL;
 use std::alloc::Global;
 use std::fmt;
@@ -17,12 +18,25 @@ use std::rt::Files;
 pub struct Disk<'a, T> {
     files: &'a T,
     alloc: Global,
+    on_terminal: bool,
 }
 
 impl<'a, T> Disk<'a, T> {
     /// The disk that these files lie on. Its folders take memory for names.
     pub fn new(files: &'a T, alloc: Global) -> Self {
-        Disk { files, alloc }
+        Disk {
+            files,
+            alloc,
+            on_terminal: false,
+        }
+    }
+
+    /// The same disk, where the error stream is a terminal if `on_terminal` says so.
+    pub fn told_on_terminal(self, on_terminal: bool) -> Self {
+        Disk {
+            on_terminal,
+            ..self
+        }
     }
 }
 
@@ -54,7 +68,18 @@ impl<'a, T: Files<File = File>> Host<'a> for Disk<'a, T> {
         folder
     }
 
-    /// If the lock is refused, the error stream says why.
+    fn levels_in(&self, folder: &HostFolder<'a, T>) -> u8 {
+        first_missing(folder)
+    }
+
+    fn machine(&self) -> Machine {
+        Machine {
+            memory_left: memory_left(self.files, self.alloc),
+            on_terminal: self.on_terminal,
+        }
+    }
+
+    /// If the lock is refused, or the folder can't be written to, the error stream says why.
     fn lock<E: Write>(
         &self,
         name: &'a str,
@@ -72,7 +97,7 @@ impl<'a, T: Files<File = File>> Host<'a> for Disk<'a, T> {
             return Ok(());
         }
         match folder.lock() {
-            Ok(()) => return Ok(()),
+            Ok(()) => return try_writing(folder, level),
             Err(LockFault::Memory) => return Err(FolderFault::Memory),
             Err(LockFault::Held) => {
                 print(errors, &format_args!("{name}: locked by another build"));
@@ -110,6 +135,26 @@ fn tell_said<E: Write>(name: &str, said: Said, errors: &mut E) {
     }
 }
 
+/// Makes a new file for this level in a locked folder, and removes it. So a folder that can't be written to
+/// is refused before levels are built for it.
+fn try_writing<T: Files<File = File>>(
+    folder: &mut HostFolder<'_, T>,
+    level: u8,
+) -> Result<(), FolderFault> {
+    if level > HIGHEST_LEVEL {
+        return Ok(());
+    }
+    match folder.create(level) {
+        Ok(_draft) => {
+            // A build that makes this file again removes what lies there.
+            let _ = folder.remove_new(level);
+            Ok(())
+        }
+        Err(Refusal::Memory) => Err(FolderFault::Memory),
+        Err(Refusal::Refused) => Err(FolderFault::Open { level }),
+    }
+}
+
 /// Tells the error stream if there is no folder of this name, or which of its levels are not read.
 fn tell_of_levels<T: Files<File = File>, E: Write>(
     files: &T,
@@ -120,9 +165,11 @@ fn tell_of_levels<T: Files<File = File>, E: Write>(
     if tell_if_no_folder(files, name, errors) {
         return;
     }
+    // There is nowhere to say that this could not be written.
     if let Some(gap) = gap_of(folder) {
-        // There is nowhere to say that this could not be written.
         print(errors, &format_args!("{name}: {gap}"));
+    } else if first_missing(folder) == 0 {
+        print(errors, &format_args!("{name}: no level is there"));
     }
 }
 
@@ -143,53 +190,91 @@ fn tell_if_no_folder<T: Files, E: Write>(files: &T, name: &str, errors: &mut E) 
     }
 }
 
-/// A level that has no file, and those above it that have one.
+/// How many levels there may be.
+const LEVELS: usize = HIGHEST_LEVEL as usize + 1;
+
+/// A level that has no file, and which levels have one, of which some are above it.
 #[derive(Clone, Copy)]
 struct Gap {
     missing: u8,
-    first: u8,
-    last: u8,
+    files: [bool; LEVELS],
+}
+
+impl Gap {
+    /// Whether the level of this number is above the gap and has a file.
+    fn is_above(&self, level: usize) -> bool {
+        usize::from(self.missing) < level && matches!(self.files.get(level), Some(true))
+    }
+
+    /// The last of the levels from this one on that are above the gap and have files, without another gap.
+    fn last_from(&self, first: usize) -> usize {
+        let mut last = first;
+        for level in first..LEVELS {
+            if !self.is_above(level) {
+                break;
+            }
+            last = level;
+        }
+        last
+    }
 }
 
 impl fmt::Display for Gap {
     fn fmt<W: fmt::Write>(&self, f: &mut fmt::Formatter<W>) -> fmt::Result {
-        let Gap {
-            missing,
-            first,
-            last,
-        } = *self;
-        if first == last {
-            write!(
-                f,
-                "level_{missing:02}.awdb is missing; {first:02} is not read"
-            )
-        } else {
-            write!(
-                f,
-                "level_{missing:02}.awdb is missing; {first:02} to {last:02} are not read"
-            )
+        write!(f, "level_{:02}.awdb is missing; ", self.missing)?;
+        let mut told: usize = 0;
+        for first in 1..LEVELS {
+            if self.is_above(first) && !self.is_above(first - 1) {
+                let last = self.last_from(first);
+                write!(f, "{}", Run { told, first, last })?;
+                told = told
+                    .saturating_add(last.saturating_sub(first))
+                    .saturating_add(1);
+            }
         }
+        f.write_str(if told == 1 {
+            " is not read"
+        } else {
+            " are not read"
+        })
+    }
+}
+
+/// Levels without a gap, printed behind so many others.
+#[derive(Clone, Copy)]
+struct Run {
+    told: usize,
+    first: usize,
+    last: usize,
+}
+
+impl fmt::Display for Run {
+    fn fmt<W: fmt::Write>(&self, f: &mut fmt::Formatter<W>) -> fmt::Result {
+        let Run { told, first, last } = *self;
+        let part = if told == 0 { "" } else { ", " };
+        write!(f, "{part}{first:02}")?;
+        if first < last {
+            write!(f, " to {last:02}")?;
+        }
+        Ok(())
     }
 }
 
 /// The first level that has no file, if one above it has.
 fn gap_of<T: Files<File = File>>(folder: &HostFolder<'_, T>) -> Option<Gap> {
     let missing = first_missing(folder);
-    let mut gap: Option<Gap> = None;
+    let mut gap = Gap {
+        missing,
+        files: [false; LEVELS],
+    };
+    let mut is_gap = false;
     for level in 0..=HIGHEST_LEVEL {
         if missing < level && folder.has(level) {
-            let first = match gap {
-                Some(found) => found.first,
-                None => level,
-            };
-            gap = Some(Gap {
-                missing,
-                first,
-                last: level,
-            });
+            is_gap = true;
+            gap.files[usize::from(level)] = true;
         }
     }
-    gap
+    if is_gap { Some(gap) } else { None }
 }
 
 /// The first level that has no file, one more than the highest if each has.

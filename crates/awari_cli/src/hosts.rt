@@ -17,6 +17,15 @@ pub enum Purpose {
     Build,
 }
 
+/// What a host can tell of the machine. Nothing is promised of it.
+#[derive(Clone, Copy)]
+pub struct Machine {
+    /// How many bytes of memory are left, if that can be told.
+    pub memory_left: Option<u64>,
+    /// Whether the error stream is a terminal, on which a line can be written anew.
+    pub on_terminal: bool,
+}
+
 /// Where folders lie under their names. What is odd about a folder may be told on an error stream; of
 /// what is told there nothing is promised.
 pub trait Host<'a> {
@@ -33,9 +42,15 @@ pub trait Host<'a> {
         ensures opened { (Self.Folder.state result).stands ≡ holds self.old name.now }
         ensures others { OthersStay name.now (holds self.old) (holds self.new) };
 
-    /// Locks an open folder for a build up to this level, so that another build is refused at once. If
-    /// the folder has these levels already, it need not be locked. The refusals are 82 Open and 84
-    /// Memory.
+    /// How many levels from 0 on have a file in an open folder, as far as the host can tell.
+    fn levels_in(&self, folder: &Self::Folder) -> u8;
+
+    /// What the host can tell of the machine.
+    fn machine(&self) -> Machine;
+
+    /// Locks an open folder for a build up to this level, so that another build is refused at once, and
+    /// so is one into a folder that can't be written to. If the folder has these levels already, it need
+    /// not be locked. The refusals are 82 Open and 84 Memory.
     fn lock<E: Write>(
         &self,
         name: &'a str,

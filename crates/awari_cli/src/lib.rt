@@ -27,9 +27,11 @@
 
 mod building;
 mod disk;
+mod estimates;
 mod hosts;
 mod lasting;
 mod laws;
+mod machine;
 mod migrating;
 mod progress;
 mod reading;
@@ -45,9 +47,10 @@ pub use awari_answers::{
 pub use awari_check::check;
 pub use building::{Builder, run_build_in};
 pub use disk::Disk;
-pub use hosts::{Host, Purpose};
+pub use estimates::Estimate;
+pub use hosts::{Host, Machine, Purpose};
 pub use laws::one_file_for_every_schedule;
 pub use migrating::run_migrate;
-pub use progress::ProgressLines;
+pub use progress::{HowTold, ProgressLines};
 pub use runs::run;
 pub use serving::{Growth, run_serve};

@@ -15,7 +15,9 @@ ghost use Rattle.clap.specs.Simple.{subcommand_of, subcommand_rows_of};
 
 use crate::hosts::Host;
 use crate::reading::{Reading, run_reading};
-use crate::writing::{AskedBuild, Build, Migration, run_build_asked, run_migration};
+use crate::writing::{
+    Asked, AskedBuild, Build, Migration, run_build_asked, run_estimate, run_migration,
+};
 use awari_answers::{
     Played, Replies, Streams, judge, play_on, print, refuse, status_of, tell_answer,
 };
@@ -146,16 +148,23 @@ fn run_request<
         Request::Build {
             top,
             folder,
+            estimate: true,
+            ..
+        } => run_estimate(host, Asked { folder, top }, &mut streams.errors),
+        Request::Build {
+            top,
+            folder,
             threads,
             pace,
             progress,
-            ..
+            estimate: false,
         } => {
             let build = Build {
                 top,
                 threads,
                 pace,
                 progress,
+                anew: host.machine().on_terminal,
             };
             run_build_asked(rt, host, alloc, AskedBuild { folder, build }, streams)
         }

@@ -3,15 +3,16 @@
 ghost use Rattle.std.specs.Prelude.{◌≡◌, ◌≢◌, ◌≤◌, ℕ, List, Some};
 ghost use Rattle.awari_cli.specs.Building.{PrintsAllLevels, PrintsLevels};
 ghost use Rattle.awari_cli.specs.Done.{IsFolder, LeavesFolders, PrintsBrought, PrintsBuild, PrintsBuilt};
-ghost use Rattle.awari_cli.specs.Hosts.{OthersStay};
+ghost use Rattle.awari_cli.specs.Hosts.{AllStay, OthersStay};
 ghost use Rattle.awari_folder.specs.Contents.{Same};
 ghost use Rattle.awari_folder.specs.Migration.{KeepsFiles};
 
-use crate::building::{Builder, run_build, run_build_in};
+use crate::building::{Builder, build_up_in, run_build};
+use crate::estimates::{Estimate, warn_of_memory};
 use crate::hosts::{Host, Purpose};
 use crate::migrating::run_migrate;
-use crate::progress::ProgressLines;
-use awari_answers::{Replies, Streams, refuse};
+use crate::progress::{HowTold, ProgressLines};
+use awari_answers::{Replies, Streams, load_watched, print, refuse};
 use awari_build::Pace;
 use awari_folder::Folder;
 use awari_phase::{Progress, Silent};
@@ -29,6 +30,18 @@ pub(crate) struct Build {
     pub(crate) threads: Option<u8>,
     pub(crate) pace: Pace,
     pub(crate) progress: bool,
+    /// Whether the error stream is a terminal, on which a line can be written anew.
+    pub(crate) anew: bool,
+}
+
+impl Build {
+    /// How its progress is told.
+    fn how_told(self) -> HowTold {
+        HowTold {
+            top: self.top,
+            anew: self.anew,
+        }
+    }
 }
 
 /// A build, and the name of the folder in which it is to be, if one is named.
@@ -61,7 +74,10 @@ pub(crate) fn run_build_asked<
 {
     let AskedBuild { folder, build } = asked;
     match folder {
-        None => run_build_alone(rt, alloc, build, streams),
+        None => {
+            tell_needs(host, 0, build, &mut streams.errors);
+            run_build_alone(rt, alloc, build, streams)
+        }
         Some(folder) => run_build_on(rt, host, alloc, BuildIn { folder, build }, streams),
     }
 }
@@ -77,9 +93,13 @@ fn run_build_alone<T: Threads + Clock + Wait + Sync, R: Read, W: Replies, E: Wri
     ensures built { result ≡ 0 → PrintsAllLevels build.top (W.contents streams.old.output) (W.contents streams.new.output) }
 {
     if build.progress {
-        let mut lines = ProgressLines::new(rt, &mut streams.errors);
+        let mut lines = ProgressLines::new(rt, &mut streams.errors, build.how_told());
         let mut builder = builder_for(rt, alloc, build, &mut lines);
-        return run_build(&mut builder, build.top, &mut streams.output);
+        let status = run_build(&mut builder, build.top, &mut streams.output);
+        if status == 0 {
+            lines.end();
+        }
+        return status;
     }
     let mut silent = Silent;
     let mut builder = builder_for(rt, alloc, build, &mut silent);
@@ -113,6 +133,7 @@ fn run_build_on<'a, T: Threads + Clock + Wait + Sync, H: Host<'a>, R: Read, W: R
             return refuse(&mut streams.output, fault);
         }
     }
+    tell_needs(host, host.levels_in(&folder), build, &mut streams.errors);
     let status = run_build_of(rt, &mut folder, alloc, build, streams);
     host.tell(name, &folder, &mut streams.errors);
     host.close(name, folder);
@@ -131,14 +152,67 @@ fn run_build_of<T: Threads + Clock + Wait + Sync, F: Folder, R: Read, W: Replies
     ensures kept { KeepsFiles (F.state folder.old).stands (F.state folder.new).stands }
     ensures built { result ≡ 0 → PrintsLevels build.top (F.state folder.old).stands (F.state folder.new).stands (W.contents streams.old.output) (W.contents streams.new.output) }
 {
+    let mut stored = match load_watched(rt, folder, alloc, build.progress, &mut streams.errors) {
+        Ok(stored) => stored,
+        Err(fault) => return refuse(&mut streams.output, fault),
+    };
+    let output = &mut streams.output;
     if build.progress {
-        let mut lines = ProgressLines::new(rt, &mut streams.errors);
+        let mut lines = ProgressLines::new(rt, &mut streams.errors, build.how_told());
         let mut builder = builder_for(rt, alloc, build, &mut lines);
-        return run_build_in(&mut builder, folder, build.top, &mut streams.output);
+        let status = build_up_in(&mut builder, folder, build.top, &mut stored, output);
+        if status == 0 {
+            lines.end();
+        }
+        return status;
     }
     let mut silent = Silent;
     let mut builder = builder_for(rt, alloc, build, &mut silent);
-    run_build_in(&mut builder, folder, build.top, &mut streams.output)
+    build_up_in(&mut builder, folder, build.top, &mut stored, output)
+}
+
+/// Tells `errors` what a build of the levels from `first` on takes, if its progress is asked for, and if less
+/// memory is left.
+fn tell_needs<'a, H: Host<'a>, E: Write>(host: &H, first: u8, build: Build, errors: &mut E) {
+    let estimate = Estimate::of(first, build.top);
+    if build.progress {
+        // There is nowhere to say that this could not be written.
+        print(errors, &estimate);
+    }
+    warn_of_memory(estimate, host.machine().memory_left, errors);
+}
+
+/// A build that is not made, but tells what it would take: its highest level, and the folder's name if
+/// one is named.
+#[derive(Clone, Copy)]
+pub(crate) struct Asked<'a> {
+    pub(crate) folder: Option<&'a str>,
+    pub(crate) top: u8,
+}
+
+/// Tells `errors` what a build would take, and builds nothing.
+pub(crate) fn run_estimate<'a, H: Host<'a>, E: Write>(
+    host: &mut H,
+    asked: Asked<'a>,
+    errors: &mut E,
+) -> u8
+    ensures status { result ≡ 0 }
+    ensures same { AllStay H.keeps (H.holds host.old) (H.holds host.new) }
+{
+    let first = match asked.folder {
+        None => 0,
+        Some(name) => {
+            let folder = host.open(name, Purpose::Write, errors);
+            let first = host.levels_in(&folder);
+            host.close(name, folder);
+            first
+        }
+    };
+    let estimate = Estimate::of(first, asked.top);
+    // There is nowhere to say that this could not be written.
+    print(errors, &estimate);
+    warn_of_memory(estimate, host.machine().memory_left, errors);
+    0
 }
 
 /// What builds the levels that are asked for.

@@ -60,13 +60,14 @@ pub(crate) fn expect_run(
     );
 }
 
-/// Whether the error stream tells something: with status 2, of a folder that is not there or has a gap, of
-/// what `check` or `verify` finds wrong, and of a build with nothing to do. Other refusals are remarks,
-/// which this output does not keep.
+/// Whether the error stream tells something: with status 2, of a folder that is not there, is empty or has
+/// a gap, of what `check` or `verify` finds wrong, and of a build with nothing to do. Other refusals are
+/// remarks, which this output does not keep.
 fn is_told(words: &[&str], printed: &str, status: u8) -> bool {
     status == 2
         || words.contains(&NOWHERE)
         || words.contains(&GAP)
+        || printed.contains("levels 0") && !words.contains(&"check")
         || status == 1 && (words.contains(&"check") || words.contains(&"verify"))
         || printed.is_empty() && words.contains(&"--folder")
 }

@@ -2,7 +2,7 @@
 
 ghost use Rattle.awari_cli_tests.specs.Hosts.{IsKept};
 
-use awari_cli::{Host, Purpose};
+use awari_cli::{Host, Machine, Purpose};
 use awari_file_tests::MemoryFolder;
 use awari_folder::FolderFault;
 use std::alloc::Global;
@@ -57,6 +57,17 @@ impl<'a> Host<'a> for MemoryHost {
             return mem::replace(&mut self.second, empty);
         }
         empty
+    }
+
+    fn levels_in(&self, _folder: &MemoryFolder) -> u8 {
+        0
+    }
+
+    fn machine(&self) -> Machine {
+        Machine {
+            memory_left: None,
+            on_terminal: false,
+        }
     }
 
     fn lock<E: Write>(

@@ -4,8 +4,8 @@
 
 use awari_build::Pace;
 use awari_cli::{
-    Builder, Disk, Growth, MovesQuery, ProgressLines, Replies, Streams, VerifyQuery, run, run_ask,
-    run_build_in, run_line, run_moves, run_serve, run_text, run_verify,
+    Builder, Disk, Growth, HowTold, MovesQuery, ProgressLines, Replies, Streams, VerifyQuery, run,
+    run_ask, run_build_in, run_line, run_moves, run_serve, run_text, run_verify,
 };
 use awari_file_tests::MemoryFolder;
 use awari_phase::{Progress, Silent};
@@ -75,13 +75,13 @@ fn build_to(
 pub(crate) fn build_telling(
     rt: &(impl AllocGlobal + Threads + Wait + Sync),
     clock: &impl Clock,
-    top: u8,
+    how: HowTold,
     errors: &mut Vec<u8>,
 ) -> u8 {
     let mut output = Vec::new(rt.alloc());
     let mut folder = memory_folder(rt.alloc());
-    let mut lines = ProgressLines::new(clock, errors);
-    build_to(rt, &mut folder, top, &mut lines, &mut output)
+    let mut lines = ProgressLines::new(clock, errors, how);
+    build_to(rt, &mut folder, how.top, &mut lines, &mut output)
 }
 
 /// Verifies the folder, and gives the status.

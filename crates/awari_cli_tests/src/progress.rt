@@ -3,7 +3,7 @@
 use crate::expect::{expect, expect_equal};
 use crate::levels::LEVELS_0_TO_2;
 use crate::plain::{build_telling, run_on_disk};
-use awari_cli::Streams;
+use awari_cli::{HowTold, Streams};
 use std::cell::Cell;
 use std::fs::File;
 use std::process::Abort;
@@ -56,49 +56,74 @@ impl Clock for Stopped {
 
 /// What is told of the levels 0 to 2 where less than a quarter of a second lies between two lines.
 const AT_EACH_GAIN: &str = "\
-level 0 plans of 1 seconds 0.0
-level 1 gain 1 settled 0 of 12 seconds 0.0
-level 1 plans of 12 seconds 0.0
-level 2 gain 2 settled 0 of 78 seconds 0.0
-level 2 gain 1 settled 65 of 78 seconds 0.0
-level 2 plans of 78 seconds 0.0
+level 0 of 2 scan of 1; 0% done in 0.0 s
+level 0 of 2 plans of 1; 0% done in 0.0 s
+level 1 of 2 scan of 12; 1% done in 0.0 s
+level 1 of 2 gain 1 settled 0 of 12; 2% done in 0.0 s
+level 1 of 2 plans of 12; 10% done in 0.0 s
+level 2 of 2 scan of 78; 14% done in 0.0 s
+level 2 of 2 gain 2 settled 0 of 78; 24% done in 0.0 s
+level 2 of 2 gain 1 settled 65 of 78; 68% done in 0.0 s
+level 2 of 2 plans of 78; 78% done in 0.0 s
 ";
 
 /// What is told where a tenth of a second goes by whenever the time is looked at: within a gain each
 /// third time.
 const EACH_THIRD_TIME: &str = "\
-level 0 plans of 1 seconds 0.1
-level 1 gain 1 settled 0 of 12 seconds 0.2
-level 1 plans of 12 seconds 0.4
-level 2 gain 2 settled 0 of 78 seconds 0.5
-level 2 gain 2 settled 45 of 78 seconds 0.8
-level 2 gain 2 settled 57 of 78 seconds 1.1
-level 2 gain 2 settled 63 of 78 seconds 1.4
-level 2 gain 1 settled 65 of 78 seconds 1.5
-level 2 plans of 78 seconds 1.6
+level 0 of 2 scan of 1; 0% done in 0.1 s
+level 0 of 2 plans of 1; 0% done in 0.2 s
+level 1 of 2 scan of 12; 1% done in 0.3 s
+level 1 of 2 gain 1 settled 0 of 12; 2% done in 0.4 s
+level 1 of 2 plans of 12; 10% done in 0.6 s
+level 2 of 2 scan of 78; 14% done in 0.7 s
+level 2 of 2 gain 2 settled 0 of 78; 24% done in 0.8 s
+level 2 of 2 gain 2 settled 45 of 78; 54% done in 1.1 s, 50 boards a second, 0 s to go
+level 2 of 2 gain 2 settled 57 of 78; 62% done in 1.4 s, 57 boards a second, 0 s to go
+level 2 of 2 gain 2 settled 63 of 78; 67% done in 1.7 s, 61 boards a second, 0 s to go
+level 2 of 2 gain 1 settled 65 of 78; 68% done in 1.8 s, 62 boards a second, 0 s to go
+level 2 of 2 plans of 78; 78% done in 1.9 s, 71 boards a second, 0 s to go
+";
+
+/// What is told of level 0 on a terminal: the line of its entries takes the place of that of its scan.
+const ANEW: &str = "\
+\x1b[?7llevel 0 of 0 scan of 1; 0% done in 0.0 s\x1b[?7h
+\x1b[A\r\x1b[K\x1b[?7llevel 0 of 0 plans of 1; 0% done in 0.0 s\x1b[?7h
 ";
 
 /// Builds without owners, and compares what is told by this clock.
 fn expect_told(
     rt: &(impl Abort + AllocGlobal + Threads + Wait + Sync),
     clock: &impl Clock,
+    how: HowTold,
     expected: &str,
 ) {
     let mut errors = Vec::new(rt.alloc());
-    let status = build_telling(rt, clock, 2, &mut errors);
+    let status = build_telling(rt, clock, how, &mut errors);
     expect_equal(rt, "status", status, 0);
     expect_equal(rt, "told", str::from_utf8(&errors), Ok(expected));
 }
 
+/// Lines of levels 0 to 2, none in the place of another.
+const LINES: HowTold = HowTold {
+    top: 2,
+    anew: false,
+};
+
 #[test]
 fn a_build_tells_of_each_gain(rt: HostRuntime) {
-    expect_told(&rt, &Ticking::by(0), AT_EACH_GAIN);
-    expect_told(&rt, &Stopped, AT_EACH_GAIN);
+    expect_told(&rt, &Ticking::by(0), LINES, AT_EACH_GAIN);
+    expect_told(&rt, &Stopped, LINES, AT_EACH_GAIN);
 }
 
 #[test]
 fn a_build_tells_at_most_four_times_a_second(rt: HostRuntime) {
-    expect_told(&rt, &Ticking::by(100), EACH_THIRD_TIME);
+    expect_told(&rt, &Ticking::by(100), LINES, EACH_THIRD_TIME);
+}
+
+#[test]
+fn a_terminal_has_one_line_a_level(rt: HostRuntime) {
+    let how = HowTold { top: 0, anew: true };
+    expect_told(&rt, &Ticking::by(0), how, ANEW);
 }
 
 /// Whether anything is told on the error stream of levels that are built with these words.
