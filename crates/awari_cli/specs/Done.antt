@@ -45,8 +45,8 @@ PrintsAnswer (Line board longest false json true) stands input before after = Pr
 PrintsAnswer (Line board longest true json false) stands input before after = PrintsPlies stands longest json board.now before after
 PrintsAnswer (Line board longest true json true) stands input before after = PrintsPliesSaid stands longest json board.now before after
 PrintsAnswer (Serve top owners) stands input before after = PrintsService stands input before after
-PrintsAnswer (Counts level json unverified) stands input before after = PrintsCounts json stands level before after
-PrintsAnswer (Boards level value distance farthest every count unverified) stands input before after =
+PrintsAnswer (Counts level json) stands input before after = PrintsCounts json stands level before after
+PrintsAnswer (Boards level value distance farthest every count) stands input before after =
     PrintsBoards stands (record { level = level; value = value; distance = distance; farthest = farthest; every = every; count = count }) before after
 
 -- The lines of the levels that were built in the folder of this name, which holds them now if the host keeps it.

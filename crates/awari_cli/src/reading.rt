@@ -154,7 +154,7 @@ fn run_question<
         Question::Serve { top, owners } => {
             run_serve(rt, folder, alloc, Growth { top, owners }, streams)
         }
-        Question::Counts { level, json, .. } => {
+        Question::Counts { level, json } => {
             run_counts(rt, folder, alloc, CountsQuery { level, json }, output)
         }
         Question::Boards {
@@ -164,7 +164,6 @@ fn run_question<
             farthest,
             every,
             count,
-            ..
         } => {
             let query = BoardsQuery {
                 level,
@@ -220,10 +219,12 @@ fn is_unverified(question: Question<'_>) -> bool {
     match question {
         Question::Ask { unverified, .. }
         | Question::Moves { unverified, .. }
-        | Question::Line { unverified, .. }
-        | Question::Counts { unverified, .. }
-        | Question::Boards { unverified, .. } => unverified,
-        Question::Verify { .. } | Question::Text { .. } | Question::Serve { .. } => false,
+        | Question::Line { unverified, .. } => unverified,
+        Question::Verify { .. }
+        | Question::Text { .. }
+        | Question::Serve { .. }
+        | Question::Counts { .. }
+        | Question::Boards { .. } => false,
     }
 }
 

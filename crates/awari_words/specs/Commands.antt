@@ -127,11 +127,11 @@ abbrev pub plays_command : Shape
 plays_command = command (codes "plays") (board ∷ number (codes "PLIES") (Signed (pos 0) (pos 255)) ∷ [])
 
 abbrev pub counts_command : Shape
-counts_command = command (codes "counts") (folder ∷ level ∷ json ∷ unverified ∷ [])
+counts_command = command (codes "counts") (folder ∷ level ∷ json ∷ [])
 
 -- which boards of a level are wanted
 abbrev pub wishes : List Rule
-wishes = option (codes "value") ∷ option (codes "distance") ∷ flag (codes "farthest") ∷ number_option (codes "every") (Unsigned 1 4294967295) (codes "1") ∷ flag (codes "count") ∷ unverified ∷ []
+wishes = option (codes "value") ∷ option (codes "distance") ∷ flag (codes "farthest") ∷ number_option (codes "every") (Unsigned 1 4294967295) (codes "1") ∷ flag (codes "count") ∷ []
 
 abbrev pub boards_command : Shape
 boards_command = command (codes "boards") (folder ∷ number (codes "LEVEL") levels ∷ wishes)

@@ -343,8 +343,7 @@ fn counts_command<'a>(alloc: Global) -> Result<Command<'a>, AllocError>
     );
     let command = with_word(command, folder(alloc));
     let command = with_word(command, level(alloc));
-    let command = with_word(command, json(alloc));
-    with_word(command, unverified(alloc))
+    with_word(command, json(alloc))
 }
 
 fn boards_command<'a>(alloc: Global) -> Result<Command<'a>, AllocError>
@@ -372,6 +371,5 @@ fn with_wishes<'a>(
     let command = with_word(command, distance(alloc));
     let command = with_word(command, farthest(alloc));
     let command = with_word(command, every(alloc));
-    let command = with_word(command, count(alloc));
-    with_word(command, unverified(alloc))
+    with_word(command, count(alloc))
 }

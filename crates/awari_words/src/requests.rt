@@ -119,14 +119,13 @@ pub enum Question<'a> {
         top: u8,
         owners: u8,
     },
-    /// `counts FOLDER [LEVEL] [--json] [--unverified]`: the levels in numbers, or one.
+    /// `counts FOLDER [LEVEL] [--json]`: the levels in numbers, or one.
     Counts {
         level: Option<u8>,
         json: bool,
-        unverified: bool,
     },
-    /// `boards FOLDER LEVEL [--value A..B] [--distance A..B] [--farthest] [--every K] [--count]
-    /// [--unverified]`: the boards of a level.
+    /// `boards FOLDER LEVEL [--value A..B] [--distance A..B] [--farthest] [--every K] [--count]`: the boards
+    /// of a level.
     Boards {
         level: u8,
         value: Option<&'a str>,
@@ -134,7 +133,6 @@ pub enum Question<'a> {
         farthest: bool,
         every: u32,
         count: bool,
-        unverified: bool,
     },
 }
 
@@ -357,7 +355,6 @@ fn counts_request<'m, 'a: 'm>(given: &'m ArgMatches<'a>) -> Option<Request<'m, '
         question: Question::Counts {
             level: byte(given, "LEVEL"),
             json: flag(given, "json"),
-            unverified: flag(given, "unverified"),
         },
     })
 }
@@ -375,7 +372,6 @@ fn boards_request<'m, 'a: 'm>(given: &'m ArgMatches<'a>) -> Option<Request<'m, '
             farthest: flag(given, "farthest"),
             every: number(given, "every")?,
             count: flag(given, "count"),
-            unverified: flag(given, "unverified"),
         },
     })
 }
