@@ -73,9 +73,9 @@ impl<'a, C: Clock, E: Write> ProgressLines<'a, C, E> {
         }
     }
 
-    /// Tells that all levels are built, if one was to be.
-    pub fn end(&mut self) {
-        if self.all.is_none() {
+    /// Tells that all levels are built, if one was to be and the build ended with status 0.
+    pub fn end(&mut self, status: u8) {
+        if status != 0 || self.all.is_none() {
             return;
         }
         let now = Instant::now(self.clock).ok();

@@ -96,9 +96,7 @@ fn run_build_alone<T: Threads + Clock + Wait + Sync, R: Read, W: Replies, E: Wri
         let mut lines = ProgressLines::new(rt, &mut streams.errors, build.how_told());
         let mut builder = builder_for(rt, alloc, build, &mut lines);
         let status = run_build(&mut builder, build.top, &mut streams.output);
-        if status == 0 {
-            lines.end();
-        }
+        lines.end(status);
         return status;
     }
     let mut silent = Silent;
@@ -161,9 +159,7 @@ fn run_build_of<T: Threads + Clock + Wait + Sync, F: Folder, R: Read, W: Replies
         let mut lines = ProgressLines::new(rt, &mut streams.errors, build.how_told());
         let mut builder = builder_for(rt, alloc, build, &mut lines);
         let status = build_up_in(&mut builder, folder, build.top, &mut stored, output);
-        if status == 0 {
-            lines.end();
-        }
+        lines.end(status);
         return status;
     }
     let mut silent = Silent;
@@ -199,20 +195,29 @@ pub(crate) fn run_estimate<'a, H: Host<'a>, E: Write>(
     ensures status { result ≡ 0 }
     ensures same { AllStay H.keeps (H.holds host.old) (H.holds host.new) }
 {
-    let first = match asked.folder {
-        None => 0,
-        Some(name) => {
-            let folder = host.open(name, Purpose::Write, errors);
-            let first = host.levels_in(&folder);
-            host.close(name, folder);
-            first
-        }
-    };
+    let first = first_to_build(host, asked.folder, errors);
     let estimate = Estimate::of(first, asked.top);
     // There is nowhere to say that this could not be written.
     print(errors, &estimate);
     warn_of_memory(estimate, host.machine().memory_left, errors);
     0
+}
+
+/// The first level that a build in the folder of this name begins with, or one without a folder.
+fn first_to_build<'a, H: Host<'a>, E: Write>(
+    host: &mut H,
+    folder: Option<&'a str>,
+    errors: &mut E,
+) -> u8
+    ensures { AllStay H.keeps (H.holds host.old) (H.holds host.new) }
+{
+    let Some(name) = folder else {
+        return 0;
+    };
+    let folder = host.open(name, Purpose::Write, errors);
+    let first = host.levels_in(&folder);
+    host.close(name, folder);
+    first
 }
 
 /// What builds the levels that are asked for.
