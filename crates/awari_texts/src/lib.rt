@@ -1,10 +1,14 @@
 //! The sentence that is said to a person for each number that is answered. Commands tell it beside a
 //! refusal, and the library for C lends it. No call takes memory.
 //!
-//! What the numbers of builds are called, in `crates/awari_texts/src/lib.rt`:
+//! A sentence without the end that C wants, in `crates/awari_texts/src/lib.rt`:
 //!
-//!         40 => b"A thread could not be started\0",
-//!         41 => b"There is not enough memory for the owners of a level\0",
+//!     pub fn sentence(answer: u8) -> &'static [u8]
+//!         ensures { result.now ≡ sentence answer }
+//!     {
+//!         let ended = ended_sentence(answer);
+//!         &ended[..ended.len() - 1]
+//!     }
 #![tactic(auto)]
 
 ghost use Rattle.std.specs.Prelude.{◌≡◌, ◌++◌, ◌∷◌, []};
