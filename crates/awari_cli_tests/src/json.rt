@@ -168,7 +168,7 @@ const OBJECTS: [Line; 15] = [
     ),
     (
         &["awari", "counts", TOLD, "9", "--json"],
-        r#"{"request":"counts 9","refused":59,"name":"NotYet"}
+        r#"{"request":"counts 9","refused":59,"name":"NotYet","levels":5}
 "#,
         1,
     ),
@@ -186,7 +186,7 @@ const OBJECTS: [Line; 15] = [
     ),
     (
         &["awari", "moves", TOLD, "0,0,0,0,0,0/0,0,0,0,0,5", "--json"],
-        r#"{"request":"moves 0,0,0,0,0,0/0,0,0,0,0,5","refused":59,"name":"NotYet"}
+        r#"{"request":"moves 0,0,0,0,0,0/0,0,0,0,0,5","refused":59,"name":"NotYet","levels":5}
 "#,
         1,
     ),

@@ -1,10 +1,16 @@
 //! The sentence that is said to a person for each number that is answered. Commands tell it beside a
 //! refusal, and the library for C lends it. No call takes memory.
 //!
-//! What the numbers of builds are called, in `crates/awari_texts/src/lib.rt`:
+//! The sentences that C is lent for two numbers, in `crates/awari_c/src/tests.rt`:
 //!
-//!         40 => b"A thread could not be started\0",
-//!         41 => b"There is not enough memory for the owners of a level\0",
+//!     fn answers_have_sentences(rt: HostRuntime) {
+//!         let mut text: &'static [u8] = b"";
+//!         awari_text_of(3, &mut text);
+//!         assert_eq!(rt; text, b"A board has at most 48 stones\0".as_slice());
+//!         awari_text_of(255, &mut text);
+//!         assert_eq!(rt; text, b"No answer has this number\0".as_slice());
+//!         assert_eq!(rt; awari_version(), 100);
+//!     }
 #![tactic(auto)]
 
 ghost use Rattle.std.specs.Prelude.{◌≡◌, ◌++◌, ◌∷◌, []};
