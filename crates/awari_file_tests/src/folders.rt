@@ -17,13 +17,13 @@ use std::test::Fail;
 use std::{fs, io};
 
 /// A new folder of this name.
-fn empty_folder(files: &(impl Files + AllocGlobal), folder: &str) -> io::Result<()> {
+pub(crate) fn empty_folder(files: &(impl Files + AllocGlobal), folder: &str) -> io::Result<()> {
     let _ = fs::remove_dir_all(files, folder);
     fs::create_dir(files, folder)
 }
 
 /// The folder of this name.
-fn host<'a, F: Files<File = File> + AllocGlobal>(
+pub(crate) fn host<'a, F: Files<File = File> + AllocGlobal>(
     files: &'a F,
     folder: &'a str,
 ) -> HostFolder<'a, F> {
@@ -31,7 +31,7 @@ fn host<'a, F: Files<File = File> + AllocGlobal>(
 }
 
 /// Lays a file into the folder, none where it has no byte.
-fn lay(
+pub(crate) fn lay(
     files: &(impl Files + AllocGlobal),
     folder: &str,
     name: &str,

@@ -16,6 +16,8 @@ mod folders;
 mod levels;
 mod memory;
 #[cfg(test)]
+mod places;
+#[cfg(test)]
 mod plain;
 #[cfg(test)]
 mod refusals;

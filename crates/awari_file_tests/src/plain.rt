@@ -3,11 +3,13 @@
 //! test runs.
 
 use crate::memory::MemoryFolder;
+use awari_board::Board;
 use awari_file::{FileFault, Loaded, compare_level, read_image, write_level};
 use awari_folder::{
     Alone, Folder, FolderFault, Migrated, Stored, load, migrate, save, save_or_keep,
 };
-use awari_table::{Counted, HIGHEST_LEVEL, Image, Level, Shelf, TableText};
+use awari_places::{best_line, entry, longest_line, open_levels};
+use awari_table::{Counted, Entry, HIGHEST_LEVEL, Image, Level, Shelf, TableText};
 use awari_verify::{VerifyFault, verify};
 use std::alloc::Global;
 use std::io::{Read, Write};
@@ -124,4 +126,42 @@ pub(crate) fn open<F: Folder>(folder: &mut F, level: u8) -> Result<Option<F::Fil
         Ok(opened) => Ok(opened),
         Err(_) => Err(Fail::new("a folder")),
     }
+}
+
+/// The entry of a board, looked up where it lies.
+pub(crate) fn look_up(folder: &mut impl Folder, board: Board) -> Result<Entry, FolderFault> {
+    let levels = open_levels(folder, HIGHEST_LEVEL)?.levels;
+    if board.stones() >= levels {
+        return Err(FolderFault::Below { level: levels });
+    }
+    entry(folder, levels, &board)
+}
+
+/// The pits of the line by the plans of both sides, looked up where they lie.
+pub(crate) fn line_in(
+    alloc: Global,
+    folder: &mut impl Folder,
+    board: Board,
+) -> Result<Vec<u8>, FolderFault> {
+    let opened = open_levels(folder, HIGHEST_LEVEL)?;
+    if board.stones() >= opened.levels {
+        return Err(FolderFault::Below {
+            level: opened.levels,
+        });
+    }
+    let line = best_line(alloc, folder, opened, board)?;
+    Ok(line.moves)
+}
+
+/// The pits of the line in which one side holds out, looked up where they lie.
+pub(crate) fn longest_in(
+    alloc: Global,
+    folder: &mut impl Folder,
+    board: Board,
+) -> Result<Vec<u8>, FolderFault> {
+    let levels = open_levels(folder, HIGHEST_LEVEL)?.levels;
+    if board.stones() >= levels {
+        return Err(FolderFault::Below { level: levels });
+    }
+    longest_line(alloc, folder, levels, board)
 }

@@ -3,6 +3,16 @@
 //! [`open_levels`] looks at the headers and the lengths of the files, and [`entry`] reads the six bytes
 //! that stand for a board. What is answered is what the files say, whether that is right or not. If
 //! `verify` says yes to the files, it is the truth: [`right_files_say_their_shelf`] says so.
+//!
+//! The entry of a board, looked up in a folder, in `crates/awari_file_tests/src/plain.rt`:
+//!
+//!     pub(crate) fn look_up(folder: &mut impl Folder, board: Board) -> Result<Entry, FolderFault> {
+//!         let levels = open_levels(folder, HIGHEST_LEVEL)?.levels;
+//!         if board.stones() >= levels {
+//!             return Err(FolderFault::Below { level: levels });
+//!         }
+//!         entry(folder, levels, &board)
+//!     }
 #![tactic(auto)]
 
 mod entries;
