@@ -1,7 +1,7 @@
 //! `verify` with a wish: which levels a folder is to have, and which digest.
 
 use crate::calls::lay;
-use crate::expect::{expect, expect_equal};
+use crate::expect::expect_equal;
 use crate::plain::{build, memory_folder, refuse, verified_as};
 use awari_cli::VerifyQuery;
 use awari_file_tests::MemoryFolder;
@@ -111,7 +111,13 @@ fn a_file_above_does_not_open(rt: HostRuntime) {
     let printed = str::from_utf8(&output);
     expect_equal(&rt, "refused", printed, Ok("refused 82 Open level 2\n"));
     expect_equal(&rt, "status", status, 1);
-    expect(&rt, "nothing told", errors.is_empty());
+    let told = str::from_utf8(&errors);
+    expect_equal(
+        &rt,
+        "told",
+        told,
+        Ok("The folder or a file does not open\n"),
+    );
 }
 
 #[test]
