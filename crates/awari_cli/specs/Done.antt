@@ -19,8 +19,8 @@ use Rattle.awari_answers.specs.Texts.{PrintsText}
 use Rattle.awari_answers.specs.Unverified.{PrintsEntrySaidBy, PrintsWorthsSaidBy}
 use Rattle.awari_answers.specs.UnverifiedLines.{PrintsLineSaid, PrintsPliesSaid}
 use Rattle.awari_answers.specs.Worths.{PrintsWorths, PrintsWorthsJson}
-use Rattle.awari_questions.specs.Boards.{PrintsAllBoards, PrintsBoards}
-use Rattle.awari_questions.specs.Counts.{PrintsCounts}
+use Rattle.awari_questions.specs.Boards.{PrintsAllBoards, PrintsBoardsBy}
+use Rattle.awari_questions.specs.Counts.{PrintsCountsBy}
 use Rattle.awari_questions.specs.Places.{PrintsBoard, PrintsPlace}
 use Rattle.awari_questions.specs.Plays.{PrintsPlays}
 use Rattle.awari_words.specs.declared.requests.Question.{Question}
@@ -44,10 +44,11 @@ PrintsAnswer (Line board longest false json false) stands input before after = P
 PrintsAnswer (Line board longest false json true) stands input before after = PrintsLineSaid longest json stands board.now before after
 PrintsAnswer (Line board longest true json false) stands input before after = PrintsPlies stands longest json board.now before after
 PrintsAnswer (Line board longest true json true) stands input before after = PrintsPliesSaid stands longest json board.now before after
-PrintsAnswer (Serve top owners) stands input before after = PrintsService stands input before after
-PrintsAnswer (Counts level json) stands input before after = PrintsCounts json stands level before after
-PrintsAnswer (Boards level value distance farthest every count) stands input before after =
-    PrintsBoards stands (record { level = level; value = value; distance = distance; farthest = farthest; every = every; count = count }) before after
+PrintsAnswer (Serve top owners unverified) stands input before after = PrintsService stands input before after
+PrintsAnswer (Counts level json unverified) stands input before after = PrintsCountsBy unverified json stands level before after
+PrintsAnswer (Boards level value distance farthest every count unverified) stands input before after =
+    PrintsBoardsBy unverified stands
+    (record { level = level; value = value; distance = distance; farthest = farthest; every = every; count = count; unverified = unverified }) before after
 
 -- The lines of the levels that were built in the folder of this name, which holds them now if the host keeps it.
 abbrev pub PrintsBuilt : (List ℕ → Type 0) → ℕ → List ℕ → (List ℕ → Stands) → (List ℕ → Stands) → Option (List ℕ) → Option (List ℕ) → Type 0

@@ -151,11 +151,20 @@ fn run_question<
                 (true, true) => run_plies_unverified(folder, alloc, query, output),
             }
         }
-        Question::Serve { top, owners } => {
+        Question::Serve { top, owners, .. } => {
             run_serve(rt, folder, alloc, Growth { top, owners }, streams)
         }
-        Question::Counts { level, json } => {
-            run_counts(rt, folder, alloc, CountsQuery { level, json }, output)
+        Question::Counts {
+            level,
+            json,
+            unverified,
+        } => {
+            let query = CountsQuery {
+                level,
+                json,
+                unverified,
+            };
+            run_counts(rt, folder, alloc, query, output)
         }
         Question::Boards {
             level,
@@ -164,6 +173,7 @@ fn run_question<
             farthest,
             every,
             count,
+            unverified,
         } => {
             let query = BoardsQuery {
                 level,
@@ -172,6 +182,7 @@ fn run_question<
                 farthest,
                 every,
                 count,
+                unverified,
             };
             run_boards(rt, folder, alloc, &query, output)
         }
@@ -219,12 +230,11 @@ fn is_unverified(question: Question<'_>) -> bool {
     match question {
         Question::Ask { unverified, .. }
         | Question::Moves { unverified, .. }
-        | Question::Line { unverified, .. } => unverified,
-        Question::Verify { .. }
-        | Question::Text { .. }
-        | Question::Serve { .. }
-        | Question::Counts { .. }
-        | Question::Boards { .. } => false,
+        | Question::Line { unverified, .. }
+        | Question::Serve { unverified, .. }
+        | Question::Counts { unverified, .. }
+        | Question::Boards { unverified, .. } => unverified,
+        Question::Verify { .. } | Question::Text { .. } => false,
     }
 }
 

@@ -150,8 +150,8 @@ const LEVEL_1: &str = "\
 1,0,0,0,0,0/0,0,0,0,0,0 1 - 0
 ";
 
-/// Levels in numbers, and those that are not there.
-const COUNTS: [Line; 8] = [
+/// Levels in numbers, verified or not, and those that are not there.
+const COUNTS: [Line; 11] = [
     (
         &["awari", "build", "2", "--folder", COUNTED],
         LEVELS_0_TO_2,
@@ -174,6 +174,21 @@ distance 0 boards 1
         1,
     ),
     (&["awari", "counts", COUNTED, "25"], "", 2),
+    (
+        &["awari", "counts", COUNTED, "--unverified"],
+        LEVELS_0_TO_2,
+        0,
+    ),
+    (
+        &["awari", "counts", COUNTED, "2", "--unverified"],
+        LEVEL_2,
+        0,
+    ),
+    (
+        &["awari", "counts", COUNTED, "3", "--unverified"],
+        "refused 59 NotYet levels 3\n",
+        1,
+    ),
     (&["awari", "counts", NOWHERE], "", 0),
     (&["awari", "verify", NOWHERE], NO_LEVELS, 0),
 ];
@@ -185,8 +200,9 @@ fn levels_are_counted(rt: HostRuntime) -> io::Result<()> {
 
 const LISTED: &str = "awari_cli_test_boards";
 
-/// Boards of a level: all, those of some values and distances, some of these, and how many.
-const BOARDS: [Line; 17] = [
+/// Boards of a level: all, those of some values and distances, some of these, and how many; verified or
+/// not.
+const BOARDS: [Line; 21] = [
     (
         &["awari", "build", "2", "--folder", LISTED],
         LEVELS_0_TO_2,
@@ -278,6 +294,26 @@ const BOARDS: [Line; 17] = [
     ),
     (
         &["awari", "text", LISTED, "3", "--boards"],
+        "refused 59 NotYet levels 3\n",
+        1,
+    ),
+    (
+        &["awari", "boards", LISTED, "1", "--unverified"],
+        LEVEL_1,
+        0,
+    ),
+    (
+        &["awari", "boards", LISTED, "2", "--farthest", "--unverified"],
+        "0,0,1,0,0,1/0,0,0,0,0,0 -2 5 9\n0,1,0,0,0,0/1,0,0,0,0,0 -2 1 9\n",
+        0,
+    ),
+    (
+        &["awari", "boards", LISTED, "2", "--count", "--unverified"],
+        "78\n",
+        0,
+    ),
+    (
+        &["awari", "boards", LISTED, "3", "--unverified"],
         "refused 59 NotYet levels 3\n",
         1,
     ),

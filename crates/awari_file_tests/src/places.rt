@@ -4,7 +4,9 @@ use crate::expect::expect_equal;
 use crate::folders::{empty_folder, host, lay};
 use crate::levels::{changed, right_file, right_shelf, save_two};
 use crate::memory::MemoryFolder;
-use crate::plain::{line_in, longest_in, look_up, memory_folder, refuse};
+use crate::plain::{
+    entries_of_level_2, level_of, limit_of_level_2, line_in, longest_in, look_up, memory_folder, refuse,
+};
 use awari_board::Board;
 use awari_file::FileFault;
 use awari_folder::FolderFault;
@@ -182,5 +184,26 @@ fn each_call_of_a_look_up_is_refused(rt: HostRuntime) -> Result<(), Fail> {
     refuse(&mut folder, 5);
     let right = shelf.entry(&board)?;
     expect_equal(&rt, "behind it", look_up(&mut folder, board), Ok(right));
+    Ok(())
+}
+
+#[test]
+fn entries_are_read_many_at_once(rt: HostRuntime) -> Result<(), Fail> {
+    let right = right_file(rt.alloc(), 2)?;
+    lay_all(&rt, "level_02.awdb", &right)?;
+    let mut folder = host(&rt, PLACES);
+    let shelf = right_shelf(rt.alloc())?;
+    let level = level_of(&shelf, 2)?;
+    let entries = entries_of_level_2(rt.alloc(), &mut folder)?;
+    let wanted = level.to_vec(rt.alloc())?;
+    expect_equal(&rt, "entries", entries.as_slice() == wanted.as_slice(), true);
+    let limit = limit_of_level_2(&mut folder);
+    expect_equal(&rt, "limit", limit, Ok(level.limit()));
+    let file = changed(rt.alloc(), &right, 53, 6)?;
+    lay_all(&rt, "level_02.awdb", &file)?;
+    let fault = FileFault::EntryForm;
+    let refused = Some(FolderFault::File { level: 2, fault });
+    let entries = entries_of_level_2(rt.alloc(), &mut host(&rt, PLACES)).err();
+    expect_equal(&rt, "no entry", entries, refused);
     Ok(())
 }

@@ -8,7 +8,8 @@ use awari_file::{FileFault, Loaded, compare_level, read_image, write_level};
 use awari_folder::{
     Alone, Folder, FolderFault, Migrated, Stored, load, migrate, save, save_or_keep,
 };
-use awari_places::{best_line, entry, longest_line, open_levels};
+use awari_places::{Run, best_line, entry, entry_in_run, limit_in_header, longest_line, open_levels};
+use awari_rank::size;
 use awari_table::{Counted, Entry, HIGHEST_LEVEL, Image, Level, Shelf, TableText};
 use awari_verify::{VerifyFault, verify};
 use std::alloc::Global;
@@ -164,4 +165,22 @@ pub(crate) fn longest_in(
         return Err(FolderFault::Below { level: levels });
     }
     longest_line(alloc, folder, levels, board)
+}
+
+/// The entries of level 2, read many at once.
+pub(crate) fn entries_of_level_2(
+    alloc: Global,
+    folder: &mut impl Folder,
+) -> Result<Vec<Entry>, FolderFault> {
+    let mut run = Run::new();
+    let mut entries = Vec::new(alloc);
+    for rank in 0..size(2) {
+        entries.push(entry_in_run(folder, &mut run, 2, rank)?)?;
+    }
+    Ok(entries)
+}
+
+/// The limit of level 2, by its header.
+pub(crate) fn limit_of_level_2(folder: &mut impl Folder) -> Result<u32, FolderFault> {
+    limit_in_header(folder, 2)
 }

@@ -1,5 +1,5 @@
 -- What a level's header and its length say, read from the first bytes of its file.
-use Rattle.std.proofs.Common.{◌≡◌, ℕ, ◌+◌, ◌<◌, ◌≤◌, ◌⊎◌, ◌==◌, if◌then◌else◌, cond, Bool, true, false, nat_lt, List, [], ◌∷◌, length, take, drop, max, Option, Some, None, Result, Ok, Err, refl, sym, ap, subst, ◌∙◌, arith, inl, inr, map}
+use Rattle.std.proofs.Common.{◌≡◌, ℕ, ◌+◌, ◌<◌, ◌≤◌, ◌⊎◌, ◌==◌, if◌then◌else◌, cond, Bool, true, false, nat_lt, List, [], ◌∷◌, length, slice_get, take, drop, max, Option, Some, None, Result, Ok, Err, refl, sym, ap, subst, ◌∙◌, arith, inl, inr, map}
 use Rattle.std.specs.List.{range_with_len}
 use Rattle.std.specs.Prelude.{IsOk, IsSomeAnd}
 use Rattle.std.proofs.lemmas.Bool.{cases_lt, lt-ltb}
@@ -19,7 +19,8 @@ use Rattle.awari_folder.specs.declared.faults.FolderFault.TheVariants.{Below, Fi
 use Rattle.awari_folder.specs.Contents.{IsOfFile, Reads}
 use Rattle.awari_places.specs.declared.opening.Opened.{Opened}
 use Rattle.awari_places.specs.Opening.{AreFramed, IsFrame, IsFrameFault, IsFramed, IsOpenFault, framed_by, framed_of, framed_in, length_of}
-use Rattle.awari_places.specs.Places.{image_in, image_named, images_in, limit_in, limit_or_none}
+use Rattle.awari_places.specs.Places.{Says, image_in, image_named, images_in, limit_in, limit_or_none}
+use Rattle.awari_places.proofs.Reading.{image_got}
 use Rattle.awari_places.proofs.Saying.{some_of}
 
 -- what follows the header is of no matter
@@ -86,11 +87,17 @@ limit_framed level size limit (Ok found) h =
     let e = after_guard (nat_lt (length_of level) size) (File level faults.Trailing) _ limit d in
     cc
 
-image_limit : (names : ℕ → Option (List ℕ)) (level limit : ℕ) → IsFrame level (names level) (Some limit) → (image_named names level).limit ≡ limit
+pub image_limit : (names : ℕ → Option (List ℕ)) (level limit : ℕ) → IsFrame level (names level) (Some limit) → (image_named names level).limit ≡ limit
 unfolding image_in limit_in
 image_limit names level limit frame =
     let (bytes, there, is) = some_of (names level) (λ bytes. framed_in level bytes ≡ Ok limit) frame in
     ap (λ (o : Option (List ℕ)). (image_in level o).limit) there ∙ limit_framed level (length bytes) limit (header_at faults.Truncated bytes) (after_guard (nat_lt (length bytes) 52) (File level faults.Truncated) _ limit is)
+
+-- what the files say of the limit
+pub limit_said : (stands : ℕ → Option (Option (List ℕ))) (levels level limit : ℕ) (images : List Image) (says : Says stands levels images) → level < levels → IsFrame level (says.names level) (Some limit)
+    → IsSomeAnd (slice_get images level) (λ image. limit ≡ image.limit)
+limit_said stands levels level limit images says low frame =
+    subst (λ (o : Option Image). IsSomeAnd o (λ image. limit ≡ image.limit)) (sym (image_got stands levels level images says low)) (sym (image_limit says.names level limit frame))
 
 framed_now : (names : ℕ → Option (List ℕ)) (level limit : ℕ) → IsFrame level (names level) (Some limit) → IsFramed names level
 framed_now names level limit frame =

@@ -3,3 +3,4 @@ pub mod Saying
 pub mod Reading
 pub mod Framing
 pub mod Playing
+pub mod Running

@@ -1,7 +1,8 @@
 -- What is known of an entry that was read at its place, and of the file's frame.
-use Rattle.std.proofs.Common.{Bool, true, false, ◌≡◌, ℕ, ◌<◌, List, get_or, length, sum, Option, Some, Result, Ok, Err, sym, ap, subst, ◌∙◌, arith}
+use Rattle.std.proofs.Common.{Bool, true, false, ◌≡◌, ℕ, ◌<◌, List, get_or, length, slice_get, sum, Option, Some, Result, Ok, Err, sym, ap, subst, ◌∙◌, arith}
 use Rattle.std.specs.Prelude.{IfErr, IfOk, IsSomeAnd}
 use Rattle.std.proofs.lemmas.List.FromFn.{get_or-map-range_with_len, length-map-range_with_len}
+use Rattle.std.proofs.lemmas.Option.{slice_get-get_or}
 use Rattle.awari_rank.specs.Rank.{rank_of, size_of}
 use Rattle.awari_table.specs.Images.{entry_of, no_entry, no_image}
 use Rattle.awari_table.specs.declared.images.Entry.{Entry}
@@ -30,11 +31,14 @@ not_open (Err Memory) old new h same = same
 not_open (Err (Occupied level)) old new h same = same
 not_open (Err (Old level)) old new h same = same
 
+abbrev some_image : Image → Option Image
+some_image i = Some i
+
 image_there : (names : ℕ → Option (List ℕ)) (levels level : ℕ) → level < levels → get_or (images_in names levels) level no_image ≡ image_in level (names level)
 unfolding images_in
 image_there names levels level lt = get_or-map-range_with_len (image_named names) 0 levels level level no_image lt (omega arith)
 
-entry_there : (level rank : ℕ) (bytes : List ℕ) → rank < size_of level → get_or (image_in level (Some bytes)).entries rank no_entry ≡ entry_in bytes rank
+pub entry_there : (level rank : ℕ) (bytes : List ℕ) → rank < size_of level → get_or (image_in level (Some bytes)).entries rank no_entry ≡ entry_in bytes rank
 unfolding image_in
 entry_there level rank bytes lt = get_or-map-range_with_len (entry_in bytes) 0 (size_of level) rank rank no_entry lt (omega arith)
 
@@ -63,6 +67,13 @@ entry_said_at stands levels images p level rank (Ok e) says stones ranked low be
 pub levels_said : (stands : ℕ → Option (Option (List ℕ))) (levels : ℕ) (images : List Image) → Says stands levels images → length images ≡ levels
 unfolding images_in
 levels_said stands levels images says = ap length says.said ∙ length-map-range_with_len (image_named says.names) 0 levels
+
+pub image_got : (stands : ℕ → Option (Option (List ℕ))) (levels level : ℕ) (images : List Image) (says : Says stands levels images) → level < levels
+    → slice_get images level ≡ Some (image_in level (says.names level))
+image_got stands levels level images says low =
+    slice_get-get_or images level no_image (omega (arith, low, levels_said stands levels images says))
+    ∙ ap (λ (l : List Image). some_image (get_or l level no_image)) says.said
+    ∙ ap some_image (image_there says.names levels level low)
 
 -- what files say that did not change
 pub still_says : (old new : ℕ → Option (Option (List ℕ))) (levels : ℕ) (images : List Image) → Same old new → Says old levels images → Says new levels images

@@ -1,3 +1,4 @@
 pub mod Places
 pub mod Opening
 pub mod Judging
+pub mod Runs

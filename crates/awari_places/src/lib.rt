@@ -17,19 +17,23 @@
 
 mod entries;
 mod judging;
+mod kept;
 mod laws;
 mod lines;
 mod longest;
 mod opening;
 mod plies;
 mod replies;
+mod runs;
 mod weighing;
 mod worths;
 
 pub use entries::entry;
+pub use kept::Run;
 pub use laws::{right_files_are_opened, right_files_say_their_shelf};
 pub use lines::best_line;
 pub use longest::longest_line;
-pub use opening::{Opened, open_levels};
+pub use opening::{Opened, limit_in_header, open_levels};
 pub use plies::line_plies;
+pub use runs::entry_in_run;
 pub use weighing::weigh;

@@ -1,10 +1,12 @@
 //! The levels whose files are there, by their headers and lengths.
 
-ghost use Rattle.std.specs.Prelude.{◌≡◌, ◌≤◌, ◌+◌, ℕ, List, Option, Some, IfErr, IfOk, MatchResult, max};
+ghost use Rattle.std.specs.Prelude.{◌≡◌, ◌<◌, ◌≤◌, ◌+◌, ℕ, List, Option, Some, IfErr, IfOk, IsSomeAnd, MatchResult, max, slice_get};
 ghost use Rattle.awari_table.specs.declared.TheConstants.{HIGHEST_LEVEL};
 ghost use Rattle.awari_folder.specs.Contents.{AreNames, IsOfFile};
-ghost use Rattle.awari_folder.specs.State.{OnlyReads};
+ghost use Rattle.awari_folder.specs.State.{OnlyReads, Unchanged};
+ghost use Rattle.awari_table.specs.declared.images.Image.{Image};
 ghost use Rattle.awari_places.specs.Opening.{AreFramed, IsFrame, IsFrameFault, IsOpenFault, framed_of, length_of};
+ghost use Rattle.awari_places.specs.Places.{Says};
 
 use awari_file::{ENTRY_LEN, FileFault, HEADER_LEN, OLD_VERSION, header_of};
 use awari_folder::{Folder, FolderFault, Refusal};
@@ -63,6 +65,24 @@ fn with_level(opened: Opened, limit: u32) -> Opened
     Opened {
         levels: opened.levels + 1,
         limit: opened.limit.max(limit),
+    }
+}
+
+/// The limit in the header of a level's file. It takes memory for a name. It is refused as
+/// [`open_levels`] is of this file, and as 81 with 68 if there is no file.
+pub fn limit_in_header<F: Folder>(folder: &mut F, level: u8) -> Result<u32, FolderFault>
+    requires { level ≤ HIGHEST_LEVEL }
+    ensures limit { (levels : ℕ) (images : List Image) → Says (F.state folder.old).stands levels images → level < levels
+        → IfOk result (λ limit. IsSomeAnd (slice_get images level) (λ image. limit ≡ image.limit)) }
+    ensures same { Unchanged (F.state folder.old) (F.state folder.new) }
+{
+    match frame_of(folder, level) {
+        Ok(Some(limit)) => Ok(limit),
+        Ok(None) => Err(FolderFault::File {
+            level,
+            fault: FileFault::Read,
+        }),
+        Err(fault) => Err(fault),
     }
 }
 

@@ -3,14 +3,13 @@ use Rattle.std.proofs.Common.{◌≡◌, ℕ, ◌+◌, ◌%◌, ◌==◌, ◌<�
 use Rattle.std.proofs.lemmas.Bool.Decides.{nat_tests}
 use Rattle.std.proofs.lemmas.List.{append-nil, length-append, take_all}
 use Rattle.std.proofs.lemmas.List.Elements.{filter-append}
-use Rattle.std.proofs.lemmas.Option.{get_or_from_slice_get}
 use Rattle.awari_board.specs.Rules.{IsBoard}
 use Rattle.awari_rank.proofs.Ranking.{listed_board}
 use Rattle.awari_rank.proofs.Reaching.{board_reached}
 use Rattle.awari_rank.specs.Rank.{rank_of, size_of}
 use Rattle.awari_rank.specs.Tuples.{tuples}
 use Rattle.awari_table.proofs.ShelfLemmas.{entry_of-read, take-read}
-use Rattle.awari_table.specs.Images.{entry_of, no_image}
+use Rattle.awari_table.specs.Images.{entry_of}
 use Rattle.awari_table.specs.declared.images.Entry.{Entry}
 use Rattle.awari_table.specs.declared.images.Image.{Image}
 use Rattle.awari_questions.specs.Listing.{each, limit_of, passes, passing, wanted_boards}
@@ -73,9 +72,6 @@ pick k passed next front x true due before count is =
       ap (λ b. each k 0 front ++ cond b (x ∷ []) []) (is ∙ ap (λ n. n % k == 0) place) ∙ sym (each-push k 0 front x),
     )
 
-pub limit_is : (images : List Image) (level : ℕ) (image : Image) (limit : ℕ) → slice_get images level ≡ Some image → limit ≡ image.limit → limit ≡ limit_of images level
-limit_is images level image limit found is = is ∙ ap (λ (m : Image). m.limit) (sym (get_or_from_slice_get images level image no_image found))
-
 -- what is known of the board of a rank: whether it passes is counted, and whether it is due
 pub record Weighs (wanted : Wanted) (images : List Image) (level passed next : ℕ) (e : Entry) (due : Bool) : Type 0 where
   pub count : next ≡ passed + cond (passes wanted (limit_of images level) e) 1 0
@@ -89,12 +85,9 @@ weighs wanted images level passed next limit e due limited count is = record {
 }
 
 -- no more pass than there are
-pub weighs-few : (wanted : Wanted) (images : List Image) (level rank passed next : ℕ) (e : Entry) (due : Bool) → Weighs wanted images level passed next e due → passed ≤ rank → next ≤ rank + 1
-weighs-few wanted images level rank passed next e due weighed few = go (passes wanted (limit_of images level) e) weighed.count
-  where
-    go : (b : Bool) → next ≡ passed + cond b 1 0 → next ≤ rank + 1
-    go true is = omega (arith, is, few)
-    go false is = omega (arith, is, few)
+pub few-more : (passed next rank : ℕ) (b : Bool) → next ≡ passed + cond b 1 0 → passed ≤ rank → next ≤ rank + 1
+few-more passed next rank true is few = omega (arith, is, few)
+few-more passed next rank false is few = omega (arith, is, few)
 
 pub chosen-more : (wanted : Wanted) (images : List Image) (level rank passed next : ℕ) (boards : List (List ℕ)) (board : List ℕ) (e : Entry) (due : Bool) → Chosen wanted images level rank passed boards
     → IsAt images level rank board e → Weighs wanted images level passed next e due

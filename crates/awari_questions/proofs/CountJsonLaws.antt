@@ -1,5 +1,5 @@
 -- Numbers of levels as JSON, by the parts that are written.
-use Rattle.std.proofs.Common.{◌≡◌, ℕ, ℤ, List, [], ◌∷◌, ◌++◌, codes, append_assoc, ap}
+use Rattle.std.proofs.Common.{◌≡◌, ℕ, ℤ, List, [], ◌++◌, codes, append_assoc, ap}
 use Rattle.std.proofs.lemmas.List.{append-nil}
 use Rattle.std.specs.Fmt.{decimal, signed_decimal}
 use Rattle.awari_answers.specs.declared.telling.LevelLine.{LevelLine}

@@ -1,5 +1,5 @@
 -- Lines of numbers of boards, one after the other.
-use Rattle.std.proofs.Common.{◌≡◌, ℕ, ◌+◌, ◌==◌, ◌<◌, Bool, true, false, cond, List, [], ◌∷◌, ◌++◌, Option, refl, sym, ◌∙◌, ap, subst, arith}
+use Rattle.std.proofs.Common.{◌≡◌, ℕ, ◌+◌, ◌==◌, ◌<◌, Bool, true, false, cond, List, [], ◌∷◌, ◌++◌, slice_get, take, Option, refl, sym, ◌∙◌, ap, subst, arith}
 use Rattle.std.proofs.KnownBytes.{Appends-trans}
 use Rattle.std.proofs.lemmas.Bool.Decides.{nat_tests}
 use Rattle.std.proofs.lemmas.Grind.{flat_map-append}
@@ -11,6 +11,11 @@ use Rattle.awari_table.specs.declared.images.Entry.{Entry}
 use Rattle.awari_table.specs.declared.images.Image.{Image}
 use Rattle.awari_answers.specs.LevelLines.{IsToldOf}
 use Rattle.awari_answers.specs.declared.telling.LevelLine.{LevelLine}
+use Rattle.std.specs.Prelude.{IsSomeAnd}
+use Rattle.awari_table.proofs.ShelfLemmas.{take-read}
+use Rattle.awari_questions.proofs.SourceLaws.{image_of}
+use Rattle.awari_questions.specs.Numbers.{AreNumbersOf}
+use Rattle.awari_questions.specs.declared.counts.Numbers.{Numbers}
 use Rattle.awari_questions.specs.Counts.{boards_of_distance, boards_of_value, count_lines, distance_lines, share_line, shown_distance, shown_level, shown_levels, shown_told, shown_value, value_at, value_lines}
 
 range-more : (n : ℕ) → range_with_len 0 (n + 1) ≡ range_with_len 0 n ++ n ∷ []
@@ -76,3 +81,11 @@ pub shown_levels-push : (json : Bool) (images : List Image) (image : Image) (tol
 shown_levels-push json images image told tells =
     flat_map-append (λ image. shown_level json image ++ 10 ∷ []) images (image ∷ [])
     ∙ ap (λ t. shown_levels json images ++ t) (append-nil (shown_level json image ++ 10 ∷ []) ∙ ap (λ t. t ++ 10 ∷ []) (sym (shown_is json image told tells)))
+
+-- the line of the next level
+pub level-line : (json : Bool) (images : List Image) (number : ℕ) (numbers : Numbers) (before now after : Option (List ℕ)) → IsSomeAnd (slice_get images number) (λ image. AreNumbersOf image numbers)
+    → Appends before now (shown_levels json (take number images)) → Appends now after (shown_told json numbers.told ++ 10 ∷ []) → Appends before after (shown_levels json (take (number + 1) images))
+level-line json images number numbers before now after there so_far line =
+    let (image, found, are) = image_of (slice_get images number) (λ image. AreNumbersOf image numbers) there in
+    let lines = ap (shown_levels json) (take-read images number image found) ∙ shown_levels-push json (take number images) image numbers.told are.told in
+    subst (Appends before after) (sym lines) (Appends-trans before now after _ _ so_far line)

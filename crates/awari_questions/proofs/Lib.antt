@@ -2,6 +2,8 @@ pub mod PlayLaws
 pub mod ChoiceLaws
 pub mod ListingLaws
 pub mod ShareLaws
+pub mod SourceLaws
+pub mod TallyLaws
 pub mod CountLaws
 pub mod CountJsonLaws
 pub mod SpanLaws

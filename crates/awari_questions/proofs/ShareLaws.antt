@@ -1,12 +1,12 @@
 -- Boards of a level counted by a key.
-use Rattle.std.proofs.Common.{◌≡◌, ℕ, zero, suc, ◌+◌, ◌-◌, ◌==◌, ◌<◌, ◌≤◌, Bool, true, false, cond, List, [], ◌∷◌, length, take, get_or, set, count_by, fold, max, sum, All, neg_ℤ, ◌≤ℤ◌, replicate, Some, slice_get, ℤ, pos, negsuc, int_lt, refl, sym, ◌∙◌, ap, subst, inl, inr, arith}
+use Rattle.std.proofs.Common.{◌≡◌, ℕ, zero, suc, ◌+◌, ◌-◌, ◌==◌, ◌<◌, ◌≤◌, Bool, true, false, cond, List, [], ◌∷◌, ◌++◌, length, take, get_or, set, count_by, fold, max, sum, All, neg_ℤ, ◌≤ℤ◌, replicate, Some, slice_get, ℤ, pos, negsuc, int_lt, refl, sym, ◌∙◌, ap, subst, inl, inr, arith}
 use Rattle.std.proofs.lemmas.Bool.{cases_lt}
 use Rattle.std.proofs.lemmas.Bool.Decides.{nat_tests}
 use Rattle.std.proofs.lemmas.Int.{ints}
-use Rattle.std.proofs.lemmas.List.{get_or-set_other, get_or-set_same, length-set, length-take-le, take_all}
+use Rattle.std.proofs.lemmas.List.{get_or-set_other, get_or-set_same, length-set, length-take-le}
 use Rattle.std.proofs.lemmas.List.Elements.{All-from_get_or, All-head, All-tail}
-use Rattle.std.proofs.lemmas.List.Sums.{count_by-le-length, sum_by-cons, sum_by_more}
-use Rattle.std.proofs.lemmas.Option.{get_or_from_slice_get, slice_get-get_or, slice_get_within}
+use Rattle.std.proofs.lemmas.List.Sums.{count_by-le-length, sum_by-append, sum_by-cons}
+use Rattle.std.proofs.lemmas.Option.{slice_get-get_or, slice_get_within}
 use Rattle.std.specs.Ordering.{int_eq}
 use Rattle.awari_board.specs.Rules.{IsBoard}
 use Rattle.awari_rank.proofs.Counting.{total_same}
@@ -20,19 +20,14 @@ use Rattle.awari_table.specs.declared.images.Image.{Image}
 use Rattle.awari_table.specs.Images.{entry_of, even_boards, greatest_dist, lost_boards, no_entry, won_boards}
 use Rattle.awari_table.specs.declared.images.Entry.{Entry}
 use Rattle.awari_questions.specs.Counts.{boards_of_distance, boards_of_value, value_at}
+use Rattle.awari_questions.specs.Tallies.{AreCounted}
 
--- the first entries are counted, by each key below n
-pub record Shared (test : ℕ → Entry → Bool) (entries : List Entry) (rank n : ℕ) (counts : List ℕ) : Type 0 where
-  pub keys : length counts ≡ n
-  pub counted : (k : ℕ) → k < n → get_or counts k 0 ≡ count_by (test k) (take rank entries)
+pub counted-none : (test : ℕ → Entry → Bool) (n : ℕ) (counts : List ℕ) → length counts ≡ n → ((k : ℕ) → k < n → get_or counts k 0 ≡ 0) → AreCounted test n [] counts
+counted-none test n counts long zeros = record { long = long; each = zeros }
 
-pub shared-none : (test : ℕ → Entry → Bool) (entries : List Entry) (n : ℕ) (counts : List ℕ) → length counts ≡ n → ((k : ℕ) → k < n → get_or counts k 0 ≡ 0) → Shared test entries 0 n counts
-shared-none test entries n counts keys zeros = record { keys = keys; counted = zeros }
-
--- a number stays below the entries that were counted
-pub shared-few : (test : ℕ → Entry → Bool) (entries : List Entry) (rank n : ℕ) (counts : List ℕ) (j : ℕ) → Shared test entries rank n counts → rank ≤ length entries → j < n → get_or counts j 0 ≤ rank
-shared-few test entries rank n counts j so_far inside below =
-    omega (arith, so_far.counted j below, count_by-le-length (test j) (take rank entries), length-take-le rank entries inside)
+-- no number is above that of the entries
+pub counted-few : (test : ℕ → Entry → Bool) (n : ℕ) (entries : List Entry) (counts : List ℕ) (j : ℕ) → AreCounted test n entries counts → j < n → get_or counts j 0 ≤ length entries
+counted-few test n entries counts j are below = omega (arith, are.each j below, count_by-le-length (test j) entries)
 
 get_or-set-cases : (xs : List ℕ) (j k v : ℕ) → j < length xs → get_or (set xs j v) k 0 ≡ cond (j == k) v (get_or xs k 0)
 get_or-set-cases xs j k v inside = go (j == k) refl
@@ -43,34 +38,29 @@ get_or-set-cases xs j k v inside = go (j == k) refl
         ap (λ i. get_or (set xs j v) i 0) same ∙ get_or-set_same xs j v 0 inside
     go false e = get_or-set_other xs j k v 0 (λ same. grind (arith, nat_tests))
 
--- the entry of a rank, whose key is j
-pub shared-more : (test : ℕ → Entry → Bool) (entries : List Entry) (rank n : ℕ) (counts next : List ℕ) (j : ℕ) (e : Entry) → Shared test entries rank n counts → slice_get entries rank ≡ Some e → j < n
-    → ((k : ℕ) → test k e ≡ (j == k)) → next ≡ set counts j (get_or counts j 0 + 1) → Shared test entries (rank + 1) n next
-shared-more test entries rank n counts next j e so_far here below key is = record {
-  keys = ap length is ∙ length-set counts j (get_or counts j 0 + 1) ∙ so_far.keys;
-  counted = counted;
+count_by-push : (p : Entry → Bool) (es : List Entry) (e : Entry) → count_by p (es ++ e ∷ []) ≡ count_by p es + cond (p e) 1 0
+count_by-push p es e = omega (arith, sum_by-append (λ x. cond (p x) 1 0) es (e ∷ []), sum_by-cons (λ x. cond (p x) 1 0) e [])
+
+-- one entry more, whose key is j
+pub counted-more : (test : ℕ → Entry → Bool) (n : ℕ) (entries : List Entry) (counts next : List ℕ) (j : ℕ) (e : Entry) → AreCounted test n entries counts → j < n → ((k : ℕ) → k < n → test k e ≡ (j == k))
+    → next ≡ set counts j (get_or counts j 0 + 1) → AreCounted test n (entries ++ e ∷ []) next
+counted-more test n entries counts next j e are below key is = record {
+  long = ap length is ∙ length-set counts j (get_or counts j 0 + 1) ∙ are.long;
+  each = each;
 }
   where
-    here_or : get_or entries rank e ≡ e
-    here_or = get_or_from_slice_get entries rank e e here
-
-    add : (k : ℕ) (b : Bool) → k < n → (j == k) ≡ b → cond b (get_or counts j 0 + 1) (get_or counts k 0) ≡ count_by (test k) (take rank entries) + cond b 1 0
+    add : (k : ℕ) (b : Bool) → k < n → (j == k) ≡ b → cond b (get_or counts j 0 + 1) (get_or counts k 0) ≡ count_by (test k) entries + cond b 1 0
     add k true below_k same =
         let equal : j ≡ k = grind (arith, nat_tests) in
-        ap (λ i. get_or counts i 0 + 1) equal ∙ ap (λ m. m + 1) (so_far.counted k below_k)
-    add k false below_k same = omega (arith, so_far.counted k below_k)
+        ap (λ i. get_or counts i 0 + 1) equal ∙ ap (λ m. m + 1) (are.each k below_k)
+    add k false below_k same = omega (arith, are.each k below_k)
 
-    counted : (k : ℕ) → k < n → get_or next k 0 ≡ count_by (test k) (take (rank + 1) entries)
-    counted k below_k =
-        ap (λ xs. get_or xs k 0) is ∙ get_or-set-cases counts j k (get_or counts j 0 + 1) (omega (arith, so_far.keys))
+    each : (k : ℕ) → k < n → get_or next k 0 ≡ count_by (test k) (entries ++ e ∷ [])
+    each k below_k =
+        ap (λ xs. get_or xs k 0) is ∙ get_or-set-cases counts j k (get_or counts j 0 + 1) (omega (arith, are.long, below))
         ∙ add k (j == k) below_k refl
-        ∙ ap (λ b. count_by (test k) (take rank entries) + cond b 1 0) (sym (key k))
-        ∙ ap (λ x. count_by (test k) (take rank entries) + cond (test k x) 1 0) (sym here_or)
-        ∙ sym (sum_by_more (λ x. cond (test k x) 1 0) entries rank e (slice_get_within entries rank e here))
-
-pub shared-all : (test : ℕ → Entry → Bool) (entries : List Entry) (rank n : ℕ) (counts : List ℕ) → Shared test entries rank n counts → rank ≡ length entries
-    → (k : ℕ) → k < n → get_or counts k 0 ≡ count_by (test k) entries
-shared-all test entries rank n counts all is k below = all.counted k below ∙ ap (count_by (test k)) (take_all rank entries (omega (arith, is)))
+        ∙ ap (λ b. count_by (test k) entries + cond b 1 0) (sym (key k below_k))
+        ∙ sym (count_by-push (test k) entries e)
 
 -- a value by its number
 pub value_key : (j k : ℕ) → int_eq (value_at j) (value_at k) ≡ (j == k)

@@ -9,6 +9,7 @@ use Rattle.awari_table.specs.declared.TheConstants.{HIGHEST_LEVEL}
 use Rattle.awari_table.specs.declared.images.Image.{Image}
 use Rattle.awari_questions.specs.Listing.{board_lines, wanted_boards}
 use Rattle.awari_questions.specs.Loads.{HasLevel}
+use Rattle.awari_questions.specs.Sources.{IsSaidOf}
 use Rattle.awari_questions.specs.Spans.{AsksFor}
 use Rattle.awari_questions.specs.declared.boards.BoardsQuery.{BoardsQuery}
 use Rattle.awari_questions.specs.declared.listing.Wanted.{Wanted}
@@ -30,6 +31,17 @@ AppendsWanted false images level wanted before after = Appends before after (boa
 abbrev pub PrintsBoards : (ℕ → Option (Option (List ℕ))) → BoardsQuery → Option (List ℕ) → Option (List ℕ) → Type 0
 PrintsBoards stands query before after = (images : List Image) × (wanted : Wanted) × HasLevel query.level stands images × IsWanted query wanted
     × AppendsWanted query.count images query.level wanted before after
+
+-- Where it is known what has the names, and what the writer holds, that was written of the boards that the query asks for, by what
+-- the files say, whether that is right or not.
+abbrev pub PrintsBoardsSaid : (ℕ → Option (Option (List ℕ))) → BoardsQuery → Option (List ℕ) → Option (List ℕ) → Type 0
+PrintsBoardsSaid stands query before after = (wanted : Wanted) × IsWanted query wanted
+    × IsSaidOf query.level stands (λ images. AppendsWanted query.count images query.level wanted before after)
+
+-- The one or the other.
+abbrev pub PrintsBoardsBy : Bool → (ℕ → Option (Option (List ℕ))) → BoardsQuery → Option (List ℕ) → Option (List ℕ) → Type 0
+PrintsBoardsBy false = PrintsBoards
+PrintsBoardsBy true = PrintsBoardsSaid
 
 -- the boards of all levels: `tuples 12 level` are the boards of so many stones in lexicographic order
 abbrev pub all_lines : List Image → List ℕ

@@ -1,5 +1,5 @@
 -- The command `counts`: how many boards of a level have each value and each distance, and what is printed of that.
-use Rattle.std.specs.Prelude.{◌≡◌, ℕ, ◌+◌, ◌==◌, if◌then◌else◌, Bool, true, false, List, length, ◌++◌, ◌∷◌, [], count_by, slice_get, codes, ℤ, pos, ◌-ℤ◌, Option, Some, None}
+use Rattle.std.specs.Prelude.{◌≡◌, ℕ, ◌+◌, ◌==◌, if◌then◌else◌, Bool, true, false, List, length, ◌++◌, ◌∷◌, [], count_by, slice_get, codes, ℤ, pos, ◌-ℤ◌, Option, Some, None, IsSomeAnd}
 use Rattle.std.specs.Fmt.{decimal, signed_decimal}
 use Rattle.std.specs.Io.KnownBytes.{Appends}
 use Rattle.std.specs.List.{flat_map, range_with_len}
@@ -14,6 +14,7 @@ use Rattle.awari_table.specs.declared.images.Counts.{Counts}
 use Rattle.awari_table.specs.declared.images.Entry.{Entry}
 use Rattle.awari_table.specs.declared.images.Image.{Image}
 use Rattle.awari_questions.specs.Loads.{HasLevel}
+use Rattle.awari_questions.specs.Sources.{AreSaid, IsSaidOf}
 
 -- how many boards have this value, and how many this distance
 abbrev pub boards_of_value : List Entry → ℤ → ℕ
@@ -83,6 +84,21 @@ abbrev pub PrintsCounts : Bool → (ℕ → Option (Option (List ℕ))) → Opti
 PrintsCounts json stands None before after = (images : List Image) × AreLevelsTo HIGHEST_LEVEL stands images × Appends before after (shown_levels json images)
 PrintsCounts json stands (Some number) before after = (images : List Image) × (image : Image) × HasLevel number stands images × (slice_get images number ≡ Some image)
     × Appends before after (count_lines json image)
+
+-- What was written are the lines of these levels, or all lines of the one of this number.
+abbrev pub AppendsCounts : Bool → Option ℕ → List Image → Option (List ℕ) → Option (List ℕ) → Type 0
+AppendsCounts json None images before after = Appends before after (shown_levels json images)
+AppendsCounts json (Some number) images before after = IsSomeAnd (slice_get images number) (λ image. Appends before after (count_lines json image))
+
+-- The same of what the files say, whether that is right or not; where it is known what the folder's names have.
+abbrev pub PrintsCountsSaid : Bool → (ℕ → Option (Option (List ℕ))) → Option ℕ → Option (List ℕ) → Option (List ℕ) → Type 0
+PrintsCountsSaid json stands None before after = AreSaid HIGHEST_LEVEL stands (λ images. AppendsCounts json None images before after)
+PrintsCountsSaid json stands (Some number) before after = IsSaidOf number stands (λ images. AppendsCounts json (Some number) images before after)
+
+-- The one or the other.
+abbrev pub PrintsCountsBy : Bool → Bool → (ℕ → Option (Option (List ℕ))) → Option ℕ → Option (List ℕ) → Option (List ℕ) → Type 0
+PrintsCountsBy false = PrintsCounts
+PrintsCountsBy true = PrintsCountsSaid
 
 -- Shares within such an object. Private functions alone go by this: no public contract does.
 abbrev pub shares_json : Counts → List ℕ

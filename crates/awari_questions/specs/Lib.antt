@@ -3,7 +3,9 @@ pub mod Boards
 pub mod Counts
 pub mod Listing
 pub mod Loads
+pub mod Numbers
 pub mod Places
 pub mod Plays
-pub mod Shares
+pub mod Sources
 pub mod Spans
+pub mod Tallies

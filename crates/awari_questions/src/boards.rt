@@ -1,18 +1,22 @@
 //! The commands `boards` and `text --boards`: the boards of a level with what is known of them.
 
-ghost use Rattle.std.specs.Prelude.{◌≡◌, ◌≤◌, ◌<◌, true, length, IfOk, OnErr, ◌⊎◌};
+ghost use Rattle.std.specs.Prelude.{◌≡◌, ◌≤◌, ◌<◌, true, List, length, IfOk, Ok, OnErr, ◌⊎◌};
 ghost use Rattle.std.specs.Io.KnownBytes.{Appends};
 ghost use Rattle.awari_folder.specs.Contents.{Same};
-ghost use Rattle.awari_questions.specs.Boards.{AppendsWanted, IsWanted, PrintsAllBoards, PrintsBoards, all_lines};
+ghost use Rattle.awari_folder.specs.State.{Unchanged};
+ghost use Rattle.awari_questions.specs.Boards.{AppendsWanted, IsWanted, PrintsAllBoards, PrintsBoardsBy, all_lines};
 ghost use Rattle.awari_questions.specs.Listing.{board_lines};
+ghost use Rattle.awari_questions.specs.Sources.{IsSaidOf, SaysBy, levels_of};
 ghost use Rattle.awari_questions.specs.Spans.{AsksForNone};
 ghost use Rattle.awari_rank.specs.Tuples.{tuples};
+ghost use Rattle.awari_table.specs.declared.images.Image.{Image};
 
 use crate::listing::{Wanted, count_boards, print_boards};
-use crate::loads::load_to;
+use crate::loads::{load_to, open_to};
+use crate::sources::Source;
 use crate::spans::{NoSpan, asked_span};
 use awari_answers::{Replies, load_levels, print, refuse, status_of};
-use awari_folder::Folder;
+use awari_folder::{Folder, FolderFault};
 use awari_table::{HIGHEST_LEVEL, Shelf};
 use std::alloc::Global;
 use std::io::Write;
@@ -33,6 +37,8 @@ pub struct BoardsQuery<'a> {
     pub every: u32,
     /// How many there are, and not the boards.
     pub count: bool,
+    /// Whether files answer that nobody verified.
+    pub unverified: bool,
 }
 
 /// All boards of a level.
@@ -60,26 +66,33 @@ pub fn wanted_of(query: &BoardsQuery<'_>) -> Result<Wanted, NoSpan>
 }
 
 /// Prints how many boards are wanted, or a line for each, and says whether the writer took that.
-fn print_wanted<W: Write>(
-    shelf: &Shelf,
-    level: u8,
+/// Conditions as for [`print_boards`].
+fn print_wanted<F: Folder, W: Write>(
+    source: Source<'_>,
+    folder: &mut F,
+    query: &BoardsQuery<'_>,
     wanted: &Wanted,
-    count: bool,
     writer: &mut W,
-) -> bool
-    requires level { level < length shelf.now }
+) -> Result<bool, FolderFault>
+    requires level { query.now.level < levels_of source }
+    requires low { query.now.level ≤ HIGHEST_LEVEL }
     requires every { 0 < wanted.now.every }
-    ensures { result ≡ true → AppendsWanted count shelf.now level wanted.now (W.contents writer.old) (W.contents writer.new) }
+    ensures printed { (images : List Image) → SaysBy source.entry (F.state folder.old).stands images → result ≡ Ok true
+        → AppendsWanted query.now.count images query.now.level wanted.now (W.contents writer.old) (W.contents writer.new) }
+    ensures same { Unchanged (F.state folder.old) (F.state folder.new) }
 {
-    if count {
-        print(writer, &count_boards(shelf, level, wanted))
-    } else {
-        print_boards(shelf, level, wanted, writer)
+    if !query.count {
+        return print_boards(source, folder, query.level, wanted, writer);
+    }
+    match count_boards(source, folder, query.level, wanted) {
+        Ok(count) => Ok(print(writer, &count)),
+        Err(fault) => Err(fault),
     }
 }
 
 /// Prints the boards of a level that the query asks for, in order of rank, or how many there are, or the
-/// refusal.
+/// refusal. If it asks for files that nobody verified, they are read once and take no memory but for
+/// names.
 pub fn run_boards<T: Threads + Sync, F: Folder, W: Replies>(
     rt: &T,
     folder: &mut F,
@@ -89,37 +102,83 @@ pub fn run_boards<T: Threads + Sync, F: Folder, W: Replies>(
 ) -> u8
     ensures status { result ≤ 1 }
     ensures same { Same (F.state folder.old).stands (F.state folder.new).stands }
-    ensures found { result ≡ 0 → PrintsBoards (F.state folder.old).stands query.now (W.contents writer.old) (W.contents writer.new) }
+    ensures found { result ≡ 0 → PrintsBoardsBy query.now.unverified (F.state folder.old).stands query.now (W.contents writer.old) (W.contents writer.new) }
 {
     let wanted = match wanted_of(query) {
         Ok(wanted) => wanted,
         Err(fault) => return refuse(writer, fault),
     };
+    if query.unverified {
+        return run_boards_said(folder, query, &wanted, writer);
+    }
     let shelf = match load_to(rt, folder, alloc, query.level) {
         Ok(shelf) => shelf,
         Err(fault) => return refuse(writer, fault),
     };
-    status_of(print_wanted(&shelf, query.level, &wanted, query.count, writer))
+    match print_wanted(Source::Shelf(&shelf), folder, query, &wanted, writer) {
+        Ok(written) => status_of(written),
+        Err(fault) => refuse(writer, fault),
+    }
+}
+
+/// Prints the same by what the files say.
+fn run_boards_said<F: Folder, W: Replies>(
+    folder: &mut F,
+    query: &BoardsQuery<'_>,
+    wanted: &Wanted,
+    writer: &mut W,
+) -> u8
+    requires { 0 < wanted.now.every }
+    ensures status { result ≤ 1 }
+    ensures same { Same (F.state folder.old).stands (F.state folder.new).stands }
+    ensures found { result ≡ 0 → IsSaidOf query.now.level (F.state folder.old).stands
+        (λ images. AppendsWanted query.now.count images query.now.level wanted.now (W.contents writer.old) (W.contents writer.new)) }
+{
+    let opened = match open_to(folder, query.level) {
+        Ok(opened) => opened,
+        Err(fault) => return refuse(writer, fault),
+    };
+    match print_wanted(Source::Files(opened.levels), folder, query, wanted, writer) {
+        Ok(written) => status_of(written),
+        Err(fault) => refuse(writer, fault),
+    }
 }
 
 /// Prints all boards of a level, and says whether the writer took them.
-fn print_level<W: Write>(shelf: &Shelf, level: u8, writer: &mut W) -> bool
+fn print_level<F: Folder, W: Write>(
+    shelf: &Shelf,
+    folder: &mut F,
+    level: u8,
+    writer: &mut W,
+) -> Result<bool, FolderFault>
     requires { level < length shelf.now }
-    ensures { result ≡ true → Appends (W.contents writer.old) (W.contents writer.new) (board_lines shelf.now (tuples 12 level)) }
+    ensures printed { result ≡ Ok true → Appends (W.contents writer.old) (W.contents writer.new) (board_lines shelf.now (tuples 12 level)) }
+    ensures same { Unchanged (F.state folder.old) (F.state folder.new) }
 {
-    print_boards(shelf, level, &ALL, writer)
+    // For the proof: there are at most 25 levels.
+    let _levels = shelf.levels();
+    print_boards(Source::Shelf(shelf), folder, level, &ALL, writer)
 }
 
 /// Prints all boards of all levels, and says whether the writer took them.
-fn print_levels<W: Write>(shelf: &Shelf, writer: &mut W) -> bool
-    ensures { result ≡ true → Appends (W.contents writer.old) (W.contents writer.new) (all_lines shelf.now) }
+fn print_levels<F: Folder, W: Write>(
+    shelf: &Shelf,
+    folder: &mut F,
+    writer: &mut W,
+) -> Result<bool, FolderFault>
+    ensures printed { result ≡ Ok true → Appends (W.contents writer.old) (W.contents writer.new) (all_lines shelf.now) }
+    ensures same { Unchanged (F.state folder.old) (F.state folder.new) }
 {
     for level in 0..shelf.levels() {
-        if !print_level(shelf, level, writer) {
-            return false;
+        let written = match print_level(shelf, folder, level, writer) {
+            Ok(written) => written,
+            Err(fault) => return Err(fault),
+        };
+        if !written {
+            return Ok(false);
         }
     }
-    true
+    Ok(true)
 }
 
 /// Prints all boards of the level of this number, or of all levels in a folder, or the refusal.
@@ -135,13 +194,21 @@ pub fn run_all_boards<T: Threads + Sync, F: Folder, W: Replies>(
     ensures found { result ≡ 0 → PrintsAllBoards (F.state folder.old).stands level (W.contents writer.old) (W.contents writer.new) }
 {
     let Some(level) = level else {
-        return match load_levels(rt, folder, alloc, HIGHEST_LEVEL) {
-            Ok(shelf) => status_of(print_levels(&shelf, writer)),
+        let shelf = match load_levels(rt, folder, alloc, HIGHEST_LEVEL) {
+            Ok(shelf) => shelf,
+            Err(fault) => return refuse(writer, fault),
+        };
+        return match print_levels(&shelf, folder, writer) {
+            Ok(written) => status_of(written),
             Err(fault) => refuse(writer, fault),
         };
     };
-    match load_to(rt, folder, alloc, level) {
-        Ok(shelf) => status_of(print_level(&shelf, level, writer)),
+    let shelf = match load_to(rt, folder, alloc, level) {
+        Ok(shelf) => shelf,
+        Err(fault) => return refuse(writer, fault),
+    };
+    match print_level(&shelf, folder, level, writer) {
+        Ok(written) => status_of(written),
         Err(fault) => refuse(writer, fault),
     }
 }

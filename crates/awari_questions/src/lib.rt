@@ -24,10 +24,11 @@ mod laws;
 mod listing;
 mod loads;
 mod places;
-mod shares;
 mod shown;
+mod sources;
 mod spans;
 mod sums;
+mod tallies;
 
 pub use boards::{BoardsQuery, run_all_boards, run_boards, wanted_of};
 pub use counting::{PlaysFault, plays_from, run_plays};

@@ -1,13 +1,20 @@
 //! The boards of a level that are wanted, by rank.
 
-ghost use Rattle.std.specs.Prelude.{◌≡◌, ◌<◌, ◌+◌, ◌%◌, ◌==◌, ◌&&◌, true, if◌then◌else◌, length};
+ghost use Rattle.std.specs.Prelude.{◌≡◌, ◌<◌, ◌≤◌, ◌+◌, ◌%◌, ◌==◌, ◌&&◌, true, if◌then◌else◌, List, length, IfOk, Ok};
 ghost use Rattle.std.specs.Io.KnownBytes.{Appends};
+ghost use Rattle.awari_folder.specs.State.{Unchanged};
+ghost use Rattle.awari_table.specs.declared.TheConstants.{HIGHEST_LEVEL};
+ghost use Rattle.awari_table.specs.declared.images.Image.{Image};
 ghost use Rattle.awari_questions.specs.Listing.{board_lines, is_in, passes, wanted_boards};
+ghost use Rattle.awari_questions.specs.Sources.{SaysBy, levels_of};
 
 use crate::batches::{Batch, push_board};
+use crate::sources::{Source, read_entry, read_limit};
 use awari_answers::print_bytes;
+use awari_folder::{Folder, FolderFault};
+use awari_places::Run;
 use awari_rank::{size, unrank};
-use awari_table::{Entry, Shelf};
+use awari_table::Entry;
 use std::io::Write;
 
 /// The numbers from `low` to `high`, both of them too.
@@ -74,52 +81,72 @@ fn is_due(wanted: &Wanted, limit: u32, entry: Entry, passed: &mut u32) -> bool
 }
 
 /// Prints the boards of a level that are wanted, a line each, and says whether the writer took them.
-/// Conditions: the shelf has the level, and not each 0th board is wanted.
-pub(crate) fn print_boards<W: Write>(
-    shelf: &Shelf,
+/// Conditions: the source has the level, and not each 0th board is wanted.
+pub(crate) fn print_boards<F: Folder, W: Write>(
+    source: Source<'_>,
+    folder: &mut F,
     level: u8,
     wanted: &Wanted,
     writer: &mut W,
-) -> bool
-    requires level { level < length shelf.now }
+) -> Result<bool, FolderFault>
+    requires level { level < levels_of source }
+    requires low { level ≤ HIGHEST_LEVEL }
     requires every { 0 < wanted.now.every }
-    ensures { result ≡ true → Appends (W.contents writer.old) (W.contents writer.new) (board_lines shelf.now (wanted_boards wanted.now shelf.now level)) }
+    ensures listed { (images : List Image) → SaysBy source.entry (F.state folder.old).stands images → result ≡ Ok true
+        → Appends (W.contents writer.old) (W.contents writer.new) (board_lines images (wanted_boards wanted.now images level)) }
+    ensures same { Unchanged (F.state folder.old) (F.state folder.new) }
 {
-    // For the proof: the levels are a shelf.
-    let _levels = shelf.levels();
-    let table = shelf.level(level);
-    let limit = table.limit();
+    let limit = match read_limit(source, folder, level) {
+        Ok(limit) => limit,
+        Err(fault) => return Err(fault),
+    };
+    let mut run = Run::new();
     let mut batch = Batch::new();
     let mut passed = 0u32;
     for rank in 0..size(level) {
-        let entry = table.entry_at(rank);
+        let entry = match read_entry(source, folder, &mut run, level, rank) {
+            Ok(entry) => entry,
+            Err(fault) => return Err(fault),
+        };
         if !is_due(wanted, limit, entry, &mut passed) {
             continue;
         }
         if !push_board(&mut batch, &unrank(level, rank), entry, writer) {
-            return false;
+            return Ok(false);
         }
     }
-    print_bytes(writer, batch.as_slice())
+    Ok(print_bytes(writer, batch.as_slice()))
 }
 
 /// How many boards of a level are wanted. Conditions as for [`print_boards`].
-pub(crate) fn count_boards(shelf: &Shelf, level: u8, wanted: &Wanted) -> u32
-    requires level { level < length shelf.now }
+pub(crate) fn count_boards<F: Folder>(
+    source: Source<'_>,
+    folder: &mut F,
+    level: u8,
+    wanted: &Wanted,
+) -> Result<u32, FolderFault>
+    requires level { level < levels_of source }
+    requires low { level ≤ HIGHEST_LEVEL }
     requires every { 0 < wanted.now.every }
-    ensures { result ≡ length (wanted_boards wanted.now shelf.now level) }
+    ensures counted { (images : List Image) → SaysBy source.entry (F.state folder.old).stands images → IfOk result (λ n. n ≡ length (wanted_boards wanted.now images level)) }
+    ensures same { Unchanged (F.state folder.old) (F.state folder.new) }
 {
-    // For the proof: the levels are a shelf.
-    let _levels = shelf.levels();
-    let table = shelf.level(level);
-    let limit = table.limit();
+    let limit = match read_limit(source, folder, level) {
+        Ok(limit) => limit,
+        Err(fault) => return Err(fault),
+    };
+    let mut run = Run::new();
     let mut count = 0u32;
     let mut passed = 0u32;
     for rank in 0..size(level) {
-        if !is_due(wanted, limit, table.entry_at(rank), &mut passed) {
+        let entry = match read_entry(source, folder, &mut run, level, rank) {
+            Ok(entry) => entry,
+            Err(fault) => return Err(fault),
+        };
+        if !is_due(wanted, limit, entry, &mut passed) {
             continue;
         }
         count += 1;
     }
-    count
+    Ok(count)
 }

@@ -1,13 +1,16 @@
 //! The levels in a folder, up to one that has to be there.
 
-ghost use Rattle.std.specs.Prelude.{◌≡◌, IfOk};
-ghost use Rattle.awari_folder.specs.Contents.{Same};
+ghost use Rattle.std.specs.Prelude.{◌≡◌, ◌<◌, ◌≤◌, ◌+◌, ℕ, List, Option, IfOk, min};
+ghost use Rattle.awari_folder.specs.Contents.{AreNames, Same};
+ghost use Rattle.awari_places.specs.Opening.{AreFramed};
 ghost use Rattle.awari_questions.specs.Loads.{HasLevel};
 ghost use Rattle.awari_questions.specs.declared.loads.LevelFault.TheVariants as level_fault;
+ghost use Rattle.awari_table.specs.declared.TheConstants.{HIGHEST_LEVEL};
 
 use awari_answers::load_levels;
 use awari_folder::{Folder, FolderFault};
-use awari_table::{NotYet, Shelf};
+use awari_places::{Opened, open_levels};
+use awari_table::{HIGHEST_LEVEL, NotYet, Shelf};
 use std::alloc::Global;
 use std::fmt;
 use std::thread::Threads;
@@ -62,4 +65,32 @@ pub(crate) fn load_to<T: Threads + Sync, F: Folder>(
         });
     }
     Ok(shelf)
+}
+
+/// The levels in a folder up to this one, by the headers of their files. It is refused as
+/// [`open_levels`] is, or as 59 if the level is not there.
+pub(crate) fn open_to<F: Folder>(folder: &mut F, level: u8) -> Result<Opened, LevelFault>
+    ensures framed { IfOk result (λ opened. (names : ℕ → Option (List ℕ)) → AreNames (F.state folder.old).stands names → AreFramed (min level HIGHEST_LEVEL) names opened) }
+    ensures known { IfOk result (λ opened. level < opened.levels) }
+    ensures few { IfOk result (λ opened. opened.levels ≤ HIGHEST_LEVEL + 1) }
+    ensures same { Same (F.state folder.old).stands (F.state folder.new).stands }
+{
+    let opened = open_levels(folder, level.min(HIGHEST_LEVEL))?;
+    let levels = opened.levels;
+    if level >= levels {
+        return Err(LevelFault::NotYet {
+            fault: NotYet { levels },
+        });
+    }
+    Ok(opened)
+}
+
+/// All levels in a folder, by the headers of their files. It is refused as [`open_levels`] is.
+pub(crate) fn open_all<F: Folder>(folder: &mut F) -> Result<Opened, LevelFault>
+    ensures framed { IfOk result (λ opened. (names : ℕ → Option (List ℕ)) → AreNames (F.state folder.old).stands names → AreFramed HIGHEST_LEVEL names opened) }
+    ensures few { IfOk result (λ opened. opened.levels ≤ HIGHEST_LEVEL + 1) }
+    ensures same { Same (F.state folder.old).stands (F.state folder.new).stands }
+{
+    let opened = open_levels(folder, HIGHEST_LEVEL)?;
+    Ok(opened)
 }

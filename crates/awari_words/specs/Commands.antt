@@ -15,6 +15,10 @@ word name = record (new_rule name) { required = true }
 abbrev pub number : List ℕ → ValueParser → Rule
 number name numbers = record (word name) { parser = Some numbers }
 
+-- the same, which is 0 where it isn't given
+abbrev pub number_or_0 : List ℕ → ValueParser → Rule
+number_or_0 name numbers = record (new_rule name) { parser = Some numbers; defaults = codes "0" ∷ [] }
+
 -- the option `--name VALUE`
 abbrev pub option : List ℕ → Rule
 option name = record (new_rule name) { long = Some name; value_names = 1 }
@@ -115,7 +119,7 @@ abbrev pub line_command : Shape
 line_command = look_up_command (codes "line") (flag (codes "longest") ∷ flag (codes "plies") ∷ json ∷ unverified ∷ [])
 
 abbrev pub serve_command : Shape
-serve_command = command (codes "serve") (folder ∷ top ∷ number (codes "OWNERS") (Unsigned 0 16) ∷ [])
+serve_command = command (codes "serve") (folder ∷ number_or_0 (codes "TOP") levels ∷ number_or_0 (codes "OWNERS") (Unsigned 0 16) ∷ unverified ∷ [])
 
 abbrev pub rank_command : Shape
 rank_command = command (codes "rank") (board ∷ [])
@@ -127,11 +131,11 @@ abbrev pub plays_command : Shape
 plays_command = command (codes "plays") (board ∷ number (codes "PLIES") (Signed (pos 0) (pos 255)) ∷ [])
 
 abbrev pub counts_command : Shape
-counts_command = command (codes "counts") (folder ∷ level ∷ json ∷ [])
+counts_command = command (codes "counts") (folder ∷ level ∷ json ∷ unverified ∷ [])
 
 -- which boards of a level are wanted
 abbrev pub wishes : List Rule
-wishes = option (codes "value") ∷ option (codes "distance") ∷ flag (codes "farthest") ∷ number_option (codes "every") (Unsigned 1 4294967295) (codes "1") ∷ flag (codes "count") ∷ []
+wishes = option (codes "value") ∷ option (codes "distance") ∷ flag (codes "farthest") ∷ number_option (codes "every") (Unsigned 1 4294967295) (codes "1") ∷ flag (codes "count") ∷ unverified ∷ []
 
 abbrev pub boards_command : Shape
 boards_command = command (codes "boards") (folder ∷ number (codes "LEVEL") levels ∷ wishes)

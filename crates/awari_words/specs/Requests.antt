@@ -60,11 +60,13 @@ IsQuestionOf name given (Moves board replies json unverified) = (name ≡ codes 
 IsQuestionOf name given (Line board longest plies json unverified) = (name ≡ codes "line") × Gives given (codes "BOARD") board.now
     × IsFlagOf given (codes "longest") longest × IsFlagOf given (codes "plies") plies × IsFlagOf given (codes "json") json
     × IsFlagOf given (codes "unverified") unverified
-IsQuestionOf name given (Serve top owners) = (name ≡ codes "serve") × Spells given (codes "TOP") top × Spells given (codes "OWNERS") owners
-IsQuestionOf name given (Counts level json) = (name ≡ codes "counts") × SpellsOr given (codes "LEVEL") level × IsFlagOf given (codes "json") json
-IsQuestionOf name given (Boards level value distance farthest every count) = (name ≡ codes "boards") × Spells given (codes "LEVEL") level
+IsQuestionOf name given (Serve top owners unverified) = (name ≡ codes "serve") × Spells given (codes "TOP") top × Spells given (codes "OWNERS") owners
+    × IsFlagOf given (codes "unverified") unverified
+IsQuestionOf name given (Counts level json unverified) = (name ≡ codes "counts") × SpellsOr given (codes "LEVEL") level × IsFlagOf given (codes "json") json
+    × IsFlagOf given (codes "unverified") unverified
+IsQuestionOf name given (Boards level value distance farthest every count unverified) = (name ≡ codes "boards") × Spells given (codes "LEVEL") level
     × (option_map (λ t. t.now) value ≡ first_of (codes "value") given) × (option_map (λ t. t.now) distance ≡ first_of (codes "distance") given)
-    × IsFlagOf given (codes "farthest") farthest × Spells given (codes "every") every × IsFlagOf given (codes "count") count
+    × IsFlagOf given (codes "farthest") farthest × Spells given (codes "every") every × IsFlagOf given (codes "count") count × IsFlagOf given (codes "unverified") unverified
 
 -- The same of the request. A question's folder has one name in all commands.
 abbrev pub IsRequestOf : List ℕ → List Row → Request → Type 0

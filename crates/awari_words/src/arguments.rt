@@ -2,7 +2,7 @@
 
 ghost use Rattle.std.specs.Prelude.{◌≡◌, Some, codes, pos};
 ghost use Rattle.clap.specs.declared.builder.value_parser.ValueParser.TheVariants.{NonEmptyString, Signed, Unsigned};
-ghost use Rattle.awari_words.specs.Commands.{board, flag, folder, folder_word, json, level, levels, levels_wish, moves, number, number_option, option, start_folder, threads, top, unverified};
+ghost use Rattle.awari_words.specs.Commands.{board, flag, folder, folder_word, json, level, levels, levels_wish, moves, number, number_option, number_or_0, option, start_folder, threads, top, unverified};
 ghost use Rattle.awari_words.specs.Making.{IsArg};
 
 use awari_block::{MOST_OWNERS, MOST_ROOM, MOST_SWEEPS};
@@ -198,19 +198,18 @@ pub(crate) fn each_ply<'a>(alloc: Global) -> Arg<'a>
 }
 
 pub(crate) fn served_top<'a>(alloc: Global) -> Arg<'a>
-    ensures { IsArg result top }
+    ensures { IsArg result (number_or_0 (codes "TOP") levels) }
 {
-    Arg::new(alloc, "TOP")
-        .required(true)
-        .value_parser(ValueParser::unsigned(0, u64::from(HIGHEST_LEVEL)))
+    let top = Arg::new(alloc, "TOP").default_value("0");
+    top.value_parser(ValueParser::unsigned(0, u64::from(HIGHEST_LEVEL)))
         .help("The highest level to build meanwhile, 0 to 24")
 }
 
 pub(crate) fn served_owners<'a>(alloc: Global) -> Arg<'a>
-    ensures { IsArg result (number (codes "OWNERS") (Unsigned 0 16)) }
+    ensures { IsArg result (number_or_0 (codes "OWNERS") (Unsigned 0 16)) }
 {
-    Arg::new(alloc, "OWNERS")
-        .required(true)
+    let owners = Arg::new(alloc, "OWNERS").default_value("0");
+    owners
         .value_parser(ValueParser::unsigned(0, u64::from(MOST_OWNERS)))
         .help("Owners of a level, 0 to 16; with 0 all threads build it together")
 }

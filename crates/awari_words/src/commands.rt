@@ -291,7 +291,8 @@ fn serve_command<'a>(alloc: Global) -> Result<Command<'a>, AllocError>
     );
     let command = with_word(command, folder(alloc));
     let command = with_word(command, served_top(alloc));
-    with_word(command, served_owners(alloc))
+    let command = with_word(command, served_owners(alloc));
+    with_word(command, unverified(alloc))
 }
 
 fn rank_command<'a>(alloc: Global) -> Result<Command<'a>, AllocError>
@@ -343,7 +344,8 @@ fn counts_command<'a>(alloc: Global) -> Result<Command<'a>, AllocError>
     );
     let command = with_word(command, folder(alloc));
     let command = with_word(command, level(alloc));
-    with_word(command, json(alloc))
+    let command = with_word(command, json(alloc));
+    with_word(command, unverified(alloc))
 }
 
 fn boards_command<'a>(alloc: Global) -> Result<Command<'a>, AllocError>
@@ -371,5 +373,6 @@ fn with_wishes<'a>(
     let command = with_word(command, distance(alloc));
     let command = with_word(command, farthest(alloc));
     let command = with_word(command, every(alloc));
-    with_word(command, count(alloc))
+    let command = with_word(command, count(alloc));
+    with_word(command, unverified(alloc))
 }

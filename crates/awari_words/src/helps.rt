@@ -132,8 +132,8 @@ first mover's lead and B the board then. With --json all are objects.
     repeats M    the last, if value 0 comes back to the board after ply M";
 
 pub const SERVE_HELP: &str = "\
-A thread builds the levels above the folder's up to TOP, and saves none. Each
-line of standard input has its answer: examples/ask_many.py asks a million.
+A thread builds the levels above the folder's up to TOP, and saves none; with
+--unverified there is none. Each line of standard input has its answer:
 
     ask BOARD      `V P D`, as `awari help ask` says, `not yet M`, or a refusal
     moves BOARD    as `awari help moves` says, and an empty line; or as of `ask`

@@ -114,18 +114,21 @@ pub enum Question<'a> {
         json: bool,
         unverified: bool,
     },
-    /// `serve FOLDER TOP OWNERS`: the answers to lines, while levels are built.
+    /// `serve FOLDER [TOP [OWNERS]] [--unverified]`: the answers to lines, while levels are built if the
+    /// folder's are verified.
     Serve {
         top: u8,
         owners: u8,
+        unverified: bool,
     },
-    /// `counts FOLDER [LEVEL] [--json]`: the levels in numbers, or one.
+    /// `counts FOLDER [LEVEL] [--json] [--unverified]`: the levels in numbers, or one.
     Counts {
         level: Option<u8>,
         json: bool,
+        unverified: bool,
     },
-    /// `boards FOLDER LEVEL [--value A..B] [--distance A..B] [--farthest] [--every K] [--count]`: the boards
-    /// of a level.
+    /// `boards FOLDER LEVEL [--value A..B] [--distance A..B] [--farthest] [--every K] [--count]
+    /// [--unverified]`: the boards of a level.
     Boards {
         level: u8,
         value: Option<&'a str>,
@@ -133,6 +136,7 @@ pub enum Question<'a> {
         farthest: bool,
         every: u32,
         count: bool,
+        unverified: bool,
     },
 }
 
@@ -313,6 +317,7 @@ fn serve_request<'m, 'a: 'm>(given: &'m ArgMatches<'a>) -> Option<Request<'m, 'a
         question: Question::Serve {
             top: byte(given, "TOP")?,
             owners: byte(given, "OWNERS")?,
+            unverified: flag(given, "unverified"),
         },
     })
 }
@@ -355,6 +360,7 @@ fn counts_request<'m, 'a: 'm>(given: &'m ArgMatches<'a>) -> Option<Request<'m, '
         question: Question::Counts {
             level: byte(given, "LEVEL"),
             json: flag(given, "json"),
+            unverified: flag(given, "unverified"),
         },
     })
 }
@@ -372,6 +378,7 @@ fn boards_request<'m, 'a: 'm>(given: &'m ArgMatches<'a>) -> Option<Request<'m, '
             farthest: flag(given, "farthest"),
             every: number(given, "every")?,
             count: flag(given, "count"),
+            unverified: flag(given, "unverified"),
         },
     })
 }

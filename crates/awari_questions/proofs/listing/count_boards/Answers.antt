@@ -1,31 +1,53 @@
-use Rattle.std.proofs.Common.{◌∙◌, ◌<◌, ◌≤◌, ap, sym, slice_get, arith}
+use Rattle.std.proofs.Common.{◌<◌, ◌≤◌, arith}
+use Rattle.awari_folder.proofs.States.{unchanged_then}
 use Rattle.awari_rank.specs.Rank.{size_of}
-use Rattle.awari_table.specs.declared.images.Image.{Image}
-use Rattle.awari_questions.proofs.ChoiceLaws.{limit_is, numbered-all, numbered-more, numbered-none, numbered-skip, some_at, weighs, weighs-few}
+use Rattle.awari_places.proofs.Running.{run-none}
+use Rattle.awari_questions.proofs.ChoiceLaws.{few-more, numbered-all, numbered-more, numbered-none, numbered-skip, weighs}
+use Rattle.awari_questions.proofs.SourceLaws.{says_still, some_entry}
+use Rattle.awari_questions.specs.Listing.{passes}
 use Rattle.awari_questions.proofs.listing.count_boards.Goals as goal
 
 pub loop-rank-init : goal.loop-rank-init
-loop-rank-init c = record { few = omega arith; fewer = omega arith; numbered = numbered-none _ _ _ }
+loop-rank-init g c = record {
+  few = omega arith;
+  fewer = omega arith;
+  unchanged = c.in-Ok.ensures.same;
+  numbered = λ images says. (run-none images c.args.level c.new-run.result c.new-run.ensures, numbered-none _ _ _);
+}
 
 pub loop-rank-preserved-then-not-is_due : goal.loop-rank-preserved-then-not-is_due
-loop-rank-preserved-then-not-is_due c =
-    let limited = limit_is c.args.shelf.now c.args.level _ c.limit-limit.result c.level-table.ensures (c.limit-limit.ensures ∙ ap (λ (m : Image). m.limit) c.deref.ensures) in
-    let weighed = weighs c.args.wanted.now c.args.shelf.now c.args.level c.loop-rank.passed c.is_due.new.passed c.limit-limit.result c.entry_at.result c.is_due.result limited c.is_due.ensures.passed c.is_due.ensures.due in
-    let read = ap (λ (m : Image). slice_get m.entries c.loop-rank.rank) (sym c.deref-in-loop-rank.ensures) ∙ c.entry_at.ensures in
-    let low : c.args.level ≤ 24 = omega (arith, c.levels-levels.ensures.shelf.few, c.requires.level) in
+loop-rank-preserved-then-not-is_due g c =
+    let i = c.loop-rank.invariant in
+    let low : c.args.level ≤ 24 = omega (arith, c.requires.low) in
     let inside : c.loop-rank.rank < size_of c.args.level = omega (arith, c.loop-rank-test.true, c.size-rank-end.ensures.boards) in
-    let at = some_at c.args.shelf.now c.args.level c.loop-rank.rank _ c.entry_at.result c.level-table.ensures read low inside in
-    record { few = weighs-few _ _ _ _ _ _ _ _ weighed c.loop-rank.invariant.few; fewer = omega arith; numbered = numbered-skip _ _ _ _ _ _ _ at.0 _ _ c.loop-rank.invariant.numbered at.1 weighed c.if-not-is_due.true }
+    record {
+      few = few-more c.loop-rank.passed c.is_due.new.passed c.loop-rank.rank (passes c.args.wanted.now c.in-Ok.limit c.in-Ok-read_entry.entry) c.is_due.ensures.passed i.few;
+      fewer = omega (arith, i.fewer);
+      unchanged = unchanged_then _ _ _ i.unchanged c.in-Ok-read_entry.ensures.same;
+      numbered = λ images says.
+          let before = i.numbered images says in
+          let still = says_still c.args.source _ _ images i.unchanged.stands says in
+          let weighed = weighs c.args.wanted.now images c.args.level c.loop-rank.passed c.is_due.new.passed c.in-Ok.limit c.in-Ok-read_entry.entry c.is_due.result (c.in-Ok.ensures.limit images says) c.is_due.ensures.passed c.is_due.ensures.due in
+          let (board, at) = some_entry images c.args.level c.loop-rank.rank c.in-Ok-read_entry.entry (c.in-Ok-read_entry.ensures.entry images still before.0) low inside in
+          (c.in-Ok-read_entry.ensures.run images still before.0, numbered-skip _ _ _ _ _ _ _ board _ _ before.1 at weighed c.if-not-is_due.true);
+    }
 
 pub loop-rank-preserved : goal.loop-rank-preserved
-loop-rank-preserved c =
-    let limited = limit_is c.args.shelf.now c.args.level _ c.limit-limit.result c.level-table.ensures (c.limit-limit.ensures ∙ ap (λ (m : Image). m.limit) c.deref.ensures) in
-    let weighed = weighs c.args.wanted.now c.args.shelf.now c.args.level c.loop-rank.passed c.is_due.new.passed c.limit-limit.result c.entry_at.result c.is_due.result limited c.is_due.ensures.passed c.is_due.ensures.due in
-    let read = ap (λ (m : Image). slice_get m.entries c.loop-rank.rank) (sym c.deref-in-loop-rank.ensures) ∙ c.entry_at.ensures in
-    let low : c.args.level ≤ 24 = omega (arith, c.levels-levels.ensures.shelf.few, c.requires.level) in
+loop-rank-preserved g c =
+    let i = c.loop-rank.invariant in
+    let low : c.args.level ≤ 24 = omega (arith, c.requires.low) in
     let inside : c.loop-rank.rank < size_of c.args.level = omega (arith, c.loop-rank-test.true, c.size-rank-end.ensures.boards) in
-    let at = some_at c.args.shelf.now c.args.level c.loop-rank.rank _ c.entry_at.result c.level-table.ensures read low inside in
-    record { few = weighs-few _ _ _ _ _ _ _ _ weighed c.loop-rank.invariant.few; fewer = omega arith; numbered = numbered-more _ _ _ _ _ _ _ at.0 _ _ c.loop-rank.invariant.numbered at.1 weighed c.if-not-is_due.false }
+    record {
+      few = few-more c.loop-rank.passed c.is_due.new.passed c.loop-rank.rank (passes c.args.wanted.now c.in-Ok.limit c.in-Ok-read_entry.entry) c.is_due.ensures.passed i.few;
+      fewer = omega (arith, i.fewer);
+      unchanged = unchanged_then _ _ _ i.unchanged c.in-Ok-read_entry.ensures.same;
+      numbered = λ images says.
+          let before = i.numbered images says in
+          let still = says_still c.args.source _ _ images i.unchanged.stands says in
+          let weighed = weighs c.args.wanted.now images c.args.level c.loop-rank.passed c.is_due.new.passed c.in-Ok.limit c.in-Ok-read_entry.entry c.is_due.result (c.in-Ok.ensures.limit images says) c.is_due.ensures.passed c.is_due.ensures.due in
+          let (board, at) = some_entry images c.args.level c.loop-rank.rank c.in-Ok-read_entry.entry (c.in-Ok-read_entry.ensures.entry images still before.0) low inside in
+          (c.in-Ok-read_entry.ensures.run images still before.0, numbered-more _ _ _ _ _ _ _ board _ _ before.1 at weighed c.if-not-is_due.false);
+    }
 
-pub returns : goal.returns
-returns c = numbered-all _ _ _ _ _ _ c.loop-rank.invariant.numbered (omega (arith, c.size-rank-end.ensures.boards))
+pub returns-clause-counted : goal.returns-clause-counted
+returns-clause-counted g c = λ images says. numbered-all _ _ _ _ _ _ (c.loop-rank.invariant.numbered images says).1 (omega (arith, c.size-rank-end.ensures.boards))

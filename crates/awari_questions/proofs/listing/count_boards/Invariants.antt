@@ -1,10 +1,15 @@
-use Rattle.std.proofs.Common.{◌≤◌}
+use Rattle.std.proofs.Common.{◌≤◌, List}
+use Rattle.awari_folder.specs.State.{Unchanged}
+use Rattle.awari_places.specs.Runs.{IsRunOf}
+use Rattle.awari_table.specs.declared.images.Image.{Image}
 use Rattle.awari_questions.proofs.ChoiceLaws.{Numbered}
+use Rattle.awari_questions.specs.Sources.{SaysBy}
 use Rattle.awari_questions.proofs.listing.count_boards.Given as goal
 
 abbrev pub invariant-loop-rank : goal.invariant-loop-rank
-invariant-loop-rank l = record {
+invariant-loop-rank g l = record {
   few : l.passed ≤ l.rank;
   fewer : l.count ≤ l.rank;
-  numbered : Numbered l.wanted l.shelf l.level l.rank l.passed l.count;
+  unchanged : Unchanged (g.F.Folder.state l.fn.folder) (g.F.Folder.state l.folder);
+  numbered : (images : List Image) → SaysBy l.source (g.F.Folder.state l.fn.folder).stands images → IsRunOf images l.level l.run × Numbered l.wanted images l.level l.rank l.passed l.count;
 }

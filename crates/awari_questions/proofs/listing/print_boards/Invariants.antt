@@ -1,9 +1,15 @@
-use Rattle.std.proofs.Common.{◌≤◌}
+use Rattle.std.proofs.Common.{◌≤◌, List}
+use Rattle.awari_folder.specs.State.{Unchanged}
+use Rattle.awari_places.specs.Runs.{IsRunOf}
+use Rattle.awari_table.specs.declared.images.Image.{Image}
 use Rattle.awari_questions.proofs.ListingLaws.{Listed}
+use Rattle.awari_questions.specs.Sources.{SaysBy}
 use Rattle.awari_questions.proofs.listing.print_boards.Given as goal
 
 abbrev pub invariant-loop-rank : goal.invariant-loop-rank
 invariant-loop-rank g l = record {
   few : l.passed ≤ l.rank;
-  listed : Listed l.wanted l.shelf l.level l.rank l.passed (g.W.Write.contents l.fn.writer) (g.W.Write.contents l.writer) l.batch.items;
+  unchanged : Unchanged (g.F.Folder.state l.fn.folder) (g.F.Folder.state l.folder);
+  listed : (images : List Image) → SaysBy l.source (g.F.Folder.state l.fn.folder).stands images
+      → IsRunOf images l.level l.run × Listed l.wanted images l.level l.rank l.passed (g.W.Write.contents l.fn.writer) (g.W.Write.contents l.writer) l.batch.items;
 }

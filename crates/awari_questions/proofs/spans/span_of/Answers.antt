@@ -1,4 +1,4 @@
-use Rattle.std.proofs.Common.{◌≡◌, ◌<◌, inl, inr, arith, sym, subst}
+use Rattle.std.proofs.Common.{◌<◌, inl, inr, arith, sym, subst}
 use Rattle.std.proofs.lemmas.Str.Pattern.{split_after, split_parts}
 use Rattle.awari_questions.proofs.SpanLaws.{dot_in, end-no_dot, no_dot}
 use Rattle.awari_questions.specs.Spans.{IsRange}
