@@ -1,13 +1,17 @@
 //! The service over the files of a folder that nobody verified: each request is answered by what the files
 //! say, read where they lie. It starts at once at any level, and takes memory for names alone.
 //!
-//! A service by what files say, in `crates/awari_cli_tests/src/plain.rt`:
+//! The files of a folder that is lent, asked by a service, in `crates/awari_unverified/src/asking.rt`:
 //!
-//!     pub(crate) fn served_said<F: Folder, R: Read, W: Replies, E>(
-//!         folder: &mut F,
-//!         streams: &mut Streams<R, W, E>,
-//!     ) -> u8 {
-//!         run_serve_unverified(folder, streams)
+//!     pub(crate) fn serve_files<F: Folder, R: Read, W: Write>(
+//!         files: &mut Files<'_, F>,
+//!         input: &mut Counted<R>,
+//!         output: &mut Counted<W>,
+//!     ) -> Result<(), ServeFault>
+//!         ensures keeps { Keeps F.state files.old files.new }
+//!         ensures served { OnOk result (IsServedSaid (stands_in F.state files.old) files.old.levels (R.remaining (inner_of input.old)) (W.contents (inner_of output.old)) (W.contents (inner_of output.new))) }
+//!     {
+//!         serve(files, input, output)
 //!     }
 #![tactic(auto)]
 
