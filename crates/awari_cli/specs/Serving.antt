@@ -3,6 +3,7 @@ use Rattle.std.specs.Prelude.{◌<◌, ℕ, List, length, Option}
 use Rattle.awari_build.specs.BuildFault.{fault_text as build_fault_text}
 use Rattle.awari_build.specs.declared.faults.BuildFault.TheVariants as build_fault
 use Rattle.awari_desk.specs.DeskFault.{fault_text as desk_fault_text}
+use Rattle.awari_desk.specs.Desks.{by_reader}
 use Rattle.awari_desk.specs.ServeFault.{fault_text as serve_fault_text}
 use Rattle.awari_desk.specs.Service.{IsInput, HasServed}
 use Rattle.awari_folder.specs.Contents.{IsStoredIn}
@@ -16,7 +17,7 @@ use Rattle.awari_cli.specs.declared.serving.ServingFault.TheVariants.{Folder, De
 
 -- Where the input is known, and what the writer holds: what was written is the output for it, of a reader that knew these levels.
 abbrev pub IsServed : List Image → Option (List ℕ) → Option (List ℕ) → Option (List ℕ) → Type 0
-IsServed known input before after = (bytes : List ℕ) × (last : List Image) × IsInput input bytes × HasServed known before bytes after last
+IsServed known input before after = (bytes : List ℕ) × (last : List Image) × IsInput input bytes × HasServed by_reader known before bytes after last
 
 -- The reader knew right levels: those that the folder stores, where it is known what its names have.
 abbrev pub PrintsService : (ℕ → Option (Option (List ℕ))) → Option (List ℕ) → Option (List ℕ) → Option (List ℕ) → Type 0

@@ -4,6 +4,8 @@ use Rattle.awari_table.specs.declared.images.Image.{Image}
 use Rattle.awari_table.specs.declared.images.Entry.{Entry}
 use Rattle.awari_table.specs.Images.{entry_of}
 use Rattle.awari_table.specs.Shelves.{IsShelf}
+use Rattle.awari_desk.specs.Answering.{Answering}
+use Rattle.awari_desk.specs.AskFault.{line_of, name_of, number_of}
 use Rattle.awari_desk.specs.Books.{BeginsWith}
 use Rattle.awari_desk.specs.declared.faults.AskFault.{AskFault}
 use Rattle.awari_desk.specs.declared.faults.AskFault.TheVariants.{NotYet, Gone}
@@ -28,6 +30,10 @@ abbrev pub IsWeighing : Bool → List Image → List Image → List ℕ → Resu
 IsWeighing replies known book board (Ok weighed) = IsSeen known book × IsWeighed replies book board weighed
 IsWeighing replies known book board (Err (NotYet levels)) = IsSeen known book × (length book ≤ sum board) × (levels ≡ length book)
 IsWeighing replies known book board (Err Gone) = book ≡ known
+
+-- how a reader answers a service: by the books that it knows, of which each is a shelf
+abbrev pub by_reader : Answering (List Image) AskFault
+by_reader = record { seen = length; entry = IsAnswer; moves = IsWeighing; line = line_of; number = number_of; name = name_of }
 
 -- the levels that are published
 abbrev pub book_of : Pages → List Image

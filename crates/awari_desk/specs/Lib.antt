@@ -1,4 +1,5 @@
 pub use Rattle.awari_play.specs.Worths
+pub mod Answering
 pub mod Books
 pub mod AskFault
 pub mod DeskFault

@@ -2,29 +2,31 @@
 
 ghost use Rattle.std.specs.Prelude.{◌≡◌, ◌≤◌, ◌++◌, ◌∷◌, [], codes, length};
 ghost use Rattle.std.specs.Fmt.{decimal};
-ghost use Rattle.awari_board.specs.BoardFault.{fault_text};
+ghost use Rattle.awari_board.specs.BoardFault.{fault_text, name_of as board_name_of};
+ghost use Rattle.awari_desk.specs.ProbeFault.{name_of as probe_name_of, number_of as probe_number_of};
 ghost use Rattle.awari_desk.specs.Service.{answer_text};
 ghost use Rattle.awari_play.specs.Worths.{weighed_text};
 
 use crate::faults::ProbeFault;
+use crate::oracles::Oracle;
 use crate::requests::LONGEST_REQUEST;
 use arrayvec::ArrayVec;
 use awari_board::{Board, BoardFault};
 use awari_play::{AnswerText, Weighed, refusal_json, text_of_line, weighed_json};
 use awari_table::{Entry, TextLine, line_of_entry, push_number, push_text};
 
-/// The answer to one request.
-#[derive(Debug, PartialEq, Eq, Drop)]
-pub enum Answer {
-    /// The entry of the board, in the book that was seen.
+/// The answer to one request. `F` is why who is asked does not answer.
+#[derive(Drop)]
+pub enum Answer<F> {
+    /// The entry of the board.
     Found {
         entry: Entry,
     },
-    /// What the board's legal moves are worth, by the book that was seen.
+    /// What the board's legal moves are worth.
     Moves {
         weighed: Weighed,
     },
-    /// The board, its entry and what its legal moves are worth, by the book that was seen.
+    /// The board, its entry and what its legal moves are worth.
     Probed {
         board: Board,
         weighed: Weighed,
@@ -32,19 +34,17 @@ pub enum Answer {
     /// The request that asked for that, and why it has no such answer.
     Unprobed {
         request: ArrayVec<u8, LONGEST_REQUEST>,
-        fault: ProbeFault,
+        fault: ProbeFault<F>,
     },
-    /// The book that was seen has only the levels below `levels`.
-    NotYet {
-        levels: u8,
+    /// Who is asked does not answer.
+    Unanswered {
+        fault: F,
     },
-    /// The publisher is gone.
-    Gone,
     /// The text that was asked for is not a board.
     Refused {
         fault: BoardFault,
     },
-    /// How many levels the reader knows: those of the longest book that it has seen or was told of.
+    /// How many levels are known.
     Seen {
         levels: u8,
     },
@@ -56,7 +56,7 @@ pub enum Answer {
 
 /// A text, and a number behind it.
 #[tactic(auto, using(awari_table::proofs::Digits::three_digits))]
-fn numbered_line_of(text: &[u8], number: u8) -> TextLine
+pub(crate) fn numbered_line_of(text: &[u8], number: u8) -> TextLine
     requires { length text.now ≤ 20 }
     ensures { result.items ≡ text.now ++ (decimal number ++ 10 ∷ []) }
 {
@@ -67,7 +67,7 @@ fn numbered_line_of(text: &[u8], number: u8) -> TextLine
     line
 }
 
-fn line_of_text(text: &[u8]) -> TextLine
+pub(crate) fn line_of_text(text: &[u8]) -> TextLine
     requires { length text.now ≤ 20 }
     ensures { result.items ≡ text.now }
 {
@@ -86,25 +86,56 @@ fn refused_line_of(fault: BoardFault) -> TextLine
     }
 }
 
-impl Answer {
-    /// The lines, each with its line feed; those of moves have an empty line behind them.
-    pub(crate) fn text(&self) -> AnswerText
-        ensures { result.items ≡ answer_text self.now }
-    {
-        match self {
-            Answer::Found { entry } => text_of_line(&line_of_entry(*entry)),
-            Answer::Moves { weighed } => text_of_moves(weighed),
-            Answer::Probed { board, weighed } => weighed_json(board, weighed),
-            Answer::Unprobed { request, fault } => {
-                refusal_json(request.as_slice(), fault.number(), fault.name())
-            }
-            Answer::NotYet { levels } => text_of_line(&numbered_line_of(b"not yet ", *levels)),
-            Answer::Gone => text_of_line(&line_of_text(b"gone\n")),
-            Answer::Refused { fault } => text_of_line(&refused_line_of(*fault)),
-            Answer::Seen { levels } => text_of_line(&numbered_line_of(b"seen ", *levels)),
-            Answer::Bye => text_of_line(&line_of_text(b"bye\n")),
-            Answer::What => text_of_line(&line_of_text(b"what\n")),
-        }
+/// The lines of an answer, each with its line feed; those of moves have an empty line behind them.
+pub(crate) fn text_of_answer<O: Oracle>(answer: &Answer<O::Fault>) -> AnswerText
+    ensures { result.items ≡ answer_text O.answering answer.now }
+{
+    match answer {
+        Answer::Found { entry } => text_of_line(&line_of_entry(*entry)),
+        Answer::Moves { weighed } => text_of_moves(weighed),
+        Answer::Probed { board, weighed } => weighed_json(board, weighed),
+        Answer::Unprobed { request, fault } => refusal_json(
+            request.as_slice(),
+            probe_number::<O>(fault),
+            probe_name::<O>(fault),
+        ),
+        Answer::Unanswered { fault } => text_of_line(&O::line_of(fault)),
+        Answer::Refused { fault } => text_of_line(&refused_line_of(*fault)),
+        Answer::Seen { levels } => text_of_line(&numbered_line_of(b"seen ", *levels)),
+        Answer::Bye => text_of_line(&line_of_text(b"bye\n")),
+        Answer::What => text_of_line(&line_of_text(b"what\n")),
+    }
+}
+
+/// The number of the fault inside it.
+fn probe_number<O: Oracle>(fault: &ProbeFault<O::Fault>) -> u8
+    ensures { result ≡ probe_number_of O.answering fault.now }
+{
+    match fault {
+        ProbeFault::Board { fault } => fault.number(),
+        ProbeFault::Ask { fault } => O::number_of(fault),
+    }
+}
+
+/// The name of the fault inside it.
+fn probe_name<O: Oracle>(fault: &ProbeFault<O::Fault>) -> &'static [u8]
+    ensures name { result.now ≡ probe_name_of O.answering fault.now }
+    ensures short { length result.now ≤ 20 }
+{
+    match fault {
+        ProbeFault::Board { fault } => board_name(*fault),
+        ProbeFault::Ask { fault } => O::name_of(fault),
+    }
+}
+
+fn board_name(fault: BoardFault) -> &'static [u8]
+    ensures name { result.now ≡ board_name_of fault }
+    ensures short { length result.now ≤ 20 }
+{
+    match fault {
+        BoardFault::Shape => b"Shape",
+        BoardFault::Number => b"Number",
+        BoardFault::TooMany => b"TooMany",
     }
 }
 

@@ -1,9 +1,8 @@
 //! Why a call of a desk is refused.
 
-ghost use Rattle.std.specs.Prelude.{◌≡◌, ◌≤◌, length};
+ghost use Rattle.std.specs.Prelude.{◌≡◌};
 ghost use Rattle.awari_desk.specs.AskFault.{number_of as ask_number_of};
 ghost use Rattle.awari_desk.specs.DeskFault.{number_of as desk_number_of};
-ghost use Rattle.awari_desk.specs.ProbeFault.{name_of as probe_name_of, number_of as probe_number_of};
 ghost use Rattle.awari_desk.specs.ServeFault.{number_of as serve_number_of};
 ghost use Rattle.awari_desk.specs.declared.faults.DeskFault.TheVariants.{Memory};
 
@@ -97,43 +96,13 @@ impl fmt::Display for AskFault {
     }
 }
 
-/// Why a board is not probed.
-#[derive(Clone, Copy, Debug, PartialEq, Eq)]
-pub enum ProbeFault {
+/// Why a board is not probed. `F` is why who is asked does not answer.
+#[derive(Drop)]
+pub enum ProbeFault<F> {
     /// The text is not a board.
     Board { fault: BoardFault },
     /// The board's moves are not answered.
-    Ask { fault: AskFault },
-}
-
-impl ProbeFault {
-    /// The number of this refusal, that of the fault inside it.
-    pub fn number(self) -> u8
-        ensures { result ≡ probe_number_of self }
-    {
-        match self {
-            ProbeFault::Board { fault } => fault.number(),
-            ProbeFault::Ask { fault } => fault.number(),
-        }
-    }
-
-    /// The name of this refusal, that of the fault inside it.
-    pub fn name(self) -> &'static [u8]
-        ensures name { result.now ≡ probe_name_of self }
-        ensures short { length result.now ≤ 20 }
-    {
-        match self {
-            ProbeFault::Board { fault } => match fault {
-                BoardFault::Shape => b"Shape",
-                BoardFault::Number => b"Number",
-                BoardFault::TooMany => b"TooMany",
-            },
-            ProbeFault::Ask { fault } => match fault {
-                AskFault::NotYet { .. } => b"NotYet",
-                AskFault::Gone => b"Gone",
-            },
-        }
-    }
+    Ask { fault: F },
 }
 
 /// Why a service ends early. A fault is printed as its number and its name.
@@ -162,7 +131,6 @@ impl ServeFault {
 
 impl fmt::Display for ServeFault {
     ghost use Rattle.std.specs.Prelude.{Some};
-    ghost use Rattle.awari_desk.specs.ProbeFault.{name_of as probe_name_of, number_of as probe_number_of};
     ghost use Rattle.awari_desk.specs.ServeFault.{fault_text};
 
     ghost output = { λ fault. Some (fault_text fault) };

@@ -3,7 +3,7 @@
 //! [`desk`] makes the publisher and its readers. A reader sees every level up to the last one that it
 //! saw or was told of, and maybe more. To tell readers of what is published, pass them what
 //! `Pages::tell` gives, for [`Reader::learn`]. [`Reader::ask`] and [`Reader::moves`] look a board up
-//! and wait for nobody. [`serve`] answers the requests of a stream.
+//! and wait for nobody. [`serve`] answers the requests of a stream by a reader, or by another [`Oracle`].
 //!
 //! A publisher's next level, built and published, in `crates/awari_cli_tests/src/services.rt`:
 //!
@@ -24,6 +24,7 @@ mod desks;
 mod faults;
 mod laws;
 mod looks;
+mod oracles;
 mod pages;
 mod publishers;
 mod publishing;
@@ -37,6 +38,7 @@ pub use books::{Book, Growing};
 pub use desks::{MOST_READERS, desk};
 pub use faults::{AskFault, DeskFault, ProbeFault, ServeFault};
 pub use laws::{services_have_limits, services_only_grow};
+pub use oracles::Oracle;
 pub use pages::Pages;
 pub use publishers::Publisher;
 pub use readers::{Reader, Told};

@@ -2,12 +2,14 @@
 
 ghost use Rattle.std.specs.Prelude.{◌≡◌, length, max};
 
+use crate::answers::{line_of_text, numbered_line_of};
 use crate::books::Seat;
 use crate::faults::AskFault;
 use crate::looks::{Question, look, look_at_moves};
+use crate::oracles::Oracle;
 use awari_board::Board;
 use awari_play::Weighed;
-use awari_table::Entry;
+use awari_table::{Entry, TextLine};
 use core::mem::replace_with;
 use std::marker::Model;
 
@@ -113,6 +115,44 @@ impl Reader {
         let Told { reader } = told;
         if self.levels < reader.levels {
             *self = reader;
+        }
+    }
+}
+
+impl Oracle for Reader {
+    ghost use Rattle.awari_desk.specs.Desks.{by_reader};
+
+    type Fault = AskFault;
+
+    ghost answering = { by_reader };
+
+    fn seen(&self) -> u8 {
+        Reader::seen(self)
+    }
+
+    fn ask(&mut self, board: &Board) -> Result<Entry, AskFault> {
+        Reader::ask(self, board)
+    }
+
+    fn moves(&mut self, board: &Board, replies: bool) -> Result<Weighed, AskFault> {
+        Reader::moves(self, board, replies)
+    }
+
+    fn line_of(fault: &AskFault) -> TextLine {
+        match fault {
+            AskFault::NotYet { levels } => numbered_line_of(b"not yet ", *levels),
+            AskFault::Gone => line_of_text(b"gone\n"),
+        }
+    }
+
+    fn number_of(fault: &AskFault) -> u8 {
+        fault.number()
+    }
+
+    fn name_of(fault: &AskFault) -> &'static [u8] {
+        match fault {
+            AskFault::NotYet { .. } => b"NotYet",
+            AskFault::Gone => b"Gone",
         }
     }
 }

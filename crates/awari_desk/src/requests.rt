@@ -4,8 +4,8 @@ ghost use Rattle.std.specs.Prelude.{◌≡◌, ◌≢◌, ◌≤◌, ◌++◌, �
 ghost use Rattle.awari_desk.specs.Service.{asking, probing, weighing, IsAnswerTo, IsNoPlainRequest, IsRefusalOf};
 
 use crate::answers::Answer;
-use crate::faults::{AskFault, ProbeFault};
-use crate::readers::Reader;
+use crate::faults::ProbeFault;
+use crate::oracles::Oracle;
 use arrayvec::ArrayVec;
 use awari_board::Board;
 
@@ -54,99 +54,97 @@ impl Coming {
         !self.is_long && self.bytes.is_empty()
     }
 
-    /// The answer to the request. If the request asks for a board, the reader is asked.
-    pub(crate) fn answer(&self, reader: &mut Reader) -> Answer
-        ensures { (request : List ℕ) → Holds self.now request → IsAnswerTo reader.old request result reader.new }
+    /// The answer to the request. If the request asks for a board, the oracle is asked.
+    pub(crate) fn answer<O: Oracle>(&self, oracle: &mut O) -> Answer<O::Fault>
+        ensures { (request : List ℕ) → Holds self.now request → IsAnswerTo O.answering oracle.old request result oracle.new }
     {
         if self.is_long {
             Answer::What
         } else {
-            answer_to(self.bytes.as_slice(), reader)
+            answer_to(self.bytes.as_slice(), oracle)
         }
     }
 }
 
 /// The answer to the bytes of a request.
-fn answer_to(request: &[u8], reader: &mut Reader) -> Answer
+fn answer_to<O: Oracle>(request: &[u8], oracle: &mut O) -> Answer<O::Fault>
     requires { length request.now ≤ LONGEST_REQUEST }
-    ensures { IsAnswerTo reader.old request.now result reader.new }
+    ensures { IsAnswerTo O.answering oracle.old request.now result oracle.new }
 {
     match request {
-        [b'a', b's', b'k', b' ', text @ ..] => ask(text, reader),
-        [b'm', b'o', b'v', b'e', b's', b' ', text @ ..] => weigh_moves(text, false, reader),
+        [b'a', b's', b'k', b' ', text @ ..] => ask(text, oracle),
+        [b'm', b'o', b'v', b'e', b's', b' ', text @ ..] => weigh_moves(text, false, oracle),
         [b's', b'e', b'e', b'n'] => Answer::Seen {
-            levels: reader.seen(),
+            levels: oracle.seen(),
         },
         [b'q', b'u', b'i', b't'] => Answer::Bye,
-        _ => answer_to_other(request, reader),
+        _ => answer_to_other(request, oracle),
     }
 }
 
 /// The answer to the bytes of a request that asks for no entry, for no moves without replies, and for nothing
 /// of the service itself.
-fn answer_to_other(request: &[u8], reader: &mut Reader) -> Answer
+fn answer_to_other<O: Oracle>(request: &[u8], oracle: &mut O) -> Answer<O::Fault>
     requires short { length request.now ≤ LONGEST_REQUEST }
     requires other { IsNoPlainRequest request.now }
-    ensures { IsAnswerTo reader.old request.now result reader.new }
+    ensures { IsAnswerTo O.answering oracle.old request.now result oracle.new }
 {
     match request {
         [b'r', b'e', b'p', b'l', b'i', b'e', b's', b' ', text @ ..] => {
-            weigh_moves(text, true, reader)
+            weigh_moves(text, true, oracle)
         }
-        [b'p', b'r', b'o', b'b', b'e', b' ', text @ ..] => probe(request, text, reader),
+        [b'p', b'r', b'o', b'b', b'e', b' ', text @ ..] => probe(request, text, oracle),
         _ => Answer::What,
     }
 }
 
 /// The answer to a request that asks for the board that `text` spells.
-fn ask(text: &[u8], reader: &mut Reader) -> Answer
+fn ask<O: Oracle>(text: &[u8], oracle: &mut O) -> Answer<O::Fault>
     requires { length (asking ++ text.now) ≤ LONGEST_REQUEST }
-    ensures { IsAnswerTo reader.old (asking ++ text.now) result reader.new }
+    ensures { IsAnswerTo O.answering oracle.old (asking ++ text.now) result oracle.new }
 {
     match Board::parse(text) {
         Err(fault) => Answer::Refused { fault },
-        Ok(board) => match reader.ask(&board) {
+        Ok(board) => match oracle.ask(&board) {
             Ok(entry) => Answer::Found { entry },
-            Err(AskFault::NotYet { levels }) => Answer::NotYet { levels },
-            Err(AskFault::Gone) => Answer::Gone,
+            Err(fault) => Answer::Unanswered { fault },
         },
     }
 }
 
 /// The answer to a request that asks for the moves of the board that `text` spells, and for the replies to
 /// each if `replies` says so.
-fn weigh_moves(text: &[u8], replies: bool, reader: &mut Reader) -> Answer
+fn weigh_moves<O: Oracle>(text: &[u8], replies: bool, oracle: &mut O) -> Answer<O::Fault>
     requires { length (weighing replies ++ text.now) ≤ LONGEST_REQUEST }
-    ensures { IsAnswerTo reader.old (weighing replies ++ text.now) result reader.new }
+    ensures { IsAnswerTo O.answering oracle.old (weighing replies ++ text.now) result oracle.new }
 {
     match Board::parse(text) {
         Err(fault) => Answer::Refused { fault },
-        Ok(board) => match reader.moves(&board, replies) {
+        Ok(board) => match oracle.moves(&board, replies) {
             Ok(weighed) => Answer::Moves { weighed },
-            Err(AskFault::NotYet { levels }) => Answer::NotYet { levels },
-            Err(AskFault::Gone) => Answer::Gone,
+            Err(fault) => Answer::Unanswered { fault },
         },
     }
 }
 
 /// The answer to a request that asks for all of the board that `text` spells, as JSON.
-fn probe(request: &[u8], text: &[u8], reader: &mut Reader) -> Answer
+fn probe<O: Oracle>(request: &[u8], text: &[u8], oracle: &mut O) -> Answer<O::Fault>
     requires request { request.now ≡ probing ++ text.now }
     requires short { length request.now ≤ LONGEST_REQUEST }
-    ensures { IsAnswerTo reader.old request.now result reader.new }
+    ensures { IsAnswerTo O.answering oracle.old request.now result oracle.new }
 {
     let board = match Board::parse(text) {
         Ok(board) => board,
         Err(fault) => return unprobed(request, ProbeFault::Board { fault }),
     };
-    match reader.moves(&board, false) {
+    match oracle.moves(&board, false) {
         Ok(weighed) => Answer::Probed { board, weighed },
         Err(fault) => unprobed(request, ProbeFault::Ask { fault }),
     }
 }
 
 /// The refusal of a request.
-fn unprobed(request: &[u8], fault: ProbeFault) -> Answer
+fn unprobed<F: Drop>(request: &[u8], fault: ProbeFault<F>) -> Answer<F>
     requires { length request.now ≤ LONGEST_REQUEST }
     ensures { IsRefusalOf request.now fault result }
 {

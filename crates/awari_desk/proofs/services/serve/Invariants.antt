@@ -8,7 +8,7 @@ use Rattle.awari_desk.proofs.services.serve.Given as goal
 abbrev pub invariant-loop-fewer : goal.invariant-loop-fewer
 invariant-loop-fewer g l = (taken : List ℕ)
     × Consumes (g.R.Read.remaining (inner_of l.fn.input)) (g.R.Read.remaining (inner_of l.input)) taken
-    × Serving l.fn.reader (g.W.Write.contents (inner_of l.fn.output)) taken (g.W.Write.contents (inner_of l.output)) l.reader l.coming
+    × Serving g.O.Oracle.answering l.fn.oracle (g.W.Write.contents (inner_of l.fn.output)) taken (g.W.Write.contents (inner_of l.output)) l.oracle l.coming
     × (length taken + l.left ≡ LONGEST_INPUT)
     × (faults_of l.input ≡ faults_of l.fn.input)
     × (faults_of l.output ≡ faults_of l.fn.output)

@@ -15,7 +15,7 @@ returns-in_err-finish-clause-moves g c first before taken s =
     let room : 0 < length c.read.new.buf = search rules in
     let (came, end) = c.in-Ok.ensures.bytes in
     let p = err_from_is_err_and c.from_residual.result c.from_residual.ensures.1 in
-    let (is, b) = nothing_in (λ (l : List ℕ). HasBegun first before l (g.W.Write.contents (inner_of c.finish.new.output)) c.finish.new.reader) _ _ taken c.read.new.buf c.in-Ok.count zero came (end zero room) (c.in_err-finish.ensures.ends first before taken s) in
+    let (is, b) = nothing_in (λ (l : List ℕ). HasBegun g.O.Oracle.answering first before l (g.W.Write.contents (inner_of c.finish.new.output)) c.finish.new.oracle) _ _ taken c.read.new.buf c.in-Ok.count zero came (end zero room) (c.in_err-finish.ensures.ends first before taken s) in
     rw p.1 ([], [], is, omega arith, b)
 
 pub returns-then-count-eq0-clause-moves : goal.returns-then-count-eq0-clause-moves
@@ -23,7 +23,7 @@ returns-then-count-eq0-clause-moves g c first before taken s =
     let zero : c.in-Ok.count ≡ 0 = grind (arith, c.if-count-eq0.true) in
     let room : 0 < length c.read.new.buf = search rules in
     let (came, end) = c.in-Ok.ensures.bytes in
-    let (is, served) = nothing_in (λ (l : List ℕ). HasServed first before l (g.W.Write.contents (inner_of c.finish.new.output)) c.finish.new.reader) _ _ taken c.read.new.buf c.in-Ok.count zero came (end zero room) (c.in_ok-finish.ensures.ends first before taken s) in
+    let (is, served) = nothing_in (λ (l : List ℕ). HasServed g.O.Oracle.answering first before l (g.W.Write.contents (inner_of c.finish.new.output)) c.finish.new.oracle) _ _ taken c.read.new.buf c.in-Ok.count zero came (end zero room) (c.in_ok-finish.ensures.ends first before taken s) in
     ([], [], is, omega arith, inl (refl, served))
 
 pub returns-in_err-feed-clause-moves : goal.returns-in_err-feed-clause-moves

@@ -1,0 +1,3 @@
+pub mod Unsaid
+pub mod Said
+pub mod Held

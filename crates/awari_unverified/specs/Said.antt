@@ -1,0 +1,47 @@
+-- The command `serve` with `--unverified`: what is answered by what files say, whether that is right or not.
+use Rattle.std.specs.Prelude.{◌≡◌, ℕ, ◌<◌, ◌≤◌, Bool, List, Option, sum, Result, Ok, Err}
+use Rattle.awari_board.specs.Rules.{IsBoard}
+use Rattle.awari_desk.specs.Answering.{Answering}
+use Rattle.awari_desk.specs.Service.{IsInput, HasServed}
+use Rattle.awari_folder.specs.Contents.{AreNames}
+use Rattle.awari_folder.specs.FolderFault.{Names}
+use Rattle.awari_places.specs.Opening.{AreFramed}
+use Rattle.awari_places.specs.Places.{Says}
+use Rattle.awari_places.specs.declared.opening.Opened.{Opened}
+use Rattle.awari_play.specs.Worths.{IsWeighed}
+use Rattle.awari_play.specs.declared.weighing.Weighed.{Weighed}
+use Rattle.awari_table.specs.Images.{entry_of}
+use Rattle.awari_table.specs.declared.TheConstants.{HIGHEST_LEVEL}
+use Rattle.awari_table.specs.declared.images.Entry.{Entry}
+use Rattle.awari_table.specs.declared.images.Image.{Image}
+use Rattle.awari_unverified.specs.Unsaid.{line_of, name_of, number_of}
+use Rattle.awari_unverified.specs.declared.unsaid.Unsaid.{Unsaid}
+use Rattle.awari_unverified.specs.declared.unsaid.Unsaid.TheVariants.{NotYet, Folder}
+
+-- The levels that are known stay. A board of one of them has this entry, where it is known what has the names: the one that the files
+-- say. Or its level's file is refused. Any other board has no answer yet.
+abbrev pub IsEntrySaid : (ℕ → Option (Option (List ℕ))) → ℕ → ℕ → List ℕ → Result Entry Unsaid → Type 0
+IsEntrySaid stands levels then board (Ok e) = (then ≡ levels) × (sum board < levels) × ((images : List Image) → Says stands levels images → e ≡ entry_of images board)
+IsEntrySaid stands levels then board (Err (NotYet below)) = (then ≡ levels) × (levels ≤ sum board) × (below ≡ levels)
+IsEntrySaid stands levels then board (Err (Folder fault)) = (then ≡ levels) × (sum board < levels) × Names (sum board) fault
+
+-- The same of what its moves are worth, with the replies to them if these are asked for.
+abbrev pub AreMovesSaid : Bool → (ℕ → Option (Option (List ℕ))) → ℕ → ℕ → List ℕ → Result Weighed Unsaid → Type 0
+AreMovesSaid replies stands levels then board (Ok w) = (then ≡ levels) × (sum board < levels) × ((images : List Image) → Says stands levels images → IsWeighed replies images board w)
+AreMovesSaid replies stands levels then board (Err (NotYet below)) = (then ≡ levels) × (levels ≤ sum board) × (below ≡ levels)
+AreMovesSaid replies stands levels then board (Err (Folder fault)) = (then ≡ levels) × (sum board < levels)
+
+-- how the files of so many levels answer a service
+abbrev pub by_files : (ℕ → Option (Option (List ℕ))) → Answering ℕ Unsaid
+by_files stands =
+    record { seen = λ levels. levels; entry = IsEntrySaid stands; moves = λ replies. AreMovesSaid replies stands; line = line_of; number = number_of; name = name_of }
+
+-- Where the input is known, and what the writer holds: what was written is the output for it, by the files of so many levels.
+abbrev pub IsServedSaid : (ℕ → Option (Option (List ℕ))) → ℕ → Option (List ℕ) → Option (List ℕ) → Option (List ℕ) → Type 0
+IsServedSaid stands levels input before after = (bytes : List ℕ) × IsInput input bytes × HasServed (by_files stands) levels before bytes after levels
+
+-- They are those of the folder by their headers, where it is known what has the names.
+pub record PrintsServiceSaid (stands : ℕ → Option (Option (List ℕ))) (input before after : Option (List ℕ)) : Type 0 where
+  pub opened : Opened
+  pub framed : (names : ℕ → Option (List ℕ)) → AreNames stands names → AreFramed HIGHEST_LEVEL names opened
+  pub served : IsServedSaid stands opened.levels input before after
