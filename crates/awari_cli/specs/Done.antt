@@ -23,6 +23,7 @@ use Rattle.awari_questions.specs.Boards.{PrintsAllBoards, PrintsBoardsBy}
 use Rattle.awari_questions.specs.Counts.{PrintsCountsBy}
 use Rattle.awari_questions.specs.Places.{PrintsBoard, PrintsPlace}
 use Rattle.awari_questions.specs.Plays.{PrintsPlays}
+use Rattle.awari_unverified.specs.Said.{PrintsServiceSaid}
 use Rattle.awari_words.specs.declared.requests.Question.{Question}
 use Rattle.awari_words.specs.declared.requests.Question.TheVariants.{Verify, Text, Ask, Moves, Line, Serve, Counts, Boards}
 use Rattle.awari_words.specs.declared.requests.Request.{Request}
@@ -44,7 +45,8 @@ PrintsAnswer (Line board longest false json false) stands input before after = P
 PrintsAnswer (Line board longest false json true) stands input before after = PrintsLineSaid longest json stands board.now before after
 PrintsAnswer (Line board longest true json false) stands input before after = PrintsPlies stands longest json board.now before after
 PrintsAnswer (Line board longest true json true) stands input before after = PrintsPliesSaid stands longest json board.now before after
-PrintsAnswer (Serve top owners unverified) stands input before after = PrintsService stands input before after
+PrintsAnswer (Serve top owners false) stands input before after = PrintsService stands input before after
+PrintsAnswer (Serve top owners true) stands input before after = PrintsServiceSaid stands input before after
 PrintsAnswer (Counts level json unverified) stands input before after = PrintsCountsBy unverified json stands level before after
 PrintsAnswer (Boards level value distance farthest every count unverified) stands input before after =
     PrintsBoardsBy unverified stands

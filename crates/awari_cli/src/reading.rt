@@ -17,6 +17,7 @@ use awari_answers::{
 };
 use awari_folder::Folder;
 use awari_questions::{BoardsQuery, CountsQuery, run_all_boards, run_boards, run_counts};
+use awari_unverified::run_serve_unverified;
 use awari_words::Question;
 use std::alloc::Global;
 use std::io::{Read, Write};
@@ -151,6 +152,10 @@ fn run_question<
                 (true, true) => run_plies_unverified(folder, alloc, query, output),
             }
         }
+        Question::Serve {
+            unverified: true,
+            ..
+        } => run_serve_unverified(folder, streams),
         Question::Serve { top, owners, .. } => {
             run_serve(rt, folder, alloc, Growth { top, owners }, streams)
         }
