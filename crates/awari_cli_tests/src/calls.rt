@@ -188,7 +188,7 @@ fn folder_with_a_gap(
 }
 
 /// The files of levels 0 and 1.
-fn two_files(
+pub(crate) fn two_files(
     rt: &(impl Abort + AllocGlobal + Threads + Wait + Sync),
 ) -> Result<(Vec<u8>, Vec<u8>), Fail> {
     let mut folder = memory_folder(rt.alloc());

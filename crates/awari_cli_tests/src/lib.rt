@@ -48,6 +48,8 @@ mod stubborn;
 #[cfg(test)]
 mod texts;
 #[cfg(test)]
+mod unverified_services;
+#[cfg(test)]
 mod wishes;
 #[cfg(test)]
 mod words;

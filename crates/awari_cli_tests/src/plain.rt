@@ -8,7 +8,9 @@ use awari_cli::{
     run_ask, run_build_in, run_line, run_moves, run_serve, run_text, run_verify,
 };
 use awari_file_tests::MemoryFolder;
+use awari_folder::Folder;
 use awari_phase::{Progress, Silent};
+use awari_unverified::run_serve_unverified;
 use std::alloc::Global;
 use std::fs::File;
 use std::io::{self, Read, Write};
@@ -171,6 +173,14 @@ pub(crate) fn served(
         errors: io::sink(),
     };
     run_serve(rt, folder, rt.alloc(), Growth { top, owners }, &mut streams)
+}
+
+/// Serves a folder by what its files say, and gives the status.
+pub(crate) fn served_said<F: Folder, R: Read, W: Replies, E>(
+    folder: &mut F,
+    streams: &mut Streams<R, W, E>,
+) -> u8 {
+    run_serve_unverified(folder, streams)
 }
 
 /// Runs the program on these words over the host's disk, and gives the status.

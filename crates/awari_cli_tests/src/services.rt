@@ -72,7 +72,7 @@ seen 2
 "#;
 
 /// Lines, and what is written of them by a reader that knows levels 0 and 1.
-type Lines = (&'static str, &'static str);
+pub(crate) type Lines = (&'static str, &'static str);
 
 const WORKED: Lines = (INPUT, OUTPUT);
 
@@ -234,7 +234,7 @@ fn expect_bytes(rt: &impl Abort, failing: Failing, written: &[u8], expected: &[u
 }
 
 /// Requests, and what is written of them by a reader that knows levels 0 and 1.
-const REQUESTS: [Lines; 8] = [
+pub(crate) const REQUESTS: [Lines; 8] = [
     WORKED,
     MOVES,
     PROBES,
