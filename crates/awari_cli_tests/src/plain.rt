@@ -10,6 +10,7 @@ use awari_cli::{
 use awari_file_tests::MemoryFolder;
 use awari_folder::Folder;
 use awari_phase::{Progress, Silent};
+use awari_questions::{BoardsQuery, run_all_boards, run_boards};
 use awari_unverified::run_serve_unverified;
 use std::alloc::Global;
 use std::fs::File;
@@ -157,6 +158,32 @@ pub(crate) fn texted(
     output: &mut impl Replies,
 ) -> u8 {
     run_text(rt, folder, rt.alloc(), None, output)
+}
+
+/// Prints the boards of level 1 of the folder, and gives the status.
+pub(crate) fn listed(
+    rt: &(impl AllocGlobal + Threads + Wait + Sync),
+    folder: &mut MemoryFolder,
+    output: &mut impl Replies,
+) -> u8 {
+    let query = BoardsQuery {
+        level: 1,
+        value: None,
+        distance: None,
+        farthest: false,
+        every: 1,
+        count: false,
+    };
+    run_boards(rt, folder, rt.alloc(), &query, output)
+}
+
+/// Prints the boards of all levels of the folder, and gives the status.
+pub(crate) fn all_listed(
+    rt: &(impl AllocGlobal + Threads + Wait + Sync),
+    folder: &mut MemoryFolder,
+    output: &mut impl Replies,
+) -> u8 {
+    run_all_boards(rt, folder, rt.alloc(), None, output)
 }
 
 /// Serves the folder while levels up to this one are built by so many owners, and gives the status.

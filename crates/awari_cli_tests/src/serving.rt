@@ -2,7 +2,9 @@
 
 use crate::commands::Broken;
 use crate::expect::expect_equal;
-use crate::plain::{build, lined, memory_folder, served, texted, verified, weighed};
+use crate::plain::{
+    all_listed, build, lined, listed, memory_folder, served, texted, verified, weighed,
+};
 use awari_cli::Replies;
 use awari_file_tests::MemoryFolder;
 use std::alloc::Global;
@@ -282,9 +284,33 @@ fn expect_answers_whole(
     expect_equal(rt, "text", (output.flushes, output.is_held), (1, false));
 }
 
+/// The boards of a level, or of all levels, are passed on.
+fn expect_boards_passed(
+    rt: &(impl Abort + AllocGlobal + Threads + Wait + Sync + Send + Clone + Drop + 'static),
+    folder: &mut MemoryFolder,
+) {
+    let mut output = Passing::new();
+    let _status = listed(rt, folder, &mut output);
+    expect_equal(
+        rt,
+        "boards",
+        (output.flushes > 0, output.is_held),
+        (true, false),
+    );
+    let mut output = Passing::new();
+    let _status = all_listed(rt, folder, &mut output);
+    expect_equal(
+        rt,
+        "all boards",
+        (output.flushes > 0, output.is_held),
+        (true, false),
+    );
+}
+
 #[test]
 fn each_printed_line_is_passed_on(rt: HostRuntime) {
     let mut folder = memory_folder(rt.alloc());
     expect_lines_passed(&rt, &mut folder);
     expect_answers_whole(&rt, &mut folder);
+    expect_boards_passed(&rt, &mut folder);
 }

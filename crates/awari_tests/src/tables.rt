@@ -235,10 +235,15 @@ fn has_no_entry_of_a_level_above(rt: HostRuntime) -> Result<(), Fail> {
 
 #[test]
 fn keeps_a_vector_as_entries(rt: HostRuntime) -> Result<(), Fail> {
-    let entries = Entries::from(level_1().to_vec(rt.alloc())?);
+    let mut given = level_1().to_vec(rt.alloc())?;
+    given.reserve(88)?;
+    let room = given.capacity();
+    let entries = Entries::from(given);
     expect_level_1(&rt, &entries);
     let vector = entries.into_vec(rt.alloc())?;
     expect_equal(&rt, "a vector", vector.as_slice(), level_1().as_slice());
+    // It is the one that was given: a copy has no room for more.
+    expect_equal(&rt, "room", vector.capacity(), room);
     Ok(())
 }
 
