@@ -1,12 +1,8 @@
 // Preloaded, refuses one growth of memory: the one that REFUSE_GROWTH numbers, counted from 1. It
 // makes the file REFUSE_MARK then, so that who started the program knows that this growth was asked
-// for. What the loader takes before the program begins is not counted. With REFUSE_THREADS, no thread
-// can be started.
-#define _GNU_SOURCE
-#include <dlfcn.h>
+// for. What the loader takes before the program begins is not counted.
 #include <errno.h>
 #include <fcntl.h>
-#include <pthread.h>
 #include <stdatomic.h>
 #include <stddef.h>
 #include <stdlib.h>
@@ -51,11 +47,4 @@ int posix_memalign(void **place, size_t align, size_t size) {
   if (!made) return ENOMEM;
   *place = made;
   return 0;
-}
-
-int pthread_create(pthread_t *thread, const pthread_attr_t *how, void *(*work)(void *), void *with) {
-  if (getenv("REFUSE_THREADS")) return EAGAIN;
-  int (*create)(pthread_t *, const pthread_attr_t *, void *(*)(void *), void *) =
-      dlsym(RTLD_NEXT, "pthread_create");
-  return create(thread, how, work, with);
 }

@@ -173,6 +173,7 @@ pub(crate) fn listed(
         farthest: false,
         every: 1,
         count: false,
+        unverified: false,
     };
     run_boards(rt, folder, rt.alloc(), &query, output)
 }

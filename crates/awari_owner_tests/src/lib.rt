@@ -24,6 +24,10 @@ mod false_notes;
 #[cfg(test)]
 mod grids;
 #[cfg(test)]
+mod hearing;
+#[cfg(test)]
+mod later_rounds;
+#[cfg(test)]
 mod notes;
 #[cfg(test)]
 mod outboxes;
@@ -43,5 +47,7 @@ mod shelves;
 mod stops;
 #[cfg(test)]
 mod sweeps;
+#[cfg(test)]
+mod told;
 #[cfg(test)]
 mod wrong_builds;

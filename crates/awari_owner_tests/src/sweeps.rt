@@ -11,10 +11,7 @@ use crate::shelves::{levels_below, one_level};
 use awari_block::Note;
 use awari_build::{Pace, build_level};
 use awari_owner::{Batch, OwnerFault};
-use awari_phase::{
-    Gate, Open, Owner, PhaseFault, Progress, gain_phase, gain_phase_with_progress, open_gain,
-    round, scanned_owners,
-};
+use awari_phase::{Gate, Open, Owner, PhaseFault, gain_phase, open_gain, round, scanned_owners};
 use awari_table::Shelf;
 use std::alloc::Global;
 use std::process::Abort;
@@ -72,7 +69,7 @@ fn an_idle_owner_enters_once(rt: HostRuntime) -> Result<(), Fail> {
 }
 
 /// So many owners of this level, with its stones as the open gain.
-fn opened_owners<R: Threads + Sync + Abort>(
+pub(crate) fn opened_owners<R: Threads + Sync + Abort>(
     rt: &R,
     alloc: Global,
     level: u8,
@@ -193,45 +190,4 @@ fn a_build_keeps_to_its_sweeps(rt: HostRuntime) -> Result<(), Fail> {
     expect_sweeps_of_a_build(&rt, rt.alloc(), &shelf, (1, 2))?;
     expect_sweeps_of_a_build(&rt, rt.alloc(), &shelf, (2, 4))?;
     expect_sweeps_of_a_build(&rt, rt.alloc(), &shelf, (1000, 4))
-}
-
-/// Hears when rounds end, and keeps how many sweeps the first owner made in each of the first four.
-#[derive(Drop)]
-struct FirstRounds<'a> {
-    gate: &'a Counting,
-    ended: usize,
-    sweeps: [u64; 4],
-}
-
-impl Progress for FirstRounds<'_> {
-    ghost stops = { ⊥ };
-
-    fn begin(&mut self, _level: usize, _boards: usize) {}
-
-    fn settled(&mut self, _gain: usize, _boards: usize) {
-        let sweeps = self.gate.sweeps();
-        if self.ended < 4 {
-            self.sweeps[self.ended] = sweeps[0];
-            self.ended += 1;
-        }
-    }
-
-    fn plan(&mut self) {}
-}
-
-/// Of level 11, the first of two owners has the 4368 boards where the mover has no stone, at distance
-/// 0: more than it spreads in 68 sweeps. In a round in turn it makes at most 16, so 17 are of a round
-/// in threads, and all four rounds are.
-#[test]
-fn rounds_in_threads_come_after_the_first(rt: HostRuntime) -> Result<(), Fail> {
-    let owners = opened_owners(&rt, rt.alloc(), 11, 2)?;
-    let gate = Counting::new();
-    let mut rounds = FirstRounds {
-        gate: &gate,
-        ended: 0,
-        sweeps: [0; 4],
-    };
-    let _owners = gain_phase_with_progress(&rt, owners, &gate, 17, &mut rounds)?;
-    expect_equal(&rt, "sweeps", rounds.sweeps, [17, 17, 17, 17]);
-    Ok(())
 }

@@ -1,0 +1,114 @@
+//! A progress that keeps what it hears, and stops a build at any of its asks.
+
+ghost use Rattle.std.specs.Prelude.{⊤};
+
+use awari_build::{
+    BuildFault, Pace, Watch, build_alone_with_progress, build_level_with_progress,
+    build_together_with_progress,
+};
+use awari_phase::{Open, Progress};
+use awari_table::{Level, Shelf};
+use std::alloc::Global;
+use std::sync::Wait;
+use std::thread::Threads;
+
+/// What a progress hears, and where it is asked whether the level is still wanted.
+#[derive(Clone, Copy, Debug, PartialEq, Eq)]
+pub(crate) enum Heard {
+    /// A level of so many stones begins, which has so many boards.
+    Begun(usize, usize),
+    /// The level is wanted as far as it is asked.
+    Asked,
+    /// This gain is open, and so many boards are settled and were spread.
+    Settled(usize, usize),
+    /// The entries are begun.
+    Planned,
+}
+
+/// Keeps what it hears, and wants the level so many times.
+#[derive(Drop)]
+struct Listener {
+    wants: u32,
+    heard: Vec<Heard>,
+}
+
+impl Listener {
+    /// What is not kept for want of memory is missed later.
+    fn hear(&mut self, heard: Heard) {
+        let _ = self.heard.push(heard);
+    }
+}
+
+impl Progress for Listener {
+    ghost stops = { ⊤ };
+
+    fn begin(&mut self, level: usize, boards: usize) {
+        self.hear(Heard::Begun(level, boards));
+    }
+
+    fn settled(&mut self, gain: usize, boards: usize) {
+        self.hear(Heard::Settled(gain, boards));
+    }
+
+    fn plan(&mut self) {
+        self.hear(Heard::Planned);
+    }
+
+    fn is_wanted(&mut self) -> bool {
+        self.hear(Heard::Asked);
+        if self.wants == 0 {
+            return false;
+        }
+        self.wants -= 1;
+        true
+    }
+}
+
+/// Who builds a level.
+#[derive(Clone, Copy, Debug)]
+pub(crate) enum Builder {
+    /// One part.
+    Alone,
+    /// So many threads together.
+    Together(usize),
+    /// So many owners.
+    Owners(u8),
+}
+
+/// Builds the shelf's next level.
+fn built(
+    rt: &(impl Threads + Wait + Sync),
+    alloc: Global,
+    shelf: &Shelf,
+    builder: Builder,
+    progress: &mut Listener,
+) -> Result<Level, BuildFault> {
+    match builder {
+        Builder::Alone => build_alone_with_progress(alloc, shelf, progress),
+        Builder::Together(threads) => {
+            build_together_with_progress(rt, alloc, shelf, threads, progress)
+        }
+        Builder::Owners(owners) => {
+            let gate = &Open;
+            let watch = Watch { gate, progress };
+            build_level_with_progress(rt, alloc, shelf, Pace::usual(owners), watch)
+        }
+    }
+}
+
+/// Builds the shelf's next level while it is wanted so many times. Gives the refusal, and what was heard.
+pub(crate) fn listened(
+    rt: &(impl Threads + Wait + Sync),
+    alloc: Global,
+    shelf: &Shelf,
+    builder: Builder,
+    wants: u32,
+) -> (Option<BuildFault>, Vec<Heard>) {
+    let mut listener = Listener {
+        wants,
+        heard: Vec::new(alloc),
+    };
+    let fault = built(rt, alloc, shelf, builder, &mut listener).err();
+    let Listener { wants: _, heard } = listener;
+    (fault, heard)
+}
