@@ -210,15 +210,11 @@ fn cores_are_refused_in_order(rt: HostRuntime) {
     expect_no_core(&rt, rt.alloc(), 2, 257, CoreFault::Room);
 }
 
-/// Sixteen owners build the shelf's next level by these events, again and again.
-fn expect_built_by_16(
-    rt: &impl Abort,
-    alloc: Global,
-    shelf: &Shelf,
-    events: &[Event],
-) -> Result<(), Fail> {
-    let mut core = Core::new(alloc, shelf, 16, 1)?;
-    expect_closed(rt, &mut core, events);
+/// So many owners build the shelf's next level by all events, again and again.
+fn expect_built_by(rt: &impl Abort, alloc: Global, shelf: &Shelf, owners: u8) -> Result<(), Fail> {
+    let events = all_events(alloc, owners)?;
+    let mut core = Core::new(alloc, shelf, owners, 1)?;
+    expect_closed(rt, &mut core, &events);
     expect_level(rt, alloc, shelf, &core)
 }
 
@@ -228,10 +224,15 @@ pub(crate) fn expect_closed(rt: &impl Abort, core: &mut Core, events: &[Event]) 
 
 #[test]
 fn sixteen_owners_build_level_1_and_6(rt: HostRuntime) -> Result<(), Fail> {
-    let events = all_events(rt.alloc(), 16)?;
     for count in [1, 6u8] {
         let shelf = levels_below(rt.alloc(), count)?;
-        expect_built_by_16(&rt, rt.alloc(), &shelf, &events)?;
+        expect_built_by(&rt, rt.alloc(), &shelf, 16)?;
     }
     Ok(())
+}
+
+#[test]
+fn three_owners_build_level_8_by_events(rt: HostRuntime) -> Result<(), Fail> {
+    let shelf = levels_below(rt.alloc(), 8)?;
+    expect_built_by(&rt, rt.alloc(), &shelf, 3)
 }

@@ -28,7 +28,8 @@ fn open_next_gain(rt: &impl Abort, part: &mut Part, outboxes: &Outboxes)
     part.open_gain(gain - 1);
 }
 
-/// The part takes the note, if the board that it is for is in its block.
+/// The part takes the note, if the board that it is for is in its block. The note's distance is opened
+/// first, if no board is fresh.
 fn take_own(rt: &impl Abort, part: &mut Part, outboxes: &Outboxes, note: Note)
     requires made { IsPartOf part.old outboxes.now }
     ensures made { IsPartOf part.new outboxes.now }
@@ -36,6 +37,9 @@ fn take_own(rt: &impl Abort, part: &mut Part, outboxes: &Outboxes, note: Note)
 {
     let (start, end) = part.block();
     if start <= note.target && note.target < end {
+        if part.wave() < note.dist && part.idle() {
+            part.open_wave(note.dist);
+        }
         expect_equal(rt, note, part.take(note), Ok(()));
     }
 }
@@ -176,5 +180,21 @@ fn a_plan_serves_though_a_note_denies_it(rt: HostRuntime) -> Result<(), Fail> {
     expect_even(&rt, &image, 89);
     expect_even(&rt, &image, 91);
     expect_entry(&rt, &image, 202, even);
+    Ok(())
+}
+
+/// The board of rank 6, which alone is the seventh owner's, hears that its pit leads to a board that is won
+/// in 9000 plies. So it is lost in 9001, which no short entry has room for.
+#[test]
+fn far_boards_are_finished(rt: HostRuntime) -> Result<(), Fail> {
+    let far = Note { dist: 9000, ..NOTE };
+    let image = finished(&rt, rt.alloc(), (1, 12), far)?;
+    let lost = Entry {
+        value: -1,
+        plan: Some(5),
+        dist: 9001,
+    };
+    expect_entry(&rt, &image, 6, lost);
+    expect_equal(&rt, "limit", image.limit, 9001);
     Ok(())
 }
