@@ -1,6 +1,5 @@
 -- The command `serve` with `--unverified`: what is answered by what files say, whether that is right or not.
 use Rattle.std.specs.Prelude.{◌≡◌, ℕ, ◌<◌, ◌≤◌, Bool, List, Option, sum, Result, Ok, Err}
-use Rattle.awari_board.specs.Rules.{IsBoard}
 use Rattle.awari_desk.specs.Answering.{Answering}
 use Rattle.awari_desk.specs.Service.{IsInput, HasServed}
 use Rattle.awari_folder.specs.Contents.{AreNames}

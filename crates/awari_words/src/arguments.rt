@@ -211,7 +211,7 @@ pub(crate) fn served_owners<'a>(alloc: Global) -> Arg<'a>
     let owners = Arg::new(alloc, "OWNERS").default_value("0");
     owners
         .value_parser(ValueParser::unsigned(0, u64::from(MOST_OWNERS)))
-        .help("Owners of a level, 0 to 16; with 0 all threads build it together")
+        .help("Owners of a level, 0 to 16; 0 for all threads together")
 }
 
 pub(crate) fn ranked_level<'a>(alloc: Global) -> Arg<'a>
@@ -348,5 +348,5 @@ pub(crate) fn unverified<'a>(alloc: Global) -> Arg<'a>
     Arg::new(alloc, "unverified")
         .long("unverified")
         .action(ArgAction::SetTrue)
-        .help("Answer at once by what the files say, and verify nothing")
+        .help("Answer at once by what files say, and verify nothing")
 }
