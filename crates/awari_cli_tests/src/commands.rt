@@ -61,8 +61,8 @@ pub(crate) fn expect_run(
 }
 
 /// Whether the error stream tells something: with status 2, of a folder that is not there, is empty or has
-/// a gap, of what `check` or `verify` finds wrong, and of a build with nothing to do. Other refusals are
-/// remarks, which this output does not keep.
+/// a gap, of what `check` or `verify` finds wrong, of a build with nothing to do, and that nothing is
+/// verified. Other refusals are remarks, which this output does not keep.
 fn is_told(words: &[&str], printed: &str, status: u8) -> bool {
     status == 2
         || words.contains(&NOWHERE)
@@ -70,6 +70,7 @@ fn is_told(words: &[&str], printed: &str, status: u8) -> bool {
         || printed.contains("levels 0") && !words.contains(&"check")
         || status == 1 && (words.contains(&"check") || words.contains(&"verify"))
         || printed.is_empty() && words.contains(&"--folder")
+        || words.contains(&"--unverified")
 }
 
 /// What was printed of these words is this text.

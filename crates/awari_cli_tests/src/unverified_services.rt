@@ -53,11 +53,11 @@ seen 2
 
 /// What is said if the board's value stands there as 1, which is wrong.
 const WRONG_VALUE: &str = r#"1 5 1
-pit 5 captures 0 value -1 distance 1
+pit 5 captures 0 value -1 distance 1 plan
 
-pit 5 captures 0 value -1 distance 1 replies 0 keep 0
+pit 5 captures 0 value -1 distance 1 replies 0 keep 0 plan
 
-{"board":"0,0,0,0,0,1/0,0,0,0,0,0","value":1,"plan":5,"distance":1,"moves":[{"pit":5,"captures":0,"value":-1,"distance":1,"plan":false}]}
+{"board":"0,0,0,0,0,1/0,0,0,0,0,0","value":1,"plan":5,"distance":1,"moves":[{"pit":5,"captures":0,"value":-1,"distance":1,"plan":true}]}
 seen 2
 "#;
 
