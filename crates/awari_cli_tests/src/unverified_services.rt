@@ -63,6 +63,7 @@ seen 2
 
 /// Where the value and the plan of that board stand in the file of level 1.
 const VALUE_PLACE: usize = 88;
+
 const PLAN_PLACE: usize = 89;
 
 /// Serves lines by what the files say, and compares what is printed and the status.

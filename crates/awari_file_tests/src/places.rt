@@ -5,7 +5,8 @@ use crate::folders::{empty_folder, host, lay};
 use crate::levels::{changed, right_file, right_shelf, save_two};
 use crate::memory::MemoryFolder;
 use crate::plain::{
-    entries_of_level_2, level_of, limit_of_level_2, line_in, longest_in, look_up, memory_folder, refuse,
+    entries_of_level_2, level_of, limit_of_level_2, line_in, longest_in, look_up, memory_folder,
+    refuse,
 };
 use awari_board::Board;
 use awari_file::FileFault;
@@ -196,7 +197,12 @@ fn entries_are_read_many_at_once(rt: HostRuntime) -> Result<(), Fail> {
     let level = level_of(&shelf, 2)?;
     let entries = entries_of_level_2(rt.alloc(), &mut folder)?;
     let wanted = level.to_vec(rt.alloc())?;
-    expect_equal(&rt, "entries", entries.as_slice() == wanted.as_slice(), true);
+    expect_equal(
+        &rt,
+        "entries",
+        entries.as_slice() == wanted.as_slice(),
+        true,
+    );
     let limit = limit_of_level_2(&mut folder);
     expect_equal(&rt, "limit", limit, Ok(level.limit()));
     let file = changed(rt.alloc(), &right, 53, 6)?;

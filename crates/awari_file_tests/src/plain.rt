@@ -8,7 +8,9 @@ use awari_file::{FileFault, Loaded, compare_level, read_image, write_level};
 use awari_folder::{
     Alone, Folder, FolderFault, Migrated, Stored, load, migrate, save, save_or_keep,
 };
-use awari_places::{Run, best_line, entry, entry_in_run, limit_in_header, longest_line, open_levels};
+use awari_places::{
+    Run, best_line, entry, entry_in_run, limit_in_header, longest_line, open_levels,
+};
 use awari_rank::size;
 use awari_table::{Counted, Entry, HIGHEST_LEVEL, Image, Level, Shelf, TableText};
 use awari_verify::{VerifyFault, verify};
