@@ -12,7 +12,7 @@ use Rattle.awari_block.specs.declared.cells.Cell.{Cell}
 use Rattle.awari_block.specs.declared.cells.Mark.{Mark}
 use Rattle.awari_block.specs.declared.cells.Mark.TheVariants as mark
 use Rattle.awari_block.specs.declared.stakes.Stake.{Stake}
-use Rattle.awari_block.specs.Awaited.{AwaitsNoMore, MayOpen, NoneAwait, TellAwaited}
+use Rattle.awari_block.specs.Awaited.{AwaitsNoMore, AwaitsNone, MayOpen, NoneAwait, TellAwaited}
 use Rattle.awari_block.specs.Blocks.{Due, no_cell}
 use Rattle.awari_block.specs.Boards.{OpensCells}
 use Rattle.awari_block.specs.Part.{Part, part_of}
@@ -93,25 +93,37 @@ none_among t low high awaits others k inside from to =
 
 -- ---- the bytes are filled
 
--- the first of them are
-pub record AreFilled (n : ℕ) (cells : List Cell) (gains : List ℕ) (to : ℕ) : Type 0 where
+-- the first of them are, those of boards that await none by d
+pub record AreFilled (n d : ℕ) (cells : List Cell) (gains : List ℕ) (to : ℕ) : Type 0 where
   pub boards : length gains ≡ length cells
   pub only : (k t : ℕ) → k < to → MayOpen (get_or cells k no_cell).mark (get_or cells k no_cell).score n t → get_or gains k 0 ≡ t
+  pub none : (k : ℕ) → k < to → AwaitsNone (get_or cells k no_cell) n → get_or gains k 0 ≡ d
 
-pub filled_none : (n : ℕ) (cells : List Cell) (gains : List ℕ) → length gains ≡ length cells → AreFilled n cells gains 0
-filled_none n cells gains boards = record { boards = boards; only = λ k t below may. absurd (omega (arith, below)) }
+pub filled_none : (n d : ℕ) (cells : List Cell) (gains : List ℕ) → length gains ≡ length cells → AreFilled n d cells gains 0
+filled_none n d cells gains boards = record { boards = boards; only = λ k t below may. absurd (omega (arith, below)); none = λ k below idle. absurd (omega (arith, below)) }
 
-pub filled_more : (n i g d : ℕ) (cells : List Cell) (gains : List ℕ) (o : Option ℕ) → i < length cells → ((t : ℕ) → MayOpen (get_or cells i no_cell).mark (get_or cells i no_cell).score n t → o ≡ Some t) → g ≡ unwrap_or o d
-    → AreFilled n cells gains i → AreFilled n cells (set gains i g) (i + 1)
-filled_more n i g d cells gains o inside only is before = record {
+-- what is noted of a board that awaits none
+noted_none : (n g d : ℕ) (c : Cell) (o : Option ℕ) → IfSome o (MayOpen c.mark c.score n) → g ≡ unwrap_or o d → AwaitsNone c n → g ≡ d
+noted_none n g d c None found is idle = is
+noted_none n g d c (Some t) found is idle = absurd (idle t found)
+
+pub filled_more : (n i g d : ℕ) (cells : List Cell) (gains : List ℕ) (o : Option ℕ) → i < length cells → IfSome o (MayOpen (get_or cells i no_cell).mark (get_or cells i no_cell).score n)
+    → ((t : ℕ) → MayOpen (get_or cells i no_cell).mark (get_or cells i no_cell).score n t → o ≡ Some t) → g ≡ unwrap_or o d
+    → AreFilled n d cells gains i → AreFilled n d cells (set gains i g) (i + 1)
+filled_more n i g d cells gains o inside found only is before = record {
   boards = length-set gains i g ∙ before.boards;
   only = λ k t below may. elim (cases_eq k i) [
-    | inl same ↦
-        ap (λ j. get_or (set gains i g) j 0) same ∙ get_or-set_same gains i g 0 (let boards = before.boards in omega (arith, boards, inside)) ∙ is
-        ∙ ap (λ (p : Option ℕ). unwrap_or p d) (only t (subst (λ j. MayOpen (get_or cells j no_cell).mark (get_or cells j no_cell).score n t) same may))
+    | inl same ↦ here k same ∙ is ∙ ap (λ (p : Option ℕ). unwrap_or p d) (only t (subst (λ j. MayOpen (get_or cells j no_cell).mark (get_or cells j no_cell).score n t) same may))
     | inr other ↦ get_or-set_other gains i k g 0 other ∙ before.only k t (omega (arith, below, other)) may
   ];
+  none = λ k below idle. elim (cases_eq k i) [
+    | inl same ↦ here k same ∙ noted_none n g d (get_or cells i no_cell) o found is (subst (λ j. AwaitsNone (get_or cells j no_cell) n) same idle)
+    | inr other ↦ get_or-set_other gains i k g 0 other ∙ before.none k (omega (arith, below, other)) idle
+  ];
 }
+  where
+    here : (k : ℕ) → k ≡ i → get_or (set gains i g) k 0 ≡ g
+    here k same = ap (λ j. get_or (set gains i g) j 0) same ∙ get_or-set_same gains i g 0 (let boards = before.boards in omega (arith, boards, inside))
 
-pub filled_all : (n to : ℕ) (cells : List Cell) (gains : List ℕ) → length cells ≤ to → AreFilled n cells gains to → TellAwaited n cells gains
-filled_all n to cells gains end filled = record { boards = filled.boards; only = λ k t below. filled.only k t (omega (arith, below, end)) }
+pub filled_all : (n d to : ℕ) (cells : List Cell) (gains : List ℕ) → length cells ≤ to → AreFilled n d cells gains to → TellAwaited n cells gains
+filled_all n d to cells gains end filled = record { boards = filled.boards; only = λ k t below. filled.only k t (omega (arith, below, end)) }

@@ -1,5 +1,5 @@
 -- What the boards of a block are once another cell stands in place of one.
-use Rattle.std.proofs.Common.{◌≡◌, ℕ, ◌-◌, true, false, List, get_or, set, sym, ap, subst, ◌∙◌}
+use Rattle.std.proofs.Common.{◌≡◌, ℕ, ◌-◌, true, false, List, get_or, set, sym, ap, subst, ◌∙◌, arith}
 use Rattle.std.proofs.lemmas.List.{get_or_default}
 use Rattle.std.specs.Vec.{with_item}
 use Rattle.awari_block.specs.declared.boards.Boards.TheInside.{Inside}
@@ -21,7 +21,7 @@ seen a = part_of a.stake a.start a.cells.items (fresh_of a.start a.cells.items a
 
 -- the boards with this cell for that of the board of this rank, and with what is kept of the fresh ones
 abbrev pub with_cell : Inside → ℕ → Cell → Fresh → Inside
-with_cell a rank new fresh = record { start = a.start; stake = a.stake; cells = with_item a.cells (rank - a.start) new; fresh = fresh; awaits = a.awaits; index = a.index }
+with_cell a rank new fresh = record { start = a.start; stake = a.stake; cells = with_item a.cells (rank - a.start) new; fresh = fresh; awaits = a.awaits; spread = a.spread; index = a.index }
 
 -- the new cell may take the place of the old one, which is that of the board of this rank
 pub record Replaces (a : Inside) (rank : ℕ) (old new : Cell) : Type 0 where
@@ -41,8 +41,8 @@ module _ (a : Inside) (sound : IsBoards a) (rank : ℕ) (old new : Cell) (put : 
   pub still_marks : IsFresh a.stake.wave after a.fresh
   still_marks = put_marks a.stake a.start a.cells.items a.fresh sound.block sound.marks rank new put.can.held.0 put.can.held.1 put.can.keeps
 
-  still_boards : (fresh : Fresh) → IsFresh a.stake.wave after fresh → IsBlock a.stake a.start after (fresh_of a.start after fresh) → IsBoards (with_cell a rank new fresh)
-  still_boards fresh marks block =
+  still_boards : (fresh : Fresh) → IsFresh a.stake.wave after fresh → Settles (seen a) (seen (with_cell a rank new fresh)) → IsBlock a.stake a.start after (fresh_of a.start after fresh) → IsBoards (with_cell a rank new fresh)
+  still_boards fresh marks settles block =
       record {
         low = sound.low;
         opened = sound.opened;
@@ -53,6 +53,7 @@ module _ (a : Inside) (sound : IsBoards a) (rank : ℕ) (old new : Cell) (put : 
         block = block;
         awaited = awaited_put a.stake.level (rank - a.start) a.cells.items a.awaits.items new put.can.held.1 put.can.awaits sound.awaited;
         index = sound.index;
+        count = let count = sound.count in let same = settles.unspread in let size = settles.size in omega (arith, count, same, size);
       }
 
   module _ (open_mark : is_settled old.mark ≡ false) where
@@ -65,19 +66,25 @@ module _ (a : Inside) (sound : IsBoards a) (rank : ℕ) (old new : Cell) (put : 
 
     -- it joins them where it is settled now
     module _ (settled : is_settled new.mark ≡ true) (fresh : Fresh) (one : MarksOne (rank - a.start) a.fresh.words.items fresh.words.items) where
+      joined_at : Settles (seen a) (seen (with_cell a rank new fresh))
+      joined_at = joined_settles a.stake a.start a.cells.items a.fresh sound.block sound.marks rank new put.can settled open_before fresh.words.items one
+
       pub joined_boards : IsFresh a.stake.wave after fresh → IsBoards (with_cell a rank new fresh)
-      joined_boards marks = still_boards fresh marks (joined_block a.stake a.start a.cells.items a.fresh sound.block sound.marks rank new put.can settled open_before fresh.words.items one)
+      joined_boards marks = still_boards fresh marks joined_at (joined_block a.stake a.start a.cells.items a.fresh sound.block sound.marks rank new put.can settled open_before fresh.words.items one)
 
       pub joined_seen : (part : Part) → seen a ≡ part → Settles part (seen (with_cell a rank new fresh))
-      joined_seen part view = subst (λ (o : Part). Settles o (seen (with_cell a rank new fresh))) view (joined_settles a.stake a.start a.cells.items a.fresh sound.block sound.marks rank new put.can settled open_before fresh.words.items one)
+      joined_seen part view = subst (λ (o : Part). Settles o (seen (with_cell a rank new fresh))) view joined_at
 
   -- and else they stay as they are
   module _ (back : is_settled new.mark ≡ true → is_settled old.mark ≡ true) where
     settled_before : is_settled new.mark ≡ true → is_settled (cell_in a.start a.cells.items rank).mark ≡ true
     settled_before settled = ap (λ (c : Cell). is_settled c.mark) put.was ∙ back settled
 
+    kept_at : Settles (seen a) (seen (with_cell a rank new a.fresh))
+    kept_at = kept_settles a.stake a.start a.cells.items a.fresh sound.block sound.marks rank new put.can settled_before
+
     pub kept_boards : IsBoards (with_cell a rank new a.fresh)
-    kept_boards = still_boards a.fresh still_marks (kept_block a.stake a.start a.cells.items a.fresh sound.block sound.marks rank new put.can settled_before)
+    kept_boards = still_boards a.fresh still_marks kept_at (kept_block a.stake a.start a.cells.items a.fresh sound.block sound.marks rank new put.can settled_before)
 
     pub kept_seen : (part : Part) → seen a ≡ part → Settles part (seen (with_cell a rank new a.fresh))
-    kept_seen part view = subst (λ (o : Part). Settles o (seen (with_cell a rank new a.fresh))) view (kept_settles a.stake a.start a.cells.items a.fresh sound.block sound.marks rank new put.can settled_before)
+    kept_seen part view = subst (λ (o : Part). Settles o (seen (with_cell a rank new a.fresh))) view kept_at

@@ -1,14 +1,19 @@
 -- What settles boards and does no more: nothing at all, two such steps, and a cell that is put.
-use Rattle.std.proofs.Common.{◌≡◌, ℕ, ◌+◌, ◌-◌, ◌<◌, ◌≤◌, Bool, true, false, not, ◌&&◌, List, ◌∷◌, length, set, refl, sym, ap, subst, subst₂, ◌∙◌, arith, length-set}
+use Rattle.std.proofs.Common.{◌≡◌, ℕ, ◌+◌, ◌-◌, ◌<◌, ◌≤◌, Bool, true, false, not, ◌&&◌, cond, ℤ, inl, inr, List, [], ◌∷◌, length, All, set, refl, sym, ap, subst, subst₂, ◌∙◌, arith, length-set}
 use Rattle.std.proofs.lemmas.Bool.{false≢true}
+use Rattle.std.proofs.lemmas.Int.{ints}
+use Rattle.std.proofs.lemmas.List.Elements.{All-head, All-tail}
 use Rattle.std.proofs.lemmas.List.Sorted.{length_permutation}
+use Rattle.std.proofs.lemmas.List.Sums.{sum_by-cons}
 use Rattle.std.specs.List.Sorted.{IsPermutation}
 use Rattle.awari_block.specs.declared.cells.Cell.{Cell}
 use Rattle.awari_block.specs.declared.fresh.Fresh.{Fresh}
 use Rattle.awari_block.specs.declared.stakes.Stake.{Stake}
-use Rattle.awari_block.specs.Cells.{is_settled, Keeps}
+use Rattle.awari_block.specs.declared.cells.Mark.{Mark}
+use Rattle.awari_block.specs.declared.cells.Mark.TheVariants as mark
+use Rattle.awari_block.specs.Cells.{is_settled, FitsBy, Keeps}
 use Rattle.awari_block.specs.Fresh.{due_of, fresh_of, IsFresh, MarksOne}
-use Rattle.awari_block.specs.Blocks.{Due, cell_in, is_settled_in, IsBlock}
+use Rattle.awari_block.specs.Blocks.{Due, cell_in, is_settled_in, unsettled, IsBlock}
 use Rattle.awari_block.specs.Part.{Part, part_of, SameLevel}
 use Rattle.awari_block.specs.Boards.{CanPut, Settles, stake_of}
 use Rattle.awari_block.proofs.BlockLemmas.{JoinsIf, keeps_both, keeps_same, one_if, put_joined, put_joins, put_kept, put_stays, put_unspread}
@@ -52,6 +57,27 @@ settles_both a b c one two =
       unspread = two.unspread ∙ one.unspread;
       fresh = λ are. two.fresh (one.fresh are);
     }
+
+-- ---- before any gain is open
+
+open_by : (m : Mark) (n : ℕ) (score : ℤ) (dist : ℕ) → FitsBy m n (n + 1) score dist → is_settled m ≡ false
+open_by mark.Settled n score dist (within, beyond) = absurd (elim beyond [
+  | inl won ↦ let high = within.1 in omega (arith, ints, won, high)
+  | inr lost ↦ let low = within.0 in omega (arith, ints, lost, low)
+])
+open_by mark.Quiet n score dist fits = refl
+open_by mark.Capturing n score dist fits = refl
+open_by mark.Noted n score dist fits = refl
+open_by mark.Ended n score dist fits = refl
+
+-- no board is settled
+pub none_settled : (n : ℕ) (cells : List Cell) → All (λ c. FitsBy c.mark n (n + 1) c.score c.dist) cells → unsettled cells ≡ length cells
+none_settled n [] fit = refl
+none_settled n (c ∷ cells) fit =
+    let rest = none_settled n cells (All-tail (λ (d : Cell). FitsBy d.mark n (n + 1) d.score d.dist) c cells fit) in
+    let here : one_if (not (is_settled c.mark)) ≡ 1 = ap (λ b. one_if (not b)) (open_by c.mark n c.score c.dist (All-head (λ (d : Cell). FitsBy d.mark n (n + 1) d.score d.dist) c cells fit)) in
+    let sums = sum_by-cons (λ (d : Cell). cond (not (is_settled d.mark)) 1 0) c cells in
+    omega (arith, rest, here, sums)
 
 -- ---- a cell that is put
 

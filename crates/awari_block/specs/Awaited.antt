@@ -14,6 +14,10 @@ MayOpen mark.Quiet score n t = ⊥
 MayOpen mark.Noted score n t = ⊥
 MayOpen mark.Settled score n t = ⊥
 
+-- in the level of n stones no opening settles a board of this cell
+abbrev pub AwaitsNone : Cell → ℕ → Type 0
+AwaitsNone c n = (t : ℕ) → MayOpen c.mark c.score n t → ⊥
+
 -- what a cell awaits, it awaited before
 abbrev pub AwaitsNoMore : Cell → Cell → Type 0
 AwaitsNoMore old new = (n t : ℕ) → MayOpen new.mark new.score n t → MayOpen old.mark old.score n t

@@ -1,9 +1,10 @@
 -- The fields of the boards of a block.
-use Rattle.std.specs.Prelude.{◌≡◌, ◌+◌, ◌^◌, ◌<◌, ◌≤◌, vec_len}
+use Rattle.std.specs.Prelude.{◌≡◌, ◌+◌, ◌^◌, ◌<◌, ◌≤◌, length, vec_len}
 use Rattle.awari_rank.specs.Rank.{size_of}
 use Rattle.awari_block.specs.Fresh.{IsFresh, fresh_of}
 use Rattle.awari_block.specs.Awaited.{TellAwaited}
 use Rattle.awari_block.specs.Blocks.{IsBlock}
+use Rattle.awari_block.specs.Part.{part_of, unspread}
 use Rattle.awari_block.specs.declared.boards.Boards.TheInside.{Inside}
 
 pub record IsBoards (a : Inside) : Type 0 where
@@ -16,3 +17,4 @@ pub record IsBoards (a : Inside) : Type 0 where
   pub block : IsBlock a.stake a.start a.cells.items (fresh_of a.start a.cells.items a.fresh)
   pub awaited : TellAwaited a.stake.level a.cells.items a.awaits.items
   pub index : a.index ≡ a.stake.level
+  pub count : a.spread + unspread (part_of a.stake a.start a.cells.items (fresh_of a.start a.cells.items a.fresh)) ≡ length a.cells.items

@@ -4,25 +4,27 @@
 //! bytes, and reads the cells of the few boards that may await it.
 
 ghost use Rattle.std.specs.Prelude.{◌≡◌, ◌≢◌, ℕ, ◌+◌, ◌<◌, ◌≤◌, false, All, IfNone, IfOk, IfSome, length, slice_index_or};
-ghost use Rattle.awari_block.specs.Awaited.{NoneAwait, TellAwaited};
+ghost use Rattle.awari_block.specs.Awaited.{AwaitsNone, NoneAwait, TellAwaited};
+ghost use Rattle.awari_block.specs.Blocks.{no_cell};
 ghost use Rattle.awari_block.specs.Cells.{FitsBy};
 
 use crate::cells::Cell;
 use std::alloc::{AllocError, Global};
 
 /// What a board awaits if no opening settles it. No gain is so great.
-const NO_GAIN: u8 = 255;
+pub const NO_GAIN: u8 = 255;
 
 /// How many boards are asked together whether one of them awaits a gain.
 const STRETCH: usize = 64;
 
-/// For each of these boards of a level the gain whose opening may settle it, with no gain open. It
-/// takes a byte a board, and is refused only if memory runs out. Conditions: the level has at most 24
+/// For each of these boards of a level the gain whose opening may settle it, with no gain open, or
+/// [`NO_GAIN`]. It takes a byte a board, and is refused only if memory runs out. Conditions: the level has at most 24
 /// stones, and each cell fits it.
 pub fn awaited_gains(alloc: Global, level: u8, cells: &[Cell]) -> Result<Vec<u8>, AllocError>
     requires low { level ≤ 24 }
     requires fit { All (λ c. FitsBy c.mark level (level + 1) c.score c.dist) cells.now }
-    ensures { IfOk result (λ awaits. TellAwaited level cells.now awaits.items) }
+    ensures told { IfOk result (λ awaits. TellAwaited level cells.now awaits.items) }
+    ensures none { IfOk result (λ awaits. (k : ℕ) → k < length cells.now → AwaitsNone (slice_index_or cells.now k no_cell) level → slice_index_or awaits.items k 0 ≡ NO_GAIN) }
 {
     let mut awaits = vec![in alloc; NO_GAIN; cells.len()]?;
     for index in 0..cells.len() {
@@ -34,6 +36,7 @@ pub fn awaited_gains(alloc: Global, level: u8, cells: &[Cell]) -> Result<Vec<u8>
 /// The index of the first board from this one on that awaits the gain, none if no board does.
 pub fn next_awaiting(gain: u8, awaits: &[u8], from: usize) -> Option<usize>
     ensures some { IfSome result (λ index. (from ≤ index) × (index < length awaits.now) × NoneAwait gain awaits.now from index) }
+    ensures awaits { IfSome result (λ index. slice_index_or awaits.now index 0 ≡ gain) }
     ensures none { IfNone result (NoneAwait gain awaits.now from (length awaits.now)) }
 {
     let mut index = from;
@@ -53,6 +56,7 @@ fn passed_over(gain: u8, awaits: &[u8], index: usize) -> usize
     requires inside { index < length awaits.now }
     ensures few { result ≤ STRETCH }
     ensures others { NoneAwait gain awaits.now index (index + result) }
+    ensures here { result ≡ 0 → slice_index_or awaits.now index 0 ≡ gain }
 {
     if index % STRETCH == 0 {
         let end = awaits.len().min(index + STRETCH);

@@ -7,6 +7,7 @@ ghost use Rattle.awari_block.specs.Cells.{Fits, FitsBy, view_of};
 ghost use Rattle.awari_block.specs.Steps.{cell_after_opening};
 ghost use Rattle.awari_block.specs.Blocks.{due_dist, no_cell};
 ghost use Rattle.awari_block.specs.Part.{Part as PartView, AreFresh, InBlock, IsLeastDue, settled_at, stored_at, IsClosed};
+ghost use Rattle.awari_block.specs.Counts.{spread_of};
 ghost use Rattle.awari_block.specs.Boards.{CanHear, CanPut, HearsNote, IsNextOfWave, OpensCells, Settles, TakesFirst, stake_of};
 
 use crate::awaited::{awaited_gains, next_awaiting};
@@ -24,8 +25,9 @@ use std::marker::Model;
 /// settled and not spread yet.
 ///
 /// Stake, cells and fresh boards go together: the fresh boards are ordered by the distances in the
-/// cells, and the open gain limits what a cell may hold. The last two fields save time. One says
-/// which gain each board awaits. The other finds the board of a rank.
+/// cells, and the open gain limits what a cell may hold. The last three fields save time. One says
+/// which gain each board awaits, and one how many boards were spread. The last finds the board of a
+/// rank.
 #[derive(Drop)]
 pub struct Boards {
     /// The rank of the first board.
@@ -34,6 +36,7 @@ pub struct Boards {
     cells: Vec<Cell>,
     fresh: Fresh,
     awaits: Vec<u8>,
+    spread: usize,
     index: Index,
 }
 
@@ -83,6 +86,7 @@ impl Boards {
             cells,
             fresh,
             awaits,
+            spread: 0,
             index,
         })
     }
@@ -157,7 +161,16 @@ impl Boards {
         self.fresh.len()
     }
 
-    /// How many fresh boards are of the open wave.
+    /// How many are settled and were spread.
+    pub fn boards_spread(&self) -> usize
+        ensures count { result ≡ spread_of self.now }
+        ensures few { result < 2 ^ 32 }
+    {
+        self.spread
+    }
+
+    /// How many fresh boards are of the open wave. It tells whether the wave is worth threads; no clause
+    /// speaks of it.
     pub fn wave_boards(&self) -> usize {
         self.fresh.near_len()
     }
@@ -182,6 +195,7 @@ impl Boards {
         let Some(index) = self.fresh.take_first() else {
             unreachable!()
         };
+        self.spread += 1;
         self.start + index
     }
 

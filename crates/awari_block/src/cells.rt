@@ -187,6 +187,7 @@ impl Cell {
         requires low { level ≤ 24 }
         requires fits { FitsBy self.now.mark level (level + 1) self.now.score self.now.dist }
         ensures few { IfSome result (λ t. t ≤ 24) }
+        ensures some { IfSome result (MayOpen self.now.mark self.now.score level) }
         ensures only { (t : ℕ) → MayOpen self.now.mark self.now.score level t → result ≡ Some t }
     {
         match self.mark {

@@ -1,11 +1,11 @@
 -- The runs of a level, one after the other.
-use Rattle.std.proofs.Common.{◌≡◌, ℕ, ◌+◌, ◌*◌, ◌-◌, ◌<◌, ◌≤◌, inl, inr, min, List, [], ◌∷◌, ◌++◌, length, map, get_or, sum, drop, Option, Some, None, IfNone, IfSome, refl, sym, ◌∙◌, ap, subst, subst₂, take, arith, length-append}
+use Rattle.std.proofs.Common.{◌≡◌, ℕ, ◌+◌, ◌*◌, ◌-◌, ◌<◌, ◌≤◌, ◌⊎◌, inl, inr, min, List, [], ◌∷◌, ◌++◌, length, map, get_or, sum, drop, Option, Some, None, IfNone, IfSome, refl, sym, ◌∙◌, ap, subst, subst₂, take, arith, length-append}
 use Rattle.std.proofs.lemmas.Bool.{cases_lt}
 use Rattle.std.proofs.lemmas.List.{get_or_append_left, get_or-append_right, get_or_default, get_or-map, length-map}
 use Rattle.awari_board.specs.Rules.{IsBoard}
 use Rattle.awari_rank.specs.Rank.{rank_of, size_of}
 use Rattle.awari_rank.proofs.Ranking.{rank_fixes, rank_of-below}
-use Rattle.awari_index.specs.Runs.{AreAllTails, AreRuns, AreWindows, IsBoardAt, IsHead, IsStretch, board_in, fillings, first_of, no_run, none, starts_to}
+use Rattle.awari_index.specs.Runs.{AreAllTails, AreRuns, AreWindows, EndsRun, IsBoardAt, IsHead, IsStretch, board_in, fillings, first_of, no_run, none, starts_to}
 use Rattle.awari_index.specs.declared.runs.Run.{Run}
 use Rattle.awari_index.proofs.Halving.{few_rest, rank_none, run_board}
 use Rattle.awari_rank.proofs.Reaching.{size_of-positive}
@@ -175,17 +175,32 @@ stretch_found n rank end starts boards tails run all of order count each =
           (run_board n run starts boards (rank - run.start + k) [] of.head all (omega (arith, h, count, inside)));
     }
 
+-- they end at rank `end`, or with their run
+stretch_ended : (n rank end : ℕ) (starts : List ℕ) (boards tails : List (List ℕ)) (run : Run) → AreAllTails (n + 1) starts boards → IsOf n rank starts run → rank < end
+    → length tails ≡ min (end - rank) (fillings starts run.stones - (rank - run.start))
+    → ((j : ℕ) → j < length tails → board_in tails j ≡ board_in boards (get_or starts run.stones 0 + (rank - run.start) + j))
+    → (rank + length tails ≡ end) ⊎ EndsRun tails
+stretch_ended n rank end starts boards tails run all of order count each =
+    let inside = of.inside in
+    let tails_are = all.each run.stones (let few = few_rest n run.start run.stones run.board of.head.at of.head.rest in omega (arith, few)) in
+    elim (cases_lt (length tails) (end - rank)) [
+      | inl less ↦
+          let last : get_or starts run.stones 0 + (rank - run.start) + (length tails - 1) ≡ get_or starts (run.stones + 1) 0 - 1 = omega (arith, less, count, inside) in
+          inr (run.stones, each (length tails - 1) (omega (arith, less, count, inside)) ∙ ap (board_in boards) last ∙ tails_are.last)
+      | inr all_of ↦ inl (omega (arith, all_of, count, order))
+    ]
+
 -- and all that is read for them
 pub stretch_read : (n m rank end : ℕ) (starts : List ℕ) (boards tails : List (List ℕ)) (runs slice : List Run) (i : ℕ) (run : Run) → n ≡ m → slice ≡ runs → AreAllTails (n + 1) starts boards → AreRuns n starts runs (size_of n)
     → i < length slice → (get_or slice i no_run).start ≤ rank → (i + 1 < length slice → rank < (get_or slice (i + 1) no_run).start) → rank < end → end ≤ size_of m → run ≡ get_or runs i run
     → length tails ≡ min (end - rank) (fillings starts run.stones - (rank - run.start))
     → ((j : ℕ) → j < length tails → board_in tails j ≡ board_in boards (get_or starts run.stones 0 + (rank - run.start) + j))
-    → IsStretch m rank run.board tails
+    → IsStretch m rank run.board tails × ((rank + length tails ≡ end) ⊎ EndsRun tails)
 stretch_read n m rank end starts boards tails runs slice i run level same all are inside begun before order within is count each =
-    subst (λ k. IsStretch k rank run.board tails) level
-    (stretch_found n rank end starts boards tails run all
-    (run_read n starts runs i rank run are (subst (λ (rs : List Run). i < length rs) same inside) (subst (λ (rs : List Run). (get_or rs i no_run).start ≤ rank) same begun)
-    (subst (λ (rs : List Run). i + 1 < length rs → rank < (get_or rs (i + 1) no_run).start) same before) (omega (arith, order, within, ap size_of level)) is) order count each)
+    let of =
+        run_read n starts runs i rank run are (subst (λ (rs : List Run). i < length rs) same inside) (subst (λ (rs : List Run). (get_or rs i no_run).start ≤ rank) same begun)
+        (subst (λ (rs : List Run). i + 1 < length rs → rank < (get_or rs (i + 1) no_run).start) same before) (omega (arith, order, within, ap size_of level)) is in
+    (subst (λ k. IsStretch k rank run.board tails) level (stretch_found n rank end starts boards tails run all of order count each), stretch_ended n rank end starts boards tails run all of order count each)
 
 -- ---- windows
 

@@ -83,6 +83,10 @@ pub record IsStretch (n r : ℕ) (head : List ℕ) (tails : List (List ℕ)) : T
   pub some : 0 < length tails
   pub each : (k : ℕ) → k < length tails → IsBoardAt n (r + k) (take 6 head ++ drop 6 (board_in tails k))
 
+-- the last of these has all its stones in pit 6, with which each run ends
+abbrev pub EndsRun : List (List ℕ) → Type 0
+EndsRun tails = (k : ℕ) × (board_in tails (length tails - 1) ≡ none ++ last_of k)
+
 -- ---- windows
 
 -- for each rank that is a multiple of `width` a run that begins there or earlier

@@ -1,9 +1,9 @@
 //! The tables, and a board by its rank.
 
-ghost use Rattle.std.specs.Prelude.{◌≡◌, ◌<◌, ◌≤◌, ◌+◌, IfOk, length, sum, slice_index_or};
+ghost use Rattle.std.specs.Prelude.{◌≡◌, ◌<◌, ◌≤◌, ◌+◌, ◌⊎◌, IfOk, length, sum, slice_index_or};
 ghost use Rattle.awari_board.specs.Rules.{IsBoard};
 ghost use Rattle.awari_rank.specs.Rank.{rank_of, size_of};
-ghost use Rattle.awari_index.specs.Runs.{AreWindows, IsStretch, no_run};
+ghost use Rattle.awari_index.specs.Runs.{AreWindows, EndsRun, IsStretch, no_run};
 
 use crate::runs::{Run, run_of, runs_of};
 use crate::tails::Tails;
@@ -85,6 +85,7 @@ impl Index {
         requires within { end ≤ size_of self.now }
         ensures boards { IsStretch self.now rank result.head result.tails.now }
         ensures within { rank + length result.tails.now ≤ end }
+        ensures last { (rank + length result.tails.now ≡ end) ⊎ EndsRun result.tails.now }
     {
         let from = self.windows[(rank / WIDTH) as usize];
         let run = self.runs[run_of(self.runs.as_slice(), from, rank)];

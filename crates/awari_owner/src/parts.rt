@@ -5,6 +5,7 @@ ghost use Rattle.awari_rank.specs.Rank.{size_of};
 ghost use Rattle.awari_block.specs.Cells.{IsWithin, IsBeyond};
 ghost use Rattle.awari_block.specs.Blocks.{due_dist};
 ghost use Rattle.awari_block.specs.Boards.{Settles};
+ghost use Rattle.awari_block.specs.Counts.{spread_of};
 ghost use Rattle.awari_block.specs.Part.{Part as PartView, InBlock, Leaves, IsExpected, stored_at, settled_at, IsLeastDue, AreFresh, IsClosed};
 ghost use Rattle.awari_owner.specs.OwnerFault.{IsFaultOf};
 ghost use Rattle.awari_block.specs.Shares.{first_rank};
@@ -176,6 +177,14 @@ impl Part {
         ensures { result ≡ length self.now.fresh }
     {
         self.boards.fresh_boards()
+    }
+
+    /// How many boards of the block are settled and were spread.
+    pub fn boards_spread(&self) -> usize
+        ensures count { result ≡ spread_of self.now }
+        ensures few { result < 2 ^ 32 }
+    {
+        self.boards.boards_spread()
     }
 
     /// How many fresh boards are of the open wave. It tells whether the wave is worth threads; no clause

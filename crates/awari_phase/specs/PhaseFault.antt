@@ -61,12 +61,15 @@ IfTogether owners Holds fault = (value : List ℕ → ℤ) (n : ℕ) → n ≤ H
 abbrev pub IsStop : Type 0 → PhaseFault → Type 0
 IsStop stops fault = (fault ≡ Stopped) × stops
 
--- Why a round of these owners is refused: a thread was wanting, or memory, or the owners came back from their work, each up to its
--- fault if it had one, and this is the fault of the first that had one.
+-- the owners came back from their work, each up to its fault if it had one, and this is the fault of the first that had one
+abbrev pub IsOfOwner : List Owner → PhaseFault → Type 0
+IsOfOwner owners fault = (back : List Owner) × HaveWorked owners back × IsFirstFault back fault
+
+-- why a round of these owners is refused: a thread was wanting, or an owner had a fault
 abbrev pub IsRefusal : List Owner → PhaseFault → Type 0
 IsRefusal owners NotStarted = Unit {0}
-IsRefusal owners Memory = Unit {0}
-IsRefusal owners (BadNote owner fault) = (back : List Owner) × HaveWorked owners back × IsFirstFault back (BadNote owner fault)
+IsRefusal owners Memory = IsOfOwner owners Memory
+IsRefusal owners (BadNote owner fault) = IsOfOwner owners (BadNote owner fault)
 IsRefusal owners Stopped = ⊥
 
 -- Why rounds that began with these owners are refused: they had come to some owners, and the round of those was refused so.

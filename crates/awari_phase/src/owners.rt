@@ -37,8 +37,6 @@ pub struct Owner {
     pub outboxes: Outboxes,
     /// Why its worker stopped in the last round, if a step was refused.
     pub(crate) fault: Option<OwnerFault>,
-    /// How many boards of its part are settled and were spread.
-    boards_spread: usize,
     ghost queues: { length outboxes.queues ≡ owners_of ends },
     ghost numbered: { outboxes.owner ≡ ends.owner },
     ghost part_of: { IsPartOf part outboxes },
@@ -71,13 +69,7 @@ impl Owner {
             ends,
             outboxes,
             fault: None,
-            boards_spread: 0,
         }
-    }
-
-    /// How many boards of its part are settled and were spread.
-    pub(crate) fn settled_boards(&self) -> usize {
-        self.boards_spread
     }
 
     /// What it has to spread, to send and to take, as far as that is known, in boards to be spread. It
@@ -157,7 +149,6 @@ impl Owner {
         ensures stopped { IfErr result (Stopped self.old self.new) }
     {
         let done = self.part.spread_one(&mut self.outboxes)?;
-        self.boards_spread = self.boards_spread.saturating_add(usize::from(done));
         Ok(done)
     }
 

@@ -142,11 +142,15 @@ fn tell<P: Progress>(progress: &mut P, owners: &[Owner]) {
 }
 
 /// How many boards are settled and were spread, of all owners together.
-fn settled_boards(owners: &[Owner]) -> usize {
-    owners.iter().fold(
-        0,
-        |sum: usize, owner: &Owner| sum.saturating_add(owner.settled_boards()),
-    )
+fn settled_boards(owners: &[Owner]) -> usize
+    requires { IsGrid (all_ends owners.now) }
+    ensures { result ≡ spread_in (parts_of owners.now) }
+{
+    let mut boards: usize = 0;
+    for owner in owners {
+        boards += owner.part.boards_spread();
+    }
+    boards
 }
 
 /// Looks at all owners and at every ring. True if no board of the open wave is fresh, and nothing is to

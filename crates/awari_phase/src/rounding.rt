@@ -29,7 +29,7 @@ use std::thread::Threads;
 /// are gone:
 ///
 /// - 40 `NotStarted`: a thread could not be started.
-/// - 41 `Memory`: memory ran out, here or for the first owner that had a fault.
+/// - 41 `Memory`: memory ran out for the first owner that had a fault.
 /// - 42 `BadNote`: the first owner that had a fault was sent a note that it refuses, or could not
 ///   spread a board. If the owners were sound together, it cannot occur.
 pub fn round<R: Threads + Wait + Sync, G: Gate + Sync>(

@@ -1,11 +1,11 @@
 //! How owners work, each in a thread of its own or several on the caller's, and how a start that fails is
 //! reported.
 
-ghost use Rattle.std.specs.Prelude.{◌≡◌, ◌≤◌, IfOk, IfErr, vec_len, ◌+◌, ◌++◌, ◌∷◌, [], Ok};
+ghost use Rattle.std.specs.Prelude.{◌≡◌, ◌≤◌, ◌<◌, IfOk, IfErr, vec_len, vec_capacity, ◌+◌, ◌++◌, ◌∷◌, [], Ok, Err};
+ghost use Rattle.std.specs.Result.{ForOk};
 ghost use Rattle.std.specs.declared.vec.Vec.{Vec as AVec};
 ghost use Rattle.std.specs.declared.alloc.Global.{Global};
 ghost use denote.Param.Send.{IsSync};
-ghost use Rattle.awari_phase.specs.PhaseFault.{IsWant};
 ghost use Rattle.awari_phase.specs.Stops.{HasWorked, HaveWorked};
 ghost use Rattle.awari_phase.specs.declared.owners.Owner.{Owner as AnOwner};
 
@@ -38,8 +38,9 @@ fn worked<G: Gate>(mut owner: Owner, gate: &G, sweeps: u32) -> Owner
 /// thread of its own.
 ///
 /// It starts the last owner, then the others before it, and joins it whatever became of those. So all
-/// that were started are joined before a refusal is answered. It is 40 `NotStarted` if one could not
-/// be started, and 41 `Memory` if memory runs out.
+/// that were started are joined before a refusal is answered. It is refused as 40 `NotStarted` alone: if
+/// one could not be started. The owners come back into the list that they were in, so no memory is
+/// taken for them.
 #[cycle(starts)]
 pub(crate) fn work_all<R: Threads + Wait + Sync, G: Gate + Sync>(
     rt: &R,
@@ -51,7 +52,8 @@ pub(crate) fn work_all<R: Threads + Wait + Sync, G: Gate + Sync>(
     requires { 1 ≤ sweeps }
     ensures len { IfOk result (λ all. vec_len all ≡ vec_len owners) }
     ensures worked { IfOk result (λ all. HaveWorked owners.items all.items) }
-    ensures wanting { IfErr result IsWant }
+    ensures room { IfOk result (λ all. vec_capacity owners ≤ vec_capacity all) }
+    ensures wanting { IfErr result (λ fault. fault ≡ PhaseFault.NotStarted) }
 {
     if owners.len() <= here {
         work_in_turn(owners.as_mut_slice(), gate, sweeps);
@@ -65,7 +67,7 @@ pub(crate) fn work_all<R: Threads + Wait + Sync, G: Gate + Sync>(
         rt,
         |scope| -> Result<Vec<Owner>, PhaseFault>
             requires { IsSync R.row × IsSync G.row × (1 ≤ sweeps) }
-            ensures { IfOk result (λ all. (vec_len all ≡ vec_len owners + 1) × HaveWorked (owners.items ++ owner ∷ []) all.items) × IfErr result IsWant }
+            ensures { IfOk result (λ all. (vec_len all ≡ vec_len owners + 1) × HaveWorked (owners.items ++ owner ∷ []) all.items × (vec_capacity owners ≤ vec_capacity all)) × IfErr result (λ fault. fault ≡ PhaseFault.NotStarted) }
         {
             let promise = KeptFrom(Snapshot::of(&owner));
             match scope.spawn_with(promise, move || worked(owner, gate, sweeps)) {
@@ -89,14 +91,15 @@ fn work_in_turn<G: Gate>(owners: &mut [Owner], gate: &G, sweeps: u32)
     }
 }
 
-/// The owners with one more at the end.
+/// The owners with one more at the end, for which their list has room.
 fn with_last(others: Result<Vec<Owner>, PhaseFault>, last: Owner) -> Result<Vec<Owner>, PhaseFault>
-    ensures ok { IfOk result (λ all. (before : AVec AnOwner Global) × (others ≡ Ok before) × (all.items ≡ before.items ++ last ∷ [])) }
-    ensures wanting { IfErr others IsWant → IfErr result IsWant }
+    requires room { ForOk others (λ before. vec_len before < vec_capacity before) }
+    ensures ok { IfOk result (λ all. (before : AVec AnOwner Global) × (others ≡ Ok before) × (all.items ≡ before.items ++ last ∷ []) × (vec_capacity before ≤ vec_capacity all)) }
+    ensures same { IfErr result (λ fault. others ≡ Err fault) }
 {
     let mut all = others?;
     match all.push(last) {
         Ok(()) => Ok(all),
-        Err(_) => Err(PhaseFault::Memory),
+        Err(_) => unreachable!(),
     }
 }

@@ -1,13 +1,13 @@
 -- What a segment is once it gave fresh boards away.
-use Rattle.std.proofs.Common.{◌≡◌, ◌≢◌, ℕ, zero, suc, ◌+◌, ◌<◌, List, [], ◌∷◌, ◌++◌, length, get_or, map, ℤ, pos, neg_ℤ, Some, refl, sym, ap, subst, subst₂, ◌∙◌, arith, true, inl, inr, append_assoc}
+use Rattle.std.proofs.Common.{◌≡◌, ◌≢◌, ℕ, zero, suc, ◌+◌, ◌<◌, List, [], ◌∷◌, ◌++◌, length, get_or, map, ℤ, pos, neg_ℤ, Some, refl, sym, ap, subst, subst₂, ◌∙◌, arith, true, inl, inr, append_assoc, length-append}
 use Rattle.std.proofs.lemmas.Int.{ints}
 use Rattle.std.proofs.lemmas.List.{get_or-map, length-map}
 use Rattle.std.proofs.lemmas.List.Elements.{All-from_recursion, All-cons, All-tail}
-use Rattle.std.proofs.lemmas.List.Sorted.{IsPermutation-refl, IsPermutation-sym, IsPermutation-trans, IsPermutation-append_comm, IsPermutation-append_left, IsPermutation-append_right, All-permutation}
+use Rattle.std.proofs.lemmas.List.Sorted.{IsPermutation-refl, IsPermutation-sym, IsPermutation-trans, IsPermutation-append_comm, IsPermutation-append_left, IsPermutation-append_right, All-permutation, length_permutation}
 use Rattle.std.specs.List.{All, AllByRecursion}
 use Rattle.std.specs.List.Sorted.{IsPermutation}
 use Rattle.awari_block.specs.Cells.{IsEither}
-use Rattle.awari_block.specs.Blocks.{Due, cell_in, due_dist, due_rank, is_settled_in, times_due, IsBlock, IsDueAs}
+use Rattle.awari_block.specs.Blocks.{Due, cell_in, due_dist, due_rank, is_settled_in, times_due, unsettled, IsBlock, IsDueAs}
 use Rattle.awari_block.specs.Part.{Part, InBlock, settled_at}
 use Rattle.awari_block.specs.declared.cells.Cell.{Cell}
 use Rattle.awari_block.specs.declared.notes.Kind.{Kind}
@@ -87,6 +87,15 @@ either_of : (Q : Due → Type 0) (xs ys : List Due) → All Q xs → All Q ys �
 either_of Q [] ys a b = b
 either_of Q (x ∷ xs) ys a b = All-cons Q x (xs ++ ys) (a 0 x (omega arith)) (either_of Q xs ys (All-tail Q x xs a) b)
 
+-- what is given away is spread
+given_count : (w : ℕ) (given : List ℕ) (rest fresh : List Due) (spread : ℕ) (cells : List Cell) → IsPermutation (map (λ r. (w, r)) given ++ rest) fresh
+    → spread + (length fresh + unsettled cells) ≡ length cells → spread + length given + (length rest + unsettled cells) ≡ length cells
+given_count w given rest fresh spread cells moved count =
+    let longer = length_permutation (map (due_at w) given ++ rest) fresh moved in
+    let both = length-append (map (due_at w) given) rest in
+    let long : length (map (due_at w) given) ≡ length given = length-map given (due_at w) in
+    omega (arith, longer, both, long, count)
+
 -- ---- a segment
 
 -- a fresh board of this sign
@@ -156,7 +165,7 @@ module _ (a : Inside) (sound : IsSegment a) where
     mine_kept : All (IsMine a.stake a.start a.cells.items IsBelowZero) (map (λ r. (a.stake.wave, r)) lost_given ++ dues_of lost)
     mine_kept = All-permutation (IsMine a.stake a.start a.cells.items IsBelowZero) (dues_of a.lost) _ (IsPermutation-sym _ _ mine_moved) lost_mine
 
-    pub lost_given_segment : IsSegment (record { start = a.start; stake = a.stake; cells = a.cells; awaits = a.awaits; lost = lost; won = a.won })
+    pub lost_given_segment : IsSegment (record { start = a.start; stake = a.stake; cells = a.cells; awaits = a.awaits; lost = lost; won = a.won; spread = a.spread + length lost_given })
     lost_given_segment = record {
       low = sound.low;
       opened = sound.opened;
@@ -167,9 +176,10 @@ module _ (a : Inside) (sound : IsSegment a) where
       block = block_less a.stake a.start a.cells.items (map (λ r. (a.stake.wave, r)) lost_given) (dues_of lost ++ dues_of a.won) fresh moved sound.block;
       lost = λ k d h. (All-append_second (IsMine a.stake a.start a.cells.items IsBelowZero) (map (λ r. (a.stake.wave, r)) lost_given) (dues_of lost) mine_kept k d h).2;
       won = sound.won;
+      count = given_count a.stake.wave lost_given (dues_of lost ++ dues_of a.won) fresh a.spread a.cells.items moved sound.count;
     }
 
-    pub lost_gives : GivesFresh Lost (seen a) (seen (record { start = a.start; stake = a.stake; cells = a.cells; awaits = a.awaits; lost = lost; won = a.won })) lost_given
+    pub lost_gives : GivesFresh Lost (seen a) (seen (record { start = a.start; stake = a.stake; cells = a.cells; awaits = a.awaits; lost = lost; won = a.won; spread = a.spread + length lost_given })) lost_given
     lost_gives = record {
       rest = refl;
       moved = moved;
@@ -197,7 +207,7 @@ module _ (a : Inside) (sound : IsSegment a) where
     mine_kept_won : All (IsMine a.stake a.start a.cells.items IsAboveZero) (map (λ r. (a.stake.wave, r)) won_given ++ dues_of won)
     mine_kept_won = All-permutation (IsMine a.stake a.start a.cells.items IsAboveZero) (dues_of a.won) _ (IsPermutation-sym _ _ mine_moved_won) won_mine
 
-    pub won_given_segment : IsSegment (record { start = a.start; stake = a.stake; cells = a.cells; awaits = a.awaits; lost = a.lost; won = won })
+    pub won_given_segment : IsSegment (record { start = a.start; stake = a.stake; cells = a.cells; awaits = a.awaits; lost = a.lost; won = won; spread = a.spread + length won_given })
     won_given_segment = record {
       low = sound.low;
       opened = sound.opened;
@@ -208,9 +218,10 @@ module _ (a : Inside) (sound : IsSegment a) where
       block = block_less a.stake a.start a.cells.items (map (λ r. (a.stake.wave, r)) won_given) (dues_of a.lost ++ dues_of won) fresh moved_won sound.block;
       lost = sound.lost;
       won = λ k d h. (All-append_second (IsMine a.stake a.start a.cells.items IsAboveZero) (map (λ r. (a.stake.wave, r)) won_given) (dues_of won) mine_kept_won k d h).2;
+      count = given_count a.stake.wave won_given (dues_of a.lost ++ dues_of won) fresh a.spread a.cells.items moved_won sound.count;
     }
 
-    pub won_gives : GivesFresh Won (seen a) (seen (record { start = a.start; stake = a.stake; cells = a.cells; awaits = a.awaits; lost = a.lost; won = won })) won_given
+    pub won_gives : GivesFresh Won (seen a) (seen (record { start = a.start; stake = a.stake; cells = a.cells; awaits = a.awaits; lost = a.lost; won = won; spread = a.spread + length won_given })) won_given
     won_gives = record {
       rest = refl;
       moved = moved_won;

@@ -73,7 +73,7 @@ seen a = part_of a.stake a.start a.cells.items (dues_of a.lost ++ dues_of a.won)
 
 -- with this cell for that of the board of this rank, and with these fresh boards
 abbrev pub with_cell : Inside → ℕ → Cell → List (List ℕ) → List (List ℕ) → Inside
-with_cell a rank new lost won = record { start = a.start; stake = a.stake; cells = with_item a.cells (rank - a.start) new; awaits = a.awaits; lost = lost; won = won }
+with_cell a rank new lost won = record { start = a.start; stake = a.stake; cells = with_item a.cells (rank - a.start) new; awaits = a.awaits; lost = lost; won = won; spread = a.spread }
 
 -- the new cell takes the place of the old one, which is that of the board of this rank
 pub record Replaces (a : Inside) (rank : ℕ) (old new : Cell) : Type 0 where
@@ -131,8 +131,8 @@ module _ (a : Inside) (sound : IsSegment a) (rank : ℕ) (old new : Cell) (put :
   still_won = kept_scores IsAboveZero a.start a.cells.items after (dues_of a.won) stays (All-append_second (λ (f : Due). is_settled_in a.start a.cells.items (due_rank f) ≡ true) (dues_of a.lost) (dues_of a.won) all_settled) sound.won
 
   segment : (lost won : List (List ℕ)) → IsBlock a.stake a.start after (dues_of lost ++ dues_of won) → AreOfScore IsBelowZero a.start after (dues_of lost)
-      → AreOfScore IsAboveZero a.start after (dues_of won) → IsSegment (with_cell a rank new lost won)
-  segment lost won block are_lost are_won = record {
+      → AreOfScore IsAboveZero a.start after (dues_of won) → Settles (seen a) (seen (with_cell a rank new lost won)) → IsSegment (with_cell a rank new lost won)
+  segment lost won block are_lost are_won settles = record {
     low = sound.low;
     opened = sound.opened;
     inward = sound.inward;
@@ -142,6 +142,7 @@ module _ (a : Inside) (sound : IsSegment a) (rank : ℕ) (old new : Cell) (put :
     awaited = awaited_put a.stake.level (rank - a.start) a.cells.items a.awaits.items new high (subst (λ (c : Cell). AwaitsNoMore c new) (sym put.was) put.awaits) sound.awaited;
     lost = are_lost;
     won = are_won;
+    count = let count = sound.count in let same = settles.unspread in let size = settles.size in omega (arith, count, same, size);
   }
 
   -- what is not newly settled leaves the fresh boards as they are
@@ -152,11 +153,8 @@ module _ (a : Inside) (sound : IsSegment a) (rank : ℕ) (old new : Cell) (put :
     kept_block : IsBlock a.stake a.start after fresh
     kept_block = put_kept a.stake a.start a.cells.items fresh rank new low high sound.block put.fits keeps same_mark
 
-    pub kept_segment : IsSegment (with_cell a rank new a.lost a.won)
-    kept_segment = segment a.lost a.won kept_block still_lost still_won
-
-    pub kept_settles : (part : Part) → seen a ≡ part → Settles part (seen (with_cell a rank new a.lost a.won))
-    kept_settles part view = subst (λ (o : Part). Settles o (seen (with_cell a rank new a.lost a.won))) view (record {
+    kept_at : Settles (seen a) (seen (with_cell a rank new a.lost a.won))
+    kept_at = record {
       same = record { level = refl; gain = refl; wave = refl; start = refl };
       size = length-set a.cells.items (rank - a.start) new;
       stays = stays;
@@ -166,7 +164,13 @@ module _ (a : Inside) (sound : IsSegment a) (rank : ℕ) (old new : Cell) (put :
           let same = ap (λ b. one_if (not b)) same_mark in
           put_unspread a.start a.cells.items fresh fresh rank new high (omega (arith, same));
       fresh = λ _. fresh_of_block a.stake a.start after fresh kept_block;
-    })
+    }
+
+    pub kept_segment : IsSegment (with_cell a rank new a.lost a.won)
+    kept_segment = segment a.lost a.won kept_block still_lost still_won kept_at
+
+    pub kept_settles : (part : Part) → seen a ≡ part → Settles part (seen (with_cell a rank new a.lost a.won))
+    kept_settles part view = subst (λ (o : Part). Settles o (seen (with_cell a rank new a.lost a.won))) view kept_at
 
   -- what is newly settled joins them, or, where that is refused, does not
   module _ (settled : is_settled new.mark ≡ true) (unset : is_settled old.mark ≡ false) where
@@ -218,25 +222,18 @@ module _ (a : Inside) (sound : IsSegment a) (rank : ℕ) (old new : Cell) (put :
     pub won_segment : (won : List (List ℕ)) → won ≡ with_put a.won new.dist rank → IsAboveZero new.score → IsSegment (with_cell a rank new a.lost won)
     won_segment won is above =
         segment a.lost won (joined_block (dues_of a.lost ++ dues_of won) (all_won won is)) still_lost (one_more IsAboveZero (dues_of a.won) (dues_of won) above (moved_won won is) still_won)
+        (joined_settles (dues_of a.lost ++ dues_of won) (all_won won is))
 
     pub lost_segment : (lost : List (List ℕ)) → lost ≡ with_put a.lost new.dist rank → IsBelowZero new.score → IsSegment (with_cell a rank new lost a.won)
     lost_segment lost is below =
         segment lost a.won (joined_block (dues_of lost ++ dues_of a.won) (all_lost lost is)) (one_more IsBelowZero (dues_of a.lost) (dues_of lost) below (moved_lost lost is) still_lost) still_won
+        (joined_settles (dues_of lost ++ dues_of a.won) (all_lost lost is))
 
     pub won_settles : (won : List (List ℕ)) → won ≡ with_put a.won new.dist rank → (part : Part) → seen a ≡ part → Settles part (seen (with_cell a rank new a.lost won))
     won_settles won is part view = subst (λ (o : Part). Settles o (seen (with_cell a rank new a.lost won))) view (joined_settles (dues_of a.lost ++ dues_of won) (all_won won is))
 
     pub lost_settles : (lost : List (List ℕ)) → lost ≡ with_put a.lost new.dist rank → (part : Part) → seen a ≡ part → Settles part (seen (with_cell a rank new lost a.won))
     lost_settles lost is part view = subst (λ (o : Part). Settles o (seen (with_cell a rank new lost a.won))) view (joined_settles (dues_of lost ++ dues_of a.won) (all_lost lost is))
-
-    -- a refusal leaves the board out, and the rest as it was
-    refused_block : IsBlock a.stake a.start after fresh
-    refused_block = popped a.stake a.start after ((new.dist, rank) ∷ fresh) fresh (new.dist, rank) (joined_block ((new.dist, rank) ∷ fresh) (IsPermutation-refl ((new.dist, rank) ∷ fresh))) (IsPermutation-refl ((new.dist, rank) ∷ fresh))
-
-    pub refused_segment : (lost won : List (List ℕ)) → dues_of lost ≡ dues_of a.lost → dues_of won ≡ dues_of a.won → IsSegment (with_cell a rank new lost won)
-    refused_segment lost won same_lost same_won =
-        segment lost won (subst₂ (λ x y. IsBlock a.stake a.start after (x ++ y)) (sym same_lost) (sym same_won) refused_block)
-        (subst (AreOfScore IsBelowZero a.start after) (sym same_lost) still_lost) (subst (AreOfScore IsAboveZero a.start after) (sym same_won) still_won)
 
 -- the fresh boards stay farther, where the new one is
 module _ (a : Inside) (rank : ℕ) (new : Cell) (far : a.stake.wave < new.dist) where

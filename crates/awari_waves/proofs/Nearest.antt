@@ -3,12 +3,13 @@ use Rattle.std.proofs.Common.{◌≡◌, ℕ, ℤ, zero, suc, ◌+◌, ◌<◌, 
 use Rattle.std.specs.Option.{option_eq}
 use Rattle.std.proofs.lemmas.Bool.Decides.{nat_tests}
 use Rattle.std.proofs.lemmas.List.{get_or_default}
-use Rattle.std.proofs.lemmas.List.Elements.{All-append, All-nil}
-use Rattle.awari_block.specs.Blocks.{Due, due_dist}
+use Rattle.std.proofs.lemmas.List.Elements.{All-append, All-cons, All-nil}
+use Rattle.awari_block.specs.Blocks.{Due, due_dist, due_rank, times_due}
 use Rattle.awari_block.specs.Part.{InBlock, IsFreshIn, Part, settled_at}
+use Rattle.awari_block.proofs.BlockLemmas.{one_if, times_due-cons}
 use Rattle.awari_block.proofs.Freshness.{fresh_of_block}
 use Rattle.awari_owner.specs.Level.{no_part, part_at}
-use Rattle.awari_waves.specs.Each.{AreFrom, NoneAreFresh, HasDue, nearer_of}
+use Rattle.awari_waves.specs.Each.{AreFrom, HasFresh, NoneAreFresh, HasDue, nearer_of}
 use Rattle.awari_waves.specs.Lists.{dues_from, dues_of, list_at}
 use Rattle.awari_waves.specs.SegmentFields.{IsSegment}
 use Rattle.awari_waves.specs.declared.segments.Segment.TheInside.{Inside}
@@ -70,16 +71,30 @@ of_list P (l ∷ ls) d n zero value rest is all has =
     head l first all = subst (λ (xs : List ℕ). All P (map (λ r. (d, r)) xs ++ dues_from (suc d) ls)) first all 0 (0, 0) (omega arith)
 of_list P (l ∷ ls) d n (suc k) value rest is all has = of_list P ls (suc d) n k value rest (omega (arith, is)) (All-append_second P (map (λ r. (d, r)) l) (dues_from (suc d) ls) all) has
 
--- some board of the part has this distance, and it is not nearer than the first number
+-- some fresh board of the part has this distance, and it is not nearer than the first number
 abbrev pub HasAt : ℕ → Part → ℕ → Type 0
-HasAt from part n = (from ≤ n) × ((rank : ℕ) × (v : ℤ) × InBlock part rank × (settled_at part rank ≡ Some (v, n)))
+HasAt from part n = (from ≤ n) × HasFresh part n
 
-pub list_nearest : (part : Part) (from : ℕ) (ls : List (List ℕ)) (o : Option ℕ) → All (IsFreshIn part) (dues_of ls) → IfNone o (dues_of ls ≡ []) → IfSome o (λ n. (from ≤ n) × AreFar (dues_of ls) n)
+-- the board of this is fresh
+abbrev pub IsAmong : Part → Due → Type 0
+IsAmong part f = 0 < times_due part.fresh (due_rank f)
+
+pub all_among : (fs : List Due) → All (λ f. 0 < times_due fs (due_rank f)) fs
+all_among [] = All-nil (λ (f : Due). 0 < times_due [] (due_rank f))
+all_among (f ∷ fs) =
+    All-cons (λ (g : Due). 0 < times_due (f ∷ fs) (due_rank g)) f fs (let cons = times_due-cons f fs (due_rank f) in let one = here (due_rank f) in omega (arith, cons, one))
+    (λ k d h. let was = all_among fs k d h in let cons = times_due-cons f fs (due_rank (get_or fs k d)) in omega (arith, was, cons))
+  where
+    here : (a : ℕ) → one_if (a == a) ≡ 1
+    here a = grind (arith, nat_tests)
+
+pub list_nearest : (part : Part) (from : ℕ) (ls : List (List ℕ)) (o : Option ℕ) → All (IsFreshIn part) (dues_of ls) → All (IsAmong part) (dues_of ls) → IfNone o (dues_of ls ≡ []) → IfSome o (λ n. (from ≤ n) × AreFar (dues_of ls) n)
     → IfSome o (λ n. (value : ℕ) × (rest : List ℕ) × (list_at ls n ≡ value ∷ rest)) → IsNearest (dues_of ls ≡ []) (AreFar (dues_of ls)) (HasAt from part) o
-list_nearest part from ls None fresh none least some = record { none = none; least = tt; some = tt }
-list_nearest part from ls (Some n) fresh none least some =
+list_nearest part from ls None fresh among none least some = record { none = none; least = tt; some = tt }
+list_nearest part from ls (Some n) fresh among none least some =
     let in_part = of_list (IsFreshIn part) ls 0 n n some.0 some.1 (omega arith) fresh some.2 in
-    record { none = tt; least = least.1; some = (least.0, (some.0, in_part.0, in_part.1, in_part.3)) }
+    let listed = of_list (IsAmong part) ls 0 n n some.0 some.1 (omega arith) among some.2 in
+    record { none = tt; least = least.1; some = (least.0, (some.0, in_part.0, in_part.1, in_part.3, listed)) }
 
 -- and of both kinds of boards of a segment
 pub segment_nearest : (a : Inside) (from : ℕ) (x y : Option ℕ) → IsSegment a → IfNone x (dues_of a.lost ≡ []) → IfSome x (λ n. (from ≤ n) × AreFar (dues_of a.lost) n)
@@ -91,11 +106,14 @@ segment_nearest a from x y sound none_lost least_lost some_lost none_won least_w
     (nearest_both (dues_of a.lost ≡ []) (dues_of a.won ≡ []) (dues_of a.lost ++ dues_of a.won ≡ []) (AreFar (dues_of a.lost)) (AreFar (dues_of a.won)) (AreFar (dues_of a.lost ++ dues_of a.won)) (HasAt from (seen a)) x y
     (far_sinks (dues_of a.lost)) (far_sinks (dues_of a.won)) (no_more (dues_of a.lost) (dues_of a.won))
     (λ n. All-append (λ (f : Due). n ≤ due_dist f) (dues_of a.lost) (dues_of a.won))
-    (list_nearest (seen a) from a.lost x (All-append_first (IsFreshIn (seen a)) (dues_of a.lost) (dues_of a.won) boards) none_lost least_lost some_lost)
-    (list_nearest (seen a) from a.won y (All-append_second (IsFreshIn (seen a)) (dues_of a.lost) (dues_of a.won) boards) none_won least_won some_won))
+    (list_nearest (seen a) from a.lost x (All-append_first (IsFreshIn (seen a)) (dues_of a.lost) (dues_of a.won) boards) (All-append_first (IsAmong (seen a)) (dues_of a.lost) (dues_of a.won) among) none_lost least_lost some_lost)
+    (list_nearest (seen a) from a.won y (All-append_second (IsFreshIn (seen a)) (dues_of a.lost) (dues_of a.won) boards) (All-append_second (IsAmong (seen a)) (dues_of a.lost) (dues_of a.won) among) none_won least_won some_won))
   where
     boards : All (IsFreshIn (seen a)) (dues_of a.lost ++ dues_of a.won)
     boards = let are = fresh_of_block a.stake a.start a.cells.items (dues_of a.lost ++ dues_of a.won) sound.block in are.boards
+
+    among : All (IsAmong (seen a)) (dues_of a.lost ++ dues_of a.won)
+    among = all_among (dues_of a.lost ++ dues_of a.won)
 
     no_more : (xs ys : List Due) → xs ≡ [] → ys ≡ [] → xs ++ ys ≡ []
     no_more xs ys first second = subst₂ (λ (us vs : List Due). us ++ vs ≡ []) (sym first) (sym second) refl
@@ -129,7 +147,7 @@ below_sinks parts k = record {
 has_in : (from : ℕ) (parts : List Part) (k : ℕ) (part : Part) (o : Option ℕ) → k < length parts → part ≡ part_at parts k → IfSome o (HasAt from part) → IfSome o (HasIn from parts)
 has_in from parts k part None inside read h = tt
 has_in from parts k part (Some n) inside read h =
-    (h.0, (k, h.1.0, h.1.1, inside, subst (λ (p : Part). InBlock p h.1.0) read h.1.2, subst (λ (p : Part). settled_at p h.1.0 ≡ Some (h.1.1, n)) read h.1.3))
+    (h.0, (k, h.1.0, h.1.1, inside, subst (λ (p : Part). InBlock p h.1.0) read h.1.2, subst (λ (p : Part). settled_at p h.1.0 ≡ Some (h.1.1, n)) read h.1.3, subst (λ (p : Part). 0 < times_due p.fresh h.1.0) read h.1.4))
 
 -- a part more
 pub IsDueBelow-more : (from : ℕ) (parts : List Part) (k : ℕ) (part : Part) (x y o : Option ℕ) → k < length parts → part ≡ part_at parts k → o ≡ nearer_of x y → IsDueBelow from parts k x → IfNone y (part.fresh ≡ []) → IfSome y (AreFar part.fresh)

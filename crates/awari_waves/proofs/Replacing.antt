@@ -1,26 +1,26 @@
 -- A cell is replaced by its index.
-use Rattle.std.proofs.Common.{◌≡◌, ℕ, ◌+◌, ◌-◌, ◌<◌, true, false, inl, inr, List, length, get_or, set, pos, ◌≤ℤ◌, sym, ap, subst, ◌∙◌, arith}
+use Rattle.std.proofs.Common.{◌≡◌, ℕ, ◌+◌, ◌-◌, ◌<◌, true, false, inl, inr, List, length, get_or, set, pos, ◌≤ℤ◌, ◌++◌, sym, ap, subst, subst₂, ◌∙◌, arith}
 use Rattle.std.proofs.lemmas.Int.{ints}
 use Rattle.std.proofs.lemmas.List.{get_or_default}
 use Rattle.std.specs.Vec.{with_item}
-use Rattle.awari_block.specs.Blocks.{cell_in, no_cell}
+use Rattle.awari_block.specs.Blocks.{cell_in, no_cell, IsBlock}
 use Rattle.awari_block.specs.Boards.{CanPut, OpensCells, Settles}
 use Rattle.awari_block.specs.Cells.{is_settled, Fits, Keeps, SettlesTimely, view_of}
 use Rattle.awari_block.specs.Awaited.{AwaitsNoMore}
 use Rattle.awari_block.specs.Steps.{cell_after_opening}
 use Rattle.awari_block.proofs.Opening.{put_one}
-use Rattle.awari_block.specs.Part.{Part}
+use Rattle.awari_block.specs.Part.{Part, part_of, unspread}
 use Rattle.awari_block.specs.declared.cells.Cell.{Cell}
 use Rattle.awari_waves.specs.Each.{IsFarther}
 use Rattle.awari_waves.specs.Lists.{dues_of, with_put}
-use Rattle.awari_waves.specs.SegmentFields.{IsAboveZero, IsBelowZero, IsSegment}
+use Rattle.awari_waves.specs.SegmentFields.{AreOfScore, IsAboveZero, IsBelowZero, IsSegment}
 use Rattle.awari_waves.specs.Waves.{StaysPassed}
 use Rattle.awari_waves.specs.declared.segments.Segment.TheInside.{Inside}
-use Rattle.awari_waves.proofs.Joining.{Replaces, above_zero, kept_passed, kept_segment, kept_settles, lost_passed, lost_segment, lost_settles, refused_segment, seen, with_cell, won_passed, won_segment, won_settles}
+use Rattle.awari_waves.proofs.Joining.{Replaces, above_zero, kept_passed, kept_segment, kept_settles, lost_passed, lost_segment, lost_settles, seen, with_cell, won_passed, won_segment, won_settles}
 
 -- with this cell at this index, and with these fresh boards
 abbrev pub with_index : Inside → ℕ → Cell → List (List ℕ) → List (List ℕ) → Inside
-with_index a index new lost won = record { start = a.start; stake = a.stake; cells = with_item a.cells index new; awaits = a.awaits; lost = lost; won = won }
+with_index a index new lost won = record { start = a.start; stake = a.stake; cells = with_item a.cells index new; awaits = a.awaits; lost = lost; won = won; spread = a.spread }
 
 -- what is read of one cell
 module _ (a : Inside) (part : Part) (view : seen a ≡ part) (index : ℕ) (old : Cell) (high : index < length a.cells.items) (read : old ≡ get_or a.cells.items index old) where
@@ -76,7 +76,7 @@ module _ (a : Inside) (sound : IsSegment a) (part : Part) (view : seen a ≡ par
   }
 
   same : (lost won : List (List ℕ)) → with_cell a rank new lost won ≡ with_index a index new lost won
-  same lost won = ap (λ i. record { start = a.start; stake = a.stake; cells = with_item a.cells i new; awaits = a.awaits; lost = lost; won = won }) at
+  same lost won = ap (λ i. record { start = a.start; stake = a.stake; cells = with_item a.cells i new; awaits = a.awaits; lost = lost; won = won; spread = a.spread }) at
 
   module _ (back : is_settled new.mark ≡ true → is_settled old.mark ≡ true) where
     pub kept_whole : IsSegment (with_index a index new a.lost a.won)
@@ -89,9 +89,6 @@ module _ (a : Inside) (sound : IsSegment a) (part : Part) (view : seen a ≡ par
     kept_far = subst (λ (b : Inside). StaysPassed part (seen b)) (same a.lost a.won) (kept_passed a rank new part view)
 
   module _ (settled : is_settled new.mark ≡ true) (unset : is_settled old.mark ≡ false) where
-    pub refused_whole : (lost won : List (List ℕ)) → dues_of lost ≡ dues_of a.lost → dues_of won ≡ dues_of a.won → IsSegment (with_index a index new lost won)
-    refused_whole lost won same_lost same_won = subst IsSegment (same lost won) (refused_segment a sound rank old new put settled unset lost won same_lost same_won)
-
     above : pos 0 ≤ℤ new.score → IsAboveZero new.score
     above not = elim ((put.timely unset settled).0) [
       | inl won ↦ above_zero new.score a.stake.gain sound.opened won
@@ -121,3 +118,18 @@ module _ (a : Inside) (sound : IsSegment a) (part : Part) (view : seen a ≡ par
 
       pub won_far : IsFarther part (part.start + index) new → StaysPassed part (seen (with_index a index new a.lost won))
       won_far farther = subst (λ (b : Inside). StaysPassed part (seen b)) (same a.lost won) (won_passed a rank new (far farther) won is part view)
+
+-- lists that hold the same boards
+pub same_boards : (a : Inside) → IsSegment a → (lost won : List (List ℕ)) → dues_of lost ≡ dues_of a.lost → dues_of won ≡ dues_of a.won → IsSegment (record a { lost = lost; won = won })
+same_boards a sound lost won same_lost same_won = record {
+  low = sound.low;
+  opened = sound.opened;
+  inward = sound.inward;
+  fits = sound.fits;
+  within = sound.within;
+  block = subst₂ (λ x y. IsBlock a.stake a.start a.cells.items (x ++ y)) (sym same_lost) (sym same_won) sound.block;
+  awaited = sound.awaited;
+  lost = subst (AreOfScore IsBelowZero a.start a.cells.items) (sym same_lost) sound.lost;
+  won = subst (AreOfScore IsAboveZero a.start a.cells.items) (sym same_won) sound.won;
+  count = subst₂ (λ x y. a.spread + unspread (part_of a.stake a.start a.cells.items (x ++ y)) ≡ length a.cells.items) (sym same_lost) (sym same_won) sound.count;
+}

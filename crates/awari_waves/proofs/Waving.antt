@@ -21,6 +21,7 @@ use Rattle.awari_waves.specs.declared.chunks.Front.{Front}
 use Rattle.awari_waves.specs.Waves.{GivesFresh, IsCut, IsPassed, IsPending, IsWaving, SettlesAll, SpreadsChunk, value_of_kind, with_pending}
 use Rattle.awari_waves.proofs.Sources.{all_in, each_in, distinct_apart, distinct_both, distinct_first, distinct_second, in_either, in_first, in_second}
 use Rattle.awari_waves.proofs.Chunked.{part_of_map, pend_none, pend_zero}
+use Rattle.awari_waves.proofs.Keeping.{keeps_but, keeps_none, keeps_settled, keeps_then}
 
 -- ---- what was heard stays so, where the same boards are spread
 
@@ -247,7 +248,7 @@ waving_none stake span old lost won no_lost no_won grid =
       of_lost = λ k d h. absurd (omega arith);
       of_won = λ k d h. absurd (omega arith);
       apart = tt;
-      same = λ i h. record { level = refl; start = refl; size = refl };
+      same = λ i h. keeps_none (part_at old i);
       passed = λ i less. absurd (omega arith);
       heard = λ value told. subst (AreHeard value) (sym (map_none old)) told;
     })
@@ -268,8 +269,7 @@ waving_spread stake span n old now new lost won lost' won' no_lost no_won spread
       same = λ i h.
           let was = waving.same i h in
           let many = waving.blocks in
-          let next = all.settles i (omega (arith, h, many)) in
-          record { level = next.same.level ∙ was.level; start = next.same.start ∙ was.start; size = next.size ∙ was.size };
+          keeps_then (part_at old i) (part_at now i) (part_at new i) was (keeps_settled (part_at now i) (part_at new i) (all.settles i (omega (arith, h, many))));
       passed = λ i less few.
           let many = all.blocks in
           let low : i < length now = omega (arith, few, many) in
@@ -298,11 +298,7 @@ waving_lost stake span n old now lost won k d new given lost' few done is gives'
           let was = waving.same i h in
           let many = waving.blocks in
           let next : SameBut (part_at now i) (part_at (set now k new) i) = given_same stake span now k Lost new given few waving.grid gives once i (omega (arith, h, many)) in
-          record {
-            level = ap (λ (p : Part). p.level) next ∙ was.level;
-            start = ap (λ (p : Part). p.start) next ∙ was.start;
-            size = ap (λ (p : Part). length p.cells) next ∙ was.size;
-          };
+          keeps_then (part_at old i) (part_at now i) (part_at (set now k new) i) was (keeps_but (part_at now i) (part_at (set now k new) i) next);
       passed = λ i less inside.
           let ne : i ≢ k = omega (arith, less, done) in
           subst IsPassed (sym (let there : part_at (set now k new) i ≡ part_at now i = rw get_or-set_other refl in there)) (waving.passed i less (omega (arith, inside, length-set now k new)));
@@ -350,11 +346,7 @@ waving_won stake span n old now lost won k d new given won' few done is gives' f
           let was = waving.same i h in
           let many = waving.blocks in
           let next : SameBut (part_at now i) (part_at (set now k new) i) = given_same stake span now k Won new given few waving.grid gives once i (omega (arith, h, many)) in
-          record {
-            level = ap (λ (p : Part). p.level) next ∙ was.level;
-            start = ap (λ (p : Part). p.start) next ∙ was.start;
-            size = ap (λ (p : Part). length p.cells) next ∙ was.size;
-          };
+          keeps_then (part_at old i) (part_at now i) (part_at (set now k new) i) was (keeps_but (part_at now i) (part_at (set now k new) i) next);
       passed = λ i less inside.
           let ne : i ≢ k = omega (arith, less, done) in
           subst IsPassed (sym (let there : part_at (set now k new) i ≡ part_at now i = rw get_or-set_other refl in there)) (waving.passed i less (omega (arith, inside, length-set now k new)));

@@ -1,11 +1,12 @@
 -- What holds of each of the blocks of a level.
 use Rattle.std.specs.Prelude.{◌≡◌, ℕ, ◌+◌, ◌<◌, ◌≤◌, true, false, List, [], length, min, Option, None, Some, All, ℤ}
-use Rattle.awari_block.specs.Blocks.{due_dist}
+use Rattle.awari_block.specs.Blocks.{due_dist, times_due, KeepSettled}
 use Rattle.awari_block.specs.Cells.{is_settled}
 use Rattle.awari_block.specs.Part.{Part, InBlock, settled_at, stored_at}
 use Rattle.awari_block.specs.declared.cells.Cell.{Cell}
 use Rattle.awari_block.specs.Boards.{OpensCells, Settles}
 use Rattle.awari_owner.specs.Level.{part_at}
+use Rattle.awari_owner.specs.Spread.{SameBlock}
 
 -- of each of these parts and the one that takes its place this holds
 pub record Each (P : Part → Part → Type 0) (old new : List Part) : Type 0 where
@@ -20,9 +21,22 @@ NoneAreFresh parts = (i : ℕ) → i < length parts → (part_at parts i).fresh 
 abbrev pub AreFrom : ℕ → List Part → Type 0
 AreFrom dist parts = (i : ℕ) → i < length parts → All (λ f. dist ≤ due_dist f) (part_at parts i).fresh
 
--- some board of these parts is settled with this distance
+-- some board of the part is fresh, and settled with this distance
+abbrev pub HasFresh : Part → ℕ → Type 0
+HasFresh part dist = (rank : ℕ) × (v : ℤ) × InBlock part rank × (settled_at part rank ≡ Some (v, dist)) × (0 < times_due part.fresh rank)
+
+-- and of these parts
 abbrev pub HasDue : ℕ → List Part → Type 0
-HasDue dist parts = (i : ℕ) × (rank : ℕ) × (v : ℤ) × (i < length parts) × InBlock (part_at parts i) rank × (settled_at (part_at parts i) rank ≡ Some (v, dist))
+HasDue dist parts =
+    (i : ℕ) × (rank : ℕ) × (v : ℤ) × (i < length parts) × InBlock (part_at parts i) rank × (settled_at (part_at parts i) rank ≡ Some (v, dist))
+    × (0 < times_due (part_at parts i).fresh rank)
+
+-- ---- what stays
+
+-- the same boards, of which those that were settled keep value and distance
+pub record KeepsBoards (old new : Part) : Type 0 where
+  pub block : SameBlock old new
+  pub stays : KeepSettled old.start old.cells new.cells
 
 -- ---- a gain is opened
 

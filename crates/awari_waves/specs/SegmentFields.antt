@@ -1,8 +1,9 @@
 -- The fields of a segment.
-use Rattle.std.specs.Prelude.{◌+◌, ◌++◌, ◌^◌, ◌<◌, ◌≤◌, ℕ, ℤ, pos, ◌<ℤ◌, All, List, vec_len}
+use Rattle.std.specs.Prelude.{◌≡◌, ◌+◌, ◌++◌, ◌^◌, ◌<◌, ◌≤◌, ℕ, ℤ, pos, ◌<ℤ◌, All, List, length, vec_len}
 use Rattle.awari_rank.specs.Rank.{size_of}
 use Rattle.awari_block.specs.Awaited.{TellAwaited}
 use Rattle.awari_block.specs.Blocks.{Due, cell_in, due_rank, IsBlock}
+use Rattle.awari_block.specs.Part.{part_of, unspread}
 use Rattle.awari_block.specs.declared.cells.Cell.{Cell}
 use Rattle.awari_waves.specs.Lists.{dues_of}
 use Rattle.awari_waves.specs.declared.segments.Segment.TheInside.{Inside}
@@ -27,3 +28,4 @@ pub record IsSegment (a : Inside) : Type 0 where
   pub awaited : TellAwaited a.stake.level a.cells.items a.awaits.items
   pub lost : AreOfScore IsBelowZero a.start a.cells.items (dues_of a.lost)
   pub won : AreOfScore IsAboveZero a.start a.cells.items (dues_of a.won)
+  pub count : a.spread + unspread (part_of a.stake a.start a.cells.items (dues_of a.lost ++ dues_of a.won)) ≡ length a.cells.items

@@ -12,8 +12,9 @@ use Rattle.awari_block.specs.declared.notes.Kind.{Kind}
 use Rattle.awari_block.specs.declared.notes.Kind.TheVariants.{Won, Lost}
 use Rattle.awari_block.specs.declared.notes.Note.{Note}
 use Rattle.awari_block.specs.declared.stakes.Stake.{Stake}
-use Rattle.awari_owner.specs.Spread.{SameBlock, Source}
+use Rattle.awari_owner.specs.Spread.{Source}
 use Rattle.awari_owner.specs.Level.{AreHeard, part_at}
+use Rattle.awari_waves.specs.Each.{KeepsBoards}
 use Rattle.awari_waves.specs.Lists.{AreDistinct, In, list_at}
 
 -- a note in four bytes: the rank of the board that it is for, and the pit of its move
@@ -190,6 +191,6 @@ pub record IsWaving (stake : Stake) (span k : ℕ) (old now : List Part) (lost w
   pub of_lost : All (IsPending stake span now Lost) lost
   pub of_won : All (IsPending stake span now Won) won
   pub apart : AreDistinct (lost ++ won)
-  pub same : (i : ℕ) → i < length old → SameBlock (part_at old i) (part_at now i)
+  pub same : (i : ℕ) → i < length old → KeepsBoards (part_at old i) (part_at now i)
   pub passed : (i : ℕ) → i < k → i < length now → IsPassed (part_at now i)
   pub heard : (value : List ℕ → ℤ) → AreHeard value old → AreHeard value (map (with_pending (lost ++ won)) now)

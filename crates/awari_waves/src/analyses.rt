@@ -2,16 +2,17 @@
 
 ghost use Rattle.std.specs.Prelude.{◌≡◌, ℕ, ℤ, ◌+◌, ◌-◌, ◌^◌, ◌<◌, ◌≤◌, List, All, IfNone, IfOk, IfSome, length, vec_len};
 ghost use Rattle.awari_rank.specs.Rank.{size_of};
+ghost use Rattle.awari_block.specs.Counts.{spread_in};
 ghost use Rattle.awari_block.specs.Part.{IsClosed};
 ghost use Rattle.awari_table.specs.Images.{table_of};
 ghost use Rattle.awari_table.specs.declared.TheConstants.{HIGHEST_LEVEL};
 ghost use Rattle.awari_owner.specs.Level.{AreHeard, AreWhole};
-ghost use Rattle.awari_waves.specs.Each.{AreFrom, NoneAreFresh, HasDue};
+ghost use Rattle.awari_waves.specs.Each.{AreFrom, Each, KeepsBoards, NoneAreFresh, HasDue};
 ghost use Rattle.awari_waves.specs.Fronts.{IsRoom};
 ghost use Rattle.awari_waves.specs.declared.chunks.Front.{Front as FrontView};
 
 use crate::chunks::{Chunk, Front, Room};
-use crate::dues::{due_of, fresh_at};
+use crate::dues::due_of;
 use crate::lists::Row;
 use crate::openings::{open_gains, open_waves};
 use crate::scanning::{Cut, scanned_segments};
@@ -36,8 +37,6 @@ const LARGE: u32 = 12 << 22;
 #[derive(Drop)]
 pub struct Analysis {
     front: Front,
-    /// How many boards were spread.
-    spread: usize,
     segments: Vec<Segment>,
     room: Room,
 }
@@ -86,7 +85,6 @@ impl Analysis {
         let front = Front { stake, log };
         Ok(Analysis {
             front,
-            spread: 0,
             segments,
             room,
         })
@@ -114,9 +112,15 @@ impl Analysis {
         self.front.stake.wave
     }
 
-    /// How many boards were spread, for a report of how far the level is.
-    pub fn boards_spread(&self) -> usize {
-        self.spread
+    /// How many boards are settled and were spread.
+    pub fn boards_spread(&self) -> usize
+        ensures { result ≡ spread_in self.now.parts }
+    {
+        let mut boards: usize = 0;
+        for segment in &self.segments {
+            boards += segment.boards_spread();
+        }
+        boards
     }
 
     /// The least distance of a fresh board, none if no board is fresh. Condition: no fresh board is
@@ -133,8 +137,9 @@ impl Analysis {
     }
 
     /// Opens the next smaller gain. The boards that an end or a capture settles at that gain are
-    /// settled, and so become fresh. Conditions: a greater gain than 1 is open, or none, and no board
-    /// is fresh. Refused if memory for the fresh boards runs out; then the level is lost.
+    /// settled, and so become fresh; settled ones keep value and distance. Conditions: a greater gain
+    /// than 1 is open, or none, and no board is fresh. Refused if memory for the fresh boards runs out;
+    /// then the level is lost.
     pub fn open_gain<R: Threads + Sync>(self, rt: &R) -> Result<Analysis, AllocError>
         requires more { 2 ≤ self.gain }
         requires idle { NoneAreFresh self.parts }
@@ -142,10 +147,10 @@ impl Analysis {
         ensures gain { IfOk result (λ after. after.gain + 1 ≡ self.gain) }
         ensures wave { IfOk result (λ after. after.wave ≡ 0) }
         ensures heard { IfOk result (λ after. (value : List ℕ → ℤ) → AreHeard value self.parts → AreHeard value after.parts) }
+        ensures stays { IfOk result (λ after. Each KeepsBoards self.parts after.parts) }
     {
         let Analysis {
             front,
-            spread,
             mut segments,
             room,
         } = self;
@@ -159,14 +164,13 @@ impl Analysis {
         let front = Front { stake, ..front };
         Ok(Analysis {
             front,
-            spread,
             segments,
             room,
         })
     }
 
-    /// Spreads all fresh boards of this distance, which is opened first if a smaller one is open.
-    /// Conditions: a gain is open, the open wave is not greater, no fresh board is nearer, and the
+    /// Spreads all fresh boards of this distance, which is opened first if a smaller one is open. Settled
+    /// boards keep value and distance. Conditions: a gain is open, the open wave is not greater, no fresh board is nearer, and the
     /// distance is below the greatest u32. Refused if memory runs out; then the level is lost.
     pub fn spread<R: Threads + Sync>(self, rt: &R, dist: u32) -> Result<Analysis, AllocError>
         requires opened { self.gain ≤ self.level }
@@ -177,6 +181,7 @@ impl Analysis {
         ensures gain { IfOk result (λ after. after.gain ≡ self.gain) }
         ensures wave { IfOk result (λ after. after.wave ≡ dist) }
         ensures heard { IfOk result (λ after. (value : List ℕ → ℤ) → AreHeard value self.parts → AreHeard value after.parts) }
+        ensures stays { IfOk result (λ after. Each KeepsBoards self.parts after.parts) }
         ensures farther { IfOk result (λ after. AreFrom (dist + 1) after.parts) }
     {
         let opened = self.at_distance(dist);
@@ -192,19 +197,17 @@ impl Analysis {
         ensures gain { IfOk result (λ after. after.gain ≡ self.gain) }
         ensures wave { IfOk result (λ after. after.wave ≡ self.wave) }
         ensures heard { IfOk result (λ after. (value : List ℕ → ℤ) → AreHeard value self.parts → AreHeard value after.parts) }
+        ensures stays { IfOk result (λ after. Each KeepsBoards self.parts after.parts) }
         ensures farther { IfOk result (λ after. AreFrom (self.wave + 1) after.parts) }
     {
         let Analysis {
             front,
-            spread,
             mut segments,
             mut room,
         } = self;
-        let spread = spread.saturating_add(fresh_at(segments.as_slice(), front.stake.wave));
         spread_wave(rt, front, &mut room, segments.as_mut_slice())?;
         Ok(Analysis {
             front,
-            spread,
             segments,
             room,
         })
@@ -218,13 +221,13 @@ impl Analysis {
         ensures gain { result.gain ≡ self.gain }
         ensures wave { result.wave ≡ dist }
         ensures heard { (value : List ℕ → ℤ) → AreHeard value self.parts → AreHeard value result.parts }
+        ensures stays { Each KeepsBoards self.parts result.parts }
     {
         if dist <= self.front.stake.wave {
             return self;
         }
         let Analysis {
             front,
-            spread,
             mut segments,
             room,
         } = self;
@@ -236,7 +239,6 @@ impl Analysis {
         let front = Front { stake, ..front };
         Analysis {
             front,
-            spread,
             segments,
             room,
         }
@@ -253,7 +255,6 @@ impl Analysis {
     {
         let Analysis {
             front: _,
-            spread: _,
             segments,
             room: _,
         } = self;

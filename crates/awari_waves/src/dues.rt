@@ -24,15 +24,6 @@ pub fn due_of(segments: &[Segment], from: u32) -> Option<u32>
     least
 }
 
-/// How many fresh boards of these segments have this distance.
-pub fn fresh_at(segments: &[Segment], dist: u32) -> usize {
-    let mut boards: usize = 0;
-    for segment in segments {
-        boards = boards.saturating_add(segment.fresh_at(dist));
-    }
-    boards
-}
-
 /// The nearer of two distances, if there is one.
 pub(crate) fn nearer(one: Option<u32>, other: Option<u32>) -> Option<u32>
     ensures { result ≡ nearer_of one other }

@@ -1,6 +1,6 @@
 //! Numbers in lists by a number: the fresh boards of a block by distance, the notes of a task by block.
 
-ghost use Rattle.std.specs.Prelude.{◌≡◌, ℕ, ◌+◌, ◌++◌, ◌^◌, ◌<◌, ◌≤◌, [], ◌∷◌, All, IfNone, IfSome, List, OnOk, OnErr, length};
+ghost use Rattle.std.specs.Prelude.{◌≡◌, ℕ, ◌+◌, ◌++◌, ◌^◌, ◌<◌, ◌≤◌, [], ◌∷◌, All, IfNone, IfOk, IfSome, List, OnOk, OnErr, length};
 ghost use Rattle.awari_block.specs.Blocks.{due_dist};
 ghost use Rattle.awari_waves.specs.Lists.{dues_of, list_at, with_put, without};
 ghost use Rattle.awari_waves.specs.Rows.{lists_by};
@@ -79,19 +79,22 @@ impl Lists {
         Ok(())
     }
 
-    /// Moves the list at this number behind others, and gives its memory back if that is much. Refused if
-    /// there is no room for them there, and then nothing changes.
-    pub fn give(&mut self, at: u32, to: &mut Vec<u32>) -> Result<(), AllocError>
+    /// Moves the list at this number behind others, and gives its memory back if that is much. The result
+    /// is how many it moved. Refused if there is no room for them there, and then nothing changes.
+    pub fn give(&mut self, at: u32, to: &mut Vec<u32>) -> Result<usize, AllocError>
+        ensures count { IfOk result (λ count. count ≡ length (list_at self.old at)) }
         ensures given { OnOk result (to.new.items ≡ to.old.items ++ list_at self.old at) }
         ensures left { OnOk result (self.new ≡ without self.old at) }
         ensures refused { OnErr result (self.new ≡ self.old) }
     {
         let at = at as usize;
         if at < self.lists.len() {
+            let count = self.lists[at].len();
             to.extend_from_slice(self.lists[at].as_slice())?;
             empty(self.alloc, &mut self.lists[at]);
+            return Ok(count);
         }
-        Ok(())
+        Ok(0)
     }
 
     /// Empties all lists. They keep their memory.

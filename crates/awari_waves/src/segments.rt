@@ -6,9 +6,10 @@ ghost use Rattle.awari_block.specs.Part.{Part as PartView, AreFresh, InBlock, Is
 ghost use Rattle.awari_rank.specs.Rank.{size_of};
 ghost use Rattle.awari_block.specs.Blocks.{due_dist};
 ghost use Rattle.awari_block.specs.Cells.{FitsBy, is_settled};
+ghost use Rattle.awari_block.specs.Counts.{spread_of};
 ghost use Rattle.awari_block.specs.Boards.{CanPut, HearsNote, OpensCells, Settles, stake_of};
 ghost use Rattle.awari_waves.specs.Ahead.{TellSettled};
-ghost use Rattle.awari_waves.specs.Each.{IsFarther, OpensSegment};
+ghost use Rattle.awari_waves.specs.Each.{HasFresh, IsFarther, OpensSegment};
 ghost use Rattle.awari_waves.specs.Rows.{notes_at};
 ghost use Rattle.awari_waves.specs.Waves.{GivesFresh, IsCodeFor, IsReady, StaysPassed, Tells, TellsBoth};
 
@@ -35,6 +36,8 @@ pub struct Segment {
     awaits: Vec<u8>,
     lost: Lists,
     won: Lists,
+    /// How many boards are settled and were spread.
+    spread: usize,
 }
 
 impl Model for Segment {
@@ -77,6 +80,7 @@ impl Segment {
             awaits,
             lost: Lists::new(alloc),
             won: Lists::new(alloc),
+            spread: 0,
         })
     }
 
@@ -140,15 +144,17 @@ impl Segment {
         requires far { All (λ f. from ≤ due_dist f) self.now.fresh }
         ensures none { IfNone result (self.now.fresh ≡ []) }
         ensures least { IfSome result (λ dist. All (λ f. dist ≤ due_dist f) self.now.fresh) }
-        ensures some { IfSome result (λ dist. (from ≤ dist) × ((rank : ℕ) × (v : ℤ) × InBlock self.now rank × (settled_at self.now rank ≡ Some (v, dist)))) }
+        ensures some { IfSome result (λ dist. (from ≤ dist) × HasFresh self.now dist) }
     {
         nearer(self.lost.first_from(from), self.won.first_from(from))
     }
 
-    /// How many fresh boards have this distance.
-    pub fn fresh_at(&self, dist: u32) -> usize {
-        let lost = self.lost.list(dist as usize).len();
-        lost.saturating_add(self.won.list(dist as usize).len())
+    /// How many boards are settled and were spread.
+    pub fn boards_spread(&self) -> usize
+        ensures count { result ≡ spread_of self.now }
+        ensures few { result < 2 ^ 32 }
+    {
+        self.spread
     }
 
     /// What is kept once all gains are closed. Conditions: gain 1 is open, and no board is fresh.
@@ -169,11 +175,11 @@ impl Segment {
         let wave = self.stake.wave;
         match kind {
             Kind::Lost => {
-                self.lost.give(wave, to)?;
+                self.spread += self.lost.give(wave, to)?;
                 Ok(())
             }
             Kind::Won => {
-                self.won.give(wave, to)?;
+                self.spread += self.won.give(wave, to)?;
                 Ok(())
             }
         }
@@ -265,7 +271,7 @@ impl Segment {
     }
 
     /// Replaces the cell at this index. A board that this settles becomes fresh. Refused if memory for
-    /// that runs out; then the level is lost.
+    /// that runs out, and then nothing changes.
     #[inline(always)]
     fn put(&mut self, index: usize, cell: Cell) -> Result<(), AllocError>
         requires { CanPut self.old (self.old.start + index) cell }
@@ -274,16 +280,18 @@ impl Segment {
         ensures passed { OnOk result (IsFarther self.old (self.old.start + index) cell → StaysPassed self.old self.new) }
     {
         let was_settled = self.cells[index].is_settled();
-        self.cells[index] = cell;
         if !cell.is_settled() || was_settled {
+            self.cells[index] = cell;
             return Ok(());
         }
         let rank = self.start + index as u32;
         if cell.score < 0 {
             self.lost.put(cell.dist, rank)?;
+            self.cells[index] = cell;
             return Ok(());
         }
         self.won.put(cell.dist, rank)?;
+        self.cells[index] = cell;
         Ok(())
     }
 

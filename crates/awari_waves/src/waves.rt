@@ -4,8 +4,7 @@ ghost use Rattle.std.specs.Prelude.{◌≡◌, ℕ, ℤ, ◌+◌, ◌^◌, ◌<�
 ghost use Rattle.awari_block.specs.Part.{Part as PartView};
 ghost use Rattle.awari_block.specs.declared.stakes.Stake.{Stake as StakeView};
 ghost use Rattle.awari_owner.specs.Level.{AreHeard};
-ghost use Rattle.awari_owner.specs.Spread.{SameBlock};
-ghost use Rattle.awari_waves.specs.Each.{Each};
+ghost use Rattle.awari_waves.specs.Each.{Each, KeepsBoards};
 ghost use Rattle.awari_waves.specs.Fronts.{ArePending, IsFront, IsRoom};
 ghost use Rattle.awari_waves.specs.Waves.{IsPassed, IsWaving};
 
@@ -31,7 +30,7 @@ pub fn spread_wave<R: Threads + Sync>(
     ensures heard { OnOk result ((value : List ℕ → ℤ) → AreHeard value segments.old → AreHeard value segments.new) }
     ensures passed { OnOk result (All IsPassed segments.new) }
     ensures front { OnOk result (IsFront front segments.new) }
-    ensures same { OnOk result (Each SameBlock segments.old segments.new) }
+    ensures same { OnOk result (Each KeepsBoards segments.old segments.new) }
     ensures room { OnOk result (IsRoom front room.new) }
 {
     room.chunk.lost.clear();

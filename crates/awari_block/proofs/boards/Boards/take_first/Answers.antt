@@ -1,4 +1,5 @@
-use Rattle.std.proofs.Common.{◌≡◌, ◌+◌, ◌∷◌, Some, refl, subst, sym, ◌∙◌}
+use Rattle.std.proofs.Common.{◌≡◌, ◌+◌, ◌∷◌, Some, refl, subst, sym, ◌∙◌, arith}
+use Rattle.std.proofs.lemmas.List.Sorted.{length_permutation}
 use Rattle.std.specs.List.Sorted.{IsPermutation}
 use Rattle.awari_block.specs.Blocks.{IsBlock}
 use Rattle.awari_block.specs.Boards.{TakesFirst}
@@ -9,14 +10,14 @@ use Rattle.awari_block.proofs.FreshBlocks.{first_least, none_due, taken_moved}
 use Rattle.awari_block.proofs.Freshness.{fresh_of_block}
 use Rattle.awari_block.proofs.boards.Boards.take_first.Goals as goal
 
-first : (c : goal.In-Some) → c.self.inside.fresh.first ≡ Some c.in-Some.index
+first : (c : goal.After-self-1) → c.self.inside.fresh.first ≡ Some c.in-Some.index
 first c = sym c.take_first.ensures.first ∙ c.in-Some.is
 
-moved : (c : goal.In-Some) → IsPermutation ((c.self.inside.stake.wave, c.self.inside.start + c.in-Some.index) ∷ fresh_of c.self.inside.start c.self.inside.cells.items c.take_first.new.self)
+moved : (c : goal.After-self-1) → IsPermutation ((c.self.inside.stake.wave, c.self.inside.start + c.in-Some.index) ∷ fresh_of c.self.inside.start c.self.inside.cells.items c.take_first.new.self)
     (fresh_of c.self.inside.start c.self.inside.cells.items c.self.inside.fresh)
 moved c = taken_moved c.self.inside.stake c.self.inside.start c.self.inside.cells.items c.self.inside.fresh c.self.invariant.block c.self.invariant.marks c.in-Some.index (first c) c.take_first.new.self c.in-Some.ensures.marks
 
-block : (c : goal.In-Some) → IsBlock c.self.inside.stake c.self.inside.start c.self.inside.cells.items (fresh_of c.self.inside.start c.self.inside.cells.items c.take_first.new.self)
+block : (c : goal.After-self-1) → IsBlock c.self.inside.stake c.self.inside.start c.self.inside.cells.items (fresh_of c.self.inside.start c.self.inside.cells.items c.take_first.new.self)
 block c = popped c.self.inside.stake c.self.inside.start c.self.inside.cells.items _ _ (c.self.inside.stake.wave, c.self.inside.start + c.in-Some.index) c.self.invariant.block (moved c)
 
 pub unreachable-requires : goal.unreachable-requires
@@ -35,7 +36,17 @@ invariant_of-self c = record {
   block = block c;
   awaited = c.self.invariant.awaited;
   index = c.self.invariant.index;
+  count = let count = c.self.invariant.count in let one = length_permutation _ _ (moved c) in omega (arith, count, one);
 }
+
+-- one of the boards is not spread yet
+pub overflow_add-self : goal.overflow_add-self
+overflow_add-self c =
+    let count = c.self.invariant.count in
+    let first = sym c.take_first.ensures.first ∙ c.in-Some.is in
+    let one = length_permutation _ _ (taken_moved c.self.inside.stake c.self.inside.start c.self.inside.cells.items c.self.inside.fresh c.self.invariant.block c.self.invariant.marks c.in-Some.index first c.take_first.new.self c.in-Some.ensures.marks) in
+    let fits = c.self.invariant.fits in
+    omega (arith, count, one, fits)
 
 pub returns-clause-first : goal.returns-clause-first
 returns-clause-first c =

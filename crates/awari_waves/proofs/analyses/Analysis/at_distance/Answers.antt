@@ -2,8 +2,9 @@ use Rattle.std.proofs.Common.{◌^◌, ◌≡◌, sym, subst}
 use Rattle.std.specs.Vec.{with_items}
 use Rattle.awari_owner.specs.Level.{AreHeard, AreWhole}
 use Rattle.awari_waves.specs.Analyses.{AnalysisView}
-use Rattle.awari_waves.specs.Each.{AreFrom, Each, IsAtWave}
+use Rattle.awari_waves.specs.Each.{AreFrom, Each, IsAtWave, KeepsBoards}
 use Rattle.awari_waves.specs.Waves.{IsCut}
+use Rattle.awari_waves.proofs.Keeping.{keeps_all, keeps_waved}
 use Rattle.awari_waves.proofs.Opened.{waved_grid, waved_heard, waved_same, whole_still}
 use Rattle.awari_waves.proofs.Stages.{can_wave, kept_items}
 use Rattle.awari_waves.proofs.analyses.Analysis.at_distance.Goals as goal
@@ -39,3 +40,14 @@ returns-clause-heard c value heard =
     let test = c.if-dist-self.false in
     let can = can_wave a.front.stake (2 ^ a.front.log) a.segments.items c.self.invariant.grid c.args.dist test (subst (λ (v : AnalysisView). AreFrom c.args.dist v.parts) (sym c.self.view_is) c.requires.far) in
     subst (AreHeard value) (sym items) (waved_heard value c.args.dist a.segments.items new can opened (subst (λ (v : AnalysisView). AreHeard value v.parts) (sym c.self.view_is) heard))
+
+pub returns-then-dist-self-clause-stays : goal.returns-then-dist-self-clause-stays
+returns-then-dist-self-clause-stays c = subst (λ (v : AnalysisView). Each KeepsBoards v.parts c.self.inside.segments.items) c.self.view_is (keeps_all c.self.inside.segments.items)
+
+pub returns-clause-stays : goal.returns-clause-stays
+returns-clause-stays c =
+    let a = c.self.inside in
+    let new = c.open_waves.new.segments in
+    let opened : Each (IsAtWave c.args.dist) a.segments.items new = subst (λ l. Each (IsAtWave c.args.dist) l new) c.as_mut_slice.ensures.value c.open_waves.ensures.opened in
+    let items : (with_items a.segments new).items ≡ new = kept_items (IsAtWave c.args.dist) a.segments new opened in
+    subst (λ (v : AnalysisView). Each KeepsBoards v.parts (with_items a.segments new).items) c.self.view_is (subst (Each KeepsBoards a.segments.items) (sym items) (keeps_waved c.args.dist a.segments.items new opened))
