@@ -88,13 +88,13 @@ either_of Q [] ys a b = b
 either_of Q (x ∷ xs) ys a b = All-cons Q x (xs ++ ys) (a 0 x (omega arith)) (either_of Q xs ys (All-tail Q x xs a) b)
 
 -- what is given away is spread
-given_count : (w : ℕ) (given : List ℕ) (rest fresh : List Due) (spread : ℕ) (cells : List Cell) → IsPermutation (map (λ r. (w, r)) given ++ rest) fresh
-    → spread + (length fresh + unsettled cells) ≡ length cells → spread + length given + (length rest + unsettled cells) ≡ length cells
-given_count w given rest fresh spread cells moved count =
+given_count : (w : ℕ) (given : List ℕ) (rest fresh : List Due) (spread n : ℕ) (cells : List Cell) → n ≡ length given → IsPermutation (map (λ r. (w, r)) given ++ rest) fresh
+    → spread + (length fresh + unsettled cells) ≡ length cells → spread + n + (length rest + unsettled cells) ≡ length cells
+given_count w given rest fresh spread n cells many moved count =
     let longer = length_permutation (map (due_at w) given ++ rest) fresh moved in
     let both = length-append (map (due_at w) given) rest in
     let long : length (map (due_at w) given) ≡ length given = length-map given (due_at w) in
-    omega (arith, longer, both, long, count)
+    omega (arith, longer, both, long, count, many)
 
 -- ---- a segment
 
@@ -150,7 +150,7 @@ module _ (a : Inside) (sound : IsSegment a) where
       let cell = cell_in a.start a.cells.items (due_rank f) in
       settled_value cell inside.2 ∙ (λ i. Some (sign cell.score due.valued score i, (due.near ∙ e) i))
 
-  module _ (lost : List (List ℕ)) (is : lost ≡ without a.lost a.stake.wave) where
+  module _ (lost : List (List ℕ)) (is : lost ≡ without a.lost a.stake.wave) (n : ℕ) (many : n ≡ length (list_at a.lost a.stake.wave)) where
     abbrev lost_given : List ℕ
     lost_given = list_at a.lost a.stake.wave
 
@@ -165,7 +165,7 @@ module _ (a : Inside) (sound : IsSegment a) where
     mine_kept : All (IsMine a.stake a.start a.cells.items IsBelowZero) (map (λ r. (a.stake.wave, r)) lost_given ++ dues_of lost)
     mine_kept = All-permutation (IsMine a.stake a.start a.cells.items IsBelowZero) (dues_of a.lost) _ (IsPermutation-sym _ _ mine_moved) lost_mine
 
-    pub lost_given_segment : IsSegment (record { start = a.start; stake = a.stake; cells = a.cells; awaits = a.awaits; lost = lost; won = a.won; spread = a.spread + length lost_given })
+    pub lost_given_segment : IsSegment (record { start = a.start; stake = a.stake; cells = a.cells; awaits = a.awaits; lost = lost; won = a.won; spread = a.spread + n })
     lost_given_segment = record {
       low = sound.low;
       opened = sound.opened;
@@ -176,10 +176,10 @@ module _ (a : Inside) (sound : IsSegment a) where
       block = block_less a.stake a.start a.cells.items (map (λ r. (a.stake.wave, r)) lost_given) (dues_of lost ++ dues_of a.won) fresh moved sound.block;
       lost = λ k d h. (All-append_second (IsMine a.stake a.start a.cells.items IsBelowZero) (map (λ r. (a.stake.wave, r)) lost_given) (dues_of lost) mine_kept k d h).2;
       won = sound.won;
-      count = given_count a.stake.wave lost_given (dues_of lost ++ dues_of a.won) fresh a.spread a.cells.items moved sound.count;
+      count = given_count a.stake.wave lost_given (dues_of lost ++ dues_of a.won) fresh a.spread n a.cells.items many moved sound.count;
     }
 
-    pub lost_gives : GivesFresh Lost (seen a) (seen (record { start = a.start; stake = a.stake; cells = a.cells; awaits = a.awaits; lost = lost; won = a.won; spread = a.spread + length lost_given })) lost_given
+    pub lost_gives : GivesFresh Lost (seen a) (seen (record { start = a.start; stake = a.stake; cells = a.cells; awaits = a.awaits; lost = lost; won = a.won; spread = a.spread + n })) lost_given
     lost_gives = record {
       rest = refl;
       moved = moved;
@@ -192,7 +192,7 @@ module _ (a : Inside) (sound : IsSegment a) where
           (λ k d h e. mine_at IsAboveZero (pos a.stake.gain) (get_or (dues_of a.won) k d) above_is (won_mine k d h) e);
     }
 
-  module _ (won : List (List ℕ)) (is : won ≡ without a.won a.stake.wave) where
+  module _ (won : List (List ℕ)) (is : won ≡ without a.won a.stake.wave) (n : ℕ) (many : n ≡ length (list_at a.won a.stake.wave)) where
     abbrev won_given : List ℕ
     won_given = list_at a.won a.stake.wave
 
@@ -207,7 +207,7 @@ module _ (a : Inside) (sound : IsSegment a) where
     mine_kept_won : All (IsMine a.stake a.start a.cells.items IsAboveZero) (map (λ r. (a.stake.wave, r)) won_given ++ dues_of won)
     mine_kept_won = All-permutation (IsMine a.stake a.start a.cells.items IsAboveZero) (dues_of a.won) _ (IsPermutation-sym _ _ mine_moved_won) won_mine
 
-    pub won_given_segment : IsSegment (record { start = a.start; stake = a.stake; cells = a.cells; awaits = a.awaits; lost = a.lost; won = won; spread = a.spread + length won_given })
+    pub won_given_segment : IsSegment (record { start = a.start; stake = a.stake; cells = a.cells; awaits = a.awaits; lost = a.lost; won = won; spread = a.spread + n })
     won_given_segment = record {
       low = sound.low;
       opened = sound.opened;
@@ -218,10 +218,10 @@ module _ (a : Inside) (sound : IsSegment a) where
       block = block_less a.stake a.start a.cells.items (map (λ r. (a.stake.wave, r)) won_given) (dues_of a.lost ++ dues_of won) fresh moved_won sound.block;
       lost = sound.lost;
       won = λ k d h. (All-append_second (IsMine a.stake a.start a.cells.items IsAboveZero) (map (λ r. (a.stake.wave, r)) won_given) (dues_of won) mine_kept_won k d h).2;
-      count = given_count a.stake.wave won_given (dues_of a.lost ++ dues_of won) fresh a.spread a.cells.items moved_won sound.count;
+      count = given_count a.stake.wave won_given (dues_of a.lost ++ dues_of won) fresh a.spread n a.cells.items many moved_won sound.count;
     }
 
-    pub won_gives : GivesFresh Won (seen a) (seen (record { start = a.start; stake = a.stake; cells = a.cells; awaits = a.awaits; lost = a.lost; won = won; spread = a.spread + length won_given })) won_given
+    pub won_gives : GivesFresh Won (seen a) (seen (record { start = a.start; stake = a.stake; cells = a.cells; awaits = a.awaits; lost = a.lost; won = won; spread = a.spread + n })) won_given
     won_gives = record {
       rest = refl;
       moved = moved_won;

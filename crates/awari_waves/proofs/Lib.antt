@@ -19,3 +19,4 @@ pub mod Stretches
 pub mod Stages
 pub mod Ahead
 pub mod Heard
+pub mod Keeping

@@ -175,11 +175,13 @@ impl Segment {
         let wave = self.stake.wave;
         match kind {
             Kind::Lost => {
-                self.spread += self.lost.give(wave, to)?;
+                let lost = self.lost.give(wave, to)?;
+                self.spread += lost;
                 Ok(())
             }
             Kind::Won => {
-                self.spread += self.won.give(wave, to)?;
+                let won = self.won.give(wave, to)?;
+                self.spread += won;
                 Ok(())
             }
         }

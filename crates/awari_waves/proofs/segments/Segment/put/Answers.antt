@@ -1,7 +1,7 @@
 use Rattle.std.proofs.Common.{◌≡◌, ◌∙◌, sym, refl, inl, inr, pos, ◌≤ℤ◌, ◌<ℤ◌, rules, true, false}
 use Rattle.std.proofs.lemmas.Bool.{false≢true}
 use Rattle.awari_block.specs.Cells.{is_settled}
-use Rattle.awari_waves.proofs.Replacing.{kept_far, kept_further, kept_whole, lost_far, lost_further, lost_whole, refused_whole, won_far, won_further, won_whole}
+use Rattle.awari_waves.proofs.Replacing.{kept_far, kept_further, kept_whole, lost_far, lost_further, lost_whole, same_boards, won_far, won_further, won_whole}
 use Rattle.awari_waves.proofs.segments.Segment.put.Goals as goal
 
 pub invariant_of-self : goal.invariant_of-self
@@ -29,10 +29,7 @@ returns-then-not-is_settled-clause-passed c =
     (λ _. kept_far c.self.inside c.self.invariant c.args.self.now c.self.view_is c.args.index c.index.result.now c.args.cell c.index.ensures c.requires back)
 
 pub invariant_of-self-in_err-put : goal.invariant_of-self-in_err-put
-invariant_of-self-in_err-put c =
-    let settled : is_settled c.args.cell.mark ≡ true = search rules in
-    let unset : is_settled c.index.result.now.mark ≡ false = search rules in
-    refused_whole c.self.inside c.self.invariant c.args.self.now c.self.view_is c.args.index c.index.result.now c.args.cell c.index.ensures c.requires settled unset _ _ c.in_err-put.ensures.refused refl
+invariant_of-self-in_err-put c = same_boards c.self.inside c.self.invariant _ _ c.in_err-put.ensures.refused refl
 
 pub invariant_of-self-then-cell-lt0 : goal.invariant_of-self-then-cell-lt0
 invariant_of-self-then-cell-lt0 c =
@@ -54,10 +51,7 @@ returns-then-cell-lt0-clause-passed c =
     lost_far c.self.inside c.self.invariant c.args.self.now c.self.view_is c.args.index c.index.result.now c.args.cell c.index.ensures c.requires settled unset _ c.in_ok-put.ensures.put
 
 pub invariant_of-self-in_err-put-2 : goal.invariant_of-self-in_err-put-2
-invariant_of-self-in_err-put-2 c =
-    let settled : is_settled c.args.cell.mark ≡ true = search rules in
-    let unset : is_settled c.index.result.now.mark ≡ false = search rules in
-    refused_whole c.self.inside c.self.invariant c.args.self.now c.self.view_is c.args.index c.index.result.now c.args.cell c.index.ensures c.requires settled unset _ _ refl c.in_err-put-2.ensures.refused
+invariant_of-self-in_err-put-2 c = same_boards c.self.inside c.self.invariant _ _ refl c.in_err-put-2.ensures.refused
 
 pub invariant_of-self-2 : goal.invariant_of-self-2
 invariant_of-self-2 c =
