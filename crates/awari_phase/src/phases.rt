@@ -3,7 +3,8 @@
 ghost use Rattle.std.specs.Prelude.{◌≡◌, ◌⊎◌, ◌≤◌, All, IsTrue, false, IsNone, IfSome, IfOk, IfErr, []};
 ghost use Rattle.awari_lines.specs.Rings.{EachTo, IsGrid};
 ghost use Rattle.awari_block.specs.Blocks.{due_dist};
-ghost use Rattle.awari_phase.specs.Owners.{AllGrown, AreIdle, AreReceived, AreSent, Kept, StayFinished, StayTogether, all_ends};
+ghost use Rattle.awari_block.specs.Counts.{spread_in};
+ghost use Rattle.awari_phase.specs.Owners.{AllGrown, AreIdle, AreReceived, AreSent, Kept, StayFinished, StayTogether, all_ends, parts_of};
 ghost use Rattle.awari_phase.specs.PhaseFault.{IfTogether, IsPhaseRefusal, IsRefusal, IsStop, IsWant};
 ghost use Rattle.awari_phase.specs.declared.owners.Owner.{Owner as AnOwner};
 
@@ -134,7 +135,9 @@ fn work_left(owners: &[Owner]) -> usize {
 }
 
 /// Tells which gain is open, and how many boards are settled, of all owners together.
-fn tell<P: Progress>(progress: &mut P, owners: &[Owner]) {
+fn tell<P: Progress>(progress: &mut P, owners: &[Owner])
+    requires { IsGrid (all_ends owners.now) }
+{
     if let Some(owner) = owners.first() {
         let gain = owner.part.gain();
         progress.settled(usize::from(gain), settled_boards(owners));

@@ -66,7 +66,7 @@ pub(crate) fn work_all<R: Threads + Wait + Sync, G: Gate + Sync>(
         thread::scope_env(),
         rt,
         |scope| -> Result<Vec<Owner>, PhaseFault>
-            requires { IsSync R.row × IsSync G.row × (1 ≤ sweeps) }
+            requires { IsSync R.row × IsSync G.row × (1 ≤ sweeps) × (vec_len owners < vec_capacity owners) }
             ensures { IfOk result (λ all. (vec_len all ≡ vec_len owners + 1) × HaveWorked (owners.items ++ owner ∷ []) all.items × (vec_capacity owners ≤ vec_capacity all)) × IfErr result (λ fault. fault ≡ PhaseFault.NotStarted) }
         {
             let promise = KeptFrom(Snapshot::of(&owner));
