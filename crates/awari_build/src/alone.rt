@@ -109,33 +109,30 @@ fn settled_part<P: Progress>(
         return Err(BuildFault::Memory);
     };
     let mut outboxes = Outboxes::new(alloc, 1, 0)?;
-    let mut spread: usize = 0;
     while part.gain() > 1 {
         part.open_gain(part.gain() - 1);
-        tell(&part, spread, progress)?;
-        spread = spread_all(&mut part, &mut outboxes, spread, progress)?;
+        tell(&part, progress)?;
+        spread_all(&mut part, &mut outboxes, progress)?;
     }
     Ok(part)
 }
 
 /// Tells `progress` which gain is open and how many boards were spread, and asks it whether the level
 /// is still wanted.
-fn tell<P: Progress>(part: &Part, spread: usize, progress: &mut P) -> Result<(), BuildFault>
+fn tell<P: Progress>(part: &Part, progress: &mut P) -> Result<(), BuildFault>
     ensures { IfErr result (IsStopped P.stops) }
 {
-    progress.settled(usize::from(part.gain()), spread);
+    progress.settled(usize::from(part.gain()), part.boards_spread());
     expect_wanted(progress)
 }
 
-/// Spreads all boards that are settled at the open gain, the nearest first. `before` counts the
-/// boards that were spread before, and the result those that are now. `progress` hears of each new
-/// distance, and may stop there.
+/// Spreads all boards that are settled at the open gain, the nearest first. `progress` hears of each
+/// new distance, and may stop there.
 fn spread_all<P: Progress>(
     part: &mut Part,
     outboxes: &mut Outboxes,
-    before: usize,
     progress: &mut P,
-) -> Result<usize, BuildFault>
+) -> Result<(), BuildFault>
     requires whole { IsWhole part.old }
     requires alone { (outboxes.old.owner ≡ 0) × (length outboxes.old.queues ≡ 1) }
     requires low { part.old.level ≤ HIGHEST_LEVEL }
@@ -146,15 +143,13 @@ fn spread_all<P: Progress>(
     ensures sound { (value : List ℕ → ℤ) → IsSoundPart value part.old → IsSoundPart value part.new }
     ensures stopped { IfErr result (IsStopped P.stops) }
 {
-    let mut spread = before;
     while let Some(dist) = part.due() {
         if part.wave() < dist {
-            tell(part, spread, progress)?;
+            tell(part, progress)?;
         }
         spread_nearest(part, outboxes, dist);
-        spread = spread.saturating_add(1);
     }
-    Ok(spread)
+    Ok(())
 }
 
 /// Spreads the first fresh board, which is of this distance.

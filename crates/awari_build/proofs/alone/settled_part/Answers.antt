@@ -10,7 +10,7 @@ spread_all-requires-clause-sound g c =
 pub loop-part-preserved : goal.loop-part-preserved
 loop-part-preserved g c =
     let before = c.loop-part.invariant in
-    let spread = c.in_ok-spread.ensures in
+    let spread = c.in_ok-spread_all.ensures in
     record {
       whole = spread.whole.0;
       level = spread.whole.1 ∙ c.open_gain.ensures.settles.same.level ∙ before.level;
