@@ -1,6 +1,7 @@
 //! A level built by one part, in one thread.
 
 ghost use Rattle.std.specs.Prelude.{◌≡◌, ◌≤◌, ◌<◌, ◌+◌, ◌⊎◌, ◌↔◌, ◌++◌, ◌∷◌, [], ℕ, ℤ, List, length, IfOk, IfErr, OnOk, Err, Some};
+ghost use Rattle.awari_block.specs.Counts.{spread_of};
 ghost use Rattle.awari_block.specs.Part.{IsLeastDue, unspread, IsClosed};
 ghost use Rattle.awari_owner.specs.Scan.{IsWhole};
 ghost use Rattle.awari_build.specs.BuildFault.{IsStopped};
@@ -11,12 +12,12 @@ ghost use Rattle.awari_table.specs.Shelves.{Consistent, IsShelf};
 ghost use Rattle.awari_table.specs.declared.TheConstants.{HIGHEST_LEVEL};
 ghost use Rattle.awari_theory.specs.Truth.{TellsTruth};
 
-use crate::faults::{BuildFault, expect_wanted};
+use crate::faults::BuildFault;
+use crate::telling::{begin, expect_wanted};
 use awari_block::ClosedPart;
 use awari_owner::{Outboxes, Part, distances_fit};
-use awari_phase::{Progress, Silent};
+use awari_phase::{Progress, Silent, Told};
 use awari_plan::finish_closed;
-use awari_rank::size;
 use awari_table::{HIGHEST_LEVEL, Level, Shelf};
 use std::alloc::{AllocError, Global};
 
@@ -57,11 +58,10 @@ pub fn build_alone_with_progress<P: Progress>(
     if shelf.levels() > HIGHEST_LEVEL {
         return Err(BuildFault::TooHigh);
     }
-    let number = shelf.levels();
-    progress.begin(usize::from(number), size(number) as usize);
+    begin(progress, shelf.levels());
     let part = settled_part(alloc, shelf, progress)?;
     expect_wanted(progress)?;
-    progress.plan();
+    progress.hear(Told::Planned);
     level_of(alloc, shelf, part)
 }
 
@@ -111,19 +111,21 @@ fn settled_part<P: Progress>(
     let mut outboxes = Outboxes::new(alloc, 1, 0)?;
     while part.gain() > 1 {
         part.open_gain(part.gain() - 1);
-        tell(&part, progress)?;
+        tell(&part, progress);
+        expect_wanted(progress)?;
         spread_all(&mut part, &mut outboxes, progress)?;
     }
     Ok(part)
 }
 
-/// Tells `progress` which gain is open and how many boards were spread, and asks it whether the level
-/// is still wanted.
-fn tell<P: Progress>(part: &Part, progress: &mut P) -> Result<(), BuildFault>
-    ensures { IfErr result (IsStopped P.stops) }
+/// Tells `progress` which gain is open and how many boards were spread.
+fn tell<P: Progress>(part: &Part, progress: &mut P)
+    ensures { P.hears progress.old (Told.Settled part.now.gain (spread_of part.now)) progress.new }
 {
-    progress.settled(usize::from(part.gain()), part.boards_spread());
-    expect_wanted(progress)
+    progress.hear(Told::Settled {
+        gain: usize::from(part.gain()),
+        boards: part.boards_spread(),
+    });
 }
 
 /// Spreads all boards that are settled at the open gain, the nearest first. `progress` hears of each
@@ -145,7 +147,8 @@ fn spread_all<P: Progress>(
 {
     while let Some(dist) = part.due() {
         if part.wave() < dist {
-            tell(part, progress)?;
+            tell(part, progress);
+            expect_wanted(progress)?;
         }
         spread_nearest(part, outboxes, dist);
     }

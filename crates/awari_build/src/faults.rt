@@ -1,10 +1,10 @@
 //! Why a level is not built.
 
-ghost use Rattle.std.specs.Prelude.{◌≡◌, IfErr};
-ghost use Rattle.awari_build.specs.BuildFault.{IsStopped, number_of};
+ghost use Rattle.std.specs.Prelude.{◌≡◌};
+ghost use Rattle.awari_build.specs.BuildFault.{number_of};
 ghost use Rattle.awari_build.specs.declared.faults.BuildFault.TheVariants.{Memory};
 
-use awari_phase::{PhaseFault, Progress};
+use awari_phase::PhaseFault;
 use std::alloc::AllocError;
 use std::fmt;
 use thiserror::Error;
@@ -65,16 +65,4 @@ impl From<AllocError> for BuildFault {
     fn from(_error: AllocError) -> Self {
         BuildFault::Memory
     }
-}
-
-/// Refuses a level that is not wanted any more.
-pub(crate) fn expect_wanted<P: Progress>(progress: &mut P) -> Result<(), BuildFault>
-    ensures { IfErr result (IsStopped P.stops) }
-{
-    if progress.is_wanted() {
-        return Ok(());
-    }
-    Err(BuildFault::Phase {
-        fault: PhaseFault::Stopped,
-    })
 }

@@ -21,6 +21,7 @@
 mod alone;
 mod faults;
 mod owned;
+mod telling;
 mod together;
 
 pub use alone::{build_alone, build_alone_with_progress};

@@ -14,14 +14,14 @@ ghost use Rattle.awari_build.specs.BuildFault.{IsOfPhase, IsStopped};
 ghost use Rattle.awari_build.specs.Owned.{AreAt};
 ghost use Rattle.awari_block.specs.Paces.{HasOwners, IsPaced};
 
-use crate::faults::{BuildFault, expect_wanted};
+use crate::faults::BuildFault;
+use crate::telling::{begin, expect_wanted};
 use awari_block::{MOST_OWNERS, MOST_ROOM, MOST_SWEEPS, Pace};
 use awari_phase::{
-    Gate, Owner, PhaseFault, Progress, Silent, closed_parts, finished_owners_are_right,
+    Gate, Owner, PhaseFault, Progress, Silent, Told, closed_parts, finished_owners_are_right,
     gain_phase_with_progress, open_gain, scanned_owners,
 };
 use awari_plan::finish_parallel;
-use awari_rank::size;
 use awari_table::{HIGHEST_LEVEL, Level, Shelf};
 use std::alloc::{AllocError, Global};
 use std::sync::Wait;
@@ -108,12 +108,9 @@ pub fn build_level_with_progress<R: Threads + Wait + Sync, G: Gate + Sync, P: Pr
     if shelf.levels() > HIGHEST_LEVEL {
         return Err(BuildFault::TooHigh);
     }
-    let number = shelf.levels();
-    watch
-        .progress
-        .begin(usize::from(number), size(number) as usize);
+    begin(watch.progress, shelf.levels());
     let owners = settled_owners(rt, alloc, shelf, pace, &mut watch)?;
-    watch.progress.plan();
+    watch.progress.hear(Told::Planned);
     level_of(rt, alloc, shelf, owners)
 }
 

@@ -1,6 +1,7 @@
 //! A level built in segments, which threads scan, open and spread side by side.
 
 ghost use Rattle.std.specs.Prelude.{◌≡◌, ◌≤◌, ◌<◌, ◌+◌, ◌-◌, ◌^◌, ◌⊎◌, ◌↔◌, ◌++◌, ◌∷◌, [], ℕ, ℤ, List, All, length, IfOk, IfErr, Err};
+ghost use Rattle.awari_block.specs.Counts.{spread_in};
 ghost use Rattle.awari_block.specs.Part.{IsClosed};
 ghost use Rattle.awari_build.specs.BuildFault.{IsStopped};
 ghost use Rattle.awari_owner.specs.Level.{AreHeard, AreWhole};
@@ -11,12 +12,12 @@ ghost use Rattle.awari_table.specs.declared.TheConstants.{HIGHEST_LEVEL};
 ghost use Rattle.awari_theory.specs.Truth.{TellsTruth};
 ghost use Rattle.awari_waves.specs.Each.{AreFrom, NoneAreFresh, HasDue};
 
-use crate::faults::{BuildFault, expect_wanted};
+use crate::faults::BuildFault;
+use crate::telling::{begin, expect_wanted};
 use awari_block::ClosedPart;
 use awari_owner::{distances_fit, one_part_hears_all};
-use awari_phase::{Progress, Silent};
+use awari_phase::{Progress, Silent, Told};
 use awari_plan::{finish_closed, finish_parallel};
-use awari_rank::size;
 use awari_table::{HIGHEST_LEVEL, Image, Level, Shelf};
 use awari_waves::Analysis;
 use std::alloc::{AllocError, Global};
@@ -67,11 +68,10 @@ pub fn build_together_with_progress<R: Threads + Sync, P: Progress>(
     if shelf.levels() > HIGHEST_LEVEL {
         return Err(BuildFault::TooHigh);
     }
-    let number = shelf.levels();
-    progress.begin(usize::from(number), size(number) as usize);
+    begin(progress, shelf.levels());
     let analysis = settled_level(rt, alloc, shelf, threads, progress)?;
     expect_wanted(progress)?;
-    progress.plan();
+    progress.hear(Told::Planned);
     level_of(rt, alloc, shelf, threads, analysis)
 }
 
@@ -135,19 +135,21 @@ fn settled_level<R: Threads + Sync, P: Progress>(
     let mut analysis = Analysis::scan(rt, alloc, shelf, threads)?;
     while analysis.gain() > 1 {
         let opened = analysis.open_gain(rt)?;
-        tell(&opened, progress)?;
+        tell(&opened, progress);
+        expect_wanted(progress)?;
         analysis = spread_all(rt, opened, progress)?;
     }
     Ok(analysis)
 }
 
-/// Tells `progress` which gain is open and how many boards were spread, and asks it whether the level
-/// is still wanted.
-fn tell<P: Progress>(analysis: &Analysis, progress: &mut P) -> Result<(), BuildFault>
-    ensures { IfErr result (IsStopped P.stops) }
+/// Tells `progress` which gain is open and how many boards were spread.
+fn tell<P: Progress>(analysis: &Analysis, progress: &mut P)
+    ensures { P.hears progress.old (Told.Settled analysis.now.gain (spread_in analysis.now.parts)) progress.new }
 {
-    progress.settled(usize::from(analysis.gain()), analysis.boards_spread());
-    expect_wanted(progress)
+    progress.hear(Told::Settled {
+        gain: usize::from(analysis.gain()),
+        boards: analysis.boards_spread(),
+    });
 }
 
 /// Spreads all boards that are settled at the open gain, the nearest first. `progress` hears of each
@@ -168,7 +170,8 @@ fn spread_all<R: Threads + Sync, P: Progress>(
     let mut from: u32 = 0;
     while let Some(dist) = analysis.due(from) {
         if analysis.wave() < dist {
-            tell(&analysis, progress)?;
+            tell(&analysis, progress);
+            expect_wanted(progress)?;
         }
         analysis = spread_nearest(rt, analysis, dist)?;
         from = dist + 1;

@@ -198,8 +198,8 @@ pub stretch_read : (n m rank end : ℕ) (starts : List ℕ) (boards tails : List
     → IsStretch m rank run.board tails × ((rank + length tails ≡ end) ⊎ EndsRun tails)
 stretch_read n m rank end starts boards tails runs slice i run level same all are inside begun before order within is count each =
     let of =
-        run_read n starts runs i rank run are (subst (λ (rs : List Run). i < length rs) same inside) (subst (λ (rs : List Run). (get_or rs i no_run).start ≤ rank) same begun)
-        (subst (λ (rs : List Run). i + 1 < length rs → rank < (get_or rs (i + 1) no_run).start) same before) (omega (arith, order, within, ap size_of level)) is in
+    run_read n starts runs i rank run are (subst (λ (rs : List Run). i < length rs) same inside) (subst (λ (rs : List Run). (get_or rs i no_run).start ≤ rank) same begun)
+    (subst (λ (rs : List Run). i + 1 < length rs → rank < (get_or rs (i + 1) no_run).start) same before) (omega (arith, order, within, ap size_of level)) is in
     (subst (λ k. IsStretch k rank run.board tails) level (stretch_found n rank end starts boards tails run all of order count each), stretch_ended n rank end starts boards tails run all of order count each)
 
 -- ---- windows

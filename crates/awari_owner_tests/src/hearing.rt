@@ -6,13 +6,13 @@ use awari_build::{
     BuildFault, Pace, Watch, build_alone_with_progress, build_level_with_progress,
     build_together_with_progress,
 };
-use awari_phase::{Open, Progress};
+use awari_phase::{Open, Progress, Told};
 use awari_table::{Level, Shelf};
 use std::alloc::Global;
 use std::sync::Wait;
 use std::thread::Threads;
 
-/// What a progress hears, and where it is asked whether the level is still wanted.
+/// What a progress is told, and where it is asked whether the level is still wanted.
 #[derive(Clone, Copy, Debug, PartialEq, Eq)]
 pub(crate) enum Heard {
     /// A level of so many stones begins, which has so many boards.
@@ -34,7 +34,7 @@ struct Listener {
 
 impl Listener {
     /// What is not kept for want of memory is missed later.
-    fn hear(&mut self, heard: Heard) {
+    fn keep(&mut self, heard: Heard) {
         let _ = self.heard.push(heard);
     }
 }
@@ -42,20 +42,18 @@ impl Listener {
 impl Progress for Listener {
     ghost stops = { ⊤ };
 
-    fn begin(&mut self, level: usize, boards: usize) {
-        self.hear(Heard::Begun(level, boards));
-    }
+    ghost hears = { λ _ _ _. ⊤ };
 
-    fn settled(&mut self, gain: usize, boards: usize) {
-        self.hear(Heard::Settled(gain, boards));
-    }
-
-    fn plan(&mut self) {
-        self.hear(Heard::Planned);
+    fn hear(&mut self, told: Told) {
+        self.keep(match told {
+            Told::Begun { level, boards } => Heard::Begun(level, boards),
+            Told::Settled { gain, boards } => Heard::Settled(gain, boards),
+            Told::Planned => Heard::Planned,
+        });
     }
 
     fn is_wanted(&mut self) -> bool {
-        self.hear(Heard::Asked);
+        self.keep(Heard::Asked);
         if self.wants == 0 {
             return false;
         }

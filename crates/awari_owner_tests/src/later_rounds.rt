@@ -4,7 +4,7 @@ ghost use Rattle.std.specs.Prelude.{⊤};
 
 use crate::expect::expect_equal;
 use crate::sweeps::opened_owners;
-use awari_phase::{Gate, PhaseFault, Progress, gain_phase_with_progress};
+use awari_phase::{Gate, PhaseFault, Progress, Told, gain_phase_with_progress};
 use std::sync::atomic::{AtomicU64, Ordering};
 use std::test::Fail;
 use std::thread;
@@ -75,13 +75,11 @@ struct TwoRounds<'a>(&'a Meeting);
 impl Progress for TwoRounds<'_> {
     ghost stops = { ⊤ };
 
-    fn begin(&mut self, _level: usize, _boards: usize) {}
+    ghost hears = { λ _ _ _. ⊤ };
 
-    fn settled(&mut self, _gain: usize, _boards: usize) {
+    fn hear(&mut self, _told: Told) {
         let _before = self.0.rounds.fetch_add(1, Ordering::SeqCst);
     }
-
-    fn plan(&mut self) {}
 
     fn is_wanted(&mut self) -> bool {
         self.0.rounds.load(Ordering::SeqCst) < 2

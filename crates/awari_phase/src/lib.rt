@@ -39,6 +39,6 @@ pub use making::{closed_parts, scanned_owners};
 pub use openings::open_gain;
 pub use owners::Owner;
 pub use phases::{gain_phase, gain_phase_with_progress};
-pub use progress::{Progress, Silent};
+pub use progress::{Progress, Silent, Told};
 pub use rounding::round;
 pub use settling::settle_owners;

@@ -1,6 +1,6 @@
 //! Rounds, until a gain is closed.
 
-ghost use Rattle.std.specs.Prelude.{◌≡◌, ◌⊎◌, ◌≤◌, All, IsTrue, false, IsNone, IfSome, IfOk, IfErr, []};
+ghost use Rattle.std.specs.Prelude.{◌≡◌, ◌⊎◌, ◌≤◌, All, IsTrue, false, IsNone, IfSome, IfOk, IfErr, [], slice_get};
 ghost use Rattle.awari_lines.specs.Rings.{EachTo, IsGrid};
 ghost use Rattle.awari_block.specs.Blocks.{due_dist};
 ghost use Rattle.awari_block.specs.Counts.{spread_in};
@@ -12,7 +12,7 @@ use crate::faults::PhaseFault;
 use crate::gates::Gate;
 use crate::openings::open_waves;
 use crate::owners::Owner;
-use crate::progress::{Progress, Silent};
+use crate::progress::{Progress, Silent, Told};
 use crate::rounding::round_with;
 use crate::settling::settle_owners;
 use std::sync::Wait;
@@ -137,10 +137,13 @@ fn work_left(owners: &[Owner]) -> usize {
 /// Tells which gain is open, and how many boards are settled, of all owners together.
 fn tell<P: Progress>(progress: &mut P, owners: &[Owner])
     requires { IsGrid (all_ends owners.now) }
+    ensures { (first : AnOwner) → slice_get owners.now 0 ≡ Some first → P.hears progress.old (Told.Settled first.part.gain (spread_in (parts_of owners.now))) progress.new }
 {
     if let Some(owner) = owners.first() {
-        let gain = owner.part.gain();
-        progress.settled(usize::from(gain), settled_boards(owners));
+        progress.hear(Told::Settled {
+            gain: usize::from(owner.part.gain()),
+            boards: settled_boards(owners),
+        });
     }
 }
 

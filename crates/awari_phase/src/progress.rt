@@ -2,20 +2,31 @@
 
 ghost use Rattle.std.specs.Prelude.{◌≡◌, false};
 
+/// What is told of the build of a level.
+#[derive(Clone, Copy, Debug, PartialEq, Eq)]
+pub enum Told {
+    /// A level of so many stones begins, which has so many boards.
+    Begun { level: usize, boards: usize },
+    /// This gain is open, and so many boards of the level are settled and were spread.
+    Settled { gain: usize, boards: usize },
+    /// All gains are closed, and the entries are begun, with their plans.
+    Planned,
+}
+
 /// Hears how far the build of a level is, and is asked whether the level is still wanted. A level that
 /// is built does not depend on it.
 pub trait Progress {
+    ghost use Rattle.awari_phase.specs.declared.progress.Told.{Told};
+
     /// What holds if a level is not wanted any more. If it is ⊥, no build is stopped.
     ghost stops: { Type 0 };
 
-    /// A level of so many stones begins, which has so many boards.
-    fn begin(&mut self, level: usize, boards: usize);
+    /// What becomes of a progress that is told this.
+    ghost hears: { Self → Told → Self → Type 0 };
 
-    /// This gain is open, and so many boards of the level are settled and were spread.
-    fn settled(&mut self, gain: usize, boards: usize);
-
-    /// All gains are closed, and the entries are begun, with their plans.
-    fn plan(&mut self);
+    /// Hears this.
+    fn hear(&mut self, told: Told)
+        ensures { hears self.old told self.new };
 
     /// Whether the level is still wanted. If it is not, its build is refused as 43 `Stopped`.
     fn is_wanted(&mut self) -> bool
@@ -30,11 +41,11 @@ pub trait Progress {
 pub struct Silent;
 
 impl Progress for Silent {
+    ghost use Rattle.std.specs.Prelude.{◌≡◌};
+
     ghost stops = { ⊥ };
 
-    fn begin(&mut self, _level: usize, _boards: usize) {}
+    ghost hears = { λ old _ new. new ≡ old };
 
-    fn settled(&mut self, _gain: usize, _boards: usize) {}
-
-    fn plan(&mut self) {}
+    fn hear(&mut self, _told: Told) {}
 }

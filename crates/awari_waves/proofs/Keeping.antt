@@ -49,13 +49,19 @@ pub keeps_all : (parts : List Part) → Each KeepsBoards parts parts
 keeps_all parts = record { blocks = refl; each = λ i few. keeps_none (part_at parts i) }
 
 pub keeps_waved : (dist : ℕ) (old new : List Part) → Each (IsAtWave dist) old new → Each KeepsBoards old new
-keeps_waved dist old new all = record { blocks = all.blocks; each = λ i few. subst (KeepsBoards (part_at old i)) (sym (all.each i few)) (record {
-  block = record { level = refl; start = refl; size = refl };
-  stays = λ r low. keeps_same (cell_in (part_at old i).start (part_at old i).cells r) (cell_in (part_at old i).start (part_at old i).cells r) refl;
-}) }
+keeps_waved dist old new all = record {
+  blocks = all.blocks;
+  each = λ i few. subst (KeepsBoards (part_at old i)) (sym (all.each i few)) (record {
+    block = record { level = refl; start = refl; size = refl };
+    stays = λ r low. keeps_same (cell_in (part_at old i).start (part_at old i).cells r) (cell_in (part_at old i).start (part_at old i).cells r) refl;
+  });
+}
 
 pub keeps_opened : (gain : ℕ) (old new : List Part) → Each (OpensSegment gain) old new → Each KeepsBoards old new
-keeps_opened gain old new all = record { blocks = all.blocks; each = λ i few. let settles = (all.each i few).settles in record {
-  block = record { level = settles.same.level; start = settles.same.start; size = settles.size };
-  stays = settles.stays;
-} }
+keeps_opened gain old new all = record {
+  blocks = all.blocks;
+  each = λ i few. let settles = (all.each i few).settles in record {
+    block = record { level = settles.same.level; start = settles.same.start; size = settles.size };
+    stays = settles.stays;
+  };
+}

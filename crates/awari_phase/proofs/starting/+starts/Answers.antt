@@ -33,7 +33,6 @@ scope-with_last-requires g t c = record {
       omega (arith, len, room, had);
 }
 
-
 pub returns-clause-worked : goal.returns-clause-worked
 returns-clause-worked g t c =
     let is = c.in-Some.ensures.items in

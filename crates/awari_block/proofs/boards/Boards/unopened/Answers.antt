@@ -16,7 +16,7 @@ invariant_of-result c =
     none_fresh c.args.start cells c.in_ok-fresh.fresh.words.items (λ k marked. absurd (false≢true (sym (c.in_ok-fresh.ensures.none k) ∙ marked))) in
     let awaited : TellAwaited c.args.level cells c.in_ok-awaits.awaits.items = subst (λ (cs : List Cell). TellAwaited c.args.level cs c.in_ok-awaits.awaits.items) c.as_slice.ensures.value c.in_ok-awaits.ensures.told in
     let count : 0 + unspread (part_of (record { level = c.args.level; gain = c.args.level + 1; wave = 0 }) c.args.start cells (fresh_of c.args.start cells c.in_ok-fresh.fresh)) ≡ length cells =
-        (let all = none_settled c.args.level cells c.requires.fit in let idle = ap length none in omega (arith, all, idle)) in
+    (let all = none_settled c.args.level cells c.requires.fit in let idle = ap length none in omega (arith, all, idle)) in
     search (rules, count)
 
 pub returns : goal.returns

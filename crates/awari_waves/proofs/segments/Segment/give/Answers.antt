@@ -14,8 +14,8 @@ returns-in_ok-lost-in-Lost-clause-given c = (
   list_at c.self.inside.lost c.self.inside.stake.wave,
   c.in_ok-lost-in-Lost.ensures.given,
   gives_as c.args.kind Lost c.args.self.now _ _ _ c.in-Lost.is c.self.view_is (
-    lost_gives c.self.inside c.self.invariant c.give.new.self c.in_ok-lost-in-Lost.ensures.left c.in_ok-lost-in-Lost.lost c.in_ok-lost-in-Lost.ensures.count
-  ),
+      lost_gives c.self.inside c.self.invariant c.give.new.self c.in_ok-lost-in-Lost.ensures.left c.in_ok-lost-in-Lost.lost c.in_ok-lost-in-Lost.ensures.count
+      ),
 )
 
 pub returns-in_err-lost-in-Lost-clause-fresh : goal.returns-in_err-lost-in-Lost-clause-fresh
@@ -40,8 +40,8 @@ returns-in_ok-won-in-Won-clause-given c = (
   list_at c.self.inside.won c.self.inside.stake.wave,
   c.in_ok-won-in-Won.ensures.given,
   gives_as c.args.kind Won c.args.self.now _ _ _ c.in-Won.is c.self.view_is (
-    won_gives c.self.inside c.self.invariant c.give-in-Won.new.self c.in_ok-won-in-Won.ensures.left c.in_ok-won-in-Won.won c.in_ok-won-in-Won.ensures.count
-  ),
+      won_gives c.self.inside c.self.invariant c.give-in-Won.new.self c.in_ok-won-in-Won.ensures.left c.in_ok-won-in-Won.won c.in_ok-won-in-Won.ensures.count
+      ),
 )
 
 pub returns-in_err-won-in-Won-clause-fresh : goal.returns-in_err-won-in-Won-clause-fresh

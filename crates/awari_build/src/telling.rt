@@ -1,0 +1,32 @@
+//! What the builders of a level tell a progress, and ask it.
+
+ghost use Rattle.std.specs.Prelude.{◌≡◌, ◌≤◌, IfErr};
+ghost use Rattle.awari_build.specs.BuildFault.{IsStopped};
+ghost use Rattle.awari_rank.specs.Rank.{size_of};
+
+use crate::faults::BuildFault;
+use awari_phase::{PhaseFault, Progress, Told};
+use awari_rank::size;
+
+/// Tells that the level of so many stones begins.
+pub(crate) fn begin<P: Progress>(progress: &mut P, level: u8)
+    requires { level ≤ 24 }
+    ensures { P.hears progress.old (Told.Begun level (size_of level)) progress.new }
+{
+    progress.hear(Told::Begun {
+        level: usize::from(level),
+        boards: size(level) as usize,
+    });
+}
+
+/// Refuses a level that is not wanted any more.
+pub(crate) fn expect_wanted<P: Progress>(progress: &mut P) -> Result<(), BuildFault>
+    ensures { IfErr result (IsStopped P.stops) }
+{
+    if progress.is_wanted() {
+        return Ok(());
+    }
+    Err(BuildFault::Phase {
+        fault: PhaseFault::Stopped,
+    })
+}
