@@ -6,3 +6,4 @@ pub mod PrintLaws
 pub mod LevelLineLaws
 pub mod LineJsonLaws
 pub mod PlyLines
+mod LineCounts

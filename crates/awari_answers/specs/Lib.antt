@@ -11,3 +11,4 @@ pub mod LevelLines
 pub mod Plies
 pub mod Unverified
 pub mod UnverifiedLines
+pub mod Broken

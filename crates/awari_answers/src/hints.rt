@@ -1,18 +1,26 @@
 //! What the error stream says of a level that breaks a rule: which board does, where its entry stands, and
 //! what the rule asks. It is said beside a refusal, and nothing is promised of it.
 
-ghost use Rattle.std.specs.Prelude.{◌≡◌};
+ghost use Rattle.std.specs.Prelude.{◌≡◌, ◌≢◌, ◌≤◌, ◌*◌, ◌^◌, ◌↔◌, IsSome, IfSome, min, sum};
+ghost use Rattle.awari_answers.specs.Broken.{HasBoard, asked_text, entry_byte, entry_line, limit_byte, limit_line, lines_below};
+ghost use Rattle.awari_board.specs.Rules.{IsBoard};
+ghost use Rattle.awari_rank.specs.Rank.{rank_of};
+ghost use Rattle.awari_table.specs.declared.TheConstants.{HIGHEST_LEVEL};
 
 use crate::printing::{Refused, print};
 use crate::remarks::Explained;
 use awari_board::Board;
 use awari_check::{Answer, CheckFault};
+use awari_file::{ENTRY_LEN, HEADER_LEN};
 use awari_folder::FolderFault;
 use awari_rank::{size, unrank};
 use awari_table::HIGHEST_LEVEL;
 use awari_verify::{Rule, VerifyFault};
 use std::fmt;
 use std::io::Write;
+
+/// The byte of a level's file at which its limit begins.
+const LIMIT_PLACE: u64 = 16;
 
 /// Writes the refusal of a folder, and gives the status 1. It says what the fault means, and which board
 /// of the levels breaks a rule, if that is the fault.
@@ -91,8 +99,12 @@ impl fmt::Display for Place {
     }
 }
 
-/// The board that breaks the rule; none for V7, which is broken by the level's limit.
-fn board_of(level: u8, rank: u32, rule: Rule) -> Option<Board> {
+/// The board that breaks the rule. There is none for V7, which is broken by the level's limit, and none of
+/// a rank that the level does not have.
+fn board_of(level: u8, rank: u32, rule: Rule) -> Option<Board>
+    ensures found { IsSome result ↔ HasBoard level rank rule }
+    ensures board { IfSome result (λ board. IsBoard board × (sum board ≡ level) × (rank_of board ≡ rank)) }
+{
     if rule == Rule::V7 || level > HIGHEST_LEVEL || rank >= size(level) {
         return None;
     }
@@ -100,30 +112,47 @@ fn board_of(level: u8, rank: u32, rule: Rule) -> Option<Board> {
 }
 
 /// The byte of a level's file at which the entry begins, or the limit for V7.
-fn byte_of(rank: u32, rule: Rule) -> u64 {
+fn byte_of(rank: u32, rule: Rule) -> u64
+    ensures limit { rule ≡ Rule.V7 → result ≡ limit_byte }
+    ensures entry { rule ≢ Rule.V7 → result ≡ entry_byte rank }
+{
     if rule == Rule::V7 {
-        16
+        LIMIT_PLACE
     } else {
-        52 + 6 * u64::from(rank)
+        HEADER_LEN as u64 + ENTRY_LEN as u64 * u64::from(rank)
     }
 }
 
-/// The line of the text in which the entry stands, or the limit for V7. Each level has a line before its
-/// entries.
-fn line_of(level: u8, rank: u32, rule: Rule) -> u64 {
-    let mut line: u64 = 1;
-    for below in 0..level.min(HIGHEST_LEVEL) {
-        line = line.saturating_add(1 + u64::from(size(below)));
-    }
+/// The line of the text in which the entry stands, or the limit for V7. No level is above the highest.
+fn line_of(level: u8, rank: u32, rule: Rule) -> u64
+    ensures limit { rule ≡ Rule.V7 → result ≡ limit_line (min level HIGHEST_LEVEL) }
+    ensures entry { rule ≢ Rule.V7 → result ≡ entry_line (min level HIGHEST_LEVEL) rank }
+{
+    let line = 1 + lines_below(level.min(HIGHEST_LEVEL));
     if rule == Rule::V7 {
         line
     } else {
-        line.saturating_add(1 + u64::from(rank))
+        line + 1 + u64::from(rank)
     }
 }
 
+/// How many lines the text of the levels below this one has. Each level has one before its entries.
+fn lines_below(level: u8) -> u64
+    requires { level ≤ HIGHEST_LEVEL }
+    ensures lines { result ≡ lines_below level }
+    ensures few { result ≤ level * 2 ^ 33 }
+{
+    let mut lines: u64 = 0;
+    for below in 0..level {
+        lines += 1 + u64::from(size(below));
+    }
+    lines
+}
+
 /// What the rule asks, as the end of a sentence.
-fn asked_by(rule: Rule) -> &'static str {
+fn asked_by(rule: Rule) -> &'static str
+    ensures { result.now ≡ asked_text rule }
+{
     match rule {
         Rule::V1 => "a value is from -N to N for N stones, and a plan none or 0 to 5",
         Rule::V2 => {
