@@ -7,3 +7,4 @@ pub mod LevelLineLaws
 pub mod LineJsonLaws
 pub mod PlyLines
 mod LineCounts
+pub mod Requests

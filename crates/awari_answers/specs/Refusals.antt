@@ -1,5 +1,5 @@
--- Why a folder gives no answer about a board: the numbers and the names that JSON tells.
-use Rattle.std.specs.Prelude.{ℕ, List, codes}
+-- Why a folder gives no answer about a board: the numbers and the names that JSON tells, and the request beside them.
+use Rattle.std.specs.Prelude.{ℕ, List, [], ◌∷◌, ◌++◌, codes}
 use Rattle.awari_board.specs.BoardFault.{name_of as board_name_of, number_of as board_number_of}
 use Rattle.awari_folder.specs.FolderFault.{number_of as folder_number_of}
 use Rattle.awari_folder.specs.declared.faults.FolderFault.{FolderFault}
@@ -31,3 +31,8 @@ name_of (Folder fault) = folder_name_of fault
 name_of (NotYet fault) = codes "NotYet"
 name_of (Line (line.NotYet levels)) = codes "NotYet"
 name_of (Line line.Memory) = codes "Memory"
+
+-- a request: a command, and its word behind a space if it has one
+abbrev pub request_text : List ℕ → List ℕ → List ℕ
+request_text command [] = command
+request_text command (byte ∷ word) = command ++ 32 ∷ byte ∷ word

@@ -74,7 +74,8 @@ impl NoAnswer {
     }
 }
 
-fn folder_name_of(fault: FolderFault) -> &'static [u8]
+/// The name of a folder's fault. It takes no memory.
+pub fn folder_name_of(fault: FolderFault) -> &'static [u8]
     ensures name { result.now ≡ folder_name_of fault }
     ensures short { length result.now ≤ 20 }
 {

@@ -1,6 +1,7 @@
 //! Refusals as JSON.
 
-ghost use Rattle.std.specs.Prelude.{◌≡◌};
+ghost use Rattle.std.specs.Prelude.{◌≡◌, ◌++◌, take};
+ghost use Rattle.awari_answers.specs.Refusals.{request_text};
 
 use crate::asked::NoAnswer;
 use crate::printing::print;
@@ -15,16 +16,13 @@ const REQUEST_ROOM: usize = 200;
 /// More fields than a refusal has.
 const MOST_FIELDS: usize = 4;
 
-/// Writes a refusal as JSON in one line, with the request, which is a command and a word. A request is
-/// cut at 200 bytes. It gives the status 1, whether the writer took that or not. What the refusal means is
-/// told as a remark.
+/// Writes a refusal as JSON in one line, with the request, which is a command and a word. An empty word is
+/// left out. A request is cut at 200 bytes. It gives the status 1, whether the writer took that or not. What
+/// the refusal means is told as a remark.
 pub fn refuse_json<W: Replies>(writer: &mut W, command: &str, word: &str, fault: NoAnswer) -> u8
     ensures { result ≡ 1 }
 {
-    let mut request = ArrayVec::<u8, REQUEST_ROOM>::new();
-    push_cut(&mut request, command.as_bytes());
-    push_cut(&mut request, b" ");
-    push_cut(&mut request, word.as_bytes());
+    let request = request_of(command.as_bytes(), word.as_bytes());
     let line = refusal_json(request.as_slice(), fault.number(), fault.name());
     let line = str::from_utf8(line.as_slice()).unwrap_or("");
     let members = line.strip_suffix("}\n").unwrap_or(line);
@@ -34,13 +32,26 @@ pub fn refuse_json<W: Replies>(writer: &mut W, command: &str, word: &str, fault:
     1
 }
 
-/// Puts bytes behind others, as many as there is room for.
-fn push_cut(text: &mut ArrayVec<u8, REQUEST_ROOM>, bytes: &[u8]) {
-    for byte in bytes {
-        if text.try_push(*byte).is_err() {
-            return;
-        }
+/// A request of a command and a word, as it is told with its refusal.
+fn request_of(command: &[u8], word: &[u8]) -> ArrayVec<u8, REQUEST_ROOM>
+    ensures { result.items ≡ take 200 (request_text command.now word.now) }
+{
+    let mut request = ArrayVec::<u8, REQUEST_ROOM>::new();
+    push_cut(&mut request, command);
+    if !word.is_empty() {
+        push_cut(&mut request, b" ");
+        push_cut(&mut request, word);
     }
+    request
+}
+
+/// Puts bytes behind others, as many as there is room for.
+fn push_cut(text: &mut ArrayVec<u8, REQUEST_ROOM>, bytes: &[u8])
+    ensures { text.new.items ≡ take 200 (text.old.items ++ bytes.now) }
+{
+    let count = bytes.len().min(text.remaining_capacity());
+    // There is room for so many.
+    let _ = text.try_extend_from_slice(&bytes[..count]);
 }
 
 /// The fields of a refusal, and the refusals inside it, as members of an object behind others. They are

@@ -36,7 +36,7 @@ mod watching;
 mod wishes;
 mod worths;
 
-pub use asked::NoAnswer;
+pub use asked::{NoAnswer, folder_name_of};
 pub use folders::{Summary, run_ask, run_ask_json, run_verify};
 pub use hints::tell_answer;
 pub use json::refuse_json;
