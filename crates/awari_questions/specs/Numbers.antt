@@ -1,11 +1,10 @@
 -- A level in numbers, and the levels that are asked for. Private functions alone go by these: no public contract does.
-use Rattle.std.specs.Prelude.{ℕ, ◌<◌, List, Option, Some, None}
+use Rattle.std.specs.Prelude.{ℕ, ◌<◌, min, List, Option, Some, None}
 use Rattle.awari_answers.specs.Asked.{AreLevelsTo}
 use Rattle.awari_answers.specs.LevelLines.{IsToldOf}
 use Rattle.awari_folder.specs.Contents.{AreNames}
 use Rattle.awari_places.specs.Opening.{AreFramed}
 use Rattle.awari_places.specs.declared.opening.Opened.{Opened}
-use Rattle.std.specs.Prelude.{min}
 use Rattle.awari_table.specs.declared.TheConstants.{HIGHEST_LEVEL}
 use Rattle.awari_table.specs.declared.images.Image.{Image}
 use Rattle.awari_questions.specs.Loads.{HasLevel}

@@ -3,8 +3,9 @@
 ghost use Rattle.std.specs.Prelude.{◌≤◌, ◌+◌};
 ghost use Rattle.awari_table.specs.declared.TheConstants.{HIGHEST_LEVEL};
 
-use crate::refusals::{line_of_unsaid, name_of_fault};
+use crate::refusals::line_of_unsaid;
 use crate::unsaid::Unsaid;
+use awari_answers::folder_name_of;
 use awari_board::Board;
 use awari_desk::Oracle;
 use awari_folder::Folder;
@@ -67,7 +68,7 @@ impl<F: Folder> Oracle for Files<'_, F> {
     fn name_of(fault: &Unsaid) -> &'static [u8] {
         match fault {
             Unsaid::NotYet { .. } => b"NotYet",
-            Unsaid::Folder { fault } => name_of_fault(*fault),
+            Unsaid::Folder { fault } => folder_name_of(*fault),
         }
     }
 }

@@ -3,7 +3,6 @@
 ghost use Rattle.std.specs.Prelude.{◌≡◌, ◌≤◌, ◌+◌, ◌++◌, ◌∷◌, [], codes, length};
 ghost use Rattle.std.specs.Fmt.{decimal};
 ghost use Rattle.arrayvec.specs.ArrayVec.{array_vec_len};
-ghost use Rattle.awari_answers.specs.Refusals.{folder_name_of};
 ghost use Rattle.awari_file.specs.FileFault.{fault_text as file_fault_text, name_of as file_name_of};
 ghost use Rattle.awari_folder.specs.FolderFault.{fault_text as folder_fault_text};
 ghost use Rattle.awari_unverified.specs.Unsaid.{line_of};
@@ -38,22 +37,6 @@ fn line_of_fault(fault: FolderFault) -> TextLine
         FolderFault::Memory => line_of_memory(),
         FolderFault::Occupied { level } => numbered_line(b"refused 85 Occupied level ", level),
         FolderFault::Old { level } => numbered_line(b"refused 86 Old level ", level),
-    }
-}
-
-/// The name of a refusal.
-pub(crate) fn name_of_fault(fault: FolderFault) -> &'static [u8]
-    ensures name { result.now ≡ folder_name_of fault }
-    ensures short { length result.now ≤ 20 }
-{
-    match fault {
-        FolderFault::Below { .. } => b"Below",
-        FolderFault::File { .. } => b"File",
-        FolderFault::Open { .. } => b"Open",
-        FolderFault::Verify { .. } => b"Verify",
-        FolderFault::Memory => b"Memory",
-        FolderFault::Occupied { .. } => b"Occupied",
-        FolderFault::Old { .. } => b"Old",
     }
 }
 
