@@ -132,8 +132,8 @@ first mover's lead and B the board then. With --json all are objects.
     repeats M    the last, if value 0 comes back to the board after ply M";
 
 pub const SERVE_HELP: &str = "\
-A thread builds the levels above the folder's up to TOP, and saves none; with
---unverified there is none. Each line of standard input has its answer:
+A thread builds the levels above the folder's up to TOP, saves none, and has its
+refusal printed last; with --unverified none is built. Each line is answered:
 
     ask BOARD      `V P D`, as `awari help ask` says, `not yet M`, or a refusal
     moves BOARD    as `awari help moves` says, and an empty line; or as of `ask`
@@ -142,7 +142,7 @@ A thread builds the levels above the folder's up to TOP, and saves none; with
     seen           `seen M`: the last answers went by levels 0 to M - 1
     quit           `bye`, and nothing after it is answered; other lines: `what`
 
-It ends at `quit` or with the input, and prints the thread's refusal if it has.";
+It ends at `quit` or with the input. examples/ask_many.py asks many boards.";
 
 pub const RANK_HELP: &str = "\
 It prints `L R`: the board has L stones, and R is its number among the boards of
