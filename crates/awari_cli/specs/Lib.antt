@@ -4,3 +4,5 @@ pub mod Building
 pub mod Hosts
 pub mod Migrating
 pub mod Serving
+pub mod Seconds
+pub mod Gaps

@@ -14,12 +14,11 @@ ghost use Rattle.awari_cli.specs.Building.{KeepsLevels, LeavesFiles, PrintsAllLe
 ghost use Rattle.awari_cli.specs.declared.building.BuildingFault.TheVariants as building_fault;
 
 use crate::estimates::{Bytes, Estimate};
+use crate::ways::{build_by, way_of};
 use awari_answers::{LevelLine, Replies, line_of_level, print, refuse};
-use awari_build::{
-    BuildFault, Pace, Watch, build_level_with_progress, build_together_with_progress,
-};
+use awari_build::{BuildFault, Pace};
 use awari_folder::{Folder, FolderFault, Stored, Together, load, save_or_keep};
-use awari_phase::{Open, Progress};
+use awari_phase::Progress;
 use awari_play::lowest_plans_stay;
 use awari_table::{HIGHEST_LEVEL, Level, Shelf};
 use std::alloc::{AllocFailed, Global};
@@ -252,16 +251,9 @@ fn built_level<T: Threads + Wait + Sync, P: Progress>(
     ensures consistent { IfOk result (λ level. Consistent shelf.now (arc_value level)) }
     ensures planned { IfOk result (λ level. IsPlannedLowest shelf.now (arc_value level)) }
 {
+    let way = way_of(builder.threads, builder.pace);
     let progress = &mut *builder.progress;
-    let level = if builder.pace.owners == 0 {
-        build_together_with_progress(builder.rt, builder.alloc, shelf, builder.threads, progress)?
-    } else {
-        let watch = Watch {
-            gate: &Open,
-            progress,
-        };
-        build_level_with_progress(builder.rt, builder.alloc, shelf, builder.pace, watch)?
-    };
+    let level = build_by(builder.rt, builder.alloc, shelf, way, progress)?;
     let shared = Arc::new(builder.alloc, level)?;
     Ok(shared)
 }

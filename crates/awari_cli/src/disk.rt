@@ -1,6 +1,9 @@
 //! The folders on disk, and what the error stream says of them beside a number. Of what it says nothing
 //! is promised.
 
+ghost use Rattle.std.specs.Prelude.{◌≡◌, ◌↔◌, IsSome, IfSome};
+ghost use Rattle.awari_cli.specs.Gaps.{HasAbove, IsFirstMissing};
+
 use crate::hosts::{Host, Machine, Purpose};
 use crate::machine::memory_left;
 use awari_answers::print;
@@ -69,7 +72,7 @@ impl<'a, T: Files<File = File>> Host<'a> for Disk<'a, T> {
     }
 
     fn levels_in(&self, folder: &HostFolder<'a, T>) -> u8 {
-        first_missing(folder)
+        first_missing(&files_of(folder))
     }
 
     fn machine(&self) -> Machine {
@@ -87,7 +90,7 @@ impl<'a, T: Files<File = File>> Host<'a> for Disk<'a, T> {
         top: u8,
         errors: &mut E,
     ) -> Result<(), FolderFault> {
-        let level = first_missing(folder);
+        let level = first_missing(&files_of(folder));
         if top < level {
             // There is nowhere to say that this could not be written.
             print(
@@ -165,10 +168,12 @@ fn tell_of_levels<T: Files<File = File>, E: Write>(
     if tell_if_no_folder(files, name, errors) {
         return;
     }
+    let files = files_of(folder);
+    let missing = first_missing(&files);
     // There is nowhere to say that this could not be written.
-    if let Some(gap) = gap_of(folder) {
+    if let Some(gap) = gap_above(missing, files) {
         print(errors, &format_args!("{name}: {gap}"));
-    } else if first_missing(folder) == 0 {
+    } else if missing == 0 {
         print(errors, &format_args!("{name}: no level is there"));
     }
 }
@@ -193,7 +198,7 @@ fn tell_if_no_folder<T: Files, E: Write>(files: &T, name: &str, errors: &mut E) 
 /// How many levels there may be.
 const LEVELS: usize = HIGHEST_LEVEL as usize + 1;
 
-/// A level that has no file, and which levels have one, of which some are above it.
+/// The first level that has no file, and which levels have one, of which some are above it.
 #[derive(Clone, Copy)]
 struct Gap {
     missing: u8,
@@ -260,29 +265,36 @@ impl fmt::Display for Run {
     }
 }
 
-/// The first level that has no file, if one above it has.
-fn gap_of<T: Files<File = File>>(folder: &HostFolder<'_, T>) -> Option<Gap> {
-    let missing = first_missing(folder);
-    let mut gap = Gap {
-        missing,
-        files: [false; LEVELS],
-    };
-    let mut is_gap = false;
+/// Which levels have a file, as far as the host can tell.
+fn files_of<T: Files<File = File>>(folder: &HostFolder<'_, T>) -> [bool; LEVELS] {
+    let mut files = [false; LEVELS];
     for level in 0..=HIGHEST_LEVEL {
-        if missing < level && folder.has(level) {
-            is_gap = true;
-            gap.files[usize::from(level)] = true;
-        }
+        files[usize::from(level)] = folder.has(level);
     }
-    if is_gap { Some(gap) } else { None }
+    files
 }
 
 /// The first level that has no file, one more than the highest if each has.
-fn first_missing<T: Files<File = File>>(folder: &HostFolder<'_, T>) -> u8 {
-    for level in 0..=HIGHEST_LEVEL {
-        if !folder.has(level) {
+fn first_missing(files: &[bool; LEVELS]) -> u8
+    ensures { IsFirstMissing files.now result }
+{
+    for level in 0..HIGHEST_LEVEL + 1 {
+        if !files[usize::from(level)] {
             return level;
         }
     }
     HIGHEST_LEVEL + 1
+}
+
+/// The gap at a level that has no file, if a level above it has one.
+fn gap_above(missing: u8, files: [bool; LEVELS]) -> Option<Gap>
+    ensures found { IsSome result ↔ HasAbove files missing }
+    ensures gap { IfSome result (λ gap. gap ≡ record { missing = missing; files = files }) }
+{
+    for level in 0..HIGHEST_LEVEL + 1 {
+        if missing < level && files[usize::from(level)] {
+            return Some(Gap { missing, files });
+        }
+    }
+    None
 }

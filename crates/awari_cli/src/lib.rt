@@ -37,6 +37,7 @@ mod progress;
 mod reading;
 mod runs;
 mod serving;
+mod ways;
 mod writing;
 
 pub use awari_answers::{

@@ -184,8 +184,8 @@ impl fmt::Display for Pace {
     fn fmt<W: fmt::Write>(&self, f: &mut fmt::Formatter<W>) -> fmt::Result {
         let Pace { done, all, gone } = *self;
         let share = done.saturating_mul(100) / all.max(1);
-        let (seconds, tenths) = (gone.as_secs(), gone.subsec_millis() / 100);
-        write!(f, "{share}% done in {seconds}.{tenths} s")?;
+        write!(f, "{share}% done in {} s", Seconds(gone))?;
+        let seconds = gone.as_secs();
         if seconds == 0 || done == 0 {
             return Ok(());
         }
@@ -193,6 +193,22 @@ impl fmt::Display for Pace {
         let left = all.saturating_sub(done).saturating_mul(seconds) / done;
         let left = Span(left);
         write!(f, ", {rate} boards a second, {left} to go")
+    }
+}
+
+/// A time, printed in seconds with a digit behind the point.
+#[derive(Clone, Copy)]
+struct Seconds(Duration);
+
+impl fmt::Display for Seconds {
+    ghost use Rattle.std.specs.Prelude.{Some};
+    ghost use Rattle.awari_cli.specs.Seconds.{seconds_text};
+
+    ghost output = { λ time. Some (seconds_text time.0) };
+
+    fn fmt<W: fmt::Write>(&self, f: &mut fmt::Formatter<W>) -> fmt::Result {
+        let (seconds, tenths) = (self.0.as_secs(), self.0.subsec_millis() / 100);
+        write!(f, "{seconds}.{tenths}")
     }
 }
 

@@ -1,7 +1,7 @@
 //! The command `serve`: a reader of the levels in a folder that is served while a thread builds those
 //! above them.
 
-ghost use Rattle.std.specs.Prelude.{◌≡◌, ◌≤◌, ◌<◌, ◌+◌, ◌↔◌, [], length, Ok, Err, IsOk, IfOk, OnOk};
+ghost use Rattle.std.specs.Prelude.{◌≡◌, ◌≤◌, ◌<◌, ◌+◌, ◌↔◌, ℕ, [], length, Ok, Err, IsOk, IfOk, OnOk};
 ghost use Rattle.awari_desk.specs.Desks.{book_of};
 ghost use Rattle.awari_desk.specs.declared.faults.DeskFault.TheVariants as desk_fault;
 ghost use Rattle.awari_folder.specs.Contents.{Same};
@@ -11,13 +11,12 @@ ghost use Rattle.awari_cli.specs.declared.serving.ServingFault.{ServingFault as 
 ghost use Rattle.awari_cli.specs.declared.serving.ServingFault.TheVariants as serving_fault;
 
 use crate::lasting::{WhileServed, lasting_service};
+use crate::ways::{Way, build_by, way_of};
 use awari_answers::{Replies, Streams, refuse};
-use awari_build::{
-    BuildFault, Pace, Watch, build_level_with_progress, build_together_with_progress,
-};
+use awari_build::{BuildFault, Pace};
 use awari_desk::{DeskFault, Publisher, Reader, ServeFault, desk, serve};
 use awari_folder::{Folder, FolderFault, Together, load};
-use awari_phase::{Open, PhaseFault};
+use awari_phase::PhaseFault;
 use awari_table::{Counted, HIGHEST_LEVEL, Level, Shelf};
 use core::mem::replace_with;
 use rayon::current_num_threads;
@@ -120,13 +119,13 @@ enum Grown {
     Stopped,
 }
 
-/// What builds levels beside a service: its threads and memory, how many owners it has, and whether
-/// the levels are wanted.
+/// What builds levels beside a service: its threads and memory, by whom they are built, and whether they
+/// are wanted.
 #[derive(Drop)]
 struct Grower<T> {
     rt: T,
     alloc: Global,
-    owners: u8,
+    way: Way,
     wanted: WhileServed,
 }
 
@@ -192,12 +191,7 @@ fn serve_beside<
     let stored = load(&Together(rt), alloc, folder, HIGHEST_LEVEL)?;
     let (publisher, known) = published(rt.clone()?, alloc, &stored.shelf)?;
     let (service, wanted) = lasting_service(alloc)?;
-    let grower = Grower {
-        rt: rt.clone()?,
-        alloc,
-        owners: growth.owners,
-        wanted,
-    };
+    let grower = grower_for(rt.clone()?, alloc, growth, wanted);
     let top = growth.top;
     let Ok(builder) = thread::spawn_with(rt, GrowsTo(top), move || grow(grower, publisher, top))
     else {
@@ -212,6 +206,20 @@ fn serve_beside<
     served?;
     let end = ended(grown)?;
     Ok(end)
+}
+
+/// What builds levels as `growth` says: by so many owners, or by all processors together if there are none.
+fn grower_for<T: Threads>(rt: T, alloc: Global, growth: Growth, wanted: WhileServed) -> Grower<T>
+    ensures owners { 0 < growth.owners → result.way ≡ Way.Owners (record { owners = growth.owners; room = 64; sweeps = 1000 }) }
+    ensures together { growth.owners ≡ 0 → (threads : ℕ) × (result.way ≡ Way.Together threads) }
+{
+    let way = way_of(current_num_threads(&rt), Pace::usual(growth.owners));
+    Grower {
+        rt,
+        alloc,
+        way,
+        wanted,
+    }
 }
 
 /// How the building has ended, which is no refusal if nobody wanted the level.
@@ -331,7 +339,7 @@ fn grow_by_one<T: Threads + Wait + Sync + Drop>(
     Ok(())
 }
 
-/// The level above the book, built by the owners, or by all processors together if there are none.
+/// The level above the book.
 fn next_level<T: Threads + Wait + Sync>(
     grower: &mut Grower<T>,
     book: &Shelf,
@@ -339,16 +347,5 @@ fn next_level<T: Threads + Wait + Sync>(
     ensures { IfOk result (λ level. Consistent book.now level) }
 {
     let wanted = &mut grower.wanted;
-    let level = if grower.owners == 0 {
-        let threads = current_num_threads(&grower.rt);
-        build_together_with_progress(&grower.rt, grower.alloc, book, threads, wanted)?
-    } else {
-        let pace = Pace::usual(grower.owners);
-        let watch = Watch {
-            gate: &Open,
-            progress: wanted,
-        };
-        build_level_with_progress(&grower.rt, grower.alloc, book, pace, watch)?
-    };
-    Ok(level)
+    build_by(&grower.rt, grower.alloc, book, grower.way, wanted)
 }

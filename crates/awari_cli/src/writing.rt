@@ -220,13 +220,16 @@ fn first_to_build<'a, H: Host<'a>, E: Write>(
     first
 }
 
-/// What builds the levels that are asked for.
+/// What builds the levels that are asked for: at the pace and by the threads that are asked for.
 fn builder_for<'a, T: Threads, P: Progress>(
     rt: &'a T,
     alloc: Global,
     build: Build,
     progress: &'a mut P,
-) -> Builder<'a, T, P> {
+) -> Builder<'a, T, P>
+    ensures pace { result.pace ≡ build.pace }
+    ensures threads { (threads : ℕ) → build.threads ≡ Some threads → result.threads ≡ threads }
+{
     Builder {
         rt,
         alloc,

@@ -1,0 +1,67 @@
+//! By whom a level is built.
+
+ghost use Rattle.std.specs.Prelude.{◌≡◌, ◌<◌, ◌↔◌, ◌⊎◌, ℕ, Err, IfOk};
+ghost use Rattle.awari_block.specs.Paces.{HasOwners, IsPaced};
+ghost use Rattle.awari_block.specs.declared.paces.Pace.{Pace as APace};
+ghost use Rattle.awari_play.specs.Least.{IsPlannedLowest};
+ghost use Rattle.awari_table.specs.Shelves.{Consistent};
+
+use awari_build::{
+    BuildFault, Pace, Watch, build_level_with_progress, build_together_with_progress,
+};
+use awari_phase::{Open, Progress};
+use awari_table::{Level, Shelf};
+use std::alloc::Global;
+use std::sync::Wait;
+use std::thread::Threads;
+
+/// By whom a level is built.
+#[derive(Clone, Copy)]
+pub(crate) enum Way {
+    /// By so many threads together.
+    Together { threads: usize },
+    /// By the owners of this pace.
+    Owners { pace: Pace },
+}
+
+/// By the owners of the pace, or by so many threads together if it has none.
+pub(crate) fn way_of(threads: usize, pace: Pace) -> Way
+    ensures together { pace.owners ≡ 0 → result ≡ Way.Together threads }
+    ensures owners { 0 < pace.owners → result ≡ Way.Owners pace }
+{
+    if pace.owners == 0 {
+        Way::Together { threads }
+    } else {
+        Way::Owners { pace }
+    }
+}
+
+/// The level above the shelf, built so. It is refused as the builders refuse it.
+pub(crate) fn build_by<T: Threads + Wait + Sync, P: Progress>(
+    rt: &T,
+    alloc: Global,
+    shelf: &Shelf,
+    way: Way,
+    progress: &mut P,
+) -> Result<Level, BuildFault>
+    ensures consistent { IfOk result (λ level. Consistent shelf.now level) }
+    ensures planned { IfOk result (IsPlannedLowest shelf.now) }
+
+    // A pace that owners can't have is refused, and nothing else is refused so.
+    ensures owners { (pace : APace) → way ≡ Way.Owners pace → (result ≡ Err BuildFault.Owners) ↔ (HasOwners pace → ⊥) }
+    ensures pace { (pace : APace) → way ≡ Way.Owners pace → (result ≡ Err BuildFault.Pace) ↔ (HasOwners pace × (IsPaced pace → ⊥)) }
+    ensures together { (threads : ℕ) → way ≡ Way.Together threads → (result ≡ Err BuildFault.Owners) ⊎ (result ≡ Err BuildFault.Pace) → ⊥ }
+{
+    match way {
+        Way::Together { threads } => {
+            build_together_with_progress(rt, alloc, shelf, threads, progress)
+        }
+        Way::Owners { pace } => {
+            let watch = Watch {
+                gate: &Open,
+                progress,
+            };
+            build_level_with_progress(rt, alloc, shelf, pace, watch)
+        }
+    }
+}
