@@ -1,5 +1,5 @@
 -- A time in seconds, as progress tells it.
-use Rattle.std.specs.Prelude.{ℕ, ◌*◌, ◌/◌, ◌%◌, List, ◌++◌, codes, decimal}
+use Rattle.std.specs.Prelude.{ℕ, ◌/◌, ◌%◌, List, ◌++◌, codes, decimal}
 use Rattle.core.specs.Duration.{as_nanos}
 use Rattle.core.specs.declared.time.Duration.{Duration}
 
