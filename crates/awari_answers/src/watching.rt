@@ -65,6 +65,8 @@ impl<'a, V, E: Write> Watching<'a, V, E> {
 impl<V: Verifier, E: Write> Verifier for Watching<'_, V, E> {
     ghost ready = { V.ready };
 
+    ghost lacks = { V.lacks };
+
     fn verify(
         &self,
         alloc: Global,

@@ -35,9 +35,9 @@ pub(crate) fn add_first(handle: &mut Handle, alloc: Global, bytes: &[u8]) -> Res
     ensures refused { IfErr result (IsFileFault [] (replicate 32 0) bytes.now) }
     ensures kept { OnErr result (handle.new.is_open ≡ false) }
 {
-    let mut stored = Box::new(alloc, Stored::empty())?;
+    let mut stored = Stored::empty();
     stored.add(alloc, bytes)?;
-    put(handle, stored);
+    put(handle, Box::new(alloc, stored)?);
     Ok(())
 }
 

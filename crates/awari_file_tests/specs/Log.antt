@@ -59,6 +59,6 @@ state_of folder = record {
   stands = λ n. Some (files_in folder n);
   may_leave = MayLeaveOf folder;
   is_clear = IsClearOf folder;
-  refusals = folder.refused;
+  refusals = record { refused = folder.refused; lacking = folder.lacking };
   stuck = folder.stuck;
 }

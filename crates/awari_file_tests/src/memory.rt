@@ -69,6 +69,7 @@ pub struct MemoryFolder {
     refuses_writes: bool,
     refuses_sync: bool,
     refused: u64,
+    lacking: u64,
     stuck: u64,
 }
 
@@ -87,6 +88,7 @@ impl MemoryFolder {
             refuses_writes: false,
             refuses_sync: false,
             refused: 0,
+            lacking: 0,
             stuck: 0,
         }
     }
@@ -118,6 +120,7 @@ impl MemoryFolder {
         ensures puts { self.new.puts ≡ self.old.puts }
         ensures beside { self.new.beside ≡ self.old.beside }
         ensures refused { self.new.refused ≡ self.old.refused }
+        ensures lacking { self.new.lacking ≡ self.old.lacking }
         ensures stuck { self.new.stuck ≡ self.old.stuck }
     {
         if self.refuse_at == 0 {
@@ -189,7 +192,10 @@ impl Folder for MemoryFolder {
         };
         match Vec::from_slice(self.alloc, bytes) {
             Ok(copy) => Ok(Some(VecDeque::from(copy))),
-            Err(_) => Err(Refusal::Memory),
+            Err(_) => {
+                self.lacking = self.lacking.saturating_add(1);
+                Err(Refusal::Memory)
+            }
         }
     }
 
@@ -237,7 +243,13 @@ impl Folder for MemoryFolder {
             bytes: new.bytes,
             synced: new.synced,
         };
-        put_behind(&mut self.puts, put)?;
+        match put_behind(&mut self.puts, put) {
+            Ok(()) => {}
+            Err(refusal) => {
+                self.lacking = self.lacking.saturating_add(1);
+                return Err(refusal);
+            }
+        }
         self.beside = None;
         Ok(())
     }

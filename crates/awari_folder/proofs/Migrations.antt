@@ -1,23 +1,25 @@
 -- Levels that are brought over from one folder to another.
-use Rattle.std.proofs.Common.{arith, ◌≡◌, ◌≢◌, ◌<◌, ◌≤◌, ◌+◌, ◌⊎◌, inl, inr, ⊎_elim, List, ℕ, suc, [], ◌∷◌, ◌++◌, length, Option, Some, None, Err, IfSome, ap, sym, refl, subst, ◌∙◌, length-append}
-use Rattle.std.specs.Prelude.{IsSomeAnd, replicate}
+use Rattle.std.proofs.Common.{arith, ◌≡◌, ◌≢◌, ◌<◌, ◌≤◌, ◌+◌, ◌⊎◌, inl, inr, ⊎_elim, List, ℕ, suc, [], ◌∷◌, ◌++◌, length, Option, Some, None, Result, Ok, Err, IfSome, ap, sym, refl, subst, ◌∙◌, length-append}
+use Rattle.std.specs.Prelude.{IfOk, IsSomeAnd, replicate}
 use Rattle.std.proofs.lemmas.Bool.Decides.{eqb_tells}
 use native.Mathlib.Numerals.{unary_clauses}
 use Rattle.awari_table.specs.declared.TheConstants.{HIGHEST_LEVEL}
 use Rattle.awari_table.specs.declared.images.Image.{Image}
 use Rattle.awari_table.specs.Shelves.{Consistent}
-use Rattle.awari_table.specs.Counted.{Grew}
 use Rattle.awari_verify.specs.VerifyFault.{IsDueBy}
 use Rattle.awari_verify.specs.declared.verdicts.VerifyFault.{VerifyFault}
 use Rattle.awari_file.specs.declared.contents.Loaded.{Loaded}
 use Rattle.awari_file.specs.FileText.{IsFileOf, file_text}
+use Rattle.awari_file.specs.Reading.{file_in}
+use Rattle.awari_file.specs.Source.{Answers}
+use Rattle.awari_file.specs.declared.faults.FileFault.{FileFault}
 use Rattle.awari_folder.specs.declared.faults.FolderFault.{FolderFault}
 use Rattle.awari_folder.specs.declared.faults.FolderFault.TheVariants.{Below, File, Open, Verify, Memory, Occupied, Old}
 use Rattle.awari_folder.specs.declared.loading.Stored.{Stored}
 use Rattle.awari_folder.specs.declared.migrating.Limits.{Limits}
-use Rattle.awari_folder.specs.Contents.{Same, SameBut, LeavesToo, OpenIfRefused, OpenIfEither, AreNames, HoldsIn}
+use Rattle.awari_folder.specs.Contents.{Same, SameBut, LeavesToo, Lacks, OpenIfRefused, OpenIfEither, Refusals, Refuses, TellsRefusal, AreNames, HoldsIn}
 use Rattle.awari_folder.specs.State.{IsOwnIfFree}
-use Rattle.awari_folder.specs.Migration.{rules_of, IsMigratedFile, MigrateLevels, CanMigrate, IsMigrationFault, IsStoreFault, IsMigrated, IsFirstMigrationFault, LeavesWhole}
+use Rattle.awari_folder.specs.Migration.{rules_of, IsMigratedFile, MigrateLevels, CanMigrate, IsMigrationFault, IsStoreFault, IsFoundIn, IsMigrated, IsFirstMigrationFault, LeavesWhole}
 
 -- ---- a file that is opened
 
@@ -101,16 +103,21 @@ migration_fault shelf below name other number (Old level) is can h = absurd h
 
 -- ---- refusals
 
-pub over_another : (known : Option (List ℕ)) (shelf : List Image) (below : List ℕ) (other : Option (List ℕ)) (level : ℕ) (loaded : Loaded) → level ≡ length shelf
-    → IfSome known (λ bytes. IsFileOf bytes loaded) → loaded.below ≢ below → IfSome known (λ bytes. IsMigrationFault shelf below (Some bytes) other (Below level))
-over_another None shelf below other level loaded is found another = tt
-over_another (Some bytes) shelf below other level loaded is found another = (is, (loaded.version, record { loaded = loaded; file = found; of_version = refl; another = another }))
+pub over_another : (bytes : List ℕ) (shelf : List Image) (below : List ℕ) (other : Option (List ℕ)) (level : ℕ) (loaded : Loaded) → level ≡ length shelf
+    → IsFileOf bytes loaded → loaded.below ≢ below → IsMigrationFault shelf below (Some bytes) other (Below level)
+over_another bytes shelf below other level loaded is found another = (is, (loaded.version, record { loaded = loaded; file = found; of_version = refl; another = another }))
 
-pub wrong_level : (known : Option (List ℕ)) (shelf : List Image) (below : List ℕ) (other : Option (List ℕ)) (level : ℕ) (loaded : Loaded) (fault : VerifyFault) → level ≡ length shelf
-    → IfSome known (λ bytes. IsFileOf bytes loaded) → loaded.below ≡ below → IsDueBy (rules_of loaded.version) shelf loaded.image fault
-    → IfSome known (λ bytes. IsMigrationFault shelf below (Some bytes) other (Verify level fault))
-wrong_level None shelf below other level loaded fault is found over due = tt
-wrong_level (Some bytes) shelf below other level loaded fault is found over due = (is, (loaded.version, record { loaded = loaded; file = found; of_version = refl; over = over; wrong = due }))
+pub wrong_level : (bytes : List ℕ) (shelf : List Image) (below : List ℕ) (other : Option (List ℕ)) (level : ℕ) (loaded : Loaded) (fault : VerifyFault) → level ≡ length shelf
+    → IsFileOf bytes loaded → loaded.below ≡ below → IsDueBy (rules_of loaded.version) shelf loaded.image fault
+    → IsMigrationFault shelf below (Some bytes) other (Verify level fault)
+wrong_level bytes shelf below other level loaded fault is found over due = (is, (loaded.version, record { loaded = loaded; file = found; of_version = refl; over = over; wrong = due }))
+
+-- what holds of all bytes that were read so holds of those that were there, if they are known
+pub found_as : (a : Option (List ℕ)) (read : Result Loaded FileFault) (P : List ℕ → Type 0) → IfSome a (λ bytes. IfOk read (λ loaded. IsFileOf bytes loaded))
+    → IfSome a (λ bytes. Answers (λ (loaded : Loaded). loaded) read (file_in bytes)) → ((bytes : List ℕ) → IsFoundIn read bytes → P bytes) → IfSome a P
+found_as None read P found fault then = tt
+found_as (Some bytes) (Ok loaded) P found fault then = then bytes found
+found_as (Some bytes) (Err e) P found fault then = then bytes fault
 
 -- no room, before any level
 pub memory_first : (names others : ℕ → Option (List ℕ)) (stands : ℕ → Option (Option (List ℕ))) → AreNames stands others → IsFirstMigrationFault names others stands Memory
@@ -179,23 +186,23 @@ come_end names others stands n shelf below limits digest long come end = record 
 
 -- ---- calls that are refused
 
-pub either_first : (fault : FolderFault) (old mid new other other_new : ℕ) → OpenIfRefused {T = Stored} (Err fault) mid new → mid ≡ old → other_new ≡ other
+pub either_first : (fault : FolderFault) (old mid new other other_new : Refusals) → OpenIfRefused {T = Stored} (Err fault) mid new → mid ≡ old → other_new ≡ other
     → OpenIfEither {T = Stored} (Err fault) old new other other_new
 either_first (Below level) old mid new other other_new told same others = (told ∙ same, others)
 either_first (File level fault) old mid new other other_new told same others = (told ∙ same, others)
-either_first (Open level) old mid new other other_new told same others = inl (subst (λ (n : ℕ). Grew n new) same told)
+either_first (Open level) old mid new other other_new told same others = inl (subst (λ (n : Refusals). Refuses n new) same told)
 either_first (Verify level fault) old mid new other other_new told same others = (told ∙ same, others)
-either_first Memory old mid new other other_new told same others = (told ∙ same, others)
+either_first Memory old mid new other other_new told same others = (⊎_elim (λ e. inl (e ∙ same)) (λ l. inr (subst (λ (n : Refusals). Lacks n new) same l)) told, inl others)
 either_first (Occupied level) old mid new other other_new told same others = (told ∙ same, others)
 either_first (Old level) old mid new other other_new told same others = (told ∙ same, others)
 
-pub either_second : (fault : FolderFault) (old new other mid other_new : ℕ) → OpenIfRefused {T = Stored} (Err fault) mid other_new → mid ≡ other → new ≡ old
+pub either_second : (fault : FolderFault) (old new other mid other_new : Refusals) → TellsRefusal {T = Stored} (Err fault) mid other_new → mid ≡ other → new ≡ old
     → OpenIfEither {T = Stored} (Err fault) old new other other_new
 either_second (Below level) old new other mid other_new told same first = (first, told ∙ same)
 either_second (File level fault) old new other mid other_new told same first = (first, told ∙ same)
-either_second (Open level) old new other mid other_new told same first = inr (subst (λ (n : ℕ). Grew n other_new) same told)
+either_second (Open level) old new other mid other_new told same first = inr (subst (λ (n : Refusals). Refuses n other_new) same told)
 either_second (Verify level fault) old new other mid other_new told same first = (first, told ∙ same)
-either_second Memory old new other mid other_new told same first = (first, told ∙ same)
+either_second Memory old new other mid other_new told same first = (inl first, inr (subst (λ (n : Refusals). Lacks n other_new) same told))
 either_second (Occupied level) old new other mid other_new told same first = (first, told ∙ same)
 either_second (Old level) old new other mid other_new told same first = (first, told ∙ same)
 

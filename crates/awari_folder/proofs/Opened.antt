@@ -1,12 +1,12 @@
 -- What is known of a file that was opened, and of a fault that is not 82.
-use Rattle.std.proofs.Common.{rules, arith, ap, ◌≡◌, ◌∙◌, ◌<◌, ◌≤◌, ◌⊎◌, List, ℕ, Option, Some, None, IfSome, Err, length, refl, subst, sym}
+use Rattle.std.proofs.Common.{rules, arith, ap, ◌≡◌, ◌∙◌, ◌<◌, ◌≤◌, ◌⊎◌, inl, List, ℕ, Option, Some, None, IfSome, Err, length, refl, subst, sym}
 use Rattle.std.specs.Prelude.{IsSomeAnd, IsNone, ◌+◌}
 use Rattle.awari_folder.specs.declared.faults.FolderFault.{FolderFault}
 use Rattle.awari_folder.specs.declared.faults.FolderFault.TheVariants.{Below, File, Open, Verify, Memory, Occupied, Old}
 use Rattle.awari_folder.specs.declared.loading.Stored.{Stored}
 use Rattle.awari_table.specs.declared.images.Image.{Image}
 use Rattle.awari_folder.specs.NextFile.{IsNextFile}
-use Rattle.awari_folder.specs.Contents.{Opens, IsOfFile, OpenIfRefused, HoldLevels, IsStoredTo}
+use Rattle.awari_folder.specs.Contents.{Opens, IsOfFile, OpenIfRefused, Refusals, HoldLevels, IsStoredTo}
 use native.Mathlib.Numerals.{unary_clauses}
 
 -- What holds of the bytes of a file that was opened holds of what has the name.
@@ -16,12 +16,12 @@ of_name remaining stands None lent file P same known opened holds = let h : IsNo
 of_name remaining stands (Some bytes) lent file P same known opened holds =
     let e : remaining lent ≡ Some bytes = ap remaining same ∙ subst (λ s. Opens remaining s (Some file)) known opened in subst (λ o. IfSome o P) e holds
 
-pub not_open : (fault : FolderFault) (old new : ℕ) → IsOfFile fault → new ≡ old → OpenIfRefused {T = Stored} (Err fault) old new
+pub not_open : (fault : FolderFault) (old new : Refusals) → IsOfFile fault → new ≡ old → OpenIfRefused {T = Stored} (Err fault) old new
 not_open (Below level) old new of_file same = same
 not_open (File level fault) old new of_file same = same
 not_open (Open level) old new of_file same = absurd of_file
 not_open (Verify level fault) old new of_file same = same
-not_open Memory old new of_file same = same
+not_open Memory old new of_file same = inl same
 not_open (Occupied level) old new of_file same = same
 not_open (Old level) old new of_file same = same
 

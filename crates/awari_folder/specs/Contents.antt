@@ -1,8 +1,9 @@
 -- What stands under the names of a folder's levels, and what its calls do to that.
-use Rattle.std.specs.Prelude.{◌≡◌, ◌≢◌, ◌<◌, ◌≤◌, ◌+◌, ◌⊎◌, ⊤, ℕ, zero, suc, List, [], length, take, drop, replicate, Option, Some, None, IfSome, IsSomeAnd, IsNone, Result, Err}
+use Rattle.std.specs.Prelude.{◌≡◌, ◌≢◌, ◌<◌, ◌≤◌, ◌+◌, ◌⊎◌, ⊤, ℕ, zero, suc, List, [], length, take, drop, replicate, Option, Some, None, IfSome, IsSomeAnd, IsNone, Result, Ok, Err}
 use Rattle.awari_table.specs.Counted.{Grew}
 use Rattle.awari_table.specs.declared.TheConstants.{HIGHEST_LEVEL}
 use Rattle.awari_table.specs.declared.images.Image.{Image}
+use Rattle.awari_file.specs.Source.{BeginsRight}
 use Rattle.awari_folder.specs.declared.calls.Refusal.{Refusal}
 use Rattle.awari_folder.specs.declared.calls.Refusal.TheVariants as refusal
 use Rattle.awari_folder.specs.declared.faults.FolderFault.{FolderFault}
@@ -63,19 +64,41 @@ IsWhole written kept bytes = (written ≡ Some bytes) × (kept ≡ Some bytes)
 abbrev pub IsLeftOf : Option (List ℕ) → Option (List ℕ) → Type 0
 IsLeftOf kept c = IfSome kept (λ bytes. c ≡ Some bytes)
 
--- a call that is refused is counted, and no other is
-abbrev pub Counts : {T : Type 0} → Result T Refusal → ℕ → ℕ → Type 0
-Counts (Err refusal.Refused) old new = Grew old new
-Counts result old new = new ≡ old
+-- How many calls were refused so far: by the folder itself, and for want of memory.
+pub record Refusals : Type 0 where
+  pub refused : ℕ
+  pub lacking : ℕ
 
--- 82 is answered where a call was refused, and nothing else is
-abbrev pub OpenIfRefused : {T : Type 0} → Result T FolderFault → ℕ → ℕ → Type 0
-OpenIfRefused (Err (Open level)) old new = Grew old new
+-- one more was refused by the folder itself
+abbrev pub Refuses : Refusals → Refusals → Type 0
+Refuses old new = Grew old.refused new.refused × (new.lacking ≡ old.lacking)
+
+-- one more was refused for want of memory
+abbrev pub Lacks : Refusals → Refusals → Type 0
+Lacks old new = (new.refused ≡ old.refused) × Grew old.lacking new.lacking
+
+-- a call that is refused is counted, and no other is
+abbrev pub Counts : {T : Type 0} → Result T Refusal → Refusals → Refusals → Type 0
+Counts (Err refusal.Refused) old new = Refuses old new
+Counts (Err refusal.Memory) old new = Lacks old new
+Counts (Ok x) old new = new ≡ old
+
+-- 82 is answered where a call was refused, 84 where one was for want of memory, and neither otherwise
+abbrev pub TellsRefusal : {T : Type 0} → Result T FolderFault → Refusals → Refusals → Type 0
+TellsRefusal (Err (Open level)) old new = Refuses old new
+TellsRefusal (Err Memory) old new = Lacks old new
+TellsRefusal result old new = new ≡ old
+
+-- 82 is answered where a call was refused, and nothing else is; with 84 one may have been for want of memory
+abbrev pub OpenIfRefused : {T : Type 0} → Result T FolderFault → Refusals → Refusals → Type 0
+OpenIfRefused (Err (Open level)) old new = Refuses old new
+OpenIfRefused (Err Memory) old new = (new ≡ old) ⊎ Lacks old new
 OpenIfRefused result old new = new ≡ old
 
--- 82 is answered where one of two folders refused a call, and nothing else is
-abbrev pub OpenIfEither : {T : Type 0} → Result T FolderFault → ℕ → ℕ → ℕ → ℕ → Type 0
-OpenIfEither (Err (Open level)) old new other_old other_new = Grew old new ⊎ Grew other_old other_new
+-- the same of two folders
+abbrev pub OpenIfEither : {T : Type 0} → Result T FolderFault → Refusals → Refusals → Refusals → Refusals → Type 0
+OpenIfEither (Err (Open level)) old new other_old other_new = Refuses old new ⊎ Refuses other_old other_new
+OpenIfEither (Err Memory) old new other_old other_new = ((new ≡ old) ⊎ Lacks old new) × ((other_new ≡ other_old) ⊎ Lacks other_old other_new)
 OpenIfEither result old new other_old other_new = (new ≡ old) × (other_new ≡ other_old)
 
 -- it is not 82
@@ -123,17 +146,18 @@ HoldsIn stands shelf digest = (names : ℕ → Option (List ℕ)) × AreNames st
 abbrev pub nothing_known : ℕ → Option (Option (List ℕ))
 nothing_known n = None
 
--- the fault of the file of this level, over this shelf and digest
-abbrev pub IsFaultAt : (ℕ → Option (List ℕ)) → ℕ → List Image → List ℕ → FolderFault → Type 0
-IsFaultAt names level shelf below (Open n) = n ≡ level
-IsFaultAt names level shelf below Memory = ⊤
-IsFaultAt names level shelf below fault = IsSomeAnd (names level) (λ bytes. IsFileFault shelf below bytes fault)
+-- The fault of the file of this level, over this shelf and digest. It is 84 only if a call lacked memory, or once the file was read
+-- as far as `BeginsRight` says.
+abbrev pub IsFaultAt : Type 0 → (ℕ → Option (List ℕ)) → ℕ → List Image → List ℕ → FolderFault → Type 0
+IsFaultAt lacked names level shelf below (Open n) = n ≡ level
+IsFaultAt lacked names level shelf below Memory = lacked ⊎ IsSomeAnd (names level) BeginsRight
+IsFaultAt lacked names level shelf below fault = IsSomeAnd (names level) (λ bytes. IsFileFault shelf below bytes fault)
 
 -- The files below some level up to this one are right, and that of the level has the fault.
-pub record IsFaultTo (most : ℕ) (names : ℕ → Option (List ℕ)) (fault : FolderFault) : Type 0 where
+pub record IsFaultTo (lacked : Type 0) (most : ℕ) (names : ℕ → Option (List ℕ)) (fault : FolderFault) : Type 0 where
   pub level : ℕ
   pub low : level ≤ most
   pub shelf : List Image
   pub below : List ℕ
   pub right : HoldLevels names level shelf below
-  pub here : IsFaultAt names level shelf below fault
+  pub here : IsFaultAt lacked names level shelf below fault

@@ -1,5 +1,6 @@
 -- A level that is saved in place of no file.
 use Rattle.std.specs.Prelude.{◌≡◌, ◌≢◌, ◌⊎◌, ⊤, ℕ, List, Option, Some, None, IsSome, IsSomeAnd}
+use Rattle.awari_table.specs.Counted.{Grew}
 use Rattle.awari_file.specs.declared.faults.FileFault.TheVariants.{Read, Write}
 use Rattle.awari_folder.specs.declared.faults.FolderFault.{FolderFault}
 use Rattle.awari_folder.specs.declared.faults.FolderFault.TheVariants.{Below, File, Open, Verify, Memory, Occupied, Old}
@@ -18,3 +19,13 @@ IsKeepFault number text name (Verify level fault) = ⊥
 IsKeepFault number text name Memory = ⊤
 IsKeepFault number text name (Occupied level) = (level ≡ number) × IsSomeAnd name (λ bytes. bytes ≢ text)
 IsKeepFault number text name (Old level) = ⊥
+
+-- The fault of a file that was opened and compared: it takes no memory, and 68 is told only if the reader answered a fault.
+abbrev pub IsComparedFault : ℕ → ℕ → FolderFault → Type 0
+IsComparedFault old new (Below level) = ⊥
+IsComparedFault old new (File level fault) = Grew old new
+IsComparedFault old new (Open level) = ⊥
+IsComparedFault old new (Verify level fault) = ⊥
+IsComparedFault old new Memory = ⊥
+IsComparedFault old new (Occupied level) = ⊤
+IsComparedFault old new (Old level) = ⊥

@@ -1,5 +1,5 @@
 -- The levels of one folder brought over to another.
-use Rattle.std.specs.Prelude.{◌≡◌, ◌<◌, ◌≤◌, ◌⊎◌, ◌==◌, if◌then◌else◌, ⊤, ℕ, zero, suc, List, [], ◌∷◌, ◌++◌, length, replicate, Option, Some, None, IsSome, IsSomeAnd}
+use Rattle.std.specs.Prelude.{◌≡◌, ◌<◌, ◌≤◌, ◌⊎◌, ◌==◌, if◌then◌else◌, ⊤, ℕ, zero, suc, List, [], ◌∷◌, ◌++◌, length, replicate, Option, Some, None, IsSome, IsSomeAnd, Result, Ok, Err}
 use Rattle.awari_table.specs.declared.TheConstants.{HIGHEST_LEVEL}
 use Rattle.awari_table.specs.declared.images.Image.{Image}
 use Rattle.awari_table.specs.declared.rules.Distances.{Distances}
@@ -8,7 +8,9 @@ use Rattle.awari_table.specs.Shelves.{Consistent, ConsistentBy}
 use Rattle.awari_play.specs.Least.{NoFarther, IsPlannedLowest}
 use Rattle.awari_verify.specs.VerifyFault.{IsDueBy}
 use Rattle.awari_file.specs.declared.contents.Loaded.{Loaded}
+use Rattle.awari_file.specs.declared.faults.FileFault.{FileFault}
 use Rattle.awari_file.specs.declared.faults.FileFault.TheVariants.{Write}
+use Rattle.awari_file.specs.declared.faults.FileFault.TheVariants as file
 use Rattle.awari_file.specs.FileText.{IsFileOf, file_text}
 use Rattle.awari_file.specs.Reading.{file_in, Fails}
 use Rattle.awari_folder.specs.declared.faults.FolderFault.{FolderFault}
@@ -119,3 +121,19 @@ IsStoreFault number other (Verify level fault) = ⊥
 IsStoreFault number other Memory = ⊤
 IsStoreFault number other (Occupied level) = (level ≡ number) × IsSome other
 IsStoreFault number other (Old level) = ⊥
+
+-- the bytes were read so
+abbrev pub IsFoundIn : Result Loaded FileFault → List ℕ → Type 0
+IsFoundIn (Ok loaded) bytes = IsFileOf bytes loaded
+IsFoundIn (Err e) bytes = Fails e (file_in bytes)
+
+-- The refusal tells what reading answered, and nothing else in its place: a fault of the file is that which was read, and want of
+-- memory is that of the reading, or of the least distances of a level of version 1 that is right.
+abbrev pub IsMigratedOf : List Image → List ℕ → Result Loaded FileFault → FolderFault → Type 0
+IsMigratedOf shelf below (Err e) (File level fault) = fault ≡ e
+IsMigratedOf shelf below (Err e) Memory = e ≡ file.Memory
+IsMigratedOf shelf below (Err e) fault = ⊥
+IsMigratedOf shelf below (Ok loaded) Memory = (loaded.below ≡ below) × (loaded.version ≡ 1) × ConsistentBy (rules_of loaded.version) shelf loaded.image
+IsMigratedOf shelf below (Ok loaded) (File level fault) = ⊥
+IsMigratedOf shelf below (Ok loaded) (Open level) = ⊥
+IsMigratedOf shelf below (Ok loaded) fault = ⊤

@@ -5,6 +5,8 @@ use Rattle.awari_table.specs.Shelves.{Consistent}
 use Rattle.awari_file.specs.declared.contents.Loaded.{Loaded}
 use Rattle.awari_file.specs.FileText.{IsFileOf}
 use Rattle.awari_file.specs.Reading.{file_in, Fails}
+use Rattle.awari_file.specs.Source.{BeginsRight}
+use Rattle.awari_file.specs.declared.faults.FileFault.TheVariants as reads
 use Rattle.awari_verify.specs.VerifyFault.{IsDue}
 use Rattle.awari_folder.specs.declared.faults.FolderFault.{FolderFault}
 use Rattle.awari_folder.specs.declared.faults.FolderFault.TheVariants.{Below, File, Open, Verify, Memory, Occupied, Old}
@@ -41,12 +43,13 @@ pub record IsWrong (version : ℕ) (below bytes : List ℕ) (P : Image → Type 
   pub over : loaded.below ≡ below
   pub wrong : P loaded.image
 
--- The fault of bytes that are to be the file of the shelf's next level.
+-- The fault of bytes that are to be the file of the shelf's next level. With 84 the header is right, and so are the entries that are
+-- read at once.
 abbrev pub IsFileFault : List Image → List ℕ → List ℕ → FolderFault → Type 0
-IsFileFault shelf below bytes (File level fault) = (level ≡ length shelf) × Fails fault (file_in bytes)
+IsFileFault shelf below bytes (File level fault) = (level ≡ length shelf) × Fails fault (file_in bytes) × (fault ≢ reads.Memory)
 IsFileFault shelf below bytes (Below level) = (level ≡ length shelf) × IsOverAnother 2 below bytes
 IsFileFault shelf below bytes (Verify level fault) = (level ≡ length shelf) × IsWrong 2 below bytes (λ image. IsDue shelf image fault)
 IsFileFault shelf below bytes (Open level) = ⊥
-IsFileFault shelf below bytes Memory = Unit {0}
+IsFileFault shelf below bytes Memory = BeginsRight bytes
 IsFileFault shelf below bytes (Occupied level) = ⊥
 IsFileFault shelf below bytes (Old level) = (level ≡ length shelf) × IsOld bytes

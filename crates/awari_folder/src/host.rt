@@ -22,6 +22,7 @@ pub struct HostFolder<'a, R> {
     lock: Option<File>,
     words: Option<Words>,
     refused: u64,
+    lacking: u64,
     stuck: u64,
 }
 
@@ -36,6 +37,7 @@ impl<'a, R> HostFolder<'a, R> {
             lock: None,
             words: None,
             refused: 0,
+            lacking: 0,
             stuck: 0,
         }
     }
@@ -54,6 +56,7 @@ pub enum LockFault {
 
 impl<R: Files<File = File>> HostFolder<'_, R> {
     ghost use Rattle.std.specs.Prelude.{◌≡◌};
+    ghost use Rattle.awari_folder.specs.Contents.{Lacks};
     ghost use Rattle.awari_folder.specs.Host.{state_of};
 
     /// Whether something has the name of this level's file. It is false also if that can't be told. It
@@ -68,6 +71,16 @@ impl<R: Files<File = File>> HostFolder<'_, R> {
     /// What the host said last of a call that it refused, of this folder or of a file in it.
     pub fn said(&self) -> Option<Said> {
         self.words.as_ref()?.last()
+    }
+
+    /// Counts a call that is refused for want of memory.
+    fn lack(&mut self) -> Refusal
+        ensures refusals { Lacks (state_of self.old).refusals (state_of self.new).refusals }
+        ensures stuck { (state_of self.new).stuck ≡ (state_of self.old).stuck }
+        ensures memory { result ≡ Refusal.Memory }
+    {
+        self.lacking = self.lacking.saturating_add(1);
+        Refusal::Memory
     }
 
     /// The place for the host's words, which is made if there is none.
@@ -250,10 +263,10 @@ impl<R: Files<File = File>> Folder for HostFolder<'_, R> {
 
     fn open(&mut self, level: u8) -> Result<Option<HostFile>, Refusal> {
         let Ok(path) = path_of(self.alloc, self.path, level) else {
-            return Err(Refusal::Memory);
+            return Err(self.lack());
         };
         let Ok(words) = self.words() else {
-            return Err(Refusal::Memory);
+            return Err(self.lack());
         };
         match open_file(self.files, path.as_path()) {
             Ok(file) => Ok(Some(HostFile { file, level, words })),
@@ -268,7 +281,7 @@ impl<R: Files<File = File>> Folder for HostFolder<'_, R> {
 
     fn read_at(&mut self, level: u8, place: u64, room: &mut [u8]) -> Result<Option<u64>, Refusal> {
         let Ok(path) = path_of(self.alloc, self.path, level) else {
-            return Err(Refusal::Memory);
+            return Err(self.lack());
         };
         match read_file(self.files, path.as_path(), place, room) {
             Ok(length) => Ok(Some(length)),
@@ -285,14 +298,14 @@ impl<R: Files<File = File>> Folder for HostFolder<'_, R> {
 
     fn create(&mut self, level: u8) -> Result<HostDraft, Refusal> {
         let Ok(path) = path_of_new(self.alloc, self.path, level) else {
-            return Err(Refusal::Memory);
+            return Err(self.lack());
         };
         let Ok(words) = self.words() else {
-            return Err(Refusal::Memory);
+            return Err(self.lack());
         };
         match self.lock() {
             Ok(()) => {}
-            Err(LockFault::Memory) => return Err(Refusal::Memory),
+            Err(LockFault::Memory) => return Err(self.lack()),
             Err(LockFault::Held | LockFault::Refused) => {
                 self.refused = self.refused.saturating_add(1);
                 return Err(Refusal::Refused);
@@ -310,10 +323,10 @@ impl<R: Files<File = File>> Folder for HostFolder<'_, R> {
 
     fn replace(&mut self, level: u8, _new: HostDraft) -> Result<(), Refusal> {
         let Ok(path) = path_of(self.alloc, self.path, level) else {
-            return Err(Refusal::Memory);
+            return Err(self.lack());
         };
         let Ok(new) = path_of_new(self.alloc, self.path, level) else {
-            return Err(Refusal::Memory);
+            return Err(self.lack());
         };
         match fs::rename(self.files, new.as_path(), path.as_path()) {
             Ok(()) => {

@@ -2,12 +2,12 @@
 
 ghost use Rattle.std.specs.Prelude.{◌≡◌, Some, IfOk, IfErr, IfSome, OnOk, OnErr};
 ghost use Rattle.sha2.specs.Sha256.{sha256};
-ghost use Rattle.awari_table.specs.Counted.{inner_of};
+ghost use Rattle.awari_table.specs.Counted.{faults_of, inner_of};
 ghost use Rattle.awari_file.specs.FileText.{HasFile, body_text, file_text};
 ghost use Rattle.awari_folder.specs.FolderFault.{Names};
-ghost use Rattle.awari_folder.specs.Keeping.{IsFreeFor, IsKeepFault};
+ghost use Rattle.awari_folder.specs.Keeping.{IsComparedFault, IsFreeFor, IsKeepFault};
 ghost use Rattle.awari_folder.specs.Migration.{KeepsFiles};
-ghost use Rattle.awari_folder.specs.Contents.{Same, IsOfFile, OpenIfRefused};
+ghost use Rattle.awari_folder.specs.Contents.{Same, TellsRefusal};
 ghost use Rattle.awari_folder.specs.State.{IsOwnIfFree, Leaves, Saves};
 
 use crate::calls::{Folder, Refusal};
@@ -39,8 +39,9 @@ pub fn save_or_keep<F: Folder>(
     ensures err { OnErr result (Same (F.state folder.old).stands (F.state folder.new).stands) }
     // A crash at any moment leaves the level's name what it might have left before, or the level's file, whole, if it had none.
     ensures leaves { Leaves level.now.level (IsOwnIfFree level.now below) (F.state folder.old) (F.state folder.new) }
-    // It is 82 if the folder refused to open, to make or to name a file, and only then.
-    ensures refused { OpenIfRefused result (F.state folder.old).refusals (F.state folder.new).refusals }
+    // It is 82 if the folder refused to open, to make or to name a file, 84 if it lacked memory for that,
+    // and neither otherwise.
+    ensures refused { TellsRefusal result (F.state folder.old).refusals (F.state folder.new).refusals }
 {
     let number = level.number();
     match folder.open(number) {
@@ -63,7 +64,7 @@ fn digest_of_own<R: Read>(
     ensures own { IfSome (R.remaining (inner_of reader.old)) (λ bytes. OnOk result (bytes ≡ file_text 2 level.now below)) }
     ensures fault { IfSome (R.remaining (inner_of reader.old)) (λ bytes. IfErr result (IsKeepFault level.now.level (file_text 2 level.now below) (Some bytes))) }
     ensures named { IfErr result (Names level.now.level) }
-    ensures of_file { IfErr result IsOfFile }
+    ensures told { IfErr result (IsComparedFault (faults_of reader.old) (faults_of reader.new)) }
 {
     let number = level.number();
     match compare_level(level, below, reader) {

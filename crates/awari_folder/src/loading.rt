@@ -1,6 +1,6 @@
 //! A shelf from the files in a folder.
 
-ghost use Rattle.std.specs.Prelude.{◌≡◌, ◌≢◌, ℕ, ◌+◌, ◌≤◌, [], List, Option, IfOk, IfErr, OnOk, OnErr, replicate, IfSome, Err, length, MatchResult};
+ghost use Rattle.std.specs.Prelude.{◌≡◌, ◌≢◌, ℕ, ◌+◌, ◌≤◌, [], List, Option, IfOk, IfErr, OnOk, OnErr, replicate, IfSome, Err, Ok, length, MatchResult};
 ghost use Rattle.awari_table.specs.Counted.{inner_of, faults_of, Grew};
 ghost use Rattle.awari_table.specs.declared.TheConstants.{HIGHEST_LEVEL};
 ghost use Rattle.awari_theory.specs.Truth.{TellsTruth};
@@ -8,7 +8,8 @@ ghost use Rattle.awari_file.specs.Sealing.{IsUnsealed};
 ghost use Rattle.awari_folder.specs.FolderFault.{Names, NamesLevel};
 ghost use Rattle.awari_folder.specs.State.{OnlyReads};
 ghost use Rattle.awari_folder.specs.NextFile.{IsNextFile, IsFileFault};
-ghost use Rattle.awari_folder.specs.Contents.{IsOfFile, AreNames, IsStoredTo, IsFaultTo};
+ghost use Rattle.awari_folder.specs.Contents.{IsOfFile, AreNames, IsStoredTo, IsFaultTo, Lacks};
+ghost use Rattle.awari_folder.specs.Verifying.{IsReadAs, IsToldOf, TellsReader};
 
 use crate::calls::{Folder, Refusal};
 use crate::faults::FolderFault;
@@ -70,10 +71,33 @@ impl Stored {
         ensures levels { OnOk result (length self.new.shelf ≡ length self.old.shelf + 1) }
         ensures named { IfErr result (Names (length self.old.shelf)) }
         ensures of_file { IfErr result IsOfFile }
+        ensures read { IfErr result (λ fault. TellsReader fault (faults_of reader.old) (faults_of reader.new)) }
+        ensures kept { OnErr result (self.new ≡ self.old) }
+    {
+        let read = read_unsealed(alloc, reader);
+        self.put_read(verifier, alloc, read)
+    }
+
+    /// Puts the level on top that was read, if all is right.
+    fn put_read<V: Verifier>(
+        &mut self,
+        verifier: &V,
+        alloc: Global,
+        read: Result<Unsealed, FileFault>,
+    ) -> Result<(), FolderFault>
+        requires ready { V.ready }
+        requires low { IfOk read (λ file. file.loaded.image.level ≤ HIGHEST_LEVEL) }
+        ensures ok { (bytes : List ℕ) (known : Option (List ℕ)) → IsReadAs read bytes known → OnOk result (IsNextFile self.old.shelf self.old.digest bytes self.new.shelf self.new.digest) }
+        ensures fault { (bytes : List ℕ) (known : Option (List ℕ)) → IsReadAs read bytes known → IfErr result (IsFileFault self.old.shelf self.old.digest bytes) }
+        ensures told { IfErr result (IsToldOf V.lacks self.old.shelf self.old.digest read) }
+        ensures meaning { OnOk result (TellsTruth self.new.shelf) }
+        ensures levels { OnOk result (length self.new.shelf ≡ length self.old.shelf + 1) }
+        ensures named { IfErr result (Names (length self.old.shelf)) }
+        ensures of_file { IfErr result IsOfFile }
         ensures kept { OnErr result (self.new ≡ self.old) }
     {
         let level = self.shelf.levels();
-        let file = match read_unsealed(alloc, reader) {
+        let file = match read {
             Ok(file) => file,
             Err(FileFault::Memory) => return Err(FolderFault::Memory),
             Err(fault) => return Err(FolderFault::File { level, fault }),
@@ -99,7 +123,7 @@ impl Stored {
         ensures ok { OnOk result ((file.now.loaded.version ≢ 1) × (file.now.loaded.below ≡ self.now.digest)) }
         ensures fault { (bytes : List ℕ) (known : Option (List ℕ)) → IsUnsealed file.now bytes known → IfErr result (IsFileFault self.now.shelf self.now.digest bytes) }
         ensures named { IfErr result (Names (length self.now.shelf)) }
-        ensures of_file { IfErr result IsOfFile }
+        ensures told { IfErr result (IsToldOf ⊥ self.now.shelf self.now.digest (Ok file.now)) }
     {
         let level = self.shelf.levels();
         let fault = if file.loaded.version == OLD_VERSION {
@@ -146,7 +170,7 @@ pub fn load<V: Verifier, F: Folder>(
     // If it is known what has the names: the levels up to the first that has no file, or the first
     // fault.
     ensures exact { (names : ℕ → Option (List ℕ)) → AreNames (F.state folder.old).stands names
-        → MatchResult result (λ stored. IsStoredTo most names stored.shelf stored.digest) (IsFaultTo most names) }
+        → MatchResult result (λ stored. IsStoredTo most names stored.shelf stored.digest) (IsFaultTo (Lacks (F.state folder.old).refusals (F.state folder.new).refusals) most names) }
     // Nothing is changed, and it is 82 if the folder refused to open a file, and only then.
     ensures reads { OnlyReads result (F.state folder.old) (F.state folder.new) }
 {

@@ -3,15 +3,16 @@
 ghost use Rattle.std.specs.Prelude.{◌≡◌, ◌≤◌, ℕ, List, Option, Some, None, [], ◌∷◌, ◌++◌, IfOk, IfErr, IfSome, OnOk, OnErr, MatchResult, length};
 ghost use Rattle.awari_table.specs.declared.TheConstants.{HIGHEST_LEVEL};
 ghost use Rattle.awari_table.specs.declared.images.Image.{Image};
-ghost use Rattle.awari_table.specs.Counted.{inner_of};
-ghost use Rattle.awari_table.specs.Shelves.{Consistent};
+ghost use Rattle.awari_table.specs.Counted.{faults_of, inner_of};
+ghost use Rattle.awari_table.specs.Shelves.{Consistent, ConsistentBy};
 ghost use Rattle.awari_file.specs.FileText.{body_text};
 ghost use Rattle.awari_verify.specs.VerifyFault.{IsDueBy};
 ghost use Rattle.awari_folder.specs.FolderFault.{Names, NamesLevel};
-ghost use Rattle.awari_folder.specs.Contents.{Same, LeavesStill, IsOfFile, OpenIfRefused, OpenIfEither, AreNames};
+ghost use Rattle.awari_folder.specs.Contents.{Same, LeavesStill, IsOfFile, OpenIfEither, AreNames, TellsRefusal};
+ghost use Rattle.awari_folder.specs.Verifying.{TellsReader};
 ghost use Rattle.awari_folder.specs.State.{IsOwnIfFree, Leaves, OnlyReads, Saves, Unchanged};
 ghost use Rattle.sha2.specs.Sha256.{sha256};
-ghost use Rattle.awari_folder.specs.Migration.{rules_of, IsMigratedImage, IsMigratedFile, IsNextMigrated, IsMigrationFault, IsMigrated, IsFirstMigrationFault, IsStoreFault, LeavesWhole, KeepsFiles};
+ghost use Rattle.awari_folder.specs.Migration.{rules_of, IsMigratedImage, IsMigratedFile, IsNextMigrated, IsMigrationFault, IsMigrated, IsFirstMigrationFault, IsStoreFault, IsFoundIn, IsMigratedOf, LeavesWhole, KeepsFiles};
 
 use crate::calls::{Folder, Refusal};
 use crate::faults::FolderFault;
@@ -148,9 +149,28 @@ fn read_migrated<R: Read>(
     ensures right { IfOk result (λ migrated. Consistent shelf.now migrated.level) }
     ensures named { IfErr result (Names (length shelf.now)) }
     ensures of_file { IfErr result IsOfFile }
+    ensures read { IfErr result (λ fault. TellsReader fault (faults_of reader.old) (faults_of reader.new)) }
+{
+    let read = read_image(alloc, reader);
+    migrated_of(alloc, shelf, below, read)
+}
+
+/// Makes the level that is to be written of what was read.
+fn migrated_of(
+    alloc: Global,
+    shelf: &Shelf,
+    below: [u8; 32],
+    read: Result<Loaded, FileFault>,
+) -> Result<MigratedLevel, FolderFault>
+    ensures ok { (bytes : List ℕ) → IsFoundIn read bytes → IfOk result (λ migrated. IsMigratedFile shelf.now below bytes migrated.level migrated.digest migrated.limits) }
+    ensures fault { (bytes : List ℕ) (other : Option (List ℕ)) → IsFoundIn read bytes → IfErr result (IsMigrationFault shelf.now below (Some bytes) other) }
+    ensures told { IfErr result (IsMigratedOf shelf.now below read) }
+    ensures right { IfOk result (λ migrated. Consistent shelf.now migrated.level) }
+    ensures named { IfErr result (Names (length shelf.now)) }
+    ensures of_file { IfErr result IsOfFile }
 {
     let level = shelf.levels();
-    let loaded = match read_image(alloc, reader) {
+    let loaded = match read {
         Ok(loaded) => loaded,
         Err(FileFault::Memory) => return Err(FolderFault::Memory),
         Err(fault) => return Err(FolderFault::File { level, fault }),
@@ -187,6 +207,7 @@ fn migrated_over(
 ) -> Result<Result<Level, VerifyFault>, AllocError>
     ensures ok { IfOk result (λ judged. IfOk judged (IsMigratedImage version shelf.now image)) }
     ensures fault { IfOk result (λ judged. IfErr judged (IsDueBy (rules_of version) shelf.now image)) }
+    ensures memory { OnErr result ((version ≡ 1) × ConsistentBy (rules_of version) shelf.now image) }
 {
     if version != OLD_VERSION {
         return Ok(verify(shelf, image));
@@ -209,7 +230,7 @@ fn store<G: Folder>(to: &mut G, level: &Level, below: [u8; 32]) -> Result<[u8; 3
     ensures kept { KeepsFiles (G.state to.old).stands (G.state to.new).stands }
     ensures err { OnErr result (Same (G.state to.old).stands (G.state to.new).stands) }
     ensures leaves { Leaves level.now.level (IsOwnIfFree level.now below) (G.state to.old) (G.state to.new) }
-    ensures refused { OpenIfRefused result (G.state to.old).refusals (G.state to.new).refusals }
+    ensures refused { TellsRefusal result (G.state to.old).refusals (G.state to.new).refusals }
 {
     let number = level.number();
     match to.open(number) {

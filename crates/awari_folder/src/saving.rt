@@ -4,7 +4,7 @@ ghost use Rattle.std.specs.Prelude.{◌≡◌, [], Some, IfOk, IfErr, OnOk, OnEr
 ghost use Rattle.sha2.specs.Sha256.{sha256};
 ghost use Rattle.awari_file.specs.FileText.{HasFile, body_text, file_text};
 ghost use Rattle.awari_folder.specs.FolderFault.{IsSaveFault};
-ghost use Rattle.awari_folder.specs.Contents.{Same, Becomes, IsWhole, OpenIfRefused};
+ghost use Rattle.awari_folder.specs.Contents.{Same, Becomes, IsWhole, TellsRefusal};
 ghost use Rattle.awari_folder.specs.State.{IsOwnFile, Leaves, MayName, Saves};
 
 use crate::calls::{Draft, Folder, Refusal};
@@ -35,8 +35,9 @@ pub fn save<F: Folder>(
     ensures err { OnErr result (Same (F.state folder.old).stands (F.state folder.new).stands) }
     // A crash at any moment leaves the level's name what it might have left before, or the level's file, whole.
     ensures leaves { Leaves level.now.level (IsOwnFile level.now below) (F.state folder.old) (F.state folder.new) }
-    // It is 82 if the folder refused to make the file or to give it its name, and only then.
-    ensures refused { OpenIfRefused result (F.state folder.old).refusals (F.state folder.new).refusals }
+    // It is 82 if the folder refused to make the file or to give it its name, 84 if it lacked memory for
+    // that, and neither otherwise.
+    ensures refused { TellsRefusal result (F.state folder.old).refusals (F.state folder.new).refusals }
 {
     let number = level.number();
     let new = match folder.create(number) {
@@ -68,7 +69,7 @@ fn put_in_place<F: Folder>(
     ensures err { OnErr result (Same (F.state folder.old).stands (F.state folder.new).stands) }
     ensures leaves { MayName level.now.level (λ left. F.New.contents new ≡ Some [] → left ≡ Some (file_text 2 level.now below)) (F.state folder.old) (F.state folder.new) }
     ensures stuck { (F.state folder.new).stuck ≡ (F.state folder.old).stuck }
-    ensures refused { OpenIfRefused result (F.state folder.old).refusals (F.state folder.new).refusals }
+    ensures refused { TellsRefusal result (F.state folder.old).refusals (F.state folder.new).refusals }
 {
     let number = level.number();
     let written = match write_whole(level, below, new) {

@@ -19,6 +19,9 @@ pub trait Verifier {
     /// What has to hold of its type: that threads may share what starts them, if there are any.
     ghost ready: { Type 0 };
 
+    /// What has to hold of its type if it answers want of memory.
+    ghost lacks: { Type 0 };
+
     /// Why the level of the file is not the shelf's next, none if it is. It is refused as 66 to 68 if
     /// the file is not sealed by its digest. Condition: the level is at most 24, as that of each file
     /// that was read.
@@ -30,7 +33,7 @@ pub trait Verifier {
     ) -> Result<Option<VerifyFault>, FileFault>
         requires ready { ready }
         requires low { file.now.loaded.image.level ≤ HIGHEST_LEVEL }
-        ensures { IsJudged shelf.now file.now result };
+        ensures { IsJudged lacks shelf.now file.now result };
 }
 
 /// Verifies by one thread, and takes no memory.
@@ -39,6 +42,8 @@ pub struct Alone;
 
 impl Verifier for Alone {
     ghost ready = { ⊤ };
+
+    ghost lacks = { ⊥ };
 
     fn verify(
         &self,
@@ -59,6 +64,8 @@ pub struct Together<'a, T>(pub &'a T);
 impl<T: Threads + Sync> Verifier for Together<'_, T> {
     ghost ready = { IsSync T.row };
 
+    ghost lacks = { ⊤ };
+
     fn verify(
         &self,
         alloc: Global,
@@ -77,7 +84,7 @@ fn verify_together<T: Threads + Sync>(
     file: &Unsealed,
 ) -> Result<Option<VerifyFault>, FileFault>
     requires { file.now.loaded.image.level ≤ HIGHEST_LEVEL }
-    ensures { IsJudged shelf.now file.now result }
+    ensures { IsJudged ⊤ shelf.now file.now result }
 {
     let (sealed, fault) = join(
         rt,
@@ -87,7 +94,7 @@ fn verify_together<T: Threads + Sync>(
         { file.seal() },
         || -> Option<VerifyFault>
             requires { IsSync T.row }
-            ensures { IsVerdict shelf.entry.now file.entry.now.loaded.image result }
+            ensures { IsVerdict ⊤ shelf.entry.now file.entry.now.loaded.image result }
         { fault_of_parallel(rt, alloc, shelf, &file.loaded.image) },
     );
     sealed?;

@@ -1,5 +1,5 @@
 -- What is known of an entry that was read at its place, and of the file's frame.
-use Rattle.std.proofs.Common.{Bool, true, false, ◌≡◌, ℕ, ◌<◌, List, get_or, length, slice_get, sum, Option, Some, Result, Ok, Err, sym, ap, subst, ◌∙◌, arith}
+use Rattle.std.proofs.Common.{Bool, true, false, ◌≡◌, ℕ, ◌<◌, List, get_or, length, slice_get, sum, Option, Some, Result, Ok, Err, inl, sym, ap, subst, ◌∙◌, arith}
 use Rattle.std.specs.Prelude.{IfErr, IfOk, IsSomeAnd}
 use Rattle.std.proofs.lemmas.List.FromFn.{get_or-map-range_with_len, length-map-range_with_len}
 use Rattle.std.proofs.lemmas.Option.{slice_get-get_or}
@@ -9,7 +9,7 @@ use Rattle.awari_table.specs.declared.images.Entry.{Entry}
 use Rattle.awari_table.specs.declared.images.Image.{Image}
 use Rattle.awari_folder.specs.declared.faults.FolderFault.{FolderFault}
 use Rattle.awari_folder.specs.declared.faults.FolderFault.TheVariants.{Below, File, Open, Verify, Memory, Occupied, Old}
-use Rattle.awari_folder.specs.Contents.{IsOfFile, OpenIfRefused, Same}
+use Rattle.awari_folder.specs.Contents.{IsOfFile, OpenIfRefused, Refusals, Same}
 use Rattle.awari_play.specs.Worths.{AreReplies, IsReplied}
 use Rattle.awari_play.specs.declared.replies.Replies.{Replies}
 use Rattle.awari_play.specs.declared.weighing.WeighedMove.{WeighedMove}
@@ -21,13 +21,13 @@ ok_along (Ok x) P Q f h = f x h
 ok_along (Err e) P Q f h = tt
 
 -- a refusal for what a file says is not 82
-pub not_open : {T : Type 0} (r : Result T FolderFault) (old new : ℕ) → IfErr r IsOfFile → new ≡ old → OpenIfRefused r old new
+pub not_open : {T : Type 0} (r : Result T FolderFault) (old new : Refusals) → IfErr r IsOfFile → new ≡ old → OpenIfRefused r old new
 not_open (Ok x) old new h same = same
 not_open (Err (Below level)) old new h same = same
 not_open (Err (File level fault)) old new h same = same
 not_open (Err (Open level)) old new h same = absurd h
 not_open (Err (Verify level fault)) old new h same = same
-not_open (Err Memory) old new h same = same
+not_open (Err Memory) old new h same = inl same
 not_open (Err (Occupied level)) old new h same = same
 not_open (Err (Old level)) old new h same = same
 

@@ -34,13 +34,13 @@ returns-in_err-put_on-in-Ok-Some-clause-exact g c = λ names are.
     let fault = c.in_err-put_on-in-Ok-Some.field-0.0 in
     let here = of_name g.F.File.Read.remaining _ _ _ c.in-Ok-Some.file (λ bytes. IsFileFault c.loop-level.stored.shelf c.loop-level.stored.digest bytes fault)
     c.new.ensures.inner (i.unchanged.stands level ∙ are level) (subst (λ o. Opens g.F.File.Read.remaining ((g.F.Folder.state c.loop-level.folder).stands level) o) c.in-Ok-Some.field-0-is c.in-Ok-Some.ensures.opened) c.in_err-put_on-in-Ok-Some.ensures.fault in
-    rw (p.1, p.2) (fault_to c.args.most names level c.loop-level.stored.shelf c.loop-level.stored.digest fault (let low = c.loop-level-test.true in omega (arith, low)) (i.held names are)
-    (fault_at names level c.loop-level.stored.shelf c.loop-level.stored.digest fault c.in_err-put_on-in-Ok-Some.ensures.of_file here))
+    rw (p.1, p.2) (fault_to _ c.args.most names level c.loop-level.stored.shelf c.loop-level.stored.digest fault (let low = c.loop-level-test.true in omega (arith, low)) (i.held names are)
+    (fault_at _ names level c.loop-level.stored.shelf c.loop-level.stored.digest fault c.in_err-put_on-in-Ok-Some.ensures.of_file here))
 
 pub returns-in-Err-Refused-clause-exact : goal.returns-in-Err-Refused-clause-exact
 returns-in-Err-Refused-clause-exact g c = λ names are.
     let i = c.loop-level.invariant in
-    fault_to c.args.most names c.loop-level.level c.loop-level.stored.shelf c.loop-level.stored.digest (Open c.loop-level.level) (let low = c.loop-level-test.true in omega (arith, low)) (i.held names are) refl
+    fault_to _ c.args.most names c.loop-level.level c.loop-level.stored.shelf c.loop-level.stored.digest (Open c.loop-level.level) (let low = c.loop-level-test.true in omega (arith, low)) (i.held names are) refl
 
 pub loop-level-preserved : goal.loop-level-preserved
 loop-level-preserved g c =

@@ -113,13 +113,13 @@ returns-in_err-digest-clause-refused g c =
 pub returns-in_err-limits-clause-refused : goal.returns-in_err-limits-clause-refused
 returns-in_err-limits-clause-refused g c =
     let p = err_from_is_err_and c.from_residual.result c.from_residual.ensures.1 in
-    rw (p.1, p.2) (refl, refl)
+    rw (p.1, p.2) (inl refl, inl refl)
 
 pub returns-in_err-level-clause-refused : goal.returns-in_err-level-clause-refused
 returns-in_err-level-clause-refused g c =
     let i = c.loop.invariant in
     let p = err_from_is_err_and c.from_residual-in_err-level.result c.from_residual-in_err-level.ensures.1 in
-    rw (p.1, p.2) (c.in_ok-next.ensures.reads.refused ∙ i.from_refused, i.to_refused)
+    rw (p.1, p.2) (inl (c.in_ok-next.ensures.reads.refused ∙ i.from_refused), inl i.to_refused)
 
 pub returns-in_err-digest-clause-whole : goal.returns-in_err-digest-clause-whole
 returns-in_err-digest-clause-whole g c = λ others to.

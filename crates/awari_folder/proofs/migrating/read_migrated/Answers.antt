@@ -1,13 +1,12 @@
-use Rattle.std.proofs.Common.{rules, ◌≡◌, ◌≢◌}
-use Rattle.awari_folder.proofs.Migrations.{over_another, wrong_level}
+use Rattle.awari_folder.proofs.Migrations.{found_as}
+use Rattle.awari_folder.proofs.Placing.{tells_all_loaded}
 use Rattle.awari_folder.proofs.migrating.read_migrated.Goals as goal
 
-pub returns-then-ne-clause-fault : goal.returns-then-ne-clause-fault
-returns-then-ne-clause-fault g c = λ other.
-    let another : c.in-Ok.loaded.below ≢ c.args.below = search rules in
-    over_another _ c.args.shelf.now c.args.below other c.levels-level.result c.in-Ok.loaded c.levels-level.ensures.levels c.in-Ok.ensures.found another
+pub returns-clause-ok : goal.returns-clause-ok
+returns-clause-ok g c = found_as _ c.read_image-read.result _ c.read_image-read.ensures.found c.read_image-read.ensures.exact c.migrated_of.ensures.ok
 
-pub returns-in-Err-2-clause-fault : goal.returns-in-Err-2-clause-fault
-returns-in-Err-2-clause-fault g c = λ other.
-    let over : c.in-Ok.loaded.below ≡ c.args.below = search rules in
-    wrong_level _ c.args.shelf.now c.args.below other c.levels-level.result c.in-Ok.loaded c.in-Err-2.fault c.levels-level.ensures.levels c.in-Ok.ensures.found over (rw c.in-Err-2.is at c.in_ok-migrated.ensures.fault)
+pub returns-clause-fault : goal.returns-clause-fault
+returns-clause-fault g c = λ other. found_as _ c.read_image-read.result _ c.read_image-read.ensures.found c.read_image-read.ensures.exact (λ bytes found. c.migrated_of.ensures.fault bytes other found)
+
+pub returns-clause-read : goal.returns-clause-read
+returns-clause-read g c = tells_all_loaded c.args.shelf.now c.args.below c.read_image-read.result _ _ _ c.migrated_of.ensures.told c.read_image-read.ensures.read

@@ -8,13 +8,13 @@ use Rattle.awari_file_tests.proofs.memory.MemoryFolderFolder.replace.Goals as go
 pub returns-clause-ok : goal.returns-clause-ok
 returns-clause-ok c =
     let put : Put = record { level = c.args.level; bytes = c.args.new.bytes; synced = c.args.new.synced } in
-    let e = c.in_ok-put_behind.ensures.ok ∙ ap (λ v. v.items ++ put ∷ []) c.is_refused.ensures.puts in
+    let e = c.in-Ok.ensures.ok ∙ ap (λ v. v.items ++ put ∷ []) c.is_refused.ensures.puts in
     (ap Some (ap (λ ps. named ps c.args.level) e ∙ named-new c.args.self.now.puts.items put), search rules)
 
 pub returns-clause-leaves : goal.returns-clause-leaves
 returns-clause-leaves c =
     let put : Put = record { level = c.args.level; bytes = c.args.new.bytes; synced = c.args.new.synced } in
-    let e = c.in_ok-put_behind.ensures.ok ∙ ap (λ v. v.items ++ put ∷ []) c.is_refused.ensures.puts in (
+    let e = c.in-Ok.ensures.ok ∙ ap (λ v. v.items ++ put ∷ []) c.is_refused.ensures.puts in (
       record {
         others = λ n other. ap Some (ap (λ ps. named ps n) e ∙ named-other c.args.self.now.puts.items put n other);
         crash = subst (λ ps. LeavesToo c.args.level (IsLeftOf (kept_of c.args.new.synced c.args.new.bytes.items)) (MayLeave c.args.self.now.puts.items) (MayLeave ps)) (sym e) (leaves-new c.args.self.now.puts.items put);
