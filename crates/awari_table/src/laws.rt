@@ -2,7 +2,7 @@
 
 ghost use Rattle.std.specs.Prelude.{◌≡◌, ◌≢◌, ◌++◌, ◌∷◌, [], ℕ, List, None, Some, codes, length, neg_ℤ, pos, take};
 ghost use Rattle.awari_table.specs.declared.images.Image.{Image};
-ghost use Rattle.awari_table.specs.declared.TheConstants.{HIGHEST_LEVEL};
+ghost use Rattle.awari_table.specs.declared.TheConstants.{HIGHEST_FALLING_LEVEL, HIGHEST_LEVEL};
 ghost use Rattle.awari_table.specs.Certificate.{IsCertificate, plies};
 ghost use Rattle.awari_table.specs.Images.{table_of, greatest_limit};
 ghost use Rattle.awari_table.specs.Shelves.{IsShelf};
@@ -13,6 +13,11 @@ ghost use Rattle.awari_table.specs.TableFault.{IsDueAt};
 /// Tables are made, read and written up to the level of 24 stones.
 pub fn highest_level_is_24()
     ensures { HIGHEST_LEVEL ≡ 24 }
+{}
+
+/// Tables whose distances only had to fall go up to the level of 12 stones.
+pub fn highest_falling_level_is_12()
+    ensures { HIGHEST_FALLING_LEVEL ≡ 12 }
 {}
 
 /// The levels of a shelf are a certificate: by the one table of all levels, every board keeps the

@@ -35,8 +35,8 @@ pub use counted::Counted;
 pub use faults::TableFault;
 pub use images::{Counts, Entries, Entry, Image, greatest_dist};
 pub use laws::{
-    fronts_are_shelves, highest_level_is_24, one_text_fault_is_due, shelves_are_certificates,
-    texts_tell_images_apart, worked_examples,
+    fronts_are_shelves, highest_falling_level_is_12, highest_level_is_24, one_text_fault_is_due,
+    shelves_are_certificates, texts_tell_images_apart, worked_examples,
 };
 pub use levels::Level;
 pub use rules::{Distances, Reached};
@@ -52,5 +52,6 @@ pub use text::TableText;
 /// same number.
 pub const HIGHEST_LEVEL: u8 = 24;
 
-/// The highest level of older tables, whose distances only had to fall along the plans.
+/// The highest level of older tables, whose distances only had to fall along the plans. A law says which
+/// it is.
 pub const HIGHEST_FALLING_LEVEL: u8 = 12;
