@@ -35,7 +35,7 @@ pub use comparing::compare_level;
 pub use contents::{Header, Loaded};
 pub use faults::FileFault;
 pub use fields::{OLD_VERSION, entry_at, header_of};
-pub use laws::files_tell_images_apart;
+pub use laws::{files_tell_images_apart, first_entries_are_680};
 pub use reading::{read_image, read_unsealed};
 pub use sealing::{Behind, Unsealed};
 pub use sizes::{ENTRY_LEN, HEADER_LEN};
