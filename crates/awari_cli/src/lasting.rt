@@ -2,7 +2,7 @@
 
 ghost use Rattle.std.specs.Prelude.{⊤};
 
-use awari_phase::Progress;
+use awari_phase::{Progress, Told};
 use rtrb::{Consumer, Producer, RingBuffer};
 use std::alloc::{AllocError, Global};
 
@@ -22,13 +22,13 @@ pub(crate) fn lasting_service(alloc: Global) -> Result<(Service, WhileServed), A
 }
 
 impl Progress for WhileServed {
+    ghost use Rattle.std.specs.Prelude.{◌≡◌};
+
     ghost stops = { ⊤ };
 
-    fn begin(&mut self, _level: usize, _boards: usize) {}
+    ghost hears = { λ old _ new. new ≡ old };
 
-    fn settled(&mut self, _gain: usize, _boards: usize) {}
-
-    fn plan(&mut self) {}
+    fn hear(&mut self, _told: Told) {}
 
     fn is_wanted(&mut self) -> bool {
         !self.service.is_abandoned()

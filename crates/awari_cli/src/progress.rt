@@ -1,8 +1,10 @@
 //! How far a build is, told on a stream.
 
+ghost use Rattle.std.specs.Prelude.{⊤};
+
 use crate::estimates::Estimate;
 use awari_answers::print;
-use awari_phase::Progress;
+use awari_phase::{Progress, Told};
 use std::fmt::{self, Display};
 use std::io::Write;
 use std::time::{Clock, Duration, Instant};
@@ -96,6 +98,50 @@ impl<'a, C: Clock, E: Write> ProgressLines<'a, C, E> {
         print(self.errors, &format_args!("{place}{CUT}{line}{WRAP}"));
     }
 
+    /// A level of so many stones begins, which has so many boards.
+    fn begin(&mut self, level: usize, boards: usize) {
+        if self.all.is_none() {
+            let first = u8::try_from(level).unwrap_or(u8::MAX);
+            self.all = Some(Estimate::of(first, self.how.top).boards());
+        }
+        self.built = self.built.saturating_add(self.boards);
+        self.level = level;
+        self.boards = boards as u64;
+        self.gain = None;
+        let now = Instant::now(self.clock).ok();
+        self.told = now;
+        self.follows = false;
+        let pace = self.pace(now, self.built);
+        let top = self.how.top;
+        self.tell(&format_args!("level {level} of {top} scan of {boards}; {pace}"));
+    }
+
+    /// This gain is open, and so many boards are settled.
+    fn settled(&mut self, gain: usize, boards: usize) {
+        let now = Instant::now(self.clock).ok();
+        if self.gain == Some(gain) && !self.is_due(now) {
+            return;
+        }
+        self.gain = Some(gain);
+        self.told = now;
+        let pace = self.pace(now, self.done(1, boards as u64));
+        let (level, top, all) = (self.level, self.how.top, self.boards);
+        self.tell(&format_args!(
+            "level {level} of {top} gain {gain} settled {boards} of {all}; {pace}"
+        ));
+    }
+
+    /// The entries are begun.
+    fn plan(&mut self) {
+        let now = Instant::now(self.clock).ok();
+        self.told = now;
+        let pace = self.pace(now, self.done(1 + EIGHTHS_OF_GAINS, 0));
+        let (level, top, all) = (self.level, self.how.top, self.boards);
+        self.tell(&format_args!("level {level} of {top} plans of {all}; {pace}"));
+        // The level's line comes next, and stays.
+        self.follows = false;
+    }
+
     /// Whether the last line is long enough ago.
     fn is_due(&self, now: Option<Instant>) -> bool {
         between(self.told, now).as_millis() >= MILLISECONDS_BETWEEN
@@ -129,45 +175,14 @@ fn between(earlier: Option<Instant>, later: Option<Instant>) -> Duration {
 impl<C: Clock, E: Write> Progress for ProgressLines<'_, C, E> {
     ghost stops = { ⊥ };
 
-    fn begin(&mut self, level: usize, boards: usize) {
-        if self.all.is_none() {
-            let first = u8::try_from(level).unwrap_or(u8::MAX);
-            self.all = Some(Estimate::of(first, self.how.top).boards());
-        }
-        self.built = self.built.saturating_add(self.boards);
-        self.level = level;
-        self.boards = boards as u64;
-        self.gain = None;
-        let now = Instant::now(self.clock).ok();
-        self.told = now;
-        self.follows = false;
-        let pace = self.pace(now, self.built);
-        let top = self.how.top;
-        self.tell(&format_args!("level {level} of {top} scan of {boards}; {pace}"));
-    }
+    ghost hears = { λ _ _ _. ⊤ };
 
-    fn settled(&mut self, gain: usize, boards: usize) {
-        let now = Instant::now(self.clock).ok();
-        if self.gain == Some(gain) && !self.is_due(now) {
-            return;
+    fn hear(&mut self, told: Told) {
+        match told {
+            Told::Begun { level, boards } => self.begin(level, boards),
+            Told::Settled { gain, boards } => self.settled(gain, boards),
+            Told::Planned => self.plan(),
         }
-        self.gain = Some(gain);
-        self.told = now;
-        let pace = self.pace(now, self.done(1, boards as u64));
-        let (level, top, all) = (self.level, self.how.top, self.boards);
-        self.tell(&format_args!(
-            "level {level} of {top} gain {gain} settled {boards} of {all}; {pace}"
-        ));
-    }
-
-    fn plan(&mut self) {
-        let now = Instant::now(self.clock).ok();
-        self.told = now;
-        let pace = self.pace(now, self.done(1 + EIGHTHS_OF_GAINS, 0));
-        let (level, top, all) = (self.level, self.how.top, self.boards);
-        self.tell(&format_args!("level {level} of {top} plans of {all}; {pace}"));
-        // The level's line comes next, and stays.
-        self.follows = false;
     }
 }
 
