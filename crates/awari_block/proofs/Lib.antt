@@ -9,3 +9,9 @@ pub mod Freshness
 pub mod Settling
 pub mod Awaiting
 pub mod Putting
+pub mod SixPits
+pub mod NoteLists
+pub mod Slices
+pub mod Legality
+pub mod PitSets
+pub mod Knowing

@@ -82,12 +82,12 @@ none_settled n (c ∷ cells) fit =
 -- ---- a cell that is put
 
 -- what is not newly settled doesn't join
-not_new : (a b : Bool) → (a ≡ true → b ≡ true) → (a && not b) ≡ false
+pub not_new : (a b : Bool) → (a ≡ true → b ≡ true) → (a && not b) ≡ false
 not_new true b back = ap not (back refl)
 not_new false b back = refl
 
 -- and is settled as before
-alike : (old new : Cell) → Keeps old new → (b : Bool) → is_settled old.mark ≡ b → (is_settled new.mark ≡ true → b ≡ true) → is_settled new.mark ≡ is_settled old.mark
+pub alike : (old new : Cell) → Keeps old new → (b : Bool) → is_settled old.mark ≡ b → (is_settled new.mark ≡ true → b ≡ true) → is_settled new.mark ≡ is_settled old.mark
 alike old new keeps true was back = ap is_settled (keeps was).0
 alike old new keeps false was back = by (is_settled new.mark) refl
   where

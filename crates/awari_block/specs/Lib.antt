@@ -12,5 +12,4 @@ pub mod BoardsFields
 pub mod Shares
 pub mod ClosedFields
 pub mod Awaited
-pub mod Paces
 pub mod Counts

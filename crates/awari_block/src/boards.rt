@@ -1,6 +1,6 @@
 //! The boards of a block: what is known of each, which are fresh, and what is open.
 
-ghost use Rattle.std.specs.Prelude.{◌≡◌, ℕ, ℤ, ◌+◌, ◌-◌, ◌*◌, ◌/◌, ◌^◌, ◌<◌, ◌≤◌, ◌↔◌, IsTrue, false, true, sum, IfNone, IfOk, IfSome, All, Some, [], length, vec_len, slice_set, slice_index_or};
+ghost use Rattle.std.specs.Prelude.{◌≡◌, ℕ, ℤ, ◌+◌, ◌-◌, ◌^◌, ◌<◌, ◌≤◌, ◌↔◌, IsTrue, sum, IfNone, IfOk, IfSome, All, Some, [], length, vec_len, slice_set, slice_index_or};
 ghost use Rattle.awari_board.specs.Rules.{IsBoard};
 ghost use Rattle.awari_rank.specs.Rank.{rank_of, size_of};
 ghost use Rattle.awari_block.specs.Cells.{Fits, FitsBy, view_of};

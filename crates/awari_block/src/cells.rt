@@ -1,6 +1,6 @@
 //! What is kept of each board of a block.
 
-ghost use Rattle.std.specs.Prelude.{◌≡◌, ℕ, false, ◌⊎◌, ◌+◌, ◌-◌, ◌^◌, ◌<◌, ◌≤◌, IfSome, Some, None};
+ghost use Rattle.std.specs.Prelude.{◌≡◌, ℕ, ◌⊎◌, ◌+◌, ◌-◌, ◌^◌, ◌<◌, ◌≤◌, IfSome, Some, None};
 ghost use Rattle.awari_block.specs.Awaited.{AwaitsNoMore, MayOpen};
 ghost use Rattle.awari_block.specs.Cells.{status_of, view_of, is_settled, knowing, Fits, FitsBy, IsBeyond, IsOpen, IsWithin, IsEither, Keeps, SettlesTimely};
 ghost use Rattle.awari_block.specs.Part.{settled_by};

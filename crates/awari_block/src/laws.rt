@@ -3,7 +3,6 @@
 
 ghost use Rattle.std.specs.Prelude.{◌≡◌, pos, neg_ℤ};
 ghost use Rattle.awari_block.specs.Shares.{first_rank};
-ghost use Rattle.awari_block.specs.declared.paces.TheConstants.{MOST_OWNERS, MOST_ROOM, MOST_SWEEPS};
 ghost use Rattle.awari_block.specs.Steps.{after_note, after_opening};
 ghost use Rattle.awari_block.specs.Tally.{Open, Settled, Ended, Nothing, ByCapture, ByNotes};
 ghost use Rattle.awari_block.specs.declared.notes.Kind.TheVariants.{Won, Lost};
@@ -27,10 +26,4 @@ pub fn worked_examples()
     ensures second_block { first_rank 78 4 1 ≡ 20 }
     ensures last_block { first_rank 78 4 3 ≡ 60 }
     ensures empty_block { first_rank 12 16 12 ≡ 12 }
-{}
-
-/// A level has at most 16 owners. A ring has room for at most 256 batches, and a round has at most
-/// 1000 sweeps of an owner.
-pub fn paces_have_limits()
-    ensures { (MOST_OWNERS ≡ 16) × (MOST_ROOM ≡ 256) × (MOST_SWEEPS ≡ 1000) }
 {}

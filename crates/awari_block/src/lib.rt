@@ -4,8 +4,7 @@
 //! keep a [`Cell`] for each of them, with what is known of the board. A board is *settled* once its
 //! value and distance are known, and *fresh* until it is also spread. A [`Note`] says that a quiet move
 //! leads to a settled board. `specs/Tally.antt` defines what a cell knows of the notes that its board
-//! heard. `Boards::unopened` takes all memory that the boards ever need. A [`Pace`] says how many owners
-//! share a level, and how they work.
+//! heard. `Boards::unopened` takes all memory that the boards ever need.
 //!
 //! The kind of the notes that a settled board gives, in `crates/awari_owner/src/spreads.rt`:
 //!
@@ -28,7 +27,6 @@ mod closed;
 mod fresh;
 mod laws;
 mod notes;
-mod paces;
 mod pits;
 mod stakes;
 mod words;
@@ -38,7 +36,6 @@ pub use blocks::{Block, block_length};
 pub use boards::Boards;
 pub use cells::{Cell, Mark};
 pub use closed::ClosedPart;
-pub use laws::{paces_have_limits, worked_examples};
+pub use laws::worked_examples;
 pub use notes::{Kind, Note};
-pub use paces::{MOST_OWNERS, MOST_ROOM, MOST_SWEEPS, Pace};
 pub use stakes::Stake;

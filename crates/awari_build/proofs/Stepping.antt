@@ -2,7 +2,8 @@
 use Rattle.std.proofs.Common.{ℕ, ℤ, List}
 use Rattle.awari_block.specs.Part.{Part}
 use Rattle.awari_owner.specs.Sound.{KeepsOwn, KeepsTally}
-use Rattle.awari_owner.specs.Spread.{Source, Spreads}
+use Rattle.awari_scan.specs.Found.{Source}
+use Rattle.awari_owner.specs.Spread.{Spreads}
 use Rattle.awari_build.specs.Sound.{IsSoundPart}
 
 -- where a gain or a distance is opened the notes are the same

@@ -2,9 +2,8 @@
 use Rattle.std.proofs.Common.{◌≡◌, ℕ, ◌≤◌, List, [], ◌∷◌, ℤ, All, subst, arith}
 use Rattle.std.proofs.lemmas.List.Elements.{All-cons, All-nil}
 use Rattle.awari_block.specs.Part.{Part, IsClosed}
-use Rattle.awari_owner.specs.Level.{AreHeard, AreTold, AreWhole, DistancesFit}
-use Rattle.awari_owner.specs.Scan.{IsWhole}
-use Rattle.awari_owner.proofs.Levels.{one_whole, one_heard, heard_told}
+use Rattle.awari_heard.specs.Level.{AreHeard, AreTold, AreWhole, DistancesFit, IsWhole}
+use Rattle.awari_heard.proofs.Levels.{one_whole, one_heard, heard_told}
 use Rattle.awari_build.specs.Sound.{IsSoundPart}
 
 -- its blocks are all boards

@@ -1,4 +1,4 @@
-pub use Rattle.awari_block.specs.Paces
+pub use Rattle.awari_pace.specs.Paces
 pub mod BuildFault
 pub mod Sound
 pub mod Owned

@@ -1,7 +1,7 @@
 -- What is known of a part at any time while a level is built by it. Private functions alone go by this.
 use Rattle.std.specs.Prelude.{List, ℕ, ℤ}
 use Rattle.awari_block.specs.Part.{Part, IsTallied}
-use Rattle.awari_owner.specs.Spread.{HearsOwn}
+use Rattle.awari_heard.specs.Heard.{HearsOwn}
 use Rattle.awari_block.specs.declared.notes.Note.{Note}
 
 -- The cells tell what some notes say, which are those of the settled boards that were spread.

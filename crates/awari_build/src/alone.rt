@@ -3,7 +3,7 @@
 ghost use Rattle.std.specs.Prelude.{◌≡◌, ◌≤◌, ◌<◌, ◌+◌, ◌⊎◌, ◌↔◌, ◌++◌, ◌∷◌, [], ℕ, ℤ, List, length, IfOk, IfErr, OnOk, Err, Some};
 ghost use Rattle.awari_block.specs.Counts.{spread_of};
 ghost use Rattle.awari_block.specs.Part.{IsLeastDue, unspread, IsClosed};
-ghost use Rattle.awari_owner.specs.Scan.{IsWhole};
+ghost use Rattle.awari_heard.specs.Level.{IsWhole};
 ghost use Rattle.awari_build.specs.BuildFault.{IsStopped};
 ghost use Rattle.awari_build.specs.Sound.{IsSoundPart};
 ghost use Rattle.awari_play.specs.Least.{IsPlannedLowest};
@@ -15,9 +15,10 @@ ghost use Rattle.awari_theory.specs.Truth.{TellsTruth};
 use crate::faults::BuildFault;
 use crate::telling::{begin, expect_wanted};
 use awari_block::ClosedPart;
-use awari_owner::{Outboxes, Part, distances_fit};
-use awari_phase::{Progress, Silent, Told};
-use awari_plan::finish_closed;
+use awari_owner::{Outboxes, Part};
+use awari_heard::distances_fit;
+use awari_heard::{Progress, Silent, Told};
+use awari_heard::finish_closed;
 use awari_table::{HIGHEST_LEVEL, Level, Shelf};
 use std::alloc::{AllocError, Global};
 

@@ -12,16 +12,16 @@ ghost use Rattle.awari_phase.specs.PhaseFault.{IsStop, IsWant};
 ghost use Rattle.awari_phase.specs.declared.faults.PhaseFault.{PhaseFault};
 ghost use Rattle.awari_build.specs.BuildFault.{IsOfPhase, IsStopped};
 ghost use Rattle.awari_build.specs.Owned.{AreAt};
-ghost use Rattle.awari_block.specs.Paces.{HasOwners, IsPaced};
+ghost use Rattle.awari_pace.specs.Paces.{HasOwners, IsPaced};
 
 use crate::faults::BuildFault;
 use crate::telling::{begin, expect_wanted};
-use awari_block::{MOST_OWNERS, MOST_ROOM, MOST_SWEEPS, Pace};
+use awari_pace::{MOST_OWNERS, MOST_ROOM, MOST_SWEEPS, Pace};
 use awari_phase::{
     Gate, Owner, PhaseFault, Progress, Silent, Told, closed_parts, finished_owners_are_right,
     gain_phase_with_progress, open_gain, scanned_owners,
 };
-use awari_plan::finish_parallel;
+use awari_heard::finish_parallel;
 use awari_table::{HIGHEST_LEVEL, Level, Shelf};
 use std::alloc::{AllocError, Global};
 use std::sync::Wait;

@@ -18,7 +18,7 @@ use crate::ways::{build_by, way_of};
 use awari_answers::{LevelLine, Replies, line_of_level, print, refuse};
 use awari_build::{BuildFault, Pace};
 use awari_folder::{Folder, FolderFault, Stored, Together, load, save_or_keep};
-use awari_phase::Progress;
+use awari_heard::Progress;
 use awari_play::lowest_plans_stay;
 use awari_table::{HIGHEST_LEVEL, Level, Shelf};
 use std::alloc::{AllocFailed, Global};

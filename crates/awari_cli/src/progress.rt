@@ -4,7 +4,7 @@ ghost use Rattle.std.specs.Prelude.{⊤};
 
 use crate::estimates::Estimate;
 use awari_answers::print;
-use awari_phase::{Progress, Told};
+use awari_heard::{Progress, Told};
 use std::fmt::{self, Display};
 use std::io::Write;
 use std::time::{Clock, Duration, Instant};

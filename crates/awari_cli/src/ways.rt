@@ -1,15 +1,16 @@
 //! By whom a level is built.
 
 ghost use Rattle.std.specs.Prelude.{◌≡◌, ◌<◌, ◌↔◌, ◌⊎◌, ℕ, Err, IfOk};
-ghost use Rattle.awari_block.specs.Paces.{HasOwners, IsPaced};
-ghost use Rattle.awari_block.specs.declared.paces.Pace.{Pace as APace};
+ghost use Rattle.awari_pace.specs.Paces.{HasOwners, IsPaced};
+ghost use Rattle.awari_pace.specs.declared.paces.Pace.{Pace as APace};
 ghost use Rattle.awari_play.specs.Least.{IsPlannedLowest};
 ghost use Rattle.awari_table.specs.Shelves.{Consistent};
 
 use awari_build::{
     BuildFault, Pace, Watch, build_level_with_progress, build_together_with_progress,
 };
-use awari_phase::{Open, Progress};
+use awari_phase::Open;
+use awari_heard::Progress;
 use awari_table::{Level, Shelf};
 use std::alloc::Global;
 use std::sync::Wait;

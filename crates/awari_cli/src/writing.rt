@@ -15,7 +15,7 @@ use crate::progress::{HowTold, ProgressLines};
 use awari_answers::{Replies, Streams, load_watched, print, refuse};
 use awari_build::Pace;
 use awari_folder::Folder;
-use awari_phase::{Progress, Silent};
+use awari_heard::{Progress, Silent};
 use rayon::current_num_threads;
 use std::alloc::Global;
 use std::io::{Read, Write};

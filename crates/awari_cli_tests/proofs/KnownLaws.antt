@@ -1,11 +1,10 @@
 -- What is known of the folders of the host in memory, by their names.
-use Rattle.std.proofs.Common.{◌≡◌, ◌≢◌, ◌∙◌, ℕ, List, Option, Some, None, Bool, true, false, codes, refl, sym, ap}
+use Rattle.std.proofs.Common.{◌≡◌, ◌≢◌, ◌∙◌, ℕ, List, Some, None, Bool, true, false, codes, refl, sym, ap}
 use Rattle.std.specs.Prelude.{bytes_eq}
 use Rattle.std.proofs.lemmas.Slice.Eq.{bytes_eq-Decides}
 use Rattle.awari_cli.specs.Hosts.{OthersStay, Stands}
 use Rattle.awari_file_tests.specs.Log.{files_in}
 use Rattle.awari_file_tests.specs.declared.memory.MemoryFolder.{MemoryFolder}
-use Rattle.awari_cli_tests.specs.Hosts.{IsKept}
 use Rattle.awari_cli_tests.specs.Known.{chosen, known_of, stands_in}
 use Rattle.awari_cli_tests.specs.declared.hosts.MemoryHost.{MemoryHost}
 

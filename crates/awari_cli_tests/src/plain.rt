@@ -9,7 +9,7 @@ use awari_cli::{
 };
 use awari_file_tests::MemoryFolder;
 use awari_folder::Folder;
-use awari_phase::{Progress, Silent};
+use awari_heard::{Progress, Silent};
 use awari_questions::{BoardsQuery, run_all_boards, run_boards};
 use awari_unverified::run_serve_unverified;
 use std::alloc::Global;

@@ -1,7 +1,7 @@
 -- From what the parts and senders of a core do to what the core does.
 use Rattle.std.proofs.Common.{◌≡◌, ℕ, ◌+◌, ◌-◌, ◌^◌, ◌<◌, Bool, false, IsTrue, inl, inr, List, [], ◌∷◌, ◌++◌, All, Some, length, get_or, set, refl, sym, ap, subst, subst₂, ◌∙◌, arith, get_or-set_same}
 use Rattle.std.proofs.lemmas.List.{get_or_default, set-get_or}
-use Rattle.awari_owner.specs.Level.{DistancesFit, no_part}
+use Rattle.awari_heard.specs.Level.{DistancesFit, no_part}
 use Rattle.awari_block.specs.Part.{Part, IsLeastDue, HasFarthest}
 use Rattle.awari_owner.specs.Sound.{SameStake, SpreadsFirst, TakesNotes}
 use Rattle.awari_block.specs.declared.notes.Note.{Note}

@@ -2,7 +2,7 @@
 use Rattle.std.proofs.Common.{◌≡◌, max, All, ap, subst, ◌∙◌}
 use Rattle.std.proofs.lemmas.List.{get_or_default}
 use Rattle.awari_block.specs.Part as part
-use Rattle.awari_owner.specs.Level.{no_part}
+use Rattle.awari_heard.specs.Level.{no_part}
 use Rattle.awari_core.specs.Core.{Core, IsAllQuiet, Sound}
 
 -- each part is closed

@@ -5,7 +5,7 @@ use Rattle.std.proofs.lemmas.List.Elements.{All-nil, All-replicate}
 use Rattle.awari_table.specs.declared.TheConstants.{HIGHEST_LEVEL}
 use Rattle.awari_table.specs.Images.{table_of}
 use Rattle.awari_table.specs.Shelves.{IsShelf}
-use Rattle.awari_owner.specs.Level.{no_part}
+use Rattle.awari_heard.specs.Level.{no_part}
 use Rattle.awari_owner.specs.Outboxes.{AreBatches, IsBatch}
 use Rattle.awari_owner.specs.Sound.{IsScannedOwner, IsTimelyNote}
 use Rattle.awari_owner.proofs.Sounding.{sound_same}

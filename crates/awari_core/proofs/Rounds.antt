@@ -7,7 +7,8 @@ use Rattle.std.proofs.lemmas.List.{get_or_default, get_or_push, get_or_append_le
 use Rattle.std.proofs.lemmas.List.Elements.{All-nil}
 use Rattle.awari_table.specs.Images.{table_of}
 use Rattle.awari_block.specs.Blocks.{Due, due_dist}
-use Rattle.awari_owner.specs.Level.{AreInStep, AreSound, no_part}
+use Rattle.awari_owner.specs.Owners.{AreInStep, AreSound}
+use Rattle.awari_heard.specs.Level.{no_part}
 use Rattle.awari_owner.specs.Sound.{IsOpened, OpensGain, OpensWave}
 use Rattle.awari_block.specs.Part.{Part, IsLeastDue}
 use Rattle.awari_owner.proofs.Sounding.{gain_opened, wave_opened}

@@ -4,13 +4,13 @@ use Rattle.std.proofs.lemmas.Bool.{cases_eq, false≢true}
 use Rattle.std.proofs.lemmas.Bool.Decides.{nat_tests}
 use Rattle.awari_block.specs.Part.{Part}
 use Rattle.awari_block.specs.declared.notes.Note.{Note}
-use Rattle.awari_owner.specs.Level.{AreInStep, AreSound, IsShare, NothingComes}
+use Rattle.awari_owner.specs.Owners.{AreInStep, AreSound, IsShare, NothingComes}
 use Rattle.awari_owner.specs.OwnerFault.{IsFaultOf}
 use Rattle.awari_owner.specs.Sound.{CanTake, IsOpened, IsScannedOwner, IsTimelyNote, OwnerSound, RefusesNote, TakesNotes, with_taken}
 use Rattle.awari_owner.specs.declared.faults.OwnerFault.{OwnerFault}
 use Rattle.awari_owner.specs.declared.faults.OwnerFault.TheVariants.{Stranger, Doubled, Far, Memory}
 use Rattle.awari_owner.proofs.Expecting.{share_still}
-use Rattle.awari_owner.proofs.Lists.{all_right}
+use Rattle.awari_block.proofs.NoteLists.{all_right}
 use Rattle.awari_owner.proofs.Sounding.{stake_settled, share_stake, sound_opened, sound_same, sound_scanned}
 
 -- parts that were scanned, with nothing on its way

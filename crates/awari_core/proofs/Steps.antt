@@ -7,7 +7,8 @@ use Rattle.awari_table.specs.Images.{table_of}
 use Rattle.awari_table.specs.Shelves.{IsShelf}
 use Rattle.awari_block.specs.Part.{Part}
 use Rattle.awari_block.specs.declared.notes.Note.{Note}
-use Rattle.awari_owner.specs.Level.{AreSound, IsShare, no_part}
+use Rattle.awari_owner.specs.Owners.{AreSound, IsShare}
+use Rattle.awari_heard.specs.Level.{no_part}
 use Rattle.awari_owner.specs.Outboxes.{AreBatches, IsBatch, Outboxes, notes_of, queue_to}
 use Rattle.awari_owner.specs.Sound.{IsTimelyNote, OwnerSound, SameStake, SpreadsFirst, TakesNotes}
 use Rattle.awari_owner.specs.Spread.{IsPartOf}

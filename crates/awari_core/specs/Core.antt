@@ -6,10 +6,10 @@ use Rattle.awari_table.specs.Images.{table_of}
 use Rattle.awari_table.specs.Shelves.{IsShelf}
 use Rattle.awari_block.specs.Blocks.{due_dist}
 use Rattle.awari_block.specs.Part.{Part, IsLeastDue}
-use Rattle.awari_owner.specs.Level.{AreSound, no_part}
-use Rattle.awari_owner.specs.Scan.{IsScan}
+use Rattle.awari_owner.specs.Owners.{AreSound}
+use Rattle.awari_heard.specs.Level.{no_part}
+use Rattle.awari_owner.specs.Sound.{IsScan, OpensGain, SameStake, SpreadsFirst, TakesNotes}
 use Rattle.awari_owner.specs.Outboxes.{Outboxes, AreBatches, IsBatch, queue_to, notes_of}
-use Rattle.awari_owner.specs.Sound.{OpensGain, SameStake, SpreadsFirst, TakesNotes}
 use Rattle.awari_owner.specs.Sound as owner
 use Rattle.awari_block.specs.declared.notes.Note.{Note}
 use Rattle.awari_core.specs.declared.events.Event.{Event}

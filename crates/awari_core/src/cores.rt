@@ -14,7 +14,7 @@ use crate::faults::CoreFault;
 use crate::laws::{scanned_owners_are_sound, sound_cores_are_told};
 use crate::openings::{are_idle, nearer, open_gains, open_waves, scanned_parts};
 use crate::senders::{Sender, are_silent, silent_senders};
-use awari_block::{MOST_OWNERS, MOST_ROOM};
+use awari_pace::{MOST_OWNERS, MOST_ROOM};
 use awari_owner::{OwnerFault, Part, coming_notes_are_expected, take_batch};
 use awari_plan::finish;
 use awari_table::{HIGHEST_LEVEL, Image, Shelf};

@@ -3,12 +3,14 @@
 ghost use Rattle.std.specs.Prelude.{ℕ, ℤ, ◌<◌, [], All, List, length};
 ghost use Rattle.awari_block.specs.Part.{Part};
 ghost use Rattle.awari_block.specs.declared.notes.Note.{Note};
-ghost use Rattle.awari_owner.specs.Level.{AreHeard, AreInStep, AreSound, AreWhole, DistancesFit, NothingComes};
+ghost use Rattle.awari_heard.specs.Level.{AreHeard, AreWhole, DistancesFit};
+ghost use Rattle.awari_owner.specs.Owners.{AreInStep, AreSound, NothingComes};
 ghost use Rattle.awari_owner.specs.Sound.{IsOpened, IsScannedOwner};
 ghost use Rattle.awari_table.specs.Images.{table_of};
 ghost use Rattle.awari_core.specs.Core.{Core, Sound, IsAllTaken};
 
-use awari_owner::{distances_fit, sound_parts_are_told};
+use awari_heard::distances_fit;
+use awari_owner::sound_parts_are_told;
 
 /// Parts that were just scanned are sound, with nothing on its way.
 pub fn scanned_owners_are_sound()

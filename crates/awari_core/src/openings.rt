@@ -2,7 +2,7 @@
 
 ghost use Rattle.std.specs.Prelude.{◌≡◌, ◌↔◌, ◌+◌, ◌<◌, ◌≤◌, ℕ, [], All, IfOk, IsTrue, length, vec_len, slice_index_or};
 ghost use Rattle.awari_block.specs.Blocks.{due_dist};
-ghost use Rattle.awari_owner.specs.Level.{no_part};
+ghost use Rattle.awari_heard.specs.Level.{no_part};
 ghost use Rattle.awari_block.specs.Part.{Part as PartView};
 ghost use Rattle.awari_owner.specs.Sound.{IsScannedOwner, OpensGain, OpensWave};
 ghost use Rattle.awari_table.specs.Images.{table_of};

@@ -150,7 +150,7 @@ module _ (es front back : List Ends) (i j : ℕ) (x y : Ends) (f : front ≡ tak
       let at_j : get_or (set front i a ++ set back 0 b) j d ≡ b = ap (λ l. get_or l j d) (parts_written a b) ∙ written_j es i j (get_or front i x) (get_or back 0 y) a b lt fits front_at back_at d in
       subst (λ (u : Ends). IsTrue r ↔ NothingWaits u (get_or (set front i a ++ set back 0 b) j d)) (sym at_i) (subst (λ (u : Ends). IsTrue r ↔ NothingWaits a u) (sym at_j) h)
 
-rings_then : (l m n : Option RingPair) → SameRings l m → SameRings m n → SameRings l n
+pub rings_then : (l m n : Option RingPair) → SameRings l m → SameRings m n → SameRings l n
 rings_then None None None p q = tt
 rings_then None None (Some n) p q = q
 rings_then None (Some m) n p q = absurd p

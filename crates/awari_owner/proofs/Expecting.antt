@@ -9,14 +9,14 @@ use Rattle.awari_block.specs.Tally.{has_pit}
 use Rattle.awari_block.specs.Blocks.{KeepSettled}
 use Rattle.awari_block.specs.Part.{Part, InBlock, Leaves, IsExpected, JoinsFresh, cell_at, stored_at, notes_for}
 use Rattle.awari_block.specs.Shares.{first_rank}
-use Rattle.awari_owner.proofs.PlannedTallies.{unheard_told}
-use Rattle.awari_owner.specs.Spread.{IsSpread, IsSeenAs}
+use Rattle.awari_heard.proofs.PlannedTallies.{unheard_told}
+use Rattle.awari_heard.specs.Heard.{IsSpread, IsSeenAs}
 use Rattle.awari_block.specs.declared.notes.Note.{Note}
-use Rattle.awari_owner.proofs.Spreading.{IsInjective}
-use Rattle.awari_owner.proofs.Hearing.{spread_stays, spread_before}
-use Rattle.awari_owner.specs.Level.{IsShare, AreSound}
+use Rattle.awari_heard.proofs.SpreadBoards.{IsInjective, spread_stays, spread_before}
+use Rattle.awari_owner.specs.Owners.{IsShare, AreSound}
 use Rattle.awari_owner.specs.Sound.{CanTake, HoldsNotes, IsInBlockOf, IsOtherOf, IsTimelyNote}
-use Rattle.awari_owner.proofs.Lists.{Has-append_left, Has-append_right, Has-notes_for, heard_note, once_apart}
+use Rattle.awari_block.proofs.NoteLists.{Has-append_left, Has-append_right, Has-notes_for, heard_note}
+use Rattle.awari_owner.proofs.Lists.{once_apart}
 
 -- ---- blocks
 

@@ -12,7 +12,8 @@ use Rattle.awari_block.specs.Cells.{IsEither, IsWithin, Fits, FitsBy, is_settled
 use Rattle.awari_block.specs.Blocks.{Due, due_rank, due_dist, cell_in, times_due, is_settled_in, no_cell, IsDueAs, IsBlock, JoinNewlySettled, KeepSettled}
 use Rattle.awari_block.specs.Part.{Part, InBlock, IsTallied, part_of, stored_at, settled_at, unspread}
 use Rattle.awari_owner.specs.Sound.{SameStake}
-use Rattle.awari_owner.specs.Spread.{Source, TellsSources, kind_of, note_to, with_all_own, LeavesFresh, Spreads, SpreadsOne}
+use Rattle.awari_scan.specs.Found.{Source}
+use Rattle.awari_owner.specs.Spread.{TellsSources, kind_of, note_to, with_all_own, LeavesFresh, Spreads, SpreadsOne}
 use Rattle.awari_block.specs.declared.cells.Cell.{Cell}
 use Rattle.awari_block.specs.declared.cells.Mark.{Mark}
 use Rattle.awari_block.specs.declared.cells.Mark.TheVariants.{Ended, Quiet, Capturing, Noted, Settled}
@@ -22,8 +23,9 @@ use Rattle.awari_block.specs.Boards.{Settles, TakesFirst, stake_of}
 use Rattle.std.proofs.lemmas.List.Sorted.{length_permutation}
 use Rattle.awari_block.proofs.BlockLemmas.{first_due}
 use Rattle.awari_block.proofs.Settling.{same_stake}
-use Rattle.awari_owner.proofs.Spreading.{IsInjective, AreSources, sources_of, unheard_sources, joined_but}
-use Rattle.awari_owner.proofs.Hearing.{settled_value, first_spreads, hears_first, note_fits}
+use Rattle.awari_heard.proofs.SpreadBoards.{IsInjective, settled_value}
+use Rattle.awari_owner.proofs.Spreading.{AreSources, sources_of, unheard_sources, joined_but}
+use Rattle.awari_owner.proofs.Hearing.{first_spreads, hears_first, note_fits}
 
 -- no board is fresh before a gain is open that the level has
 pub gain_low : (stake : Stake) (c : Cell) → Fits stake c → is_settled c.mark ≡ true → IsEither stake.gain c.score → stake.gain ≤ stake.level

@@ -10,10 +10,14 @@ use Rattle.awari_block.specs.Shares.{first_rank}
 use Rattle.awari_block.specs.declared.notes.Note.{Note}
 use Rattle.awari_owner.specs.Outboxes.{Outboxes, notes_of, queue_to}
 use Rattle.awari_owner.specs.Sound.{HoldsNotes, IsInBlockOf, IsOtherOf, IsTimelyNote, OwnerSound, SameStake}
-use Rattle.awari_owner.specs.Spread.{Source, IsSpread, Sends, Spreads, is_in_block, kind_of, note_to, with_all_own}
-use Rattle.awari_owner.proofs.Lists.{Has-append_left, Has-append_right, Has-append_cases, all_has, notes_of-with_notes, once_more}
+use Rattle.awari_scan.specs.Found.{Source}
+use Rattle.awari_heard.specs.Heard.{IsSpread}
+use Rattle.awari_owner.specs.Spread.{Sends, Spreads, is_in_block, kind_of, note_to, with_all_own}
+use Rattle.awari_block.proofs.NoteLists.{Has-append_left, Has-append_right, Has-append_cases, all_has}
+use Rattle.awari_owner.proofs.Lists.{notes_of-with_notes, once_more}
 use Rattle.awari_owner.proofs.Sounding.{timely_all}
-use Rattle.awari_owner.proofs.Spreading.{IsInjective, AreSources, sources_of}
+use Rattle.awari_heard.proofs.SpreadBoards.{IsInjective}
+use Rattle.awari_owner.proofs.Spreading.{AreSources, sources_of}
 use Rattle.awari_owner.proofs.SpreadNotes.{source_of, note_of, notes_once, Has-filter, Has-chosen, filter_once, own_before, own_cases, gain_is}
 
 -- ---- the block of another owner, by the test

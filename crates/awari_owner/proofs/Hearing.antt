@@ -1,5 +1,5 @@
 -- The notes of moves that stay in the block, once a note came in.
-use Rattle.std.proofs.Common.{◌≡◌, ℕ, zero, suc, get_or, ◌+◌, ◌<◌, ◌≤◌, ◌==◌, ◌⊎◌, inl, inr, Bool, true, false, cond, List, [], ◌∷◌, length, sum, ℤ, pos, neg_ℤ, ◌<ℤ◌, ◌≤ℤ◌, Some, is_some, ◌&&◌, nat_le, refl, sym, ap, subst, subst₂, ◌∙◌, arith, eqb-true}
+use Rattle.std.proofs.Common.{◌≡◌, ℕ, zero, suc, get_or, ◌+◌, ◌<◌, ◌≤◌, ◌==◌, ◌⊎◌, inl, inr, Bool, true, false, cond, List, [], ◌∷◌, length, sum, ℤ, pos, neg_ℤ, ◌<ℤ◌, ◌≤ℤ◌, Some, ◌&&◌, nat_le, refl, sym, ap, subst, subst₂, ◌∙◌, arith, eqb-true}
 use Rattle.std.proofs.lemmas.Int.{ints}
 use Rattle.std.specs.Prelude.{int_lt}
 use Rattle.std.proofs.lemmas.Bool.Decides.{nat_tests}
@@ -8,36 +8,16 @@ use Rattle.awari_rank.specs.Rank.{rank_of}
 use Rattle.awari_block.specs.Notes.{IsQuietMove, Has, IsNoteOf, gain_by}
 use Rattle.awari_block.specs.Part.{Part, InBlock, Leaves, JoinsFresh, settled_at, settled_by, notes_for}
 use Rattle.awari_block.specs.declared.notes.Kind.TheVariants.{Won, Lost}
-use Rattle.awari_block.specs.Cells.{IsEither, is_settled, status_of, status_by, Keeps}
-use Rattle.awari_block.specs.declared.cells.Cell.{Cell}
-use Rattle.awari_block.specs.declared.cells.Mark.{Mark}
-use Rattle.awari_block.specs.declared.cells.Mark.TheVariants.{Ended, Quiet, Capturing, Noted, Settled}
-use Rattle.std.proofs.lemmas.Bool.{false≢true}
+use Rattle.awari_block.specs.Cells.{IsEither, is_settled, status_of}
 use Rattle.awari_block.specs.Blocks.{is_settled_in, times_due, cell_in, KeepSettled}
-use Rattle.awari_owner.specs.Spread.{Source, HearsOwn, IsSpread, LeavesFresh, kind_of, is_held, note_to, with_own, with_all_own, SpreadsOne}
+use Rattle.awari_scan.specs.Found.{Source}
+use Rattle.awari_heard.specs.Heard.{HearsOwn, IsSpread}
+use Rattle.awari_owner.specs.Spread.{LeavesFresh, kind_of, is_held, note_to, with_own, with_all_own, SpreadsOne}
 use Rattle.awari_block.specs.declared.notes.Kind.{Kind}
-use Rattle.awari_owner.proofs.Spreading.{IsInjective, AreSources, held_is}
+use Rattle.awari_heard.proofs.SpreadBoards.{IsInjective, one_if, kept_status, is_settled_at, spread_stays, spread_before, settled_still}
+use Rattle.awari_owner.proofs.Spreading.{AreSources, held_is}
 use Rattle.awari_block.specs.declared.notes.Note.{Note}
-
-abbrev one_if : Bool → ℕ
-one_if b = cond b 1 0
-
--- notes that were there are there still
-has_more : (r : ℕ) (m k : Note) (notes : List Note) → Has (notes_for r notes) k → Has (notes_for r (m ∷ notes)) k
-has_more r m k notes has = at (m.target == r)
-  where
-    at : (b : Bool) → Has (cond b (m ∷ notes_for r notes) (notes_for r notes)) k
-    at true = inr has
-    at false = has
-
--- a note that is there was there, or is the new one
-had_before : (r : ℕ) (m k : Note) (notes : List Note) → Has (notes_for r (m ∷ notes)) k → Has (notes_for r notes) k ⊎ ((k ≡ m) × (m.target ≡ r))
-had_before r m k notes = at (m.target == r) refl
-  where
-    at : (b : Bool) → (m.target == r) ≡ b → Has (cond b (m ∷ notes_for r notes) (notes_for r notes)) k → Has (notes_for r notes) k ⊎ ((k ≡ m) × (m.target ≡ r))
-    at true e (inl same) = inr (same, eqb-true m.target r e)
-    at true e (inr has) = inl has
-    at false e has = inl has
+use Rattle.awari_block.proofs.NoteLists.{has_more, had_before}
 
 -- a note of a move that leaves the block says nothing of the moves that stay
 pub hears_take : (old new : Part) (notes : List Note) (m : Note) → HearsOwn old notes → Leaves old m.target m.pit → new.level ≡ old.level
@@ -58,79 +38,6 @@ hears_take old new notes m own leaves level inside back forth = record {
 }
 
 -- ---- what is spread stays, and nothing else becomes so, where the newly settled join the fresh
-
-some_settled : (c : Cell) (v : ℤ) (d : ℕ) → settled_by (status_of c) ≡ Some (v, d) → is_settled c.mark ≡ true
-some_settled c v d e = at c.mark refl
-  where
-    at : (m : Mark) → c.mark ≡ m → is_settled c.mark ≡ true
-    at Settled f = ap is_settled f
-    at Quiet f = absurd (false≢true (ap (λ k. is_some (settled_by (status_by k c.score c.plans c.dist))) (sym f) ∙ ap is_some e))
-    at Noted f = absurd (false≢true (ap (λ k. is_some (settled_by (status_by k c.score c.plans c.dist))) (sym f) ∙ ap is_some e))
-    at Capturing f = absurd (false≢true (ap (λ k. is_some (settled_by (status_by k c.score c.plans c.dist))) (sym f) ∙ ap is_some e))
-    at Ended f = absurd (false≢true (ap (λ k. is_some (settled_by (status_by k c.score c.plans c.dist))) (sym f) ∙ ap is_some e))
-
--- value and distance of a settled cell
-pub settled_value : (c : Cell) → is_settled c.mark ≡ true → settled_by (status_of c) ≡ Some (c.score, c.dist)
-settled_value c h = by c.mark h
-  where
-    by : (k : Mark) → is_settled k ≡ true → settled_by (status_by k c.score c.plans c.dist) ≡ Some (c.score, c.dist)
-    by Settled h = refl
-    by Quiet h = absurd (false≢true h)
-    by Capturing h = absurd (false≢true h)
-    by Noted h = absurd (false≢true h)
-    by Ended h = absurd (false≢true h)
-
-kept_status : (a b : Cell) → Keeps a b → is_settled a.mark ≡ true → settled_by (status_of b) ≡ settled_by (status_of a)
-kept_status a b keeps e =
-    let same = keeps e in
-    settled_value b (ap is_settled same.0 ∙ e) ∙ (λ i. Some (same.1 i, same.2 i)) ∙ sym (settled_value a e)
-
-is_settled_at : (part : Part) (r : ℕ) (v : ℤ) (d : ℕ) → part.start ≤ r → settled_at part r ≡ Some (v, d) → is_settled_in part.start part.cells r ≡ true
-is_settled_at part r v d low e = both (nat_le part.start r) (is_settled (cell_in part.start part.cells r).mark) (le_true part.start r low) (some_settled (cell_in part.start part.cells r) v d e)
-  where
-    both : (a b : Bool) → a ≡ true → b ≡ true → (a && b) ≡ true
-    both a b e f = grind arith
-
-    le_true : (a b : ℕ) → a ≤ b → nat_le a b ≡ true
-    le_true a b h = grind (arith, nat_tests)
-
--- what is spread stays spread
-pub spread_stays : (old new : Part) → new.start ≡ old.start → KeepSettled old.start old.cells new.cells → JoinsFresh old new → (r : ℕ) (v : ℤ) (d : ℕ) → old.start ≤ r → IsSpread old r v d → IsSpread new r v d
-spread_stays old new start keeps joins r v d low spread =
-    let was = is_settled_at old r v d low spread.0 in
-    let same : settled_at new r ≡ settled_at old r =
-    ap (λ s. settled_by (status_of (cell_in s new.cells r))) start ∙ kept_status (cell_in old.start old.cells r) (cell_in old.start new.cells r) (keeps r low) (some_settled (cell_in old.start old.cells r) v d spread.0) in
-    let one : one_if (is_settled_in old.start old.cells r) ≡ 1 = ap one_if was in
-    let most : one_if (is_settled_in old.start new.cells r) ≤ 1 = at_most (is_settled_in old.start new.cells r) in
-    let law : times_due new.fresh r + one_if (is_settled_in old.start old.cells r) ≡ times_due old.fresh r + one_if (is_settled_in old.start new.cells r) = joins r in
-    (same ∙ spread.0, omega (arith, one, most, law, spread.1))
-  where
-    at_most : (b : Bool) → one_if b ≤ 1
-    at_most true = omega arith
-    at_most false = omega arith
-
--- and nothing else becomes spread
-pub spread_before : (old new : Part) → new.start ≡ old.start → KeepSettled old.start old.cells new.cells → JoinsFresh old new → (r : ℕ) (v : ℤ) (d : ℕ) → old.start ≤ r → IsSpread new r v d → IsSpread old r v d
-spread_before old new start keeps joins r v d low spread =
-    let now : is_settled_in old.start new.cells r ≡ true = subst (λ s. is_settled_in s new.cells r ≡ true) start (is_settled_at new r v d (omega (arith, start)) spread.0) in
-    let one : one_if (is_settled_in old.start new.cells r) ≡ 1 = ap one_if now in
-    let law : times_due new.fresh r + one_if (is_settled_in old.start old.cells r) ≡ times_due old.fresh r + one_if (is_settled_in old.start new.cells r) = joins r in
-    at (is_settled_in old.start old.cells r) refl law one
-  where
-    mark_is : is_settled_in old.start old.cells r ≡ true → is_settled (cell_in old.start old.cells r).mark ≡ true
-    mark_is e = second (nat_le old.start r) (is_settled (cell_in old.start old.cells r).mark) e
-      where
-        second : (a b : Bool) → (a && b) ≡ true → b ≡ true
-        second a b e = grind arith
-
-    at : (b : Bool) → is_settled_in old.start old.cells r ≡ b → times_due new.fresh r + one_if (is_settled_in old.start old.cells r) ≡ times_due old.fresh r + one_if (is_settled_in old.start new.cells r)
-        → one_if (is_settled_in old.start new.cells r) ≡ 1 → IsSpread old r v d
-    at true e law one =
-        let was : one_if (is_settled_in old.start old.cells r) ≡ 1 = ap one_if e in
-        let same : settled_at new r ≡ settled_at old r =
-        ap (λ s. settled_by (status_of (cell_in s new.cells r))) start ∙ kept_status (cell_in old.start old.cells r) (cell_in old.start new.cells r) (keeps r low) (mark_is e) in
-        (sym same ∙ spread.0, omega (arith, law, one, was, spread.1))
-    at false e law one = let was : one_if (is_settled_in old.start old.cells r) ≡ 0 = ap one_if e in absurd (omega (arith, law, one, was, spread.1))
 
 -- a note of a move that leaves the block keeps what is known of the moves that stay
 pub hears_kept : (old new : Part) (notes : List Note) (m : Note) → HearsOwn old notes → Leaves old m.target m.pit → new.level ≡ old.level → new.start ≡ old.start → length new.cells ≡ length old.cells
@@ -279,12 +186,6 @@ spread_back old new rank start keeps leaves r v d low spread = by (rank == r) re
             ap (λ s. settled_by (status_of (cell_in s new.cells r))) start ∙ kept_status (cell_in old.start old.cells r) (cell_in old.start new.cells r) (keeps r low) (mark_is f) in
             (sym same ∙ spread.0, omega (arith, now, none, law, was, spread.1))
         at false f = let was : one_if (is_settled_in old.start old.cells r) ≡ 0 = ap one_if f in absurd (omega (arith, now, none, law, was, spread.1))
-
--- a settled board keeps value and distance
-pub settled_still : (old new : Part) → new.start ≡ old.start → KeepSettled old.start old.cells new.cells → (r : ℕ) (v : ℤ) (d : ℕ) → old.start ≤ r → settled_at old r ≡ Some (v, d) → settled_at new r ≡ Some (v, d)
-settled_still old new start keeps r v d low settled =
-    ap (λ s. settled_by (status_of (cell_in s new.cells r))) start
-    ∙ kept_status (cell_in old.start old.cells r) (cell_in old.start new.cells r) (keeps r low) (some_settled (cell_in old.start old.cells r) v d settled) ∙ settled
 
 -- what is settled and not fresh, or is the first fresh board, is spread
 pub spread_forth : (old new : Part) (rank : ℕ) → new.start ≡ old.start → KeepSettled old.start old.cells new.cells → LeavesFresh old new rank → (r : ℕ) (v : ℤ) (d : ℕ) → old.start ≤ r

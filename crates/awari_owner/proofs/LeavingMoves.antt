@@ -9,7 +9,7 @@ use Rattle.awari_block.specs.Notes.{IsQuietMove}
 use Rattle.awari_block.specs.Pits.{has_pit, with_pit}
 use Rattle.awari_block.specs.Part.{Part, InBlock, Leaves}
 use Rattle.awari_owner.specs.Leaving.{AreLeavingBelow, AreLeaving}
-use Rattle.awari_owner.proofs.PitSets.{has_pit-none, has_pit-with}
+use Rattle.awari_block.proofs.PitSets.{has_pit-none, has_pit-with}
 
 -- ---- one board
 

@@ -1,7 +1,6 @@
 -- The boards that are spread next.
 use Rattle.std.proofs.Common.{◌≡◌, ℕ, get_or, sym, ap, subst, ◌∙◌}
-use Rattle.awari_owner.specs.Found.{ArePredecessors}
-use Rattle.awari_owner.specs.Lookahead.{IsAhead, IsRankAt}
+use Rattle.awari_owner.specs.Lookahead.{ArePredecessors, IsAhead, IsRankAt}
 use Rattle.awari_owner.specs.declared.lookahead.Lookahead.{Lookahead}
 use Rattle.awari_owner.specs.declared.lookahead.Predecessors.{Predecessors}
 

@@ -1,17 +1,18 @@
 -- Queues of batches, seen as lists of lists.
-use Rattle.std.proofs.Common.{◌≡◌, ◌≢◌, ℕ, suc, ◌+◌, ◌/◌, ◌<◌, ◌≤◌, ◌==◌, ◌&&◌, inl, inr, Bool, true, false, not, cond, List, [], ◌∷◌, length, get_or, set, fold, ◌++◌, nat_lt, All, sym, ap, subst, ◌∙◌, refl, arith, get_or-set_other, get_or-set_same, length-append}
-use Rattle.std.proofs.lemmas.List.{get_or-map, length-map, map-set, get_or_past, get_or_default, set-get_or}
-use Rattle.std.proofs.lemmas.List.{length_push}
+use Rattle.std.proofs.Common.{◌≡◌, ◌≢◌, ℕ, ◌+◌, ◌/◌, ◌<◌, ◌≤◌, ◌==◌, ◌&&◌, inl, inr, Bool, true, false, not, cond, List, [], ◌∷◌, length, get_or, set, ◌++◌, nat_lt, All, sym, ap, subst, ◌∙◌, refl, arith, get_or-set_other, get_or-set_same}
+use Rattle.std.proofs.lemmas.List.{get_or-map, length-map, map-set, get_or_past, get_or_default, set-get_or, length_push}
 use Rattle.std.proofs.lemmas.List.Elements.{All-nil, All-cons, All-tail}
 use Rattle.std.proofs.lemmas.Bool.{cases_lt, cases_eq}
 use Rattle.std.proofs.lemmas.Bool.Decides.{nat_tests}
 use Rattle.awari_rank.specs.Rank.{rank_of}
 use Rattle.awari_owner.specs.Outboxes.{Outboxes, put_behind, queue_to, with_note, AreBatches, AreOutboxes, IsBatch}
 use Rattle.awari_block.specs.Part.{Part}
-use Rattle.awari_owner.specs.Spread.{Source, is_held, note_to, goes_to, with_sent, with_all_sent, PutsAll}
+use Rattle.awari_scan.specs.Found.{Source}
+use Rattle.awari_owner.specs.Spread.{is_held, note_to, goes_to, with_sent, with_all_sent, PutsAll}
 use Rattle.awari_block.specs.declared.notes.Kind.{Kind}
 use Rattle.awari_owner.specs.Queues.{Queue, batches_of, queue_in, room_in, no_queue}
 use Rattle.awari_block.specs.declared.notes.Note.{Note}
+use Rattle.awari_owner.proofs.Lists.{fold_push}
 
 pub batches_length : (queues : List Queue) → length (batches_of queues) ≡ length queues
 batches_length queues = length-map queues (λ (q : Queue). q.batches)
@@ -77,10 +78,6 @@ sent_nothing queues part span kind y held to =
 
 -- ---- one source more
 
-fold_push : {A B : Type 0} (f : A → B → A) (a : A) (xs : List B) (y : B) → fold f a (xs ++ y ∷ []) ≡ f (fold f a xs) y
-fold_push f a [] y = refl
-fold_push f a (x ∷ xs) y = fold_push f (f a x) xs y
-
 with_sent-same : (part other : Part) (span to : ℕ) (kind : Kind) (queue : List (List Note)) (y : Source) → other.level ≡ part.level → other.gain ≡ part.gain → other.wave ≡ part.wave → other.start ≡ part.start
     → length other.cells ≡ length part.cells → with_sent other span to kind queue y ≡ with_sent part span to kind queue y
 with_sent-same part other span to kind queue y level gain wave start len = cc
@@ -100,10 +97,6 @@ puts_more old now span kind before middle after seen y level gain wave start len
 pub batches_same : (queues : List Queue) (i : ℕ) (old new : Queue) → i < length queues → old ≡ get_or queues i old → new.batches ≡ old.batches → batches_of (set queues i new) ≡ batches_of queues
 batches_same queues i old new high at same =
     batches_set queues i new ∙ ap (set (batches_of queues) i) (same ∙ sym (batches_at queues i old high at)) ∙ set-get_or (batches_of queues) i []
-
--- how many items were seen, and how many there are in all
-pub seen_more : {X : Type 0} (seen left more : List X) (x : X) → left ≡ x ∷ more → length (seen ++ left) ≡ length seen + 1 + length more
-seen_more {X = X} seen left more x is = length-append seen left ∙ ap (λ (l : List X). length seen + length l) is ∙ (let e : length seen + suc (length more) ≡ length seen + 1 + length more = omega arith in e)
 
 -- room for the notes of a board in one queue more
 pub reserved_more : (queues : List Queue) (i : ℕ) (new : Queue) (owner : ℕ) → i < length queues → 288 ≤ new.room → ((k : ℕ) → k < i → k ≢ owner → 288 ≤ room_in queues k)

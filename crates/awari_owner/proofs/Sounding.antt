@@ -13,11 +13,11 @@ use Rattle.awari_block.specs.declared.notes.Kind.TheVariants.{Won}
 use Rattle.awari_block.specs.declared.notes.Note.{Note}
 use Rattle.awari_block.proofs.BlockLemmas.{keeps_both}
 use Rattle.awari_block.proofs.Settling.{settles_both, settles_none}
-use Rattle.awari_owner.specs.Level.{IsShare}
+use Rattle.awari_owner.specs.Owners.{IsShare}
 use Rattle.awari_owner.specs.Sound.{HoldsNotes, IsInBlockOf, IsOpened, IsOtherOf, IsScannedOwner, IsTimelyNote, OpensGain, OpensWave, OwnerSound, SameStake, TakesNote, TakesNotes, with_taken}
-use Rattle.awari_owner.specs.Spread.{IsSeenAs}
+use Rattle.awari_heard.specs.Heard.{IsSeenAs}
 use Rattle.awari_owner.proofs.Expecting.{inside_new, inside_old, leaves_old, seen_kept, timely_still}
-use Rattle.awari_owner.proofs.Lists.{Has-append_cases, Has-append_left, Has-append_right}
+use Rattle.awari_block.proofs.NoteLists.{Has-append_cases, Has-append_left, Has-append_right}
 
 -- the same notes are due of boards that are spread as they were
 held_still : (owners : ℕ) (old new : Part) (j : ℕ) (notes : List Note) → IsSeenAs old new → HoldsNotes owners old j notes → HoldsNotes owners new j notes

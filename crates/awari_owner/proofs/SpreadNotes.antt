@@ -9,11 +9,12 @@ use Rattle.awari_unmove.specs.Predecessors.{ComesBefore}
 use Rattle.awari_block.specs.Notes.{IsQuietMove, Has, IsNoteOf, gain_by}
 use Rattle.awari_block.specs.Cells.{IsEither}
 use Rattle.awari_block.specs.Part.{Part}
-use Rattle.awari_owner.specs.Spread.{Source, AreNotesOf, is_held, note_to, with_own, with_all_own}
+use Rattle.awari_scan.specs.Found.{Source}
+use Rattle.awari_owner.specs.Spread.{AreNotesOf, is_held, note_to, with_own, with_all_own}
 use Rattle.awari_block.specs.declared.notes.Kind.{Kind}
 use Rattle.awari_block.specs.declared.notes.Kind.TheVariants.{Won, Lost}
 use Rattle.awari_block.specs.declared.notes.Note.{Note}
-use Rattle.awari_owner.proofs.Spreading.{IsInjective}
+use Rattle.awari_heard.proofs.SpreadBoards.{IsInjective}
 use Rattle.awari_owner.specs.Sound.{AreOfOtherMoves}
 
 -- ---- notes of a board

@@ -1,5 +1,5 @@
 -- What the notes of a board that is spread make of its own part.
-use Rattle.std.proofs.Common.{◌≡◌, ◌↔◌, IsTrue, ℕ, suc, ◌||◌, eqb-true, ◌+◌, ◌-◌, ◌<◌, ◌≤◌, ◌==◌, ◌⊎◌, inl, inr, Bool, true, false, not, ◌&&◌, cond, if◌then◌else◌, nat_le, nat_lt, List, [], ◌∷◌, ◌++◌, length, length-append, append_assoc, get_or, slice_index, fold, sum, ℤ, All, Contains, refl, sym, ap, subst, subst₂, ◌∙◌, arith}
+use Rattle.std.proofs.Common.{◌≡◌, ◌↔◌, IsTrue, ℕ, suc, ◌||◌, eqb-true, ◌+◌, ◌-◌, ◌<◌, ◌≤◌, ◌==◌, ◌⊎◌, inl, inr, Bool, true, false, not, ◌&&◌, cond, if◌then◌else◌, nat_le, nat_lt, List, [], ◌∷◌, ◌++◌, length, length-append, append_assoc, get_or, slice_index, sum, ℤ, All, Contains, refl, sym, ap, subst, subst₂, ◌∙◌, arith}
 use Rattle.std.proofs.lemmas.Bool.Decides.{nat_tests}
 use Rattle.std.proofs.lemmas.List.{get_or_default, get_or_append_left}
 use Rattle.std.proofs.Math.Seq.{get_or-append_seam}
@@ -7,27 +7,27 @@ use Rattle.std.specs.List.Sorted.{IsPermutation}
 use Rattle.awari_block.proofs.BlockLemmas.{times_due-cons, times_due-permuted}
 use Rattle.awari_board.specs.Rules.{IsBoard}
 use Rattle.awari_rank.specs.Rank.{rank_of}
-use Rattle.awari_block.specs.Notes.{IsQuietMove, Has, is_heard_at}
+use Rattle.awari_block.specs.Notes.{IsQuietMove, is_heard_at}
 use Rattle.awari_block.specs.Tally.{has_pit}
 use Rattle.awari_block.specs.Blocks.{Due, due_rank, times_due, is_settled_in, JoinNewlySettled}
 use Rattle.awari_block.specs.Part.{Part, InBlock, IsTallied, SameLevel, cell_at, stored_at, notes_for}
 use Rattle.awari_block.specs.Boards.{HearsNote}
-use Rattle.awari_owner.specs.Spread.{Source, is_held, note_to, with_own, with_all_own, IsSource, AreUnheard, TellsSources, HearsOwn}
+use Rattle.awari_scan.specs.Found.{Source, IsSource, target_of}
+use Rattle.awari_owner.specs.Spread.{is_held, note_to, with_own, with_all_own, AreUnheard, TellsSources}
+use Rattle.awari_heard.specs.Heard.{HearsOwn}
 use Rattle.awari_unmove.specs.Predecessors.{IsPredecessors, ComesBefore}
 use Rattle.awari_block.specs.declared.notes.Note.{Note}
 use Rattle.awari_block.specs.declared.notes.Kind.{Kind}
 use Rattle.awari_block.specs.declared.cells.Cell.{Cell}
-use Rattle.awari_owner.specs.Found.{target_of}
-use Rattle.awari_owner.specs.declared.targets.Target.{Target}
-use Rattle.awari_owner.proofs.PlannedTallies.{unheard_told}
-use Rattle.awari_owner.proofs.Taking.{IsTakeable, added_heard}
+use Rattle.awari_scan.specs.declared.targets.Target.{Target}
+use Rattle.awari_heard.proofs.PlannedTallies.{unheard_told}
+use Rattle.awari_heard.proofs.Taking.{IsTakeable, added_heard}
+use Rattle.awari_heard.proofs.SpreadBoards.{IsInjective}
+use Rattle.awari_block.proofs.NoteLists.{heard_note}
+use Rattle.awari_owner.proofs.Lists.{fold_push}
 
 pub held_is : (a b n : ℕ) → a ≤ b → b - a < n → (nat_le a b && nat_lt (b - a) n) ≡ true
 held_is a b n h k = grind (arith, nat_tests)
-
--- two boards of the level with one rank are one
-abbrev pub IsInjective : Type 0
-IsInjective = (b c : List ℕ) → IsBoard b → IsBoard c → sum b ≡ sum c → rank_of b ≡ rank_of c → b ≡ c
 
 -- a source of another block changes nothing
 pub heard_outside : (value : List ℕ → ℤ) (notes : List Note) (part : Part) (kind : Kind) (y : Source) → is_held part (rank_of y.0) ≡ false
@@ -100,10 +100,6 @@ with_own-same part other kind notes y level gain wave start len = cc
 
 -- ---- one source more
 
-fold_push : {A B : Type 0} (f : A → B → A) (a : A) (xs : List B) (y : B) → fold f a (xs ++ y ∷ []) ≡ f (fold f a xs) y
-fold_push f a [] y = refl
-fold_push f a (x ∷ xs) y = fold_push f (f a x) xs y
-
 pub told_none : (old : Part) (kind : Kind) → TellsSources old old kind []
 told_none old kind value notes unheard tallied = tallied
 
@@ -149,14 +145,6 @@ heard_first part kind notes (y ∷ ys) r x h = elim (heard_first part kind (with
   ]
   | inr later ↦ (let l = later.1 in inr (suc later.0, (omega arith), λ d. later.2 d))
 ]
-
-heard_note : (notes : List Note) (x : ℕ) → is_heard_at notes x ≡ true → (m : Note) × Has notes m × (m.pit ≡ x)
-heard_note [] x h = absurd (cc)
-heard_note (k ∷ notes) x h = first (k.pit == x) refl (heard_note notes x)
-  where
-    first : (a : Bool) → (k.pit == x) ≡ a → (is_heard_at notes x ≡ true → (m : Note) × Has notes m × (m.pit ≡ x)) → (m : Note) × Has (k ∷ notes) m × (m.pit ≡ x)
-    first true e other = (k, inl refl, eqb-true k.pit x e)
-    first false e other = let rest = other (subst (λ b. (b || is_heard_at notes x) ≡ true) e h) in (rest.0, inr rest.1, rest.2)
 
 -- ---- predecessors
 

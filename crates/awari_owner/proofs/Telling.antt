@@ -11,11 +11,11 @@ use Rattle.awari_block.specs.Part.{Part, InBlock, IsTallied, notes_for}
 use Rattle.awari_block.specs.Boards.{Settles}
 use Rattle.awari_block.specs.declared.notes.Kind.{Kind}
 use Rattle.awari_block.specs.declared.notes.Note.{Note}
-use Rattle.awari_owner.specs.Found.{target_of, Lists}
+use Rattle.awari_scan.specs.Found.{target_of, Lists, Source, IsSource}
 use Rattle.awari_owner.specs.Queues.{Queue, queue_in, room_in}
-use Rattle.awari_owner.specs.Spread.{Source, IsSource, is_held, TellsSources, PutsAll, with_own, with_sent}
-use Rattle.awari_owner.specs.declared.targets.Target.{Target}
-use Rattle.awari_owner.proofs.Finding.{Lists-at}
+use Rattle.awari_owner.specs.Spread.{is_held, TellsSources, PutsAll, with_own, with_sent}
+use Rattle.awari_scan.specs.declared.targets.Target.{Target}
+use Rattle.awari_scan.proofs.Finding.{Lists-at, IsNext, split_left}
 use Rattle.awari_owner.proofs.Spreading.{held_still, told_none, told_more}
 use Rattle.awari_owner.proofs.Sending.{puts_more}
 
@@ -44,18 +44,6 @@ IsTelling-none old span kind before q targets n found room = record {
   sent = λ to inside. refl;
   room = λ r below out. let at = room r below out in (at.0, (let much = at.1 in omega (arith, much)));
 }
-
--- the next source, where one is left
-pub record IsNext (q : List ℕ) (level : ℕ) (seen left : List Source) (t : Target) : Type 0 where
-  pub y : Source
-  pub more : List Source
-  pub splits : left ≡ y ∷ more
-  pub at : target_of y ≡ t
-  pub source : IsSource level y
-
-split_left : (seen left : List Source) → length seen < length (seen ++ left) → (y : Source) × (more : List Source) × (left ≡ y ∷ more)
-split_left seen [] less = (let none = ap length (append-nil seen) in absurd (omega (arith, less, none)))
-split_left seen (y ∷ more) less = (y, more, refl)
 
 pub IsTelling-next : (old now : Part) (span : ℕ) (kind : Kind) (before after : List Queue) (q : List ℕ) (targets : List Target) (n k : ℕ) (d : Target)
     → ((p : List ℕ) (x : ℕ) → IsBoard p → IsQuietMove p x q → sum q + 0 ≡ sum p) → sum q ≡ old.level

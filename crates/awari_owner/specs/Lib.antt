@@ -1,12 +1,9 @@
 pub mod PartFields
 pub mod Spread
-pub mod Found
 pub mod Lookahead
 pub mod Leaving
 pub mod OwnerFault
 pub mod Sound
-pub mod Level
-pub mod Finish
-pub mod Scan
+pub mod Owners
 pub mod Outboxes
 pub mod Queues

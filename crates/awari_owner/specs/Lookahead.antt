@@ -1,8 +1,17 @@
 -- The boards that are spread next. Private functions alone go by this: no public contract does.
-use Rattle.std.specs.Prelude.{◌≡◌, ℕ, ◌<◌, All, length, slice_index_or}
-use Rattle.awari_owner.specs.Found.{ArePredecessors}
+use Rattle.std.specs.Prelude.{◌≡◌, ℕ, ◌<◌, All, length, slice_index_or, sum}
 use Rattle.awari_owner.specs.declared.lookahead.Lookahead.{Lookahead}
 use Rattle.awari_owner.specs.declared.lookahead.Predecessors.{Predecessors}
+use Rattle.awari_board.specs.Rules.{IsBoard}
+use Rattle.awari_rank.specs.Rank.{rank_of}
+use Rattle.awari_scan.specs.Found.{ListsAll}
+
+-- a board of the level, its rank and its predecessors
+pub record ArePredecessors (level : ℕ) (p : Predecessors) : Type 0 where
+  pub board : IsBoard p.board
+  pub stones : sum p.board ≡ level
+  pub rank : rank_of p.board ≡ p.rank
+  pub listed : ListsAll p.board p.targets p.count
 
 -- there is room for one at least, and each has its own predecessors
 pub record IsAhead (level : ℕ) (ahead : Lookahead) : Type 0 where

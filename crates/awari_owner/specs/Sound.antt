@@ -6,22 +6,24 @@
 -- (HoldsNotes). What j knows is a tally of what it took from the others, and of what its own spread
 -- boards told its own boards. OwnerSound says both of one owner. It holds after every step, whatever
 -- the others do, since it speaks of lists and not of time. Level.antt says what follows of all owners.
-use Rattle.std.specs.Prelude.{◌≡◌, ◌≢◌, ℕ, ◌+◌, ◌-◌, ◌^◌, ◌<◌, ◌≤◌, ◌==◌, if◌then◌else◌, true, List, [], ◌∷◌, ◌++◌, length, sum, All, ℤ, Some, slice_set}
+use Rattle.std.specs.Prelude.{◌≡◌, ◌≢◌, ℕ, ◌+◌, ◌-◌, ◌^◌, ◌<◌, ◌≤◌, ◌==◌, if◌then◌else◌, true, List, [], ◌∷◌, ◌++◌, length, sum, All, ℤ, Some, slice_set, None}
 use Rattle.awari_board.specs.Rules.{IsBoard}
 use Rattle.awari_rank.specs.Rank.{rank_of, size_of}
 use Rattle.awari_block.specs.Notes.{IsQuietMove, Has, IsNoteOf}
 use Rattle.awari_block.specs.Tally.{has_pit}
 use Rattle.awari_block.specs.Blocks.{KeepSettled}
 use Rattle.awari_block.specs.Boards.{Settles}
-use Rattle.awari_block.specs.Part.{Part, AreFresh, HasFarthest, InBlock, IsExpected, IsLeastDue, IsTallied, Leaves, SameLevel, stored_at, unspread}
+use Rattle.awari_block.specs.Part.{Part, AreFresh, HasFarthest, InBlock, IsExpected, IsLeastDue, IsTallied, Leaves, SameLevel, stored_at, unspread, settled_at}
 use Rattle.awari_block.specs.Shares.{first_rank}
 use Rattle.awari_owner.specs.OwnerFault.{IsFaultOf}
 use Rattle.awari_owner.specs.Outboxes.{Outboxes, notes_of, queue_to}
-use Rattle.awari_owner.specs.Scan.{IsScan}
-use Rattle.awari_owner.specs.Spread.{HearsOwn, IsSeenAs, IsSpread, Source, Sends, Spreads}
+use Rattle.awari_heard.specs.Heard.{HearsOwn, IsSeenAs, IsSpread}
+use Rattle.awari_scan.specs.Found.{Source}
+use Rattle.awari_owner.specs.Spread.{Sends, Spreads}
 use Rattle.awari_owner.specs.declared.faults.OwnerFault.{OwnerFault}
 use Rattle.awari_owner.specs.declared.faults.OwnerFault.TheVariants.{Far, Memory}
 use Rattle.awari_block.specs.declared.notes.Note.{Note}
+use Rattle.awari_block.specs.Pits.{has_pit}
 
 -- the number of another owner
 abbrev pub IsOtherOf : ℕ → ℕ → ℕ → Type 0
@@ -66,6 +68,16 @@ pub record OwnerSound (value : List ℕ → ℤ) (owner owners : ℕ) (part : Pa
   pub opened : (j : ℕ) → IsOtherOf owner owners j → All (IsTimelyNote part) (coming j)
   -- the fresh boards are settled ones of the open gain, each once
   pub fresh : AreFresh part
+
+-- the part of this owner of so many, with no gain open
+pub record IsScan (n owners owner : ℕ) (part : Part) : Type 0 where
+  pub level : part.level ≡ n
+  pub gain : part.gain ≡ n + 1
+  pub wave : part.wave ≡ 0
+  pub start : part.start ≡ first_rank (size_of n) owners owner
+  pub end : part.start + length part.cells ≡ first_rank (size_of n) owners (owner + 1)
+  pub unsettled : (rank : ℕ) → InBlock part rank → settled_at part rank ≡ None
+  pub fresh : part.fresh ≡ []
 
 -- owner i's part as it is scanned: no gain is open, and no note was heard
 pub record IsScannedOwner (value : List ℕ → ℤ) (n owners i : ℕ) (part : Part) : Type 0 where

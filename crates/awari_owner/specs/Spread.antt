@@ -2,7 +2,7 @@
 use Rattle.std.specs.Prelude.{◌≡◌, ℕ, ◌+◌, ◌-◌, ◌^◌, ◌<◌, ◌≤◌, ◌⊎◌, ◌&&◌, Bool, false, ◌==◌, nat_le, nat_lt, if◌then◌else◌, List, ◌∷◌, ◌++◌, [], ◌/◌, not, length, fold, filter, sum, All, ℤ, pos, int_lt, Some}
 use Rattle.awari_board.specs.Rules.{IsBoard}
 use Rattle.awari_rank.specs.Rank.{rank_of, size_of}
-use Rattle.awari_block.specs.Notes.{IsQuietMove, Has, is_heard_at, IsNoteOf}
+use Rattle.awari_block.specs.Notes.{IsQuietMove, is_heard_at, IsNoteOf}
 use Rattle.awari_unmove.specs.Predecessors.{IsPredecessors}
 use Rattle.awari_block.specs.Cells.{IsEither}
 use Rattle.awari_block.specs.Blocks.{times_due, due_dist, due_rank, is_settled_in}
@@ -13,10 +13,8 @@ use Rattle.awari_owner.specs.Outboxes.{Outboxes, queue_to, with_note, with_notes
 use Rattle.awari_owner.specs.Queues.{Queue, queue_in}
 use Rattle.awari_block.specs.declared.notes.Note.{Note}
 use Rattle.awari_block.specs.declared.notes.Kind.{Kind}
-
--- a board, and a pit of it whose quiet move leads to the board that is spread
-abbrev pub Source : Type 0
-Source = List ℕ × ℕ
+use Rattle.awari_scan.specs.Found.{Source}
+use Rattle.awari_heard.specs.Heard.{IsSpread, HearsOwn, SameBlock}
 
 -- whether the board of this rank is in the block
 abbrev pub is_held : Part → ℕ → Bool
@@ -34,10 +32,6 @@ with_own part kind notes y = if is_held part (rank_of y.0) then note_to part kin
 abbrev pub with_all_own : Part → Kind → List Note → List Source → List Note
 with_all_own part kind notes sources = fold (with_own part kind) notes sources
 
--- boards of the level, with pits whose moves are quiet
-abbrev pub IsSource : ℕ → Source → Type 0
-IsSource level y = IsBoard y.0 × (sum y.0 ≡ level) × ((q : List ℕ) × IsQuietMove y.0 y.1 q)
-
 -- of those in the block, no pit was heard, neither in these notes nor earlier among these
 abbrev pub AreUnheard : Part → Kind → List Note → List Source → Type 0
 AreUnheard part kind notes sources =
@@ -49,26 +43,6 @@ abbrev pub TellsSources : Part → Part → Kind → List Source → Type 0
 TellsSources old new kind sources =
     (value : List ℕ → ℤ) (notes : List Note) → AreUnheard old kind notes sources → IsTallied value old notes
     → IsTallied value new (with_all_own old kind notes sources)
-
--- a board of the block is spread where it is settled and not fresh
-abbrev pub IsSpread : Part → ℕ → ℤ → ℕ → Type 0
-IsSpread part rank v d = (settled_at part rank ≡ Some (v, d)) × (times_due part.fresh rank ≡ 0)
-
--- Of the moves from boards of the part to boards of the source, what was heard is of spread boards, as they are.
-abbrev pub HearsTruth : Part → Part → List Note → Type 0
-HearsTruth source part notes =
-    (p : List ℕ) (x : ℕ) (q : List ℕ) → IsBoard p → sum p ≡ part.level → InBlock part (rank_of p) → InBlock source (rank_of q) → IsQuietMove p x q
-    → (m : Note) → Has (notes_for (rank_of p) notes) m → m.pit ≡ x → (v : ℤ) × (d : ℕ) × IsSpread source (rank_of q) v d × IsNoteOf q v d p x m
-
--- Of the moves from boards of the part to boards of the source, those to spread boards were heard, as they are, and no others.
-pub record Hears (source part : Part) (notes : List Note) : Type 0 where
-  pub true_notes : HearsTruth source part notes
-  pub all_notes : (p : List ℕ) (x : ℕ) (q : List ℕ) (v : ℤ) (d : ℕ) → IsBoard p → sum p ≡ part.level → InBlock part (rank_of p) → InBlock source (rank_of q) → IsQuietMove p x q
-      → IsSpread source (rank_of q) v d → (m : Note) × Has (notes_for (rank_of p) notes) m × IsNoteOf q v d p x m
-
--- and of the moves that stay in the block
-abbrev pub HearsOwn : Part → List Note → Type 0
-HearsOwn part notes = Hears part part notes
 
 -- the kind of the notes of a settled board
 abbrev pub kind_of : ℤ → Kind
@@ -86,20 +60,6 @@ abbrev pub LeavesFresh : Part → Part → ℕ → Type 0
 LeavesFresh old new rank =
     (r : ℕ) → times_due new.fresh r + (if is_settled_in old.start old.cells r then 1 else 0) + (if rank == r then 1 else 0)
     ≡ times_due old.fresh r + (if is_settled_in new.start new.cells r then 1 else 0)
-
--- the block is the same
-pub record SameBlock (old new : Part) : Type 0 where
-  pub level : new.level ≡ old.level
-  pub start : new.start ≡ old.start
-  pub size : length new.cells ≡ length old.cells
-
--- the same boards of the block are spread, in the same block
-pub record IsSeenAs (old new : Part) : Type 0 where
-  pub level : new.level ≡ old.level
-  pub start : new.start ≡ old.start
-  pub len : length new.cells ≡ length old.cells
-  pub stays : (r : ℕ) (v : ℤ) (d : ℕ) → InBlock old r → IsSpread old r v d → IsSpread new r v d
-  pub before : (r : ℕ) (v : ℤ) (d : ℕ) → InBlock old r → IsSpread new r v d → IsSpread old r v d
 
 -- q is the one board of the block that becomes spread, with value v and distance d
 pub record SpreadsOne (old new : Part) (q : List ℕ) (v : ℤ) (d : ℕ) : Type 0 where

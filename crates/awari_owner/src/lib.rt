@@ -1,13 +1,12 @@
-//! The analysis of a level, backward from the ends of play and the captures.
+//! The analysis of a level by its owners, backward from the ends of play and the captures.
 //!
 //! A level is shared out in blocks, and each owner has a [`Part`]: a cell for each board of its block.
 //! Gains are opened from the greatest down to 1, and within a gain distances from 0 on. A settled board
 //! tells the boards whose quiet moves lead to it that its mover won or lost that gain, which may settle
 //! those. Notes to other owners' boards go to the [`Outboxes`]. `specs/Sound.antt` says what is true of
-//! one owner after each step, `specs/Level.antt` what all parts together have heard, and
-//! `specs/Finish.antt` what is right in the end. Memory is taken by
-//! `scanned_cells`, `Part::scan`, `Part::scan_parallel` and `Outboxes::new`, and by `Part::spread_one`
-//! if there is another owner.
+//! one owner after each step, and `specs/Owners.antt` of all owners with the notes on their way. Memory
+//! is taken by `Part::scan`, `Part::scan_parallel` and `Outboxes::new`, and by `Part::spread_one` if
+//! there is another owner.
 //!
 //! The first gain of a part of level 1 is opened, and its nearest boards are due at distance 0, in
 //! `crates/awari_owner_tests/src/parts.rt`:
@@ -30,24 +29,17 @@ mod laws;
 mod leaving;
 mod lookahead;
 mod outboxes;
-mod outlooks;
-mod parallel;
 mod parts;
 mod queues;
-mod runs;
 mod spreads;
-mod targets;
 
 pub use batches::take_batch;
 pub use faults::OwnerFault;
 pub use laws::{
-    batches_have_32_notes, closed_parts_are_right, coming_notes_are_expected, distances_fit,
-    one_part_hears_all, quiet_boards_are_right, scanned_parts_are_whole, sound_parts_are_told,
+    batches_have_32_notes, coming_notes_are_expected, scanned_parts_are_whole, sound_parts_are_told,
 };
 pub use outboxes::Outboxes;
 pub use parts::Part;
 pub use queues::{Batch, MOST_NOTES};
-pub use runs::scanned_cells;
-pub use targets::{MOST_PREDECESSORS, Target, find_all};
 // What a batch holds is named with it.
 pub use awari_block::{Kind, Note};

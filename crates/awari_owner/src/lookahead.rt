@@ -4,16 +4,14 @@
 //! found at a time, and the cells of all of them are read before the first of them hears: the waits for
 //! memory overlap.
 
-ghost use Rattle.std.specs.Prelude.{◌≡◌, ◌≤◌, ◌<◌, ◌↔◌, ℕ, IfOk, IsTrue, length, sum, slice_index_or, vec_len};
+ghost use Rattle.std.specs.Prelude.{◌≡◌, ◌≤◌, ◌<◌, ◌↔◌, IfOk, IsTrue, sum};
 ghost use Rattle.awari_board.specs.Rules.{IsBoard};
-ghost use Rattle.awari_rank.specs.Rank.{rank_of};
 ghost use Rattle.awari_block.specs.Part.{InBlock};
-ghost use Rattle.awari_owner.specs.Found.{ArePredecessors};
-ghost use Rattle.awari_owner.specs.Lookahead.{IsAhead, IsRankAt};
+ghost use Rattle.awari_owner.specs.Lookahead.{ArePredecessors, IsAhead, IsRankAt};
 
-use crate::targets::{MOST_PREDECESSORS, Target, find_all};
 use awari_block::{Boards, Note};
 use awari_packed::PackedBoard;
+use awari_scan::{MOST_PREDECESSORS, Target, find_all};
 use std::alloc::{AllocError, Global};
 
 /// How many boards have their predecessors found at a time. These have more cells than a processor

@@ -1,6 +1,6 @@
 //! One owner's part of a level, and what is asked of it between two spreads.
 
-ghost use Rattle.std.specs.Prelude.{◌≡◌, ◌⊎◌, ℕ, ℤ, ◌+◌, ◌-◌, ◌^◌, ◌<◌, ◌≤◌, ◌↔◌, IsTrue, OnOk, OnErr, IfOk, IfErr, IfSome, All, true, false, length, vec_len, []};
+ghost use Rattle.std.specs.Prelude.{◌≡◌, ℕ, ℤ, ◌+◌, ◌-◌, ◌^◌, ◌<◌, ◌≤◌, ◌↔◌, IsTrue, OnOk, OnErr, IfOk, IfErr, IfSome, All, true, false, length, vec_len, []};
 ghost use Rattle.awari_rank.specs.Rank.{size_of};
 ghost use Rattle.awari_block.specs.Cells.{IsWithin, IsBeyond};
 ghost use Rattle.awari_block.specs.Blocks.{due_dist};
@@ -8,9 +8,9 @@ ghost use Rattle.awari_block.specs.Boards.{Settles};
 ghost use Rattle.awari_block.specs.Counts.{spread_of};
 ghost use Rattle.awari_block.specs.Part.{Part as PartView, InBlock, Leaves, IsExpected, stored_at, settled_at, IsLeastDue, AreFresh, IsClosed};
 ghost use Rattle.awari_owner.specs.OwnerFault.{IsFaultOf};
-ghost use Rattle.awari_block.specs.Shares.{first_rank};
 ghost use Rattle.awari_owner.specs.Leaving.{AreLeaving};
-ghost use Rattle.awari_owner.specs.Scan.{AreScanned, IsScannedPart, IsWhole};
+ghost use Rattle.awari_scan.specs.Scan.{AreScanned, IsScannedPart};
+ghost use Rattle.awari_heard.specs.Level.{IsWhole};
 ghost use Rattle.awari_owner.specs.Sound.{CanTake, IsScannedOwner, IsSpreadFault, KeepsOwn, KeepsTally, SameStake, SpreadsFirst, TakesNote};
 ghost use Rattle.awari_owner.specs.Spread.{IsPartOf};
 ghost use Rattle.awari_table.specs.Images.{table_of};
@@ -21,13 +21,12 @@ use crate::faults::OwnerFault;
 use crate::leaving::{leaving_pits, leaving_pits_parallel};
 use crate::lookahead::Lookahead;
 use crate::outboxes::Outboxes;
-use crate::parallel::scanned_cells_parallel;
 use crate::queues::reserve_others;
-use crate::runs::scanned_cells;
 use crate::spreads::{kind_of, tell_all};
 use awari_block::{Block, Boards, Cell, ClosedPart, Note, block_length};
 use awari_board::{SIDE, moves_keep_boards};
 use awari_index::Index;
+use awari_scan::{scanned_cells, scanned_cells_parallel};
 use awari_rank::{ranks_tell_boards_apart, size};
 use awari_table::{Shelf, shelves_are_certificates};
 use std::alloc::{AllocError, Global};

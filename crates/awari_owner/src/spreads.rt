@@ -1,22 +1,23 @@
 //! How the predecessors of a board that is spread hear of it. Those in the block hear at once, the
 //! others by notes that go to their owners' queues.
 
-ghost use Rattle.std.specs.Prelude.{◌≡◌, ℕ, ℤ, ◌+◌, ◌-◌, ◌^◌, ◌<◌, ◌≤◌, ◌/◌, List, length, sum, vec_len, false};
+ghost use Rattle.std.specs.Prelude.{◌≡◌, ℕ, ℤ, ◌+◌, ◌-◌, ◌^◌, ◌<◌, ◌≤◌, ◌/◌, List, vec_len, false};
 ghost use Rattle.awari_rank.specs.Rank.{rank_of, size_of};
 ghost use Rattle.awari_owner.specs.Queues.{queue_in, room_in};
 ghost use Rattle.awari_unmove.specs.Predecessors.{IsPredecessors};
 ghost use Rattle.awari_block.specs.Notes.{is_heard_at};
 ghost use Rattle.awari_block.specs.Part.{InBlock, IsTallied, notes_for};
 ghost use Rattle.awari_block.specs.Boards.{Settles};
-ghost use Rattle.awari_owner.specs.Found.{ArePredecessors, target_of};
-ghost use Rattle.awari_owner.specs.Spread.{Source, kind_of, is_held, IsSource, TellsSources, PutsAll, with_own, with_sent};
+ghost use Rattle.awari_owner.specs.Lookahead.{ArePredecessors};
+ghost use Rattle.awari_scan.specs.Found.{target_of, Source, IsSource};
+ghost use Rattle.awari_owner.specs.Spread.{kind_of, is_held, TellsSources, PutsAll, with_own, with_sent};
 ghost use Rattle.awari_block.specs.declared.notes.Note.{Note as NoteView};
 
 use crate::lookahead::Predecessors;
 use crate::queues::Queue;
-use crate::targets::Target;
 use awari_block::{Boards, Cell, Kind};
 use awari_board::moves_keep_boards;
+use awari_scan::Target;
 use awari_rank::ranks_tell_boards_apart;
 
 /// Tells the predecessors of a board that it is won or lost. A block has `span` boards.

@@ -1,6 +1,6 @@
 -- The parts of owners go on being all blocks of a level, whatever the owners do.
 use Rattle.std.proofs.Common.{◌≡◌, ℕ, suc, ◌+◌, ◌<◌, List, [], ◌∷◌, length, sym, subst, ◌∙◌, arith, get_or}
-use Rattle.awari_owner.specs.Level.{AreBlocks, AreWhole}
+use Rattle.awari_heard.specs.Level.{AreBlocks, AreWhole}
 use Rattle.awari_rank.specs.Rank.{size_of}
 use Rattle.awari_phase.specs.declared.owners.Owner.{Owner}
 use Rattle.awari_phase.specs.Owners.{AllGrown, Grown, parts_of}

@@ -4,7 +4,7 @@
 ghost use Rattle.std.specs.Prelude.{◌≡◌, All, IfOk, length};
 ghost use Rattle.awari_lines.specs.Rings.{IsGrid};
 ghost use Rattle.awari_block.specs.Part.{IsClosed};
-ghost use Rattle.awari_owner.specs.Level.{AreWhole};
+ghost use Rattle.awari_heard.specs.Level.{AreWhole};
 ghost use Rattle.awari_phase.specs.Owners.{AllGrown, JoinsWave, all_ends, parts_of};
 
 use crate::expect::{expect, expect_equal};

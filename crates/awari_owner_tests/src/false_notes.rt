@@ -2,7 +2,8 @@
 //! note. What is finished then is no right level, but its plans are those that its values make.
 
 ghost use Rattle.std.specs.Prelude.{◌≤◌, ℕ, IfOk, length};
-ghost use Rattle.awari_owner.specs.Level.{AreWhole, IsShare};
+ghost use Rattle.awari_heard.specs.Level.{AreWhole};
+ghost use Rattle.awari_owner.specs.Owners.{IsShare};
 ghost use Rattle.awari_owner.specs.Spread.{IsPartOf};
 
 use crate::apart::expect_closed;

@@ -3,7 +3,7 @@
 ghost use Rattle.std.specs.Prelude.{IfOk};
 ghost use Rattle.awari_lines.specs.Rings.{IsGrid};
 ghost use Rattle.awari_table.specs.Shelves.{Consistent};
-ghost use Rattle.awari_owner.specs.Level.{AreWhole};
+ghost use Rattle.awari_heard.specs.Level.{AreWhole};
 ghost use Rattle.awari_phase.specs.Owners.{AllGrown, all_ends, parts_of};
 
 use crate::built::expect_verified;

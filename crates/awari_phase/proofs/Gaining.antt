@@ -11,7 +11,8 @@ use Rattle.awari_lines.specs.Rings.{EachTo, IsGrid, IsOther, SamePairs, SameHist
 use Rattle.awari_lines.specs.declared.ends.Ends.{Ends}
 use Rattle.awari_phase.specs.declared.owners.Owner.{Owner}
 use Rattle.awari_phase.specs.Owners.{Batches, IsSound, notes_boxed, notes_given, notes_taken, Kept, Grown, AllGrown, AreFinished, AreInWave, AreReceived, AreSent, JoinsWave, all_ends, ends_of, rest_of}
-use Rattle.awari_phase.proofs.Keeping.{same_pairs, pairs_then, IsOther-on, prefix_then, same_sound}
+use Rattle.awari_lines.proofs.Grids.{same_pairs}
+use Rattle.awari_phase.proofs.Keeping.{pairs_then, IsOther-on, prefix_then, same_sound}
 use Rattle.awari_phase.proofs.Grown.{ends_at, grid_after}
 use Rattle.awari_phase.proofs.Each.{same_ends}
 

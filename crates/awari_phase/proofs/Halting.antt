@@ -13,7 +13,8 @@ use Rattle.awari_block.specs.declared.notes.Note.{Note}
 use Rattle.awari_lines.specs.Rings.{Notes, IsOther, SamePairs, owners_of, sent_to, received_from}
 use Rattle.awari_lines.specs.declared.ends.Ends.{Ends}
 use Rattle.awari_owner.specs.Sound.{IsTimelyNote, OwnerSound, SameStake, with_taken}
-use Rattle.awari_owner.proofs.Lists.{Has-append_right, notes_of-last}
+use Rattle.awari_block.proofs.NoteLists.{Has-append_right}
+use Rattle.awari_owner.proofs.Lists.{notes_of-last}
 use Rattle.awari_owner.proofs.Sounding.{place_both, stake_settled, sound_same}
 use Rattle.awari_phase.specs.declared.owners.Owner.{Owner}
 use Rattle.awari_phase.specs.Owners.{IsOpenBatch, items_of, taken_from, given_to, notes_boxed, notes_given, notes_taken, IsSound, Kept}

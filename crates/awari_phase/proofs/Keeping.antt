@@ -1,5 +1,5 @@
 -- What a worker's steps keep.
-use Rattle.std.proofs.Common.{◌≡◌, ◌≢◌, ℕ, ◌+◌, ◌==◌, ◌<◌, List, [], ◌∷◌, ◌++◌, length, map, All, ℤ, Option, Some, None, Result, Ok, Bool, true, false, if◌then◌else◌, refl, sym, ap, subst, subst₂, ◌∙◌, inl, inr, arith, append_assoc, vec_len, get_or}
+use Rattle.std.proofs.Common.{◌≡◌, ◌≢◌, ℕ, ◌+◌, ◌==◌, ◌<◌, List, [], ◌∷◌, ◌++◌, length, map, All, ℤ, Option, Result, Ok, Bool, true, false, if◌then◌else◌, refl, sym, ap, subst, subst₂, ◌∙◌, inl, inr, arith, append_assoc, vec_len, get_or}
 use Rattle.std.proofs.lemmas.List.{append-nil, map-append}
 use Rattle.std.proofs.lemmas.List.Elements.{All-append}
 use Rattle.std.proofs.lemmas.Bool.{cases_eq, eqb-true}
@@ -9,35 +9,19 @@ use mathlib.Core.List.{IsPrefix}
 use Rattle.awari_owner.specs.Outboxes.{IsBatch, Outboxes, queue_to, notes_of}
 use Rattle.awari_owner.specs.Sound.{IsTimelyNote, OwnerSound, SameStake, SpreadsFirst, TakesNotes, with_taken}
 use Rattle.awari_owner.specs.declared.faults.OwnerFault.{OwnerFault}
-use Rattle.awari_owner.proofs.Lists.{all_left, all_right, notes_of-append, notes_of-last}
+use Rattle.awari_block.proofs.NoteLists.{all_left, all_right}
+use Rattle.awari_owner.proofs.Lists.{notes_of-append, notes_of-last}
 use Rattle.awari_owner.proofs.Sounding.{place_both, stake_same, stake_settled, sound_same, timely_all}
 use Rattle.awari_block.specs.Part.{Part}
 use Rattle.awari_lines.specs.declared.ends.Ends.{Ends}
 use Rattle.awari_lines.specs.declared.ends.RingPair.{RingPair}
 use Rattle.awari_block.specs.declared.notes.Note.{Note}
-use Rattle.awari_lines.specs.Rings.{Notes, IsOther, SamePairs, SameBut, SameRings, sent_to, received_from, sent_on, received_on, pair_of, owners_of}
+use Rattle.awari_lines.specs.Rings.{Notes, IsOther, SamePairs, SameBut, sent_to, received_from, sent_on, received_on, pair_of, owners_of}
 use Rattle.awari_phase.specs.declared.owners.Owner.{Owner}
 use Rattle.awari_phase.specs.Owners.{Batches, IsOpenBatch, IsSound, KeepsOwner, Kept, given_to, items_of, notes_boxed, notes_given, notes_taken, taken_from}
+use Rattle.awari_lines.proofs.Grids.{same_pairs, rings_then}
 
 -- ---- rings
-
-same_rings : (l : Option RingPair) → SameRings l l
-same_rings None = tt
-same_rings (Some l) = record { 0 = record { 0 = (refl, refl, refl, refl); 1 = refl }; 1 = record { 0 = (refl, refl, refl, refl); 1 = refl } }
-
-rings_then : (l m n : Option RingPair) → SameRings l m → SameRings m n → SameRings l n
-rings_then None None None p q = tt
-rings_then None None (Some n) p q = q
-rings_then None (Some m) n p q = absurd p
-rings_then (Some l) None n p q = absurd p
-rings_then (Some l) (Some m) None p q = q
-rings_then (Some l) (Some m) (Some n) p q = (
-  ((q.0.0.0 ∙ p.0.0.0, q.0.0.1 ∙ p.0.0.1, q.0.0.2 ∙ p.0.0.2, q.0.0.3 ∙ p.0.0.3), q.0.1 ∙ p.0.1),
-  ((q.1.0.0 ∙ p.1.0.0, q.1.0.1 ∙ p.1.0.1, q.1.0.2 ∙ p.1.0.2, q.1.0.3 ∙ p.1.0.3), q.1.1 ∙ p.1.1),
-)
-
-pub same_pairs : (a : Ends) → SamePairs a a
-same_pairs a = record { owner = refl; owners = refl; rings = λ k. same_rings (slice_get a.pairs.items k) }
 
 pub pairs_then : (a b c : Ends) → SamePairs a b → SamePairs b c → SamePairs a c
 pairs_then a b c s t = record { owner = t.owner ∙ s.owner; owners = t.owners ∙ s.owners; rings = λ k. rings_then (slice_get a.pairs.items k) (slice_get b.pairs.items k) (slice_get c.pairs.items k) (s.rings k) (t.rings k) }

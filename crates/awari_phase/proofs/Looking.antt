@@ -4,12 +4,14 @@ use Rattle.std.proofs.lemmas.List.{length-map, map-append}
 use Rattle.std.proofs.lemmas.List.Elements.{All-nil}
 use Rattle.awari_block.specs.Notes.{Has}
 use Rattle.awari_block.specs.declared.notes.Note.{Note}
-use Rattle.awari_owner.specs.Level.{AreSound, part_at}
+use Rattle.awari_owner.specs.Owners.{AreSound}
+use Rattle.awari_heard.specs.Level.{part_at}
 use Rattle.awari_owner.specs.Sound.{IsTimelyNote}
 use Rattle.awari_owner.specs.Outboxes.{queue_to, notes_of}
 use Rattle.awari_lines.specs.Rings.{received_from, sent_to, waiting_from}
 use Rattle.awari_lines.specs.declared.ends.Ends.{Ends}
-use Rattle.awari_owner.proofs.Lists.{Has-append_cases, all_has, has_all, notes_of-append}
+use Rattle.awari_block.proofs.NoteLists.{Has-append_cases, all_has, has_all}
+use Rattle.awari_owner.proofs.Lists.{notes_of-append}
 use Rattle.awari_phase.specs.declared.owners.Owner.{Owner}
 use Rattle.awari_phase.specs.Owners.{AreLooked, AreTogether, IsOpenBatch, all_ends, coming_notes, ends_of, items_of, notes_boxed, notes_given, notes_taken, parts_of, taken_from, taken_notes}
 use Rattle.awari_phase.proofs.Refusing.{open_since}

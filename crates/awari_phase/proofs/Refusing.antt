@@ -5,7 +5,8 @@ use Rattle.std.proofs.lemmas.List.{append_cancel_left, drop_at, length-map, map-
 use Rattle.awari_block.specs.Notes.{Has}
 use Rattle.awari_owner.specs.OwnerFault.{IsFaultOf}
 use Rattle.awari_block.specs.Part.{Part}
-use Rattle.awari_owner.specs.Level.{AreSound, AreTold, AreWhole, DistancesFit, no_part, part_at}
+use Rattle.awari_owner.specs.Owners.{AreSound}
+use Rattle.awari_heard.specs.Level.{AreTold, AreWhole, DistancesFit, no_part, part_at}
 use Rattle.awari_owner.specs.Sound.{CanTake, IsTimelyNote}
 use Rattle.awari_owner.specs.declared.faults.OwnerFault.{OwnerFault}
 use Rattle.awari_owner.specs.declared.faults.OwnerFault.TheVariants as owner_fault
@@ -15,7 +16,8 @@ use Rattle.awari_lines.specs.Rings.{EachTo, Notes, IsGrid, IsOther, SameHistory,
 use Rattle.awari_lines.specs.declared.ends.Ends.{Ends}
 use Rattle.awari_lines.proofs.Grids.{grid_kept}
 use Rattle.awari_owner.specs.Outboxes.{notes_of, queue_to}
-use Rattle.awari_owner.proofs.Lists.{Has-append_cases, Has-append_left, Has-append_right, all_has, has_all, notes_of-append}
+use Rattle.awari_block.proofs.NoteLists.{Has-append_cases, Has-append_left, Has-append_right, all_has, has_all}
+use Rattle.awari_owner.proofs.Lists.{notes_of-append}
 use Rattle.awari_owner.proofs.Expecting.{timely_still}
 use Rattle.awari_phase.specs.declared.owners.Owner.{Owner}
 use Rattle.awari_phase.specs.declared.faults.PhaseFault.{PhaseFault}

@@ -5,7 +5,8 @@ use Rattle.std.proofs.lemmas.List.Elements.{All-nil}
 use Rattle.awari_rank.specs.Rank.{size_of}
 use Rattle.awari_block.specs.Part.{Part, IsClosed}
 use Rattle.awari_block.specs.Shares.{first_rank}
-use Rattle.awari_owner.specs.Level.{AreSound, IsShare, no_part, part_at}
+use Rattle.awari_owner.specs.Owners.{AreSound, IsShare}
+use Rattle.awari_heard.specs.Level.{no_part, part_at}
 use Rattle.awari_owner.specs.Sound.{IsTimelyNote, OwnerSound}
 use Rattle.awari_owner.proofs.Sounding.{sound_same}
 use Rattle.awari_block.specs.declared.notes.Note.{Note}

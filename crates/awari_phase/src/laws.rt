@@ -3,14 +3,16 @@
 ghost use Rattle.std.specs.Prelude.{◌≡◌, ℕ, ℤ, All, List, length, sum};
 ghost use Rattle.awari_board.specs.Rules.{IsBoard};
 ghost use Rattle.awari_rank.specs.Rank.{rank_of};
-ghost use Rattle.awari_owner.specs.Finish.{IsRightAt};
-ghost use Rattle.awari_owner.specs.Level.{AreHeard, AreSound, AreWhole, known_at, part_at};
+ghost use Rattle.awari_heard.specs.Finish.{IsRightAt};
+ghost use Rattle.awari_heard.specs.Level.{AreHeard, AreWhole, known_at, part_at};
+ghost use Rattle.awari_owner.specs.Owners.{AreSound};
 ghost use Rattle.awari_block.specs.Part.{IsClosed};
 ghost use Rattle.awari_phase.specs.Owners.{AreFinished, AreIdle, AreLooked, AreTogether, coming_notes, parts_of, taken_notes};
 ghost use Rattle.awari_phase.specs.declared.owners.Owner.{Owner};
 ghost use Rattle.awari_phase.specs.declared.owners.TheConstants.{MOST_SPREADS};
 
-use awari_owner::{closed_parts_are_right, sound_parts_are_told};
+use awari_heard::closed_parts_are_right;
+use awari_owner::sound_parts_are_told;
 
 /// Owners that are sound together, and whose rings `settle_owners` looked at, are sound as
 /// `specs/Level.antt` of `awari_owner` defines it. The notes are those that each took from each other

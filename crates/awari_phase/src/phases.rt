@@ -12,7 +12,7 @@ use crate::faults::PhaseFault;
 use crate::gates::Gate;
 use crate::openings::open_waves;
 use crate::owners::Owner;
-use crate::progress::{Progress, Silent, Told};
+use awari_heard::{Progress, Silent, Told};
 use crate::rounding::round_with;
 use crate::settling::settle_owners;
 use std::sync::Wait;

@@ -1,5 +1,5 @@
 -- A finished image is consistent over the shelf, where its parts heard what was due.
-use Rattle.std.proofs.Common.{◌≤◌, List, [], All, length}
+use Rattle.std.proofs.Common.{◌≤◌, List, [], All, length, ◌≡◌, ◌-◌, ◌∷◌, ◌∙◌}
 use Rattle.awari_rank.specs.Rank.{rank_of}
 use Rattle.awari_table.specs.declared.TheConstants.{HIGHEST_LEVEL}
 use Rattle.awari_table.specs.declared.images.Image.{Image}
@@ -7,17 +7,33 @@ use Rattle.awari_table.specs.declared.images.Entry.{Entry}
 use Rattle.awari_table.specs.Images.{table_of}
 use Rattle.awari_table.specs.Shelves.{Consistent, IsShelf}
 use Rattle.awari_table.proofs.CertificateLemmas.{IsCertificate-shelf}
-use Rattle.awari_block.specs.Part.{Part, IsClosed}
-use Rattle.awari_owner.specs.Level.{AreHeard, AreWhole, known_at}
-use Rattle.awari_owner.proofs.Levels.{parts_right}
-use Rattle.awari_play.specs.Planning.{IsPlannedImage}
+use Rattle.awari_block.specs.Part.{Part, IsClosed, cell_at}
+use Rattle.awari_heard.specs.Level.{AreHeard, AreWhole, known_at}
+use Rattle.awari_heard.proofs.Levels.{parts_right}
+use Rattle.awari_play.specs.Planning.{IsPlannedImage, SameSettled}
 use Rattle.awari_play.proofs.Planned.{next_image}
 use Rattle.awari_play.proofs.Tables.{same_settled}
-use Rattle.awari_plan.specs.Finished.{HasSettled, IsFinished, IsKept, IsKeptImage}
-use Rattle.awari_plan.specs.Filling.{PutsBlocks}
+use Rattle.awari_heard.specs.Kept.{HasSettled, IsKept, HasKept, HasStatus, HaveAll}
+use Rattle.awari_plan.specs.Finished.{IsFinished, IsKeptImage}
+use Rattle.awari_heard.specs.Filling.{PutsBlocks}
 use Rattle.awari_plan.proofs.Consistency.{consistent}
-use Rattle.awari_plan.proofs.Blocks.{level_has, puts_whole, settled_alike}
+use Rattle.awari_heard.proofs.Blocks.{level_has, puts_whole}
 use Rattle.awari_plan.proofs.Whole.{kept_lowest}
+use Rattle.awari_block.specs.Tally as tally
+
+-- an entry of the same value and distance has what was settled
+status_alike : (s : tally.Status) (old now : Entry) → now.value ≡ old.value → now.dist ≡ old.dist → HasStatus s old → HasStatus s now
+status_alike (tally.Ended gain) old now value dist h = (value ∙ h.0, dist ∙ h.1)
+status_alike (tally.Open best plans far) old now value dist h = (value ∙ h.0, dist ∙ h.1)
+status_alike (tally.Settled v d plans) old now value dist h = (value ∙ h.0, dist ∙ h.1)
+
+-- entries of the same values and distances have all that was settled, whatever their plans
+pub settled_alike : (parts : List Part) (old now : List Entry) → SameSettled old now → HaveAll HasKept parts old → HaveAll HasSettled parts now
+settled_alike [] old now same has = tt
+settled_alike (part ∷ parts) old now same has = (
+  λ rank inside. status_alike (cell_at part rank).status _ _ (same.value rank) (same.dist rank) (has.0 rank inside).0,
+  settled_alike parts old now same has.1,
+)
 
 pub finished_consistent : (shelf : List Image) (parts : List Part) (image : Image) → IsShelf shelf → length shelf ≤ HIGHEST_LEVEL
     → AreWhole (length shelf) parts → All IsClosed parts → AreHeard (table_of shelf).value parts → IsFinished shelf parts image → Consistent shelf image

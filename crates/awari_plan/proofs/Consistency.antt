@@ -19,10 +19,11 @@ use Rattle.awari_table.specs.Shelves.{Consistent}
 use Rattle.awari_table.proofs.EntryLemmas.{entry_of-append, entry_of-rank}
 use Rattle.awari_block.specs.Tally.{Status, Ended, Open, Settled, Cell}
 use Rattle.awari_block.specs.Cells.{IsWithin}
-use Rattle.awari_owner.specs.Finish.{value_by, dist_by, gains, IsRightAt}
+use Rattle.awari_heard.specs.Finish.{value_by, dist_by, gains, IsRightAt}
 use Rattle.awari_block.specs.Part.{Part}
-use Rattle.awari_owner.specs.Scan.{IsRanged}
-use Rattle.awari_plan.specs.Finished.{HasSettled, HasStatus, IsFinished}
+use Rattle.awari_scan.specs.Scan.{IsRanged}
+use Rattle.awari_heard.specs.Kept.{HasSettled, HasStatus}
+use Rattle.awari_plan.specs.Finished.{IsFinished}
 use Rattle.awari_play.specs.Plan.{Serves}
 use Rattle.awari_play.proofs.Serving.{lowest_ended, lowest_own, lowest_serves, lowest_there}
 

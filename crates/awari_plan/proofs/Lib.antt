@@ -1,4 +1,3 @@
-pub mod Blocks
 pub mod LowestPlans
 pub mod Consistency
 pub mod Whole

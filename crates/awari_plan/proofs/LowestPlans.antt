@@ -10,26 +10,24 @@ use Rattle.awari_board.specs.Tests.{is_legal}
 use Rattle.awari_table.specs.Certificate.{Table}
 use Rattle.awari_table.specs.declared.images.Entry.{Entry}
 use Rattle.awari_block.specs.Notes.{IsQuietMove, Has, is_won, gain_by, is_won_at}
-use Rattle.awari_block.specs.Pits.{has_pit}
+use Rattle.awari_block.specs.Pits.{has_pit, IsLowestIn}
 use Rattle.awari_block.specs.Plain as plain
 use Rattle.awari_block.specs.Plain.{Captures, is_left, Knows, IsPlain}
-use Rattle.awari_block.specs.Steps.{is_best}
+use Rattle.awari_block.specs.Steps.{is_best, even_pits}
 use Rattle.awari_block.specs.declared.notes.Note.{Note}
 use Rattle.awari_block.specs.declared.notes.Kind.{Kind}
 use Rattle.awari_block.specs.declared.notes.Kind.TheVariants.{Won, Lost}
-use Rattle.awari_owner.proofs.Basics.{won_note}
-use Rattle.awari_owner.proofs.Legality.{quiet_counted, counted_quiet}
+use Rattle.awari_block.proofs.NoteLists.{won_note}
+use Rattle.awari_block.proofs.Legality.{quiet_counted, counted_quiet}
 use Rattle.awari_play.specs.Plan.{Serves, IsLowest}
-use Rattle.awari_block.specs.Tally.{Best, Nothing, ByCapture, ByNotes, Cell, Status, Ended, Open, Settled, capture_of, best_gain}
-use Rattle.awari_block.specs.Steps.{even_pits}
-use Rattle.awari_plan.specs.Finished.{HasKept, IsKeptPlan}
-use Rattle.awari_block.specs.Pits.{IsLowestIn}
-use Rattle.awari_block.specs.Tally.{CapturesFrom, KnowsAt, KnownToServe, IsBestGain, IsOfCapture, IsOpenStatus, IsSettledStatus, IsStatus}
-use Rattle.awari_owner.specs.Finish.{value_by, dist_by, IsQuietAt}
+use Rattle.awari_block.specs.Tally.{Best, Nothing, ByCapture, ByNotes, Cell, Status, Ended, Open, Settled, capture_of, best_gain, CapturesFrom, KnowsAt, KnownToServe, IsBestGain, IsOfCapture, IsOpenStatus, IsSettledStatus, IsStatus}
+use Rattle.awari_heard.specs.Kept.{HasKept, IsKeptPlan}
+use Rattle.awari_heard.specs.Finish.{value_by, dist_by, IsQuietAt}
 use Rattle.awari_block.specs.Part.{settled_by}
-use Rattle.awari_owner.proofs.HearingPlans.{unheard_left}
-use Rattle.awari_owner.proofs.PitSets.{has_pit-both}
-use Rattle.awari_owner.proofs.Knowing.{int_eq-true, int_eq-same, or_cases, or_left, or_right, knows_at}
+use Rattle.awari_heard.proofs.HearingPlans.{unheard_left}
+use Rattle.awari_block.proofs.PitSets.{has_pit-both}
+use Rattle.awari_block.proofs.Knowing.{int_eq-true, int_eq-same, or_cases, or_left, or_right, knows_at}
+use Rattle.awari_heard.proofs.Finishing.{small_gain}
 
 -- The table has of p, and of the boards that its moves lead to, what the cells know, and of boards of fewer stones these values.
 pub record TableHas (value : List ℕ → ℤ) (cell : List ℕ → Cell) (t : Table) (p : List ℕ) : Type 0 where
@@ -57,10 +55,6 @@ done_worth (Settled u k plans) v d e =
   where
     some_one : (a b : ℤ × ℕ) → Some a ≡ Some b → a ≡ b
     some_one a b e = cc
-
-small_gain : (k : Kind) (g : ℕ) → 1 ≤ g → gain_by k g <ℤ pos 1 → k ≡ Won
-small_gain Won g h low = refl
-small_gain Lost g h low = absurd (omega (arith, ints))
 
 no_zero_gain : (k : Kind) (g : ℕ) → 1 ≤ g → pos 0 ≡ gain_by k g → ⊥
 no_zero_gain Won g h e = omega (arith, ints)

@@ -6,10 +6,10 @@ use Rattle.awari_block.specs.Tally.{Cell}
 use Rattle.awari_block.specs.declared.notes.Note.{Note}
 use Rattle.awari_board.specs.Rules.{IsBoard}
 use Rattle.awari_board.proofs.Keeping.{IsBoard-next, sum-from_IsMove}
-use Rattle.awari_owner.specs.Finish.{value_by, dist_by, IsQuietAt}
-use Rattle.awari_owner.specs.Level.{AreHeard, AreWhole, known_at}
-use Rattle.awari_owner.proofs.Levels.{quiet_at}
-use Rattle.awari_plan.proofs.Blocks.{level_has}
+use Rattle.awari_heard.specs.Finish.{value_by, dist_by, IsQuietAt}
+use Rattle.awari_heard.specs.Level.{AreHeard, AreWhole, known_at}
+use Rattle.awari_heard.proofs.Levels.{quiet_at}
+use Rattle.awari_heard.proofs.Blocks.{level_has}
 use Rattle.awari_plan.proofs.Consistency.{has_value}
 use Rattle.awari_plan.proofs.LowestPlans.{plan_lowest}
 use Rattle.awari_table.specs.declared.images.Entry.{Entry}
@@ -18,7 +18,7 @@ use Rattle.awari_table.specs.Images.{entry_of, table_of, no_entry}
 use Rattle.awari_table.proofs.EntryLemmas.{entry_of-append, entry_of-rank}
 use Rattle.awari_play.specs.Least.{IsPlannedLowest}
 use Rattle.awari_play.specs.Plan.{IsLowest}
-use Rattle.awari_plan.specs.Finished.{HasKept, IsKept}
+use Rattle.awari_heard.specs.Kept.{HasKept, IsKept}
 
 -- a table has what the cells know
 entered_has : (shelf : List Image) (cell : List ℕ → Cell) (image : Image) → ((p : List ℕ) → IsBoard p → sum p ≡ length shelf → HasKept (cell p) (get_or image.entries (rank_of p) no_entry))

@@ -4,4 +4,3 @@ pub use Rattle.awari_play.specs.BestLine
 pub use Rattle.awari_play.specs.LineFault
 pub use Rattle.awari_play.specs.MoveWorth
 pub mod Finished
-pub mod Filling

@@ -1,7 +1,7 @@
 //! What follows of a level that was finished.
 
 ghost use Rattle.std.specs.Prelude.{◌≤◌, List, All, length};
-ghost use Rattle.awari_owner.specs.Level.{AreHeard, AreWhole};
+ghost use Rattle.awari_heard.specs.Level.{AreHeard, AreWhole};
 ghost use Rattle.awari_block.specs.Part.{Part, IsClosed};
 ghost use Rattle.awari_plan.specs.Finished.{IsFinished};
 ghost use Rattle.awari_table.specs.Images.{table_of};

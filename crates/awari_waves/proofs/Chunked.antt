@@ -15,15 +15,16 @@ use Rattle.awari_block.specs.declared.notes.Kind.TheVariants.{Won, Lost}
 use Rattle.awari_block.specs.declared.notes.Note.{Note}
 use Rattle.awari_block.specs.declared.stakes.Stake.{Stake}
 use Rattle.awari_block.proofs.BlockLemmas.{one_if, times_due-cons}
-use Rattle.awari_owner.specs.Spread.{Hears, HearsTruth, IsSpread, Source}
-use Rattle.awari_owner.specs.Level.{AreHeard, no_part, part_at}
-use Rattle.awari_owner.proofs.Spreading.{IsInjective}
-use Rattle.awari_owner.proofs.Hearing.{spread_before, spread_stays}
+use Rattle.awari_heard.specs.Heard.{Hears, HearsTruth, IsSpread}
+use Rattle.awari_scan.specs.Found.{Source}
+use Rattle.awari_heard.specs.Level.{AreHeard, no_part, part_at}
+use Rattle.awari_heard.proofs.SpreadBoards.{IsInjective, spread_before, spread_stays}
 use Rattle.awari_waves.specs.Lists.{AreDistinct, In}
 use Rattle.awari_waves.specs.Waves.{AreNew, AreSourcesOf, CanAllHear, HearsFrom, TellsBoth, IsCodeFor, IsCut, IsPending, IsQuietCode, SettlesAll, code_by, code_of, codes_to, heard_by, is_noted, note_by, value_of_kind, with_pending}
 use Rattle.awari_waves.proofs.Sources.{Keeps, all_in, codes_distinct, codes_in, distinct_apart, distinct_first, distinct_second, in_codes, in_either, in_first, in_map, in_or_not, in_second, map_append, source_all, source_from, sources_distinct}
 use Rattle.awari_waves.proofs.Laying.{sources_both}
-use Rattle.awari_waves.proofs.Noting.{heard_had, heard_new, heard_note, heard_old, new_all, noted_heard}
+use Rattle.awari_block.proofs.NoteLists.{heard_note}
+use Rattle.awari_waves.proofs.Noting.{heard_had, heard_new, heard_old, new_all, noted_heard}
 
 -- ---- pending boards
 

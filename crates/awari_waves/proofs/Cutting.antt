@@ -8,8 +8,8 @@ use Rattle.awari_rank.specs.Rank.{rank_of, size_of}
 use Rattle.awari_rank.proofs.Examples.{highest}
 use Rattle.awari_rank.proofs.Reaching.{size_of-grows}
 use Rattle.awari_block.specs.Part.{Part, InBlock, IsTallied, settled_at}
-use Rattle.awari_owner.specs.Spread.{Hears}
-use Rattle.awari_owner.specs.Level.{AreBlocks, AreHeard, AreWhole, no_part, part_at}
+use Rattle.awari_heard.specs.Heard.{Hears}
+use Rattle.awari_heard.specs.Level.{AreBlocks, AreHeard, AreWhole, no_part, part_at}
 use Rattle.awari_waves.specs.Each.{NoneAreFresh}
 use Rattle.awari_waves.specs.Scanned.{IsScannedPart}
 use Rattle.awari_waves.specs.Waves.{IsCut}

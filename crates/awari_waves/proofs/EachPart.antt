@@ -3,7 +3,7 @@ use Rattle.std.proofs.Common.{◌≡◌, ◌≢◌, ℕ, ◌+◌, ◌-◌, ◌++
 use Rattle.std.proofs.lemmas.Bool.Decides.{nat_tests}
 use Rattle.std.proofs.lemmas.List.{get_or_append_left, get_or-append_right, get_or_default}
 use Rattle.awari_block.specs.Part.{Part}
-use Rattle.awari_owner.specs.Level.{no_part, part_at}
+use Rattle.awari_heard.specs.Level.{no_part, part_at}
 use Rattle.awari_waves.specs.Each.{Each}
 
 -- of those below k, and the others are as they were

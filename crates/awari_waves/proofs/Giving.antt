@@ -14,7 +14,7 @@ use Rattle.awari_block.specs.declared.notes.Kind.{Kind}
 use Rattle.awari_block.specs.declared.notes.Kind.TheVariants.{Won, Lost}
 use Rattle.awari_block.specs.declared.stakes.Stake.{Stake}
 use Rattle.awari_block.proofs.BlockLemmas.{due_settled, popped, settled_inside, times_due-permuted}
-use Rattle.awari_owner.proofs.Hearing.{settled_value}
+use Rattle.awari_heard.proofs.SpreadBoards.{settled_value}
 use Rattle.awari_waves.specs.Lists.{dues_from, dues_of, list_at, without}
 use Rattle.awari_waves.specs.SegmentFields.{IsAboveZero, IsBelowZero, IsSegment}
 use Rattle.awari_waves.specs.Waves.{GivesFresh, value_of_kind}

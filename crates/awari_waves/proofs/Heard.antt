@@ -4,8 +4,8 @@ use Rattle.std.proofs.lemmas.Bool.{false≢true}
 use Rattle.awari_block.specs.Tally as tally
 use Rattle.awari_block.specs.Tally.{Best}
 use Rattle.awari_block.specs.Steps.{after_note, cell_after_note}
-use Rattle.awari_block.specs.Cells.{is_settled, status_by, view_of}
-use Rattle.awari_block.specs.Part.{settled_by}
+use Rattle.awari_block.specs.Cells.{is_settled, status_by, view_of, Fits, Keeps, SettlesTimely}
+use Rattle.awari_block.specs.Part.{settled_by, Part, InBlock, stored_at}
 use Rattle.awari_block.specs.declared.cells.Cell.{Cell}
 use Rattle.awari_block.specs.declared.cells.Mark.{Mark}
 use Rattle.awari_block.specs.declared.cells.Mark.TheVariants as mark
@@ -15,9 +15,7 @@ use Rattle.std.proofs.lemmas.List.{get_or_default}
 use Rattle.awari_block.specs.Awaited.{AwaitsNoMore}
 use Rattle.awari_block.specs.Blocks.{no_cell}
 use Rattle.awari_block.specs.Boards.{CanPut, stake_of}
-use Rattle.awari_block.specs.Cells.{Fits, Keeps, SettlesTimely}
-use Rattle.awari_block.specs.Part.{Part, InBlock, stored_at}
-use Rattle.awari_owner.proofs.Hearing.{settled_value}
+use Rattle.awari_heard.proofs.SpreadBoards.{settled_value}
 use Rattle.awari_waves.specs.Each.{IsFarther}
 use Rattle.awari_waves.specs.declared.segments.Segment.TheInside.{Inside}
 use Rattle.awari_waves.proofs.Joining.{seen}

@@ -14,13 +14,14 @@ use Rattle.awari_block.specs.Blocks.{Due, cell_in, due_dist, due_rank, is_settle
 use Rattle.awari_block.specs.Part.{Part, InBlock, part_of}
 use Rattle.awari_block.specs.Boards.{Settles}
 use Rattle.awari_block.specs.declared.cells.Cell.{Cell}
-use Rattle.awari_block.proofs.BlockLemmas.{JoinsIf, cell_in-same, due_settled, one_if, popped, put_joined, put_joins, put_kept, put_stays, put_unspread, settled_inside}
+use Rattle.awari_block.proofs.BlockLemmas.{JoinsIf, cell_in-same, due_settled, one_if, put_joined, put_joins, put_kept, put_stays, put_unspread, settled_inside}
 use Rattle.awari_block.proofs.Freshness.{fresh_of_block}
 use Rattle.awari_waves.specs.Lists.{dues_from, dues_of, with_put}
 use Rattle.awari_waves.specs.SegmentFields.{AreOfScore, IsAboveZero, IsBelowZero, IsSegment}
 use Rattle.awari_waves.specs.Waves.{StaysPassed}
 use Rattle.awari_waves.specs.declared.segments.Segment.TheInside.{Inside}
 use Rattle.awari_block.proofs.Awaiting.{awaited_put}
+use Rattle.awari_block.proofs.Settling.{not_new, alike}
 
 -- ---- one more in a list
 
@@ -89,18 +90,6 @@ pub replaces : (a : Inside) (part : Part) (rank : ℕ) (old new : Cell) → seen
 replaces a part rank old new view held read fits keeps timely awaits =
     let here : InBlock (seen a) rank = subst (λ (o : Part). InBlock o rank) (sym view) held in
     record { held = here; was = get_or_default a.cells.items (rank - a.start) no_cell old here.1 ∙ sym read; fits = fits; keeps = keeps; timely = timely; awaits = awaits }
-
-not_new : (a b : Bool) → (a ≡ true → b ≡ true) → (a && not b) ≡ false
-not_new true b back = ap not (back refl)
-not_new false b back = refl
-
-alike : (old new : Cell) → Keeps old new → (b : Bool) → is_settled old.mark ≡ b → (is_settled new.mark ≡ true → b ≡ true) → is_settled new.mark ≡ is_settled old.mark
-alike old new keeps true was back = ap is_settled (keeps was).0
-alike old new keeps false was back = by (is_settled new.mark) refl
-  where
-    by : (b : Bool) → is_settled new.mark ≡ b → is_settled new.mark ≡ is_settled old.mark
-    by true e = absurd (false≢true (back e))
-    by false e = e ∙ sym was
 
 module _ (a : Inside) (sound : IsSegment a) (rank : ℕ) (old new : Cell) (put : Replaces a rank old new) where
   abbrev fresh : List Due

@@ -1,12 +1,12 @@
 -- The same boards, of which those that were settled keep value and distance.
-use Rattle.std.proofs.Common.{◌≡◌, ℕ, ◌<◌, ◌≤◌, List, length, refl, sym, ap, subst, ◌∙◌, arith}
+use Rattle.std.proofs.Common.{◌≡◌, ℕ, List, refl, sym, subst, ◌∙◌, arith}
 use Rattle.awari_block.specs.Blocks.{cell_in}
 use Rattle.awari_block.specs.Boards.{Settles}
 use Rattle.awari_block.specs.Cells.{Keeps}
 use Rattle.awari_block.specs.Part.{Part}
 use Rattle.awari_block.proofs.BlockLemmas.{keeps_both, keeps_same}
-use Rattle.awari_owner.specs.Level.{part_at}
-use Rattle.awari_owner.specs.Spread.{SameBlock}
+use Rattle.awari_heard.specs.Level.{part_at}
+use Rattle.awari_heard.specs.Heard.{SameBlock}
 use Rattle.awari_waves.specs.Each.{Each, KeepsBoards, IsAtWave, OpensSegment}
 
 pub keeps_none : (part : Part) → KeepsBoards part part

@@ -8,11 +8,9 @@ use Rattle.awari_rank.proofs.Ranking.{rank_of-below}
 use Rattle.awari_block.specs.Notes.{IsQuietMove}
 use Rattle.awari_unmove.specs.Predecessors.{IsPredecessors}
 use Rattle.awari_unmove.proofs.Walking.{IsQuiet-next}
-use Rattle.awari_owner.specs.Found.{Lists}
-use Rattle.awari_owner.specs.Spread.{Source}
-use Rattle.awari_owner.specs.declared.targets.Target.{Target}
-use Rattle.awari_owner.proofs.Finding.{Lists-at}
-use Rattle.awari_owner.proofs.Telling.{IsNext}
+use Rattle.awari_scan.specs.Found.{Lists, Source}
+use Rattle.awari_scan.specs.declared.targets.Target.{Target}
+use Rattle.awari_scan.proofs.Finding.{Lists-at, IsNext, split_left}
 use Rattle.awari_block.specs.declared.notes.Kind.{Kind}
 use Rattle.awari_waves.specs.Lists.{In, list_at, with_put}
 use Rattle.awari_waves.specs.Rows.{lists_by, notes_at}
@@ -84,10 +82,6 @@ pub record IsLaying (span : ℕ) (old now : List (List ℕ)) (q : List ℕ) (tar
 pub IsLaying-none : (span : ℕ) (old : List (List ℕ)) (q : List ℕ) (targets : List Target) (n : ℕ) → ((sources : List Source) × IsPredecessors q sources × Lists targets n sources)
     → IsLaying span old old q targets n 0
 IsLaying-none span old q targets n found = record { seen = []; left = found.0; many = refl; predecessors = found.1; listed = found.2; laid = puts_none span old }
-
-split_left : (seen left : List Source) → length seen < length (seen ++ left) → (y : Source) × (more : List Source) × (left ≡ y ∷ more)
-split_left seen [] less = (let none = ap length (append-nil seen) in absurd (omega (arith, less, none)))
-split_left seen (y ∷ more) less = (y, more, refl)
 
 pub IsLaying-next : (span level : ℕ) (old now : List (List ℕ)) (q : List ℕ) (targets : List Target) (n k : ℕ) (d : Target)
     → ((p : List ℕ) (x : ℕ) → IsBoard p → IsQuietMove p x q → sum q + 0 ≡ sum p) → sum q ≡ level

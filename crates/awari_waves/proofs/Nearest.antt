@@ -1,5 +1,5 @@
 -- Which distance is due: of two lists of boards, and of the segments one after the other.
-use Rattle.std.proofs.Common.{◌≡◌, ℕ, ℤ, zero, suc, ◌+◌, ◌<◌, ◌≤◌, ◌++◌, min, Bool, true, false, nat_le, ◌==◌, ◌≢◌, eqb-true, All, IfNone, IfSome, List, [], ◌∷◌, length, get_or, map, Option, None, Some, refl, sym, subst, subst₂, ap, ◌∙◌, true≢false, arith}
+use Rattle.std.proofs.Common.{◌≡◌, ℕ, zero, suc, ◌+◌, ◌<◌, ◌≤◌, ◌++◌, min, Bool, true, false, nat_le, ◌==◌, ◌≢◌, eqb-true, All, IfNone, IfSome, List, [], ◌∷◌, length, get_or, map, Option, None, Some, refl, sym, subst, subst₂, ap, ◌∙◌, true≢false, arith}
 use Rattle.std.specs.Option.{option_eq}
 use Rattle.std.proofs.lemmas.Bool.Decides.{nat_tests}
 use Rattle.std.proofs.lemmas.List.{get_or_default}
@@ -8,7 +8,7 @@ use Rattle.awari_block.specs.Blocks.{Due, due_dist, due_rank, times_due}
 use Rattle.awari_block.specs.Part.{InBlock, IsFreshIn, Part, settled_at}
 use Rattle.awari_block.proofs.BlockLemmas.{one_if, times_due-cons}
 use Rattle.awari_block.proofs.Freshness.{fresh_of_block}
-use Rattle.awari_owner.specs.Level.{no_part, part_at}
+use Rattle.awari_heard.specs.Level.{no_part, part_at}
 use Rattle.awari_waves.specs.Each.{AreFrom, HasFresh, NoneAreFresh, HasDue, nearer_of}
 use Rattle.awari_waves.specs.Lists.{dues_from, dues_of, list_at}
 use Rattle.awari_waves.specs.SegmentFields.{IsSegment}

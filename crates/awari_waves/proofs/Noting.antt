@@ -1,7 +1,7 @@
 -- Which notes there are once those of some codes came in.
-use Rattle.std.proofs.Common.{◌≡◌, ℕ, ◌/◌, ◌==◌, ◌⊎◌, inl, inr, Bool, true, false, cond, ◌||◌, List, [], ◌∷◌, refl, sym, subst, arith, eqb-true}
+use Rattle.std.proofs.Common.{◌≡◌, ℕ, ◌/◌, ◌==◌, ◌⊎◌, inl, inr, true, false, cond, List, [], ◌∷◌, refl, sym, subst, arith}
 use Rattle.std.proofs.lemmas.Bool.Decides.{nat_tests}
-use Rattle.awari_block.specs.Notes.{Has, is_heard_at}
+use Rattle.awari_block.specs.Notes.{Has}
 use Rattle.awari_block.specs.Part.{notes_for}
 use Rattle.awari_block.specs.declared.notes.Kind.{Kind}
 use Rattle.awari_block.specs.declared.notes.Note.{Note}
@@ -9,23 +9,7 @@ use Rattle.awari_block.specs.declared.stakes.Stake.{Stake}
 use Rattle.awari_waves.specs.Lists.{AreDistinct, In}
 use Rattle.awari_waves.specs.Waves.{AreNew, IsQuietCode, heard_by, is_noted, note_by}
 use Rattle.awari_waves.proofs.Telling.{noted_other}
-
--- notes that were there are there still
-has_more : (r : ℕ) (m k : Note) (notes : List Note) → Has (notes_for r notes) k → Has (notes_for r (m ∷ notes)) k
-has_more r m k notes has = at (m.target == r)
-  where
-    at : (b : Bool) → Has (cond b (m ∷ notes_for r notes) (notes_for r notes)) k
-    at true = inr has
-    at false = has
-
--- a note that is there was there, or is the new one
-had_before : (r : ℕ) (m k : Note) (notes : List Note) → Has (notes_for r (m ∷ notes)) k → Has (notes_for r notes) k ⊎ ((k ≡ m) × (m.target ≡ r))
-had_before r m k notes = at (m.target == r) refl
-  where
-    at : (b : Bool) → (m.target == r) ≡ b → Has (cond b (m ∷ notes_for r notes) (notes_for r notes)) k → Has (notes_for r notes) k ⊎ ((k ≡ m) × (m.target ≡ r))
-    at true e (inl same) = inr (same, eqb-true m.target r e)
-    at true e (inr has) = inl has
-    at false e has = inl has
+use Rattle.awari_block.proofs.NoteLists.{has_more, had_before}
 
 has_here : (m : Note) (notes : List Note) → Has (notes_for m.target (m ∷ notes)) m
 has_here m notes = subst (λ b. Has (cond b (m ∷ notes_for m.target notes) (notes_for m.target notes)) m) (sym (eqb_self m.target)) (inl refl)
@@ -60,11 +44,3 @@ noted_heard stake kind (d ∷ codes) notes c apart none =
 pub new_all : (level : ℕ) (codes : List ℕ) (notes : List Note) → ((c : ℕ) → In codes c → IsQuietCode level c × (is_noted notes c ≡ false)) → AreDistinct codes → AreNew level codes notes
 new_all level [] notes each apart = tt
 new_all level (c ∷ codes) notes each apart = let here = each c (inl refl) in (here.0, here.1, apart.0, new_all level codes notes (λ d h. each d (inr h)) apart.1)
-
-pub heard_note : (notes : List Note) (x : ℕ) → is_heard_at notes x ≡ true → (m : Note) × Has notes m × (m.pit ≡ x)
-heard_note [] x h = absurd (cc)
-heard_note (k ∷ notes) x h = first (k.pit == x) refl (heard_note notes x)
-  where
-    first : (a : Bool) → (k.pit == x) ≡ a → (is_heard_at notes x ≡ true → (m : Note) × Has notes m × (m.pit ≡ x)) → (m : Note) × Has (k ∷ notes) m × (m.pit ≡ x)
-    first true e other = (k, inl refl, eqb-true k.pit x e)
-    first false e other = let rest = other (subst (λ b. (b || is_heard_at notes x) ≡ true) e h) in (rest.0, inr rest.1, rest.2)

@@ -7,11 +7,11 @@ use Rattle.awari_block.specs.Part.{InBlock, IsTallied, JoinsFresh, Part, cell_at
 use Rattle.awari_block.specs.declared.notes.Note.{Note}
 use Rattle.awari_block.specs.declared.stakes.Stake.{Stake}
 use Rattle.awari_block.proofs.Settling.{same_stake, settles_none}
-use Rattle.awari_owner.specs.Level.{AreBlocks, AreHeard, AreWhole, no_part, part_at}
-use Rattle.awari_owner.specs.Spread.{Hears, SameBlock}
-use Rattle.awari_owner.proofs.Gains.{opened}
-use Rattle.awari_owner.proofs.Hearing.{spread_before, spread_stays}
-use Rattle.awari_owner.proofs.PlannedTallies.{wave_tally}
+use Rattle.awari_heard.specs.Level.{AreBlocks, AreHeard, AreWhole, no_part, part_at}
+use Rattle.awari_heard.specs.Heard.{Hears, SameBlock}
+use Rattle.awari_heard.proofs.Gains.{opened}
+use Rattle.awari_heard.proofs.SpreadBoards.{spread_before, spread_stays}
+use Rattle.awari_heard.proofs.PlannedTallies.{wave_tally}
 use Rattle.awari_waves.specs.Each.{CanOpen, CanOpenWave, Each, OpensSegment, IsAtWave, at_gain}
 use Rattle.awari_waves.specs.Waves.{IsCut}
 

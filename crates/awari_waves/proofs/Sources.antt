@@ -6,8 +6,8 @@ use Rattle.awari_board.specs.Rules.{IsBoard, next_board}
 use Rattle.awari_rank.specs.Rank.{rank_of}
 use Rattle.awari_block.specs.Notes.{IsQuietMove}
 use Rattle.awari_unmove.specs.Predecessors.{ComesBefore}
-use Rattle.awari_owner.specs.Spread.{Source}
-use Rattle.awari_owner.proofs.Spreading.{IsInjective}
+use Rattle.awari_scan.specs.Found.{Source}
+use Rattle.awari_heard.proofs.SpreadBoards.{IsInjective}
 use Rattle.awari_waves.specs.Lists.{AreDistinct, In}
 use Rattle.awari_waves.specs.Waves.{AreSourcesOf, code_of, codes_to}
 

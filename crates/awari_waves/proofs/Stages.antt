@@ -4,7 +4,7 @@ use Rattle.std.specs.Vec.{with_items}
 use Rattle.std.proofs.lemmas.List.{get_or_default, with_items_is}
 use Rattle.awari_block.specs.Part.{Part, IsClosed}
 use Rattle.awari_block.specs.declared.stakes.Stake.{Stake}
-use Rattle.awari_owner.specs.Level.{no_part}
+use Rattle.awari_heard.specs.Level.{no_part}
 use Rattle.awari_waves.specs.Each.{AreFrom, NoneAreFresh, CanOpen, CanOpenWave, Each}
 use Rattle.awari_waves.specs.Waves.{IsCut, IsPassed}
 

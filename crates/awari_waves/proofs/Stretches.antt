@@ -6,7 +6,7 @@ use Rattle.std.proofs.lemmas.Nat.{div-add-mod', mod_below}
 use Rattle.std.proofs.Math.Nat.{add-mul, mul-le-mul_right, one-mul, suc-mul}
 use Rattle.awari_rank.specs.Rank.{size_of}
 use Rattle.awari_block.specs.Part.{Part}
-use Rattle.awari_owner.specs.Level.{no_part, part_at}
+use Rattle.awari_heard.specs.Level.{no_part, part_at}
 use Rattle.awari_waves.specs.Scanned.{AreScannedFrom, CanScanFrom, IsScannedPart}
 use Rattle.awari_waves.proofs.Cutting.{AreScannedTo, scanned-more}
 

@@ -9,9 +9,9 @@ use Rattle.awari_block.specs.declared.notes.Kind.{Kind}
 use Rattle.awari_block.specs.declared.notes.Kind.TheVariants.{Lost, Won}
 use Rattle.awari_block.specs.declared.notes.Note.{Note}
 use Rattle.awari_block.specs.declared.stakes.Stake.{Stake}
-use Rattle.awari_owner.proofs.Spreading.{IsInjective}
-use Rattle.awari_owner.proofs.PlannedTallies.{unheard_told}
-use Rattle.awari_owner.proofs.Taking.{IsTakeable, added_heard}
+use Rattle.awari_heard.proofs.SpreadBoards.{IsInjective}
+use Rattle.awari_heard.proofs.PlannedTallies.{unheard_told}
+use Rattle.awari_heard.proofs.Taking.{IsTakeable, added_heard}
 use Rattle.awari_waves.proofs.Sources.{all_in, each_in, in_first, in_second}
 use Rattle.awari_waves.specs.Lists.{In, list_at}
 use Rattle.awari_waves.specs.Rows.{lists_by, notes_at}

@@ -13,8 +13,8 @@ use Rattle.awari_block.specs.declared.notes.Kind.TheVariants.{Won, Lost}
 use Rattle.awari_block.specs.declared.notes.Note.{Note}
 use Rattle.awari_block.specs.declared.stakes.Stake.{Stake}
 use Rattle.awari_block.proofs.BlockLemmas.{one_if, times_due-cons, times_due-permuted}
-use Rattle.awari_owner.specs.Spread.{Hears, IsSpread}
-use Rattle.awari_owner.specs.Level.{AreHeard, no_part, part_at}
+use Rattle.awari_heard.specs.Heard.{Hears, IsSpread}
+use Rattle.awari_heard.specs.Level.{AreHeard, no_part, part_at}
 use Rattle.awari_waves.specs.Lists.{AreDistinct, In}
 use Rattle.awari_waves.specs.Fronts.{IsFront}
 use Rattle.awari_waves.specs.declared.chunks.Front.{Front}

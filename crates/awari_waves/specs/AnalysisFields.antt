@@ -1,7 +1,7 @@
 -- The fields of an analysis.
 use Rattle.std.specs.Prelude.{◌+◌, ◌^◌, ◌<◌, ◌≤◌, vec_len}
 use Rattle.awari_rank.specs.Rank.{size_of}
-use Rattle.awari_owner.specs.Level.{AreWhole}
+use Rattle.awari_heard.specs.Level.{AreWhole}
 use Rattle.awari_waves.specs.Fronts.{IsRoom}
 use Rattle.awari_waves.specs.Waves.{IsCut}
 use Rattle.awari_waves.specs.declared.analyses.Analysis.TheInside.{Inside}

@@ -5,8 +5,8 @@ use Rattle.awari_block.specs.Cells.{is_settled}
 use Rattle.awari_block.specs.Part.{Part, InBlock, settled_at, stored_at}
 use Rattle.awari_block.specs.declared.cells.Cell.{Cell}
 use Rattle.awari_block.specs.Boards.{OpensCells, Settles}
-use Rattle.awari_owner.specs.Level.{part_at}
-use Rattle.awari_owner.specs.Spread.{SameBlock}
+use Rattle.awari_heard.specs.Level.{part_at}
+use Rattle.awari_heard.specs.Heard.{SameBlock}
 
 -- of each of these parts and the one that takes its place this holds
 pub record Each (P : Part → Part → Type 0) (old new : List Part) : Type 0 where

@@ -3,8 +3,8 @@ use Rattle.std.specs.Prelude.{◌≡◌, ℕ, ◌+◌, ◌*◌, ◌^◌, ◌<◌
 use Rattle.awari_rank.specs.Rank.{size_of}
 use Rattle.awari_table.specs.declared.TheConstants.{HIGHEST_LEVEL}
 use Rattle.awari_block.specs.Part.{Part}
-pub use Rattle.awari_owner.specs.Scan.{IsScannedPart}
-use Rattle.awari_owner.specs.Level.{part_at}
+pub use Rattle.awari_scan.specs.Scan.{IsScannedPart}
+use Rattle.awari_heard.specs.Level.{part_at}
 
 -- The level of n stones can be cut in blocks of `span` boards each, and has `count` of them, at least one, from number `first` on.
 pub record CanScanFrom (n span first count : ℕ) : Type 0 where

@@ -12,8 +12,8 @@ use Rattle.awari_block.specs.declared.notes.Kind.{Kind}
 use Rattle.awari_block.specs.declared.notes.Kind.TheVariants.{Won, Lost}
 use Rattle.awari_block.specs.declared.notes.Note.{Note}
 use Rattle.awari_block.specs.declared.stakes.Stake.{Stake}
-use Rattle.awari_owner.specs.Spread.{Source}
-use Rattle.awari_owner.specs.Level.{AreHeard, part_at}
+use Rattle.awari_scan.specs.Found.{Source}
+use Rattle.awari_heard.specs.Level.{AreHeard, part_at}
 use Rattle.awari_waves.specs.Each.{KeepsBoards}
 use Rattle.awari_waves.specs.Lists.{AreDistinct, In, list_at}
 

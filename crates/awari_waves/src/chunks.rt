@@ -1,9 +1,8 @@
 //! A chunk of fresh boards is spread: their notes are found, and then heard block by block.
 
-ghost use Rattle.std.specs.Prelude.{◌≡◌, ℕ, ◌+◌, ◌-◌, ◌^◌, ◌<◌, ◌≤◌, All, OnOk, length, take};
+ghost use Rattle.std.specs.Prelude.{◌≡◌, ◌+◌, ◌-◌, ◌^◌, ◌<◌, ◌≤◌, OnOk, length, take};
 ghost use Rattle.std.specs.Thread.{IsSync};
 ghost use Rattle.awari_block.specs.declared.notes.Kind.TheVariants.{Lost, Won};
-ghost use Rattle.awari_owner.specs.Level.{part_at};
 ghost use Rattle.awari_waves.specs.Lists.{list_at};
 ghost use Rattle.awari_waves.specs.Rows.{notes_at};
 ghost use Rattle.awari_waves.specs.Fronts.{ArePending, IsFront, IsRoom};
@@ -15,7 +14,7 @@ use crate::segments::Segment;
 use awari_block::Stake;
 use awari_board::moves_keep_boards;
 use awari_index::Index;
-use awari_owner::{MOST_PREDECESSORS, Target};
+use awari_scan::{MOST_PREDECESSORS, Target};
 use awari_rank::ranks_tell_boards_apart;
 use rayon::join_mut;
 use std::alloc::AllocError;

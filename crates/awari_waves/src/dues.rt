@@ -1,6 +1,6 @@
 //! Which distance is due: the least of a fresh board.
 
-ghost use Rattle.std.specs.Prelude.{◌≡◌, ◌≤◌, IfNone, IfSome, length};
+ghost use Rattle.std.specs.Prelude.{◌≡◌, ◌≤◌, IfNone, IfSome};
 ghost use Rattle.awari_waves.specs.Each.{AreFrom, NoneAreFresh, HasDue, nearer_of};
 
 use crate::segments::Segment;

@@ -1,6 +1,6 @@
 //! The notes that the boards of a chunk give, laid into a list for each block. No cell is read or written.
 
-ghost use Rattle.std.specs.Prelude.{◌≡◌, ℕ, ◌+◌, ◌*◌, ◌/◌, ◌^◌, ◌<◌, ◌≤◌, ◌∷◌, [], List, All, OnOk, length, sum};
+ghost use Rattle.std.specs.Prelude.{◌≡◌, ◌+◌, ◌*◌, ◌/◌, ◌^◌, ◌<◌, ◌≤◌, ◌∷◌, [], All, OnOk, length, sum};
 ghost use Rattle.awari_board.specs.Rules.{IsBoard};
 ghost use Rattle.awari_rank.specs.Rank.{rank_of, size_of};
 ghost use Rattle.awari_waves.specs.Ahead.{AreBoards};
@@ -10,7 +10,7 @@ ghost use Rattle.awari_waves.specs.Waves.{Finds, code_by};
 use crate::lists::Lists;
 use awari_board::moves_keep_boards;
 use awari_index::Index;
-use awari_owner::{Target, find_all};
+use awari_scan::{Target, find_all};
 use awari_packed::PackedBoard;
 use std::alloc::AllocError;
 

@@ -1,6 +1,6 @@
 //! A gain is opened in all segments, several side by side, and a distance.
 
-ghost use Rattle.std.specs.Prelude.{OnOk, length};
+ghost use Rattle.std.specs.Prelude.{OnOk};
 ghost use Rattle.std.specs.Thread.{IsSync};
 ghost use Rattle.awari_waves.specs.Each.{CanOpen, CanOpenWave, Each, OpensSegment, IsAtWave};
 

@@ -5,14 +5,14 @@ ghost use Rattle.std.specs.Thread.{IsSync};
 ghost use Rattle.awari_rank.specs.Rank.{size_of};
 ghost use Rattle.awari_table.specs.Images.{table_of};
 ghost use Rattle.awari_table.specs.declared.TheConstants.{HIGHEST_LEVEL};
-ghost use Rattle.awari_owner.specs.Level.{AreHeard, AreWhole};
+ghost use Rattle.awari_heard.specs.Level.{AreHeard, AreWhole};
 ghost use Rattle.awari_waves.specs.Each.{NoneAreFresh};
 ghost use Rattle.awari_waves.specs.Scanned.{AreScannedFrom, CanScanFrom, IsScannedPart};
 ghost use Rattle.awari_waves.specs.Waves.{IsCut};
 
 use crate::segments::Segment;
 use awari_index::Index;
-use awari_owner::scanned_cells;
+use awari_scan::scanned_cells;
 use awari_rank::size;
 use awari_table::Shelf;
 use std::alloc::{AllocError, Global};

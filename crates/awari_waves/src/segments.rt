@@ -1,8 +1,8 @@
 //! A block of the boards of a level, and which of them are fresh, in lists by distance.
 
-ghost use Rattle.std.specs.Prelude.{◌≡◌, ℕ, ℤ, ◌+◌, ◌-◌, ◌/◌, ◌%◌, ◌^◌, ◌<◌, ◌≤◌, ◌++◌, IsTrue, List, [], true, All, IfNone, IfOk, IfSome, OnOk, Some, length, slice_set, vec_len};
+ghost use Rattle.std.specs.Prelude.{◌≡◌, ℕ, ◌+◌, ◌-◌, ◌/◌, ◌%◌, ◌^◌, ◌<◌, ◌≤◌, ◌++◌, IsTrue, List, [], true, All, IfNone, IfOk, IfSome, OnOk, Some, length, slice_set, vec_len};
 ghost use Rattle.awari_block.specs.declared.notes.Kind.TheVariants.{Lost, Won};
-ghost use Rattle.awari_block.specs.Part.{Part as PartView, AreFresh, InBlock, IsClosed, settled_at, stored_at};
+ghost use Rattle.awari_block.specs.Part.{Part as PartView, AreFresh, IsClosed, stored_at};
 ghost use Rattle.awari_rank.specs.Rank.{size_of};
 ghost use Rattle.awari_block.specs.Blocks.{due_dist};
 ghost use Rattle.awari_block.specs.Cells.{FitsBy, is_settled};

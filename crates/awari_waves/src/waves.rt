@@ -1,9 +1,9 @@
 //! A wave: all fresh boards of the open wave are spread, a chunk after the other.
 
-ghost use Rattle.std.specs.Prelude.{◌≡◌, ℕ, ℤ, ◌+◌, ◌^◌, ◌<◌, ◌≤◌, [], List, All, OnOk, length};
+ghost use Rattle.std.specs.Prelude.{◌≡◌, ℕ, ℤ, ◌+◌, ◌^◌, ◌<◌, [], List, All, OnOk, length};
 ghost use Rattle.awari_block.specs.Part.{Part as PartView};
 ghost use Rattle.awari_block.specs.declared.stakes.Stake.{Stake as StakeView};
-ghost use Rattle.awari_owner.specs.Level.{AreHeard};
+ghost use Rattle.awari_heard.specs.Level.{AreHeard};
 ghost use Rattle.awari_waves.specs.Each.{Each, KeepsBoards};
 ghost use Rattle.awari_waves.specs.Fronts.{ArePending, IsFront, IsRoom};
 ghost use Rattle.awari_waves.specs.Waves.{IsPassed, IsWaving};

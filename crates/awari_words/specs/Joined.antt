@@ -1,5 +1,5 @@
 -- Words in which a span that begins below zero is joined to the option before it: `--value -3..2` is `--value=-3..2`.
-use Rattle.std.specs.Prelude.{ℕ, Bool, true, false, ◌&&◌, ◌||◌, ◌==◌, if◌then◌else◌, List, [], ◌∷◌, ◌++◌, codes, nat_le}
+use Rattle.std.specs.Prelude.{ℕ, Bool, false, ◌&&◌, ◌||◌, ◌==◌, if◌then◌else◌, List, [], ◌∷◌, ◌++◌, codes, nat_le}
 use Rattle.std.specs.Str.{bytes_eq}
 
 -- the option has a span as its value

@@ -4,7 +4,7 @@ use Rattle.std.specs.Str.Parse.{IsNumeral, digits_value, without_leading_plus}
 use Rattle.clap.specs.Matches.{found_of}
 use Rattle.clap.specs.Walk.{Row, all_of, first_of, one_of, rows_of, texts}
 use Rattle.clap.specs.declared.parser.matches.ArgMatches.{ArgMatches}
-use Rattle.awari_block.specs.declared.paces.Pace.{Pace}
+use Rattle.awari_pace.specs.declared.paces.Pace.{Pace}
 use Rattle.awari_words.specs.declared.requests.Question.{Question}
 use Rattle.awari_words.specs.declared.requests.Question.TheVariants.{Verify, Text, Ask, Moves, Line, Serve, Counts, Boards}
 use Rattle.awari_words.specs.declared.requests.Request.{Request}

@@ -5,7 +5,7 @@ ghost use Rattle.clap.specs.declared.builder.value_parser.ValueParser.TheVariant
 ghost use Rattle.awari_words.specs.Commands.{board, flag, folder, folder_word, json, level, levels, levels_wish, moves, number, number_option, number_or_0, option, start_folder, threads, top, unverified};
 ghost use Rattle.awari_words.specs.Making.{IsArg};
 
-use awari_block::{MOST_OWNERS, MOST_ROOM, MOST_SWEEPS};
+use awari_pace::{MOST_OWNERS, MOST_ROOM, MOST_SWEEPS};
 use awari_table::HIGHEST_LEVEL;
 use clap::builder::ValueParser;
 use clap::{Arg, ArgAction, value_parser};

@@ -20,7 +20,7 @@ ghost use Rattle.awari_words.specs.Requests.{
 };
 
 use crate::commands::commands;
-use awari_block::Pace;
+use awari_pace::Pace;
 use clap::{ArgMatches, Error};
 use std::alloc::Global;
 use std::convert::AsStr;

@@ -1,5 +1,5 @@
 use Rattle.std.proofs.Common.{◌≡◌, length, []}
-use Rattle.awari_owner.specs.Scan.{IsWhole}
+use Rattle.awari_heard.specs.Level.{IsWhole}
 use Rattle.awari_table.specs.Images.{table_of}
 use Rattle.awari_build.specs.Sound.{IsSoundPart}
 use Rattle.awari_build.proofs.alone.settled_part.Given as goal

@@ -1,6 +1,6 @@
 use Rattle.std.proofs.Common.{◌≡◌, ℕ, ℤ, List, length}
 use Rattle.awari_block.specs.Part.{unspread}
-use Rattle.awari_owner.specs.Scan.{IsWhole}
+use Rattle.awari_heard.specs.Level.{IsWhole}
 use Rattle.awari_build.specs.Sound.{IsSoundPart}
 use Rattle.awari_build.proofs.alone.spread_all.Given as goal
 

@@ -1,6 +1,6 @@
 use Rattle.std.proofs.Common.{ℕ, ℤ, List, length, Ok, inl, inr, ap, sym, subst, ◌∙◌, arith}
 use Rattle.awari_block.specs.Part.{Part, HasFarthest}
-use Rattle.awari_owner.specs.Scan.{IsWhole}
+use Rattle.awari_heard.specs.Level.{IsWhole}
 use Rattle.awari_owner.proofs.SpreadFaults.{fault_due}
 use Rattle.awari_owner.proofs.Sharing.{whole_part}
 use Rattle.awari_build.specs.Sound.{IsSoundPart}

@@ -4,7 +4,7 @@ use Rattle.awari_table.specs.Shelves.{Consistent}
 use Rattle.awari_table.specs.declared.rules.Distances.TheVariants.{Least}
 use Rattle.awari_table.proofs.ShelfLemmas.{IsLevel-consistent, IsShelf-push}
 use Rattle.awari_theory.proofs.Truths.{TellsTruth-shelf}
-use Rattle.awari_owner.specs.Level.{AreHeard, AreWhole}
+use Rattle.awari_heard.specs.Level.{AreHeard, AreWhole}
 use Rattle.awari_block.specs.Part.{Part, IsClosed}
 use Rattle.awari_plan.specs.Least.{IsPlannedLowest}
 use Rattle.awari_build.proofs.owned.level_of.Given as given

@@ -5,7 +5,7 @@ use Rattle.awari_table.specs.declared.rules.Distances.TheVariants.{Least}
 use Rattle.awari_table.proofs.ShelfLemmas.{IsLevel-consistent, IsShelf-push}
 use Rattle.awari_theory.proofs.Truths.{TellsTruth-shelf}
 use Rattle.awari_block.specs.Part.{Part}
-use Rattle.awari_owner.specs.Level.{AreHeard}
+use Rattle.awari_heard.specs.Level.{AreHeard}
 use Rattle.awari_plan.specs.Least.{IsPlannedLowest}
 use Rattle.awari_build.proofs.together.level_of.Given as given
 use Rattle.awari_build.proofs.together.level_of.Goals as goal

@@ -1,6 +1,6 @@
 use Rattle.std.proofs.Common.{◌≡◌, length}
 use Rattle.awari_table.specs.Images.{table_of}
-use Rattle.awari_owner.specs.Level.{AreHeard}
+use Rattle.awari_heard.specs.Level.{AreHeard}
 use Rattle.awari_waves.specs.Each.{NoneAreFresh}
 use Rattle.awari_build.proofs.together.settled_level.Given as goal
 

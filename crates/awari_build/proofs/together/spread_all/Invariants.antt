@@ -1,5 +1,5 @@
 use Rattle.std.proofs.Common.{◌≡◌, ℕ, ℤ, ◌-◌, ◌^◌, ◌≤◌, List}
-use Rattle.awari_owner.specs.Level.{AreHeard}
+use Rattle.awari_heard.specs.Level.{AreHeard}
 use Rattle.awari_waves.specs.Each.{AreFrom}
 use Rattle.awari_build.proofs.together.spread_all.Given as goal
 

@@ -1,4 +1,4 @@
-use Rattle.awari_owner.specs.Level.{no_part}
+use Rattle.awari_heard.specs.Level.{no_part}
 use Rattle.awari_build.proofs.together.spread_nearest.Goals as goal
 
 -- a board is settled at this distance, and none is at the greatest

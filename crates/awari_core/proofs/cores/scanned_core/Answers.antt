@@ -1,10 +1,10 @@
 use Rattle.std.proofs.Common.{rules, ◌≡◌, ◌+◌, ◌<◌, ℕ, List, length, get_or, ap, sym, subst, ◌∙◌, arith}
 use Rattle.awari_table.specs.declared.images.Image.{Image}
 use Rattle.awari_table.specs.Images.{table_of}
-use Rattle.awari_owner.specs.Level as level
+use Rattle.awari_heard.specs.Level as level
 use Rattle.awari_owner.specs.Sound.{IsScannedOwner}
 use Rattle.awari_core.specs.Core as core
-use Rattle.awari_core.specs.Core.{Core, Sound}
+use Rattle.awari_core.specs.Core.{Sound}
 use Rattle.awari_core.proofs.Making.{sound_new}
 use Rattle.awari_core.proofs.cores.scanned_core.Goals as goal
 

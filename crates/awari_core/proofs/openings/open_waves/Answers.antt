@@ -1,6 +1,6 @@
 use Rattle.std.proofs.Common.{rules, ◌≡◌, ◌<◌, List, length, get_or, sym, subst, ◌∙◌, arith, length-set}
 use Rattle.std.proofs.lemmas.List.{get_or_default}
-use Rattle.awari_owner.specs.Level.{no_part}
+use Rattle.awari_heard.specs.Level.{no_part}
 use Rattle.awari_owner.specs.Sound.{OpensWave}
 use Rattle.awari_block.specs.Part.{Part}
 use Rattle.awari_core.proofs.Rounds.{later_set, more_set}

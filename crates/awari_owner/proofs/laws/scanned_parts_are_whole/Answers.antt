@@ -1,5 +1,6 @@
 use Rattle.awari_rank.specs.Rank.{size_of}
-use Rattle.awari_owner.proofs.Levels.{scanned_whole, blocks_still}
+use Rattle.awari_owner.proofs.Levels.{scanned_whole}
+use Rattle.awari_heard.proofs.Levels.{blocks_still}
 use Rattle.awari_owner.proofs.laws.scanned_parts_are_whole.Goals as goal
 
 pub returns-clause-whole : goal.returns-clause-whole

@@ -3,7 +3,7 @@ use Rattle.std.proofs.lemmas.Bool.{false≢true}
 use Rattle.awari_rank.specs.Rank.{rank_of}
 use Rattle.awari_owner.specs.Leaving.{AreLeavingBelow}
 use Rattle.awari_owner.proofs.LeavingMoves.{leaving-more, leaving-stays}
-use Rattle.awari_owner.proofs.PitSets.{small_bit}
+use Rattle.awari_block.proofs.PitSets.{small_bit}
 use Rattle.awari_owner.proofs.leaving.with_pit.Goals as goal
 
 pub returns-then-leaves : goal.returns-then-leaves

@@ -1,7 +1,7 @@
 use Rattle.std.proofs.Common.{◌+◌, length, vec_len, rules, arith}
 use Rattle.rayon.proofs.ListFacts.{IfOk-then}
 use Rattle.awari_table.specs.Images.{table_of}
-use Rattle.awari_owner.proofs.Scanning.{unopened_fits, unopened_fresh, unopened_scanned}
+use Rattle.awari_scan.proofs.Scanning.{unopened_fits, unopened_fresh, unopened_scanned}
 use Rattle.awari_owner.proofs.parts.scanned_boards.Goals as goal
 
 pub unopened-requires-clause-fit : goal.unopened-requires-clause-fit

@@ -2,7 +2,7 @@ use Rattle.std.proofs.Common.{◌≡◌, ◌/◌, ◌<◌, length, vec_len, ap, 
 use Rattle.awari_block.proofs.Settling.{settles_none, settles_both}
 use Rattle.awari_owner.specs.Queues.{room_in}
 use Rattle.awari_owner.specs.Spread.{is_held}
-use Rattle.awari_owner.specs.declared.targets.Target.{Target}
+use Rattle.awari_scan.specs.declared.targets.Target.{Target}
 use Rattle.awari_owner.proofs.Telling.{IsTelling-none, IsTelling-next, IsTelling-more, IsTelling-end, next_has_room}
 use Rattle.awari_owner.proofs.spreads.tell_all.Goals as goal
 

@@ -4,7 +4,7 @@ use Rattle.awari_owner.specs.Spread.{is_held}
 use Rattle.awari_owner.specs.Queues.{Queue, no_queue}
 use Rattle.awari_owner.specs.Outboxes.{with_note}
 use Rattle.awari_block.specs.declared.notes.Note.{Note}
-use Rattle.awari_owner.specs.declared.targets.Target.{Target}
+use Rattle.awari_scan.specs.declared.targets.Target.{Target}
 use Rattle.awari_block.proofs.Settling.{settles_none}
 use Rattle.awari_owner.proofs.Spreading.{heard_outside, held_by, told_here}
 use Rattle.awari_owner.proofs.Sending.{sent_here, sent_nothing, room_left}

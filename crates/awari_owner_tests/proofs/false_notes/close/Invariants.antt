@@ -1,5 +1,5 @@
 use Rattle.std.proofs.Common.{ℕ}
-use Rattle.awari_owner.specs.Level.{IsShare}
+use Rattle.awari_owner.specs.Owners.{IsShare}
 use Rattle.awari_owner.specs.Spread.{IsPartOf}
 use Rattle.awari_owner_tests.proofs.false_notes.close.Given as goal
 

@@ -1,7 +1,8 @@
 use Rattle.std.proofs.Common.{rules, ◌≡◌, ◌<◌, ◌+◌, ◌++◌, ◌∷◌, [], ℕ, List, length, ap, sym, subst, ◌∙◌, arith}
 use Rattle.std.proofs.lemmas.List.{length_push}
 use Rattle.awari_block.specs.Part.{Part}
-use Rattle.awari_owner.specs.Level.{IsShare, no_part, part_at}
+use Rattle.awari_owner.specs.Owners.{IsShare}
+use Rattle.awari_heard.specs.Level.{no_part, part_at}
 use Rattle.awari_owner.proofs.Levels.{shared_whole}
 use Rattle.awari_core.proofs.Rounds.{more_push}
 use Rattle.awari_owner_tests.proofs.false_notes.closed_parts.Goals as goal

@@ -1,5 +1,6 @@
 use Rattle.std.proofs.Common.{◌≡◌, ◌<◌, ℕ, length}
-use Rattle.awari_owner.specs.Level.{IsShare, part_at}
+use Rattle.awari_owner.specs.Owners.{IsShare}
+use Rattle.awari_heard.specs.Level.{part_at}
 use Rattle.awari_owner_tests.proofs.false_notes.closed_parts.Given as goal
 
 abbrev pub invariant-loop-owner : goal.invariant-loop-owner

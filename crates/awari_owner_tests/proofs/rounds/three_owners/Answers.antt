@@ -1,7 +1,7 @@
 use Rattle.std.proofs.Common.{length, ap, sym, subst, ◌∙◌}
-use Rattle.awari_owner.proofs.Lists.{written}
+use Rattle.awari_block.proofs.Slices.{written}
 use Rattle.awari_lines.specs.Rings.{IsGrid}
-use Rattle.awari_owner.specs.Level.{AreWhole}
+use Rattle.awari_heard.specs.Level.{AreWhole}
 use Rattle.awari_phase.specs.Owners.{AreFinished, all_ends, parts_of}
 use Rattle.awari_owner_tests.proofs.rounds.three_owners.Goals as goal
 

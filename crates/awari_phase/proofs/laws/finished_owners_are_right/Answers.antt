@@ -1,5 +1,6 @@
 use Rattle.std.proofs.Common.{◌≤◌, [], refl, subst, sym}
-use Rattle.awari_owner.specs.Level.{AreSound, part_at}
+use Rattle.awari_owner.specs.Owners.{AreSound}
+use Rattle.awari_heard.specs.Level.{part_at}
 use Rattle.awari_phase.specs.Owners.{parts_of, taken_notes}
 use Rattle.awari_phase.proofs.Together.{all_closed, as_many, first_of, sound_finished}
 use Rattle.awari_phase.proofs.laws.finished_owners_are_right.Goals as goal

@@ -1,4 +1,4 @@
-use Rattle.awari_plan.proofs.Blocks.{puts_whole}
+use Rattle.awari_heard.proofs.Blocks.{puts_whole}
 use Rattle.awari_plan.proofs.Closing.{finished_consistent, planned_finished}
 use Rattle.awari_plan.proofs.finishing.finish.Goals as goal
 

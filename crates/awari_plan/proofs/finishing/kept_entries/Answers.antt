@@ -1,8 +1,8 @@
 use Rattle.std.proofs.Common.{[], List, length, sym, subst}
 use Rattle.awari_block.specs.declared.cells.Cell.{Cell}
 use Rattle.awari_table.specs.declared.images.Entry.{Entry}
-use Rattle.awari_plan.specs.Filling.{PushesBlock, PutsBlocks}
-use Rattle.awari_plan.proofs.Blocks.{puts_more, puts_all}
+use Rattle.awari_heard.specs.Filling.{PushesBlock, PutsBlocks}
+use Rattle.awari_heard.proofs.Blocks.{puts_more, puts_all}
 use Rattle.awari_plan.proofs.finishing.kept_entries.Goals as goal
 
 pub loop-part-preserved : goal.loop-part-preserved

@@ -1,6 +1,6 @@
 use Rattle.std.proofs.Common.{◌≡◌, ◌+◌, ◌≤◌, length, arith}
 use Rattle.awari_table.specs.Images.{table_of}
-use Rattle.awari_owner.proofs.Scanning.{unopened_fits, unopened_scanned}
+use Rattle.awari_scan.proofs.Scanning.{unopened_fits, unopened_scanned}
 use Rattle.awari_waves.proofs.scanning.scanned_segment.Goals as goal
 
 pub unopened-requires-clause-fit : goal.unopened-requires-clause-fit

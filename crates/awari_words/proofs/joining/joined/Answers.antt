@@ -1,4 +1,4 @@
-use Rattle.std.proofs.Common.{◌≡◌, ◌++◌, [], length, map, rules}
+use Rattle.std.proofs.Common.{rules}
 use Rattle.awari_words.proofs.JoinedWords.{none_left}
 use Rattle.awari_words.proofs.joining.joined.Goals as goal
 

@@ -1,4 +1,4 @@
-use Rattle.std.proofs.Common.{◌≡◌, ◌∷◌, sym, rules}
+use Rattle.std.proofs.Common.{rules}
 use Rattle.awari_words.proofs.JoinedWords.{joined_next, kept_last, kept_next}
 use Rattle.awari_words.proofs.joining.next_word.Goals as goal
 use Rattle.awari_words.proofs.joining.next_word.Goals.{in_default-via-in-Some+else-is_joined, in_default-via-in_default}

@@ -1,6 +1,6 @@
 use Rattle.std.proofs.Common.{rules, ◌≡◌, ◌<◌, ◌≤◌, IfSome, List, length, get_or, ap, sym, subst, ◌∙◌, arith}
 use Rattle.std.proofs.lemmas.List.{get_or_default}
-use Rattle.awari_owner.specs.Level.{no_part}
+use Rattle.awari_heard.specs.Level.{no_part}
 use Rattle.awari_block.specs.Part.{Part}
 use Rattle.awari_core.specs.Core.{Core, IsLeastOf}
 use Rattle.awari_core.proofs.Rounds.{least_more, nearer_bound}

@@ -1,5 +1,5 @@
 use Rattle.std.proofs.Common.{◌≤◌, IfSome, get_or}
-use Rattle.awari_owner.specs.Level.{no_part}
+use Rattle.awari_heard.specs.Level.{no_part}
 use Rattle.awari_core.specs.Core.{IsLeastOf}
 use Rattle.awari_core.proofs.cores.Core.due.Given as goal
 

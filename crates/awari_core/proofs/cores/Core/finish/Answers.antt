@@ -2,7 +2,7 @@ use Rattle.std.proofs.Common.{rules, List, ap, sym, subst, ◌∙◌}
 use Rattle.awari_table.specs.Images.{table_of}
 use Rattle.awari_table.specs.Shelves.{Consistent}
 use Rattle.awari_block.specs.Part.{Part}
-use Rattle.awari_owner.specs.Level.{AreHeard}
+use Rattle.awari_heard.specs.Level.{AreHeard}
 use Rattle.awari_core.specs.Core.{Core, IsAllQuiet}
 use Rattle.awari_core.proofs.Effects.{core_of}
 use Rattle.awari_core.proofs.cores.Core.finish.Goals as goal

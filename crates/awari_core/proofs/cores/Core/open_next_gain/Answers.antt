@@ -1,5 +1,5 @@
 use Rattle.std.proofs.Common.{rules, ◌≡◌, ◌-◌, ◌<◌, ℕ, length, get_or, refl, sym, subst, arith}
-use Rattle.awari_owner.specs.Level.{no_part}
+use Rattle.awari_heard.specs.Level.{no_part}
 use Rattle.awari_core.specs.Core.{Core, IsAllQuiet, OpensNextGain, owner_part}
 use Rattle.awari_owner.specs.Sound.{OpensGain}
 use Rattle.awari_core.proofs.Effects.{core_of}

@@ -1,7 +1,7 @@
 use Rattle.std.proofs.Common.{◌≡◌, ◌*◌, ◌-◌, ◌%◌, ◌^◌, ◌==◌, ◌↔◌, ◌∙◌, IsTrue, not, bit_and, get_or, ap, subst}
 use Rattle.awari_block.specs.Part.{Part, InBlock, Leaves}
 use Rattle.awari_owner.proofs.LeavingMoves.{leaves_read}
-use Rattle.awari_owner.proofs.PitSets.{small_bit}
+use Rattle.awari_block.proofs.PitSets.{small_bit}
 use Rattle.awari_owner.proofs.parts.Part.leaves.Goals as goal
 
 pub returns : goal.returns

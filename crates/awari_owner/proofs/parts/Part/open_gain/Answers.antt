@@ -1,8 +1,8 @@
 use Rattle.std.proofs.Common.{◌≡◌, ◌+◌, subst, sym, ap, ◌∙◌, arith}
 use Rattle.awari_block.specs.Boards.{Settles}
 use Rattle.awari_block.specs.Part.{Part, IsTallied}
-use Rattle.awari_owner.specs.Spread.{HearsOwn}
-use Rattle.awari_owner.proofs.Gains.{opened}
+use Rattle.awari_heard.specs.Heard.{HearsOwn}
+use Rattle.awari_heard.proofs.Gains.{opened}
 use Rattle.awari_owner.proofs.Hearing.{hears_still}
 use Rattle.awari_block.proofs.Settling.{same_stake}
 use Rattle.awari_owner.specs.Lookahead.{IsAhead}

@@ -2,7 +2,7 @@ use Rattle.std.proofs.Common.{◌≤◌, ◌<◌, List, ℤ, ℕ, arith, refl, a
 use Rattle.awari_block.specs.Part.{Part, IsTallied, cell_at, notes_for}
 use Rattle.awari_block.specs.declared.notes.Note.{Note}
 use Rattle.awari_rank.specs.Rank.{rank_of}
-use Rattle.awari_owner.proofs.PlannedTallies.{wave_tally}
+use Rattle.awari_heard.proofs.PlannedTallies.{wave_tally}
 use Rattle.awari_owner.specs.Lookahead.{IsAhead}
 use Rattle.awari_owner.specs.Leaving.{AreLeaving}
 use Rattle.awari_owner.proofs.LeavingMoves.{leaving_still}

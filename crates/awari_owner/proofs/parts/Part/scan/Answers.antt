@@ -1,8 +1,8 @@
 use Rattle.std.proofs.Common.{subst, sym, rules}
 use Rattle.rayon.proofs.ListFacts.{IfOk-then}
-use Rattle.awari_owner.specs.Scan.{IsWhole}
+use Rattle.awari_heard.specs.Level.{IsWhole}
 use Rattle.awari_owner.specs.Sound.{IsScannedOwner}
-use Rattle.awari_owner.proofs.Scanning.{scanned_owner, scanned_whole}
+use Rattle.awari_owner.proofs.ScannedOwners.{scanned_owner, scanned_whole}
 use Rattle.awari_owner.proofs.parts.Part.scan.Goals as goal
 
 pub returns-clause-scanned : goal.returns-clause-scanned

@@ -5,7 +5,7 @@ use Rattle.awari_block.specs.Part.{Part, stored_at, IsExpected}
 use Rattle.awari_owner.specs.Sound.{TakesNote}
 use Rattle.awari_block.specs.declared.cells.Cell.{Cell}
 use Rattle.awari_owner.proofs.Hearing.{hears_kept}
-use Rattle.awari_owner.proofs.Taking.{added_heard, expected_takeable}
+use Rattle.awari_heard.proofs.Taking.{added_heard, expected_takeable}
 use Rattle.awari_owner.specs.Lookahead.{IsAhead}
 use Rattle.awari_owner.proofs.LeavingMoves.{leaving_still}
 use Rattle.awari_owner.proofs.parts.Part.take.Goals as goal

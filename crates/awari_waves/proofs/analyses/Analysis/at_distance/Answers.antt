@@ -1,6 +1,6 @@
 use Rattle.std.proofs.Common.{◌^◌, ◌≡◌, sym, subst}
 use Rattle.std.specs.Vec.{with_items}
-use Rattle.awari_owner.specs.Level.{AreHeard, AreWhole}
+use Rattle.awari_heard.specs.Level.{AreHeard, AreWhole}
 use Rattle.awari_waves.specs.Analyses.{AnalysisView}
 use Rattle.awari_waves.specs.Each.{AreFrom, Each, IsAtWave, KeepsBoards}
 use Rattle.awari_waves.specs.Waves.{IsCut}

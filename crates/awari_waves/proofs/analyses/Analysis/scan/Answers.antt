@@ -1,6 +1,6 @@
 use Rattle.std.proofs.Common.{◌*◌, ◌%◌, ◌^◌, ◌≡◌, ◌+◌, ◌≤◌, length, sym, subst, arith}
 use Rattle.std.proofs.lemmas.Nat.{pow_below}
-use Rattle.awari_owner.specs.Level.{AreWhole}
+use Rattle.awari_heard.specs.Level.{AreWhole}
 use Rattle.awari_waves.specs.Waves.{IsCut}
 use Rattle.awari_waves.proofs.Cutting.{level_few}
 use Rattle.awari_waves.proofs.analyses.Analysis.scan.Goals as goal

@@ -1,7 +1,7 @@
 use Rattle.std.proofs.Common.{◌^◌, ◌≡◌, ◌+◌, sym, subst, ap}
 use Rattle.std.specs.Vec.{with_items}
-use Rattle.awari_owner.specs.Level.{AreHeard, AreWhole}
-use Rattle.awari_owner.specs.Spread.{SameBlock}
+use Rattle.awari_heard.specs.Level.{AreHeard, AreWhole}
+use Rattle.awari_heard.specs.Heard.{SameBlock}
 use Rattle.awari_waves.specs.Analyses.{AnalysisView}
 use Rattle.awari_waves.specs.Each.{AreFrom, Each, KeepsBoards}
 use Rattle.awari_waves.specs.Waves.{IsCut}

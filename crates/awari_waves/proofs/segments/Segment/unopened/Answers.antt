@@ -1,7 +1,5 @@
-use Rattle.std.proofs.Common.{◌≡◌, ◌+◌, ◌++◌, List, [], length, ap, subst, subst₂, sym, rules, arith}
-use Rattle.awari_block.specs.Awaited.{TellAwaited}
+use Rattle.std.proofs.Common.{◌≡◌, ◌+◌, ◌++◌, List, [], length, subst₂, sym, rules, arith}
 use Rattle.awari_block.specs.Part.{part_of, unspread}
-use Rattle.awari_block.specs.declared.cells.Cell.{Cell}
 use Rattle.awari_block.proofs.Settling.{none_settled}
 use Rattle.awari_waves.specs.Lists.{dues_of}
 use Rattle.awari_waves.proofs.segments.Segment.unopened.Goals as goal

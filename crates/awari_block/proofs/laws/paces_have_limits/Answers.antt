@@ -1,5 +1,0 @@
-use Rattle.std.proofs.Common.{refl}
-use Rattle.awari_block.proofs.laws.paces_have_limits.Goals as goal
-
-pub returns : goal.returns
-returns c = (refl, refl, refl)

@@ -1,0 +1,14 @@
+pub mod PlainSteps
+pub mod Statuses
+pub mod HearingPlans
+pub mod OpeningPlans
+pub mod PlannedTallies
+pub mod Taking
+pub mod Gains
+pub mod SpreadBoards
+pub mod PlainFinish
+pub mod Finishing
+pub mod RightCells
+pub mod Levels
+pub mod Distances
+pub mod Blocks

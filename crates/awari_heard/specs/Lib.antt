@@ -1,0 +1,5 @@
+pub mod Heard
+pub mod Level
+pub mod Finish
+pub mod Kept
+pub mod Filling

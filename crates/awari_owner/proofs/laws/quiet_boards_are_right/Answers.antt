@@ -1,5 +1,0 @@
-use Rattle.awari_owner.proofs.RightCells.{quiet_right}
-use Rattle.awari_owner.proofs.laws.quiet_boards_are_right.Goals as goal
-
-pub returns : goal.returns
-returns c value cell p notes heard = quiet_right value cell p notes heard

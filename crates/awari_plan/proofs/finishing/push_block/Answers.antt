@@ -1,5 +1,0 @@
-use Rattle.awari_plan.proofs.Blocks.{push_one}
-use Rattle.awari_plan.proofs.finishing.push_block.Goals as goal
-
-pub loop-k-preserved : goal.loop-k-preserved
-loop-k-preserved c = push_one _ _ _ _ _ _ c.loop-k.invariant c.in_ok-push.ensures.ok c.entry_of.ensures

@@ -1,0 +1,4 @@
+pub mod Scanning
+pub mod Looks
+pub mod RunMoves
+pub mod Finding

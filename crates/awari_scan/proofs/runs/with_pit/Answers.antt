@@ -1,0 +1,17 @@
+use Rattle.std.proofs.Common.{sym, ◌∙◌, rules}
+use Rattle.std.proofs.lemmas.Bool.{false≢true}
+use Rattle.awari_block.proofs.PitSets.{small_bit}
+use Rattle.awari_scan.proofs.RunMoves.{adds-none, adds-near, adds-far}
+use Rattle.awari_scan.proofs.runs.with_pit.Goals as goal
+
+pub returns-then-not-legal : goal.returns-then-not-legal
+returns-then-not-legal c = λ p own stones before.
+    adds-none p c.args.head.now c.args.pit c.args.moves.near c.args.moves.far own stones (λ legal. false≢true (sym c.if-not-legal.true ∙ c.legal.ensures.1 legal)) before
+
+pub returns-then-landing-lt6 : goal.returns-then-landing-lt6
+returns-then-landing-lt6 c = λ p own stones before.
+    adds-near p c.args.head.now c.args.pit c.args.moves.near c.args.moves.far own stones _ c.landing.result (search rules) (search rules) c.if-landing-lt6.true (small_bit c.args.pit c.requires) before
+
+pub returns : goal.returns
+returns c = λ p own stones before.
+    adds-far p c.args.head.now c.args.pit c.args.moves.near c.args.moves.far own stones _ (search rules) (small_bit c.args.pit c.requires) before
