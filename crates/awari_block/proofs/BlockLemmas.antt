@@ -70,10 +70,10 @@ times_due-cons f fresh r = sum_by-cons (λ (g : Due). cond (due_rank g == r) 1 0
 pub times_due-permuted : (fresh after : List Due) (r : ℕ) → IsPermutation fresh after → times_due after r ≡ times_due fresh r
 times_due-permuted fresh after r h = sum_by-IsPermutation (λ (g : Due). cond (due_rank g == r) 1 0) fresh after h
 
-eqb_self : (x : ℕ) → (x == x) ≡ true
+pub eqb_self : (x : ℕ) → (x == x) ≡ true
 eqb_self x = grind (arith, nat_tests)
 
-eqb_apart : (x y : ℕ) → x ≢ y → (x == y) ≡ false
+pub eqb_apart : (x y : ℕ) → x ≢ y → (x == y) ≡ false
 eqb_apart x y apart = grind (arith, nat_tests)
 
 -- a fresh board is settled

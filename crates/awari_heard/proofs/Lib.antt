@@ -6,6 +6,7 @@ pub mod PlannedTallies
 pub mod Taking
 pub mod Gains
 pub mod SpreadBoards
+pub mod Coming
 pub mod PlainFinish
 pub mod Finishing
 pub mod RightCells

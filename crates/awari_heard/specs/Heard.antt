@@ -1,10 +1,10 @@
 -- Which boards of a part are spread, and what a part heard of the spread boards of another.
-use Rattle.std.specs.Prelude.{◌≡◌, ℕ, List, length, sum, ℤ, Some}
+use Rattle.std.specs.Prelude.{◌≡◌, ℕ, false, List, [], ◌∷◌, length, sum, ℤ, Some}
 use Rattle.awari_board.specs.Rules.{IsBoard}
 use Rattle.awari_rank.specs.Rank.{rank_of}
-use Rattle.awari_block.specs.Notes.{IsQuietMove, Has, IsNoteOf}
+use Rattle.awari_block.specs.Notes.{IsQuietMove, Has, IsNoteOf, is_heard_at}
 use Rattle.awari_block.specs.Blocks.{times_due}
-use Rattle.awari_block.specs.Part.{Part, InBlock, notes_for, settled_at}
+use Rattle.awari_block.specs.Part.{Part, InBlock, IsTallied, notes_for, settled_at}
 use Rattle.awari_block.specs.declared.notes.Note.{Note}
 
 -- a board of the block is spread where it is settled and not fresh
@@ -40,3 +40,30 @@ pub record IsSeenAs (old new : Part) : Type 0 where
   pub len : length new.cells ≡ length old.cells
   pub stays : (r : ℕ) (v : ℤ) (d : ℕ) → InBlock old r → IsSpread old r v d → IsSpread new r v d
   pub before : (r : ℕ) (v : ℤ) (d : ℕ) → InBlock old r → IsSpread new r v d → IsSpread old r v d
+
+-- ---- notes that come in
+
+-- no two notes are of one move
+abbrev pub AreOfOtherMoves : List Note → Type 0
+AreOfOtherMoves [] = Unit {0}
+AreOfOtherMoves (m ∷ notes) = ((k : Note) → Has notes k → k.target ≡ m.target → k.pit ≡ m.pit → ⊥) × AreOfOtherMoves notes
+
+-- the notes that were heard, once these came in, one after the other
+abbrev pub with_heard : List Note → List Note → List Note
+with_heard [] notes = notes
+with_heard (m ∷ more) notes = with_heard more (m ∷ notes)
+
+-- m is of a quiet move of a board of the level, and none of these notes is of that move
+abbrev pub IsUnheard : ℕ → List Note → Note → Type 0
+IsUnheard level notes m =
+    (p : List ℕ) × (q : List ℕ) × IsBoard p × (sum p ≡ level) × (rank_of p ≡ m.target) × IsQuietMove p m.pit q × (is_heard_at (notes_for m.target notes) m.pit ≡ false)
+
+-- so is each of these notes when its turn comes
+abbrev pub AreUnheard : ℕ → List Note → List Note → Type 0
+AreUnheard level [] notes = Unit {0}
+AreUnheard level (m ∷ more) notes = IsUnheard level notes m × AreUnheard level more (m ∷ notes)
+
+-- Between these two the part heard these notes, in their order, whatever it had heard before.
+abbrev pub HearsNotes : List Note → Part → Part → Type 0
+HearsNotes more old new =
+    (value : List ℕ → ℤ) (notes : List Note) → AreUnheard old.level more notes → IsTallied value old notes → IsTallied value new (with_heard more notes)

@@ -16,7 +16,7 @@ use Rattle.awari_heard.proofs.SpreadBoards.{IsInjective, spread_stays, spread_be
 use Rattle.awari_owner.specs.Owners.{IsShare, AreSound}
 use Rattle.awari_owner.specs.Sound.{CanTake, HoldsNotes, IsInBlockOf, IsOtherOf, IsTimelyNote}
 use Rattle.awari_block.proofs.NoteLists.{Has-append_left, Has-append_right, Has-notes_for, heard_note}
-use Rattle.awari_owner.proofs.Lists.{once_apart}
+use Rattle.awari_heard.proofs.Coming.{once_apart}
 
 -- ---- blocks
 

@@ -1,5 +1,5 @@
 -- The first fresh board, and what its spread makes of the part.
-use Rattle.std.proofs.Common.{◌≡◌, ℕ, ◌+◌, ◌-◌, ◌^◌, ◌<◌, ◌≤◌, Bool, false, true, inl, inr, if◌then◌else◌, Some, List, ◌∷◌, length, sum, All, refl, sym, ap, subst, subst₂, ◌∙◌, arith}
+use Rattle.std.proofs.Common.{◌≡◌, ℕ, ◌+◌, ◌-◌, ◌^◌, ◌<◌, ◌≤◌, Bool, false, true, inl, inr, if◌then◌else◌, Some, List, ◌∷◌, length, sum, All, refl, sym, ap, subst, subst₂, ◌∙◌, arith, map, ℤ}
 use Rattle.std.proofs.lemmas.Int.{ints}
 use Rattle.std.proofs.lemmas.Bool.{false≢true}
 use Rattle.std.proofs.lemmas.List.Elements.{All-weaker}
@@ -13,7 +13,7 @@ use Rattle.awari_block.specs.Blocks.{Due, due_rank, due_dist, cell_in, times_due
 use Rattle.awari_block.specs.Part.{Part, InBlock, IsTallied, part_of, stored_at, settled_at, unspread}
 use Rattle.awari_owner.specs.Sound.{SameStake}
 use Rattle.awari_scan.specs.Found.{Source}
-use Rattle.awari_owner.specs.Spread.{TellsSources, kind_of, note_to, with_all_own, LeavesFresh, Spreads, SpreadsOne}
+use Rattle.awari_owner.specs.Spread.{kind_of, note_to, LeavesFresh, Spreads, SpreadsOne, own_notes, AreNotesOf}
 use Rattle.awari_block.specs.declared.cells.Cell.{Cell}
 use Rattle.awari_block.specs.declared.cells.Mark.{Mark}
 use Rattle.awari_block.specs.declared.cells.Mark.TheVariants.{Ended, Quiet, Capturing, Noted, Settled}
@@ -26,6 +26,8 @@ use Rattle.awari_block.proofs.Settling.{same_stake}
 use Rattle.awari_heard.proofs.SpreadBoards.{IsInjective, settled_value}
 use Rattle.awari_owner.proofs.Spreading.{AreSources, sources_of, unheard_sources, joined_but}
 use Rattle.awari_owner.proofs.Hearing.{first_spreads, hears_first, note_fits}
+use Rattle.awari_heard.specs.Heard.{HearsNotes, with_heard}
+use Rattle.awari_owner.proofs.SpreadNotes.{gives_by}
 
 -- no board is fresh before a gain is open that the level has
 pub gain_low : (stake : Stake) (c : Cell) → Fits stake c → is_settled c.mark ≡ true → IsEither stake.gain c.score → stake.gain ≤ stake.level
@@ -60,7 +62,7 @@ module _ (stake : Stake) (start : ℕ) (cells cells' : List Cell) (fresh rest af
   pub spread_by : IsInjective → ((p : List ℕ) (x : ℕ) (r : List ℕ) → IsBoard p → IsQuietMove p x r → IsBoard r) → ((p : List ℕ) (x : ℕ) (r : List ℕ) → IsBoard p → IsQuietMove p x r → sum r + 0 ≡ sum p)
       → IsBlock stake start cells fresh → IsPermutation (f ∷ rest) fresh → All (λ y. (due_dist f ≤ due_dist y) × (due_dist y ≡ due_dist f → due_rank f ≤ due_rank y)) fresh
       → due_dist f ≡ stake.wave → stake.wave < 2 ^ 32 - 1 → 1 ≤ stake.gain → IsBoard q → sum q ≡ stake.level → rank_of q ≡ due_rank f → cell_in start cells (due_rank f) ≡ cell → kind ≡ kind_of cell.score
-      → IsPredecessors q sources → TellsSources (part_of stake start cells rest) (part_of stake start cells' after) kind sources
+      → IsPredecessors q sources → HearsNotes (own_notes (part_of stake start cells rest) kind sources) (part_of stake start cells rest) (part_of stake start cells' after)
       → JoinNewlySettled start cells rest cells' after → KeepSettled start cells cells' → length cells' ≡ length cells
       → Spreads (part_of stake start cells fresh) (part_of stake start cells' after) q sources × IsTold (part_of stake start cells fresh) q sources kind
   spread_by injective boards stones sound moved least wave near_wave one is level ranked was kinds predecessors told joined stays len = (
@@ -75,12 +77,12 @@ module _ (stake : Stake) (start : ℕ) (cells cells' : List Cell) (fresh rest af
       predecessors = predecessors;
       leaves = leaves;
       told = λ value notes own tallied.
-          subst (λ (k : Kind). IsTallied value new (with_all_own old k notes sources)) same
-          (told value notes (unheard_sources old kind notes q sources injective own are level inside often) tallied);
+          subst (λ (k : Kind). IsTallied value new (with_heard (own_notes old k sources) notes)) same
+          (told value notes (unheard_sources old kind notes q score stake.wave sources injective own are (subst (λ (k : Kind). AreNotesOf q score stake.wave sources (map (note_to old k) sources)) (sym same) fits) level inside often) tallied);
       becomes = becomes;
       gives = gives;
       hears = λ notes own. hears_first old new notes q sources (kind_of (stored_at old (rank_of q)).score) (stored_at old (rank_of q)).score stake.wave injective are
-          (λ p x r board quiet. (boards p x r board quiet, omega (arith, stones p x r board quiet))) becomes gives own;
+          (λ p x r board quiet. (boards p x r board quiet, omega (arith, stones p x r board quiet))) becomes fits own;
     },
     record { either = either; settled = settled; kinds = same; are = are; level = level },
   )
@@ -134,6 +136,12 @@ module _ (stake : Stake) (start : ℕ) (cells cells' : List Cell) (fresh rest af
       gives : (y : Source) → IsQuietMove y.0 y.1 q → sum y.0 ≡ stake.level → IsNoteOf q (stored_at old (rank_of q)).score stake.wave y.0 y.1 (note_to old (kind_of (stored_at old (rank_of q)).score) y)
       gives y quiet st = note_fits old q (stored_at old (rank_of q)).score y one (subst (λ r. IsEither stake.gain (cell_in start cells r).score) (sym ranked) due.2.valued) st quiet
 
+      score : ℤ
+      score = (stored_at old (rank_of q)).score
+
+      fits : AreNotesOf q score stake.wave sources (map (note_to old (kind_of score)) sources)
+      fits = gives_by old q score (kind_of score) sources gives are.each level
+
 -- ---- the same of a part whose first fresh board is taken and then told of
 
 module _ (old taken new : Part) (rank : ℕ) (takes : TakesFirst old taken rank) (settles : Settles taken new) where
@@ -161,13 +169,13 @@ module _ (old taken new : Part) (rank : ℕ) (takes : TakesFirst old taken rank)
   pub spread_first : (cell : Cell) (q : List ℕ) (sources : List Source) (kind : Kind) → IsInjective
       → ((p : List ℕ) (x : ℕ) (r : List ℕ) → IsBoard p → IsQuietMove p x r → IsBoard r) → ((p : List ℕ) (x : ℕ) (r : List ℕ) → IsBoard p → IsQuietMove p x r → sum r + 0 ≡ sum p)
       → old.wave < 2 ^ 32 - 1 → 1 ≤ old.gain → IsBoard q → sum q ≡ old.level → rank_of q ≡ rank → cell ≡ stored_at taken rank → kind ≡ kind_of cell.score
-      → IsPredecessors q sources → TellsSources taken new kind sources
+      → IsPredecessors q sources → HearsNotes (own_notes taken kind sources) taken new
       → Spreads old new q sources × IsTold old q sources kind
   spread_first cell q sources kind injective boards stones near one is level ranked was kinds predecessors told =
       subst (λ (n : Part). Spreads old n q sources × IsTold old q sources kind) at_stake
       (spread_by (stake_of old) old.start old.cells new.cells old.fresh taken.fresh new.fresh (old.wave, rank) cell q sources kind injective boards stones takes.sound takes.moved takes.first
       refl near one is level ranked (sym (subst (λ (t : Part). cell ≡ stored_at t rank) takes.rest was)) kinds predecessors
-      (subst₂ (λ (t n : Part). TellsSources t n kind sources) takes.rest (sym at_stake) told)
+      (subst₂ (λ (t n : Part). HearsNotes (own_notes t kind sources) t n) takes.rest (sym at_stake) told)
       taken_settles.joins taken_settles.stays taken_settles.size)
 
 -- the open gain is one that the level has

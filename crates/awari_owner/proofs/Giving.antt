@@ -1,5 +1,5 @@
 -- What the spread of a board keeps of its owner.
-use Rattle.std.proofs.Common.{◌≡◌, ℕ, ◌+◌, ◌<◌, ◌≤◌, ◌&&◌, inl, inr, Bool, true, nat_le, nat_lt, List, ◌++◌, length, get_or, filter, sum, ℤ, All, sym, ap, subst, subst₂, ◌∙◌, arith, append_assoc}
+use Rattle.std.proofs.Common.{◌≡◌, ℕ, ◌+◌, ◌<◌, ◌≤◌, ◌&&◌, inl, inr, Bool, true, nat_le, nat_lt, List, ◌++◌, length, get_or, filter, sum, ℤ, All, sym, ap, subst, subst₂, ◌∙◌, arith, append_assoc, map}
 use Rattle.std.proofs.lemmas.Bool.Decides.{nat_tests}
 use Rattle.std.proofs.lemmas.List.Elements.{All-append}
 use Rattle.awari_board.specs.Rules.{IsBoard, next_board}
@@ -11,14 +11,15 @@ use Rattle.awari_block.specs.declared.notes.Note.{Note}
 use Rattle.awari_owner.specs.Outboxes.{Outboxes, notes_of, queue_to}
 use Rattle.awari_owner.specs.Sound.{HoldsNotes, IsInBlockOf, IsOtherOf, IsTimelyNote, OwnerSound, SameStake}
 use Rattle.awari_scan.specs.Found.{Source}
-use Rattle.awari_heard.specs.Heard.{IsSpread}
-use Rattle.awari_owner.specs.Spread.{Sends, Spreads, is_in_block, kind_of, note_to, with_all_own}
+use Rattle.awari_heard.specs.Heard.{IsSpread, with_heard}
+use Rattle.awari_owner.specs.Spread.{Sends, Spreads, is_in_block, kind_of, note_to, own_notes, is_held}
 use Rattle.awari_block.proofs.NoteLists.{Has-append_left, Has-append_right, Has-append_cases, all_has}
-use Rattle.awari_owner.proofs.Lists.{notes_of-with_notes, once_more}
+use Rattle.awari_owner.proofs.Lists.{notes_of-with_notes}
+use Rattle.awari_heard.proofs.Coming.{once_more, had_either, had_still}
 use Rattle.awari_owner.proofs.Sounding.{timely_all}
 use Rattle.awari_heard.proofs.SpreadBoards.{IsInjective}
 use Rattle.awari_owner.proofs.Spreading.{AreSources, sources_of}
-use Rattle.awari_owner.proofs.SpreadNotes.{source_of, note_of, notes_once, Has-filter, Has-chosen, filter_once, own_before, own_cases, gain_is}
+use Rattle.awari_owner.proofs.SpreadNotes.{source_of, note_of, notes_once, Has-filter, Has-chosen, filter_once, gain_is, gives_by}
 
 -- ---- the block of another owner, by the test
 
@@ -67,14 +68,16 @@ module _ (injective : IsInjective) (moves : (p : List ℕ) (x : ℕ) (r : List �
       (there.0, there.1, λ inside. there.2 (in_new (rank_of there.0) inside))
 
   -- a note of the block is of no move that leaves it
-  stayed : (m : Note) → Leaves part m.target m.pit → ((j : ℕ) × (j < length sources) × ((d : Source) → m ≡ note_to part (kind_of score) (get_or sources j d))) → ⊥
-  stayed m leaves (j, low, is) =
+  stayed : (m : Note) → Leaves part m.target m.pit → Has (own_notes part (kind_of score) sources) m → ⊥
+  stayed m leaves has =
+      let mine = map (note_to part (kind_of score)) sources in
+      let gives = gives_by part q score (kind_of score) sources spreads.gives are.each spreads.stones in
+      let (j, low, fits) = source_of q score part.wave sources mine gives m (Has-filter (λ (k : Note). is_held part k.target) mine m has).0 in
       let y : Source = get_or sources j (q, 0) in
+      let note = fits (q, 0) in
       let each = are.each j (q, 0) low in
-      let at : m.target ≡ rank_of y.0 = ap (λ (k : Note). k.target) (is (q, 0)) in
-      let pit : m.pit ≡ y.1 = ap (λ (k : Note). k.pit) (is (q, 0)) in
-      let there = leaves y.0 each.0 (each.1 ∙ spreads.stones) (sym at) in
-      let same : there.0 ≡ q = there.1.leaves ∙ ap (next_board y.0) pit ∙ sym each.2.leaves in
+      let there = leaves y.0 each.0 (each.1 ∙ spreads.stones) (sym note.target) in
+      let same : there.0 ≡ q = there.1.leaves ∙ ap (next_board y.0) note.pit ∙ sym each.2.leaves in
       there.2 (subst (λ (b : List ℕ). InBlock part (rank_of b)) (sym same) spreads.first.inside)
 
   -- one list behind another grows by the notes of the board
@@ -160,11 +163,11 @@ module _ (injective : IsInjective) (moves : (p : List ℕ) (x : ℕ) (r : List �
 
   pub sound_spread : OwnerSound value o.owner (length o.queues) part' taken (λ j. sent j ++ notes_of (queue_to o' j)) (λ j. coming j ++ notes_of (queue_to o' j))
   sound_spread = record {
-    heard = with_all_own part (kind_of score) s.heard sources;
+    heard = with_heard (own_notes part (kind_of score) sources) s.heard;
     tallied = spreads.told value s.heard s.hears_own s.tallied;
     hears_own = spreads.hears s.heard s.hears_own;
-    taken_heard = λ j other m has. own_before part (kind_of score) sources s.heard m (s.taken_heard j other m has);
-    heard_taken = λ m has leaves. elim (own_cases part (kind_of score) sources s.heard m has) [
+    taken_heard = λ j other m has. had_still (own_notes part (kind_of score) sources) s.heard m (s.taken_heard j other m has);
+    heard_taken = λ m has leaves. elim (had_either (own_notes part (kind_of score) sources) s.heard m has) [
       | inl before ↦ s.heard_taken m before (leaves_old m.target m.pit leaves)
       | inr new ↦ absurd (stayed m (leaves_old m.target m.pit leaves) new)
     ];

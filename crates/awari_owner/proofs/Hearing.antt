@@ -1,5 +1,5 @@
 -- The notes of moves that stay in the block, once a note came in.
-use Rattle.std.proofs.Common.{◌≡◌, ℕ, zero, suc, get_or, ◌+◌, ◌<◌, ◌≤◌, ◌==◌, ◌⊎◌, inl, inr, Bool, true, false, cond, List, [], ◌∷◌, length, sum, ℤ, pos, neg_ℤ, ◌<ℤ◌, ◌≤ℤ◌, Some, ◌&&◌, nat_le, refl, sym, ap, subst, subst₂, ◌∙◌, arith, eqb-true}
+use Rattle.std.proofs.Common.{◌≡◌, ℕ, get_or, ◌+◌, ◌<◌, ◌≤◌, ◌==◌, ◌⊎◌, inl, inr, Bool, true, false, cond, List, ◌∷◌, length, sum, ℤ, pos, neg_ℤ, ◌<ℤ◌, ◌≤ℤ◌, Some, ◌&&◌, nat_le, refl, sym, ap, subst, subst₂, ◌∙◌, arith, eqb-true, map}
 use Rattle.std.proofs.lemmas.Int.{ints}
 use Rattle.std.specs.Prelude.{int_lt}
 use Rattle.std.proofs.lemmas.Bool.Decides.{nat_tests}
@@ -11,13 +11,15 @@ use Rattle.awari_block.specs.declared.notes.Kind.TheVariants.{Won, Lost}
 use Rattle.awari_block.specs.Cells.{IsEither, is_settled, status_of}
 use Rattle.awari_block.specs.Blocks.{is_settled_in, times_due, cell_in, KeepSettled}
 use Rattle.awari_scan.specs.Found.{Source}
-use Rattle.awari_heard.specs.Heard.{HearsOwn, IsSpread}
-use Rattle.awari_owner.specs.Spread.{LeavesFresh, kind_of, is_held, note_to, with_own, with_all_own, SpreadsOne}
+use Rattle.awari_heard.specs.Heard.{HearsOwn, IsSpread, with_heard}
+use Rattle.awari_owner.specs.Spread.{LeavesFresh, kind_of, is_held, note_to, SpreadsOne, own_notes, AreNotesOf}
 use Rattle.awari_block.specs.declared.notes.Kind.{Kind}
 use Rattle.awari_heard.proofs.SpreadBoards.{IsInjective, one_if, kept_status, is_settled_at, spread_stays, spread_before, settled_still}
 use Rattle.awari_owner.proofs.Spreading.{AreSources, held_is}
 use Rattle.awari_block.specs.declared.notes.Note.{Note}
 use Rattle.awari_block.proofs.NoteLists.{has_more, had_before}
+use Rattle.awari_heard.proofs.Coming.{for_either, for_new, for_still}
+use Rattle.awari_owner.proofs.SpreadNotes.{Has-chosen, Has-filter, note_of, source_of}
 
 -- a note of a move that leaves the block says nothing of the moves that stay
 pub hears_take : (old new : Part) (notes : List Note) (m : Note) → HearsOwn old notes → Leaves old m.target m.pit → new.level ≡ old.level
@@ -66,45 +68,6 @@ hears_still old new notes own level start len keeps joins = record {
 
 -- ---- a spread
 
--- notes that were there are there still
-has_own_more : (part : Part) (kind : Kind) (r : ℕ) (y : Source) (k : Note) (notes : List Note) → Has (notes_for r notes) k → Has (notes_for r (with_own part kind notes y)) k
-has_own_more part kind r y k notes has = at (is_held part (rank_of y.0))
-  where
-    at : (b : Bool) → Has (notes_for r (cond b (note_to part kind y ∷ notes) notes)) k
-    at true = has_more r (note_to part kind y) k notes has
-    at false = has
-
-pub has_all_more : (part : Part) (kind : Kind) (r : ℕ) (ys : List Source) (k : Note) (notes : List Note) → Has (notes_for r notes) k → Has (notes_for r (with_all_own part kind notes ys)) k
-has_all_more part kind r [] k notes has = has
-has_all_more part kind r (y ∷ ys) k notes has = has_all_more part kind r ys k (with_own part kind notes y) (has_own_more part kind r y k notes has)
-
--- the note of each source of the block is there
-has_source : (part : Part) (kind : Kind) (ys : List Source) (j : ℕ) (d : Source) (notes : List Note) → j < length ys → is_held part (rank_of (get_or ys j d).0) ≡ true
-    → Has (notes_for (rank_of (get_or ys j d).0) (with_all_own part kind notes ys)) (note_to part kind (get_or ys j d))
-has_source part kind [] j d notes h held = absurd (omega arith)
-has_source part kind (y ∷ ys) (suc j) d notes h held = has_source part kind ys j d (with_own part kind notes y) (omega arith) held
-has_source part kind (y ∷ ys) zero d notes h held =
-    has_all_more part kind (rank_of y.0) ys (note_to part kind y) (with_own part kind notes y)
-    (subst (λ b. Has (notes_for (rank_of y.0) (cond b (note_to part kind y ∷ notes) notes)) (note_to part kind y)) (sym held)
-    (subst (λ b. Has (cond b (note_to part kind y ∷ notes_for (rank_of y.0) notes) (notes_for (rank_of y.0) notes)) (note_to part kind y)) (sym (eqb_self (rank_of y.0))) (inl refl)))
-  where
-    eqb_self : (x : ℕ) → (x == x) ≡ true
-    eqb_self x = grind (arith, nat_tests)
-
--- a note that is there was there, or is that of a source
-had_first : (part : Part) (kind : Kind) (r : ℕ) (ys : List Source) (k : Note) (notes : List Note) → Has (notes_for r (with_all_own part kind notes ys)) k
-    → Has (notes_for r notes) k ⊎ ((j : ℕ) × (j < length ys) × ((d : Source) → (k ≡ note_to part kind (get_or ys j d)) × (rank_of (get_or ys j d).0 ≡ r)))
-had_first part kind r [] k notes has = inl has
-had_first part kind r (y ∷ ys) k notes has = elim (had_first part kind r ys k (with_own part kind notes y) has) [
-  | inl before ↦ at (is_held part (rank_of y.0)) before
-  | inr later ↦ (let l = later.1 in inr (suc later.0, (omega arith), λ d. later.2 d))
-]
-  where
-    at : (b : Bool) → Has (notes_for r (cond b (note_to part kind y ∷ notes) notes)) k
-        → Has (notes_for r notes) k ⊎ ((j : ℕ) × (j < length (y ∷ ys)) × ((d : Source) → (k ≡ note_to part kind (get_or (y ∷ ys) j d)) × (rank_of (get_or (y ∷ ys) j d).0 ≡ r)))
-    at false before = inl before
-    at true before = elim (had_before r (note_to part kind y) k notes before) [ inl old ↦ inl old | inr new ↦ inr (0, (omega arith), λ d. new) ]
-
 -- Where q is the one board that becomes spread, its notes for the block are all that is new.
 pub hears_spread : (old new : Part) (notes : List Note) (q : List ℕ) (sources : List Source) (kind : Kind) (v : ℤ) (d : ℕ) → IsInjective → HearsOwn old notes → AreSources q sources
     → ((p : List ℕ) (x : ℕ) (r : List ℕ) → IsBoard p → IsQuietMove p x r → IsBoard r × (sum r ≡ sum p))
@@ -113,45 +76,48 @@ pub hears_spread : (old new : Part) (notes : List Note) (q : List ℕ) (sources 
     → ((r : ℕ) (v : ℤ) (d : ℕ) → InBlock new r → IsSpread old r v d → IsSpread new r v d)
     → IsSpread new (rank_of q) v d
     → ((r : ℕ) (u : ℤ) (e : ℕ) → InBlock new r → IsSpread new r u e → IsSpread old r u e ⊎ ((r ≡ rank_of q) × (u ≡ v) × (e ≡ d)))
-    → ((y : Source) → IsQuietMove y.0 y.1 q → sum y.0 ≡ old.level → IsNoteOf q v d y.0 y.1 (note_to old kind y))
-    → HearsOwn new (with_all_own old kind notes sources)
-hears_spread old new notes q sources kind v d injective own are keeps is_q stones level inside held forth spread back fits = record {
-  true_notes = λ p x q' is st in_p in_q quiet k has pit. elim (had_first old kind (rank_of p) sources k notes has) [
+    → AreNotesOf q v d sources (map (note_to old kind) sources)
+    → HearsOwn new (with_heard (own_notes old kind sources) notes)
+hears_spread old new notes q sources kind v d injective own are keeps is_q stones level inside held forth spread back gives = record {
+  true_notes = λ p x q' is st in_p in_q quiet k has pit. elim (for_either (own_notes old kind sources) notes (rank_of p) k has) [
     | inl before ↦ (let told = own.true_notes p x q' is (st ∙ level) (inside _ in_p) (inside _ in_q) quiet k before pit in (told.0, told.1, forth (rank_of q') told.0 told.1 in_q told.2, told.3))
-    | inr later ↦ true_new p x q' is (st ∙ level) quiet k pit later.0 later.1 (later.2 (p, x))
+    | inr later ↦ true_new p x q' is (st ∙ level) quiet k pit (Has-filter own_note (map (note_to old kind) sources) k later.0).0 later.1
   ];
   all_notes = λ p x q' u e is st in_p in_q quiet there. elim (back (rank_of q') u e in_q there) [
-    | inl before ↦ (let told = own.all_notes p x q' u e is (st ∙ level) (inside _ in_p) (inside _ in_q) quiet before in (told.0, has_all_more old kind (rank_of p) sources told.0 notes told.1, told.2))
+    | inl before ↦ (let told = own.all_notes p x q' u e is (st ∙ level) (inside _ in_p) (inside _ in_q) quiet before in (told.0, for_still (own_notes old kind sources) notes (rank_of p) told.0 told.1, told.2))
     | inr here ↦ all_new p x q' u e is (st ∙ level) in_p quiet here
   ];
 }
   where
-    true_new : (p : List ℕ) (x : ℕ) (q' : List ℕ) → IsBoard p → sum p ≡ old.level → IsQuietMove p x q' → (k : Note) → k.pit ≡ x → (j : ℕ) → j < length sources
-        → (k ≡ note_to old kind (get_or sources j (p, x))) × (rank_of (get_or sources j (p, x)).0 ≡ rank_of p)
+    own_note : Note → Bool
+    own_note m = is_held old m.target
+
+    true_new : (p : List ℕ) (x : ℕ) (q' : List ℕ) → IsBoard p → sum p ≡ old.level → IsQuietMove p x q' → (k : Note) → k.pit ≡ x → Has (map (note_to old kind) sources) k → k.target ≡ rank_of p
         → (u : ℤ) × (e : ℕ) × IsSpread new (rank_of q') u e × IsNoteOf q' u e p x k
-    true_new p x q' is st quiet k pit j h found =
+    true_new p x q' is st quiet k pit has target =
+        let (j, low, fits) = source_of q v d sources (map (note_to old kind) sources) gives k has in
         let y : Source = get_or sources j (p, x) in
-        let each = are.each j (p, x) h in
-        let boards : y.0 ≡ p = injective y.0 p each.0 is (each.1 ∙ stones ∙ sym st) found.1 in
-        let pits : y.1 ≡ x = sym (ap (λ (m : Note). m.pit) found.0) ∙ pit in
+        let note : IsNoteOf q v d y.0 y.1 k = fits (p, x) in
+        let each = are.each j (p, x) low in
+        let boards : y.0 ≡ p = injective y.0 p each.0 is (each.1 ∙ stones ∙ sym st) (sym note.target ∙ target) in
+        let pits : y.1 ≡ x = sym note.pit ∙ pit in
         let same : q ≡ q' = each.2.leaves ∙ ap (λ b. next_board b y.1) boards ∙ ap (next_board p) pits ∙ sym quiet.leaves in
-        let note : IsNoteOf q v d y.0 y.1 k = subst (IsNoteOf q v d y.0 y.1) (sym found.0) (fits y each.2 (each.1 ∙ stones)) in
         let at_p : IsNoteOf q v d p x k = subst₂ (λ (b : List ℕ) (z : ℕ). IsNoteOf q v d b z k) boards pits note in
         (v, d, subst (λ (b : List ℕ). IsSpread new (rank_of b) v d) same spread, subst (λ (b : List ℕ). IsNoteOf b v d p x k) same at_p)
 
     all_new : (p : List ℕ) (x : ℕ) (q' : List ℕ) (u : ℤ) (e : ℕ) → IsBoard p → sum p ≡ old.level → InBlock new (rank_of p) → IsQuietMove p x q' → (rank_of q' ≡ rank_of q) × (u ≡ v) × (e ≡ d)
-        → (m : Note) × Has (notes_for (rank_of p) (with_all_own old kind notes sources)) m × IsNoteOf q' u e p x m
+        → (m : Note) × Has (notes_for (rank_of p) (with_heard (own_notes old kind sources) notes)) m × IsNoteOf q' u e p x m
     all_new p x q' u e is st in_p quiet here =
         let there = keeps p x q' is quiet in
         let same : q' ≡ q = injective q' q there.0 is_q (there.1 ∙ st ∙ sym stones) here.0 in
-        let to_q : IsQuietMove p x q = subst (IsQuietMove p x) same quiet in
-        let found = are.every p x is to_q in
-        let y : Source = (p, x) in
-        let has : Has (notes_for (rank_of p) (with_all_own old kind notes sources)) (note_to old kind y) =
-        subst (λ (z : Source). Has (notes_for (rank_of z.0) (with_all_own old kind notes sources)) (note_to old kind z)) found.2
-        (has_source old kind sources found.0 y notes found.1 (subst (λ (z : Source). is_held old (rank_of z.0) ≡ true) (sym found.2) (held (rank_of p) in_p))) in
-        let note : IsNoteOf q v d p x (note_to old kind y) = fits y to_q st in
-        (note_to old kind y, has, subst₂ (λ (w : ℤ) (f : ℕ). IsNoteOf q' w f p x (note_to old kind y)) (sym here.1) (sym here.2) (subst (λ (b : List ℕ). IsNoteOf b v d p x (note_to old kind y)) (sym same) note))
+        let found = are.every p x is (subst (IsQuietMove p x) same quiet) in
+        let (m, has, fits) = note_of q v d sources (map (note_to old kind) sources) gives found.0 (p, x) found.1 in
+        let note : IsNoteOf q v d p x m = subst (λ (z : Source). IsNoteOf q v d z.0 z.1 m) found.2 fits in
+        let mine = Has-chosen own_note (map (note_to old kind) sources) m has (subst (λ r. is_held old r ≡ true) (sym note.target) (held (rank_of p) in_p)) in (
+          m,
+          subst (λ r. Has (notes_for r (with_heard (own_notes old kind sources) notes)) m) note.target (for_new (own_notes old kind sources) notes m mine),
+          subst₂ (λ (w : ℤ) (f : ℕ). IsNoteOf q' w f p x m) (sym here.1) (sym here.2) (subst (λ (b : List ℕ). IsNoteOf b v d p x m) (sym same) note),
+        )
 
 -- ---- what is spread, once the first fresh board is
 
@@ -268,8 +234,8 @@ first_spreads old new q score is_q stones settled held few level start len stays
 -- the moves heard that stay in the block are those to spread boards, also once the first fresh board is spread
 pub hears_first : (old new : Part) (notes : List Note) (q : List ℕ) (sources : List Source) (kind : Kind) (v : ℤ) (d : ℕ) → IsInjective → AreSources q sources
     → ((p : List ℕ) (x : ℕ) (r : List ℕ) → IsBoard p → IsQuietMove p x r → IsBoard r × (sum r ≡ sum p))
-    → SpreadsOne old new q v d → ((y : Source) → IsQuietMove y.0 y.1 q → sum y.0 ≡ old.level → IsNoteOf q v d y.0 y.1 (note_to old kind y))
-    → HearsOwn old notes → HearsOwn new (with_all_own old kind notes sources)
+    → SpreadsOne old new q v d → AreNotesOf q v d sources (map (note_to old kind) sources)
+    → HearsOwn old notes → HearsOwn new (with_heard (own_notes old kind sources) notes)
 hears_first old new notes q sources kind v d injective are keeps one gives own =
     hears_spread old new notes q sources kind v d injective own are keeps one.board one.stones one.block.level inside
     (λ r in_r. let i = inside r in_r in held_is old.start r (length old.cells) i.0 i.1)

@@ -1,5 +1,6 @@
 pub mod Lists
 pub mod LeavingMoves
+pub mod SpreadNotes
 pub mod Spreading
 pub mod Hearing
 pub mod ScannedOwners
@@ -11,7 +12,6 @@ pub mod Queueing
 pub mod Sharing
 pub mod Expecting
 pub mod Levels
-pub mod SpreadNotes
 pub mod Sounding
 pub mod Giving
 pub mod SpreadFaults

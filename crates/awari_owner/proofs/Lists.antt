@@ -1,25 +1,7 @@
 -- Lists of notes, joined end to end, and lists that are written over.
-use Rattle.std.proofs.Common.{◌≡◌, inl, inr, Bool, true, false, cond, nat_lt, List, [], ◌∷◌, ◌++◌, length, refl, sym, ap, ◌∙◌, append_assoc, append-nil, fold}
-use Rattle.awari_block.specs.Notes.{Has}
+use Rattle.std.proofs.Common.{◌≡◌, Bool, true, false, cond, nat_lt, List, [], ◌∷◌, ◌++◌, length, refl, sym, ap, ◌∙◌, append_assoc, append-nil, fold}
 use Rattle.awari_owner.specs.Outboxes.{put_behind, with_note, with_notes, notes_of}
 use Rattle.awari_block.specs.declared.notes.Note.{Note}
-use Rattle.awari_owner.specs.Sound.{AreOfOtherMoves}
-use Rattle.awari_block.proofs.NoteLists.{Has-append_right, Has-append_cases}
-
--- two notes of a list without equal moves
-pub once_apart : (xs ys : List Note) (m k : Note) → AreOfOtherMoves (xs ++ m ∷ ys) → Has xs k → k.target ≡ m.target → k.pit ≡ m.pit → ⊥
-once_apart [] ys m k once h target pit = absurd h
-once_apart (x ∷ xs) ys m k once (inl e) target pit =
-    once.0 m (Has-append_right xs (m ∷ ys) m (inl refl)) (sym target ∙ ap (λ (j : Note). j.target) e) (sym pit ∙ ap (λ (j : Note). j.pit) e)
-once_apart (x ∷ xs) ys m k once (inr h) target pit = once_apart xs ys m k once.1 h target pit
-
--- more notes, of moves that are not among the first
-pub once_more : (xs ys : List Note) → AreOfOtherMoves xs → AreOfOtherMoves ys → ((k m : Note) → Has xs k → Has ys m → m.target ≡ k.target → m.pit ≡ k.pit → ⊥) → AreOfOtherMoves (xs ++ ys)
-once_more [] ys a b apart = b
-once_more (x ∷ xs) ys a b apart = (
-  λ k has target pit. elim (Has-append_cases xs ys k has) [ inl before ↦ a.0 k before target pit | inr after ↦ apart x k (inl refl) after target pit ],
-  once_more xs ys a.1 b (λ k m h. apart k m (inr h)),
-)
 
 -- ---- batches
 

@@ -1,5 +1,5 @@
 -- How boards are shared out, and what is sent where.
-use Rattle.std.proofs.Common.{◌≡◌, ℕ, suc, ◌+◌, ◌-◌, ◌*◌, ◌/◌, ◌<◌, ◌≤◌, ◌==◌, inl, inr, Bool, true, false, not, ◌&&◌, cond, nat_le, nat_lt, min, List, [], ◌∷◌, length, get_or, map, filter, sum, ℤ, All, refl, sym, ap, subst₂, ◌∙◌, arith, eqb-true}
+use Rattle.std.proofs.Common.{◌≡◌, ℕ, suc, ◌+◌, ◌-◌, ◌*◌, ◌/◌, ◌<◌, ◌≤◌, ◌==◌, inl, inr, Bool, true, false, not, ◌&&◌, cond, nat_le, nat_lt, min, List, [], ◌∷◌, length, get_or, map, filter, sum, All, refl, sym, ap, subst₂, ◌∙◌, arith, eqb-true}
 use Rattle.std.proofs.lemmas.Bool.{cases_lt, cases_eq, false≢true}
 use Rattle.std.proofs.lemmas.Bool.Decides.{nat_tests}
 use Rattle.std.proofs.lemmas.Nat.{le-div, div_below, div-add-mod', mod_below, mul-le}
@@ -7,20 +7,21 @@ use Rattle.std.proofs.Math.Nat.{div-one, suc-mul, div-mul-le_self, lt-div-mul-ad
 use Rattle.awari_board.specs.Rules.{IsBoard}
 use Rattle.awari_rank.specs.Rank.{rank_of, size_of}
 use Rattle.awari_rank.proofs.Ranking.{rank_of-below}
-use Rattle.awari_block.specs.Notes.{IsQuietMove, IsNoteOf}
+use Rattle.awari_block.specs.Notes.{IsQuietMove}
 use Rattle.awari_heard.specs.Level.{IsWhole}
 use Rattle.awari_block.specs.Shares.{first_rank}
 use Rattle.awari_owner.specs.Outboxes.{Outboxes, with_note, with_notes}
 use Rattle.awari_owner.specs.Queues.{Queue, batches_of, queue_in, room_in}
 use Rattle.awari_block.specs.Part.{Part, stored_at}
 use Rattle.awari_scan.specs.Found.{Source}
-use Rattle.awari_owner.specs.Spread.{is_held, note_to, kind_of, is_in_block, IsPartOf, AreNotesOf, Sends, goes_to, with_sent, with_all_sent, PutsAll}
+use Rattle.awari_owner.specs.Spread.{is_held, note_to, kind_of, is_in_block, IsPartOf, Sends, goes_to, with_sent, with_all_sent, PutsAll}
 use Rattle.awari_block.specs.declared.notes.Note.{Note}
 use Rattle.awari_block.specs.declared.notes.Kind.{Kind}
 use Rattle.awari_owner.proofs.Sending.{batches_length}
 use Rattle.awari_owner.proofs.Firsts.{IsTold}
 use Rattle.awari_owner.proofs.Hearing.{note_fits}
 use Rattle.awari_owner.proofs.Spreading.{AreSources}
+use Rattle.awari_owner.proofs.SpreadNotes.{gives_by}
 
 -- another number's test
 neq : (a b : ℕ) → (a ≡ b → ⊥) → (a == b) ≡ false
@@ -127,15 +128,6 @@ other_owner part outboxes is many r below out =
     eqb_same a b e = grind (arith, nat_tests)
 
 -- ---- the notes
-
-gives_by : (part : Part) (q : List ℕ) (score : ℤ) (kind : Kind) (sources : List Source)
-    → ((y : Source) → IsQuietMove y.0 y.1 q → sum y.0 ≡ part.level → IsNoteOf q score part.wave y.0 y.1 (note_to part kind y))
-    → All (λ (y : Source). IsBoard y.0 × (sum y.0 ≡ sum q) × IsQuietMove y.0 y.1 q) sources → sum q ≡ part.level
-    → AreNotesOf q score part.wave sources (map (note_to part kind) sources)
-gives_by part q score kind [] fits each level = tt
-gives_by part q score kind (y ∷ sources) fits each level =
-    let here = each 0 y (omega arith) in
-    (fits y here.2 (here.1 ∙ level), gives_by part q score kind sources fits (λ k d h. each (suc k) d (omega (arith, h))) level)
 
 -- where each source goes to this owner just where its note is for the owner's block
 sent_by : (part : Part) (span to : ℕ) (kind : Kind) (test : ℕ → Bool) (sources : List Source) → All (λ (y : Source). goes_to part span to y ≡ test (rank_of y.0)) sources

@@ -1,21 +1,21 @@
 -- The notes that a spread board gives, those among them for one block, and those of the own one.
-use Rattle.std.proofs.Common.{◌≡◌, ℕ, zero, suc, ◌<◌, ◌⊎◌, inl, inr, Bool, true, false, cond, List, [], ◌∷◌, length, get_or, filter, slice_index, sum, ℤ, pos, neg_ℤ, ◌<ℤ◌, All, refl, sym, ap, subst, ◌∙◌, arith}
+use Rattle.std.proofs.Common.{◌≡◌, ℕ, zero, suc, ◌<◌, ◌⊎◌, inl, inr, Bool, true, false, cond, List, [], ◌∷◌, length, get_or, filter, sum, ℤ, pos, neg_ℤ, ◌<ℤ◌, All, refl, sym, ap, subst, ◌∙◌, arith, map}
 use Rattle.std.specs.List.{AllPairs}
 use Rattle.std.proofs.lemmas.Int.{ints}
 use Rattle.std.proofs.lemmas.Bool.{false≢true}
 use Rattle.awari_board.specs.Rules.{IsBoard}
-use Rattle.awari_rank.specs.Rank.{rank_of}
 use Rattle.awari_unmove.specs.Predecessors.{ComesBefore}
 use Rattle.awari_block.specs.Notes.{IsQuietMove, Has, IsNoteOf, gain_by}
 use Rattle.awari_block.specs.Cells.{IsEither}
 use Rattle.awari_block.specs.Part.{Part}
 use Rattle.awari_scan.specs.Found.{Source}
-use Rattle.awari_owner.specs.Spread.{AreNotesOf, is_held, note_to, with_own, with_all_own}
+use Rattle.awari_owner.specs.Spread.{AreNotesOf, note_to}
 use Rattle.awari_block.specs.declared.notes.Kind.{Kind}
 use Rattle.awari_block.specs.declared.notes.Kind.TheVariants.{Won, Lost}
 use Rattle.awari_block.specs.declared.notes.Note.{Note}
 use Rattle.awari_heard.proofs.SpreadBoards.{IsInjective}
-use Rattle.awari_owner.specs.Sound.{AreOfOtherMoves}
+use Rattle.awari_heard.specs.Heard.{AreOfOtherMoves}
+use Rattle.awari_scan.proofs.Finding.{not_before_itself}
 
 -- ---- notes of a board
 
@@ -34,11 +34,14 @@ note_of q v w (y ∷ sources) [] are j d h = absurd are
 note_of q v w (y ∷ sources) (k ∷ notes) are zero d h = (k, inl refl, are.0)
 note_of q v w (y ∷ sources) (k ∷ notes) are (suc j) d h = let (m, has, note) = note_of q v w sources notes are.1 j d (omega (arith, h)) in (m, inr has, note)
 
-not_before_itself : (a b : Source) → a.0 ≡ b.0 → a.1 ≡ b.1 → ComesBefore a b → ⊥
-not_before_itself a b boards pits (inl less) = omega (arith, less, pits)
-not_before_itself a b boards pits (inr more) =
-    let same : slice_index a.0 a.1 ≡ slice_index b.0 b.1 = ap (λ (p : List ℕ). slice_index p a.1) boards ∙ ap (slice_index b.0) pits in
-    let less = more.1 in omega (arith, less, same)
+pub gives_by : (part : Part) (q : List ℕ) (score : ℤ) (kind : Kind) (sources : List Source)
+    → ((y : Source) → IsQuietMove y.0 y.1 q → sum y.0 ≡ part.level → IsNoteOf q score part.wave y.0 y.1 (note_to part kind y))
+    → All (λ (y : Source). IsBoard y.0 × (sum y.0 ≡ sum q) × IsQuietMove y.0 y.1 q) sources → sum q ≡ part.level
+    → AreNotesOf q score part.wave sources (map (note_to part kind) sources)
+gives_by part q score kind [] fits each level = tt
+gives_by part q score kind (y ∷ sources) fits each level =
+    let here = each 0 y (omega arith) in
+    (fits y here.2 (here.1 ∙ level), gives_by part q score kind sources fits (λ k d h. each (suc k) d (omega (arith, h))) level)
 
 -- the notes of a board are of moves of their own
 pub notes_once : IsInjective → (q : List ℕ) (v : ℤ) (w : ℕ) (sources : List Source) (notes : List Note) → AreNotesOf q v w sources notes
@@ -85,29 +88,6 @@ filter_once test (k ∷ notes) once = at (test k) (filter_once test notes once.1
     at : (b : Bool) → AreOfOtherMoves (filter test notes) → AreOfOtherMoves (cond b (k ∷ filter test notes) (filter test notes))
     at true rest = (λ m has. once.0 m (Has-filter test notes m has).0, rest)
     at false rest = rest
-
--- ---- the notes of the own block
-
-pub own_before : (part : Part) (kind : Kind) (sources : List Source) (notes : List Note) (m : Note) → Has notes m → Has (with_all_own part kind notes sources) m
-own_before part kind [] notes m has = has
-own_before part kind (y ∷ sources) notes m has = own_before part kind sources (with_own part kind notes y) m (at (is_held part (rank_of y.0)))
-  where
-    at : (b : Bool) → Has (cond b (note_to part kind y ∷ notes) notes) m
-    at true = inr has
-    at false = has
-
-pub own_cases : (part : Part) (kind : Kind) (sources : List Source) (notes : List Note) (m : Note) → Has (with_all_own part kind notes sources) m
-    → Has notes m ⊎ ((j : ℕ) × (j < length sources) × ((d : Source) → m ≡ note_to part kind (get_or sources j d)))
-own_cases part kind [] notes m has = inl has
-own_cases part kind (y ∷ sources) notes m has = elim (own_cases part kind sources (with_own part kind notes y) m has) [
-  | inl before ↦ at (is_held part (rank_of y.0)) before
-  | inr later ↦ (let (j, low, is) = later in inr (suc j, omega (arith, low), is))
-]
-  where
-    at : (b : Bool) → Has (cond b (note_to part kind y ∷ notes) notes) m → Has notes m ⊎ ((j : ℕ) × (j < length (y ∷ sources)) × ((d : Source) → m ≡ note_to part kind (get_or (y ∷ sources) j d)))
-    at false h = inl h
-    at true (inl e) = inr (0, omega arith, λ d. e)
-    at true (inr h) = inl h
 
 -- the gain of the notes is the open one
 pub gain_is : (t g : ℕ) (v : ℤ) (kind : Kind) → IsEither t v → ((kind ≡ Won) × (pos 0 <ℤ v)) ⊎ ((kind ≡ Lost) × (v <ℤ pos 0)) → gain_by kind g ≡ neg_ℤ v → g ≡ t

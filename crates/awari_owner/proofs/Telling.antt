@@ -1,23 +1,24 @@
 -- The predecessors of a board are told one by one.
-use Rattle.std.proofs.Common.{◌≡◌, ℕ, ◌+◌, ◌/◌, ◌<◌, ◌≤◌, ℤ, false, List, [], ◌∷◌, ◌++◌, length, get_or, sum, refl, sym, ap, subst, ◌∙◌, arith, append_assoc, append-nil, length-append}
+use Rattle.std.proofs.Common.{◌≡◌, ℕ, ◌+◌, ◌/◌, ◌<◌, ◌≤◌, false, List, [], ◌∷◌, ◌++◌, length, get_or, sum, refl, sym, ap, subst, ◌∙◌, arith, append_assoc, append-nil, length-append}
 use Rattle.std.proofs.lemmas.List.{length_push}
 use Rattle.awari_board.specs.Rules.{IsBoard}
 use Rattle.awari_rank.specs.Rank.{rank_of, size_of}
 use Rattle.awari_rank.proofs.Ranking.{rank_of-below}
 use Rattle.awari_unmove.specs.Predecessors.{IsPredecessors}
 use Rattle.awari_unmove.proofs.Walking.{IsQuiet-next}
-use Rattle.awari_block.specs.Notes.{IsQuietMove, is_heard_at}
-use Rattle.awari_block.specs.Part.{Part, InBlock, IsTallied, notes_for}
+use Rattle.awari_block.specs.Notes.{IsQuietMove}
+use Rattle.awari_block.specs.Part.{Part}
 use Rattle.awari_block.specs.Boards.{Settles}
 use Rattle.awari_block.specs.declared.notes.Kind.{Kind}
-use Rattle.awari_block.specs.declared.notes.Note.{Note}
 use Rattle.awari_scan.specs.Found.{target_of, Lists, Source, IsSource}
 use Rattle.awari_owner.specs.Queues.{Queue, queue_in, room_in}
-use Rattle.awari_owner.specs.Spread.{is_held, TellsSources, PutsAll, with_own, with_sent}
+use Rattle.awari_owner.specs.Spread.{is_held, PutsAll, with_sent, own_notes}
 use Rattle.awari_scan.specs.declared.targets.Target.{Target}
 use Rattle.awari_scan.proofs.Finding.{Lists-at, IsNext, split_left}
-use Rattle.awari_owner.proofs.Spreading.{held_still, told_none, told_more}
+use Rattle.awari_owner.proofs.Spreading.{held_still, told_more}
 use Rattle.awari_owner.proofs.Sending.{puts_more}
+use Rattle.awari_heard.specs.Heard.{HearsNotes}
+use Rattle.awari_heard.proofs.Coming.{hears_none}
 
 -- Of the n predecessors of q that are listed, the first k are told.
 pub record IsTelling (old now : Part) (span : ℕ) (kind : Kind) (before after : List Queue) (q : List ℕ) (targets : List Target) (n k : ℕ) : Type 0 where
@@ -26,7 +27,7 @@ pub record IsTelling (old now : Part) (span : ℕ) (kind : Kind) (before after :
   pub many : length seen ≡ k
   pub predecessors : IsPredecessors q (seen ++ left)
   pub listed : Lists targets n (seen ++ left)
-  pub told : TellsSources old now kind seen
+  pub told : HearsNotes (own_notes old kind seen) old now
   pub sent : PutsAll old span kind before after seen
   pub room : (r : ℕ) → r < size_of old.level → is_held old r ≡ false → (r / span < length before) × (288 ≤ room_in after (r / span) + k)
 
@@ -40,7 +41,7 @@ IsTelling-none old span kind before q targets n found room = record {
   many = refl;
   predecessors = found.1;
   listed = found.2;
-  told = told_none old kind;
+  told = hears_none old;
   sent = λ to inside. refl;
   room = λ r below out. let at = room r below out in (at.0, (let much = at.1 in omega (arith, much)));
 }
@@ -76,8 +77,7 @@ next_has_room old now span kind before after q targets n k y telling settles man
 -- it is told
 pub IsTelling-more : (old now new : Part) (span : ℕ) (kind : Kind) (before middle after : List Queue) (q : List ℕ) (targets : List Target) (n k : ℕ) (t : Target)
     → (telling : IsTelling old now span kind before middle q targets n k) → Settles old now → length middle ≡ length before → IsNext q old.level telling.seen telling.left t
-    → ((y : Source) → target_of y ≡ t → IsSource now.level y → (value : List ℕ → ℤ) (notes : List Note)
-    → (InBlock now (rank_of y.0) → is_heard_at (notes_for (rank_of y.0) notes) y.1 ≡ false) → IsTallied value now notes → IsTallied value new (with_own now kind notes y))
+    → ((y : Source) → target_of y ≡ t → HearsNotes (own_notes now kind (y ∷ [])) now new)
     → ((y : Source) → target_of y ≡ t → (to : ℕ) → to < length middle → queue_in after to ≡ with_sent now span to kind (queue_in middle to) y)
     → ((to : ℕ) → room_in middle to ≤ room_in after to + 1)
     → IsTelling old new span kind before after q targets n (k + 1)
@@ -91,7 +91,7 @@ IsTelling-more old now new span kind before middle after q targets n k t telling
       predecessors = subst (IsPredecessors q) all telling.predecessors;
       listed = subst (Lists targets n) all telling.listed;
       told = told_more old now new kind telling.seen next.y same.level same.gain same.wave same.start settles.size telling.told
-          (told next.y next.at (subst (λ m. IsSource m next.y) (sym same.level) next.source));
+          (told next.y next.at);
       sent = puts_more old now span kind before middle after telling.seen next.y same.level same.gain same.wave same.start settles.size many telling.sent (sent next.y next.at);
       room = λ r below out.
           let at = telling.room r below out in
@@ -103,7 +103,7 @@ IsTelling-more old now new span kind before middle after q targets n k t telling
 -- in the end all are
 pub IsTelling-end : (old now : Part) (span : ℕ) (kind : Kind) (before after : List Queue) (q : List ℕ) (targets : List Target) (n k : ℕ)
     → IsTelling old now span kind before after q targets n k → n ≤ k
-    → (sources : List Source) × IsPredecessors q sources × TellsSources old now kind sources × PutsAll old span kind before after sources
+    → (sources : List Source) × IsPredecessors q sources × HearsNotes (own_notes old kind sources) old now × PutsAll old span kind before after sources
 IsTelling-end old now span kind before after q targets n k telling end =
     let none = nothing_left telling.seen telling.left (let many = telling.many in let all = telling.listed.many in omega (arith, many, all, end)) in
     (telling.seen, subst (IsPredecessors q) (ap (λ l. telling.seen ++ l) none ∙ append-nil telling.seen) telling.predecessors, telling.told, telling.sent)

@@ -17,7 +17,7 @@ use Rattle.awari_block.specs.Part.{Part, AreFresh, HasFarthest, InBlock, IsExpec
 use Rattle.awari_block.specs.Shares.{first_rank}
 use Rattle.awari_owner.specs.OwnerFault.{IsFaultOf}
 use Rattle.awari_owner.specs.Outboxes.{Outboxes, notes_of, queue_to}
-use Rattle.awari_heard.specs.Heard.{HearsOwn, IsSeenAs, IsSpread}
+use Rattle.awari_heard.specs.Heard.{HearsOwn, IsSeenAs, IsSpread, AreOfOtherMoves}
 use Rattle.awari_scan.specs.Found.{Source}
 use Rattle.awari_owner.specs.Spread.{Sends, Spreads}
 use Rattle.awari_owner.specs.declared.faults.OwnerFault.{OwnerFault}
@@ -32,11 +32,6 @@ IsOtherOf owner owners j = (j ≢ owner) × (j < owners)
 -- the board of this rank is in the block of owner j
 abbrev pub IsInBlockOf : ℕ → ℕ → ℕ → ℕ → Type 0
 IsInBlockOf level owners j rank = (first_rank (size_of level) owners j ≤ rank) × (rank < first_rank (size_of level) owners (j + 1))
-
--- no two notes are of one move
-abbrev pub AreOfOtherMoves : List Note → Type 0
-AreOfOtherMoves [] = Unit {0}
-AreOfOtherMoves (m ∷ notes) = ((k : Note) → Has notes k → k.target ≡ m.target → k.pit ≡ m.pit → ⊥) × AreOfOtherMoves notes
 
 -- The notes that the spread boards of the part give to the boards of owner j's block, each once, and nothing else.
 pub record HoldsNotes (owners : ℕ) (part : Part) (j : ℕ) (notes : List Note) : Type 0 where

@@ -1,20 +1,20 @@
 -- The notes that a settled board gives to the boards of its own block, what a part hears of the boards of another, and what is sent.
-use Rattle.std.specs.Prelude.{◌≡◌, ℕ, ◌+◌, ◌-◌, ◌^◌, ◌<◌, ◌≤◌, ◌⊎◌, ◌&&◌, Bool, false, ◌==◌, nat_le, nat_lt, if◌then◌else◌, List, ◌∷◌, ◌++◌, [], ◌/◌, not, length, fold, filter, sum, All, ℤ, pos, int_lt, Some}
+use Rattle.std.specs.Prelude.{◌≡◌, ℕ, ◌+◌, ◌-◌, ◌^◌, ◌<◌, ◌≤◌, ◌⊎◌, ◌&&◌, Bool, ◌==◌, nat_le, nat_lt, if◌then◌else◌, List, ◌∷◌, [], ◌/◌, not, length, fold, filter, sum, All, ℤ, pos, int_lt, Some, map}
 use Rattle.awari_board.specs.Rules.{IsBoard}
 use Rattle.awari_rank.specs.Rank.{rank_of, size_of}
-use Rattle.awari_block.specs.Notes.{IsQuietMove, is_heard_at, IsNoteOf}
+use Rattle.awari_block.specs.Notes.{IsQuietMove, IsNoteOf}
 use Rattle.awari_unmove.specs.Predecessors.{IsPredecessors}
 use Rattle.awari_block.specs.Cells.{IsEither}
 use Rattle.awari_block.specs.Blocks.{times_due, due_dist, due_rank, is_settled_in}
 use Rattle.awari_block.specs.declared.notes.Kind.TheVariants.{Won, Lost}
-use Rattle.awari_block.specs.Part.{Part, InBlock, IsTallied, notes_for, settled_at, stored_at}
+use Rattle.awari_block.specs.Part.{Part, InBlock, IsTallied, settled_at, stored_at}
 use Rattle.awari_block.specs.Shares.{first_rank}
 use Rattle.awari_owner.specs.Outboxes.{Outboxes, queue_to, with_note, with_notes}
 use Rattle.awari_owner.specs.Queues.{Queue, queue_in}
 use Rattle.awari_block.specs.declared.notes.Note.{Note}
 use Rattle.awari_block.specs.declared.notes.Kind.{Kind}
 use Rattle.awari_scan.specs.Found.{Source}
-use Rattle.awari_heard.specs.Heard.{IsSpread, HearsOwn, SameBlock}
+use Rattle.awari_heard.specs.Heard.{IsSpread, HearsOwn, SameBlock, with_heard}
 
 -- whether the board of this rank is in the block
 abbrev pub is_held : Part → ℕ → Bool
@@ -24,25 +24,9 @@ is_held part rank = nat_le part.start rank && nat_lt (rank - part.start) (length
 abbrev pub note_to : Part → Kind → Source → Note
 note_to part kind y = record { level = part.level; target = rank_of y.0; pit = y.1; kind = kind; gain = part.gain; dist = part.wave }
 
--- one more note, where the board is of the block
-abbrev pub with_own : Part → Kind → List Note → Source → List Note
-with_own part kind notes y = if is_held part (rank_of y.0) then note_to part kind y ∷ notes else notes
-
--- and those of all these, one after the other
-abbrev pub with_all_own : Part → Kind → List Note → List Source → List Note
-with_all_own part kind notes sources = fold (with_own part kind) notes sources
-
--- of those in the block, no pit was heard, neither in these notes nor earlier among these
-abbrev pub AreUnheard : Part → Kind → List Note → List Source → Type 0
-AreUnheard part kind notes sources =
-    (before after : List Source) (y : Source) → sources ≡ before ++ y ∷ after → InBlock part (rank_of y.0)
-    → is_heard_at (notes_for (rank_of y.0) (with_all_own part kind notes before)) y.1 ≡ false
-
--- between these two the notes of all these sources that are of the block were heard
-abbrev pub TellsSources : Part → Part → Kind → List Source → Type 0
-TellsSources old new kind sources =
-    (value : List ℕ → ℤ) (notes : List Note) → AreUnheard old kind notes sources → IsTallied value old notes
-    → IsTallied value new (with_all_own old kind notes sources)
+-- those of these notes that are for boards of the block
+abbrev pub own_notes : Part → Kind → List Source → List Note
+own_notes part kind sources = filter (λ m. is_held part m.target) (map (note_to part kind) sources)
 
 -- the kind of the notes of a settled board
 abbrev pub kind_of : ℤ → Kind
@@ -86,9 +70,9 @@ pub record Spreads (old new : Part) (q : List ℕ) (sources : List Source) : Typ
       → IsNoteOf q (stored_at old (rank_of q)).score old.wave y.0 y.1 (note_to old (kind_of (stored_at old (rank_of q)).score) y)
   pub leaves : LeavesFresh old new (rank_of q)
   pub told : (value : List ℕ → ℤ) (notes : List Note) → HearsOwn old notes → IsTallied value old notes
-      → IsTallied value new (with_all_own old (kind_of (stored_at old (rank_of q)).score) notes sources)
+      → IsTallied value new (with_heard (own_notes old (kind_of (stored_at old (rank_of q)).score) sources) notes)
   pub hears : (notes : List Note) → HearsOwn old notes
-      → HearsOwn new (with_all_own old (kind_of (stored_at old (rank_of q)).score) notes sources)
+      → HearsOwn new (with_heard (own_notes old (kind_of (stored_at old (rank_of q)).score) sources) notes)
 
 -- ---- what is sent to other owners
 

@@ -1,17 +1,15 @@
 //! How the predecessors of a board that is spread hear of it. Those in the block hear at once, the
 //! others by notes that go to their owners' queues.
 
-ghost use Rattle.std.specs.Prelude.{◌≡◌, ℕ, ℤ, ◌+◌, ◌-◌, ◌^◌, ◌<◌, ◌≤◌, ◌/◌, List, vec_len, false};
-ghost use Rattle.awari_rank.specs.Rank.{rank_of, size_of};
+ghost use Rattle.std.specs.Prelude.{◌≡◌, ℕ, ◌+◌, ◌-◌, ◌^◌, ◌<◌, ◌≤◌, ◌/◌, ◌∷◌, [], List, vec_len, false};
+ghost use Rattle.awari_rank.specs.Rank.{size_of};
 ghost use Rattle.awari_owner.specs.Queues.{queue_in, room_in};
 ghost use Rattle.awari_unmove.specs.Predecessors.{IsPredecessors};
-ghost use Rattle.awari_block.specs.Notes.{is_heard_at};
-ghost use Rattle.awari_block.specs.Part.{InBlock, IsTallied, notes_for};
 ghost use Rattle.awari_block.specs.Boards.{Settles};
 ghost use Rattle.awari_owner.specs.Lookahead.{ArePredecessors};
-ghost use Rattle.awari_scan.specs.Found.{target_of, Source, IsSource};
-ghost use Rattle.awari_owner.specs.Spread.{kind_of, is_held, TellsSources, PutsAll, with_own, with_sent};
-ghost use Rattle.awari_block.specs.declared.notes.Note.{Note as NoteView};
+ghost use Rattle.awari_scan.specs.Found.{target_of, Source};
+ghost use Rattle.awari_heard.specs.Heard.{HearsNotes};
+ghost use Rattle.awari_owner.specs.Spread.{kind_of, is_held, own_notes, PutsAll, with_sent};
 
 use crate::lookahead::Predecessors;
 use crate::queues::Queue;
@@ -35,7 +33,7 @@ pub fn tell_all(
     requires blocks { 0 < span }
     requires room { (r : ℕ) → r < size_of boards.old.level → is_held boards.old r ≡ false
         → (r / span < vec_len queues.old) × (288 ≤ room_in queues.old.items (r / span)) }
-    ensures told { (sources : List Source) × IsPredecessors predecessors.now.board sources × TellsSources boards.old boards.new kind sources
+    ensures told { (sources : List Source) × IsPredecessors predecessors.now.board sources × HearsNotes (own_notes boards.old kind sources) boards.old boards.new
         × PutsAll boards.old span kind queues.old.items queues.new.items sources }
     ensures queues { vec_len queues.new ≡ vec_len queues.old }
     ensures settles { Settles boards.old boards.new }
@@ -56,10 +54,7 @@ fn tell_one(boards: &mut Boards, queues: &mut Vec<Queue>, span: u32, kind: Kind,
     requires blocks { 0 < span }
     requires room { is_held boards.old target.rank ≡ false
         → (target.rank / span < vec_len queues.old) × (0 < room_in queues.old.items (target.rank / span)) }
-    ensures told { (y : Source) → target_of y ≡ target → IsSource boards.old.level y → (value : List ℕ → ℤ) (notes : List NoteView)
-        → (InBlock boards.old (rank_of y.0) → is_heard_at (notes_for (rank_of y.0) notes) y.1 ≡ false)
-        → IsTallied value boards.old notes
-        → IsTallied value boards.new (with_own boards.old kind notes y) }
+    ensures told { (y : Source) → target_of y ≡ target → HearsNotes (own_notes boards.old kind (y ∷ [])) boards.old boards.new }
     ensures sent { (y : Source) → target_of y ≡ target → (to : ℕ) → to < vec_len queues.old → queue_in queues.new.items to
         ≡ with_sent boards.old span to kind (queue_in queues.old.items to) y }
     ensures room { (to : ℕ) → room_in queues.old.items to ≤ room_in queues.new.items to + 1 }

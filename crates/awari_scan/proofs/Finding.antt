@@ -1,9 +1,10 @@
 -- The predecessors of a board are found one after the other, and listed.
-use Rattle.std.proofs.Common.{◌≡◌, ℕ, ◌+◌, ◌<◌, ◌≤◌, List, [], ◌∷◌, ◌++◌, length, get_or, set, map, refl, sym, ap, subst, ◌∙◌, arith, length-set, append_assoc, append-nil, suc, length-append}
+use Rattle.std.proofs.Common.{◌≡◌, ℕ, ◌+◌, ◌<◌, ◌≤◌, List, [], ◌∷◌, ◌++◌, length, get_or, set, map, refl, sym, ap, subst, ◌∙◌, arith, length-set, append_assoc, append-nil, suc, length-append, inl, inr, slice_index}
 use Rattle.std.proofs.lemmas.List.{length_push, take_more_set, get_or-take, get_or-map, map-append}
 use Rattle.std.proofs.Math.Seq.{get_or-append_seam}
 use Rattle.awari_scan.specs.Found.{target_of, Lists, Source, IsSource}
 use Rattle.awari_scan.specs.declared.targets.Target.{Target}
+use Rattle.awari_unmove.specs.Predecessors.{ComesBefore}
 
 -- how many items were seen, and how many there are in all
 pub seen_more : {X : Type 0} (seen left more : List X) (x : X) → left ≡ x ∷ more → length (seen ++ left) ≡ length seen + 1 + length more
@@ -75,3 +76,10 @@ IsFinding-more pairs old now found count seen left more y t before is at = recor
   listed = λ front are. subst (Lists (set now count t) (count + 1)) (append_assoc front seen (y ∷ []))
       (Lists-more now count (front ++ seen) y t (IsFinding-place pairs old now found count seen left more y before is) at (before.listed front are));
 }
+
+-- no move comes before itself
+pub not_before_itself : (a b : Source) → a.0 ≡ b.0 → a.1 ≡ b.1 → ComesBefore a b → ⊥
+not_before_itself a b boards pits (inl less) = omega (arith, less, pits)
+not_before_itself a b boards pits (inr more) =
+    let same : slice_index a.0 a.1 ≡ slice_index b.0 b.1 = ap (λ (p : List ℕ). slice_index p a.1) boards ∙ ap (slice_index b.0) pits in
+    let less = more.1 in omega (arith, less, same)

@@ -13,10 +13,11 @@ use Rattle.awari_block.specs.declared.cells.Cell.{Cell}
 use Rattle.awari_block.specs.declared.notes.Kind.{Kind}
 use Rattle.awari_waves.specs.Ahead.{IsBoardOf, TellSettled}
 use Rattle.awari_waves.specs.declared.segments.Segment.TheInside.{Inside}
-use Rattle.awari_waves.specs.Waves.{IsCodeFor, Tells}
+use Rattle.awari_waves.specs.Waves.{IsCodeFor, notes_by}
 use Rattle.awari_waves.proofs.Heard.{stored}
 use Rattle.awari_waves.proofs.Joining.{All-append_first, seen}
 use Rattle.awari_waves.proofs.Telling.{code_still, row_tells, tells_append}
+use Rattle.awari_heard.specs.Heard.{HearsNotes}
 
 -- the cell at an index is that of a board
 pub stored_read : (a : Inside) (part : Part) (index : ℕ) (new : Cell) → seen a ≡ part → CanPut part (part.start + index) new
@@ -83,11 +84,11 @@ batch_codes old now codes start end settles all order k d inside =
     (All-append_first (IsCodeFor old) (slice_range codes start end) (drop end codes) (subst (All (IsCodeFor old)) (drop_split codes start end order) (All-drop (IsCodeFor old) start codes all)) k d inside)
 
 -- and then those behind it
-pub batch_tells : (old now next new : Part) (kind : Kind) (codes : List ℕ) (start end : ℕ) → Settles old now → start ≤ end → Tells (stake_of now) kind (slice_range codes start end) now next
-    → Tells (stake_of old) kind (drop end codes) next new → Tells (stake_of old) kind (drop start codes) now new
-batch_tells old now next new kind codes start end settles order one rest =
-    subst (λ (cs : List ℕ). Tells (stake_of old) kind cs now new) (sym (drop_split codes start end order))
-    (tells_append (stake_of old) kind (slice_range codes start end) (drop end codes) now next new
+pub batch_tells : (old now next new : Part) (kind : Kind) (codes : List ℕ) (start end : ℕ) → Settles old now → next.level ≡ now.level → start ≤ end → HearsNotes (notes_by (stake_of now) kind (slice_range codes start end)) now next
+    → HearsNotes (notes_by (stake_of old) kind (drop end codes)) next new → HearsNotes (notes_by (stake_of old) kind (drop start codes)) now new
+batch_tells old now next new kind codes start end settles level order one rest =
+    subst (λ (cs : List ℕ). HearsNotes (notes_by (stake_of old) kind cs) now new) (sym (drop_split codes start end order))
+    (tells_append (stake_of old) kind (slice_range codes start end) (drop end codes) now next new level
     (row_tells old now next kind (slice_range codes start end) (slice_range codes start end) settles.same refl one) rest)
 
 -- ---- boards are looked up ahead

@@ -6,7 +6,7 @@ use Rattle.std.proofs.lemmas.Bool.Decides.{nat_tests}
 use Rattle.awari_board.specs.Rules.{IsBoard, next_board}
 use Rattle.awari_rank.specs.Rank.{rank_of, size_of}
 use Rattle.awari_rank.proofs.Ranking.{rank_of-below}
-use Rattle.awari_block.specs.Notes.{IsQuietMove, Has, IsNoteOf, gain_by}
+use Rattle.awari_block.specs.Notes.{IsQuietMove, Has, IsNoteOf, gain_by, is_heard_at}
 use Rattle.awari_block.specs.Blocks.{Due, times_due}
 use Rattle.awari_block.specs.Part.{Part, InBlock, IsTallied, notes_for, settled_at}
 use Rattle.awari_block.specs.Boards.{stake_of}
@@ -15,16 +15,17 @@ use Rattle.awari_block.specs.declared.notes.Kind.TheVariants.{Won, Lost}
 use Rattle.awari_block.specs.declared.notes.Note.{Note}
 use Rattle.awari_block.specs.declared.stakes.Stake.{Stake}
 use Rattle.awari_block.proofs.BlockLemmas.{one_if, times_due-cons}
-use Rattle.awari_heard.specs.Heard.{Hears, HearsTruth, IsSpread}
+use Rattle.awari_heard.specs.Heard.{Hears, HearsTruth, IsSpread, HearsNotes, AreUnheard, IsUnheard, with_heard}
 use Rattle.awari_scan.specs.Found.{Source}
 use Rattle.awari_heard.specs.Level.{AreHeard, no_part, part_at}
 use Rattle.awari_heard.proofs.SpreadBoards.{IsInjective, spread_before, spread_stays}
 use Rattle.awari_waves.specs.Lists.{AreDistinct, In}
-use Rattle.awari_waves.specs.Waves.{AreNew, AreSourcesOf, CanAllHear, HearsFrom, TellsBoth, IsCodeFor, IsCut, IsPending, IsQuietCode, SettlesAll, code_by, code_of, codes_to, heard_by, is_noted, note_by, value_of_kind, with_pending}
-use Rattle.awari_waves.proofs.Sources.{Keeps, all_in, codes_distinct, codes_in, distinct_apart, distinct_first, distinct_second, in_codes, in_either, in_first, in_map, in_or_not, in_second, map_append, source_all, source_from, sources_distinct}
+use Rattle.awari_waves.specs.Waves.{AreSourcesOf, CanAllHear, HearsFrom, IsCodeFor, IsCut, IsPending, SettlesAll, code_by, code_of, codes_to, note_by, value_of_kind, with_pending, both_by, notes_by}
+use Rattle.awari_waves.proofs.Sources.{IsFrom, Keeps, all_in, codes_distinct, codes_in, distinct_apart, distinct_first, distinct_second, in_codes, in_either, in_first, in_map, in_or_not, in_second, map_append, source_all, source_from, sources_distinct}
 use Rattle.awari_waves.proofs.Laying.{sources_both}
-use Rattle.awari_block.proofs.NoteLists.{heard_note}
-use Rattle.awari_waves.proofs.Noting.{heard_had, heard_new, heard_old, new_all, noted_heard}
+use Rattle.awari_block.proofs.NoteLists.{heard_note, Has-append_cases, Has-append_left, Has-append_right}
+use Rattle.awari_waves.proofs.Noting.{code_is, noted_from, noted_in, notes_apart}
+use Rattle.awari_heard.proofs.Coming.{all_unheard, for_either, for_new, for_still, once_more}
 
 -- ---- pending boards
 
@@ -122,17 +123,6 @@ module _ (stake : Stake) (span : ℕ) (old : List Part) (injective : IsInjective
           note_is stake (stake_of (part_at old j)) kind p q x (code_by (rank_of p) x) (grid.level j few) (grid.gain j few) (grid.wave j few) one stones (omega (arith, own)) (omega (arith, own)) quiet,
         )
 
-    -- a code is of a quiet move
-    pub code_quiet : (j c : ℕ) → In (codes_to span j sources) c → IsQuietCode stake.level c
-    code_quiet j c has =
-        let m = in_codes span j sources c has in
-        let y : Source = m.0 in
-        let from = source_from stake.level ranks sources y keeps found m.1 in
-        let own = from.quiet.legal.own in
-        let code = m.2 in
-        let pit : y.1 ≡ c % 8 = omega (arith, code, own) in
-        (y.0, from.q, from.from, from.sum_from, (let e : rank_of y.0 ≡ c / 8 = omega (arith, code, own) in e), subst (λ x. IsQuietMove y.0 x from.q) pit from.quiet)
-
     -- for a board of its block
     pub code_fits : (j c : ℕ) → In (codes_to span j sources) c → IsCodeFor (part_at old j) c
     code_fits j c has =
@@ -148,29 +138,29 @@ module _ (stake : Stake) (span : ℕ) (old : List Part) (injective : IsInjective
     pub codes_fit : (j : ℕ) (codes : List ℕ) → codes ≡ codes_to span j sources → All (IsCodeFor (part_at old j)) codes
     codes_fit j codes is = all_in (IsCodeFor (part_at old j)) codes (λ c h. code_fits j c (subst (λ (l : List ℕ). In l c) is h))
 
-    -- that was not heard before, since the board was not spread
-    pub code_unheard : (value : List ℕ → ℤ) (j c : ℕ) (others : List ℕ) (notes : List Note) → j < length old → In (codes_to span j sources) c
-        → ((r : ℕ) → In ranks r → In others r)
-        → ((i : ℕ) → i < length old → HearsTruth (with_pending others (part_at old i)) (with_pending others (part_at old j)) notes) → is_noted notes c ≡ false
-    code_unheard value j c others notes few has among truth = by (is_noted notes c) refl
+    -- of a quiet move that was not heard before, since the board was not spread
+    pub code_unheard : (j c : ℕ) (others : List ℕ) (notes : List Note) → j < length old → In (codes_to span j sources) c → ((r : ℕ) → In ranks r → In others r)
+        → ((i : ℕ) → i < length old → HearsTruth (with_pending others (part_at old i)) (with_pending others (part_at old j)) notes) → IsUnheard stake.level notes (note_by (stake_of (part_at old j)) kind c)
+    code_unheard j c others notes few has among truth =
+        let m = in_codes span j sources c has in
+        let y : Source = m.0 in
+        let from = source_from stake.level ranks sources y keeps found m.1 in
+        let own = from.quiet.legal.own in
+        let code = m.2 in
+        let rank : rank_of y.0 ≡ c / 8 = omega (arith, code, own) in
+        let pit : y.1 ≡ c % 8 = omega (arith, code, own) in
+        (y.0, from.q, from.from, from.sum_from, rank, subst (λ x. IsQuietMove y.0 x from.q) pit from.quiet, by y from m.3 rank pit (is_heard_at (notes_for (c / 8) notes) (c % 8)) refl)
       where
-        by : (b : Bool) → is_noted notes c ≡ b → b ≡ false
-        by false e = refl
-        by true e = absurd (
-            let m = in_codes span j sources c has in
-            let y : Source = m.0 in
-            let from = source_from stake.level ranks sources y keeps found m.1 in
-            let own = from.quiet.legal.own in
-            let code = m.2 in
-            let rank : c / 8 ≡ rank_of y.0 = omega (arith, code, own) in
-            let pit : c % 8 ≡ y.1 = omega (arith, code, own) in
+        by : (y : Source) (from : IsFrom stake.level ranks y) → rank_of y.0 / span ≡ j → rank_of y.0 ≡ c / 8 → y.1 ≡ c % 8 → (b : Bool) → is_heard_at (notes_for (c / 8) notes) (c % 8) ≡ b → b ≡ false
+        by y from to rank pit false e = refl
+        by y from to rank pit true e = absurd (
             let note = heard_note (notes_for (c / 8) notes) (c % 8) e in
             let at = pending (rank_of from.q) from.listed in
             let home = grid.home (rank_of from.q) at.inside in
             let mine = grid.home (rank_of y.0) (let below = rank_of-below y.0 from.from.pits in let size = ap size_of from.sum_from in omega (arith, below, size)) in
-            let inside : InBlock (part_at old j) (rank_of y.0) = subst (λ b. InBlock (part_at old b) (rank_of y.0)) m.3 mine.1 in
+            let inside : InBlock (part_at old j) (rank_of y.0) = subst (λ b. InBlock (part_at old b) (rank_of y.0)) to mine.1 in
             let told = truth (rank_of from.q / span) home.0 y.0 y.1 from.q from.from (from.sum_from ∙ sym (grid.level j few)) inside home.1 from.quiet
-            note.0 (subst (λ r. Has (notes_for r notes) note.0) rank note.1) (note.2 ∙ pit) in
+            note.0 (subst (λ r. Has (notes_for r notes) note.0) (sym rank) note.1) (note.2 ∙ sym pit) in
             (pend_zero (part_at old (rank_of from.q / span)).wave others (part_at old (rank_of from.q / span)).fresh (rank_of from.q) told.2.1).0 (among (rank_of from.q) from.listed))
 
   -- the blocks can hear what was found of both kinds
@@ -200,11 +190,14 @@ module _ (stake : Stake) (span : ℕ) (old : List Part) (injective : IsInjective
     abbrev everyone : List ℕ
     everyone = (lost ++ won) ++ rest
 
-    abbrev with_lost : ℕ → List Note → List Note
-    with_lost j notes = heard_by (stake_of (part_at old j)) Lost (lost_notes j) notes
+    abbrev lost_by : ℕ → List Note
+    lost_by j = notes_by (stake_of (part_at old j)) Lost (lost_notes j)
+
+    abbrev won_by : ℕ → List Note
+    won_by j = notes_by (stake_of (part_at old j)) Won (won_notes j)
 
     abbrev with_both : ℕ → List Note → List Note
-    with_both j notes = heard_by (stake_of (part_at old j)) Won (won_notes j) (with_lost j notes)
+    with_both j notes = with_heard (lost_by j ++ won_by j) notes
 
     distinct_codes : AreDistinct (map code_of xs ++ map code_of ys)
     distinct_codes =
@@ -227,35 +220,41 @@ module _ (stake : Stake) (span : ℕ) (old : List Part) (injective : IsInjective
     IsTrueTo j notes = (i : ℕ) → i < length old → HearsTruth (with_pending everyone (part_at old i)) (with_pending everyone (part_at old j)) notes
 
     -- what is heard of both kinds is new
-    lost_new : (value : List ℕ → ℤ) (j : ℕ) (notes : List Note) → j < length old → IsTrueTo j notes → AreNew (part_at old j).level (lost_notes j) notes
-    lost_new value j notes few truth =
-        subst (λ n. AreNew n (lost_notes j) notes) (sym (grid.level j few))
-        (new_all stake.level (lost_notes j) notes
-        (λ c h. (code_quiet Lost lost xs pend_lost found_lost j c (lost_listed j c h), code_unheard Lost lost xs pend_lost found_lost value j c everyone notes few (lost_listed j c h) listed_lost truth))
-        (subst AreDistinct (sym (at_lost j)) (codes_distinct span j xs (distinct_first (map code_of xs) (map code_of ys) distinct_codes))))
-
-    won_new : (value : List ℕ → ℤ) (j : ℕ) (notes : List Note) → j < length old → IsTrueTo j notes → AreNew (part_at old j).level (won_notes j) (with_lost j notes)
-    won_new value j notes few truth =
-        subst (λ n. AreNew n (won_notes j) (with_lost j notes)) (sym (grid.level j few))
-        (new_all stake.level (won_notes j) (with_lost j notes)
-        (λ c h. (
-          code_quiet Won won ys pend_won found_won j c (won_listed j c h),
-          noted_heard (stake_of (part_at old j)) Lost (lost_notes j) notes c (apart c h) (code_unheard Won won ys pend_won found_won value j c everyone notes few (won_listed j c h) listed_won truth),
-        ))
-        (subst AreDistinct (sym (at_won j)) (codes_distinct span j ys (distinct_second (map code_of xs) (map code_of ys) distinct_codes))))
+    both_new : (j : ℕ) (notes : List Note) → j < length old → IsTrueTo j notes → AreUnheard (part_at old j).level (lost_by j ++ won_by j) notes
+    both_new j notes few truth =
+        subst (λ n. AreUnheard n (lost_by j ++ won_by j) notes) (sym (grid.level j few))
+        (all_unheard stake.level (lost_by j ++ won_by j) notes each
+        (once_more (lost_by j) (won_by j)
+        (notes_apart (stake_of (part_at old j)) Lost (lost_notes j) (subst AreDistinct (sym (at_lost j)) (codes_distinct span j xs (distinct_first (map code_of xs) (map code_of ys) distinct_codes))))
+        (notes_apart (stake_of (part_at old j)) Won (won_notes j) (subst AreDistinct (sym (at_won j)) (codes_distinct span j ys (distinct_second (map code_of xs) (map code_of ys) distinct_codes))))
+        apart))
       where
-        apart : (c : ℕ) → In (won_notes j) c → In (lost_notes j) c → ⊥
-        apart c h k =
-            let a = in_codes span j xs c (lost_listed j c k) in
-            let b = in_codes span j ys c (won_listed j c h) in
-            distinct_apart (map code_of xs) (map code_of ys) c distinct_codes (subst (In (map code_of xs)) (sym a.2) (in_map xs a.0 a.1)) (subst (In (map code_of ys)) (sym b.2) (in_map ys b.0 b.1))
+        each : (m : Note) → Has (lost_by j ++ won_by j) m → IsUnheard stake.level notes m
+        each m has = elim (Has-append_cases (lost_by j) (won_by j) m has) [
+          | inl l ↦ (
+              let found = noted_from (stake_of (part_at old j)) Lost (lost_notes j) m l in
+              subst (IsUnheard stake.level notes) (sym found.2) (code_unheard Lost lost xs pend_lost found_lost j found.0 everyone notes few (lost_listed j found.0 found.1) listed_lost truth))
+          | inr w ↦ (
+              let found = noted_from (stake_of (part_at old j)) Won (won_notes j) m w in
+              subst (IsUnheard stake.level notes) (sym found.2) (code_unheard Won won ys pend_won found_won j found.0 everyone notes few (won_listed j found.0 found.1) listed_won truth))
+        ]
+
+        apart : (k m : Note) → Has (lost_by j) k → Has (won_by j) m → m.target ≡ k.target → m.pit ≡ k.pit → ⊥
+        apart k m l w target pit =
+            let from = noted_from (stake_of (part_at old j)) Lost (lost_notes j) k l in
+            let to = noted_from (stake_of (part_at old j)) Won (won_notes j) m w in
+            let a = in_codes span j xs from.0 (lost_listed j from.0 from.1) in
+            let b = in_codes span j ys to.0 (won_listed j to.0 to.1) in
+            let same : to.0 ≡ from.0 =
+            code_is to.0 from.0 (sym (ap (λ (n : Note). n.target) to.2) ∙ target ∙ ap (λ (n : Note). n.target) from.2) (sym (ap (λ (n : Note). n.pit) to.2) ∙ pit ∙ ap (λ (n : Note). n.pit) from.2) in
+            distinct_apart (map code_of xs) (map code_of ys) to.0 distinct_codes (subst (In (map code_of xs)) (sym a.2 ∙ sym same) (in_map xs a.0 a.1)) (subst (In (map code_of ys)) (sym b.2) (in_map ys b.0 b.1))
 
     told_block : (value : List ℕ → ℤ) (j : ℕ) (notes : List Note) → j < length old → IsTrueTo j notes → IsTallied value (part_at old j) notes → IsTallied value (part_at new j) (with_both j notes)
     told_block value j notes few truth tallied =
         let start : 0 + j ≡ j = omega arith in
-        let tells : TellsBoth (stake_of (part_at old j)) (lost_notes j) (won_notes j) (part_at old j) (part_at new j) =
-        subst (λ n. TellsBoth (stake_of (part_at old j)) (lost_notes n) (won_notes n) (part_at old j) (part_at new j)) start (hears.tells j few) in
-        tells value notes (lost_new value j notes few truth) (won_new value j notes few truth) tallied
+        let tells : HearsNotes (lost_by j ++ won_by j) (part_at old j) (part_at new j) =
+        subst (λ n. HearsNotes (both_by (stake_of (part_at old j)) (lost_notes n) (won_notes n)) (part_at old j) (part_at new j)) start (hears.tells j few) in
+        tells value notes (both_new j notes few truth) tallied
 
     -- ---- what is spread now
 
@@ -320,14 +319,20 @@ module _ (stake : Stake) (span : ℕ) (old : List Part) (injective : IsInjective
           let in_p' = inside_old j (rank_of p) few' in_p in
           let in_q' = inside_old i (rank_of q) few in_q in
           let level = stones ∙ (hears.settles j few').same.level in
-          elim (heard_had (stake_of (part_at old j)) Won (won_notes j) (with_lost j notes) (rank_of p) m has) [
-            | inl earlier ↦ elim (heard_had (stake_of (part_at old j)) Lost (lost_notes j) notes (rank_of p) m earlier) [
-              | inl before ↦ (
-                  let told = own.true_notes p x q board level in_p' in_q' quiet m before pit in
-                  (told.0, told.1, spread_still i (rank_of q) told.0 told.1 few in_q' told.2, told.3))
-              | inr l ↦ from_code Lost lost xs pend_lost found_lost (λ r h. in_first lost won r h) i j l.0 p q x m few few' board (level ∙ grid.level j few') in_q' quiet (lost_listed j l.0 l.1) l.2 l.3 pit
+          elim (for_either (lost_by j ++ won_by j) notes (rank_of p) m has) [
+            | inl before ↦ (
+                let told = own.true_notes p x q board level in_p' in_q' quiet m before pit in
+                (told.0, told.1, spread_still i (rank_of q) told.0 told.1 few in_q' told.2, told.3))
+            | inr new ↦ elim (Has-append_cases (lost_by j) (won_by j) m new.0) [
+              | inl lose ↦ (
+                  let l = noted_from (stake_of (part_at old j)) Lost (lost_notes j) m lose in
+                  from_code Lost lost xs pend_lost found_lost (λ r h. in_first lost won r h) i j l.0 p q x m few few' board (level ∙ grid.level j few') in_q' quiet (lost_listed j l.0 l.1)
+                  (sym (ap (λ (n : Note). n.target) l.2) ∙ new.1) l.2 pit)
+              | inr win ↦ (
+                  let w = noted_from (stake_of (part_at old j)) Won (won_notes j) m win in
+                  from_code Won won ys pend_won found_won (λ r h. in_second lost won r h) i j w.0 p q x m few few' board (level ∙ grid.level j few') in_q' quiet (won_listed j w.0 w.1)
+                  (sym (ap (λ (n : Note). n.target) w.2) ∙ new.1) w.2 pit)
             ]
-            | inr w ↦ from_code Won won ys pend_won found_won (λ r h. in_second lost won r h) i j w.0 p q x m few few' board (level ∙ grid.level j few') in_q' quiet (won_listed j w.0 w.1) w.2 w.3 pit
           ];
       all_notes = λ p x q v d board stones in_p in_q quiet spread.
           let in_p' = inside_old j (rank_of p) few' in_p in
@@ -339,9 +344,8 @@ module _ (stake : Stake) (span : ℕ) (old : List Part) (injective : IsInjective
                 let told = via_code Lost lost xs pend_lost found_lost i j p q x v d few few' board (level ∙ grid.level j few') in_p' in_q' quiet then.1 l in
                 let listed : In (lost_notes j) told.0 = subst (λ (l : List ℕ). In l told.0) (sym (at_lost j)) told.1 in (
                   note_by (stake_of (part_at old j)) Lost told.0,
-                  heard_old (stake_of (part_at old j)) Won (won_notes j) (with_lost j notes) (rank_of p) (note_by (stake_of (part_at old j)) Lost told.0)
-                      (subst (λ r. Has (notes_for r (with_lost j notes)) (note_by (stake_of (part_at old j)) Lost told.0)) told.2
-                      (heard_new (stake_of (part_at old j)) Lost (lost_notes j) notes told.0 listed)),
+                  subst (λ r. Has (notes_for r (with_both j notes)) (note_by (stake_of (part_at old j)) Lost told.0)) told.2
+                      (for_new (lost_by j ++ won_by j) notes _ (Has-append_left (lost_by j) (won_by j) _ (noted_in (stake_of (part_at old j)) Lost (lost_notes j) told.0 listed))),
                   told.3,
                 ))
             | inr not_lost ↦ elim (in_or_not won (rank_of q)) [
@@ -350,7 +354,7 @@ module _ (stake : Stake) (span : ℕ) (old : List Part) (injective : IsInjective
                   let listed : In (won_notes j) told.0 = subst (λ (l : List ℕ). In l told.0) (sym (at_won j)) told.1 in (
                     note_by (stake_of (part_at old j)) Won told.0,
                     subst (λ r. Has (notes_for r (with_both j notes)) (note_by (stake_of (part_at old j)) Won told.0)) told.2
-                        (heard_new (stake_of (part_at old j)) Won (won_notes j) (with_lost j notes) told.0 listed),
+                        (for_new (lost_by j ++ won_by j) notes _ (Has-append_right (lost_by j) (won_by j) _ (noted_in (stake_of (part_at old j)) Won (won_notes j) told.0 listed))),
                     told.3,
                   ))
               | inr not_won ↦ (
@@ -363,8 +367,7 @@ module _ (stake : Stake) (span : ℕ) (old : List Part) (injective : IsInjective
                         ]) then.1.1,
                   ) in (
                     told.0,
-                    heard_old (stake_of (part_at old j)) Won (won_notes j) (with_lost j notes) (rank_of p) told.0
-                        (heard_old (stake_of (part_at old j)) Lost (lost_notes j) notes (rank_of p) told.0 told.1),
+                    for_still (lost_by j ++ won_by j) notes (rank_of p) told.0 told.1,
                     told.2,
                   ))
             ]

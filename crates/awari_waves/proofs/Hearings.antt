@@ -5,14 +5,15 @@ use Rattle.std.proofs.lemmas.List.{get_or_append_left, get_or-append_right, get_
 use Rattle.awari_block.specs.Part.{Part}
 use Rattle.awari_block.specs.Boards.{Settles, stake_of}
 use Rattle.awari_heard.specs.Level.{no_part, part_at}
-use Rattle.awari_waves.specs.Waves.{CanAllHear, IsCodeFor, IsReady, HearsFrom, StaysPassed, TellsBoth}
+use Rattle.awari_waves.specs.Waves.{CanAllHear, IsCodeFor, IsReady, HearsFrom, StaysPassed, both_by}
+use Rattle.awari_heard.specs.Heard.{HearsNotes}
 
 -- Those below k did, and the others are as they were.
 pub record HearsBelow (first : ℕ) (lost won : ℕ → List ℕ) (old now : List Part) (k : ℕ) : Type 0 where
   pub blocks : length now ≡ length old
   pub settles : (i : ℕ) → i < k → i < length old → Settles (part_at old i) (part_at now i)
   pub passed : (i : ℕ) → i < k → i < length old → StaysPassed (part_at old i) (part_at now i)
-  pub tells : (i : ℕ) → i < k → i < length old → TellsBoth (stake_of (part_at old i)) (lost (first + i)) (won (first + i)) (part_at old i) (part_at now i)
+  pub tells : (i : ℕ) → i < k → i < length old → HearsNotes (both_by (stake_of (part_at old i)) (lost (first + i)) (won (first + i))) (part_at old i) (part_at now i)
   pub others : (i : ℕ) → k ≤ i → part_at now i ≡ part_at old i
 
 pub HearsBelow-none : (first : ℕ) (lost won : ℕ → List ℕ) (old : List Part) → HearsBelow first lost won old old 0
@@ -25,7 +26,7 @@ HearsBelow-none first lost won old = record {
 }
 
 pub HearsBelow-more : (first : ℕ) (lost won : ℕ → List ℕ) (old now : List Part) (k : ℕ) (new : Part) → HearsBelow first lost won old now k → k < length now → Settles (part_at now k) new → StaysPassed (part_at now k) new
-    → TellsBoth (stake_of (part_at now k)) (lost (first + k)) (won (first + k)) (part_at now k) new → HearsBelow first lost won old (set now k new) (k + 1)
+    → HearsNotes (both_by (stake_of (part_at now k)) (lost (first + k)) (won (first + k))) (part_at now k) new → HearsBelow first lost won old (set now k new) (k + 1)
 HearsBelow-more first lost won old now k new below inside settles stays tells = record {
   blocks = length-set now k new ∙ below.blocks;
   settles = λ i less few. settled i less few (i == k) refl;
@@ -56,13 +57,13 @@ HearsBelow-more first lost won old now k new below inside settles stays tells = 
         subst (λ n. StaysPassed (part_at old n) (part_at (set now k new) n)) (sym (eqb-true i k e)) (subst₂ StaysPassed same (sym here) stays)
     passes i less few false e = let ne = differ i k e in subst (StaysPassed (part_at old i)) (sym (there i ne)) (below.passed i (omega (arith, ne)) few)
 
-    told : (i : ℕ) → i < k + 1 → i < length old → (b : Bool) → (i == k) ≡ b → TellsBoth (stake_of (part_at old i)) (lost (first + i)) (won (first + i)) (part_at old i) (part_at (set now k new) i)
+    told : (i : ℕ) → i < k + 1 → i < length old → (b : Bool) → (i == k) ≡ b → HearsNotes (both_by (stake_of (part_at old i)) (lost (first + i)) (won (first + i))) (part_at old i) (part_at (set now k new) i)
     told i less few true e =
-        subst (λ n. TellsBoth (stake_of (part_at old n)) (lost (first + n)) (won (first + n)) (part_at old n) (part_at (set now k new) n)) (sym (eqb-true i k e))
-        (subst₂ (λ (a b : Part). TellsBoth (stake_of a) (lost (first + k)) (won (first + k)) a b) same (sym here) tells)
+        subst (λ n. HearsNotes (both_by (stake_of (part_at old n)) (lost (first + n)) (won (first + n))) (part_at old n) (part_at (set now k new) n)) (sym (eqb-true i k e))
+        (subst₂ (λ (a b : Part). HearsNotes (both_by (stake_of a) (lost (first + k)) (won (first + k))) a b) same (sym here) tells)
     told i less few false e =
         let ne = differ i k e in
-        subst (λ (b : Part). TellsBoth (stake_of (part_at old i)) (lost (first + i)) (won (first + i)) (part_at old i) b) (sym (there i ne)) (below.tells i (omega (arith, ne)) few)
+        subst (λ (b : Part). HearsNotes (both_by (stake_of (part_at old i)) (lost (first + i)) (won (first + i))) (part_at old i) b) (sym (there i ne)) (below.tells i (omega (arith, ne)) few)
 
 pub HearsBelow-end : (first : ℕ) (lost won : ℕ → List ℕ) (old now : List Part) (k : ℕ) → HearsBelow first lost won old now k → length now ≤ k → HearsFrom first lost won old now
 HearsBelow-end first lost won old now k below end = record {
@@ -74,11 +75,11 @@ HearsBelow-end first lost won old now k below end = record {
 
 -- the same, by what was read
 pub HearsBelow-next : (first : ℕ) (lost won : ℕ → List ℕ) (old now : List Part) (k : ℕ) (d new : Part) → HearsBelow first lost won old now k → k < length now
-    → Settles (get_or now k d) new → StaysPassed (get_or now k d) new → TellsBoth (stake_of (get_or now k d)) (lost (first + k)) (won (first + k)) (get_or now k d) new → HearsBelow first lost won old (set now k new) (k + 1)
+    → Settles (get_or now k d) new → StaysPassed (get_or now k d) new → HearsNotes (both_by (stake_of (get_or now k d)) (lost (first + k)) (won (first + k))) (get_or now k d) new → HearsBelow first lost won old (set now k new) (k + 1)
 HearsBelow-next first lost won old now k d new below inside settles stays tells =
     let same : get_or now k d ≡ part_at now k = get_or_default now k d no_part inside in
     HearsBelow-more first lost won old now k new below inside (subst (λ (p : Part). Settles p new) same settles) (subst (λ (p : Part). StaysPassed p new) same stays)
-    (subst (λ (p : Part). TellsBoth (stake_of p) (lost (first + k)) (won (first + k)) p new) same tells)
+    (subst (λ (p : Part). HearsNotes (both_by (stake_of p) (lost (first + k)) (won (first + k))) p new) same tells)
 
 -- the next one is as it was
 pub read_old : (first : ℕ) (lost won : ℕ → List ℕ) (old now : List Part) (k : ℕ) (d : Part) → HearsBelow first lost won old now k → k < length now → get_or now k d ≡ part_at old k
@@ -130,18 +131,18 @@ HearsFrom-both first middle lost won low low' high high' meet one two = record {
         (two.passed (i - length low) (omega (arith, few, h, length-append low high)))
 
     told : (i : ℕ) → i < length (low ++ high) → (b : Bool) → nat_lt i (length low) ≡ b
-        → TellsBoth (stake_of (part_at (low ++ high) i)) (lost (first + i)) (won (first + i)) (part_at (low ++ high) i) (part_at (low' ++ high') i)
+        → HearsNotes (both_by (stake_of (part_at (low ++ high) i)) (lost (first + i)) (won (first + i))) (part_at (low ++ high) i) (part_at (low' ++ high') i)
     told i few true e =
         let h = below i (length low) e in
         let many = one.blocks in
-        subst₂ (λ (a b : Part). TellsBoth (stake_of a) (lost (first + i)) (won (first + i)) a b) (sym (left low high i h)) (sym (left low' high' i (omega (arith, h, many)))) (one.tells i h)
+        subst₂ (λ (a b : Part). HearsNotes (both_by (stake_of a) (lost (first + i)) (won (first + i))) a b) (sym (left low high i h)) (sym (left low' high' i (omega (arith, h, many)))) (one.tells i h)
     told i few false e =
         let h = beyond i (length low) e in
         let many = one.blocks in
         let at : middle + (i - length low) ≡ first + i = omega (arith, h, meet) in
-        subst₂ (λ (a b : Part). TellsBoth (stake_of a) (lost (first + i)) (won (first + i)) a b) (sym (right low high i h))
+        subst₂ (λ (a b : Part). HearsNotes (both_by (stake_of a) (lost (first + i)) (won (first + i))) a b) (sym (right low high i h))
         (sym (right low' high' i (omega (arith, h, many)) ∙ ap (λ n. part_at high' (i - n)) many))
-        (subst (λ n. TellsBoth (stake_of (part_at high (i - length low))) (lost n) (won n) (part_at high (i - length low)) (part_at high' (i - length low))) at
+        (subst (λ n. HearsNotes (both_by (stake_of (part_at high (i - length low))) (lost n) (won n)) (part_at high (i - length low)) (part_at high' (i - length low))) at
         (two.tells (i - length low) (omega (arith, few, h, length-append low high))))
 
 pub can_left : (first : ℕ) (lost won : ℕ → List ℕ) (all xs ys : List Part) → all ≡ xs ++ ys → CanAllHear first lost won all → CanAllHear first lost won xs

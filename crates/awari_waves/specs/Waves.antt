@@ -1,12 +1,11 @@
 -- What the blocks of a level are told of a chunk of its fresh boards. Nothing is on its way before it or after it.
-use Rattle.std.specs.Prelude.{◌≡◌, Bool, ℕ, ◌+◌, ◌*◌, ◌/◌, ◌%◌, ◌==◌, ◌-◌, ◌^◌, min, ◌<◌, ◌≤◌, false, List, [], ◌∷◌, ◌++◌, length, map, filter, sum, ℤ, pos, neg_ℤ, Some, All}
+use Rattle.std.specs.Prelude.{◌≡◌, ℕ, ◌+◌, ◌*◌, ◌/◌, ◌%◌, ◌==◌, ◌-◌, ◌^◌, min, ◌<◌, ◌≤◌, List, [], ◌∷◌, ◌++◌, length, map, filter, sum, ℤ, pos, neg_ℤ, Some, All}
 use Rattle.std.specs.List.Sorted.{IsPermutation}
 use Rattle.awari_board.specs.Rules.{IsBoard}
 use Rattle.awari_rank.specs.Rank.{rank_of, size_of}
 use Rattle.awari_unmove.specs.Predecessors.{IsPredecessors}
-use Rattle.awari_block.specs.Notes.{IsQuietMove, is_heard_at}
 use Rattle.awari_block.specs.Blocks.{due_dist, due_rank, times_due}
-use Rattle.awari_block.specs.Part.{Part, InBlock, IsTallied, notes_for, settled_at}
+use Rattle.awari_block.specs.Part.{Part, InBlock, settled_at}
 use Rattle.awari_block.specs.Boards.{Settles, stake_of}
 use Rattle.awari_block.specs.declared.notes.Kind.{Kind}
 use Rattle.awari_block.specs.declared.notes.Kind.TheVariants.{Won, Lost}
@@ -15,7 +14,8 @@ use Rattle.awari_block.specs.declared.stakes.Stake.{Stake}
 use Rattle.awari_scan.specs.Found.{Source}
 use Rattle.awari_heard.specs.Level.{AreHeard, part_at}
 use Rattle.awari_waves.specs.Each.{KeepsBoards}
-use Rattle.awari_waves.specs.Lists.{AreDistinct, In, list_at}
+use Rattle.awari_waves.specs.Lists.{AreDistinct, list_at}
+use Rattle.awari_heard.specs.Heard.{HearsNotes}
 
 -- a note in four bytes: the rank of the board that it is for, and the pit of its move
 abbrev pub code_by : ℕ → ℕ → ℕ
@@ -28,32 +28,16 @@ code_of y = code_by (rank_of y.0) y.1
 abbrev pub note_by : Stake → Kind → ℕ → Note
 note_by stake kind code = record { level = stake.level; target = code / 8; pit = code % 8; kind = kind; gain = stake.gain; dist = stake.wave }
 
--- whether a note of this board and pit is among these
-abbrev pub is_noted : List Note → ℕ → Bool
-is_noted notes code = is_heard_at (notes_for (code / 8) notes) (code % 8)
+-- the notes of these codes, and those of lost boards and then of won ones
+abbrev pub notes_by : Stake → Kind → List ℕ → List Note
+notes_by stake kind codes = map (note_by stake kind) codes
 
--- and once the notes of these codes came in, one after the other
-abbrev pub heard_by : Stake → Kind → List ℕ → List Note → List Note
-heard_by stake kind [] notes = notes
-heard_by stake kind (code ∷ codes) notes = heard_by stake kind codes (note_by stake kind code ∷ notes)
-
--- it is of a quiet move of a board of the level
-abbrev pub IsQuietCode : ℕ → ℕ → Type 0
-IsQuietCode level code = (p : List ℕ) × (q : List ℕ) × IsBoard p × (sum p ≡ level) × (rank_of p ≡ code / 8) × IsQuietMove p (code % 8) q
-
--- of quiet moves, and none was heard: neither in these notes nor earlier among these
-abbrev pub AreNew : ℕ → List ℕ → List Note → Type 0
-AreNew level [] notes = Unit {0}
-AreNew level (code ∷ codes) notes = IsQuietCode level code × (is_noted notes code ≡ false) × (In codes code → ⊥) × AreNew level codes notes
+abbrev pub both_by : Stake → List ℕ → List ℕ → List Note
+both_by stake lost won = notes_by stake Lost lost ++ notes_by stake Won won
 
 -- the board of this code is in the block, and the pit is its mover's
 abbrev pub IsCodeFor : Part → ℕ → Type 0
 IsCodeFor part code = InBlock part (code / 8) × (code % 8 < 6)
-
--- between these two the notes of these codes were heard
-abbrev pub Tells : Stake → Kind → List ℕ → Part → Part → Type 0
-Tells stake kind codes old new =
-    (value : List ℕ → ℤ) (notes : List Note) → AreNew stake.level codes notes → IsTallied value old notes → IsTallied value new (heard_by stake kind codes notes)
 
 -- a gain is open, and the open wave is not the greatest that can be stored
 abbrev pub IsReady : Part → Type 0
@@ -102,12 +86,6 @@ pub record CanFind (level span : ℕ) (ranks : List ℕ) (rows : ℕ) : Type 0 w
 
 -- ---- what is heard
 
--- between these two a block heard its notes: those of lost boards, and then those of won ones
-abbrev pub TellsBoth : Stake → List ℕ → List ℕ → Part → Part → Type 0
-TellsBoth stake lost won old new =
-    (value : List ℕ → ℤ) (notes : List Note) → AreNew stake.level lost notes → AreNew stake.level won (heard_by stake Lost lost notes)
-    → IsTallied value old notes → IsTallied value new (heard_by stake Won won (heard_by stake Lost lost notes))
-
 -- what blocks need to hear theirs, the first of them being block `first`
 pub record CanAllHear (first : ℕ) (lost won : ℕ → List ℕ) (parts : List Part) : Type 0 where
   pub numbers : first + length parts < 2 ^ 64
@@ -120,7 +98,7 @@ pub record HearsFrom (first : ℕ) (lost won : ℕ → List ℕ) (old new : List
   pub blocks : length new ≡ length old
   pub settles : (i : ℕ) → i < length old → Settles (part_at old i) (part_at new i)
   pub passed : (i : ℕ) → i < length old → StaysPassed (part_at old i) (part_at new i)
-  pub tells : (i : ℕ) → i < length old → TellsBoth (stake_of (part_at old i)) (lost (first + i)) (won (first + i)) (part_at old i) (part_at new i)
+  pub tells : (i : ℕ) → i < length old → HearsNotes (both_by (stake_of (part_at old i)) (lost (first + i)) (won (first + i))) (part_at old i) (part_at new i)
 
 -- ---- a chunk
 

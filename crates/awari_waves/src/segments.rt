@@ -11,7 +11,8 @@ ghost use Rattle.awari_block.specs.Boards.{CanPut, HearsNote, OpensCells, Settle
 ghost use Rattle.awari_waves.specs.Ahead.{TellSettled};
 ghost use Rattle.awari_waves.specs.Each.{HasFresh, IsFarther, OpensSegment};
 ghost use Rattle.awari_waves.specs.Rows.{notes_at};
-ghost use Rattle.awari_waves.specs.Waves.{GivesFresh, IsCodeFor, IsReady, StaysPassed, Tells, TellsBoth};
+ghost use Rattle.awari_waves.specs.Waves.{GivesFresh, IsCodeFor, IsReady, StaysPassed, both_by, notes_by};
+ghost use Rattle.awari_heard.specs.Heard.{HearsNotes};
 
 use crate::dues::nearer;
 use crate::lists::{Lists, Row};
@@ -196,7 +197,7 @@ impl Segment {
         requires near { self.old.wave < 2 ^ 32 - 1 }
         ensures settles { OnOk result (Settles self.old self.new) }
         ensures passed { OnOk result (StaysPassed self.old self.new) }
-        ensures tells { OnOk result (Tells (stake_of self.old) kind codes.now self.old self.new) }
+        ensures tells { OnOk result (HearsNotes (notes_by (stake_of self.old) kind codes.now) self.old self.new) }
     {
         let mut start: usize = 0;
         while start < codes.len() {
@@ -216,7 +217,7 @@ impl Segment {
         requires near { self.old.wave < 2 ^ 32 - 1 }
         ensures settles { OnOk result (Settles self.old self.new) }
         ensures passed { OnOk result (StaysPassed self.old self.new) }
-        ensures tells { OnOk result (Tells (stake_of self.old) kind codes.now self.old self.new) }
+        ensures tells { OnOk result (HearsNotes (notes_by (stake_of self.old) kind codes.now) self.old self.new) }
     {
         ranks_tell_boards_apart();
         let settled = self.settled_among(codes);
@@ -251,7 +252,7 @@ impl Segment {
         requires ready { IsReady self.old }
         ensures settles { OnOk result (Settles self.old self.new) }
         ensures passed { OnOk result (StaysPassed self.old self.new) }
-        ensures tells { OnOk result (TellsBoth (stake_of self.old) (notes_at Lost rows.now number) (notes_at Won rows.now number) self.old self.new) }
+        ensures tells { OnOk result (HearsNotes (both_by (stake_of self.old) (notes_at Lost rows.now number) (notes_at Won rows.now number)) self.old self.new) }
     {
         self.hear_kind(number, Kind::Lost, rows)?;
         self.hear_kind(number, Kind::Won, rows)?;
@@ -264,7 +265,7 @@ impl Segment {
         requires ready { IsReady self.old }
         ensures settles { OnOk result (Settles self.old self.new) }
         ensures passed { OnOk result (StaysPassed self.old self.new) }
-        ensures tells { OnOk result (Tells (stake_of self.old) kind (notes_at kind rows.now number) self.old self.new) }
+        ensures tells { OnOk result (HearsNotes (notes_by (stake_of self.old) kind (notes_at kind rows.now number)) self.old self.new) }
     {
         for row in rows {
             self.hear(kind, row.list(kind, number))?;

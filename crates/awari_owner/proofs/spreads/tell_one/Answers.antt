@@ -6,9 +6,10 @@ use Rattle.awari_owner.specs.Outboxes.{with_note}
 use Rattle.awari_block.specs.declared.notes.Note.{Note}
 use Rattle.awari_scan.specs.declared.targets.Target.{Target}
 use Rattle.awari_block.proofs.Settling.{settles_none}
-use Rattle.awari_owner.proofs.Spreading.{heard_outside, held_by, told_here}
+use Rattle.awari_owner.proofs.Spreading.{held_by, told_here, told_outside}
 use Rattle.awari_owner.proofs.Sending.{sent_here, sent_nothing, room_left}
 use Rattle.awari_owner.proofs.spreads.tell_one.Goals as goal
+use Rattle.awari_block.specs.Boards.{HearsNote}
 
 pub index_mut-requires : goal.index_mut-requires
 index_mut-requires c =
@@ -42,9 +43,9 @@ returns-then-not-holds-clause-room c = λ to.
     room_left c.args.queues.now.items (c.args.target.rank / c.args.span) c.index_mut.result.now c.put.new.self high c.index_mut.ensures.value c.put.ensures.room to
 
 pub returns-then-not-holds-clause-told : goal.returns-then-not-holds-clause-told
-returns-then-not-holds-clause-told c = λ y at source value notes unheard tallied.
+returns-then-not-holds-clause-told c = λ y at.
     let out : is_held c.args.boards.now c.args.target.rank ≡ false = held_by c.args.boards.now c.args.target.rank c.holds.result c.holds.ensures ∙ c.if-not-holds.true in
-    heard_outside value notes c.args.boards.now c.args.kind y (ap (λ (t : Target). is_held c.args.boards.now t.rank) at ∙ out) tallied
+    told_outside c.args.boards.now c.args.kind y (ap (λ (t : Target). is_held c.args.boards.now t.rank) at ∙ out)
 
 pub returns-then-not-holds-clause-settles : goal.returns-then-not-holds-clause-settles
 returns-then-not-holds-clause-settles c = settles_none c.args.boards.now
@@ -55,5 +56,7 @@ returns-clause-sent c = λ y at to low.
     sent_nothing c.args.queues.now.items c.args.boards.now c.args.span c.args.kind y (ap (λ (t : Target). is_held c.args.boards.now t.rank) at ∙ inside) to
 
 pub returns-clause-told : goal.returns-clause-told
-returns-clause-told c = λ y at source value notes unheard tallied.
-    told_here value notes c.args.boards.now c.hear.new.self c.args.kind c.args.target y at c.ranks_tell_boards_apart.ensures c.requires.gain.0 source (c.holds.ensures.0 (search rules)) unheard c.hear.ensures.settles.same c.hear.ensures.hears tallied
+returns-clause-told c = λ y at.
+    let inside : is_held c.args.boards.now c.args.target.rank ≡ true = held_by c.args.boards.now c.args.target.rank c.holds.result c.holds.ensures ∙ c.if-not-holds.false in
+    told_here c.args.boards.now c.hear.new.self c.args.kind y c.ranks_tell_boards_apart.ensures c.requires.gain.0 (ap (λ (t : Target). is_held c.args.boards.now t.rank) at ∙ inside)
+    (subst (λ (t : Target). t.pit < 6) (sym at) c.requires.own) c.hear.ensures.settles.same (subst (λ (t : Target). HearsNote c.args.boards.now c.hear.new.self t.rank t.pit c.args.kind) (sym at) c.hear.ensures.hears)

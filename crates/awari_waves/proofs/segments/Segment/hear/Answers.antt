@@ -1,10 +1,12 @@
 use Rattle.std.proofs.lemmas.List.{drop_all}
 use Rattle.std.proofs.Common.{List, ℕ, sym, subst, arith}
 use Rattle.awari_block.specs.Boards.{stake_of}
-use Rattle.awari_waves.specs.Waves.{Tells}
+use Rattle.awari_waves.specs.Waves.{notes_by}
 use Rattle.awari_block.proofs.Settling.{settles_none, settles_both}
 use Rattle.awari_waves.proofs.Ahead.{batch_codes, batch_tells}
 use Rattle.awari_waves.proofs.segments.Segment.hear.Goals as goal
+use Rattle.awari_heard.specs.Heard.{HearsNotes}
+use Rattle.awari_heard.proofs.Coming.{hears_none}
 
 pub loop-start-init : goal.loop-start-init
 loop-start-init c = record { settles = settles_none _; passed = λ passed. passed; tells = λ new tells. tells }
@@ -25,10 +27,10 @@ loop-start-preserved c =
       tells = λ new tells.
           c.loop-start.invariant.tells new
           (batch_tells c.args.self.now c.loop-start.self c.hear_batch.new.self new c.args.kind c.args.codes.now c.loop-start.start c.min-end.result c.loop-start.invariant.settles
-          (omega (arith, test, min)) c.in_ok-hear_batch.ensures.tells tells);
+          c.in_ok-hear_batch.ensures.settles.same.level (omega (arith, test, min)) c.in_ok-hear_batch.ensures.tells tells);
     }
 
 pub returns-clause-tells : goal.returns-clause-tells
 returns-clause-tells c =
     c.loop-start.invariant.tells c.loop-start.self
-    (subst (λ (cs : List ℕ). Tells (stake_of c.args.self.now) c.args.kind cs c.loop-start.self c.loop-start.self) (sym (drop_all c.loop-start.start c.args.codes.now c.loop-start-test.false)) (λ value notes are tallied. tallied))
+    (subst (λ (cs : List ℕ). HearsNotes (notes_by (stake_of c.args.self.now) c.args.kind cs) c.loop-start.self c.loop-start.self) (sym (drop_all c.loop-start.start c.args.codes.now c.loop-start-test.false)) (hears_none c.loop-start.self))

@@ -1,11 +1,13 @@
 use Rattle.std.proofs.lemmas.List.{drop_all, drop_more}
 use Rattle.std.proofs.Common.{List, ℕ, sym, subst}
 use Rattle.awari_block.specs.Boards.{stake_of}
-use Rattle.awari_waves.specs.Waves.{Tells}
+use Rattle.awari_waves.specs.Waves.{notes_by}
 use Rattle.awari_block.proofs.Settling.{settles_none, settles_both}
 use Rattle.awari_waves.proofs.Ahead.{settled_still}
 use Rattle.awari_waves.proofs.Telling.{code_still, tells_one}
 use Rattle.awari_waves.proofs.segments.Segment.hear_batch.Goals as goal
+use Rattle.awari_heard.specs.Heard.{HearsNotes}
+use Rattle.awari_heard.proofs.Coming.{hears_none}
 
 pub loop-k-init : goal.loop-k-init
 loop-k-init c = record { settles = settles_none _; passed = λ passed. passed; tells = λ new tells. tells }
@@ -25,8 +27,8 @@ loop-k-preserved c =
       passed = λ passed. c.in_ok-hear_next.ensures.passed (c.loop-k.invariant.passed passed);
       tells = λ new tells.
           c.loop-k.invariant.tells new
-          (subst (λ (cs : List ℕ). Tells (stake_of c.args.self.now) c.args.kind cs c.loop-k.self new) (sym (drop_more c.args.codes.now c.loop-k.k 0 c.loop-k-test.true))
-          (tells_one (stake_of c.args.self.now) c.loop-k.self c.hear_next.new.self new c.args.kind _ _ c.ranks_tell_boards_apart.ensures same.level same.gain same.wave c.in_ok-hear_next.ensures.range
+          (subst (λ (cs : List ℕ). HearsNotes (notes_by (stake_of c.args.self.now) c.args.kind cs) c.loop-k.self new) (sym (drop_more c.args.codes.now c.loop-k.k 0 c.loop-k-test.true))
+          (tells_one (stake_of c.args.self.now) c.loop-k.self c.hear_next.new.self new c.args.kind _ _ c.ranks_tell_boards_apart.ensures same.gain same.wave c.in_ok-hear_next.ensures.range
           c.in_ok-hear_next.ensures.settles.same c.in_ok-hear_next.ensures.hears
           (code_still _ _ _ c.loop-k.invariant.settles (c.requires.codes c.loop-k.k 0 c.loop-k-test.true)) tells));
     }
@@ -34,4 +36,4 @@ loop-k-preserved c =
 pub returns-clause-tells : goal.returns-clause-tells
 returns-clause-tells c =
     c.loop-k.invariant.tells c.loop-k.self
-    (subst (λ (cs : List ℕ). Tells (stake_of c.args.self.now) c.args.kind cs c.loop-k.self c.loop-k.self) (sym (drop_all c.loop-k.k c.args.codes.now c.loop-k-test.false)) (λ value notes are tallied. tallied))
+    (subst (λ (cs : List ℕ). HearsNotes (notes_by (stake_of c.args.self.now) c.args.kind cs) c.loop-k.self c.loop-k.self) (sym (drop_all c.loop-k.k c.args.codes.now c.loop-k-test.false)) (hears_none c.loop-k.self))

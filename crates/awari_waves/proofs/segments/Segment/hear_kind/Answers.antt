@@ -4,10 +4,12 @@ use Rattle.awari_block.specs.Boards.{stake_of}
 use Rattle.awari_waves.specs.Lists.{list_at}
 use Rattle.awari_waves.specs.Rows.{lists_by, notes_at}
 use Rattle.awari_waves.specs.declared.lists.Row.{Row}
-use Rattle.awari_waves.specs.Waves.{Tells}
+use Rattle.awari_waves.specs.Waves.{notes_by}
 use Rattle.awari_block.proofs.Settling.{settles_none, settles_both}
 use Rattle.awari_waves.proofs.Telling.{row_codes, row_tells, tells_append}
 use Rattle.awari_waves.proofs.segments.Segment.hear_kind.Goals as goal
+use Rattle.awari_heard.specs.Heard.{HearsNotes}
+use Rattle.awari_heard.proofs.Coming.{hears_none}
 
 pub loop-row-init : goal.loop-row-init
 loop-row-init c = record { settles = settles_none _; passed = λ passed. passed; tells = λ new tells. tells }
@@ -23,9 +25,9 @@ loop-row-preserved c = record {
   passed = λ passed. c.in_ok-hear.ensures.passed (c.loop-row.invariant.passed passed);
   tells = λ new tells.
       c.loop-row.invariant.tells new
-      (subst (λ (rs : List Row). Tells (stake_of c.args.self.now) c.args.kind (notes_at c.args.kind rs c.args.number) c.loop-row.self new)
+      (subst (λ (rs : List Row). HearsNotes (notes_by (stake_of c.args.self.now) c.args.kind (notes_at c.args.kind rs c.args.number)) c.loop-row.self new)
       (sym (drop_more c.args.rows.now c.loop-row.row-index c.row-item.result c.loop-row-test.true))
-      (tells_append (stake_of c.args.self.now) c.args.kind _ _ c.loop-row.self c.hear.new.self new
+      (tells_append (stake_of c.args.self.now) c.args.kind _ _ c.loop-row.self c.hear.new.self new c.in_ok-hear.ensures.settles.same.level
       (row_tells c.args.self.now c.loop-row.self c.hear.new.self c.args.kind _ _ c.loop-row.invariant.settles.same (c.list.ensures ∙ ap (λ (row : Row). list_at (lists_by c.args.kind row) c.args.number) c.row-item.is) c.in_ok-hear.ensures.tells)
       tells));
 }
@@ -33,4 +35,4 @@ loop-row-preserved c = record {
 pub returns-clause-tells : goal.returns-clause-tells
 returns-clause-tells c =
     c.loop-row.invariant.tells c.loop-row.self
-    (subst (λ (rs : List Row). Tells (stake_of c.args.self.now) c.args.kind (notes_at c.args.kind rs c.args.number) c.loop-row.self c.loop-row.self) (sym (drop_all c.loop-row.row-index c.args.rows.now c.loop-row-test.false)) (λ value notes are tallied. tallied))
+    (subst (λ (rs : List Row). HearsNotes (notes_by (stake_of c.args.self.now) c.args.kind (notes_at c.args.kind rs c.args.number)) c.loop-row.self c.loop-row.self) (sym (drop_all c.loop-row.row-index c.args.rows.now c.loop-row-test.false)) (hears_none c.loop-row.self))

@@ -2,12 +2,13 @@ use Rattle.std.proofs.Common.{drop}
 use Rattle.awari_block.specs.Boards.{Settles, stake_of}
 use Rattle.awari_block.specs.Part.{Part}
 use Rattle.awari_waves.specs.Rows.{notes_at}
-use Rattle.awari_waves.specs.Waves.{StaysPassed, Tells}
+use Rattle.awari_waves.specs.Waves.{StaysPassed, notes_by}
 use Rattle.awari_waves.proofs.segments.Segment.hear_kind.Given as goal
+use Rattle.awari_heard.specs.Heard.{HearsNotes}
 
 abbrev pub invariant-loop-row : goal.invariant-loop-row
 invariant-loop-row l = record {
   settles : Settles l.initial.self l.self;
   passed : StaysPassed l.initial.self l.self;
-  tells : (new : Part) → Tells (stake_of l.initial.self) l.kind (notes_at l.kind (drop l.row-index l.rows) l.number) l.self new → Tells (stake_of l.initial.self) l.kind (notes_at l.kind l.rows l.number) l.initial.self new;
+  tells : (new : Part) → HearsNotes (notes_by (stake_of l.initial.self) l.kind (notes_at l.kind (drop l.row-index l.rows) l.number)) l.self new → HearsNotes (notes_by (stake_of l.initial.self) l.kind (notes_at l.kind l.rows l.number)) l.initial.self new;
 }
