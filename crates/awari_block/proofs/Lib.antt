@@ -11,7 +11,7 @@ pub mod Awaiting
 pub mod Putting
 pub mod SixPits
 pub mod NoteLists
-pub mod Slices
+pub mod ListParts
 pub mod Legality
 pub mod PitSets
 pub mod Knowing

@@ -31,12 +31,6 @@ has_all P [] m all has = absurd has
 has_all P (x ∷ notes) m all (inl is) = subst P (sym is) (all 0 x (omega arith))
 has_all P (x ∷ notes) m all (inr has) = has_all P notes m (All-tail P x notes all) has
 
-pub all_left : (P : Note → Type 0) (xs ys : List Note) → All P (xs ++ ys) → All P xs
-all_left P xs ys all = all_has P xs (λ m has. has_all P (xs ++ ys) m all (Has-append_left xs ys m has))
-
-pub all_right : (P : Note → Type 0) (xs ys : List Note) → All P (xs ++ ys) → All P ys
-all_right P xs ys all = all_has P ys (λ m has. has_all P (xs ++ ys) m all (Has-append_right xs ys m has))
-
 -- a note for a board is a note, and is for it
 pub Has-notes_for : (r : ℕ) (notes : List Note) (m : Note) → Has (notes_for r notes) m → Has notes m × (m.target ≡ r)
 Has-notes_for r [] m h = absurd h

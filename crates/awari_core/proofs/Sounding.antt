@@ -10,8 +10,8 @@ use Rattle.awari_owner.specs.Sound.{CanTake, IsOpened, IsScannedOwner, IsTimelyN
 use Rattle.awari_owner.specs.declared.faults.OwnerFault.{OwnerFault}
 use Rattle.awari_owner.specs.declared.faults.OwnerFault.TheVariants.{Stranger, Doubled, Far, Memory}
 use Rattle.awari_owner.proofs.Expecting.{share_still}
-use Rattle.awari_block.proofs.NoteLists.{all_right}
 use Rattle.awari_owner.proofs.Sounding.{stake_settled, share_stake, sound_opened, sound_same, sound_scanned}
+use Rattle.awari_block.proofs.ListParts.{All-append_second}
 
 -- parts that were scanned, with nothing on its way
 pub scanned_sound : (value : List ℕ → ℤ) (n owners : ℕ) (part : ℕ → Part) → 0 < owners → ((i : ℕ) → i < owners → IsScannedOwner value n owners i (part i)) → AreSound value n owners part (λ _ _. []) (λ _ _. [])
@@ -117,7 +117,7 @@ module _ (value : List ℕ → ℤ) (n owners : ℕ) (part : ℕ → Part) (comi
   comes_on : (P : Note → Type 0) (b : ℕ) → All P (coming i b) → All P (with_list coming i j rest i b)
   comes_on P b h = elim (cases_eq b j) [
     | inl same ↦ subst (λ c. All P (with_list coming i j rest i c)) (sym same)
-        (subst (All P) (sym (list_here coming i j rest)) (all_right P notes rest (subst (All P) next (subst (λ c. All P (coming i c)) same h))))
+        (subst (All P) (sym (list_here coming i j rest)) (All-append_second P notes rest (subst (All P) next (subst (λ c. All P (coming i c)) same h))))
     | inr other ↦ subst (All P) (sym (list_to coming i j rest i b other)) h
   ]
 

@@ -1,27 +1,25 @@
 -- The predecessors of a board are told one by one.
-use Rattle.std.proofs.Common.{◌≡◌, ℕ, ◌+◌, ◌/◌, ◌<◌, ◌≤◌, false, List, [], ◌∷◌, ◌++◌, length, get_or, sum, refl, sym, ap, subst, ◌∙◌, arith, append_assoc, append-nil, length-append}
+use Rattle.std.proofs.Common.{◌≡◌, ℕ, ◌+◌, ◌/◌, ◌<◌, ◌≤◌, false, List, [], ◌∷◌, ◌++◌, length, get_or, sum, refl, sym, ap, subst, ◌∙◌, arith, append_assoc}
 use Rattle.std.proofs.lemmas.List.{length_push}
 use Rattle.awari_board.specs.Rules.{IsBoard}
 use Rattle.awari_rank.specs.Rank.{rank_of, size_of}
 use Rattle.awari_rank.proofs.Ranking.{rank_of-below}
 use Rattle.awari_unmove.specs.Predecessors.{IsPredecessors}
-use Rattle.awari_unmove.proofs.Walking.{IsQuiet-next}
 use Rattle.awari_block.specs.Notes.{IsQuietMove}
 use Rattle.awari_block.specs.Part.{Part}
 use Rattle.awari_block.specs.Boards.{Settles}
 use Rattle.awari_block.specs.declared.notes.Kind.{Kind}
-use Rattle.awari_scan.specs.Found.{target_of, Lists, Source, IsSource}
+use Rattle.awari_scan.specs.Found.{Lists, Source, IsSource, IsCodeOf}
 use Rattle.awari_owner.specs.Queues.{Queue, queue_in, room_in}
 use Rattle.awari_owner.specs.Spread.{is_held, PutsAll, with_sent, own_notes}
-use Rattle.awari_scan.specs.declared.targets.Target.{Target}
-use Rattle.awari_scan.proofs.Finding.{Lists-at, IsNext, split_left}
+use Rattle.awari_scan.proofs.Finding.{IsNext, code_parts, next_source, none_left}
 use Rattle.awari_owner.proofs.Spreading.{held_still, told_more}
 use Rattle.awari_owner.proofs.Sending.{puts_more}
 use Rattle.awari_heard.specs.Heard.{HearsNotes}
 use Rattle.awari_heard.proofs.Coming.{hears_none}
 
 -- Of the n predecessors of q that are listed, the first k are told.
-pub record IsTelling (old now : Part) (span : ℕ) (kind : Kind) (before after : List Queue) (q : List ℕ) (targets : List Target) (n k : ℕ) : Type 0 where
+pub record IsTelling (old now : Part) (span : ℕ) (kind : Kind) (before after : List Queue) (q : List ℕ) (targets : List ℕ) (n k : ℕ) : Type 0 where
   pub seen : List Source
   pub left : List Source
   pub many : length seen ≡ k
@@ -31,7 +29,7 @@ pub record IsTelling (old now : Part) (span : ℕ) (kind : Kind) (before after :
   pub sent : PutsAll old span kind before after seen
   pub room : (r : ℕ) → r < size_of old.level → is_held old r ≡ false → (r / span < length before) × (288 ≤ room_in after (r / span) + k)
 
-pub IsTelling-none : (old : Part) (span : ℕ) (kind : Kind) (before : List Queue) (q : List ℕ) (targets : List Target) (n : ℕ)
+pub IsTelling-none : (old : Part) (span : ℕ) (kind : Kind) (before : List Queue) (q : List ℕ) (targets : List ℕ) (n : ℕ)
     → ((sources : List Source) × IsPredecessors q sources × Lists targets n sources)
     → ((r : ℕ) → r < size_of old.level → is_held old r ≡ false → (r / span < length before) × (288 ≤ room_in before (r / span)))
     → IsTelling old old span kind before before q targets n 0
@@ -46,24 +44,14 @@ IsTelling-none old span kind before q targets n found room = record {
   room = λ r below out. let at = room r below out in (at.0, (let much = at.1 in omega (arith, much)));
 }
 
-pub IsTelling-next : (old now : Part) (span : ℕ) (kind : Kind) (before after : List Queue) (q : List ℕ) (targets : List Target) (n k : ℕ) (d : Target)
+pub IsTelling-next : (old now : Part) (span : ℕ) (kind : Kind) (before after : List Queue) (q : List ℕ) (targets : List ℕ) (n k : ℕ) (d : ℕ)
     → ((p : List ℕ) (x : ℕ) → IsBoard p → IsQuietMove p x q → sum q + 0 ≡ sum p) → sum q ≡ old.level
     → (telling : IsTelling old now span kind before after q targets n k) → k < n → IsNext q old.level telling.seen telling.left (get_or targets k d)
 IsTelling-next old now span kind before after q targets n k d keeps stones telling less =
-    let many = telling.many in
-    let all = telling.listed.many in
-    let next = split_left telling.seen telling.left (omega (arith, many, all, less)) in
-    let quiet = IsQuiet-next q telling.seen telling.left next.1 next.0 telling.predecessors next.2 in
-    record {
-      y = next.0;
-      more = next.1;
-      splits = next.2;
-      at = Lists-at targets n telling.seen telling.left next.1 next.0 d telling.listed next.2 (omega (arith, many, less)) ∙ ap (λ i. get_or targets i d) many;
-      source = (quiet.board, sym (keeps next.0.0 next.0.1 quiet.board quiet.move) ∙ (let same : sum q + 0 ≡ old.level = omega (arith, stones) in same), (q, quiet.move));
-    }
+    next_source q old.level targets n k telling.seen telling.left d keeps stones telling.many telling.predecessors telling.listed less
 
 -- the note for it has room
-pub next_has_room : (old now : Part) (span : ℕ) (kind : Kind) (before after : List Queue) (q : List ℕ) (targets : List Target) (n k : ℕ) (y : Source)
+pub next_has_room : (old now : Part) (span : ℕ) (kind : Kind) (before after : List Queue) (q : List ℕ) (targets : List ℕ) (n k : ℕ) (y : Source)
     → IsTelling old now span kind before after q targets n k → Settles old now → length after ≡ length before → k < n → n ≤ 288 → IsSource old.level y
     → is_held now (rank_of y.0) ≡ false → (rank_of y.0 / span < length after) × (0 < room_in after (rank_of y.0 / span))
 next_has_room old now span kind before after q targets n k y telling settles many less few source out =
@@ -75,14 +63,15 @@ next_has_room old now span kind before after q targets n k y telling settles man
     (omega (arith, high, many), omega (arith, much, less, few))
 
 -- it is told
-pub IsTelling-more : (old now new : Part) (span : ℕ) (kind : Kind) (before middle after : List Queue) (q : List ℕ) (targets : List Target) (n k : ℕ) (t : Target)
+pub IsTelling-more : (old now new : Part) (span : ℕ) (kind : Kind) (before middle after : List Queue) (q : List ℕ) (targets : List ℕ) (n k : ℕ) (t : ℕ)
     → (telling : IsTelling old now span kind before middle q targets n k) → Settles old now → length middle ≡ length before → IsNext q old.level telling.seen telling.left t
-    → ((y : Source) → target_of y ≡ t → HearsNotes (own_notes now kind (y ∷ [])) now new)
-    → ((y : Source) → target_of y ≡ t → (to : ℕ) → to < length middle → queue_in after to ≡ with_sent now span to kind (queue_in middle to) y)
+    → ((y : Source) → IsCodeOf y t → HearsNotes (own_notes now kind (y ∷ [])) now new)
+    → ((y : Source) → IsCodeOf y t → (to : ℕ) → to < length middle → queue_in after to ≡ with_sent now span to kind (queue_in middle to) y)
     → ((to : ℕ) → room_in middle to ≤ room_in after to + 1)
     → IsTelling old new span kind before after q targets n (k + 1)
 IsTelling-more old now new span kind before middle after q targets n k t telling settles many next told sent room =
     let same = settles.same in
+    let here = code_parts next.y t next.source.2.1.legal.own next.at in
     let all : telling.seen ++ telling.left ≡ (telling.seen ++ next.y ∷ []) ++ next.more = ap (λ l. telling.seen ++ l) next.splits ∙ sym (append_assoc telling.seen (next.y ∷ []) next.more) in
     record {
       seen = telling.seen ++ next.y ∷ [];
@@ -91,8 +80,8 @@ IsTelling-more old now new span kind before middle after q targets n k t telling
       predecessors = subst (IsPredecessors q) all telling.predecessors;
       listed = subst (Lists targets n) all telling.listed;
       told = told_more old now new kind telling.seen next.y same.level same.gain same.wave same.start settles.size telling.told
-          (told next.y next.at);
-      sent = puts_more old now span kind before middle after telling.seen next.y same.level same.gain same.wave same.start settles.size many telling.sent (sent next.y next.at);
+          (told next.y here);
+      sent = puts_more old now span kind before middle after telling.seen next.y same.level same.gain same.wave same.start settles.size many telling.sent (sent next.y here);
       room = λ r below out.
           let at = telling.room r below out in
           let much = at.1 in
@@ -101,13 +90,8 @@ IsTelling-more old now new span kind before middle after q targets n k t telling
     }
 
 -- in the end all are
-pub IsTelling-end : (old now : Part) (span : ℕ) (kind : Kind) (before after : List Queue) (q : List ℕ) (targets : List Target) (n k : ℕ)
+pub IsTelling-end : (old now : Part) (span : ℕ) (kind : Kind) (before after : List Queue) (q : List ℕ) (targets : List ℕ) (n k : ℕ)
     → IsTelling old now span kind before after q targets n k → n ≤ k
     → (sources : List Source) × IsPredecessors q sources × HearsNotes (own_notes old kind sources) old now × PutsAll old span kind before after sources
 IsTelling-end old now span kind before after q targets n k telling end =
-    let none = nothing_left telling.seen telling.left (let many = telling.many in let all = telling.listed.many in omega (arith, many, all, end)) in
-    (telling.seen, subst (IsPredecessors q) (ap (λ l. telling.seen ++ l) none ∙ append-nil telling.seen) telling.predecessors, telling.told, telling.sent)
-  where
-    nothing_left : (seen left : List Source) → length (seen ++ left) ≤ length seen → left ≡ []
-    nothing_left seen [] less = refl
-    nothing_left seen (y ∷ more) less = (let long = length-append seen (y ∷ more) in absurd (omega (arith, long, less)))
+    (telling.seen, subst (IsPredecessors q) (none_left targets n k telling.seen telling.left telling.many telling.listed end) telling.predecessors, telling.told, telling.sent)

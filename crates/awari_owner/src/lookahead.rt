@@ -11,7 +11,7 @@ ghost use Rattle.awari_owner.specs.Lookahead.{ArePredecessors, IsAhead, IsRankAt
 
 use awari_block::{Boards, Note};
 use awari_packed::PackedBoard;
-use awari_scan::{MOST_PREDECESSORS, Target, find_all};
+use awari_scan::{MOST_PREDECESSORS, find_all};
 use std::alloc::{AllocError, Global};
 
 /// How many boards have their predecessors found at a time. These have more cells than a processor
@@ -26,8 +26,8 @@ pub struct Predecessors {
     pub board: PackedBoard,
     /// How many there are.
     pub count: usize,
-    /// They are the first of these.
-    pub targets: [Target; MOST_PREDECESSORS],
+    /// They are the first of these, each as `find_all` has it.
+    pub targets: [u32; MOST_PREDECESSORS],
 }
 
 /// The boards that are spread next, with their predecessors.
@@ -44,10 +44,11 @@ pub struct Lookahead {
 impl Predecessors {
     /// Those of this board.
     fn of(board: PackedBoard) -> Predecessors
-        requires { IsBoard board }
+        requires board { IsBoard board }
+        requires low { sum board ≤ 24 }
         ensures { ArePredecessors (sum board) result }
     {
-        let mut targets = [Target { rank: 0, pit: 0 }; MOST_PREDECESSORS];
+        let mut targets = [0; MOST_PREDECESSORS];
         let count = find_all(&board, &mut targets[..]);
         Predecessors {
             rank: board.rank(),
@@ -61,6 +62,7 @@ impl Predecessors {
     #[inline(always)]
     fn find(&mut self, boards: &Boards, rank: u32)
         requires held { InBlock boards.now rank }
+        requires low { boards.now.level ≤ 24 }
         ensures found { ArePredecessors boards.now.level self.new }
         ensures rank { self.new.rank ≡ rank }
     {
@@ -75,14 +77,14 @@ impl Predecessors {
     fn read_cells(&self, boards: &Boards) -> u32 {
         let mut read = dist_in(boards, self.rank);
         for target in self.targets.iter().take(self.count) {
-            read ^= dist_in(boards, target.rank);
+            read ^= dist_in(boards, *target / 8);
         }
         read
     }
 }
 
 impl Lookahead {
-    /// Room for the boards that are spread next in a level of so many stones, at most 24. It takes 75
+    /// Room for the boards that are spread next in a level of so many stones, at most 24. It takes 38
     /// kilobytes, and is refused only if memory runs out.
     pub fn new(alloc: Global, level: u8) -> Result<Lookahead, AllocError>
         requires { level ≤ 24 }
@@ -102,6 +104,7 @@ impl Lookahead {
     #[inline(always)]
     pub fn place_of(&mut self, boards: &Boards, rank: u32) -> usize
         requires held { InBlock boards.now rank }
+        requires low { boards.now.level ≤ 24 }
         requires ahead { IsAhead boards.now.level self.old }
         ensures ahead { IsAhead boards.now.level self.new }
         ensures place { IsRankAt rank self.new result }
@@ -140,6 +143,7 @@ impl Lookahead {
     /// Finds the predecessors of this board and of those behind it, and reads their cells.
     fn look(&mut self, boards: &Boards, rank: u32)
         requires held { InBlock boards.now rank }
+        requires low { boards.now.level ≤ 24 }
         requires ahead { IsAhead boards.now.level self.old }
         ensures ahead { IsAhead boards.now.level self.new }
         ensures place { IsRankAt rank self.new self.new.next }
@@ -154,6 +158,7 @@ impl Lookahead {
     /// beside this one. Answers how many boards these are together with this one.
     fn look_behind(&mut self, boards: &Boards, rank: u32) -> usize
         requires held { InBlock boards.now rank }
+        requires low { boards.now.level ≤ 24 }
         requires ahead { IsAhead boards.now.level self.old }
         ensures { IsAhead boards.now.level self.new }
     {

@@ -62,7 +62,7 @@ impl Part {
     /// shelf has at most `HIGHEST_LEVEL` levels. Refused as 33 `Memory` if memory runs out.
     ///
     /// It takes all the memory that the part will ever need: less than eleven bytes a board, an index
-    /// of the level, and 75 kilobytes for the predecessors of the boards that are spread next.
+    /// of the level, and 38 kilobytes for the predecessors of the boards that are spread next.
     pub fn scan(alloc: Global, shelf: &Shelf, owners: u8, owner: u8) -> Result<Part, OwnerFault>
         requires owners { (1 ≤ owners) × (owners ≤ 16) }
         requires owner { owner < owners }

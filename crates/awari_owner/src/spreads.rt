@@ -1,13 +1,13 @@
 //! How the predecessors of a board that is spread hear of it. Those in the block hear at once, the
 //! others by notes that go to their owners' queues.
 
-ghost use Rattle.std.specs.Prelude.{◌≡◌, ℕ, ◌+◌, ◌-◌, ◌^◌, ◌<◌, ◌≤◌, ◌/◌, ◌∷◌, [], List, vec_len, false};
+ghost use Rattle.std.specs.Prelude.{◌%◌, ◌≡◌, ℕ, ◌+◌, ◌-◌, ◌^◌, ◌<◌, ◌≤◌, ◌/◌, ◌∷◌, [], List, vec_len, false};
 ghost use Rattle.awari_rank.specs.Rank.{size_of};
 ghost use Rattle.awari_owner.specs.Queues.{queue_in, room_in};
 ghost use Rattle.awari_unmove.specs.Predecessors.{IsPredecessors};
 ghost use Rattle.awari_block.specs.Boards.{Settles};
 ghost use Rattle.awari_owner.specs.Lookahead.{ArePredecessors};
-ghost use Rattle.awari_scan.specs.Found.{target_of, Source};
+ghost use Rattle.awari_scan.specs.Found.{IsCodeOf, Source};
 ghost use Rattle.awari_heard.specs.Heard.{HearsNotes};
 ghost use Rattle.awari_owner.specs.Spread.{kind_of, is_held, own_notes, PutsAll, with_sent};
 
@@ -15,7 +15,6 @@ use crate::lookahead::Predecessors;
 use crate::queues::Queue;
 use awari_block::{Boards, Cell, Kind};
 use awari_board::moves_keep_boards;
-use awari_scan::Target;
 use awari_rank::ranks_tell_boards_apart;
 
 /// Tells the predecessors of a board that it is won or lost. A block has `span` boards.
@@ -44,30 +43,32 @@ pub fn tell_all(
     }
 }
 
-/// Tells this board that its quiet move from this pit leads to a won or a lost board.
+/// Tells a predecessor, of which this is the code, that its quiet move leads to a won or a lost board.
 #[inline(always)]
-fn tell_one(boards: &mut Boards, queues: &mut Vec<Queue>, span: u32, kind: Kind, target: Target)
+fn tell_one(boards: &mut Boards, queues: &mut Vec<Queue>, span: u32, kind: Kind, code: u32)
     requires low { boards.old.level ≤ 24 }
     requires gain { (1 ≤ boards.old.gain) × (boards.old.gain ≤ boards.old.level) }
     requires near { boards.old.wave < 2 ^ 32 - 1 }
-    requires own { target.pit < 6 }
+    requires own { code % 8 < 6 }
     requires blocks { 0 < span }
-    requires room { is_held boards.old target.rank ≡ false
-        → (target.rank / span < vec_len queues.old) × (0 < room_in queues.old.items (target.rank / span)) }
-    ensures told { (y : Source) → target_of y ≡ target → HearsNotes (own_notes boards.old kind (y ∷ [])) boards.old boards.new }
-    ensures sent { (y : Source) → target_of y ≡ target → (to : ℕ) → to < vec_len queues.old → queue_in queues.new.items to
+    requires room { is_held boards.old (code / 8) ≡ false
+        → (code / 8 / span < vec_len queues.old) × (0 < room_in queues.old.items (code / 8 / span)) }
+    ensures told { (y : Source) → IsCodeOf y code → HearsNotes (own_notes boards.old kind (y ∷ [])) boards.old boards.new }
+    ensures sent { (y : Source) → IsCodeOf y code → (to : ℕ) → to < vec_len queues.old → queue_in queues.new.items to
         ≡ with_sent boards.old span to kind (queue_in queues.old.items to) y }
     ensures room { (to : ℕ) → room_in queues.old.items to ≤ room_in queues.new.items to + 1 }
     ensures queues { vec_len queues.new ≡ vec_len queues.old }
     ensures settles { Settles boards.old boards.new }
 {
     ranks_tell_boards_apart();
-    if !boards.holds(target.rank) {
-        let note = boards.note(target.rank, target.pit, kind);
-        queues[(target.rank / span) as usize].put(note);
+    let rank = code / 8;
+    let pit = (code % 8) as u8;
+    if !boards.holds(rank) {
+        let note = boards.note(rank, pit, kind);
+        queues[(rank / span) as usize].put(note);
         return;
     }
-    boards.hear(target.rank, target.pit, kind);
+    boards.hear(rank, pit, kind);
 }
 
 /// The kind of the notes of a settled board.

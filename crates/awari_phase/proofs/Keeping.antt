@@ -9,7 +9,6 @@ use mathlib.Core.List.{IsPrefix}
 use Rattle.awari_owner.specs.Outboxes.{IsBatch, Outboxes, queue_to, notes_of}
 use Rattle.awari_owner.specs.Sound.{IsTimelyNote, OwnerSound, SameStake, SpreadsFirst, TakesNotes, with_taken}
 use Rattle.awari_owner.specs.declared.faults.OwnerFault.{OwnerFault}
-use Rattle.awari_block.proofs.NoteLists.{all_left, all_right}
 use Rattle.awari_owner.proofs.Lists.{notes_of-append, notes_of-last}
 use Rattle.awari_owner.proofs.Sounding.{place_both, stake_same, stake_settled, sound_same, timely_all}
 use Rattle.awari_block.specs.Part.{Part}
@@ -20,6 +19,7 @@ use Rattle.awari_lines.specs.Rings.{Notes, IsOther, SamePairs, SameBut, sent_to,
 use Rattle.awari_phase.specs.declared.owners.Owner.{Owner}
 use Rattle.awari_phase.specs.Owners.{Batches, IsOpenBatch, IsSound, KeepsOwner, Kept, given_to, items_of, notes_boxed, notes_given, notes_taken, taken_from}
 use Rattle.awari_lines.proofs.Grids.{same_pairs, rings_then}
+use Rattle.awari_block.proofs.ListParts.{All-append_first, All-append_second}
 
 -- ---- rings
 
@@ -148,7 +148,7 @@ module _ (e e' : Ends) (j : ℕ) (pairs : SamePairs e e') (others : SameBut e e'
               λ value h i d lt.
                   (let zeroth : i ≡ 0 = omega (arith, lt) in
                   let all = subst (All (IsTimelyNote part)) (ap notes_of first) (h.opened j other) in
-                  subst (λ (n : ℕ). P (get_or (b.items ∷ []) n d)) (sym zeroth) (record { whole = whole; opened = all_left (IsTimelyNote part) b.items (notes_of rest) all })),
+                  subst (λ (n : ℕ). P (get_or (b.items ∷ []) n d)) (sym zeroth) (record { whole = whole; opened = All-append_first (IsTimelyNote part) b.items (notes_of rest) all })),
             )
             | inr n ↦ ([], ap sent_on (others k n q.0) ∙ sym (append-nil (sent_to e k)), λ value h i d lt. absurd (omega (arith, lt)))
           ]
@@ -172,7 +172,7 @@ module _ (e e' : Ends) (j : ℕ) (pairs : SamePairs e e') (others : SameBut e e'
             | inl at ↦
                 (let Q : ℕ → Type 0 = λ i. All (IsTimelyNote part) (notes_boxed o i) → All (IsTimelyNote part) (notes_boxed o' i) in
                 subst Q (sym at)
-                (λ a. subst (λ (bs : Batches). All (IsTimelyNote part) (notes_of bs)) (sym left) (all_right (IsTimelyNote part) b.items (notes_of rest) (subst (All (IsTimelyNote part)) (ap notes_of first) a))) h)
+                (λ a. subst (λ (bs : Batches). All (IsTimelyNote part) (notes_of bs)) (sym left) (All-append_second (IsTimelyNote part) b.items (notes_of rest) (subst (All (IsTimelyNote part)) (ap notes_of first) a))) h)
             | inr n ↦ subst (λ (bs : Batches). All (IsTimelyNote part) (notes_of bs)) (sym (same k n)) h
           ]
 

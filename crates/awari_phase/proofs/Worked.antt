@@ -15,7 +15,7 @@ use Rattle.awari_phase.specs.PhaseFault.{AreWell}
 use Rattle.awari_phase.specs.Stops.{HasWorked, HaveWorked}
 use Rattle.awari_phase.proofs.Grown.{grid_after, grid_pairs}
 use Rattle.awari_phase.proofs.Keeping.{pairs_then, open_stake}
-use Rattle.awari_block.proofs.Slices.{written}
+use Rattle.awari_block.proofs.ListParts.{written}
 use Rattle.awari_phase.proofs.Together.{ends_there, many_at, number_at}
 use Rattle.awari_phase.proofs.Gaining.{all_grown_waves, same_rest}
 use Rattle.awari_phase.proofs.Each.{same_ends}

@@ -8,12 +8,14 @@
 //!
 //! The predecessors of a board, in `crates/awari_scan/src/targets.rt`:
 //!
-//!     pub fn find_all(board: &PackedBoard, targets: &mut [Target]) -> usize
+//!     pub fn find_all(board: &PackedBoard, targets: &mut [u32]) -> usize
 //!         requires room { 288 ≤ length targets.old }
+//!         requires low { sum board.now ≤ 24 }
 //!         ensures found { ListsAll board.now targets.new result }
 //!         ensures few { result ≤ 288 }
 //!         ensures same { length targets.new ≡ length targets.old }
 //!     {
+//!         moves_keep_boards();
 //!         let PackedUnmoves { own, far } = PackedUnmoves::of(board);
 //!         let found = find_own(own, targets);
 //!         find_far(far, targets, found)
@@ -27,4 +29,4 @@ mod targets;
 
 pub use parallel::scanned_cells_parallel;
 pub use runs::scanned_cells;
-pub use targets::{MOST_PREDECESSORS, Target, find_all};
+pub use targets::{MOST_PREDECESSORS, find_all};

@@ -15,7 +15,8 @@ use Rattle.awari_waves.specs.Ahead.{IsBoardOf, TellSettled}
 use Rattle.awari_waves.specs.declared.segments.Segment.TheInside.{Inside}
 use Rattle.awari_waves.specs.Waves.{IsCodeFor, notes_by}
 use Rattle.awari_waves.proofs.Heard.{stored}
-use Rattle.awari_waves.proofs.Joining.{All-append_first, seen}
+use Rattle.awari_block.proofs.ListParts.{All-append_first}
+use Rattle.awari_waves.proofs.Joining.{seen}
 use Rattle.awari_waves.proofs.Telling.{code_still, row_tells, tells_append}
 use Rattle.awari_heard.specs.Heard.{HearsNotes}
 

@@ -1,7 +1,7 @@
 -- A chunk of fresh boards is spread.
 use Rattle.std.proofs.Common.{◌^◌, ◌≡◌, ℕ, ◌+◌, ◌-◌, ◌/◌, ◌%◌, ◌<◌, ◌≤◌, ◌==◌, ◌⊎◌, inl, inr, Bool, true, false, List, [], ◌∷◌, ◌++◌, length, get_or, map, sum, All, ℤ, pos, neg_ℤ, ◌<ℤ◌, Some, refl, sym, ap, subst, subst₂, ◌∙◌, arith, eqb-true}
 use Rattle.std.proofs.lemmas.Int.{ints}
-use Rattle.std.proofs.lemmas.List.{get_or-map, length-map}
+use Rattle.std.proofs.lemmas.List.{get_or-map, length-map, map-append}
 use Rattle.std.proofs.lemmas.Bool.Decides.{nat_tests}
 use Rattle.awari_board.specs.Rules.{IsBoard, next_board}
 use Rattle.awari_rank.specs.Rank.{rank_of, size_of}
@@ -16,12 +16,12 @@ use Rattle.awari_block.specs.declared.notes.Note.{Note}
 use Rattle.awari_block.specs.declared.stakes.Stake.{Stake}
 use Rattle.awari_block.proofs.BlockLemmas.{one_if, times_due-cons}
 use Rattle.awari_heard.specs.Heard.{Hears, HearsTruth, IsSpread, HearsNotes, AreUnheard, IsUnheard, with_heard}
-use Rattle.awari_scan.specs.Found.{Source}
+use Rattle.awari_scan.specs.Found.{Source, code_by, code_of}
 use Rattle.awari_heard.specs.Level.{AreHeard, no_part, part_at}
 use Rattle.awari_heard.proofs.SpreadBoards.{IsInjective, spread_before, spread_stays}
 use Rattle.awari_waves.specs.Lists.{AreDistinct, In}
-use Rattle.awari_waves.specs.Waves.{AreSourcesOf, CanAllHear, HearsFrom, IsCodeFor, IsCut, IsPending, SettlesAll, code_by, code_of, codes_to, note_by, value_of_kind, with_pending, both_by, notes_by}
-use Rattle.awari_waves.proofs.Sources.{IsFrom, Keeps, all_in, codes_distinct, codes_in, distinct_apart, distinct_first, distinct_second, in_codes, in_either, in_first, in_map, in_or_not, in_second, map_append, source_all, source_from, sources_distinct}
+use Rattle.awari_waves.specs.Waves.{AreSourcesOf, CanAllHear, HearsFrom, IsCodeFor, IsCut, IsPending, SettlesAll, codes_to, note_by, value_of_kind, with_pending, both_by, notes_by}
+use Rattle.awari_waves.proofs.Sources.{IsFrom, Keeps, all_in, codes_distinct, codes_in, distinct_apart, distinct_first, distinct_second, in_codes, in_either, in_first, in_map, in_or_not, in_second, source_all, source_from, sources_distinct}
 use Rattle.awari_waves.proofs.Laying.{sources_both}
 use Rattle.awari_block.proofs.NoteLists.{heard_note, Has-append_cases, Has-append_left, Has-append_right}
 use Rattle.awari_waves.proofs.Noting.{code_is, noted_from, noted_in, notes_apart}
@@ -201,7 +201,7 @@ module _ (stake : Stake) (span : ℕ) (old : List Part) (injective : IsInjective
 
     distinct_codes : AreDistinct (map code_of xs ++ map code_of ys)
     distinct_codes =
-        subst AreDistinct (map_append xs ys)
+        subst AreDistinct (map-append code_of xs ys)
         (sources_distinct stake.level (lost ++ won) (xs ++ ys) injective keeps (distinct_first (lost ++ won) rest distinct) (sources_both stake.level lost won xs ys found_lost found_won))
 
     lost_listed : (j c : ℕ) → In (lost_notes j) c → In (codes_to span j xs) c

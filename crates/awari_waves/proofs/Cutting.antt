@@ -5,8 +5,6 @@ use Rattle.std.proofs.lemmas.List.{get_or_append_left, get_or_default}
 use Rattle.std.proofs.Math.Seq.{get_or-append_seam}
 use Rattle.std.proofs.Math.Nat.{suc-mul}
 use Rattle.awari_rank.specs.Rank.{rank_of, size_of}
-use Rattle.awari_rank.proofs.Examples.{highest}
-use Rattle.awari_rank.proofs.Reaching.{size_of-grows}
 use Rattle.awari_block.specs.Part.{Part, InBlock, IsTallied, settled_at}
 use Rattle.awari_heard.specs.Heard.{Hears}
 use Rattle.awari_heard.specs.Level.{AreBlocks, AreHeard, AreWhole, no_part, part_at}
@@ -14,9 +12,7 @@ use Rattle.awari_waves.specs.Each.{NoneAreFresh}
 use Rattle.awari_waves.specs.Scanned.{IsScannedPart}
 use Rattle.awari_waves.specs.Waves.{IsCut}
 use Rattle.awari_waves.proofs.Spans.{grid_of}
-
-pub level_few : (n : ℕ) → n ≤ 24 → size_of n ≤ 2 ^ 29
-level_few n low = omega (arith, size_of-grows n 24 low, highest)
+use Rattle.awari_scan.proofs.Finding.{level_few}
 
 -- the boards up to, not including, this rank are in these blocks
 pub record AreScannedTo (value : List ℕ → ℤ) (n span reached : ℕ) (parts : List Part) : Type 0 where

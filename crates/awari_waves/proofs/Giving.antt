@@ -19,7 +19,8 @@ use Rattle.awari_waves.specs.Lists.{dues_from, dues_of, list_at, without}
 use Rattle.awari_waves.specs.SegmentFields.{IsAboveZero, IsBelowZero, IsSegment}
 use Rattle.awari_waves.specs.Waves.{GivesFresh, value_of_kind}
 use Rattle.awari_waves.specs.declared.segments.Segment.TheInside.{Inside}
-use Rattle.awari_waves.proofs.Joining.{All-append_first, All-append_second, seen}
+use Rattle.awari_block.proofs.ListParts.{All-append_first, All-append_second}
+use Rattle.awari_waves.proofs.Joining.{seen}
 
 -- ---- lists
 

@@ -1,9 +1,9 @@
 -- What a segment is once a note was heard.
-use Rattle.std.proofs.Common.{◌≡◌, ℕ, zero, suc, ◌+◌, ◌-◌, ◌<◌, ◌≤◌, Bool, true, false, not, ◌&&◌, List, [], ◌∷◌, ◌++◌, length, get_or, set, map, ℤ, pos, neg_ℤ, refl, sym, ap, subst, subst₂, ◌∙◌, arith, length-append, get_or-set_same, length-set}
+use Rattle.std.proofs.Common.{◌≡◌, ℕ, zero, suc, ◌+◌, ◌-◌, ◌<◌, ◌≤◌, Bool, true, false, not, ◌&&◌, List, [], ◌∷◌, ◌++◌, length, get_or, set, map, ℤ, pos, neg_ℤ, refl, sym, ap, subst, subst₂, ◌∙◌, arith, get_or-set_same, length-set}
 use Rattle.std.proofs.lemmas.Int.{ints}
 use Rattle.std.proofs.lemmas.Bool.{false≢true}
-use Rattle.std.proofs.lemmas.List.{get_or_append_left, get_or_default}
-use Rattle.std.proofs.lemmas.List.Elements.{All-from_recursion, All-cons, All-tail}
+use Rattle.std.proofs.lemmas.List.{get_or_default}
+use Rattle.std.proofs.lemmas.List.Elements.{All-from_recursion, All-cons}
 use Rattle.std.proofs.lemmas.List.Sorted.{IsPermutation-refl, IsPermutation-sym, IsPermutation-trans, IsPermutation-append_left, IsPermutation-append_right, IsPermutation-middle, All-permutation, length_permutation}
 use Rattle.std.specs.List.{All}
 use Rattle.std.specs.List.Sorted.{IsPermutation}
@@ -22,6 +22,7 @@ use Rattle.awari_waves.specs.Waves.{StaysPassed}
 use Rattle.awari_waves.specs.declared.segments.Segment.TheInside.{Inside}
 use Rattle.awari_block.proofs.Awaiting.{awaited_put}
 use Rattle.awari_block.proofs.Settling.{not_new, alike}
+use Rattle.awari_block.proofs.ListParts.{All-append_first, All-append_second}
 
 -- ---- one more in a list
 
@@ -60,13 +61,6 @@ kept_scores : (P : ℤ → Type 0) (start : ℕ) (cells cells' : List Cell) (fre
 kept_scores P start cells cells' fresh stays settled all k d h =
     let inside = settled_inside start cells (due_rank (get_or fresh k d)) (settled k d h) in
     subst P (sym (stays (due_rank (get_or fresh k d)) inside.0 inside.2).1) (all k d h)
-
-pub All-append_first : {X : Type 0} → (P : X → Type 0) (xs ys : List X) → All P (xs ++ ys) → All P xs
-All-append_first P xs ys all k d h = subst P (get_or_append_left xs ys d k h) (all k d (let long = length-append xs ys in omega (arith, long, h)))
-
-pub All-append_second : {X : Type 0} → (P : X → Type 0) (xs ys : List X) → All P (xs ++ ys) → All P ys
-All-append_second P [] ys all = all
-All-append_second P (x ∷ xs) ys all = All-append_second P xs ys (All-tail P x (xs ++ ys) all)
 
 -- what callers see of these boards
 abbrev pub seen : Inside → Part

@@ -1,21 +1,18 @@
 -- What is laid for the blocks.
-use Rattle.std.proofs.Common.{◌≡◌, ◌≢◌, ℕ, zero, suc, ◌+◌, ◌*◌, ◌/◌, ◌<◌, ◌≤◌, ◌==◌, Bool, true, false, cond, List, [], ◌∷◌, ◌++◌, length, get_or, take, drop, map, filter, sum, refl, sym, ap, subst, ◌∙◌, arith, append_assoc, append-nil, length-append, eqb-true, ◌^◌}
+use Rattle.std.proofs.Common.{◌≡◌, ◌≢◌, ℕ, zero, suc, ◌+◌, ◌/◌, ◌<◌, ◌≤◌, ◌==◌, Bool, true, false, cond, List, [], ◌∷◌, ◌++◌, length, get_or, take, drop, map, filter, sum, refl, sym, ap, subst, ◌∙◌, arith, append_assoc, append-nil, eqb-true}
 use Rattle.std.proofs.lemmas.Bool.Decides.{nat_tests}
 use Rattle.std.proofs.lemmas.List.{length_push, take-append-drop}
 use Rattle.awari_board.specs.Rules.{IsBoard}
 use Rattle.awari_rank.specs.Rank.{rank_of, size_of}
-use Rattle.awari_rank.proofs.Ranking.{rank_of-below}
 use Rattle.awari_block.specs.Notes.{IsQuietMove}
 use Rattle.awari_unmove.specs.Predecessors.{IsPredecessors}
-use Rattle.awari_unmove.proofs.Walking.{IsQuiet-next}
-use Rattle.awari_scan.specs.Found.{Lists, Source}
-use Rattle.awari_scan.specs.declared.targets.Target.{Target}
-use Rattle.awari_scan.proofs.Finding.{Lists-at, IsNext, split_left}
+use Rattle.awari_scan.specs.Found.{Lists, Source, code_of}
+use Rattle.awari_scan.proofs.Finding.{IsNext, next_source, none_left}
 use Rattle.awari_block.specs.declared.notes.Kind.{Kind}
 use Rattle.awari_waves.specs.Lists.{In, list_at, with_put}
 use Rattle.awari_waves.specs.Rows.{lists_by, notes_at}
 use Rattle.awari_waves.specs.declared.lists.Row.{Row}
-use Rattle.awari_waves.specs.Waves.{AreSourcesOf, CanFind, Finds, FindsFor, Puts, code_of, codes_to}
+use Rattle.awari_waves.specs.Waves.{AreSourcesOf, CanFind, Finds, FindsFor, Puts, codes_to}
 use Rattle.awari_waves.proofs.Sources.{all_in, each_in, in_first, in_second}
 use Rattle.awari_waves.proofs.ListLemmas.{with_put-at, with_put-other}
 
@@ -71,7 +68,7 @@ finds_both level span rs ss a b c one two =
 -- ---- the predecessors of one board
 
 -- Of the n predecessors of q that are listed, the notes of the first k are laid.
-pub record IsLaying (span : ℕ) (old now : List (List ℕ)) (q : List ℕ) (targets : List Target) (n k : ℕ) : Type 0 where
+pub record IsLaying (span : ℕ) (old now : List (List ℕ)) (q : List ℕ) (targets : List ℕ) (n k : ℕ) : Type 0 where
   pub seen : List Source
   pub left : List Source
   pub many : length seen ≡ k
@@ -79,34 +76,21 @@ pub record IsLaying (span : ℕ) (old now : List (List ℕ)) (q : List ℕ) (tar
   pub listed : Lists targets n (seen ++ left)
   pub laid : Puts span seen old now
 
-pub IsLaying-none : (span : ℕ) (old : List (List ℕ)) (q : List ℕ) (targets : List Target) (n : ℕ) → ((sources : List Source) × IsPredecessors q sources × Lists targets n sources)
+pub IsLaying-none : (span : ℕ) (old : List (List ℕ)) (q : List ℕ) (targets : List ℕ) (n : ℕ) → ((sources : List Source) × IsPredecessors q sources × Lists targets n sources)
     → IsLaying span old old q targets n 0
 IsLaying-none span old q targets n found = record { seen = []; left = found.0; many = refl; predecessors = found.1; listed = found.2; laid = puts_none span old }
 
-pub IsLaying-next : (span level : ℕ) (old now : List (List ℕ)) (q : List ℕ) (targets : List Target) (n k : ℕ) (d : Target)
+pub IsLaying-next : (span level : ℕ) (old now : List (List ℕ)) (q : List ℕ) (targets : List ℕ) (n k : ℕ) (d : ℕ)
     → ((p : List ℕ) (x : ℕ) → IsBoard p → IsQuietMove p x q → sum q + 0 ≡ sum p) → sum q ≡ level
     → (laying : IsLaying span old now q targets n k) → k < n → IsNext q level laying.seen laying.left (get_or targets k d)
 IsLaying-next span level old now q targets n k d keeps stones laying less =
-    let many = laying.many in
-    let all = laying.listed.many in
-    let next = split_left laying.seen laying.left (omega (arith, many, all, less)) in
-    let quiet = IsQuiet-next q laying.seen laying.left next.1 next.0 laying.predecessors next.2 in
-    record {
-      y = next.0;
-      more = next.1;
-      splits = next.2;
-      at = Lists-at targets n laying.seen laying.left next.1 next.0 d laying.listed next.2 (omega (arith, many, less)) ∙ ap (λ i. get_or targets i d) many;
-      source = (quiet.board, sym (keeps next.0.0 next.0.1 quiet.board quiet.move) ∙ (let same : sum q + 0 ≡ level = omega (arith, stones) in same), (q, quiet.move));
-    }
+    next_source q level targets n k laying.seen laying.left d keeps stones laying.many laying.predecessors laying.listed less
 
--- its rank and pit fit a code
-pub next_fits : (level : ℕ) (q : List ℕ) (seen left : List Source) (t : Target) → size_of level ≤ 2 ^ 29 → IsNext q level seen left t → (t.rank < 2 ^ 29) × (t.pit < 6)
-next_fits level q seen left t few next =
-    subst (λ (u : Target). (u.rank < 2 ^ 29) × (u.pit < 6)) next.at
-    ((let below = rank_of-below next.y.0 next.source.0.pits in let size = ap size_of next.source.1 in omega (arith, below, size, few)), next.source.2.1.legal.own)
+code_rank : (y : Source) → y.1 < 6 → code_of y / 8 ≡ rank_of y.0
+code_rank y own = omega (arith, own)
 
-pub IsLaying-more : (span level : ℕ) (old now new : List (List ℕ)) (q : List ℕ) (targets : List Target) (n k : ℕ) (t : Target) → (laying : IsLaying span old now q targets n k)
-    → IsNext q level laying.seen laying.left t → new ≡ with_put now (t.rank / span) (t.rank * 8 + t.pit) → IsLaying span old new q targets n (k + 1)
+pub IsLaying-more : (span level : ℕ) (old now new : List (List ℕ)) (q : List ℕ) (targets : List ℕ) (n k : ℕ) (t : ℕ) → (laying : IsLaying span old now q targets n k)
+    → IsNext q level laying.seen laying.left t → new ≡ with_put now (t / 8 / span) t → IsLaying span old new q targets n (k + 1)
 IsLaying-more span level old now new q targets n k t laying next is =
     let all : laying.seen ++ laying.left ≡ (laying.seen ++ next.y ∷ []) ++ next.more = ap (λ l. laying.seen ++ l) next.splits ∙ sym (append_assoc laying.seen (next.y ∷ []) next.more) in
     record {
@@ -116,19 +100,14 @@ IsLaying-more span level old now new q targets n k t laying next is =
       predecessors = subst (IsPredecessors q) all laying.predecessors;
       listed = subst (Lists targets n) all laying.listed;
       laid = puts_both span laying.seen (next.y ∷ []) old now new laying.laid
-          (puts_one span next.y now new (is ∙ ap (λ (u : Target). with_put now (u.rank / span) (u.rank * 8 + u.pit)) (sym next.at)));
+          (puts_one span next.y now new (is ∙ ap (λ u. with_put now (u / 8 / span) u) (sym next.at) ∙ ap (λ r. with_put now (r / span) (code_of next.y)) (code_rank next.y next.source.2.1.legal.own)));
     }
 
-pub IsLaying-end : (span level rank : ℕ) (old now : List (List ℕ)) (q : List ℕ) (targets : List Target) (n k : ℕ) → IsBoard q → sum q ≡ level → rank_of q ≡ rank
+pub IsLaying-end : (span level rank : ℕ) (old now : List (List ℕ)) (q : List ℕ) (targets : List ℕ) (n k : ℕ) → IsBoard q → sum q ≡ level → rank_of q ≡ rank
     → IsLaying span old now q targets n k → n ≤ k → Finds level span (rank ∷ []) old now
 IsLaying-end span level rank old now q targets n k board stones at laying end =
-    let none = nothing_left laying.seen laying.left (let many = laying.many in let all = laying.listed.many in omega (arith, many, all, end)) in
-    let all : laying.seen ++ laying.left ≡ laying.seen = ap (λ l. laying.seen ++ l) none ∙ append-nil laying.seen in
+    let all = none_left targets n k laying.seen laying.left laying.many laying.listed end in
     (laying.seen, (q, laying.seen, [], board, stones, at, subst (IsPredecessors q) all laying.predecessors, refl, sym (append-nil laying.seen)), laying.laid)
-  where
-    nothing_left : (seen left : List Source) → length (seen ++ left) ≤ length seen → left ≡ []
-    nothing_left seen [] less = refl
-    nothing_left seen (y ∷ more) less = (let long = length-append seen (y ∷ more) in absurd (omega (arith, long, less)))
 
 -- ---- several rows
 

@@ -5,7 +5,7 @@ use Rattle.std.proofs.lemmas.List.Elements.{All-append, All-map, All-nil}
 use Rattle.awari_block.specs.Blocks.{Due, due_dist}
 use Rattle.awari_waves.specs.Lists.{dues_from, list_at, lists_of}
 use Rattle.awari_waves.proofs.ListLemmas.{AreEmpty, lists_of-at}
-use Rattle.awari_waves.proofs.Joining.{All-append_second}
+use Rattle.awari_block.proofs.ListParts.{All-append_second}
 
 -- no list has anything if no board has such a distance
 pub none_below : (ls : List (List ℕ)) (d from i : ℕ) → All (λ (f : Due). from ≤ due_dist f) (dues_from d ls) → d + i < from → list_at ls i ≡ []

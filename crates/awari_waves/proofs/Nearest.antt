@@ -13,7 +13,8 @@ use Rattle.awari_waves.specs.Each.{AreFrom, HasFresh, NoneAreFresh, HasDue, near
 use Rattle.awari_waves.specs.Lists.{dues_from, dues_of, list_at}
 use Rattle.awari_waves.specs.SegmentFields.{IsSegment}
 use Rattle.awari_waves.specs.declared.segments.Segment.TheInside.{Inside}
-use Rattle.awari_waves.proofs.Joining.{All-append_first, All-append_second, seen}
+use Rattle.awari_block.proofs.ListParts.{All-append_first, All-append_second}
+use Rattle.awari_waves.proofs.Joining.{seen}
 
 -- Nothing is due if there is no number. What there is, is the least, and some board has it.
 pub record IsNearest (Empty : Type 0) (Far Has : ℕ → Type 0) (o : Option ℕ) : Type 0 where

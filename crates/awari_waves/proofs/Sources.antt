@@ -1,15 +1,17 @@
 -- The sources of a chunk: quiet moves to its boards, all of them, each once.
-use Rattle.std.proofs.Common.{◌≡◌, ◌≢◌, ℕ, zero, suc, ◌+◌, ◌/◌, ◌<◌, ◌==◌, ◌⊎◌, inl, inr, Bool, true, false, cond, List, [], ◌∷◌, ◌++◌, length, get_or, map, filter, sum, slice_index, Contains, All, AllPairs, refl, sym, ap, subst, ◌∙◌, arith, eqb-true}
+use Rattle.std.proofs.Common.{◌≡◌, ◌≢◌, ℕ, zero, suc, ◌+◌, ◌/◌, ◌<◌, ◌==◌, ◌⊎◌, inl, inr, Bool, true, false, cond, List, [], ◌∷◌, ◌++◌, length, get_or, map, filter, sum, Contains, All, AllPairs, refl, sym, ap, subst, ◌∙◌, arith, eqb-true}
 use Rattle.std.proofs.lemmas.Bool.{false≢true}
 use Rattle.std.proofs.lemmas.Bool.Decides.{nat_tests}
 use Rattle.awari_board.specs.Rules.{IsBoard, next_board}
 use Rattle.awari_rank.specs.Rank.{rank_of}
 use Rattle.awari_block.specs.Notes.{IsQuietMove}
 use Rattle.awari_unmove.specs.Predecessors.{ComesBefore}
-use Rattle.awari_scan.specs.Found.{Source}
+use Rattle.awari_scan.specs.Found.{Source, code_of}
 use Rattle.awari_heard.proofs.SpreadBoards.{IsInjective}
 use Rattle.awari_waves.specs.Lists.{AreDistinct, In}
-use Rattle.awari_waves.specs.Waves.{AreSourcesOf, code_of, codes_to}
+use Rattle.awari_waves.specs.Waves.{AreSourcesOf, codes_to}
+use Rattle.awari_scan.proofs.Finding.{not_before_itself}
+use Rattle.std.proofs.lemmas.List.{map-append}
 
 -- ---- lists
 
@@ -186,26 +188,16 @@ own_distinct level rs (y ∷ ys) injective from pairs = (
       let c = in_contains ys z m.1 in
       let same = code_tells level rs rs y z injective (from y (inl refl)) (from z (inr m.1)) m.2 in
       let less : ComesBefore y z = subst (ComesBefore y) c.2 (pairs 0 (suc c.0) z (omega arith) (let h = c.1 in omega (arith, h))) in
-      clash y z same.0 same.1 less,
+      not_before_itself y z same.0 same.1 less,
   own_distinct level rs ys injective (λ z h. from z (inr h)) (λ i j d less high. pairs (suc i) (suc j) d (omega (arith, less)) (omega (arith, high))),
 )
-  where
-    clash : (a b : Source) → a.0 ≡ b.0 → a.1 ≡ b.1 → ComesBefore a b → ⊥
-    clash a b boards pits (inl less) = omega (arith, less, pits)
-    clash a b boards pits (inr more) =
-        let same : slice_index a.0 a.1 ≡ slice_index b.0 b.1 = ap (λ (p : List ℕ). slice_index p a.1) boards ∙ ap (slice_index b.0) pits in
-        let less = more.1 in omega (arith, less, same)
-
-pub map_append : (xs ys : List Source) → map code_of (xs ++ ys) ≡ map code_of xs ++ map code_of ys
-map_append [] ys = refl
-map_append (x ∷ xs) ys = ap (λ l. code_of x ∷ l) (map_append xs ys)
 
 -- and none of two boards
 pub sources_distinct : (level : ℕ) (ranks : List ℕ) (xs : List Source) → IsInjective → Keeps → AreDistinct ranks → AreSourcesOf level ranks xs → AreDistinct (map code_of xs)
 sources_distinct level [] xs injective keeps apart none = subst (λ (l : List Source). AreDistinct (map code_of l)) (sym none) tt
 sources_distinct level (r ∷ ranks) xs injective keeps apart (q, own, others, board, stones, at, are, rest, is) =
     subst (λ (l : List Source). AreDistinct (map code_of l)) (sym is)
-    (subst AreDistinct (sym (map_append own others))
+    (subst AreDistinct (sym (map-append code_of own others))
     (distinct_both (map code_of own) (map code_of others)
     (own_distinct level (r ∷ []) own injective mine are.ordered)
     (sources_distinct level ranks others injective keeps apart.1 rest)

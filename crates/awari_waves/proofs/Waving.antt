@@ -2,7 +2,7 @@
 use Rattle.std.proofs.Common.{◌^◌, ◌≡◌, ◌≢◌, ℕ, ◌+◌, ◌/◌, ◌<◌, ◌≤◌, ◌==◌, ◌⊎◌, inl, inr, Bool, true, false, List, [], ◌∷◌, ◌++◌, length, get_or, set, map, All, ℤ, pos, neg_ℤ, Some, refl, sym, ap, subst, subst₂, ◌∙◌, arith, eqb-true, append-nil, length-set, get_or-set_same, get_or-set_other}
 use Rattle.std.proofs.lemmas.Int.{ints}
 use Rattle.std.proofs.lemmas.List.Sorted.{All-permutation, IsPermutation-sym}
-use Rattle.awari_waves.proofs.Joining.{All-append_second}
+use Rattle.awari_block.proofs.ListParts.{All-append_second}
 use Rattle.std.proofs.lemmas.Bool.Decides.{nat_tests}
 use Rattle.std.proofs.lemmas.List.{get_or_default, length-map}
 use Rattle.awari_rank.specs.Rank.{rank_of, size_of}

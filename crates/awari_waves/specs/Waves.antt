@@ -11,18 +11,11 @@ use Rattle.awari_block.specs.declared.notes.Kind.{Kind}
 use Rattle.awari_block.specs.declared.notes.Kind.TheVariants.{Won, Lost}
 use Rattle.awari_block.specs.declared.notes.Note.{Note}
 use Rattle.awari_block.specs.declared.stakes.Stake.{Stake}
-use Rattle.awari_scan.specs.Found.{Source}
+use Rattle.awari_scan.specs.Found.{Source, code_of}
 use Rattle.awari_heard.specs.Level.{AreHeard, part_at}
 use Rattle.awari_waves.specs.Each.{KeepsBoards}
 use Rattle.awari_waves.specs.Lists.{AreDistinct, list_at}
 use Rattle.awari_heard.specs.Heard.{HearsNotes}
-
--- a note in four bytes: the rank of the board that it is for, and the pit of its move
-abbrev pub code_by : ℕ → ℕ → ℕ
-code_by rank pit = rank * 8 + pit
-
-abbrev pub code_of : Source → ℕ
-code_of y = code_by (rank_of y.0) y.1
 
 -- the note of this code at the open gain and wave
 abbrev pub note_by : Stake → Kind → ℕ → Note

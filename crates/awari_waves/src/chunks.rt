@@ -14,7 +14,7 @@ use crate::segments::Segment;
 use awari_block::Stake;
 use awari_board::moves_keep_boards;
 use awari_index::Index;
-use awari_scan::{MOST_PREDECESSORS, Target};
+use awari_scan::MOST_PREDECESSORS;
 use awari_rank::ranks_tell_boards_apart;
 use rayon::join_mut;
 use std::alloc::AllocError;
@@ -182,7 +182,7 @@ fn find_lists(finder: Finder<'_>, ranks: &[u32], lists: &mut Lists) -> Result<()
     ensures { OnOk result (FindsFor finder.entry.index.now (2 ^ finder.entry.log) ranks.now (list_at lists.new)) }
 {
     lists.clear();
-    let mut targets = [Target { rank: 0, pit: 0 }; MOST_PREDECESSORS];
+    let mut targets = [0; MOST_PREDECESSORS];
     find(finder.index, finder.log, ranks, &mut targets, lists)?;
     Ok(())
 }

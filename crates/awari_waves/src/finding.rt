@@ -1,16 +1,16 @@
 //! The notes that the boards of a chunk give, laid into a list for each block. No cell is read or written.
 
-ghost use Rattle.std.specs.Prelude.{◌≡◌, ◌+◌, ◌*◌, ◌/◌, ◌^◌, ◌<◌, ◌≤◌, ◌∷◌, [], All, OnOk, length, sum};
+ghost use Rattle.std.specs.Prelude.{◌≡◌, ◌+◌, ◌/◌, ◌^◌, ◌<◌, ◌≤◌, ◌∷◌, [], All, OnOk, length, sum};
 ghost use Rattle.awari_board.specs.Rules.{IsBoard};
 ghost use Rattle.awari_rank.specs.Rank.{rank_of, size_of};
 ghost use Rattle.awari_waves.specs.Ahead.{AreBoards};
 ghost use Rattle.awari_waves.specs.Lists.{with_put};
-ghost use Rattle.awari_waves.specs.Waves.{Finds, code_by};
+ghost use Rattle.awari_waves.specs.Waves.{Finds};
 
 use crate::lists::Lists;
 use awari_board::moves_keep_boards;
 use awari_index::Index;
-use awari_scan::{Target, find_all};
+use awari_scan::find_all;
 use awari_packed::PackedBoard;
 use std::alloc::AllocError;
 
@@ -24,11 +24,11 @@ pub fn find(
     index: &Index,
     log: u32,
     ranks: &[u32],
-    targets: &mut [Target],
+    targets: &mut [u32],
     lists: &mut Lists,
 ) -> Result<(), AllocError>
     requires ranks { All (λ rank. rank < size_of index.now) ranks.now }
-    requires few { size_of index.now ≤ 2 ^ 29 }
+    requires low { index.now ≤ 24 }
     requires log { log < 32 }
     requires places { 288 ≤ length targets.old }
     ensures found { OnOk result (Finds index.now (2 ^ log) ranks.now lists.old lists.new) }
@@ -49,12 +49,12 @@ fn find_batch(
     index: &Index,
     log: u32,
     ranks: &[u32],
-    targets: &mut [Target],
+    targets: &mut [u32],
     lists: &mut Lists,
 ) -> Result<(), AllocError>
     requires few { (1 ≤ length ranks.now) × (length ranks.now ≤ AHEAD) }
     requires ranks { All (λ rank. rank < size_of index.now) ranks.now }
-    requires level { size_of index.now ≤ 2 ^ 29 }
+    requires low { index.now ≤ 24 }
     requires log { log < 32 }
     requires places { 288 ≤ length targets.old }
     ensures found { OnOk result (Finds index.now (2 ^ log) ranks.now lists.old lists.new) }
@@ -86,11 +86,11 @@ fn boards_of(index: &Index, ranks: &[u32]) -> [PackedBoard; AHEAD]
 fn find_of(
     log: u32,
     board: &PackedBoard,
-    targets: &mut [Target],
+    targets: &mut [u32],
     lists: &mut Lists,
 ) -> Result<(), AllocError>
     requires board { IsBoard board.now }
-    requires few { size_of (sum board.now) ≤ 2 ^ 29 }
+    requires low { sum board.now ≤ 24 }
     requires log { log < 32 }
     requires places { 288 ≤ length targets.old }
     ensures found { OnOk result (Finds (sum board.now) (2 ^ log) (rank_of board.now ∷ []) lists.old lists.new) }
@@ -104,13 +104,11 @@ fn find_of(
     Ok(())
 }
 
-/// Lays the note for this board and pit.
+/// Lays the note of this code.
 #[inline(always)]
-fn lay(log: u32, target: Target, lists: &mut Lists) -> Result<(), AllocError>
+fn lay(log: u32, code: u32, lists: &mut Lists) -> Result<(), AllocError>
     requires log { log < 32 }
-    requires rank { target.rank < 2 ^ 29 }
-    requires pit { target.pit < 6 }
-    ensures { OnOk result (lists.new ≡ with_put lists.old (target.rank / 2 ^ log) (code_by target.rank target.pit)) }
+    ensures { OnOk result (lists.new ≡ with_put lists.old (code / 8 / 2 ^ log) code) }
 {
-    lists.put(target.rank >> log, target.rank * 8 + u32::from(target.pit))
+    lists.put((code / 8) >> log, code)
 }

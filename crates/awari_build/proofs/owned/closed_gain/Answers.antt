@@ -1,5 +1,5 @@
 use Rattle.std.proofs.Common.{length, ap, sym, subst, ◌∙◌, inl, inr}
-use Rattle.awari_block.proofs.Slices.{written}
+use Rattle.awari_block.proofs.ListParts.{written}
 use Rattle.awari_lines.specs.Rings.{IsGrid}
 use Rattle.awari_phase.specs.Owners.{AreFinished, AreTogether, all_ends}
 use Rattle.awari_phase.proofs.Worked.{together_finished}

@@ -2,7 +2,7 @@ use Rattle.std.proofs.Common.{List, ◌≡◌, ◌+◌, length, replicate, sym, 
 use Rattle.awari_block.specs.declared.cells.Cell.{Cell}
 use Rattle.awari_owner.specs.Leaving.{AreLeaving, AreLeavingBelow}
 use Rattle.awari_owner.proofs.LeavingMoves.{leaving-zeros}
-use Rattle.awari_block.proofs.Slices.{written}
+use Rattle.awari_block.proofs.ListParts.{written}
 use Rattle.awari_owner.proofs.leaving.leaving_pits_parallel.Goals as goal
 
 pub returns-then-are_all : goal.returns-then-are_all

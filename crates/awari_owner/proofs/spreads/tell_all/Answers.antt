@@ -2,9 +2,9 @@ use Rattle.std.proofs.Common.{◌≡◌, ◌/◌, ◌<◌, length, vec_len, ap, 
 use Rattle.awari_block.proofs.Settling.{settles_none, settles_both}
 use Rattle.awari_owner.specs.Queues.{room_in}
 use Rattle.awari_owner.specs.Spread.{is_held}
-use Rattle.awari_scan.specs.declared.targets.Target.{Target}
 use Rattle.awari_owner.proofs.Telling.{IsTelling-none, IsTelling-next, IsTelling-more, IsTelling-end, next_has_room}
 use Rattle.awari_owner.proofs.spreads.tell_all.Goals as goal
+use Rattle.awari_scan.proofs.Finding.{code_parts}
 
 pub loop-k-init : goal.loop-k-init
 loop-k-init c = record {
@@ -16,20 +16,21 @@ loop-k-init c = record {
 
 pub tell_one-requires-clause-own : goal.tell_one-requires-clause-own
 tell_one-requires-clause-own c =
-    let next = IsTelling-next _ _ _ _ _ _ _ _ _ _ (record { rank = 0; pit = 0 }) (λ p x is move. c.moves_keep_boards.ensures.stones p c.args.predecessors.now.board x 0 is move) c.requires.found.stones c.loop-k.invariant.telling c.loop-k-test.true in
-    subst (λ (t : Target). t.pit < 6) next.at next.source.2.1.legal.own
+    let next = IsTelling-next _ _ _ _ _ _ _ _ _ _ 0 (λ p x is move. c.moves_keep_boards.ensures.stones p c.args.predecessors.now.board x 0 is move) c.requires.found.stones c.loop-k.invariant.telling c.loop-k-test.true in
+    let own = next.source.2.1.legal.own in subst (λ x. x < 6) (code_parts next.y _ own next.at).1 own
 
 pub tell_one-requires-clause-room : goal.tell_one-requires-clause-room
 tell_one-requires-clause-room c = λ out.
-    let next = IsTelling-next _ _ _ _ _ _ _ _ _ _ (record { rank = 0; pit = 0 }) (λ p x is move. c.moves_keep_boards.ensures.stones p c.args.predecessors.now.board x 0 is move) c.requires.found.stones c.loop-k.invariant.telling c.loop-k-test.true in
+    let next = IsTelling-next _ _ _ _ _ _ _ _ _ _ 0 (λ p x is move. c.moves_keep_boards.ensures.stones p c.args.predecessors.now.board x 0 is move) c.requires.found.stones c.loop-k.invariant.telling c.loop-k-test.true in
+    let at = code_parts next.y _ next.source.2.1.legal.own next.at in
     let many : length c.loop-k.queues.items ≡ length c.args.queues.now.items = search rules in
     let room = next_has_room _ _ _ _ _ _ _ _ _ _ next.y c.loop-k.invariant.telling c.loop-k.invariant.settles many c.loop-k-test.true (let room = c.requires.found.listed.2.room in search (rules, room)) next.source
-    (ap (λ (t : Target). is_held c.loop-k.boards t.rank) next.at ∙ out) in
-    subst (λ (t : Target). (t.rank / c.args.span < vec_len c.loop-k.queues) × (0 < room_in c.loop-k.queues.items (t.rank / c.args.span))) next.at (search (rules, room.0), room.1)
+    (ap (is_held c.loop-k.boards) at.0 ∙ out) in
+    subst (λ r. (r / c.args.span < vec_len c.loop-k.queues) × (0 < room_in c.loop-k.queues.items (r / c.args.span))) at.0 (search (rules, room.0), room.1)
 
 pub loop-k-preserved : goal.loop-k-preserved
 loop-k-preserved c =
-    let next = IsTelling-next _ _ _ _ _ _ _ _ _ _ (record { rank = 0; pit = 0 }) (λ p x is move. c.moves_keep_boards.ensures.stones p c.args.predecessors.now.board x 0 is move) c.requires.found.stones c.loop-k.invariant.telling c.loop-k-test.true in
+    let next = IsTelling-next _ _ _ _ _ _ _ _ _ _ 0 (λ p x is move. c.moves_keep_boards.ensures.stones p c.args.predecessors.now.board x 0 is move) c.requires.found.stones c.loop-k.invariant.telling c.loop-k-test.true in
     let many : length c.loop-k.queues.items ≡ length c.args.queues.now.items = search rules in
     record {
       same_queues = search rules;

@@ -1,22 +1,14 @@
 use Rattle.std.proofs.Common.{sum, refl}
-use Rattle.awari_waves.proofs.Laying.{IsLaying-none, IsLaying-next, IsLaying-more, IsLaying-end, next_fits}
+use Rattle.awari_waves.proofs.Laying.{IsLaying-none, IsLaying-next, IsLaying-more, IsLaying-end}
 use Rattle.awari_waves.proofs.finding.find_of.Goals as goal
 
 pub loop-k-init : goal.loop-k-init
 loop-k-init c = IsLaying-none _ _ _ _ _ c.find_all-count.ensures.found
 
-pub lay-requires-clause-rank : goal.lay-requires-clause-rank
-lay-requires-clause-rank c =
-    (next_fits (sum c.args.board.now) _ _ _ _ c.requires.few (IsLaying-next _ _ _ _ _ _ _ _ (record { rank = 0; pit = 0 }) (λ p x is move. c.moves_keep_boards.ensures.stones p c.args.board.now x 0 is move) refl c.loop-k.invariant c.loop-k-test.true)).0
-
-pub lay-requires-clause-pit : goal.lay-requires-clause-pit
-lay-requires-clause-pit c =
-    (next_fits (sum c.args.board.now) _ _ _ _ c.requires.few (IsLaying-next _ _ _ _ _ _ _ _ (record { rank = 0; pit = 0 }) (λ p x is move. c.moves_keep_boards.ensures.stones p c.args.board.now x 0 is move) refl c.loop-k.invariant c.loop-k-test.true)).1
-
 pub loop-k-preserved : goal.loop-k-preserved
 loop-k-preserved c =
     IsLaying-more _ _ _ _ _ _ _ _ _ _ c.loop-k.invariant
-    (IsLaying-next _ (sum c.args.board.now) _ _ _ _ _ _ (record { rank = 0; pit = 0 }) (λ p x is move. c.moves_keep_boards.ensures.stones p c.args.board.now x 0 is move) refl c.loop-k.invariant c.loop-k-test.true)
+    (IsLaying-next _ (sum c.args.board.now) _ _ _ _ _ _ 0 (λ p x is move. c.moves_keep_boards.ensures.stones p c.args.board.now x 0 is move) refl c.loop-k.invariant c.loop-k-test.true)
     c.in_ok-lay.ensures
 
 pub returns-clause-found : goal.returns-clause-found

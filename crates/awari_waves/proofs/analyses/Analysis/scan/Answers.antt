@@ -2,7 +2,7 @@ use Rattle.std.proofs.Common.{◌*◌, ◌%◌, ◌^◌, ◌≡◌, ◌+◌, ◌
 use Rattle.std.proofs.lemmas.Nat.{pow_below}
 use Rattle.awari_heard.specs.Level.{AreWhole}
 use Rattle.awari_waves.specs.Waves.{IsCut}
-use Rattle.awari_waves.proofs.Cutting.{level_few}
+use Rattle.awari_scan.proofs.Finding.{level_few}
 use Rattle.awari_waves.proofs.analyses.Analysis.scan.Goals as goal
 
 pub invariant_of-result : goal.invariant_of-result

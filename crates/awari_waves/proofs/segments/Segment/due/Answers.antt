@@ -2,7 +2,7 @@ use Rattle.std.proofs.Common.{◌≤◌, sym, subst}
 use Rattle.awari_block.specs.Blocks.{Due, due_dist}
 use Rattle.awari_block.specs.Part.{Part}
 use Rattle.awari_waves.specs.Lists.{dues_of}
-use Rattle.awari_waves.proofs.Joining.{All-append_first, All-append_second}
+use Rattle.awari_block.proofs.ListParts.{All-append_first, All-append_second}
 use Rattle.awari_waves.proofs.Nearest.{AreFar, segment_nearest}
 use Rattle.awari_waves.proofs.segments.Segment.due.Goals as goal
 
