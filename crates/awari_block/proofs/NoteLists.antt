@@ -7,26 +7,26 @@ use Rattle.awari_block.specs.declared.notes.Note.{Note}
 use Rattle.std.proofs.lemmas.Bool.{cases_lt, false≢true}
 use Rattle.std.proofs.lemmas.Bool.Decides.{nat_tests}
 
-pub Has-append_left : (xs ys : List Note) (m : Note) → Has xs m → Has (xs ++ ys) m
+pub Has-append_left : {A : Type 0} → (xs ys : List A) (m : A) → Has xs m → Has (xs ++ ys) m
 Has-append_left [] ys m h = absurd h
 Has-append_left (x ∷ xs) ys m (inl e) = inl e
 Has-append_left (x ∷ xs) ys m (inr h) = inr (Has-append_left xs ys m h)
 
-pub Has-append_right : (xs ys : List Note) (m : Note) → Has ys m → Has (xs ++ ys) m
+pub Has-append_right : {A : Type 0} → (xs ys : List A) (m : A) → Has ys m → Has (xs ++ ys) m
 Has-append_right [] ys m h = h
 Has-append_right (x ∷ xs) ys m h = inr (Has-append_right xs ys m h)
 
-pub Has-append_cases : (xs ys : List Note) (m : Note) → Has (xs ++ ys) m → Has xs m ⊎ Has ys m
+pub Has-append_cases : {A : Type 0} → (xs ys : List A) (m : A) → Has (xs ++ ys) m → Has xs m ⊎ Has ys m
 Has-append_cases [] ys m h = inr h
 Has-append_cases (x ∷ xs) ys m (inl e) = inl (inl e)
 Has-append_cases (x ∷ xs) ys m (inr h) = elim (Has-append_cases xs ys m h) [ inl left ↦ inl (inr left) | inr right ↦ inr right ]
 
 -- what holds of each note of a list holds of all, and back
-pub all_has : (P : Note → Type 0) (notes : List Note) → ((m : Note) → Has notes m → P m) → All P notes
+pub all_has : {A : Type 0} → (P : A → Type 0) (xs : List A) → ((x : A) → Has xs x → P x) → All P xs
 all_has P [] each = All-nil P
 all_has P (m ∷ notes) each = All-cons P m notes (each m (inl refl)) (all_has P notes (λ k has. each k (inr has)))
 
-pub has_all : (P : Note → Type 0) (notes : List Note) (m : Note) → All P notes → Has notes m → P m
+pub has_all : {A : Type 0} → (P : A → Type 0) (xs : List A) (x : A) → All P xs → Has xs x → P x
 has_all P [] m all has = absurd has
 has_all P (x ∷ notes) m all (inl is) = subst P (sym is) (all 0 x (omega arith))
 has_all P (x ∷ notes) m all (inr has) = has_all P notes m (All-tail P x notes all) has

@@ -1,5 +1,5 @@
 -- The cells of a block and its fresh boards.
-use Rattle.std.specs.Prelude.{◌≡◌, ℕ, ◌+◌, ◌-◌, ◌≤◌, ◌==◌, Bool, not, ◌&&◌, if◌then◌else◌, nat_le, List, All, count_by, slice_index_or, pos}
+use Rattle.std.specs.Prelude.{◌≡◌, ℕ, ◌+◌, ◌-◌, ◌≤◌, ◌==◌, Bool, not, ◌&&◌, if◌then◌else◌, nat_le, List, All, count_by, slice_index_or, pos, Option, None, Some, min}
 use Rattle.awari_block.specs.declared.cells.Cell.{Cell}
 use Rattle.awari_block.specs.declared.cells.Mark.TheVariants.{Ended}
 use Rattle.awari_block.specs.Cells.{is_settled, Fits, IsEither, Keeps}
@@ -53,3 +53,9 @@ JoinNewlySettled start cells fresh cells' fresh' =
 -- settled boards keep value and distance
 abbrev pub KeepSettled : ℕ → List Cell → List Cell → Type 0
 KeepSettled start cells cells' = (rank : ℕ) → start ≤ rank → Keeps (cell_in start cells rank) (cell_in start cells' rank)
+
+-- the nearer of two distances, as far as there are any
+abbrev pub nearer_of : Option ℕ → Option ℕ → Option ℕ
+nearer_of None other = other
+nearer_of (Some a) None = Some a
+nearer_of (Some a) (Some b) = Some (min a b)

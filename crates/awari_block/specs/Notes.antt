@@ -11,10 +11,10 @@ use Rattle.awari_block.specs.declared.notes.Note.{Note}
 abbrev pub IsQuietMove : List ℕ → ℕ → List ℕ → Type 0
 IsQuietMove p x q = IsMove p x 0 q
 
--- the note is among these
-abbrev pub Has : List Note → Note → Type 0
-Has [] m = ⊥
-Has (k ∷ notes) m = (m ≡ k) ⊎ Has notes m
+-- x is among these
+abbrev pub Has : {A : Type 0} → List A → A → Type 0
+Has [] x = ⊥
+Has (y ∷ ys) x = (x ≡ y) ⊎ Has ys x
 
 abbrev pub is_won : Kind → Bool
 is_won Won = true

@@ -6,13 +6,13 @@ use Rattle.std.proofs.lemmas.Bool.{cases_eq, cases_lt, eq-eqb}
 use Rattle.std.proofs.lemmas.List.{get_or_default, get_or_push, get_or_append_left}
 use Rattle.std.proofs.lemmas.List.Elements.{All-nil}
 use Rattle.awari_table.specs.Images.{table_of}
-use Rattle.awari_block.specs.Blocks.{Due, due_dist}
+use Rattle.awari_block.specs.Blocks.{Due, due_dist, nearer_of}
 use Rattle.awari_owner.specs.Owners.{AreInStep, AreSound}
 use Rattle.awari_heard.specs.Level.{no_part}
 use Rattle.awari_owner.specs.Sound.{IsOpened, OpensGain, OpensWave}
 use Rattle.awari_block.specs.Part.{Part, IsLeastDue}
 use Rattle.awari_owner.proofs.Sounding.{gain_opened, wave_opened}
-use Rattle.awari_core.specs.Core.{Core, IsAllTaken, IsLeastOf, IsLinked, IsLesserOf, IsAllQuiet, IsWaveDone, Sound, coming, owner_part, sender_at}
+use Rattle.awari_core.specs.Core.{Core, IsAllTaken, IsLeastOf, IsLinked, IsAllQuiet, IsWaveDone, Sound, coming, owner_part, sender_at}
 use Rattle.awari_core.proofs.Sounding.{opened_sound}
 use Rattle.awari_core.proofs.Telling.{nothing_comes}
 
@@ -80,7 +80,7 @@ sound_wave old dist parts sound taken count opens = sound_opened old old.gain pa
 -- ---- the least distance
 
 -- of one part more
-pub least_more : (parts : List Part) (count : ℕ) (p : Part) (a b least : Option ℕ) → get_or parts count no_part ≡ p → IsLeastOf parts count a → IsLeastDue p b → IsLesserOf a b least → IsLeastOf parts (count + 1) least
+pub least_more : (parts : List Part) (count : ℕ) (p : Part) (a b least : Option ℕ) → get_or parts count no_part ≡ p → IsLeastOf parts count a → IsLeastDue p b → least ≡ nearer_of a b → IsLeastOf parts (count + 1) least
 least_more parts count p None None least at before here near = subst (IsLeastOf parts (count + 1)) (sym near) (λ i low. elim (cases_eq i count) [
   | inl same ↦ ap (λ j. (get_or parts j no_part).fresh) same ∙ ap (λ (o : Part). o.fresh) at ∙ here
   | inr apart ↦ before i (omega (arith, low, apart))
@@ -121,7 +121,7 @@ least_more parts count p (Some a) (Some b) least at before here near = subst (Is
     ]
 
 -- a bound of both is one of the lesser
-pub nearer_bound : (a b least : Option ℕ) (w : ℕ) → IfSome a (λ d. w ≤ d) → IfSome b (λ d. w ≤ d) → IsLesserOf a b least → IfSome least (λ d. w ≤ d)
+pub nearer_bound : (a b least : Option ℕ) (w : ℕ) → IfSome a (λ d. w ≤ d) → IfSome b (λ d. w ≤ d) → least ≡ nearer_of a b → IfSome least (λ d. w ≤ d)
 nearer_bound None b least w one other near = subst (λ (o : Option ℕ). IfSome o (λ d. w ≤ d)) (sym near) other
 nearer_bound (Some a) None least w one other near = subst (λ (o : Option ℕ). IfSome o (λ d. w ≤ d)) (sym near) one
 nearer_bound (Some a) (Some b) least w one other near = subst (λ (o : Option ℕ). IfSome o (λ d. w ≤ d)) (sym near) (let l : w ≤ min a b = omega (arith, one, other) in l)

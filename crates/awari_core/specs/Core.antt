@@ -1,5 +1,5 @@
 -- All owners of a level, and what is on its way between them.
-use Rattle.std.specs.Prelude.{◌≡◌, ◌≢◌, ℕ, ◌+◌, ◌-◌, ◌<◌, ◌≤◌, ◌⊎◌, List, [], ◌∷◌, ◌++◌, length, max, min, All, Any, Option, Some, None, slice_index_or, slice_set}
+use Rattle.std.specs.Prelude.{◌≡◌, ◌≢◌, ℕ, ◌+◌, ◌-◌, ◌<◌, ◌≤◌, ◌⊎◌, List, [], ◌∷◌, ◌++◌, length, max, All, Any, Option, Some, None, slice_index_or, slice_set}
 use Rattle.awari_table.specs.declared.images.Image.{Image}
 use Rattle.awari_table.specs.declared.TheConstants.{HIGHEST_LEVEL}
 use Rattle.awari_table.specs.Images.{table_of}
@@ -112,12 +112,6 @@ IsLeastOf parts count (Some dist) =
 
 abbrev pub IsLeastOfAll : Core → Option ℕ → Type 0
 IsLeastOfAll core least = IsLeastOf core.parts (length core.parts) least
-
--- the lesser of two distances, where there is one
-abbrev pub IsLesserOf : Option ℕ → Option ℕ → Option ℕ → Type 0
-IsLesserOf (Some a) (Some b) least = least ≡ Some (min a b)
-IsLesserOf None b least = least ≡ b
-IsLesserOf (Some a) None least = least ≡ Some a
 
 -- the next gain is opened in all parts, and nothing else changes
 pub record OpensNextGain (old new : Core) : Type 0 where

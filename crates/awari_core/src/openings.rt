@@ -7,7 +7,6 @@ ghost use Rattle.awari_block.specs.Part.{Part as PartView};
 ghost use Rattle.awari_owner.specs.Sound.{IsScannedOwner, OpensGain, OpensWave};
 ghost use Rattle.awari_table.specs.Images.{table_of};
 ghost use Rattle.awari_table.specs.declared.TheConstants.{HIGHEST_LEVEL};
-ghost use Rattle.awari_core.specs.Core.{IsLesserOf};
 
 use awari_owner::Part;
 use awari_table::Shelf;
@@ -59,16 +58,5 @@ pub fn open_waves(parts: &mut Vec<Part>, dist: u32)
 {
     for part in parts.iter_mut() {
         part.open_wave(dist);
-    }
-}
-
-/// The lesser of two distances, as far as there are any.
-pub fn nearer(one: Option<u32>, other: Option<u32>) -> Option<u32>
-    ensures { IsLesserOf one other result }
-{
-    match (one, other) {
-        (Some(dist), Some(also)) => Some(dist.min(also)),
-        (None, dist) => dist,
-        (dist, None) => dist,
     }
 }

@@ -12,6 +12,7 @@ use crate::faults::PhaseFault;
 use crate::gates::Gate;
 use crate::openings::open_waves;
 use crate::owners::Owner;
+use awari_block::nearer;
 use awari_heard::{Progress, Silent, Told};
 use crate::rounding::round_with;
 use crate::settling::settle_owners;
@@ -193,20 +194,16 @@ fn least_due(owners: &[Owner]) -> Option<u32>
 {
     let mut least = None;
     for owner in owners {
-        least = nearer(least, owner);
+        least = nearer_due(least, owner);
     }
     least
 }
 
-/// The lesser of this distance and the least of a fresh board of the owner.
-fn nearer(least: Option<u32>, owner: &Owner) -> Option<u32>
+/// The nearer of this distance and the least of a fresh board of the owner.
+fn nearer_due(least: Option<u32>, owner: &Owner) -> Option<u32>
     ensures none { IsNone result → IsNone least × (owner.now.part.fresh ≡ []) }
     ensures some { IfSome result (λ dist. IfSome least (λ other. dist ≤ other) × All (λ f. dist ≤ due_dist f) owner.now.part.fresh) }
     ensures older { IsNone least → IfSome result (λ _. owner.now.part.fresh ≡ [] → ⊥) }
 {
-    match (least, owner.part.due()) {
-        (Some(a), Some(b)) => Some(a.min(b)),
-        (Some(a), None) => Some(a),
-        (None, due) => due,
-    }
+    nearer(least, owner.part.due())
 }

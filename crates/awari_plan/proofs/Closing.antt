@@ -14,7 +14,7 @@ use Rattle.awari_play.specs.Planning.{IsPlannedImage, SameSettled}
 use Rattle.awari_play.proofs.Planned.{next_image}
 use Rattle.awari_play.proofs.Tables.{same_settled}
 use Rattle.awari_heard.specs.Kept.{HasSettled, IsKept, HasKept, HasStatus, HaveAll}
-use Rattle.awari_plan.specs.Finished.{IsFinished, IsKeptImage}
+use Rattle.awari_plan.specs.Finished.{IsFinished}
 use Rattle.awari_heard.specs.Filling.{PutsBlocks}
 use Rattle.awari_plan.proofs.Consistency.{consistent}
 use Rattle.awari_heard.proofs.Blocks.{level_has, puts_whole}
@@ -64,9 +64,7 @@ kept_finished shelf parts image whole closed heard made = record {
   limited = made.limited;
 }
 
-pub kept_right : (shelf : List Image) (parts : List Part) (image : Image) → IsShelf shelf → length shelf ≤ HIGHEST_LEVEL → AreWhole (length shelf) parts → IsKept shelf parts image → IsKeptImage shelf parts image
-kept_right shelf parts image on_shelf low whole made = record {
-  kept = made;
-  planned = λ closed heard. kept_lowest shelf parts image whole closed heard made;
-  consistent = λ closed heard. finished_consistent shelf parts image on_shelf low whole closed heard (kept_finished shelf parts image whole closed heard made);
-}
+pub kept_consistent : (shelf : List Image) (parts : List Part) (image : Image) → IsShelf shelf → length shelf ≤ HIGHEST_LEVEL
+    → AreWhole (length shelf) parts → All IsClosed parts → AreHeard (table_of shelf).value parts → IsKept shelf parts image → Consistent shelf image
+kept_consistent shelf parts image on_shelf low whole closed heard made =
+    finished_consistent shelf parts image on_shelf low whole closed heard (kept_finished shelf parts image whole closed heard made)
