@@ -10,7 +10,7 @@ use Rattle.std.specs.List.{AllByRecursion}
 use Rattle.std.proofs.Math.ListN.{get_or-eq_default}
 use Rattle.std.specs.List.Sorted.{IsPermutation}
 use Rattle.awari_block.specs.declared.cells.Cell.{Cell}
-use Rattle.awari_block.specs.Cells.{is_settled, Fits, IsEither, IsTimely, Keeps}
+use Rattle.awari_block.specs.Cells.{is_settled, Fits, IsEither, IsAtStake, Keeps}
 use Rattle.awari_block.specs.declared.stakes.Stake.{Stake}
 use Rattle.awari_block.specs.Blocks.{Due, due_rank, due_dist, no_cell, cell_in, is_settled_in, times_due, unsettled, IsDueAs, IsBlock, JoinNewlySettled}
 
@@ -154,7 +154,7 @@ module _ (stake : Stake) (start : ℕ) (cells : List Cell) (fresh : List Due) (r
   }
 
   -- a newly settled cell, whose board joins the fresh
-  pub put_joined : (f : Due) (after : List Due) → Fits stake c → IsTimely stake c → Keeps (cell_in start cells rank) c → is_settled c.mark ≡ true → is_settled (cell_in start cells rank).mark ≡ false
+  pub put_joined : (f : Due) (after : List Due) → Fits stake c → IsAtStake stake c → Keeps (cell_in start cells rank) c → is_settled c.mark ≡ true → is_settled (cell_in start cells rank).mark ≡ false
       → due_rank f ≡ rank → due_dist f ≡ c.dist → IsPermutation (f ∷ fresh) after
       → IsBlock stake start (set cells (rank - start) c) after
   put_joined f after fits timely keeps new old at dist moved = record {

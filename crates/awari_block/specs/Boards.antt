@@ -3,7 +3,7 @@ use Rattle.std.specs.Prelude.{◌≡◌, ℕ, ◌-◌, ◌^◌, ◌<◌, ◌≤�
 use Rattle.std.specs.List.Sorted.{IsPermutation}
 use Rattle.awari_block.specs.Awaited.{AwaitsNoMore}
 use Rattle.awari_block.specs.Steps.{cell_after_note, cell_after_opening}
-use Rattle.awari_block.specs.Cells.{Fits, Keeps, SettlesTimely, view_of}
+use Rattle.awari_block.specs.Cells.{Fits, Keeps, SettlesAtStake, view_of}
 use Rattle.awari_block.specs.Blocks.{due_dist, due_rank, no_cell, times_due, IsBlock, KeepSettled}
 use Rattle.awari_block.specs.Part.{Part, AreFresh, InBlock, JoinsFresh, SameLevel, stored_at, unspread}
 use Rattle.awari_block.specs.declared.cells.Cell.{Cell}
@@ -35,7 +35,7 @@ pub record CanPut (part : Part) (rank : ℕ) (cell : Cell) : Type 0 where
   pub held : InBlock part rank
   pub fits : Fits (stake_of part) cell
   pub keeps : Keeps (stored_at part rank) cell
-  pub timely : SettlesTimely (stake_of part) (stored_at part rank) cell
+  pub timely : SettlesAtStake (stake_of part) (stored_at part rank) cell
   pub awaits : AwaitsNoMore (stored_at part rank) cell
 
 -- a note of this pit, of the open gain and wave, may be heard for the board of this rank

@@ -29,10 +29,10 @@ is_settled mark.Noted = false
 is_settled mark.Ended = false
 
 -- a note says that the move from pit x gains v
-abbrev pub knowing : Status → ℤ → ℕ → Status
-knowing (Ended gain) v x = Ended gain
-knowing (Open best pits far) v x = Open (best_after best v) (pits_after (best_gain best) pits v x) far
-knowing (Settled value dist pits) v x = Settled value dist pits
+abbrev pub status_with_gain : Status → ℤ → ℕ → Status
+status_with_gain (Ended gain) v x = Ended gain
+status_with_gain (Open best pits far) v x = Open (best_after best v) (pits_after (best_gain best) pits v x) far
+status_with_gain (Settled value dist pits) v x = Settled value dist pits
 
 -- the board is not ended, and not settled
 abbrev pub IsOpen : Mark → Type 0
@@ -71,8 +71,8 @@ abbrev pub Keeps : Cell → Cell → Type 0
 Keeps old new = is_settled old.mark ≡ true → (new.mark ≡ old.mark) × (new.score ≡ old.score) × (new.dist ≡ old.dist)
 
 -- what is newly settled has the open gain as value, either way, and a distance that is not below the open one
-abbrev pub IsTimely : Stake → Cell → Type 0
-IsTimely stake c = IsEither stake.gain c.score × (stake.wave ≤ c.dist)
+abbrev pub IsAtStake : Stake → Cell → Type 0
+IsAtStake stake c = IsEither stake.gain c.score × (stake.wave ≤ c.dist)
 
-abbrev pub SettlesTimely : Stake → Cell → Cell → Type 0
-SettlesTimely stake old new = is_settled old.mark ≡ false → is_settled new.mark ≡ true → IsTimely stake new
+abbrev pub SettlesAtStake : Stake → Cell → Cell → Type 0
+SettlesAtStake stake old new = is_settled old.mark ≡ false → is_settled new.mark ≡ true → IsAtStake stake new

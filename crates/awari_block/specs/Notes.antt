@@ -1,5 +1,5 @@
 -- Notes: what a board hears of the settled boards that its quiet moves lead to.
-use Rattle.std.specs.Prelude.{◌≡◌, ℕ, ◌==◌, ◌⊎◌, Bool, true, false, ◌&&◌, if◌then◌else◌, max, List, [], ◌∷◌, ℤ, pos, neg_ℤ, ◌<ℤ◌, sum}
+use Rattle.std.specs.Prelude.{◌≡◌, ℕ, ◌==◌, ◌⊎◌, Bool, true, false, ◌&&◌, if◌then◌else◌, max, List, [], ◌∷◌, ℤ, pos, neg_ℤ, ◌<ℤ◌, sum, int_lt}
 use Rattle.std.specs.List.{list_any}
 use Rattle.awari_board.specs.Rules.{IsMove}
 use Rattle.awari_rank.specs.Rank.{rank_of}
@@ -19,6 +19,10 @@ Has (y ∷ ys) x = (x ≡ y) ⊎ Has ys x
 abbrev pub is_won : Kind → Bool
 is_won Won = true
 is_won Lost = false
+
+-- the kind of the notes of a settled board
+abbrev pub kind_of : ℤ → Kind
+kind_of score = if int_lt (pos 0) score then Won else Lost
 
 -- what the note's move gains: the gain where the board that it leads to is lost, minus the gain where it is won
 abbrev pub gain_by : Kind → ℕ → ℤ

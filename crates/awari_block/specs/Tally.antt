@@ -1,4 +1,10 @@
 -- A cell, and when it tells what a list of notes says of its board and its plans.
+--
+-- How to think of it. A cell does not keep the notes that its board heard. It keeps the pits of the
+-- quiet moves that no note came of, the greatest gain that is known of a move with the pits that gain
+-- it, and the greatest distance of a Won note. IsTally says that this is what some list of notes leaves
+-- behind. A step is right if it turns the tally of any notes into a tally of these and the new ones. So
+-- no step has to know who gave which note, and builders that give them in other orders have one proof.
 use Rattle.std.specs.Prelude.{◌≡◌, ◌↔◌, ℕ, ◌^◌, ◌<◌, ◌≤◌, ◌==◌, ◌⊎◌, Bool, true, not, ◌&&◌, List, ℤ, pos, ◌-ℤ◌, ◌≤ℤ◌, ◌<ℤ◌, Option, Some, None}
 use Rattle.awari_board.specs.Rules.{IsMove, captured}
 use Rattle.awari_board.specs.Tests.{is_legal}

@@ -2,7 +2,8 @@
 
 ghost use Rattle.std.specs.Prelude.{◌≡◌, ℕ, ◌⊎◌, ◌+◌, ◌-◌, ◌^◌, ◌<◌, ◌≤◌, IfSome, Some, None};
 ghost use Rattle.awari_block.specs.Awaited.{AwaitsNoMore, MayOpen};
-ghost use Rattle.awari_block.specs.Cells.{status_of, view_of, is_settled, knowing, Fits, FitsBy, IsBeyond, IsOpen, IsWithin, IsEither, Keeps, SettlesTimely};
+ghost use Rattle.awari_block.specs.Cells.{status_of, view_of, is_settled, status_with_gain, Fits, FitsBy, IsBeyond, IsOpen, IsWithin, IsEither, Keeps, SettlesAtStake};
+ghost use Rattle.awari_block.specs.Notes.{kind_of};
 ghost use Rattle.awari_block.specs.Part.{settled_by};
 ghost use Rattle.awari_block.specs.Pits.{has_pit};
 ghost use Rattle.awari_block.specs.Steps.{after_note, cell_after_note, cell_after_opening};
@@ -56,6 +57,18 @@ impl Cell {
         self.mark == Mark::Settled
     }
 
+    /// The kind of the notes that the board gives, if it is settled.
+    #[inline(always)]
+    pub fn kind(&self) -> Kind
+        ensures { result ≡ kind_of self.now.score }
+    {
+        if self.score > 0 {
+            Kind::Won
+        } else {
+            Kind::Lost
+        }
+    }
+
     /// Value and distance of the board, if it is settled.
     pub fn settled(&self) -> Option<(i8, u32)>
         ensures known { result ≡ settled_by (status_of self.now) }
@@ -92,7 +105,7 @@ impl Cell {
         ensures cell { view_of self.new ≡ cell_after_note (view_of self.old) kind pit stake.gain stake.wave }
         ensures keeps { Keeps self.old self.new }
         ensures awaits { AwaitsNoMore self.old self.new }
-        ensures timely { SettlesTimely stake self.old self.new }
+        ensures timely { SettlesAtStake stake self.old self.new }
         ensures fits { Fits stake self.new }
     {
         self.left = without_pit(self.left, pit);
@@ -114,7 +127,7 @@ impl Cell {
         ensures left { self.new.left ≡ self.old.left }
         ensures keeps { Keeps self.old self.new }
         ensures awaits { AwaitsNoMore self.old self.new }
-        ensures timely { SettlesTimely stake self.old self.new }
+        ensures timely { SettlesAtStake stake self.old self.new }
         ensures fits { Fits stake self.new }
     {
         let gain = stake.gain as i8;
@@ -145,7 +158,7 @@ impl Cell {
         ensures left { self.new.left ≡ self.old.left }
         ensures keeps { Keeps self.old self.new }
         ensures awaits { AwaitsNoMore self.old self.new }
-        ensures timely { SettlesTimely stake self.old self.new }
+        ensures timely { SettlesAtStake stake self.old self.new }
         ensures fits { Fits stake self.new }
     {
         if self.mark == Mark::Settled || self.mark == Mark::Ended {
@@ -167,7 +180,7 @@ impl Cell {
     fn know(&mut self, gain: i8, pit: u8)
         requires pit { pit < 6 }
         requires open { IsOpen self.old.mark }
-        ensures known { status_of self.new ≡ knowing (status_of self.old) gain pit }
+        ensures known { status_of self.new ≡ status_with_gain (status_of self.old) gain pit }
         ensures gains { (self.new.mark ≡ Noted) ⊎ (self.new.mark ≡ Capturing) }
         ensures either { ((self.new.score ≡ gain) × (self.new.mark ≡ Noted)) ⊎ ((self.new.score ≡ self.old.score) × (self.new.mark ≡ self.old.mark) × (self.old.mark ≡ Quiet → ⊥)) }
         ensures same { (self.new.dist ≡ self.old.dist) × (self.new.left ≡ self.old.left) }
@@ -213,7 +226,7 @@ impl Cell {
         ensures cell { view_of result ≡ cell_after_opening (view_of self) stake.level stake.gain }
         ensures keeps { Keeps self result }
         ensures awaits { AwaitsNoMore self result }
-        ensures timely { SettlesTimely stake self result }
+        ensures timely { SettlesAtStake stake self result }
         ensures fits { Fits stake result }
     {
         match self.mark {

@@ -6,12 +6,12 @@
 //! leads to a settled board. `specs/Tally.antt` defines what a cell knows of the notes that its board
 //! heard. `Boards::unopened` takes all memory that the boards ever need.
 //!
-//! The kind of the notes that a settled board gives, in `crates/awari_owner/src/spreads.rt`:
+//! The kind of the notes that a settled board gives, in `crates/awari_block/src/cells.rt`:
 //!
-//!     pub fn kind_of(cell: &Cell) -> Kind
-//!         ensures { result ≡ kind_of cell.now.score }
+//!     pub fn kind(&self) -> Kind
+//!         ensures { result ≡ kind_of self.now.score }
 //!     {
-//!         if cell.score > 0 {
+//!         if self.score > 0 {
 //!             Kind::Won
 //!         } else {
 //!             Kind::Lost

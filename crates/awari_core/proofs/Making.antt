@@ -7,7 +7,7 @@ use Rattle.awari_table.specs.Images.{table_of}
 use Rattle.awari_table.specs.Shelves.{IsShelf}
 use Rattle.awari_heard.specs.Level.{no_part}
 use Rattle.awari_owner.specs.Outboxes.{AreBatches, IsBatch}
-use Rattle.awari_owner.specs.Sound.{IsScannedOwner, IsTimelyNote}
+use Rattle.awari_owner.specs.Sound.{IsScannedOwner, IsCurrentNote}
 use Rattle.awari_owner.proofs.Sounding.{sound_same}
 use Rattle.awari_block.specs.declared.notes.Note.{Note}
 use Rattle.awari_core.specs.Core.{Core, IsAllTaken, IsLinked, IsSilent, Ring, Sender, Sound, coming, no_ring, no_sender, owner_part}
@@ -52,7 +52,7 @@ sound_new core shelf low some few senders linked gain taken scanned = record {
         shares = sound.shares;
         step = sound.step;
         sound = λ i low. sound_same (table_of core.shelf).value i (length core.parts) (owner_part core i) (λ _. []) (λ _. []) (λ _. []) (coming core i) (λ _. []) (coming core i)
-            (λ j o. refl) (λ j o. none i j low) (λ j o h. subst (All (IsTimelyNote (owner_part core i))) (sym (none i j low)) h) (sound.sound i low);
+            (λ j o. refl) (λ j o. none i j low) (λ j o h. subst (All (IsCurrentNote (owner_part core i))) (sym (none i j low)) h) (sound.sound i low);
       };
 }
   where

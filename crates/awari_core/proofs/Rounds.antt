@@ -9,7 +9,7 @@ use Rattle.awari_table.specs.Images.{table_of}
 use Rattle.awari_block.specs.Blocks.{Due, due_dist, nearer_of}
 use Rattle.awari_owner.specs.Owners.{AreInStep, AreSound}
 use Rattle.awari_heard.specs.Level.{no_part}
-use Rattle.awari_owner.specs.Sound.{IsOpened, OpensGain, OpensWave}
+use Rattle.awari_owner.specs.Sound.{KeepsHeard, OpensGain, OpensWave}
 use Rattle.awari_block.specs.Part.{Part, IsLeastDue}
 use Rattle.awari_owner.proofs.Sounding.{gain_opened, wave_opened}
 use Rattle.awari_core.specs.Core.{Core, IsAllTaken, IsLeastOf, IsLinked, IsAllQuiet, IsWaveDone, Sound, coming, owner_part, sender_at}
@@ -44,7 +44,7 @@ all_below P items none each k d low = subst P (get_or_default items k none d low
 
 -- all parts with the next one open, with nothing on its way, are sound
 pub sound_opened : (old : Core) (gain : ℕ) (parts : List Part) → Sound old → IsAllTaken old → length parts ≡ length old.parts
-    → ((i : ℕ) → i < length old.parts → IsOpened (owner_part old i) (get_or parts i no_part)) → AreInStep (length old.parts) (λ i. get_or parts i no_part) → (get_or parts 0 no_part).gain ≡ max 1 gain
+    → ((i : ℕ) → i < length old.parts → KeepsHeard (owner_part old i) (get_or parts i no_part)) → AreInStep (length old.parts) (λ i. get_or parts i no_part) → (get_or parts 0 no_part).gain ≡ max 1 gain
     → Sound (record old { gain = gain; parts = parts })
 sound_opened old gain parts sound taken count opened step first = record {
   shelf = sound.shelf;

@@ -6,7 +6,7 @@ use Rattle.awari_block.specs.Part.{Part}
 use Rattle.awari_block.specs.declared.notes.Note.{Note}
 use Rattle.awari_owner.specs.Owners.{AreInStep, AreSound, IsShare, NothingComes}
 use Rattle.awari_owner.specs.OwnerFault.{IsFaultOf}
-use Rattle.awari_owner.specs.Sound.{CanTake, IsOpened, IsScannedOwner, IsTimelyNote, OwnerSound, RefusesNote, TakesNotes, with_taken}
+use Rattle.awari_owner.specs.Sound.{CanTake, KeepsHeard, IsScannedOwner, IsCurrentNote, OwnerSound, RefusesNote, TakesNotes, with_taken}
 use Rattle.awari_owner.specs.declared.faults.OwnerFault.{OwnerFault}
 use Rattle.awari_owner.specs.declared.faults.OwnerFault.TheVariants.{Stranger, Doubled, Far, Memory}
 use Rattle.awari_owner.proofs.Expecting.{share_still}
@@ -26,7 +26,7 @@ scanned_sound value n owners part some scanned = record {
 
 -- a gain or a distance is opened in all parts
 pub opened_sound : (value : List ℕ → ℤ) (n owners : ℕ) (part part' : ℕ → Part) (coming taken : ℕ → ℕ → List Note) → AreSound value n owners part coming taken
-    → NothingComes owners coming → ((i : ℕ) → i < owners → IsOpened (part i) (part' i)) → AreInStep owners part' → AreSound value n owners part' coming taken
+    → NothingComes owners coming → ((i : ℕ) → i < owners → KeepsHeard (part i) (part' i)) → AreInStep owners part' → AreSound value n owners part' coming taken
 opened_sound value n owners part part' coming taken sound none opened step = record {
   shares = λ i low. share_still n owners i (part i) (part' i) (opened i low).seen (sound.shares i low);
   step = step;
@@ -101,7 +101,7 @@ module _ (value : List ℕ → ℤ) (n owners : ℕ) (part : ℕ → Part) (comi
       (λ b. taken j b ++ coming j b) (λ b. with_more taken i j notes j b ++ with_list coming i j rest j b) (coming j) (with_list coming i j rest j)
       (λ a o. more_at taken i j notes a)
       (λ b o. ap (λ l. l ++ with_list coming i j rest j b) (more_to taken i j notes j b o.0) ∙ ap (λ l. taken j b ++ l) (list_to coming i j rest j b o.0))
-      (λ b o h. subst (All (IsTimelyNote (with_part part j q j))) (sym (list_to coming i j rest j b o.0)) h)
+      (λ b o h. subst (All (IsCurrentNote (with_part part j q j))) (sym (list_to coming i j rest j b o.0)) h)
       (subst (λ (p : Part). OwnerSound value j owners p (with_taken (λ a. taken a j) i notes) (λ b. taken j b ++ coming j b) (coming j)) (sym (part_here part j q))
       (takes.sound value j owners i (λ a. taken a j) (λ b. taken j b ++ coming j b) (coming j) (apart, high) (sound.sound j high')))
 
@@ -124,7 +124,7 @@ module _ (value : List ℕ → ℤ) (n owners : ℕ) (part : ℕ → Part) (comi
   sender : At i
   sender = sound_same value i owners (with_part part j q i) (λ a. taken a i) (λ a. with_more taken i j notes a i)
       (λ b. taken i b ++ coming i b) (λ b. with_more taken i j notes i b ++ with_list coming i j rest i b) (coming i) (with_list coming i j rest i)
-      (λ a o. more_to taken i j notes a i apart) (λ b o. given_on b) (λ b o h. comes_on (IsTimelyNote (with_part part j q i)) b h)
+      (λ a o. more_to taken i j notes a i apart) (λ b o. given_on b) (λ b o h. comes_on (IsCurrentNote (with_part part j q i)) b h)
       (subst (λ (p : Part). OwnerSound value i owners p (λ a. taken a i) (λ b. taken i b ++ coming i b) (coming i)) (sym (part_other part j q i apart)) (sound.sound i high))
 
   -- and another
@@ -133,7 +133,7 @@ module _ (value : List ℕ → ℤ) (n owners : ℕ) (part : ℕ → Part) (comi
       (λ b. taken k b ++ coming k b) (λ b. with_more taken i j notes k b ++ with_list coming i j rest k b) (coming k) (with_list coming i j rest k)
       (λ a o. more_to taken i j notes a k to)
       (λ b o. ap (λ l. l ++ with_list coming i j rest k b) (more_from taken i j notes k b from) ∙ ap (λ l. taken k b ++ l) (list_from coming i j rest k b from))
-      (λ b o h. subst (All (IsTimelyNote (with_part part j q k))) (sym (list_from coming i j rest k b from)) h)
+      (λ b o h. subst (All (IsCurrentNote (with_part part j q k))) (sym (list_from coming i j rest k b from)) h)
       (subst (λ (p : Part). OwnerSound value k owners p (λ a. taken a k) (λ b. taken k b ++ coming k b) (coming k)) (sym (part_other part j q k to)) (sound.sound k low))
 
   each_part : (P : ℕ → Part → Type 0) → P j q → ((k : ℕ) → k < owners → P k (part k)) → (k : ℕ) → k < owners → P k (with_part part j q k)

@@ -10,7 +10,7 @@ use Rattle.awari_block.specs.declared.notes.Note.{Note}
 use Rattle.awari_owner.specs.Owners.{AreSound, IsShare}
 use Rattle.awari_heard.specs.Level.{no_part}
 use Rattle.awari_owner.specs.Outboxes.{AreBatches, IsBatch, Outboxes, notes_of, queue_to}
-use Rattle.awari_owner.specs.Sound.{IsTimelyNote, OwnerSound, SameStake, SpreadsFirst, TakesNotes}
+use Rattle.awari_owner.specs.Sound.{IsCurrentNote, OwnerSound, SameStake, SpreadsFirst, TakesNotes}
 use Rattle.awari_owner.specs.Spread.{IsPartOf}
 use Rattle.awari_owner.proofs.Lists.{notes_of-last}
 use Rattle.awari_owner.proofs.Sounding.{stake_same, stake_settled, share_stake, sound_same}
@@ -234,7 +234,7 @@ module _ (old : Core) (i j : ℕ) (high : i < length old.parts) (high' : j < len
       (each_set (IsLinked owners old.room) old.senders no_sender owners i t sound.senders high linked_popped sound.linked)
       (λ k low. sound_same value k owners (owner_part new k) (λ a. taken a k) (λ a. taken a k) (λ b. taken k b ++ with_list (coming old) i j left k b) (λ b. taken k b ++ coming new k b)
       (with_list (coming old) i j left k) (coming new k)
-      (λ a o. refl) (λ b o. ap (λ l. taken k b ++ l) (comes k b)) (λ b o h. subst (All (IsTimelyNote (owner_part new k))) (sym (comes k b)) h)
+      (λ a o. refl) (λ b o. ap (λ l. taken k b ++ l) (comes k b)) (λ b o h. subst (All (IsCurrentNote (owner_part new k))) (sym (comes k b)) h)
       (subst (λ (p : Part). OwnerSound value k owners p (λ a. taken a k) (λ b. taken k b ++ with_list (coming old) i j left k b) (with_list (coming old) i j left k)) (sym (parts k))
       ((taken_sound value (length old.shelf) owners (owner_part old) (coming old) sound.taken sound.sound i j high high' apart q batch left next_of takes).sound k low)))
     where

@@ -5,7 +5,7 @@ ghost use Rattle.awari_block.specs.Part.{Part};
 ghost use Rattle.awari_block.specs.declared.notes.Note.{Note};
 ghost use Rattle.awari_heard.specs.Level.{AreHeard, AreWhole, DistancesFit};
 ghost use Rattle.awari_owner.specs.Owners.{AreInStep, AreSound, NothingComes};
-ghost use Rattle.awari_owner.specs.Sound.{IsOpened, IsScannedOwner};
+ghost use Rattle.awari_owner.specs.Sound.{KeepsHeard, IsScannedOwner};
 ghost use Rattle.awari_table.specs.Images.{table_of};
 ghost use Rattle.awari_core.specs.Core.{Core, Sound, IsAllTaken};
 
@@ -21,7 +21,7 @@ pub fn scanned_owners_are_sound()
 /// Opening a gain or a distance in all parts keeps the owners sound, if nothing is on its way.
 pub fn opening_keeps_owners_sound()
     ensures { (value : List ℕ → ℤ) (n owners : ℕ) (part part' : ℕ → Part) (coming taken : ℕ → ℕ → List Note) → AreSound value n owners part coming taken
-        → NothingComes owners coming → ((i : ℕ) → i < owners → IsOpened (part i) (part' i)) → AreInStep owners part' → AreSound value n owners part' coming taken }
+        → NothingComes owners coming → ((i : ℕ) → i < owners → KeepsHeard (part i) (part' i)) → AreInStep owners part' → AreSound value n owners part' coming taken }
 {}
 
 /// The parts of a sound core together have all boards of its level, and what they heard is true. So

@@ -1,4 +1,9 @@
 -- Which boards of a part are spread, and what a part heard of the spread boards of another.
+--
+-- How to think of it. A settled board is fresh until its notes are given, and spread from then on. Of
+-- two parts of a level, Hears says that the one heard just what the spread boards of the other say: each
+-- quiet move to one of them gave its note, and there is no other note. It speaks of lists of notes and
+-- not of time, so it holds between any two steps of any builder. Level.antt says it of all parts at once.
 use Rattle.std.specs.Prelude.{◌≡◌, ℕ, false, List, [], ◌∷◌, length, sum, ℤ, Some}
 use Rattle.awari_board.specs.Rules.{IsBoard}
 use Rattle.awari_rank.specs.Rank.{rank_of}

@@ -1,5 +1,11 @@
--- The parts of a level, all together. Once nothing is on its way between sound owners, each board has heard of every spread board
--- that its quiet moves lead to (AreHeard), and Finish.antt says why the level is then right.
+-- The parts of a level, all together, and what they heard.
+--
+-- How to think of it. The parts are blocks of consecutive ranks, one after the other (AreWhole): one
+-- part, a few segments, or a block for each owner. AreHeard is what every builder comes to before it
+-- opens a gain: the cells of each part are tallies of the notes of the spread boards of all parts. It is
+-- the one gate to a right level: once gain 1 is closed no board is fresh, so every settled board was
+-- spread, and Finish.antt says why each entry is then right. AreTold is the half that holds while notes
+-- are under way: what was heard is true, though not yet all.
 use Rattle.std.specs.Prelude.{◌≡◌, ℕ, ◌+◌, ◌-◌, ◌^◌, ◌<◌, List, [], ◌∷◌, length, sum, ℤ, Some, All, slice_index_or}
 use Rattle.std.specs.List.{flat_map}
 use Rattle.awari_board.specs.Rules.{IsBoard}

@@ -83,11 +83,7 @@ pub fn entry_of(cell: Cell) -> Entry
             entry(0, cell.left | plans, 0)
         }
         Mark::Quiet | Mark::Noted => entry(0, cell.left, 0),
-        Mark::Ended => Entry {
-            value: 0,
-            plan: None,
-            dist: 0,
-        },
+        Mark::Ended => Entry::NONE,
     }
 }
 

@@ -14,7 +14,7 @@ use Rattle.awari_heard.specs.Heard.{IsSpread, IsSeenAs}
 use Rattle.awari_block.specs.declared.notes.Note.{Note}
 use Rattle.awari_heard.proofs.SpreadBoards.{IsInjective, spread_stays, spread_before}
 use Rattle.awari_owner.specs.Owners.{IsShare, AreSound}
-use Rattle.awari_owner.specs.Sound.{CanTake, HoldsNotes, IsInBlockOf, IsOtherOf, IsTimelyNote}
+use Rattle.awari_owner.specs.Sound.{CanTake, HoldsNotes, IsInBlockOf, IsOtherOf, IsCurrentNote}
 use Rattle.awari_block.proofs.NoteLists.{Has-append_left, Has-append_right, Has-notes_for, heard_note}
 use Rattle.awari_heard.proofs.Coming.{once_apart}
 
@@ -82,7 +82,7 @@ share_still n owners i old new seen share = record {
   end = (let end = share.end in let s = seen.start in let l = seen.len in omega (arith, end, s, l));
 }
 
-pub timely_still : (old new : Part) (m : Note) → new.level ≡ old.level → new.gain ≡ old.gain → new.wave ≡ old.wave → IsTimelyNote old m → IsTimelyNote new m
+pub timely_still : (old new : Part) (m : Note) → new.level ≡ old.level → new.gain ≡ old.gain → new.wave ≡ old.wave → IsCurrentNote old m → IsCurrentNote new m
 timely_still old new m level gain wave timely = record {
   gain = timely.gain ∙ sym gain;
   opened = (let o = timely.opened in omega (arith, o, gain, level));
@@ -104,8 +104,8 @@ module _ (injective : IsInjective) (value : List ℕ → ℤ) (n owners : ℕ) (
       × IsSpread (part i) (rank_of q) v d × IsNoteOf q v d p x m
   note_is = given_next.true_notes m (Has-append_right (taken i j) (m ∷ rest) m (inl refl))
 
-  timely : IsTimelyNote (part i) m
-  timely = subst (All (IsTimelyNote (part i))) next ((sound.sound i high).opened j ((λ e. apart (sym e)), high')) 0 m (omega arith)
+  timely : IsCurrentNote (part i) m
+  timely = subst (All (IsCurrentNote (part i))) next ((sound.sound i high).opened j ((λ e. apart (sym e)), high')) 0 m (omega arith)
 
   held : InBlock (part j) (rank_of note_is.0)
   held = in_share n owners j (rank_of note_is.0) (part j) (sound.shares j high') (subst (λ l. IsInBlockOf l owners j (rank_of note_is.0)) (sound.shares i high).level note_is.8)

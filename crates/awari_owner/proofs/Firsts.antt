@@ -7,13 +7,13 @@ use Rattle.std.specs.List.Sorted.{IsPermutation}
 use Rattle.awari_board.specs.Rules.{IsBoard}
 use Rattle.awari_rank.specs.Rank.{rank_of}
 use Rattle.awari_unmove.specs.Predecessors.{IsPredecessors}
-use Rattle.awari_block.specs.Notes.{IsQuietMove, IsNoteOf}
+use Rattle.awari_block.specs.Notes.{IsQuietMove, IsNoteOf, kind_of}
 use Rattle.awari_block.specs.Cells.{IsEither, IsWithin, Fits, FitsBy, is_settled}
 use Rattle.awari_block.specs.Blocks.{Due, due_rank, due_dist, cell_in, times_due, is_settled_in, no_cell, IsDueAs, IsBlock, JoinNewlySettled, KeepSettled}
 use Rattle.awari_block.specs.Part.{Part, InBlock, IsTallied, part_of, stored_at, settled_at, unspread}
 use Rattle.awari_owner.specs.Sound.{SameStake}
 use Rattle.awari_scan.specs.Found.{Source}
-use Rattle.awari_owner.specs.Spread.{kind_of, note_to, LeavesFresh, Spreads, SpreadsOne, own_notes, AreNotesOf}
+use Rattle.awari_owner.specs.Spread.{note_to, LeavesFresh, Spreads, SpreadsOne, own_notes, AreNotesOf}
 use Rattle.awari_block.specs.declared.cells.Cell.{Cell}
 use Rattle.awari_block.specs.declared.cells.Mark.{Mark}
 use Rattle.awari_block.specs.declared.cells.Mark.TheVariants.{Ended, Quiet, Capturing, Noted, Settled}

@@ -4,15 +4,15 @@ use Rattle.std.proofs.lemmas.Bool.Decides.{nat_tests}
 use Rattle.std.proofs.lemmas.List.Elements.{All-append}
 use Rattle.awari_board.specs.Rules.{IsBoard, next_board}
 use Rattle.awari_rank.specs.Rank.{rank_of, size_of}
-use Rattle.awari_block.specs.Notes.{IsQuietMove, Has, IsNoteOf}
+use Rattle.awari_block.specs.Notes.{IsQuietMove, Has, IsNoteOf, kind_of}
 use Rattle.awari_block.specs.Part.{Part, AreFresh, InBlock, Leaves, stored_at}
 use Rattle.awari_block.specs.Shares.{first_rank}
 use Rattle.awari_block.specs.declared.notes.Note.{Note}
 use Rattle.awari_owner.specs.Outboxes.{Outboxes, notes_of, queue_to}
-use Rattle.awari_owner.specs.Sound.{HoldsNotes, IsInBlockOf, IsOtherOf, IsTimelyNote, OwnerSound, SameStake}
+use Rattle.awari_owner.specs.Sound.{HoldsNotes, IsInBlockOf, IsOtherOf, IsCurrentNote, OwnerSound, SameStake}
 use Rattle.awari_scan.specs.Found.{Source}
 use Rattle.awari_heard.specs.Heard.{IsSpread, with_heard}
-use Rattle.awari_owner.specs.Spread.{Sends, Spreads, is_in_block, kind_of, note_to, own_notes, is_held}
+use Rattle.awari_owner.specs.Spread.{Sends, Spreads, is_in_block, note_to, own_notes, is_held}
 use Rattle.awari_block.proofs.NoteLists.{Has-append_left, Has-append_right, Has-append_cases, all_has}
 use Rattle.awari_owner.proofs.Lists.{notes_of-with_notes}
 use Rattle.awari_heard.proofs.Coming.{once_more, had_either, had_still}
@@ -149,11 +149,11 @@ module _ (injective : IsInjective) (moves : (p : List ℕ) (x : ℕ) (r : List �
       old = s.given_notes j other
 
   -- what is put to the outboxes is of the open gain and wave
-  opened' : (j : ℕ) → IsOtherOf o.owner (length o.queues) j → All (IsTimelyNote part') (coming j ++ notes_of (queue_to o' j))
+  opened' : (j : ℕ) → IsOtherOf o.owner (length o.queues) j → All (IsCurrentNote part') (coming j ++ notes_of (queue_to o' j))
   opened' j other = timely_all part part' stake.level.level stake.level.gain stake.level.wave (coming j ++ notes_of (queue_to o' j))
-      (subst (All (IsTimelyNote part)) (sym (grown (coming j) j other)) (All-append (IsTimelyNote part) (coming j ++ notes_of (queue_to o j)) (more j) (s.opened j other) (all_has (IsTimelyNote part) (more j) each)))
+      (subst (All (IsCurrentNote part)) (sym (grown (coming j) j other)) (All-append (IsCurrentNote part) (coming j ++ notes_of (queue_to o j)) (more j) (s.opened j other) (all_has (IsCurrentNote part) (more j) each)))
     where
-      each : (k : Note) → Has (more j) k → IsTimelyNote part k
+      each : (k : Note) → Has (more j) k → IsCurrentNote part k
       each k has =
           let (i, at, is) = source_of q score part.wave sources notes sends.gives k (Has-filter (for_other j) notes k has).0 in
           let note = is (q, 0) in

@@ -5,14 +5,14 @@ use Rattle.std.specs.Prelude.{int_lt}
 use Rattle.std.proofs.lemmas.Bool.Decides.{nat_tests}
 use Rattle.awari_board.specs.Rules.{IsBoard, next_board}
 use Rattle.awari_rank.specs.Rank.{rank_of}
-use Rattle.awari_block.specs.Notes.{IsQuietMove, Has, IsNoteOf, gain_by}
+use Rattle.awari_block.specs.Notes.{IsQuietMove, Has, IsNoteOf, gain_by, kind_of}
 use Rattle.awari_block.specs.Part.{Part, InBlock, Leaves, JoinsFresh, settled_at, settled_by, notes_for}
 use Rattle.awari_block.specs.declared.notes.Kind.TheVariants.{Won, Lost}
 use Rattle.awari_block.specs.Cells.{IsEither, is_settled, status_of}
 use Rattle.awari_block.specs.Blocks.{is_settled_in, times_due, cell_in, KeepSettled}
 use Rattle.awari_scan.specs.Found.{Source}
 use Rattle.awari_heard.specs.Heard.{HearsOwn, IsSpread, with_heard}
-use Rattle.awari_owner.specs.Spread.{LeavesFresh, kind_of, is_held, note_to, SpreadsOne, own_notes, AreNotesOf}
+use Rattle.awari_owner.specs.Spread.{LeavesFresh, is_held, note_to, SpreadsOne, own_notes, AreNotesOf}
 use Rattle.awari_block.specs.declared.notes.Kind.{Kind}
 use Rattle.awari_heard.proofs.SpreadBoards.{IsInjective, one_if, kept_status, is_settled_at, spread_stays, spread_before, settled_still}
 use Rattle.awari_owner.proofs.Spreading.{AreSources, held_is}

@@ -7,14 +7,14 @@ use Rattle.std.proofs.Math.Nat.{div-one, suc-mul, div-mul-le_self, lt-div-mul-ad
 use Rattle.awari_board.specs.Rules.{IsBoard}
 use Rattle.awari_rank.specs.Rank.{rank_of, size_of}
 use Rattle.awari_rank.proofs.Ranking.{rank_of-below}
-use Rattle.awari_block.specs.Notes.{IsQuietMove}
+use Rattle.awari_block.specs.Notes.{IsQuietMove, kind_of}
 use Rattle.awari_heard.specs.Level.{IsWhole}
 use Rattle.awari_block.specs.Shares.{first_rank}
 use Rattle.awari_owner.specs.Outboxes.{Outboxes, with_note, with_notes}
 use Rattle.awari_owner.specs.Queues.{Queue, batches_of, queue_in, room_in}
 use Rattle.awari_block.specs.Part.{Part, stored_at}
 use Rattle.awari_scan.specs.Found.{Source}
-use Rattle.awari_owner.specs.Spread.{is_held, note_to, kind_of, is_in_block, IsPartOf, Sends, goes_to, with_sent, with_all_sent, PutsAll}
+use Rattle.awari_owner.specs.Spread.{is_held, note_to, is_in_block, IsPartOf, Sends, goes_to, with_sent, with_all_sent, PutsAll}
 use Rattle.awari_block.specs.declared.notes.Note.{Note}
 use Rattle.awari_block.specs.declared.notes.Kind.{Kind}
 use Rattle.awari_owner.proofs.Sending.{batches_length}

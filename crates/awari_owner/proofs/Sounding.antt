@@ -14,7 +14,7 @@ use Rattle.awari_block.specs.declared.notes.Note.{Note}
 use Rattle.awari_block.proofs.BlockLemmas.{keeps_both}
 use Rattle.awari_block.proofs.Settling.{settles_both, settles_none}
 use Rattle.awari_owner.specs.Owners.{IsShare}
-use Rattle.awari_owner.specs.Sound.{HoldsNotes, IsInBlockOf, IsOpened, IsOtherOf, IsScannedOwner, IsTimelyNote, OpensGain, OpensWave, OwnerSound, SameStake, TakesNote, TakesNotes, with_taken}
+use Rattle.awari_owner.specs.Sound.{HoldsNotes, IsInBlockOf, KeepsHeard, IsOtherOf, IsScannedOwner, IsCurrentNote, OpensGain, OpensWave, OwnerSound, SameStake, TakesNote, TakesNotes, with_taken}
 use Rattle.awari_heard.specs.Heard.{IsSeenAs}
 use Rattle.awari_owner.proofs.Expecting.{inside_new, inside_old, leaves_old, seen_kept, timely_still}
 use Rattle.awari_block.proofs.NoteLists.{Has-append_cases, Has-append_left, Has-append_right}
@@ -31,13 +31,13 @@ held_still owners old new j notes seen h = record {
       h.all_notes p q x v d is (stones ∙ seen.level) held (subst (λ l. IsInBlockOf l owners j (rank_of p)) seen.level block) quiet (seen.before (rank_of q) v d held spread);
 }
 
-pub timely_all : (old new : Part) → new.level ≡ old.level → new.gain ≡ old.gain → new.wave ≡ old.wave → (notes : List Note) → All (IsTimelyNote old) notes → All (IsTimelyNote new) notes
-timely_all old new level gain wave notes all = All-weaker (IsTimelyNote old) (IsTimelyNote new) (λ m. timely_still old new m level gain wave) notes all
+pub timely_all : (old new : Part) → new.level ≡ old.level → new.gain ≡ old.gain → new.wave ≡ old.wave → (notes : List Note) → All (IsCurrentNote old) notes → All (IsCurrentNote new) notes
+timely_all old new level gain wave notes all = All-weaker (IsCurrentNote old) (IsCurrentNote new) (λ m. timely_still old new m level gain wave) notes all
 
 -- over the same notes, of which others may be on their way
 pub sound_same : (value : List ℕ → ℤ) (owner owners : ℕ) (part : Part) (taken taken' given given' coming coming' : ℕ → List Note)
     → ((j : ℕ) → IsOtherOf owner owners j → taken' j ≡ taken j) → ((j : ℕ) → IsOtherOf owner owners j → given' j ≡ given j)
-    → ((j : ℕ) → IsOtherOf owner owners j → All (IsTimelyNote part) (coming j) → All (IsTimelyNote part) (coming' j))
+    → ((j : ℕ) → IsOtherOf owner owners j → All (IsCurrentNote part) (coming j) → All (IsCurrentNote part) (coming' j))
     → OwnerSound value owner owners part taken given coming → OwnerSound value owner owners part taken' given' coming'
 sound_same value owner owners part taken taken' given given' coming coming' t g c s = record {
   heard = s.heard;
@@ -65,12 +65,12 @@ sound_scanned value n owner owners number part taken given coming s t g c = reco
     true_notes = λ m has. absurd has;
     all_notes = λ p q x v d is stones inside block quiet spread. (let none : None ≡ Some (v, d) = sym (s.scan.unsettled (rank_of q) inside) ∙ spread.0 in absurd (cc));
   });
-  opened = λ j o. subst (All (IsTimelyNote part)) (sym (c j o)) (All-nil (IsTimelyNote part));
+  opened = λ j o. subst (All (IsCurrentNote part)) (sym (c j o)) (All-nil (IsCurrentNote part));
   fresh = s.fresh;
 }
 
 -- a gain or a distance is opened, with nothing on its way
-pub gain_opened : (gain : ℕ) (old new : Part) → OpensGain gain old new → IsOpened old new
+pub gain_opened : (gain : ℕ) (old new : Part) → OpensGain gain old new → KeepsHeard old new
 gain_opened gain old new o = record {
   seen = (let s = o.settles in seen_kept old new s.same.level s.same.start s.size s.stays s.joins);
   tallied = o.tallied;
@@ -78,7 +78,7 @@ gain_opened gain old new o = record {
   fresh = o.fresh;
 }
 
-pub wave_opened : (dist : ℕ) (old new : Part) → OpensWave dist old new → IsOpened old new
+pub wave_opened : (dist : ℕ) (old new : Part) → OpensWave dist old new → KeepsHeard old new
 wave_opened dist old new o = record {
   seen = subst (IsSeenAs old) (sym o.wave) (record { level = refl; start = refl; len = refl; stays = λ r v d _ h. h; before = λ r v d _ h. h });
   tallied = o.tallied;
@@ -86,7 +86,7 @@ wave_opened dist old new o = record {
   fresh = o.fresh;
 }
 
-pub sound_opened : (value : List ℕ → ℤ) (owner owners : ℕ) (old new : Part) (taken given coming : ℕ → List Note) → IsOpened old new
+pub sound_opened : (value : List ℕ → ℤ) (owner owners : ℕ) (old new : Part) (taken given coming : ℕ → List Note) → KeepsHeard old new
     → ((j : ℕ) → IsOtherOf owner owners j → coming j ≡ []) → OwnerSound value owner owners old taken given coming → OwnerSound value owner owners new taken given coming
 sound_opened value owner owners old new taken given coming opened none s = record {
   heard = s.heard;
@@ -95,7 +95,7 @@ sound_opened value owner owners old new taken given coming opened none s = recor
   taken_heard = s.taken_heard;
   heard_taken = λ m has leaves. s.heard_taken m has (leaves_old old new m.target m.pit opened.seen leaves);
   given_notes = λ j o. held_still owners old new j (given j) opened.seen (s.given_notes j o);
-  opened = λ j o. subst (All (IsTimelyNote new)) (sym (none j o)) (All-nil (IsTimelyNote new));
+  opened = λ j o. subst (All (IsCurrentNote new)) (sym (none j o)) (All-nil (IsCurrentNote new));
   fresh = opened.fresh;
 }
 

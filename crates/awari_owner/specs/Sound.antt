@@ -42,7 +42,7 @@ pub record HoldsNotes (owners : ℕ) (part : Part) (j : ℕ) (notes : List Note)
       → IsQuietMove p x q → IsSpread part (rank_of q) v d → (m : Note) × Has notes m × IsNoteOf q v d p x m
 
 -- a note that is on its way is of the open gain and wave, and the distance can be one more
-pub record IsTimelyNote (part : Part) (m : Note) : Type 0 where
+pub record IsCurrentNote (part : Part) (m : Note) : Type 0 where
   pub gain : m.gain ≡ part.gain
   pub opened : part.gain ≤ part.level
   pub dist : m.dist ≡ part.wave
@@ -60,7 +60,7 @@ pub record OwnerSound (value : List ℕ → ℤ) (owner owners : ℕ) (part : Pa
   -- what was given is the notes of the boards that were spread
   pub given_notes : (j : ℕ) → IsOtherOf owner owners j → HoldsNotes owners part j (given j)
   -- what is on its way is of the open gain and wave
-  pub opened : (j : ℕ) → IsOtherOf owner owners j → All (IsTimelyNote part) (coming j)
+  pub opened : (j : ℕ) → IsOtherOf owner owners j → All (IsCurrentNote part) (coming j)
   -- the fresh boards are settled ones of the open gain, each once
   pub fresh : AreFresh part
 
@@ -98,7 +98,7 @@ abbrev pub KeepsOwn : Part → Part → Type 0
 KeepsOwn old new = (notes : List Note) → HearsOwn old notes → HearsOwn new notes
 
 -- The same boards are spread, and all is heard as it was.
-pub record IsOpened (old new : Part) : Type 0 where
+pub record KeepsHeard (old new : Part) : Type 0 where
   pub seen : IsSeenAs old new
   pub tallied : KeepsTally old new
   pub own : KeepsOwn old new

@@ -1,12 +1,11 @@
 -- The notes that a settled board gives to the boards of its own block, what a part hears of the boards of another, and what is sent.
-use Rattle.std.specs.Prelude.{◌≡◌, ℕ, ◌+◌, ◌-◌, ◌^◌, ◌<◌, ◌≤◌, ◌⊎◌, ◌&&◌, Bool, ◌==◌, nat_le, nat_lt, if◌then◌else◌, List, ◌∷◌, [], ◌/◌, not, length, fold, filter, sum, All, ℤ, pos, int_lt, Some, map}
+use Rattle.std.specs.Prelude.{◌≡◌, ℕ, ◌+◌, ◌-◌, ◌^◌, ◌<◌, ◌≤◌, ◌⊎◌, ◌&&◌, Bool, ◌==◌, nat_le, nat_lt, if◌then◌else◌, List, ◌∷◌, [], ◌/◌, not, length, fold, filter, sum, All, ℤ, Some, map}
 use Rattle.awari_board.specs.Rules.{IsBoard}
 use Rattle.awari_rank.specs.Rank.{rank_of, size_of}
-use Rattle.awari_block.specs.Notes.{IsQuietMove, IsNoteOf}
+use Rattle.awari_block.specs.Notes.{IsQuietMove, IsNoteOf, kind_of}
 use Rattle.awari_unmove.specs.Predecessors.{IsPredecessors}
 use Rattle.awari_block.specs.Cells.{IsEither}
 use Rattle.awari_block.specs.Blocks.{times_due, due_dist, due_rank, is_settled_in}
-use Rattle.awari_block.specs.declared.notes.Kind.TheVariants.{Won, Lost}
 use Rattle.awari_block.specs.Part.{Part, InBlock, IsTallied, settled_at, stored_at}
 use Rattle.awari_block.specs.Shares.{first_rank}
 use Rattle.awari_owner.specs.Outboxes.{Outboxes, queue_to, with_note, with_notes}
@@ -27,10 +26,6 @@ note_to part kind y = record { level = part.level; target = rank_of y.0; pit = y
 -- those of these notes that are for boards of the block
 abbrev pub own_notes : Part → Kind → List Source → List Note
 own_notes part kind sources = filter (λ m. is_held part m.target) (map (note_to part kind) sources)
-
--- the kind of the notes of a settled board
-abbrev pub kind_of : ℤ → Kind
-kind_of score = if int_lt (pos 0) score then Won else Lost
 
 -- the fresh board that comes first: of the open wave, to which none is nearer, and of least rank among those
 pub record IsFirstFresh (part : Part) (rank : ℕ) : Type 0 where

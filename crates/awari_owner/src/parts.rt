@@ -22,7 +22,7 @@ use crate::leaving::{leaving_pits, leaving_pits_parallel};
 use crate::lookahead::Lookahead;
 use crate::outboxes::Outboxes;
 use crate::queues::reserve_others;
-use crate::spreads::{kind_of, tell_all};
+use crate::spreads::tell_all;
 use awari_block::{Block, Boards, Cell, ClosedPart, Note, block_length};
 use awari_board::{SIDE, moves_keep_boards};
 use awari_index::Index;
@@ -286,7 +286,7 @@ impl Part {
         let span = block_length(size(stake.level), outboxes.queues.len() as u8);
         let rank = self.boards.take_first();
         let place = self.lookahead.place_of(&self.boards, rank);
-        let kind = kind_of(&self.boards.cell(rank));
+        let kind = self.boards.cell(rank).kind();
         let predecessors = &self.lookahead.boards[place];
         tell_all(
             &mut self.boards,

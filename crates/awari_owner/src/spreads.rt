@@ -9,11 +9,11 @@ ghost use Rattle.awari_block.specs.Boards.{Settles};
 ghost use Rattle.awari_owner.specs.Lookahead.{ArePredecessors};
 ghost use Rattle.awari_scan.specs.Found.{IsCodeOf, Source};
 ghost use Rattle.awari_heard.specs.Heard.{HearsNotes};
-ghost use Rattle.awari_owner.specs.Spread.{kind_of, is_held, own_notes, PutsAll, with_sent};
+ghost use Rattle.awari_owner.specs.Spread.{is_held, own_notes, PutsAll, with_sent};
 
 use crate::lookahead::Predecessors;
 use crate::queues::Queue;
-use awari_block::{Boards, Cell, Kind};
+use awari_block::{Boards, Kind};
 use awari_board::moves_keep_boards;
 use awari_rank::ranks_tell_boards_apart;
 
@@ -69,15 +69,4 @@ fn tell_one(boards: &mut Boards, queues: &mut Vec<Queue>, span: u32, kind: Kind,
         return;
     }
     boards.hear(rank, pit, kind);
-}
-
-/// The kind of the notes of a settled board.
-pub fn kind_of(cell: &Cell) -> Kind
-    ensures { result ≡ kind_of cell.now.score }
-{
-    if cell.score > 0 {
-        Kind::Won
-    } else {
-        Kind::Lost
-    }
 }

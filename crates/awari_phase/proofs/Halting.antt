@@ -12,7 +12,7 @@ use Rattle.awari_owner.specs.declared.faults.OwnerFault.TheVariants.{Far, Memory
 use Rattle.awari_block.specs.declared.notes.Note.{Note}
 use Rattle.awari_lines.specs.Rings.{Notes, IsOther, SamePairs, owners_of, sent_to, received_from}
 use Rattle.awari_lines.specs.declared.ends.Ends.{Ends}
-use Rattle.awari_owner.specs.Sound.{IsTimelyNote, OwnerSound, SameStake, with_taken}
+use Rattle.awari_owner.specs.Sound.{IsCurrentNote, OwnerSound, SameStake, with_taken}
 use Rattle.awari_block.proofs.NoteLists.{Has-append_right}
 use Rattle.awari_owner.proofs.Lists.{notes_of-last}
 use Rattle.awari_owner.proofs.Sounding.{place_both, stake_settled, sound_same}
@@ -129,7 +129,7 @@ module _ (value : List ℕ → ℤ) (a u : Owner) (e : Ends) (part : Part) (o : 
   halts_taking = record {
     sound = moved value u.ends e part taken (notes_given e o) (notes_boxed o) t.pairs
         (sound_same value u.ends.owner (owners_of u.ends) part taken taken (notes_given u.ends u.outboxes) (notes_given e o) (notes_boxed u.outboxes) (notes_boxed o)
-        (λ j q. refl) (λ j q. ap notes_of (given_same j q)) (λ j q h. subst (λ (b : Outboxes). All (IsTimelyNote part) (notes_boxed b j)) (sym t.outboxes) h)
+        (λ j q. refl) (λ j q. ap notes_of (given_same j q)) (λ j q h. subst (λ (b : Outboxes). All (IsCurrentNote part) (notes_boxed b j)) (sym t.outboxes) h)
         (t.refuses.taken.sound value u.ends.owner (owners_of u.ends) t.from (notes_taken u.ends) (notes_given u.ends u.outboxes) (notes_boxed u.outboxes) t.other (kept.sound value s)));
     whole = whole;
     came = came;

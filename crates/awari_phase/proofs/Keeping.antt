@@ -7,7 +7,7 @@ use Rattle.std.proofs.lemmas.Bool.Decides.{nat_tests}
 use Rattle.std.specs.List.{slice_get}
 use mathlib.Core.List.{IsPrefix}
 use Rattle.awari_owner.specs.Outboxes.{IsBatch, Outboxes, queue_to, notes_of}
-use Rattle.awari_owner.specs.Sound.{IsTimelyNote, OwnerSound, SameStake, SpreadsFirst, TakesNotes, with_taken}
+use Rattle.awari_owner.specs.Sound.{IsCurrentNote, OwnerSound, SameStake, SpreadsFirst, TakesNotes, with_taken}
 use Rattle.awari_owner.specs.declared.faults.OwnerFault.{OwnerFault}
 use Rattle.awari_owner.proofs.Lists.{notes_of-append, notes_of-last}
 use Rattle.awari_owner.proofs.Sounding.{place_both, stake_same, stake_settled, sound_same, timely_all}
@@ -147,8 +147,8 @@ module _ (e e' : Ends) (j : ℕ) (pairs : SamePairs e e') (others : SameBut e e'
               (let Q : ℕ → Type 0 = λ i. sent_to e' i ≡ sent_to e i ++ b ∷ [] in subst Q (sym at) s),
               λ value h i d lt.
                   (let zeroth : i ≡ 0 = omega (arith, lt) in
-                  let all = subst (All (IsTimelyNote part)) (ap notes_of first) (h.opened j other) in
-                  subst (λ (n : ℕ). P (get_or (b.items ∷ []) n d)) (sym zeroth) (record { whole = whole; opened = All-append_first (IsTimelyNote part) b.items (notes_of rest) all })),
+                  let all = subst (All (IsCurrentNote part)) (ap notes_of first) (h.opened j other) in
+                  subst (λ (n : ℕ). P (get_or (b.items ∷ []) n d)) (sym zeroth) (record { whole = whole; opened = All-append_first (IsCurrentNote part) b.items (notes_of rest) all })),
             )
             | inr n ↦ ([], ap sent_on (others k n q.0) ∙ sym (append-nil (sent_to e k)), λ value h i d lt. absurd (omega (arith, lt)))
           ]
@@ -166,14 +166,14 @@ module _ (e e' : Ends) (j : ℕ) (pairs : SamePairs e e') (others : SameBut e e'
             | inr n ↦ ap (λ (l : Option RingPair). map items_of (sent_on l) ++ queue_to o' k) (others k n q.0) ∙ ap (λ (l : Batches). map items_of (sent_to e k) ++ l) (same k n)
           ]
 
-      boxed_at : (k : ℕ) → IsOther e k → All (IsTimelyNote part) (notes_boxed o k) → All (IsTimelyNote part) (notes_boxed o' k)
+      boxed_at : (k : ℕ) → IsOther e k → All (IsCurrentNote part) (notes_boxed o k) → All (IsCurrentNote part) (notes_boxed o' k)
       boxed_at k q h =
           elim (cases_eq k j) [
             | inl at ↦
-                (let Q : ℕ → Type 0 = λ i. All (IsTimelyNote part) (notes_boxed o i) → All (IsTimelyNote part) (notes_boxed o' i) in
+                (let Q : ℕ → Type 0 = λ i. All (IsCurrentNote part) (notes_boxed o i) → All (IsCurrentNote part) (notes_boxed o' i) in
                 subst Q (sym at)
-                (λ a. subst (λ (bs : Batches). All (IsTimelyNote part) (notes_of bs)) (sym left) (All-append_second (IsTimelyNote part) b.items (notes_of rest) (subst (All (IsTimelyNote part)) (ap notes_of first) a))) h)
-            | inr n ↦ subst (λ (bs : Batches). All (IsTimelyNote part) (notes_of bs)) (sym (same k n)) h
+                (λ a. subst (λ (bs : Batches). All (IsCurrentNote part) (notes_of bs)) (sym left) (All-append_second (IsCurrentNote part) b.items (notes_of rest) (subst (All (IsCurrentNote part)) (ap notes_of first) a))) h)
+            | inr n ↦ subst (λ (bs : Batches). All (IsCurrentNote part) (notes_of bs)) (sym (same k n)) h
           ]
 
 keeps_refl : (e : Ends) (part : Part) (o : Outboxes) → KeepsOwner e part o e part o

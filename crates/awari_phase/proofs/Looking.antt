@@ -6,7 +6,7 @@ use Rattle.awari_block.specs.Notes.{Has}
 use Rattle.awari_block.specs.declared.notes.Note.{Note}
 use Rattle.awari_owner.specs.Owners.{AreSound}
 use Rattle.awari_heard.specs.Level.{part_at}
-use Rattle.awari_owner.specs.Sound.{IsTimelyNote}
+use Rattle.awari_owner.specs.Sound.{IsCurrentNote}
 use Rattle.awari_owner.specs.Outboxes.{queue_to, notes_of}
 use Rattle.awari_lines.specs.Rings.{received_from, sent_to, waiting_from}
 use Rattle.awari_lines.specs.declared.ends.Ends.{Ends}
@@ -36,7 +36,7 @@ module _ (value : List ℕ → ℤ) (n : ℕ) (os : List Owner) (d : Owner) (tog
       ∙ ap (λ l. l ++ boxed) (ap notes_of (map-append items_of (received_from (owner j).ends i) waits) ∙ notes_of-append (taken_from (owner j).ends i) (map items_of waits))
       ∙ append_assoc (taken_notes os d i j) (notes_of (map items_of waits)) boxed
 
-  timely : (i j : ℕ) → i < length os → j < length os → (i ≡ j → ⊥) → (m : Note) → Has (coming_notes os d i j) m → IsTimelyNote (owner i).part m
+  timely : (i j : ℕ) → i < length os → j < length os → (i ≡ j → ⊥) → (m : Note) → Has (coming_notes os d i j) m → IsCurrentNote (owner i).part m
   timely i j low low' apart m has =
       let received = received_from (owner j).ends i in
       let waits = waiting_from (owner j).ends i in
@@ -46,7 +46,7 @@ module _ (value : List ℕ → ℤ) (n : ℕ) (os : List Owner) (d : Owner) (tog
       elim (Has-append_cases (notes_of (map items_of waits)) (notes_boxed (owner i).outboxes j) m has) [
         | inl waiting ↦ open_since (owner i).part received sent [] waits [] (together.waits j i d low' low (λ e. apart (sym e)))
             (ap (λ l. l ++ waits) (append-nil received) ∙ on_ring i j low low' apart ∙ sym (append-nil sent)) (All-nil (IsOpenBatch (owner i).part)) m waiting
-        | inr boxed ↦ has_all (IsTimelyNote (owner i).part) (notes_boxed (owner i).outboxes j) m
+        | inr boxed ↦ has_all (IsCurrentNote (owner i).part) (notes_boxed (owner i).outboxes j) m
             ((together.sound i d low).opened j ((λ e. apart (sym (e ∙ number))), subst (λ k. j < k) (sym many) low')) boxed
       ]
 
@@ -59,5 +59,5 @@ module _ (value : List ℕ → ℤ) (n : ℕ) (os : List Owner) (d : Owner) (tog
     wave = λ i low. together.wave i d low;
     sound = λ i low. together.sound i d low;
     arrived = arrived;
-    timely = λ i j low low' apart. all_has (IsTimelyNote (owner i).part) (coming_notes os d i j) (timely i j low low' apart);
+    timely = λ i j low low' apart. all_has (IsCurrentNote (owner i).part) (coming_notes os d i j) (timely i j low low' apart);
   })

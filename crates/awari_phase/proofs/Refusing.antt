@@ -7,7 +7,7 @@ use Rattle.awari_owner.specs.OwnerFault.{IsFaultOf}
 use Rattle.awari_block.specs.Part.{Part}
 use Rattle.awari_owner.specs.Owners.{AreSound}
 use Rattle.awari_heard.specs.Level.{AreTold, AreWhole, DistancesFit, no_part, part_at}
-use Rattle.awari_owner.specs.Sound.{CanTake, IsTimelyNote}
+use Rattle.awari_owner.specs.Sound.{CanTake, IsCurrentNote}
 use Rattle.awari_owner.specs.declared.faults.OwnerFault.{OwnerFault}
 use Rattle.awari_owner.specs.declared.faults.OwnerFault.TheVariants as owner_fault
 use Rattle.awari_block.specs.declared.notes.Note.{Note}
@@ -44,16 +44,16 @@ choice P none n each = ((λ i. pick P none n i each (cases_lt i n)), λ i low. p
 
 -- ---- notes of the open gain and wave
 
-pub has_open : (part : Part) (bs : Batches) (m : Note) → All (IsOpenBatch part) bs → Has (notes_of bs) m → IsTimelyNote part m
+pub has_open : (part : Part) (bs : Batches) (m : Note) → All (IsOpenBatch part) bs → Has (notes_of bs) m → IsCurrentNote part m
 has_open part [] m all has = absurd has
 has_open part (b ∷ bs) m all has = elim (Has-append_cases b (notes_of bs) m has) [
-  | inl here ↦ has_all (IsTimelyNote part) b m (all 0 b (omega arith)).opened here
+  | inl here ↦ has_all (IsCurrentNote part) b m (all 0 b (omega arith)).opened here
   | inr later ↦ has_open part bs m (λ i d low. all (suc i) d (omega (arith, low))) later
 ]
 
 -- what was not received before is open: what came since, and what waits still
 pub open_since : (part : Part) (received sent more waits gone : List Notes) → OpenBehind part received sent → (received ++ more) ++ waits ≡ sent ++ gone → All (IsOpenBatch part) (map items_of gone)
-    → (m : Note) → Has (notes_of (map items_of (more ++ waits))) m → IsTimelyNote part m
+    → (m : Note) → Has (notes_of (map items_of (more ++ waits))) m → IsCurrentNote part m
 open_since part received sent more waits gone o same opens m has =
     let x = o.came.0 in
     let whole : o.before ++ (x ++ (more ++ waits)) ≡ o.before ++ (o.after ++ gone) =
@@ -157,24 +157,24 @@ module _ (value : List ℕ → ℤ) (n : ℕ) (os ps : List Owner) (d : Owner) (
   zeroth : 0 < length os
   zeroth = let h = together.some in omega (arith, h)
 
-  timely : (i j : ℕ) → i < length os → j < length os → (i ≡ j → ⊥) → (m : Note) → Has (coming i j) m → IsTimelyNote (now i).part m
+  timely : (i j : ℕ) → i < length os → j < length os → (i ≡ j → ⊥) → (m : Note) → Has (coming i j) m → IsCurrentNote (now i).part m
   timely i j low low' apart m here =
       let (waits, on_ring, is, given) = comes i j low low' apart in
       let sender = has i low in
       let place = sender.block.level in
       let came = (has j low').came i (other j i low' low (λ e. apart (sym e))) in
       let gone = sender.sent j (other i j low low' apart) in
-      let on : (x : Note) → Has (notes_of (map items_of (came.0 ++ waits))) x → IsTimelyNote (was i).part x =
+      let on : (x : Note) → Has (notes_of (map items_of (came.0 ++ waits))) x → IsCurrentNote (was i).part x =
       open_since (was i).part (received_from (was j).ends i) (sent_to (was i).ends j) came.0 waits gone.0 (together.waits j i d low' low (λ e. apart (sym e)))
       (ap (λ l. l ++ waits) (sym came.1) ∙ on_ring ∙ gone.1) gone.2 in
       let names = ap notes_of (map-append items_of came.0 waits) ∙ notes_of-append (map items_of came.0) (map items_of waits) in
-      let back : (x : Note) → Has (notes_of (map items_of came.0) ++ notes_of (map items_of waits)) x → IsTimelyNote (now i).part x =
+      let back : (x : Note) → Has (notes_of (map items_of came.0) ++ notes_of (map items_of waits)) x → IsCurrentNote (now i).part x =
       λ x h. timely_still (was i).part (now i).part x place.level place.gain place.wave (on x (subst (λ (l : List Note). Has l x) (sym names) h)) in
       elim (Has-append_cases (left j i) (notes_of (map items_of waits) ++ notes_boxed (now i).outboxes j) m (subst (λ (l : List Note). Has l m) is here)) [
         | inl last ↦ back m (Has-append_left (notes_of (map items_of came.0)) (notes_of (map items_of waits)) m (came.2 m last))
         | inr later ↦ elim (Has-append_cases (notes_of (map items_of waits)) (notes_boxed (now i).outboxes j) m later) [
           | inl waiting ↦ back m (Has-append_right (notes_of (map items_of came.0)) (notes_of (map items_of waits)) m waiting)
-          | inr boxed ↦ has_all (IsTimelyNote (now i).part) (notes_boxed (now i).outboxes j) m (sender.sound.opened j (other i j low low' apart)) boxed
+          | inr boxed ↦ has_all (IsCurrentNote (now i).part) (notes_boxed (now i).outboxes j) m (sender.sound.opened j (other i j low low' apart)) boxed
         ]
       ]
 
@@ -187,7 +187,7 @@ module _ (value : List ℕ → ℤ) (n : ℕ) (os ps : List Owner) (d : Owner) (
     wave = λ i low. (let at = low_os i low in (has i at).block.level.wave ∙ together.wave i d at ∙ sym (has 0 zeroth).block.level.wave);
     sound = λ i low. (has i (low_os i low)).sound;
     arrived = λ i j low low' apart. (comes i j (low_os i low) (low_os j low') apart).3;
-    timely = λ i j low low' apart. all_has (IsTimelyNote (now i).part) (coming i j) (timely i j (low_os i low) (low_os j low') apart);
+    timely = λ i j low low' apart. all_has (IsCurrentNote (now i).part) (coming i j) (timely i j (low_os i low) (low_os j low') apart);
   }
     where
       low_os : (i : ℕ) → i < length ps → i < length os

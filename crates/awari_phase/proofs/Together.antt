@@ -7,7 +7,7 @@ use Rattle.awari_block.specs.Part.{Part, IsClosed}
 use Rattle.awari_block.specs.Shares.{first_rank}
 use Rattle.awari_owner.specs.Owners.{AreSound, IsShare}
 use Rattle.awari_heard.specs.Level.{no_part, part_at}
-use Rattle.awari_owner.specs.Sound.{IsTimelyNote, OwnerSound}
+use Rattle.awari_owner.specs.Sound.{IsCurrentNote, OwnerSound}
 use Rattle.awari_owner.proofs.Sounding.{sound_same}
 use Rattle.awari_block.specs.declared.notes.Note.{Note}
 use Rattle.awari_lines.specs.Rings.{IsGrid, owners_of, sent_to, received_from}
@@ -37,7 +37,7 @@ pub record AreMet (value : List ℕ → ℤ) (n : ℕ) (os : List Owner) (d : Ow
   pub sound : (i : ℕ) → i < length os
       → OwnerSound value (get_or os i d).ends.owner (owners_of (get_or os i d).ends) (get_or os i d).part (taken i) (notes_given (get_or os i d).ends (get_or os i d).outboxes) (notes_boxed (get_or os i d).outboxes)
   pub arrived : (i j : ℕ) → i < length os → j < length os → (i ≡ j → ⊥) → notes_given (get_or os i d).ends (get_or os i d).outboxes j ≡ taken j i ++ coming i j
-  pub timely : (i j : ℕ) → i < length os → j < length os → (i ≡ j → ⊥) → All (IsTimelyNote (get_or os i d).part) (coming i j)
+  pub timely : (i j : ℕ) → i < length os → j < length os → (i ≡ j → ⊥) → All (IsCurrentNote (get_or os i d).part) (coming i j)
 
 -- the ends of each have its number, and are of as many owners
 pub number_at : (os : List Owner) (d : Owner) → IsGrid (all_ends os) → (i : ℕ) → i < length os → (get_or os i d).ends.owner ≡ i
@@ -120,7 +120,7 @@ module _ (value : List ℕ → ℤ) (n : ℕ) (os : List Owner) (finished : AreF
     wave = λ i low. finished.wave i d low;
     sound = λ i low. finished.sound i d low;
     arrived = arrived;
-    timely = λ i j low low' apart. All-nil (IsTimelyNote (get_or os i d).part);
+    timely = λ i j low low' apart. All-nil (IsCurrentNote (get_or os i d).part);
   })
 
 -- and some owner is there

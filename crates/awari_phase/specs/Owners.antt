@@ -7,7 +7,7 @@ use Rattle.awari_block.specs.declared.notes.Note.{Note}
 use Rattle.awari_owner.specs.Outboxes.{IsBatch, Outboxes, queue_to, notes_of}
 use Rattle.awari_block.specs.Blocks.{KeepSettled}
 use Rattle.awari_block.specs.Part.{Part, IsLeastDue, unspread}
-use Rattle.awari_owner.specs.Sound.{IsScannedOwner, IsTimelyNote, OpensGain, OwnerSound, SameStake}
+use Rattle.awari_owner.specs.Sound.{IsScannedOwner, IsCurrentNote, OpensGain, OwnerSound, SameStake}
 use Rattle.awari_phase.specs.declared.owners.Owner.{Owner}
 
 abbrev pub Batches : Type 0
@@ -40,7 +40,7 @@ IsSound value e part o = OwnerSound value e.owner (owners_of e) part (notes_take
 -- a batch of 1 to 32 notes of the open gain and wave
 pub record IsOpenBatch (part : Part) (b : List Note) : Type 0 where
   pub whole : IsBatch b
-  pub opened : All (IsTimelyNote part) b
+  pub opened : All (IsCurrentNote part) b
 
 -- The owner on the same rings, with the same block, gain and distance, is sound where it was; what it took and sent has only
 -- grown, and what it sent is of the open gain and wave where what it had to send was. It has no board more to spread.

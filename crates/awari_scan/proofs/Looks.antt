@@ -19,7 +19,7 @@ use Rattle.awari_block.specs.declared.stakes.Stake.{Stake}
 use Rattle.awari_block.specs.Notes.{IsQuietMove}
 use Rattle.awari_block.specs.Pits.{has_pit, with_pit}
 use Rattle.awari_block.specs.Plain.{Captures, Knows, IsBest}
-use Rattle.awari_scan.specs.Scan.{IsRanged, IsBestBelow, IsCounted, ArePlansBelow, IsOutlook, IsScannedCell, looked}
+use Rattle.awari_scan.specs.Scan.{IsRanged, IsBestBelow, IsCounted, ArePlansBelow, IsOutlook, IsScannedCell, outlook_cell}
 use Rattle.awari_block.proofs.SixPits.{below_six}
 use Rattle.awari_block.proofs.Legality.{quiet_counted, counted_quiet}
 use Rattle.awari_scan.proofs.Scanning.{outlook-none, outlook-skips, outlook-quiet, outlook-capture, outlook-ended, outlook-quiet_legal, best-all, captures_within, scanned}
@@ -69,8 +69,8 @@ first_below P k here none x own = (
 )
 
 module _ (value : List ℕ → ℤ) (p : List ℕ) where
-  pub looked-none : IsOutlook value p 0 0 None 0
-  looked-none = record {
+  pub seen_none : IsOutlook value p 0 0 None 0
+  seen_none = record {
     counted = (0, outlook-none value p);
     few = omega arith;
     quiet_below = λ x own. (λ has. absurd (false≢true (sym (has_pit-none x) ∙ has)), λ there. absurd (omega (arith, there.0)));
@@ -81,17 +81,17 @@ module _ (value : List ℕ → ℤ) (p : List ℕ) where
   plans_still k None plans none h = tt
   plans_still k (Some b) plans none h = still_below (λ x. CapturesFrom value p x b) plans k (λ captures. none captures.0 captures.1 captures.2 captures.3) h
 
-  pub looked-illegal : (k quiet : ℕ) (best : Option ℤ) (plans : ℕ) → k < 6 → (IsLegal p k → ⊥) → IsOutlook value p k quiet best plans → IsOutlook value p (k + 1) quiet best plans
-  looked-illegal k quiet best plans own illegal h = record {
+  pub seen_illegal : (k quiet : ℕ) (best : Option ℤ) (plans : ℕ) → k < 6 → (IsLegal p k → ⊥) → IsOutlook value p k quiet best plans → IsOutlook value p (k + 1) quiet best plans
+  seen_illegal k quiet best plans own illegal h = record {
     counted = (h.counted.0, outlook-skips value p k h.counted.0 best own illegal h.counted.1);
     few = h.few;
     quiet_below = still_below (λ x. (q : List ℕ) × IsQuietMove p x q) quiet k (λ there. illegal there.1.legal) h.quiet_below;
     plans_below = plans_still k best plans (λ c q move some. illegal move.legal) h.plans_below;
   }
 
-  pub looked-quiet : (k quiet : ℕ) (best : Option ℤ) (plans : ℕ) (q : List ℕ) → k < 6 → IsQuietMove p k q → IsOutlook value p k quiet best plans
+  pub seen_quiet : (k quiet : ℕ) (best : Option ℤ) (plans : ℕ) (q : List ℕ) → k < 6 → IsQuietMove p k q → IsOutlook value p k quiet best plans
       → IsOutlook value p (k + 1) (with_pit quiet k) best plans
-  looked-quiet k quiet best plans q own move h = record {
+  seen_quiet k quiet best plans q own move h = record {
     counted = (h.counted.0 + 1, outlook-quiet value p k h.counted.0 best q own move h.counted.1);
     few = or_lt 6 quiet (2 ^ k) h.few (own_few k own);
     quiet_below = more_below (λ x. (q : List ℕ) × IsQuietMove p x q) quiet k (q, move) h.quiet_below;
@@ -112,17 +112,17 @@ module _ (value : List ℕ → ℤ) (p : List ℕ) where
         let boards : r ≡ q = other.leaves ∙ sym move.leaves in
         gains ∙ ap (λ n. pos n -ℤ value r) counts ∙ ap (λ (b : List ℕ). pos c -ℤ value b) boards ∙ sym gain
 
-    looked-first : (plans : ℕ) → IsBestBelow value p k None → (x : ℕ) → x < 6 → (has_pit (2 ^ k) x ≡ true) ↔ ((x < k + 1) × CapturesFrom value p x v)
-    looked-first plans none = first_below (λ x. CapturesFrom value p x v) k here (λ x less captures. none x captures.0 captures.1 less captures.2 captures.3)
+    seen_first : (plans : ℕ) → IsBestBelow value p k None → (x : ℕ) → x < 6 → (has_pit (2 ^ k) x ≡ true) ↔ ((x < k + 1) × CapturesFrom value p x v)
+    seen_first plans none = first_below (λ x. CapturesFrom value p x v) k here (λ x less captures. none x captures.0 captures.1 less captures.2 captures.3)
 
-    pub looked-captures : (best : Option ℤ) (plans : ℕ) → IsOutlook value p k quiet best plans → IsOutlook value p (k + 1) quiet (greater_of best v) (pits_after best plans v k)
-    looked-captures None plans h = record {
+    pub seen_captures : (best : Option ℤ) (plans : ℕ) → IsOutlook value p k quiet best plans → IsOutlook value p (k + 1) quiet (greater_of best v) (pits_after best plans v k)
+    seen_captures None plans h = record {
       counted = (h.counted.0, outlook-capture value p k h.counted.0 c None q v v own move some gain within (inl (refl, refl)) h.counted.1);
       few = h.few;
       quiet_below = quiet_still h.quiet_below;
-      plans_below = looked-first plans h.counted.1.best_below;
+      plans_below = seen_first plans h.counted.1.best_below;
     }
-    looked-captures (Some b) plans h = by (int_lt b v) refl
+    seen_captures (Some b) plans h = by (int_lt b v) refl
       where
         with_best : (w : ℤ) (pits : ℕ) → b ≤ℤ w → v ≤ℤ w → (w ≡ b) ⊎ (w ≡ v) → ArePlansBelow value p (k + 1) (Some w) pits → IsOutlook value p (k + 1) quiet (Some w) pits
         with_best w pits low high either are = record {
@@ -196,8 +196,8 @@ module _ (value : List ℕ → ℤ) (p : List ℕ) where
           false≢true (sym (has_pit-none x) ∙ ap (λ n. has_pit n x) (sym none) ∙ (h.quiet_below x legal.own).1 (legal.own, (next_board p x, move)))
       by (suc c) e = h.counted.1.best_below x (suc c) (next_board p x) legal.own (record { legal = legal; captures = sym e; leaves = refl }) (omega arith)
 
-  pub looked-ended : (quiet : ℕ) (best : Option ℤ) (plans : ℕ) → quiet ≡ 0 → best ≡ None → IsOutlook value p 6 quiet best plans → IsEnded p
-  looked-ended quiet best plans none nothing h =
+  pub seen_ended : (quiet : ℕ) (best : Option ℤ) (plans : ℕ) → quiet ≡ 0 → best ≡ None → IsOutlook value p 6 quiet best plans → IsEnded p
+  seen_ended quiet best plans none nothing h =
       none_quiet quiet none (record {
         counted = (h.counted.0, subst (λ b. IsCounted value p 6 h.counted.0 b) nothing h.counted.1);
         few = h.few;
@@ -206,7 +206,7 @@ module _ (value : List ℕ → ℤ) (p : List ℕ) where
       })
 
   pub looked_known : (quiet : ℕ) (best : Option ℤ) (plans : ℕ) (gain : ℤ) → IsBoard p → IsRanged value (sum p) → IsOutlook value p 6 quiet best plans → (IsEnded p → IsEnd p gain)
-      → IsStatus value p [] (sum p + 1) (looked quiet best plans gain).status
+      → IsStatus value p [] (sum p + 1) (outlook_cell quiet best plans gain).status
   looked_known quiet (Some b) plans gain is ranged h end =
       let below = h.counted.1.best_below in
       going quiet (ByCapture b) plans below.0 is ranged (below.0.0, below.0.3.legal) h (best-all value p (Some b) below)
@@ -234,20 +234,20 @@ module _ (value : List ℕ → ℤ) (p : List ℕ) where
               off false f = refl
 
   pub looked_planned : (quiet : ℕ) (best : Option ℤ) (plans : ℕ) (gain : ℤ) → IsBoard p → IsRanged value (sum p) → IsOutlook value p 6 quiet best plans → (IsEnded p → IsEnd p gain)
-      → IsTally value (looked quiet best plans gain) p [] (sum p + 1) 0
+      → IsTally value (outlook_cell quiet best plans gain) p [] (sum p + 1) 0
   looked_planned quiet best plans gain is ranged h end = record {
     once = tt;
     quiet = λ m has. absurd has;
     opened = λ m has. absurd has;
     waved = λ m has _. absurd has;
-    few = subst (λ n. n < 2 ^ 6) (sym (looked-left best)) h.few;
-    left = λ x own. ap (λ n. has_pit n x) (looked-left best) ∙ same_tests (has_pit quiet x) (is_unheard p [] x) _ (h.quiet_below x own) (unheard-quiet x own);
+    few = subst (λ n. n < 2 ^ 6) (sym (seen_left best)) h.few;
+    left = λ x own. ap (λ n. has_pit n x) (seen_left best) ∙ same_tests (has_pit quiet x) (is_unheard p [] x) _ (h.quiet_below x own) (unheard-quiet x own);
     status = looked_known quiet best plans gain is ranged h end;
   }
     where
-      looked-left : (best : Option ℤ) → (looked quiet best plans gain).left ≡ quiet
-      looked-left None = refl
-      looked-left (Some b) = refl
+      seen_left : (best : Option ℤ) → (outlook_cell quiet best plans gain).left ≡ quiet
+      seen_left None = refl
+      seen_left (Some b) = refl
 
 -- a cell that says so is scanned
 unsettled_by : (c : Cell) → settled_by (status_of c) ≡ None → is_settled c.mark ≡ false
@@ -261,14 +261,14 @@ unsettled_by c e = at c.mark e
     at mark.Ended e = refl
 
 pub scanned_looked : (value : List ℕ → ℤ) (p : List ℕ) (quiet : ℕ) (best : Option ℤ) (plans : ℕ) (gain : ℤ) (c : Cell) → IsBoard p → IsRanged value (sum p) → IsOutlook value p 6 quiet best plans
-    → (IsEnded p → IsEnd p gain) → view_of c ≡ looked quiet best plans gain → ((stake : Stake) → stake.level ≡ sum p → Fits stake c) → IsScannedCell value p c
+    → (IsEnded p → IsEnd p gain) → view_of c ≡ outlook_cell quiet best plans gain → ((stake : Stake) → stake.level ≡ sum p → Fits stake c) → IsScannedCell value p c
 scanned_looked value p quiet best plans gain c is ranged h end view fits = record {
   fits = λ t. fits (record { level = sum p; gain = t; wave = 0 }) refl;
   unsettled = unsettled_by c (ap (λ (d : tally.Cell). settled_by d.status) view ∙ none best);
   tallied = subst (λ (d : tally.Cell). IsTally value d p [] (sum p + 1) 0) (sym view) (looked_planned value p quiet best plans gain is ranged h end);
 }
   where
-    none : (best : Option ℤ) → settled_by (looked quiet best plans gain).status ≡ None
+    none : (best : Option ℤ) → settled_by (outlook_cell quiet best plans gain).status ≡ None
     none (Some b) = refl
     none None = by (quiet == 0)
       where

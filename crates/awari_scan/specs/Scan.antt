@@ -1,4 +1,9 @@
--- What a part is before any gain is open and any note is heard.
+-- What is found of the boards of a level before any gain is open and any note is heard.
+--
+-- How to think of it. A capture leads to a board of fewer stones, whose value the shelf has; a quiet move
+-- leads to a board of the same level, of which nothing is known yet. So a board's cell is the pits of its
+-- quiet moves, and what its best captures gain. The pits are looked at one by one: IsOutlook says what is
+-- found below pit k, and outlook_cell makes the cell of what is found below pit 6.
 use Rattle.std.specs.Prelude.{◌≡◌, ℕ, ◌+◌, ◌^◌, ◌<◌, ◌≤◌, ◌==◌, ◌↔◌, ◌⊎◌, if◌then◌else◌, true, false, List, [], length, sum, take, count_by, ℤ, pos, ◌-ℤ◌, ◌≤ℤ◌, Option, Some, None}
 use Rattle.awari_board.specs.Rules.{IsBoard, IsLegal, IsMove}
 use Rattle.awari_rank.specs.Rank.{rank_of, size_of}
@@ -42,9 +47,9 @@ pub record IsOutlook (value : List ℕ → ℤ) (p : List ℕ) (k quiet : ℕ) (
   pub plans_below : ArePlansBelow value p k best plans
 
 -- the cell, once all six pits are found, where an end would gain this
-abbrev pub looked : ℕ → Option ℤ → ℕ → ℤ → tally.Cell
-looked quiet None plans gain = record { left = quiet; status = if quiet == 0 then tally.Ended gain else tally.Open tally.Nothing 0 0 }
-looked quiet (Some best) plans gain = record { left = quiet; status = tally.Open (tally.ByCapture best) plans 0 }
+abbrev pub outlook_cell : ℕ → Option ℤ → ℕ → ℤ → tally.Cell
+outlook_cell quiet None plans gain = record { left = quiet; status = if quiet == 0 then tally.Ended gain else tally.Open tally.Nothing 0 0 }
+outlook_cell quiet (Some best) plans gain = record { left = quiet; status = tally.Open (tally.ByCapture best) plans 0 }
 
 -- the cell of a board of which no note was heard, before any gain is open
 pub record IsScannedCell (value : List ℕ → ℤ) (p : List ℕ) (c : Cell) : Type 0 where

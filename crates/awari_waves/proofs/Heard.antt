@@ -4,7 +4,7 @@ use Rattle.std.proofs.lemmas.Bool.{false≢true}
 use Rattle.awari_block.specs.Tally as tally
 use Rattle.awari_block.specs.Tally.{Best}
 use Rattle.awari_block.specs.Steps.{after_note, cell_after_note}
-use Rattle.awari_block.specs.Cells.{is_settled, status_by, view_of, Fits, Keeps, SettlesTimely}
+use Rattle.awari_block.specs.Cells.{is_settled, status_by, view_of, Fits, Keeps, SettlesAtStake}
 use Rattle.awari_block.specs.Part.{settled_by, Part, InBlock, stored_at}
 use Rattle.awari_block.specs.declared.cells.Cell.{Cell}
 use Rattle.awari_block.specs.declared.cells.Mark.{Mark}
@@ -54,13 +54,13 @@ module _ (a : Inside) (part : Part) (rank : ℕ) (old new : Cell) (view : seen a
       let here : InBlock (seen a) rank = subst (λ (o : Part). InBlock o rank) (sym view) held in
       subst (λ (o : Part). stored_at o rank ≡ old) view (get_or_default a.cells.items (rank - a.start) no_cell old here.1 ∙ sym read)
 
-  pub can_put : Fits a.stake new → Keeps old new → SettlesTimely a.stake old new → AwaitsNoMore old new → CanPut part (part.start + (rank - a.start)) new
+  pub can_put : Fits a.stake new → Keeps old new → SettlesAtStake a.stake old new → AwaitsNoMore old new → CanPut part (part.start + (rank - a.start)) new
   can_put fits keeps timely awaits = subst (λ r. CanPut part r new) (sym at) (record {
     held = held;
     fits = subst (λ (o : Part). Fits (stake_of o) new) view fits;
     keeps = subst (λ (c : Cell). Keeps c new) (sym stored) keeps;
-    timely = subst (λ (o : Part). SettlesTimely (stake_of o) (stored_at part rank) new) view
-        (subst (λ (c : Cell). SettlesTimely a.stake c new) (sym stored) timely);
+    timely = subst (λ (o : Part). SettlesAtStake (stake_of o) (stored_at part rank) new) view
+        (subst (λ (c : Cell). SettlesAtStake a.stake c new) (sym stored) timely);
     awaits = subst (λ (c : Cell). AwaitsNoMore c new) (sym stored) awaits;
   })
 

@@ -9,7 +9,7 @@ use Rattle.std.specs.List.{All}
 use Rattle.std.specs.List.Sorted.{IsPermutation}
 use Rattle.std.specs.Vec.{with_item}
 use Rattle.awari_block.specs.Awaited.{AwaitsNoMore}
-use Rattle.awari_block.specs.Cells.{is_settled, Fits, Keeps, SettlesTimely}
+use Rattle.awari_block.specs.Cells.{is_settled, Fits, Keeps, SettlesAtStake}
 use Rattle.awari_block.specs.Blocks.{Due, cell_in, due_dist, due_rank, is_settled_in, no_cell, IsBlock, KeepSettled}
 use Rattle.awari_block.specs.Part.{Part, InBlock, part_of}
 use Rattle.awari_block.specs.Boards.{Settles}
@@ -76,11 +76,11 @@ pub record Replaces (a : Inside) (rank : ℕ) (old new : Cell) : Type 0 where
   pub was : cell_in a.start a.cells.items rank ≡ old
   pub fits : Fits a.stake new
   pub keeps : Keeps old new
-  pub timely : SettlesTimely a.stake old new
+  pub timely : SettlesAtStake a.stake old new
   pub awaits : AwaitsNoMore old new
 
 pub replaces : (a : Inside) (part : Part) (rank : ℕ) (old new : Cell) → seen a ≡ part → InBlock part rank → old ≡ get_or a.cells.items (rank - a.start) old
-    → Fits a.stake new → Keeps old new → SettlesTimely a.stake old new → AwaitsNoMore old new → Replaces a rank old new
+    → Fits a.stake new → Keeps old new → SettlesAtStake a.stake old new → AwaitsNoMore old new → Replaces a rank old new
 replaces a part rank old new view held read fits keeps timely awaits =
     let here : InBlock (seen a) rank = subst (λ (o : Part). InBlock o rank) (sym view) held in
     record { held = here; was = get_or_default a.cells.items (rank - a.start) no_cell old here.1 ∙ sym read; fits = fits; keeps = keeps; timely = timely; awaits = awaits }

@@ -5,7 +5,7 @@ use Rattle.std.proofs.lemmas.List.{get_or_default}
 use Rattle.std.specs.Vec.{with_item}
 use Rattle.awari_block.specs.Blocks.{cell_in, no_cell, IsBlock}
 use Rattle.awari_block.specs.Boards.{CanPut, OpensCells, Settles}
-use Rattle.awari_block.specs.Cells.{is_settled, Fits, Keeps, SettlesTimely, view_of}
+use Rattle.awari_block.specs.Cells.{is_settled, Fits, Keeps, SettlesAtStake, view_of}
 use Rattle.awari_block.specs.Awaited.{AwaitsNoMore}
 use Rattle.awari_block.specs.Steps.{cell_after_opening}
 use Rattle.awari_block.proofs.Opening.{put_one}
@@ -25,7 +25,7 @@ with_index a index new lost won = record { start = a.start; stake = a.stake; cel
 -- what is read of one cell
 module _ (a : Inside) (part : Part) (view : seen a ≡ part) (index : ℕ) (old : Cell) (high : index < length a.cells.items) (read : old ≡ get_or a.cells.items index old) where
   -- a cell that may take its place
-  pub can_put : (new : Cell) → Fits a.stake new → Keeps old new → AwaitsNoMore old new → SettlesTimely a.stake old new → CanPut part (part.start + index) new
+  pub can_put : (new : Cell) → Fits a.stake new → Keeps old new → AwaitsNoMore old new → SettlesAtStake a.stake old new → CanPut part (part.start + index) new
   can_put new fits keeps awaits timely = subst (λ (o : Part). CanPut o (o.start + index) new) view (record {
     held = (omega arith, subst (λ i. i < length a.cells.items) (sym at) high);
     fits = fits;

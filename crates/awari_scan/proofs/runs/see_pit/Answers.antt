@@ -2,7 +2,7 @@ use Rattle.std.proofs.Common.{sym, subst, ◌∙◌, inl, inr}
 use Rattle.std.proofs.lemmas.Bool.{false≢true}
 use Rattle.awari_board.specs.Rules.{IsMove}
 use Rattle.awari_table.specs.Images.{table_of}
-use Rattle.awari_scan.proofs.Looks.{looked-illegal}
+use Rattle.awari_scan.proofs.Looks.{seen_illegal}
 use Rattle.awari_block.proofs.PitSets.{small_bit}
 use Rattle.awari_scan.proofs.RunMoves.{has_bit, lacks_bit}
 use Rattle.awari_scan.proofs.runs.see_pit.Goals as goal
@@ -16,7 +16,7 @@ pub returns-then-moves-pit-eq0 : goal.returns-then-moves-pit-eq0
 returns-then-moves-pit-eq0 c =
     let bit = small_bit c.args.pit c.requires.own in
     let seen = c.args.seen.now in
-    looked-illegal (table_of c.args.shelf.now).value c.args.board.now c.args.pit seen.quiet seen.best seen.plans c.requires.own
+    seen_illegal (table_of c.args.shelf.now).value c.args.board.now c.args.pit seen.quiet seen.best seen.plans c.requires.own
     (λ legal. elim (c.requires.moves.all c.args.pit c.requires.own legal) [
       | inl has ↦ false≢true (sym (lacks_bit c.args.moves.near c.args.pit _ bit c.if-moves-pit-ne0.false) ∙ has)
       | inr has ↦ false≢true (sym (lacks_bit c.args.moves.far c.args.pit _ bit c.if-moves-pit-eq0.true) ∙ has)
