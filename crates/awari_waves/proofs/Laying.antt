@@ -1,5 +1,5 @@
 -- What is laid for the blocks.
-use Rattle.std.proofs.Common.{◌≡◌, ◌≢◌, ℕ, zero, suc, ◌+◌, ◌/◌, ◌<◌, ◌≤◌, ◌==◌, Bool, true, false, cond, List, [], ◌∷◌, ◌++◌, length, get_or, take, drop, map, filter, sum, refl, sym, ap, subst, ◌∙◌, arith, append_assoc, append-nil, eqb-true}
+use Rattle.std.proofs.Common.{◌≡◌, ◌≢◌, ℕ, zero, suc, ◌+◌, ◌/◌, ◌<◌, ◌≤◌, ◌==◌, Bool, true, false, cond, List, [], ◌∷◌, ◌++◌, length, get_or, take, drop, map, filter, sum, refl, sym, ap, subst, ◌∙◌, arith, append_assoc, append-nil, eqb-true, set}
 use Rattle.std.proofs.lemmas.Bool.Decides.{nat_tests}
 use Rattle.std.proofs.lemmas.List.{length_push, take-append-drop}
 use Rattle.awari_board.specs.Rules.{IsBoard}
@@ -160,3 +160,9 @@ finds_taken level span n ranks kind found idle long finds = subst (λ (rows : Li
     taken [] (suc n) is = absurd (omega (arith, is))
     taken (row ∷ rows) zero is = absurd (omega (arith, is))
     taken (row ∷ rows) (suc n) is = ap (λ l. row ∷ l) (taken rows n (omega (arith, is)))
+
+-- the first row alone found them
+pub finds_first : (level span : ℕ) (ranks : List ℕ) (kind : Kind) (found idle : List Row) (row : Row) → length found ≡ 1 → FindsFor level span ranks (λ to. list_at (lists_by kind row) to)
+    → FindsFor level span ranks (notes_at kind (take 1 (set found 0 row ++ idle)))
+finds_first level span ranks kind [] idle row long finds = absurd (omega (arith, long))
+finds_first level span ranks kind (old ∷ found) idle row long finds = (finds.0, finds.1, λ to. append-nil _ ∙ finds.2 to)

@@ -190,3 +190,22 @@ IsNearest-at_once from parts k part o inside read far is has =
 
 pub read_part : (parts : List Part) (k : ℕ) (part : Part) → k < length parts → part ≡ get_or parts k part → part ≡ part_at parts k
 read_part parts k part inside read = read ∙ get_or_default parts k part no_part inside
+
+-- ---- no fresh board is nearer than the wave of its block
+
+-- of the blocks below k
+abbrev pub AreFromBelow : List Part → ℕ → Type 0
+AreFromBelow parts k = (i : ℕ) → i < k → AreFar (part_at parts i).fresh (part_at parts i).wave
+
+pub AreFromBelow-more : (parts : List Part) (k : ℕ) (part : Part) → part ≡ part_at parts k → AreFar part.fresh part.wave → AreFromBelow parts k → AreFromBelow parts (k + 1)
+AreFromBelow-more parts k part read far below i less = by (i == k) refl
+  where
+    differ : (a b : ℕ) → (a == b) ≡ false → a ≢ b
+    differ a b e = grind (arith, nat_tests)
+
+    by : (b : Bool) → (i == k) ≡ b → AreFar (part_at parts i).fresh (part_at parts i).wave
+    by true e = subst (λ n. AreFar (part_at parts n).fresh (part_at parts n).wave) (sym (eqb-true i k e)) (subst (λ (p : Part). AreFar p.fresh p.wave) read far)
+    by false e = let ne = differ i k e in below i (omega (arith, less, ne))
+
+pub AreFromBelow-end : (parts : List Part) (k wave : ℕ) → length parts ≤ k → ((i : ℕ) → i < length parts → (part_at parts i).wave ≡ wave) → AreFromBelow parts k → AreFrom wave parts
+AreFromBelow-end parts k wave end waves below i few = subst (λ w. AreFar (part_at parts i).fresh w) (waves i few) (below i (omega (arith, few, end)))

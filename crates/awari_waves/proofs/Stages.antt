@@ -2,10 +2,11 @@
 use Rattle.std.proofs.Common.{◌≡◌, ℕ, ◌+◌, ◌<◌, ◌≤◌, All, List, Vec, sym, subst, ◌∙◌, arith}
 use Rattle.std.specs.Vec.{with_items}
 use Rattle.std.proofs.lemmas.List.{get_or_default, with_items_is}
+use Rattle.awari_block.specs.Blocks.{Due, due_dist}
 use Rattle.awari_block.specs.Part.{Part, IsClosed}
 use Rattle.awari_block.specs.declared.stakes.Stake.{Stake}
 use Rattle.awari_heard.specs.Level.{no_part}
-use Rattle.awari_waves.specs.Each.{AreFrom, NoneAreFresh, CanOpen, CanOpenWave, Each}
+use Rattle.awari_waves.specs.Each.{AreFrom, NoneAreFresh, CanOpen, CanOpenWave, Each, PassesFirst, SameFresh}
 use Rattle.awari_waves.specs.Waves.{IsCut, IsPassed}
 
 -- the blocks that take the places of others are as many
@@ -29,3 +30,9 @@ module _ (stake : Stake) (span : ℕ) (parts : List Part) (grid : IsCut stake sp
   all_closed last idle i d h =
       let same = get_or_default parts i no_part d h in
       subst IsClosed same (grid.gain i h ∙ last, idle i h)
+
+-- what was so before the distance was opened is so after it
+pub passes_before : (dist : ℕ) (old mid new : List Part) → Each SameFresh old mid → PassesFirst dist mid new → PassesFirst dist old new
+passes_before dist old mid new same first i few before =
+    let many = same.blocks in
+    first i (omega (arith, few, many)) (λ j less. subst (λ fs. All (λ (f : Due). dist < due_dist f) fs) (sym (same.each j (omega (arith, less, few)))) (before j less))

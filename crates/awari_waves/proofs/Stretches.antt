@@ -56,10 +56,10 @@ module _ (value : List ℕ → ℤ) (n span : ℕ) where
   abbrev Nth : ℕ → Part → Type 0
   Nth k part = IsScannedPart value n (k * span) (min ((k + 1) * span) (size_of n)) part
 
-  pub from_one : (first count : ℕ) (part : Part) → 1 ≤ count → count < 2 → Nth first part → AreScannedFrom value n span first count (part ∷ [])
-  from_one first count part some few here = record {
-    blocks = omega (arith, some, few);
-    each = λ i h. let none : i ≡ 0 = omega (arith, h, few) in
+  from_one : (first : ℕ) (part : Part) → Nth first part → AreScannedFrom value n span first 1 (part ∷ [])
+  from_one first part here = record {
+    blocks = refl;
+    each = λ i h. let none : i ≡ 0 = omega (arith, h) in
         subst (λ j. Nth (first + j) (part_at (part ∷ []) j)) (sym none)
         (subst (λ j. Nth j part) (let e : first ≡ first + 0 = omega arith in e) here);
   }
@@ -84,6 +84,15 @@ module _ (value : List ℕ → ℤ) (n span : ℕ) where
   pub from_both : (first low high count : ℕ) (xs ys all : List Part) → low + high ≡ count → all ≡ xs ++ ys → AreScannedFrom value n span first low xs
       → AreScannedFrom value n span (first + low) high ys → AreScannedFrom value n span first count all
   from_both first low high count xs ys all whole are front back = subst (AreScannedFrom value n span first count) (sym are) (joined first low high count xs ys whole front back)
+
+  -- ---- one after the other
+
+  pub from_none : (first : ℕ) (parts : List Part) → parts ≡ [] → AreScannedFrom value n span first 0 parts
+  from_none first parts none = record { blocks = ap length none; each = λ i h. absurd (omega (arith, h)) }
+
+  pub from_more : (first count : ℕ) (parts all : List Part) (part : Part) → all ≡ parts ++ part ∷ [] → AreScannedFrom value n span first count parts → Nth (first + count) part
+      → AreScannedFrom value n span first (count + 1) all
+  from_more first count parts all part are before here = from_both first count 1 (count + 1) parts (part ∷ []) all refl are before (from_one (first + count) part here)
 
   -- ---- and stand behind the blocks before them
 

@@ -2,7 +2,7 @@
 use Rattle.std.proofs.Common.{◌^◌, ◌≡◌, ◌≢◌, ℕ, ◌+◌, ◌/◌, ◌<◌, ◌≤◌, ◌==◌, ◌⊎◌, inl, inr, Bool, true, false, List, [], ◌∷◌, ◌++◌, length, get_or, set, map, All, ℤ, pos, neg_ℤ, Some, refl, sym, ap, subst, subst₂, ◌∙◌, arith, eqb-true, append-nil, length-set, get_or-set_same, get_or-set_other}
 use Rattle.std.proofs.lemmas.Int.{ints}
 use Rattle.std.proofs.lemmas.List.Sorted.{All-permutation, IsPermutation-sym}
-use Rattle.awari_block.proofs.ListParts.{All-append_second}
+use Rattle.awari_block.proofs.ListParts.{All-append_first, All-append_second}
 use Rattle.std.proofs.lemmas.Bool.Decides.{nat_tests}
 use Rattle.std.proofs.lemmas.List.{get_or_default, length-map}
 use Rattle.awari_rank.specs.Rank.{rank_of, size_of}
@@ -16,6 +16,7 @@ use Rattle.awari_block.proofs.BlockLemmas.{one_if, times_due-cons, times_due-per
 use Rattle.awari_heard.specs.Heard.{Hears, IsSpread}
 use Rattle.awari_heard.specs.Level.{AreHeard, no_part, part_at}
 use Rattle.awari_waves.specs.Lists.{AreDistinct, In}
+use Rattle.awari_waves.specs.Each.{PassesFirst}
 use Rattle.awari_waves.specs.Fronts.{IsFront}
 use Rattle.awari_waves.specs.declared.chunks.Front.{Front}
 use Rattle.awari_waves.specs.Waves.{GivesFresh, IsCut, IsPassed, IsPending, IsWaving, SettlesAll, SpreadsChunk, value_of_kind, with_pending}
@@ -401,6 +402,32 @@ passed_by old mid new lost won one first fresh second j d h =
     clash : (g m : ℕ) → 1 ≤ g → m ≡ g → neg_ℤ (pos m) ≡ pos g → ⊥
     clash g m one is same = omega (arith, ints, one, is, same)
 
+-- a segment whose fresh boards are farther gives none
+pub none_given : (kind : Kind) (old new : Part) (given : List ℕ) → IsPassed old → GivesFresh kind old new given → (given ≡ []) × IsPassed new
+none_given kind old new given passed gives = (nothing given (All-append_first P (map (λ r. (old.wave, r)) given) new.fresh all), subst (λ w. All (λ (f : Due). w < due_dist f) new.fresh) (sym wave) (All-append_second P (map (λ r. (old.wave, r)) given) new.fresh all))
+  where
+    P : Due → Type 0
+    P f = old.wave < due_dist f
+
+    all : All P (map (λ r. (old.wave, r)) given ++ new.fresh)
+    all = All-permutation P old.fresh (map (λ r. (old.wave, r)) given ++ new.fresh) (IsPermutation-sym _ _ gives.moved) passed
+
+    wave : new.wave ≡ old.wave
+    wave = ap (λ (p : Part). p.wave) gives.rest
+
+    nothing : (given : List ℕ) → All P (map (λ r. (old.wave, r)) given) → given ≡ []
+    nothing [] far = refl
+    nothing (x ∷ given) far = let h = far 0 (0, 0) (omega arith) in absurd (omega (arith, h))
+
+-- and so none of either kind
+pub none_of_both : (now : List Part) (k : ℕ) (d e mid new : Part) (given more lost won lost' won' : List ℕ) → k < length now → lost' ≡ lost ++ given → won' ≡ won ++ more → IsPassed (part_at now k)
+    → GivesFresh Lost (get_or now k d) mid given → GivesFresh Won (get_or (set now k mid) k e) new more → (lost' ≡ lost) × (won' ≡ won)
+none_of_both now k d e mid new given more lost won lost' won' few is_lost is_won passed gives gives' =
+    let first = none_given Lost (get_or now k d) mid given (subst IsPassed (sym (get_or_default now k d no_part few)) passed) gives in
+    let read : get_or (set now k mid) k e ≡ mid = rw get_or-set_same refl in
+    let second = none_given Won mid new more first.1 (subst (λ (p : Part). GivesFresh Won p new more) read gives') in
+    (is_lost ∙ ap (λ xs. lost ++ xs) first.0 ∙ append-nil lost, is_won ∙ ap (λ xs. won ++ xs) second.0 ∙ append-nil won)
+
 pub waving_both : (stake : Stake) (span k : ℕ) (old now : List Part) (lost won : List ℕ) (d e mid new : Part) (given more lost' won' : List ℕ) → k < length now → lost' ≡ lost ++ given → won' ≡ won ++ more
     → 1 ≤ (get_or now k d).gain → GivesFresh Lost (get_or now k d) mid given → AreFresh (get_or now k d)
     → GivesFresh Won (get_or (set now k mid) k e) new more → AreFresh (get_or (set now k mid) k e)
@@ -443,6 +470,15 @@ waving_both stake span k old now lost won d e mid new given more lost' won' few 
 pub all_passed : (stake : Stake) (span k : ℕ) (old now : List Part) (lost won : List ℕ) → length now ≤ k → IsWaving stake span k old now lost won → All IsPassed now
 all_passed stake span k old now lost won end waving i d h =
     subst IsPassed (sym (get_or_default now i d no_part h)) (waving.passed i (omega (arith, h, end)) h)
+
+-- the first block that was not passed is so, if the blocks are gathered beyond it
+pub passes_first : (stake : Stake) (span next : ℕ) (old new : List Part) (lost won : List ℕ) → IsCut stake span old → IsWaving stake span next old new lost won
+    → ((i : ℕ) → i < length old → ((j : ℕ) → 0 ≤ j → j < i → IsPassed (part_at old j)) → i < next) → PassesFirst stake.wave old new
+passes_first stake span next old new lost won grid waving reached i few before =
+    let many = waving.blocks in
+    let inside : i < length new = omega (arith, few, many) in
+    subst (λ w. All (λ (f : Due). w < due_dist f) (part_at new i).fresh) (waving.grid.wave i inside)
+    (waving.passed i (reached i few (λ j low less. subst (λ w. All (λ (f : Due). w < due_dist f) (part_at old j).fresh) (sym (grid.wave j (omega (arith, less, few)))) (before j less))) inside)
 
 -- what stands at the start stands while the wave is spread
 pub front_still : (front : Front) (old now : List Part) (k : ℕ) (lost won : List ℕ) → IsFront front old → IsWaving front.stake (2 ^ front.log) k old now lost won → IsFront front now

@@ -21,6 +21,14 @@ NoneAreFresh parts = (i : ℕ) → i < length parts → (part_at parts i).fresh 
 abbrev pub AreFrom : ℕ → List Part → Type 0
 AreFrom dist parts = (i : ℕ) → i < length parts → All (λ f. dist ≤ due_dist f) (part_at parts i).fresh
 
+-- all fresh boards of the part are farther than this
+abbrev pub IsPast : ℕ → Part → Type 0
+IsPast dist part = All (λ f. dist < due_dist f) part.fresh
+
+-- the first of these blocks of which this does not hold is such afterwards, and so are those before it
+abbrev pub PassesFirst : ℕ → List Part → List Part → Type 0
+PassesFirst dist old new = (i : ℕ) → i < length old → ((j : ℕ) → j < i → IsPast dist (part_at old j)) → IsPast dist (part_at new i)
+
 -- some board of the part is fresh, and settled with this distance
 abbrev pub HasFresh : Part → ℕ → Type 0
 HasFresh part dist = (rank : ℕ) × (v : ℤ) × InBlock part rank × (settled_at part rank ≡ Some (v, dist)) × (0 < times_due part.fresh rank)
@@ -37,6 +45,10 @@ HasDue dist parts =
 pub record KeepsBoards (old new : Part) : Type 0 where
   pub block : SameBlock old new
   pub stays : KeepSettled old.start old.cells new.cells
+
+-- the same boards are fresh
+abbrev pub SameFresh : Part → Part → Type 0
+SameFresh old new = new.fresh ≡ old.fresh
 
 -- ---- a gain is opened
 

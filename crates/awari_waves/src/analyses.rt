@@ -6,27 +6,24 @@ ghost use Rattle.awari_block.specs.Part.{IsClosed};
 ghost use Rattle.awari_table.specs.Images.{table_of};
 ghost use Rattle.awari_table.specs.declared.TheConstants.{HIGHEST_LEVEL};
 ghost use Rattle.awari_heard.specs.Level.{AreHeard, AreWhole};
-ghost use Rattle.awari_waves.specs.Each.{AreFrom, Each, KeepsBoards, NoneAreFresh, HasDue};
+ghost use Rattle.awari_waves.specs.Each.{AreFrom, Each, KeepsBoards, NoneAreFresh, HasDue, PassesFirst, SameFresh};
 ghost use Rattle.awari_waves.specs.Fronts.{IsRoom};
 ghost use Rattle.awari_waves.specs.declared.chunks.Front.{Front as FrontView};
 
 use crate::chunks::{Chunk, Front, Room};
-use crate::dues::due_of;
+use crate::dues::{are_from_wave, due_of};
 use crate::lists::Row;
-use crate::openings::{open_gains, open_waves};
-use crate::scanning::{Cut, scanned_segments};
+use crate::openings::open_waves;
+use crate::scanning::scanned_segments;
 use crate::segments::Segment;
-use crate::waves::spread_wave;
+use crate::waves::{spread_some, spread_wave};
+use crate::workers::Workers;
 use awari_block::{ClosedPart, Stake};
 use awari_index::Index;
 use awari_rank::size;
 use awari_table::Shelf;
 use std::alloc::{AllocError, Global};
 use std::marker::Model;
-use std::thread::Threads;
-
-/// The most threads that share the work.
-const MOST_THREADS: usize = 64;
 
 /// A level of so many boards is cut into a few large segments: enough for four threads.
 const LARGE: u32 = 12 << 22;
@@ -52,14 +49,14 @@ impl Model for Analysis {
 }
 
 impl Analysis {
-    /// The shelf's next level with no gain open, to be built by so many threads. Condition: the shelf
+    /// The shelf's next level with no gain open, to be built by these workers. Condition: the shelf
     /// has at most `HIGHEST_LEVEL` levels. Refused only if memory runs out.
-    pub fn scan<R: Threads + Sync>(
-        rt: &R,
+    pub fn scan<W: Workers>(
+        workers: &W,
         alloc: Global,
         shelf: &Shelf,
-        threads: usize,
     ) -> Result<Analysis, AllocError>
+        requires ready { W.ready }
         requires low { length shelf.now ≤ HIGHEST_LEVEL }
         ensures level { IfOk result (λ all. all.level ≡ length shelf.now) }
         ensures gain { IfOk result (λ all. all.gain ≡ length shelf.now + 1) }
@@ -68,14 +65,9 @@ impl Analysis {
     {
         let level = shelf.levels();
         let log = log_of(size(level));
-        let threads = threads_of(threads);
         let index = Index::of(alloc, level)?;
-        let cut = Cut {
-            span: 1 << log,
-            threads,
-        };
-        let segments = scanned_segments(rt, alloc, shelf, &index, cut)?;
-        let room = room_for(alloc, index, threads)?;
+        let segments = scanned_segments(workers, alloc, shelf, &index, 1 << log)?;
+        let room = room_for(alloc, index, workers.threads())?;
         let stake = Stake {
             level,
             gain: level + 1,
@@ -139,7 +131,8 @@ impl Analysis {
     /// settled, and so become fresh; settled ones keep value and distance. Conditions: a greater gain
     /// than 1 is open, or none, and no board is fresh. Refused if memory for the fresh boards runs out;
     /// then the level is lost.
-    pub fn open_gain<R: Threads + Sync>(self, rt: &R) -> Result<Analysis, AllocError>
+    pub fn open_gain<W: Workers>(self, workers: &W) -> Result<Analysis, AllocError>
+        requires ready { W.ready }
         requires more { 2 ≤ self.gain }
         requires idle { NoneAreFresh self.parts }
         ensures level { IfOk result (λ after. after.level ≡ self.level) }
@@ -154,7 +147,7 @@ impl Analysis {
             room,
         } = self;
         let gain = front.stake.gain - 1;
-        open_gains(rt, room.rows.len(), gain, segments.as_mut_slice())?;
+        workers.open_gains(gain, segments.as_mut_slice())?;
         let stake = Stake {
             gain,
             wave: 0,
@@ -171,7 +164,8 @@ impl Analysis {
     /// Spreads all fresh boards of this distance, which is opened first if a smaller one is open. Settled
     /// boards keep value and distance. Conditions: a gain is open, the open wave is not greater, no fresh board is nearer, and the
     /// distance is below the greatest u32. Refused if memory runs out; then the level is lost.
-    pub fn spread<R: Threads + Sync>(self, rt: &R, dist: u32) -> Result<Analysis, AllocError>
+    pub fn spread<W: Workers>(self, workers: &W, dist: u32) -> Result<Analysis, AllocError>
+        requires ready { W.ready }
         requires opened { self.gain ≤ self.level }
         requires timely { self.wave ≤ dist }
         requires near { dist < 2 ^ 32 - 1 }
@@ -184,12 +178,74 @@ impl Analysis {
         ensures farther { IfOk result (λ after. AreFrom (dist + 1) after.parts) }
     {
         let opened = self.at_distance(dist);
-        let after = opened.spread_open(rt)?;
+        let after = opened.spread_open(workers)?;
         Ok(after)
     }
 
+    /// Spreads fresh boards of this distance, which is opened first if a smaller one is open. It spreads
+    /// on until so many that are lost are spread, or so many that are won, or all. Those of a segment are
+    /// spread together. Settled boards keep value and distance. Conditions: as for `spread`. Refused if
+    /// memory runs out; then the level is lost.
+    pub fn spread_some<W: Workers>(
+        self,
+        workers: &W,
+        dist: u32,
+        boards: usize,
+    ) -> Result<Analysis, AllocError>
+        requires ready { W.ready }
+        requires opened { self.gain ≤ self.level }
+        requires timely { self.wave ≤ dist }
+        requires near { dist < 2 ^ 32 - 1 }
+        requires far { AreFrom dist self.parts }
+        ensures level { IfOk result (λ after. after.level ≡ self.level) }
+        ensures gain { IfOk result (λ after. after.gain ≡ self.gain) }
+        ensures wave { IfOk result (λ after. after.wave ≡ dist) }
+        ensures heard { IfOk result (λ after. (value : List ℕ → ℤ) → AreHeard value self.parts → AreHeard value after.parts) }
+        ensures stays { IfOk result (λ after. Each KeepsBoards self.parts after.parts) }
+        ensures from { IfOk result (λ after. AreFrom dist after.parts) }
+
+        // So calls that go on with what the last one gave come to an end.
+        ensures first { IfOk result (λ after. PassesFirst dist self.parts after.parts) }
+    {
+        let opened = self.at_distance(dist);
+        let after = opened.spread_some_open(workers, boards)?;
+        Ok(after)
+    }
+
+    /// Spreads so many fresh boards of the open wave.
+    fn spread_some_open<W: Workers>(
+        self,
+        workers: &W,
+        boards: usize,
+    ) -> Result<Analysis, AllocError>
+        requires ready { W.ready }
+        requires opened { self.gain ≤ self.level }
+        requires near { self.wave < 2 ^ 32 - 1 }
+        ensures level { IfOk result (λ after. after.level ≡ self.level) }
+        ensures gain { IfOk result (λ after. after.gain ≡ self.gain) }
+        ensures wave { IfOk result (λ after. after.wave ≡ self.wave) }
+        ensures heard { IfOk result (λ after. (value : List ℕ → ℤ) → AreHeard value self.parts → AreHeard value after.parts) }
+        ensures stays { IfOk result (λ after. Each KeepsBoards self.parts after.parts) }
+        ensures from { IfOk result (λ after. AreFrom self.wave after.parts) }
+        ensures first { IfOk result (λ after. PassesFirst self.wave self.parts after.parts) }
+    {
+        let Analysis {
+            front,
+            mut segments,
+            mut room,
+        } = self;
+        spread_some(workers, front, boards, &mut room, segments.as_mut_slice())?;
+        are_from_wave(front.stake.wave, segments.as_slice());
+        Ok(Analysis {
+            front,
+            segments,
+            room,
+        })
+    }
+
     /// Spreads all fresh boards of the open wave.
-    fn spread_open<R: Threads + Sync>(self, rt: &R) -> Result<Analysis, AllocError>
+    fn spread_open<W: Workers>(self, workers: &W) -> Result<Analysis, AllocError>
+        requires ready { W.ready }
         requires opened { self.gain ≤ self.level }
         requires near { self.wave < 2 ^ 32 - 1 }
         ensures level { IfOk result (λ after. after.level ≡ self.level) }
@@ -204,7 +260,7 @@ impl Analysis {
             mut segments,
             mut room,
         } = self;
-        spread_wave(rt, front, &mut room, segments.as_mut_slice())?;
+        spread_wave(workers, front, &mut room, segments.as_mut_slice())?;
         Ok(Analysis {
             front,
             segments,
@@ -221,6 +277,7 @@ impl Analysis {
         ensures wave { result.wave ≡ dist }
         ensures heard { (value : List ℕ → ℤ) → AreHeard value self.parts → AreHeard value result.parts }
         ensures stays { Each KeepsBoards self.parts result.parts }
+        ensures fresh { Each SameFresh self.parts result.parts }
     {
         if dist <= self.front.stake.wave {
             return self;
@@ -289,19 +346,12 @@ fn log_of(boards: u32) -> u32
     (boards / 48).max(1).ilog2().clamp(12, 18)
 }
 
-/// How many threads share the work: as many as are wanted, if they are not too many.
-fn threads_of(threads: usize) -> u32
-    ensures { 1 ≤ result }
-{
-    threads.clamp(1, MOST_THREADS) as u32
-}
-
 /// Room to spread the boards of the index's level, for so many threads.
-fn room_for(alloc: Global, index: Index, threads: u32) -> Result<Room, AllocError>
+fn room_for(alloc: Global, index: Index, threads: usize) -> Result<Room, AllocError>
     requires { 1 ≤ threads }
     ensures { IfOk result (λ room. (front : FrontView) → front.stake.level ≡ index → IsRoom front room) }
 {
-    let rows = rows(alloc, threads as usize)?;
+    let rows = rows(alloc, threads)?;
     let chunk = Chunk {
         lost: Vec::new(alloc),
         won: Vec::new(alloc),

@@ -11,11 +11,12 @@ ghost use Rattle.awari_waves.specs.Waves.{CanFind, CanAllHear, FindsFor, HearsFr
 use crate::finding::find;
 use crate::lists::{Lists, Row};
 use crate::segments::Segment;
+use crate::workers::Workers;
 use awari_block::Stake;
 use awari_board::moves_keep_boards;
 use awari_index::Index;
-use awari_scan::MOST_PREDECESSORS;
 use awari_rank::ranks_tell_boards_apart;
+use awari_scan::MOST_PREDECESSORS;
 use rayon::join_mut;
 use std::alloc::AllocError;
 use std::thread::Threads;
@@ -50,21 +51,22 @@ pub struct Room {
 /// What a search goes by: the boards of the level by rank, and how many boards a segment has, as a
 /// power of two.
 #[derive(Clone, Copy)]
-struct Finder<'a> {
-    index: &'a Index,
-    log: u32,
+pub struct Finder<'a> {
+    pub index: &'a Index,
+    pub log: u32,
 }
 
 /// Spreads the boards of the chunk, which are of the open gain and wave and were taken from the
 /// fresh ones of the segments. Their notes are found first, each row by a thread, and laid into a
 /// list for each segment. Then they are heard, each segment by one thread. Refused if memory runs
 /// out; then the level is lost.
-pub fn spread_chunk<R: Threads + Sync>(
-    rt: &R,
+pub fn spread_chunk<W: Workers>(
+    workers: &W,
     front: Front,
     room: &mut Room,
     segments: &mut [Segment],
 ) -> Result<(), AllocError>
+    requires ready { W.ready }
     requires front { IsFront front segments.old }
     requires room { IsRoom front room.old }
     requires pending { ArePending front segments.old room.old.chunk }
@@ -75,19 +77,18 @@ pub fn spread_chunk<R: Threads + Sync>(
 {
     ranks_tell_boards_apart();
     moves_keep_boards();
-    let threads = threads_for(&room.chunk, room.rows.len());
     let finder = Finder {
         index: &room.index,
         log: front.log,
     };
-    find_chunk(rt, finder, &room.chunk, threads, room.rows.as_mut_slice())?;
-    let rows = &room.rows.as_slice()[..threads];
-    hear_in_threads(rt, threads, 0, rows, segments)?;
+    let found = workers.find_chunk(finder, &room.chunk, room.rows.as_mut_slice())?;
+    let rows = &room.rows.as_slice()[..found];
+    workers.hear_rows(rows, segments)?;
     Ok(())
 }
 
 /// How many threads the chunk is worth, of so many that there are.
-fn threads_for(chunk: &Chunk, threads: usize) -> usize
+pub fn threads_for(chunk: &Chunk, threads: usize) -> usize
     requires { 1 ≤ threads }
     ensures { (1 ≤ result) × (result ≤ threads) }
 {
@@ -95,37 +96,25 @@ fn threads_for(chunk: &Chunk, threads: usize) -> usize
     (boards / BOARDS_A_THREAD).clamp(1, threads)
 }
 
-/// Finds the notes of the chunk. So many of the rows have them.
-fn find_chunk<R: Threads + Sync>(
-    rt: &R,
-    finder: Finder<'_>,
-    chunk: &Chunk,
-    threads: usize,
-    rows: &mut [Row],
-) -> Result<(), AllocError>
-    requires lost { CanFind finder.index.now (2 ^ finder.log) chunk.now.lost.items threads }
-    requires won { CanFind finder.index.now (2 ^ finder.log) chunk.now.won.items threads }
+/// Finds the notes of the chunk for the first row.
+pub fn find_first(finder: Finder<'_>, chunk: &Chunk, rows: &mut [Row]) -> Result<(), AllocError>
+    requires lost { CanFind finder.index.now (2 ^ finder.log) chunk.now.lost.items (length rows.old) }
+    requires won { CanFind finder.index.now (2 ^ finder.log) chunk.now.won.items (length rows.old) }
     requires log { finder.log < 32 }
-    requires threads { threads ≤ length rows.old }
-    ensures lost { OnOk result (FindsFor finder.entry.index.now (2 ^ finder.entry.log) chunk.now.lost.items (notes_at Lost (take threads rows.new))) }
-    ensures won { OnOk result (FindsFor finder.entry.index.now (2 ^ finder.entry.log) chunk.now.won.items (notes_at Won (take threads rows.new))) }
+    ensures lost { OnOk result (FindsFor finder.entry.index.now (2 ^ finder.entry.log) chunk.now.lost.items (notes_at Lost (take 1 rows.new))) }
+    ensures won { OnOk result (FindsFor finder.entry.index.now (2 ^ finder.entry.log) chunk.now.won.items (notes_at Won (take 1 rows.new))) }
     ensures rows { length rows.new ≡ length rows.old }
 {
-    let (found, _idle) = rows.split_at_mut(threads);
-    find_in_threads(
-        rt,
-        finder,
-        chunk.lost.as_slice(),
-        chunk.won.as_slice(),
-        found,
-    )?;
+    let (found, _idle) = rows.split_at_mut(1);
+    let (lost, won) = (chunk.lost.as_slice(), chunk.won.as_slice());
+    find_row(finder, lost, won, &mut found[0])?;
     Ok(())
 }
 
 /// Finds the notes of these boards. Each row gets those of as many boards, by a thread of its own, and
 /// this thread finds the last one.
 #[cycle(searches)]
-fn find_in_threads<R: Threads + Sync>(
+pub fn find_in_threads<R: Threads + Sync>(
     rt: &R,
     finder: Finder<'_>,
     lost: &[u32],
@@ -190,7 +179,7 @@ fn find_lists(finder: Finder<'_>, ranks: &[u32], lists: &mut Lists) -> Result<()
 /// The segments, the first of them segment `first`, hear what the rows have for them. So many threads
 /// share the notes, and this thread takes the last segments.
 #[cycle(hearings)]
-fn hear_in_threads<R: Threads + Sync>(
+pub fn hear_in_threads<R: Threads + Sync>(
     rt: &R,
     threads: usize,
     first: usize,
@@ -264,7 +253,7 @@ fn notes_for(rows: &[Row], number: usize) -> usize {
 }
 
 /// One segment after the other hears what the rows have for it.
-fn hear_all(first: usize, rows: &[Row], segments: &mut [Segment]) -> Result<(), AllocError>
+pub fn hear_all(first: usize, rows: &[Row], segments: &mut [Segment]) -> Result<(), AllocError>
     requires can { CanAllHear first (notes_at Lost rows.now) (notes_at Won rows.now) segments.old }
     ensures heard { OnOk result (HearsFrom first (notes_at Lost rows.now) (notes_at Won rows.now) segments.old segments.new) }
 {

@@ -1,6 +1,7 @@
 //! Which distance is due: the least of a fresh board.
 
-ghost use Rattle.std.specs.Prelude.{◌≡◌, ◌≤◌, IfNone, IfSome};
+ghost use Rattle.std.specs.Prelude.{◌≡◌, ℕ, ◌<◌, ◌≤◌, IfNone, IfSome, length};
+ghost use Rattle.awari_heard.specs.Level.{part_at};
 ghost use Rattle.awari_waves.specs.Each.{AreFrom, NoneAreFresh, HasDue, nearer_of};
 
 use crate::segments::Segment;
@@ -22,6 +23,16 @@ pub fn due_of(segments: &[Segment], from: u32) -> Option<u32>
         least = nearer(least, found);
     }
     least
+}
+
+/// No fresh board of these segments is nearer than the wave that is open in each of them.
+pub fn are_from_wave(wave: u32, segments: &[Segment])
+    requires { (i : ℕ) → i < length segments.now → (part_at segments.now i).wave ≡ wave }
+    ensures { AreFrom wave segments.now }
+{
+    for segment in segments {
+        let _ = segment.wave();
+    }
 }
 
 /// The nearer of two distances, if there is one.

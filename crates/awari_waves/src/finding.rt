@@ -10,8 +10,8 @@ ghost use Rattle.awari_waves.specs.Waves.{Finds};
 use crate::lists::Lists;
 use awari_board::moves_keep_boards;
 use awari_index::Index;
-use awari_scan::find_all;
 use awari_packed::PackedBoard;
+use awari_scan::find_all;
 use std::alloc::AllocError;
 
 /// How many boards are looked up at a time. Processors wait for fewer reads than this at a time.

@@ -1,4 +1,5 @@
-//! A level that is built in segments, which threads scan, open and spread side by side.
+//! A level that is built in segments, by one thread or by several that scan, open and spread them side
+//! by side.
 //!
 //! An [`Analysis`] is a level in work. Its boards are cut into segments of one length, and the fresh
 //! boards of a distance are spread a chunk after the other. The notes of a chunk are found first: each
@@ -8,10 +9,13 @@
 //! board, for fresh boards and for notes. They are refused only if that runs out; then the level is
 //! lost.
 //!
+//! [`Workers`] says who works: [`Alone`] needs no handle and starts no thread, and [`Together`] has a
+//! handle and starts some. The clauses are the same for both.
+//!
 //! Level 0, of which no gain is opened, in `crates/awari_owner_tests/src/examples.rt`:
 //!
 //!     fn level_0_needs_no_gain(rt: HostRuntime) -> Result<(), Fail> {
-//!         let analysis = Analysis::scan(&rt, rt.alloc(), &Shelf::empty(), 1)?;
+//!         let analysis = Analysis::scan(&Alone, rt.alloc(), &Shelf::empty())?;
 //!         let standing = (analysis.gain(), analysis.due(0));
 //!         expect_equal(&rt, "gain and due", standing, (1, None));
 //!         let parts = analysis.close(rt.alloc())?;
@@ -29,5 +33,7 @@ mod openings;
 mod scanning;
 mod segments;
 mod waves;
+mod workers;
 
 pub use analyses::Analysis;
+pub use workers::{Alone, Together, Workers};

@@ -12,7 +12,7 @@ use std::thread::Threads;
 /// Opens the next smaller gain in all segments, which so many threads share. This thread takes the last
 /// ones. Refused if memory for the fresh boards runs out; then the level is lost.
 #[cycle(openings)]
-pub fn open_gains<R: Threads + Sync>(
+pub fn open_in_threads<R: Threads + Sync>(
     rt: &R,
     threads: usize,
     gain: u8,
@@ -32,11 +32,11 @@ pub fn open_gains<R: Threads + Sync>(
         &mut ||
             requires { IsSync R.row × CanOpen gain low.now }
             ensures { OnOk result (Each (OpensSegment gain) low.entry.now low.exit.now) }
-        { open_gains(rt, 1, gain, low) },
+        { open_in_threads(rt, 1, gain, low) },
         &mut ||
             requires { IsSync R.row × CanOpen gain high.now }
             ensures { OnOk result (Each (OpensSegment gain) high.entry.now high.exit.now) }
-        { open_gains(rt, fewer, gain, high) },
+        { open_in_threads(rt, fewer, gain, high) },
     );
     low_done?;
     high_done?;
@@ -44,7 +44,7 @@ pub fn open_gains<R: Threads + Sync>(
 }
 
 /// Opens the next smaller gain in one segment after the other.
-fn open_all(gain: u8, segments: &mut [Segment]) -> Result<(), AllocError>
+pub fn open_all(gain: u8, segments: &mut [Segment]) -> Result<(), AllocError>
     requires can { CanOpen gain segments.old }
     ensures opened { OnOk result (Each (OpensSegment gain) segments.old segments.new) }
 {

@@ -11,60 +11,63 @@ ghost use Rattle.awari_waves.specs.Scanned.{AreScannedFrom, CanScanFrom, IsScann
 ghost use Rattle.awari_waves.specs.Waves.{IsCut};
 
 use crate::segments::Segment;
+use crate::workers::Workers;
 use awari_index::Index;
-use awari_scan::scanned_cells;
 use awari_rank::size;
+use awari_scan::scanned_cells;
 use awari_table::Shelf;
 use std::alloc::{AllocError, Global};
 use std::thread::{Threads, join};
 
-/// How many boards a segment has, and how many threads scan one each.
-#[derive(Clone, Copy)]
-pub struct Cut {
-    pub span: u32,
-    pub threads: u32,
-}
-
 /// Segments of a level by number, from number `first` on. Each has `span` boards, the last one of the
 /// level fewer.
 #[derive(Clone, Copy)]
-struct Stretch {
-    span: u32,
-    first: u32,
-    count: u32,
+pub struct Stretch {
+    pub span: u32,
+    pub first: u32,
+    pub count: u32,
 }
 
-/// The boards of the shelf's next level in order of rank, so many in each segment and fewer in the last,
-/// with no gain open and none of them fresh. Conditions: the shelf has at most `HIGHEST_LEVEL` levels,
-/// the index is that of its next level, and neither number of the cut is 0. Refused only if memory runs
-/// out.
-pub fn scanned_segments<R: Threads + Sync>(
-    rt: &R,
+/// The boards of the shelf's next level in order of rank, `span` in each segment and fewer in the last,
+/// with no gain open and none of them fresh. As many segments are scanned at once as threads share the
+/// work. Conditions: the shelf has at most `HIGHEST_LEVEL` levels, the index is that of its next level,
+/// and the span is not 0. Refused only if memory runs out.
+pub fn scanned_segments<W: Workers>(
+    workers: &W,
     alloc: Global,
     shelf: &Shelf,
     index: &Index,
-    cut: Cut,
+    span: u32,
 ) -> Result<Vec<Segment>, AllocError>
+    requires ready { W.ready }
     requires low { length shelf.now ≤ HIGHEST_LEVEL }
     requires level { index.now ≡ length shelf.now }
-    requires some { (0 < cut.span) × (1 ≤ cut.threads) }
-    ensures grid { IfOk result (λ segments. IsCut (record { level = length shelf.now; gain = length shelf.now + 1; wave = 0 }) cut.span segments.items) }
+    requires some { 0 < span }
+    ensures grid { IfOk result (λ segments. IsCut (record { level = length shelf.now; gain = length shelf.now + 1; wave = 0 }) span segments.items) }
     ensures whole { IfOk result (λ segments. AreWhole (length shelf.now) segments.items) }
     ensures idle { IfOk result (λ segments. NoneAreFresh segments.items) }
     ensures heard { IfOk result (λ segments. AreHeard (table_of shelf.now).value segments.items) }
     ensures numbers { IfOk result (λ segments. (1 ≤ vec_len segments) × (vec_len segments < 2 ^ 32)) }
 {
-    let Cut { span, threads } = cut;
     let number = segments_in(size(shelf.levels()), span);
     let mut segments = Vec::new(alloc);
     let mut first: u32 = 0;
     while first < number {
-        let count = threads.min(number - first);
-        let mut found = scan_stretch(rt, alloc, shelf, index, Stretch { span, first, count })?;
+        let count = at_once(workers, number - first);
+        let stretch = Stretch { span, first, count };
+        let mut found = workers.scan_stretch(alloc, shelf, index, stretch)?;
         segments.append(&mut found)?;
         first += count;
     }
     Ok(segments)
+}
+
+/// How many of so many segments are scanned at once.
+fn at_once<W: Workers>(workers: &W, segments: u32) -> u32
+    requires { 1 ≤ segments }
+    ensures { (1 ≤ result) × (result ≤ segments) }
+{
+    workers.threads().min(segments as usize) as u32
 }
 
 /// How many segments of so many boards have all these boards.
@@ -78,7 +81,7 @@ fn segments_in(boards: u32, span: u32) -> u32
 
 /// The segments of the stretch, each scanned by a thread of its own, and the last one by this thread.
 #[cycle(stretches)]
-fn scan_stretch<R: Threads + Sync>(
+pub fn scan_in_threads<R: Threads + Sync>(
     rt: &R,
     alloc: Global,
     shelf: &Shelf,
@@ -90,7 +93,7 @@ fn scan_stretch<R: Threads + Sync>(
     ensures { IfOk result (λ segments. AreScannedFrom (table_of shelf.now).value (length shelf.now) stretch.span stretch.first stretch.count segments.items) }
 {
     if stretch.count < 2 {
-        return scan_one(alloc, shelf, index, stretch);
+        return scan_all(alloc, shelf, index, stretch);
     }
     let low = Stretch {
         count: 1,
@@ -106,11 +109,11 @@ fn scan_stretch<R: Threads + Sync>(
         || -> Result<Vec<Segment>, AllocError>
             requires { IsSync R.row × CanScanFrom (length shelf.now) low.span low.first low.count × (index.now ≡ length shelf.now) }
             ensures { IfOk result (λ segments. AreScannedFrom (table_of shelf.entry.now).value (length shelf.entry.now) low.span low.first low.count segments.items) }
-        { scan_stretch(rt, alloc, shelf, index, low) },
+        { scan_in_threads(rt, alloc, shelf, index, low) },
         || -> Result<Vec<Segment>, AllocError>
             requires { IsSync R.row × CanScanFrom (length shelf.now) high.span high.first high.count × (index.now ≡ length shelf.now) }
             ensures { IfOk result (λ segments. AreScannedFrom (table_of shelf.entry.now).value (length shelf.entry.now) high.span high.first high.count segments.items) }
-        { scan_stretch(rt, alloc, shelf, index, high) },
+        { scan_in_threads(rt, alloc, shelf, index, high) },
     );
     let mut all = low_done?;
     let mut rest = high_done?;
@@ -118,8 +121,8 @@ fn scan_stretch<R: Threads + Sync>(
     Ok(all)
 }
 
-/// The one segment of a stretch of one.
-fn scan_one(
+/// The segments of the stretch, scanned one after the other.
+pub fn scan_all(
     alloc: Global,
     shelf: &Shelf,
     index: &Index,
@@ -127,12 +130,14 @@ fn scan_one(
 ) -> Result<Vec<Segment>, AllocError>
     requires can { CanScanFrom (length shelf.now) stretch.span stretch.first stretch.count }
     requires level { index.now ≡ length shelf.now }
-    requires one { stretch.count < 2 }
     ensures { IfOk result (λ segments. AreScannedFrom (table_of shelf.now).value (length shelf.now) stretch.span stretch.first stretch.count segments.items) }
 {
-    let segment = numbered_segment(alloc, shelf, index, stretch.span, stretch.first)?;
     let mut segments = Vec::new(alloc);
-    segments.push(segment)?;
+    for k in 0..stretch.count {
+        let number = stretch.first + k;
+        let segment = numbered_segment(alloc, shelf, index, stretch.span, number)?;
+        segments.push(segment)?;
+    }
     Ok(segments)
 }
 

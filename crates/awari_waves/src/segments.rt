@@ -150,6 +150,14 @@ impl Segment {
         nearer(self.lost.first_from(from), self.won.first_from(from))
     }
 
+    /// The open wave, and no fresh board is nearer.
+    pub fn wave(&self) -> u32
+        ensures wave { result ≡ self.now.wave }
+        ensures from { All (λ f. self.now.wave ≤ due_dist f) self.now.fresh }
+    {
+        self.stake.wave
+    }
+
     /// How many boards are settled and were spread.
     pub fn boards_spread(&self) -> usize
         ensures count { result ≡ spread_of self.now }

@@ -1,30 +1,31 @@
 //! A wave: all fresh boards of the open wave are spread, a chunk after the other.
 
-ghost use Rattle.std.specs.Prelude.{◌≡◌, ℕ, ℤ, ◌+◌, ◌^◌, ◌<◌, [], List, All, OnOk, length};
+ghost use Rattle.std.specs.Prelude.{◌≡◌, ◌≢◌, ℕ, ℤ, ◌+◌, ◌^◌, ◌<◌, ◌≤◌, [], List, All, IfOk, IsTrue, OnOk, length};
 ghost use Rattle.awari_block.specs.Part.{Part as PartView};
 ghost use Rattle.awari_block.specs.declared.stakes.Stake.{Stake as StakeView};
-ghost use Rattle.awari_heard.specs.Level.{AreHeard};
-ghost use Rattle.awari_waves.specs.Each.{Each, KeepsBoards};
+ghost use Rattle.awari_heard.specs.Level.{AreHeard, part_at};
+ghost use Rattle.awari_waves.specs.Each.{Each, KeepsBoards, PassesFirst};
 ghost use Rattle.awari_waves.specs.Fronts.{ArePending, IsFront, IsRoom};
 ghost use Rattle.awari_waves.specs.Waves.{IsPassed, IsWaving};
 
 use crate::chunks::{Chunk, Front, Room, spread_chunk};
 use crate::segments::Segment;
+use crate::workers::Workers;
 use awari_block::Kind;
 use std::alloc::AllocError;
-use std::thread::Threads;
 
 /// A chunk is spread once it has as many boards of a kind.
 const CHUNK: usize = 262144;
 
 /// Spreads the fresh boards of the open wave, of all segments. Those of a chunk are moved into
 /// the room. Refused if memory runs out; then the level is lost.
-pub fn spread_wave<R: Threads + Sync>(
-    rt: &R,
+pub fn spread_wave<W: Workers>(
+    workers: &W,
     front: Front,
     room: &mut Room,
     segments: &mut [Segment],
 ) -> Result<(), AllocError>
+    requires ready { W.ready }
     requires front { IsFront front segments.old }
     requires room { IsRoom front room.old }
     ensures heard { OnOk result ((value : List ℕ → ℤ) → AreHeard value segments.old → AreHeard value segments.new) }
@@ -35,17 +36,77 @@ pub fn spread_wave<R: Threads + Sync>(
 {
     room.chunk.lost.clear();
     room.chunk.won.clear();
-    for k in 0..segments.len() {
-        give(k, &mut room.chunk, segments)?;
-        spread_full(rt, front, room, segments)?;
+    let mut from: usize = 0;
+    while from < segments.len() {
+        from = gather(from, CHUNK, &mut room.chunk, segments)?;
+        spread(workers, front, room, segments)?;
     }
-    spread(rt, front, room, segments)?;
     Ok(())
+}
+
+/// Spreads fresh boards of the open wave, until so many of a kind are, or all. Those of a segment that
+/// are of a kind are spread together. Refused if memory runs out; then the level is lost.
+pub fn spread_some<W: Workers>(
+    workers: &W,
+    front: Front,
+    boards: usize,
+    room: &mut Room,
+    segments: &mut [Segment],
+) -> Result<(), AllocError>
+    requires ready { W.ready }
+    requires front { IsFront front segments.old }
+    requires room { IsRoom front room.old }
+    ensures heard { OnOk result ((value : List ℕ → ℤ) → AreHeard value segments.old → AreHeard value segments.new) }
+    ensures first { OnOk result (PassesFirst front.stake.wave segments.old segments.new) }
+    ensures front { OnOk result (IsFront front segments.new) }
+    ensures same { OnOk result (Each KeepsBoards segments.old segments.new) }
+    ensures room { OnOk result (IsRoom front room.new) }
+{
+    room.chunk.lost.clear();
+    room.chunk.won.clear();
+    gather(0, boards.max(1), &mut room.chunk, segments)?;
+    spread(workers, front, room, segments)?;
+    Ok(())
+}
+
+/// Moves those of the segments from this number on into the chunk, until it has so many of a kind. The
+/// result is the number of the next segment.
+fn gather(
+    from: usize,
+    most: usize,
+    chunk: &mut Chunk,
+    segments: &mut [Segment],
+) -> Result<usize, AllocError>
+    requires inside { from ≤ length segments.old }
+    ensures next { IfOk result (λ next. (from < length segments.old → from < next) × (next ≤ length segments.old)) }
+    ensures blocks { OnOk result (length segments.new ≡ length segments.old) }
+    ensures first { IfOk result (λ next. 1 ≤ most → chunk.old.lost.items ≡ [] → chunk.old.won.items ≡ [] → (i : ℕ) → i < length segments.old
+        → ((j : ℕ) → from ≤ j → j < i → IsPassed (part_at segments.old j)) → i < next) }
+    ensures waving { IfOk result (λ next. (stake : StakeView) (span : ℕ) (old : List PartView) → IsWaving stake span from old segments.old chunk.old.lost.items chunk.old.won.items
+        → IsWaving stake span next old segments.new chunk.new.lost.items chunk.new.won.items) }
+{
+    for k in from..segments.len() {
+        give(k, chunk, segments)?;
+        if is_full(chunk, most) {
+            return Ok(k + 1);
+        }
+    }
+    Ok(segments.len())
+}
+
+/// Whether the chunk has so many of a kind.
+fn is_full(chunk: &Chunk, most: usize) -> bool
+    ensures { IsTrue result → most ≤ length chunk.now.lost.items + length chunk.now.won.items }
+{
+    chunk.lost.len() >= most || chunk.won.len() >= most
 }
 
 /// Moves those of this segment into the chunk.
 fn give(k: usize, chunk: &mut Chunk, segments: &mut [Segment]) -> Result<(), AllocError>
     requires inside { k < length segments.old }
+    ensures blocks { OnOk result (length segments.new ≡ length segments.old) }
+    ensures others { (i : ℕ) → i ≢ k → part_at segments.new i ≡ part_at segments.old i }
+    ensures none { OnOk result (IsPassed (part_at segments.old k) → (chunk.new.lost.items ≡ chunk.old.lost.items) × (chunk.new.won.items ≡ chunk.old.won.items)) }
     ensures waving { OnOk result ((stake : StakeView) (span : ℕ) (old : List PartView) → IsWaving stake span k old segments.old chunk.old.lost.items chunk.old.won.items
         → IsWaving stake span (k + 1) old segments.new chunk.new.lost.items chunk.new.won.items) }
 {
@@ -55,12 +116,13 @@ fn give(k: usize, chunk: &mut Chunk, segments: &mut [Segment]) -> Result<(), All
 }
 
 /// Spreads the chunk, which is empty then.
-fn spread<R: Threads + Sync>(
-    rt: &R,
+fn spread<W: Workers>(
+    workers: &W,
     front: Front,
     room: &mut Room,
     segments: &mut [Segment],
 ) -> Result<(), AllocError>
+    requires ready { W.ready }
     requires front { IsFront front segments.old }
     requires room { IsRoom front room.old }
     requires pending { ArePending front segments.old room.old.chunk }
@@ -69,29 +131,8 @@ fn spread<R: Threads + Sync>(
     ensures empty { OnOk result ((room.new.chunk.lost.items ≡ []) × (room.new.chunk.won.items ≡ [])) }
     ensures room { OnOk result (IsRoom front room.new) }
 {
-    spread_chunk(rt, front, room, segments)?;
+    spread_chunk(workers, front, room, segments)?;
     room.chunk.lost.clear();
     room.chunk.won.clear();
-    Ok(())
-}
-
-/// Spreads the chunk if it has boards enough.
-fn spread_full<R: Threads + Sync>(
-    rt: &R,
-    front: Front,
-    room: &mut Room,
-    segments: &mut [Segment],
-) -> Result<(), AllocError>
-    requires front { IsFront front segments.old }
-    requires room { IsRoom front room.old }
-    requires pending { ArePending front segments.old room.old.chunk }
-    ensures waving { OnOk result ((old : List PartView) (k : ℕ) → IsWaving front.stake (2 ^ front.log) k old segments.old room.old.chunk.lost.items room.old.chunk.won.items
-        → IsWaving front.stake (2 ^ front.log) k old segments.new room.new.chunk.lost.items room.new.chunk.won.items) }
-    ensures room { OnOk result (IsRoom front room.new) }
-{
-    if room.chunk.lost.len() < CHUNK && room.chunk.won.len() < CHUNK {
-        return Ok(());
-    }
-    spread(rt, front, room, segments)?;
     Ok(())
 }

@@ -1,8 +1,9 @@
-use Rattle.std.proofs.Common.{◌^◌, ◌≡◌, sym, subst}
+use Rattle.std.proofs.Common.{◌^◌, ◌≡◌, ap, refl, sym, subst}
 use Rattle.std.specs.Vec.{with_items}
+use Rattle.awari_block.specs.Part.{Part}
 use Rattle.awari_heard.specs.Level.{AreHeard, AreWhole}
 use Rattle.awari_waves.specs.Analyses.{AnalysisView}
-use Rattle.awari_waves.specs.Each.{AreFrom, Each, IsAtWave, KeepsBoards}
+use Rattle.awari_waves.specs.Each.{AreFrom, Each, IsAtWave, KeepsBoards, SameFresh}
 use Rattle.awari_waves.specs.Waves.{IsCut}
 use Rattle.awari_waves.proofs.Keeping.{keeps_all, keeps_waved}
 use Rattle.awari_waves.proofs.Opened.{waved_grid, waved_heard, waved_same, whole_still}
@@ -51,3 +52,15 @@ returns-clause-stays c =
     let opened : Each (IsAtWave c.args.dist) a.segments.items new = subst (λ l. Each (IsAtWave c.args.dist) l new) c.as_mut_slice.ensures.value c.open_waves.ensures.opened in
     let items : (with_items a.segments new).items ≡ new = kept_items (IsAtWave c.args.dist) a.segments new opened in
     subst (λ (v : AnalysisView). Each KeepsBoards v.parts (with_items a.segments new).items) c.self.view_is (subst (Each KeepsBoards a.segments.items) (sym items) (keeps_waved c.args.dist a.segments.items new opened))
+
+pub returns-then-dist-self-clause-fresh : goal.returns-then-dist-self-clause-fresh
+returns-then-dist-self-clause-fresh c = subst (λ (v : AnalysisView). Each SameFresh v.parts c.self.inside.segments.items) c.self.view_is (record { blocks = refl; each = λ i few. refl })
+
+pub returns-clause-fresh : goal.returns-clause-fresh
+returns-clause-fresh c =
+    let a = c.self.inside in
+    let new = c.open_waves.new.segments in
+    let opened : Each (IsAtWave c.args.dist) a.segments.items new = subst (λ l. Each (IsAtWave c.args.dist) l new) c.as_mut_slice.ensures.value c.open_waves.ensures.opened in
+    let items : (with_items a.segments new).items ≡ new = kept_items (IsAtWave c.args.dist) a.segments new opened in
+    subst (λ (v : AnalysisView). Each SameFresh v.parts (with_items a.segments new).items) c.self.view_is
+    (subst (Each SameFresh a.segments.items) (sym items) (record { blocks = opened.blocks; each = λ i few. ap (λ (p : Part). p.fresh) (opened.each i few) }))

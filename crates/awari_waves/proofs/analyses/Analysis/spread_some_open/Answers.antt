@@ -1,0 +1,56 @@
+use Rattle.std.proofs.Common.{◌^◌, ◌≡◌, sym, subst}
+use Rattle.std.specs.Vec.{with_items}
+use Rattle.awari_heard.specs.Level.{AreHeard, AreWhole}
+use Rattle.awari_heard.specs.Heard.{SameBlock}
+use Rattle.awari_waves.specs.Analyses.{AnalysisView}
+use Rattle.awari_waves.specs.Each.{Each, KeepsBoards, PassesFirst}
+use Rattle.awari_waves.specs.Waves.{IsCut}
+use Rattle.awari_waves.proofs.Keeping.{same_each}
+use Rattle.awari_waves.proofs.Opened.{whole_still}
+use Rattle.awari_waves.proofs.Stages.{kept_items}
+use Rattle.awari_waves.proofs.analyses.Analysis.spread_some_open.Goals as goal
+
+pub invariant_of-result : goal.invariant_of-result
+invariant_of-result g c =
+    let a = c.self.inside in
+    let before = c.self.invariant in
+    let new = c.spread_some.new.segments in
+    let same : Each SameBlock a.segments.items new = same_each a.segments.items new (subst (λ l. Each KeepsBoards l new) c.as_mut_slice.ensures.value c.in_ok-spread_some.ensures.same) in
+    let items : (with_items a.segments new).items ≡ new = kept_items SameBlock a.segments new same in
+    record {
+      low = before.low;
+      few = before.few;
+      opened = before.opened;
+      inward = before.inward;
+      some = before.some;
+      numbers = before.numbers;
+      grid = subst (IsCut a.front.stake (2 ^ a.front.log)) (sym items) c.in_ok-spread_some.ensures.front.grid;
+      whole = subst (AreWhole a.front.stake.level) (sym items) (whole_still a.front.stake.level a.segments.items new same before.whole);
+      room = c.in_ok-spread_some.ensures.room;
+    }
+
+pub returns-clause-heard : goal.returns-clause-heard
+returns-clause-heard g c value heard =
+    let a = c.self.inside in
+    let new = c.spread_some.new.segments in
+    let same : Each SameBlock a.segments.items new = same_each a.segments.items new (subst (λ l. Each KeepsBoards l new) c.as_mut_slice.ensures.value c.in_ok-spread_some.ensures.same) in
+    let items : (with_items a.segments new).items ≡ new = kept_items SameBlock a.segments new same in
+    let opened = subst (λ (v : AnalysisView). AreHeard value v.parts) (sym c.self.view_is) heard in
+    subst (AreHeard value) (sym items) (c.in_ok-spread_some.ensures.heard value (subst (AreHeard value) (sym c.as_mut_slice.ensures.value) opened))
+
+pub returns-clause-stays : goal.returns-clause-stays
+returns-clause-stays g c =
+    let a = c.self.inside in
+    let new = c.spread_some.new.segments in
+    let same : Each KeepsBoards a.segments.items new = subst (λ l. Each KeepsBoards l new) c.as_mut_slice.ensures.value c.in_ok-spread_some.ensures.same in
+    let items : (with_items a.segments new).items ≡ new = kept_items KeepsBoards a.segments new same in
+    subst (λ (v : AnalysisView). Each KeepsBoards v.parts (with_items a.segments new).items) c.self.view_is (subst (Each KeepsBoards a.segments.items) (sym items) same)
+
+pub returns-clause-first : goal.returns-clause-first
+returns-clause-first g c =
+    let a = c.self.inside in
+    let new = c.spread_some.new.segments in
+    let same : Each KeepsBoards a.segments.items new = subst (λ l. Each KeepsBoards l new) c.as_mut_slice.ensures.value c.in_ok-spread_some.ensures.same in
+    let items : (with_items a.segments new).items ≡ new = kept_items KeepsBoards a.segments new same in
+    let first : PassesFirst a.front.stake.wave a.segments.items new = subst (λ l. PassesFirst a.front.stake.wave l new) c.as_mut_slice.ensures.value c.in_ok-spread_some.ensures.first in
+    subst (λ (v : AnalysisView). PassesFirst v.wave v.parts (with_items a.segments new).items) c.self.view_is (subst (PassesFirst a.front.stake.wave a.segments.items) (sym items) first)
