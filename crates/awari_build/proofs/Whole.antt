@@ -1,21 +1,21 @@
 -- One part that has the whole level.
-use Rattle.std.proofs.Common.{◌≡◌, ℕ, ◌≤◌, List, [], ◌∷◌, ℤ, All, subst, arith}
+use Rattle.std.proofs.Common.{◌≡◌, ℕ, ◌≤◌, List, [], ◌∷◌, ℤ, All, length, subst, arith}
 use Rattle.std.proofs.lemmas.List.Elements.{All-cons, All-nil}
 use Rattle.awari_block.specs.Part.{Part, IsClosed}
-use Rattle.awari_heard.specs.Level.{AreHeard, AreTold, AreWhole, DistancesFit, IsWhole}
+use Rattle.awari_heard.specs.Level.{AreTold, AreWhole, DistancesFit, IsWhole}
 use Rattle.awari_heard.proofs.Levels.{one_whole, one_heard, heard_told}
+use Rattle.awari_table.specs.Images.{table_of}
+use Rattle.awari_table.specs.declared.images.Image.{Image}
+use Rattle.awari_build.specs.Settled.{AreSettled}
 use Rattle.awari_build.specs.Sound.{IsSoundPart}
 
--- its blocks are all boards
-pub whole_blocks : (n : ℕ) (part : Part) → IsWhole part × (part.level ≡ n) → AreWhole n (part ∷ [])
-whole_blocks n part whole = subst (λ m. AreWhole m (part ∷ [])) whole.1 (one_whole part whole.0.start whole.0.all)
-
--- it is closed, and heard all notes of its own spread boards
-pub whole_closed : (part : Part) → IsClosed part → All IsClosed (part ∷ [])
-whole_closed part closed = All-cons IsClosed part [] closed (All-nil IsClosed)
-
-pub whole_heard : (value : List ℕ → ℤ) (part : Part) → IsSoundPart value part → AreHeard value (part ∷ [])
-whole_heard value part (notes, tallied, own) = one_heard value part notes tallied own
+-- it is settled where it is closed and heard all notes of its own spread boards
+pub whole_settled : (shelf : List Image) (part : Part) → IsWhole part → part.level ≡ length shelf → IsClosed part → IsSoundPart (table_of shelf).value part → AreSettled shelf (part ∷ [])
+whole_settled shelf part whole level closed (notes, tallied, own) = record {
+  whole = subst (λ m. AreWhole m (part ∷ [])) level (one_whole part whole.start whole.all);
+  closed = All-cons IsClosed part [] closed (All-nil IsClosed);
+  heard = one_heard (table_of shelf).value part notes tallied own;
+}
 
 -- its distances fit
 pub whole_fits : (value : List ℕ → ℤ) (part : Part)

@@ -1,38 +1,32 @@
 //! A level built by one part, in one thread.
 
-ghost use Rattle.std.specs.Prelude.{◌≡◌, ◌≤◌, ◌<◌, ◌+◌, ◌⊎◌, ◌↔◌, ◌++◌, ◌∷◌, [], ℕ, ℤ, List, length, IfOk, IfErr, OnOk, Err, Some};
+ghost use Rattle.std.specs.Prelude.{◌≡◌, ◌≤◌, ◌<◌, ◌+◌, ◌⊎◌, ◌↔◌, ◌∷◌, [], ℕ, ℤ, List, length, IfOk, IfErr, OnOk, Err, Some};
 ghost use Rattle.awari_block.specs.Counts.{spread_of};
 ghost use Rattle.awari_block.specs.Part.{IsLeastDue, unspread, IsClosed};
 ghost use Rattle.awari_heard.specs.Level.{IsWhole};
 ghost use Rattle.awari_build.specs.BuildFault.{IsStopped};
+ghost use Rattle.awari_build.specs.NextLevel.{IsNextLevel};
+ghost use Rattle.awari_build.specs.Settled.{AreSettled};
 ghost use Rattle.awari_build.specs.Sound.{IsSoundPart};
-ghost use Rattle.awari_play.specs.Least.{IsPlannedLowest};
-ghost use Rattle.awari_table.specs.Images.{table_of};
-ghost use Rattle.awari_table.specs.Shelves.{Consistent, IsShelf};
 ghost use Rattle.awari_table.specs.declared.TheConstants.{HIGHEST_LEVEL};
-ghost use Rattle.awari_theory.specs.Truth.{TellsTruth};
 
 use crate::faults::BuildFault;
-use crate::telling::{begin, expect_wanted};
+use crate::levels::{begin_next, level_of};
+use crate::telling::expect_wanted;
 use awari_block::ClosedPart;
+use awari_heard::{Progress, Silent, Told, distances_fit, finish_closed};
 use awari_owner::{Outboxes, Part};
-use awari_heard::distances_fit;
-use awari_heard::{Progress, Silent, Told};
-use awari_heard::finish_closed;
-use awari_table::{HIGHEST_LEVEL, Level, Shelf};
+use awari_table::{Level, Shelf};
 use std::alloc::{AllocError, Global};
 
 /// The shelf's next level, built by one part in one thread. It always returns. Refused as 51
 /// `TooHigh` if the shelf has all levels, and as 53 `Memory` if memory runs out. It takes memory for
 /// the part, less than eleven bytes a board, and for the entries.
 ///
-/// The level is proved right, so nothing verifies it when the program runs.
+/// The level is proved right, with the lowest plans, so there is one level that it may be. Nothing
+/// verifies it when the program runs.
 pub fn build_alone(alloc: Global, shelf: &Shelf) -> Result<Level, BuildFault>
-    ensures consistent { IfOk result (λ level. Consistent shelf.now level) }
-    ensures meaning { IfOk result (λ level. TellsTruth (shelf.now ++ level ∷ [])) }
-
-    // Its plans are the lowest, so there is one level that it may be.
-    ensures planned { IfOk result (IsPlannedLowest shelf.now) }
+    ensures next { IfOk result (IsNextLevel shelf.now) }
     ensures too_high { (result ≡ Err BuildFault.TooHigh) ↔ (HIGHEST_LEVEL < length shelf.now) }
     ensures fault { IfErr result (λ fault. (fault ≡ BuildFault.TooHigh) ⊎ (fault ≡ BuildFault.Memory)) }
 {
@@ -48,64 +42,27 @@ pub fn build_alone_with_progress<P: Progress>(
     shelf: &Shelf,
     progress: &mut P,
 ) -> Result<Level, BuildFault>
-    ensures consistent { IfOk result (λ level. Consistent shelf.now level) }
-    ensures meaning { IfOk result (λ level. TellsTruth (shelf.now ++ level ∷ [])) }
-
-    // Its plans are the lowest, so there is one level that it may be.
-    ensures planned { IfOk result (IsPlannedLowest shelf.now) }
+    ensures next { IfOk result (IsNextLevel shelf.now) }
     ensures too_high { (result ≡ Err BuildFault.TooHigh) ↔ (HIGHEST_LEVEL < length shelf.now) }
     ensures fault { IfErr result (λ fault. (fault ≡ BuildFault.TooHigh) ⊎ ((fault ≡ BuildFault.Memory) ⊎ IsStopped P.stops fault)) }
 {
-    if shelf.levels() > HIGHEST_LEVEL {
-        return Err(BuildFault::TooHigh);
-    }
-    begin(progress, shelf.levels());
-    let part = settled_part(alloc, shelf, progress)?;
-    expect_wanted(progress)?;
+    begin_next(shelf, progress)?;
+    let parts = settled_parts(alloc, shelf, progress)?;
     progress.hear(Told::Planned);
-    level_of(alloc, shelf, part)
-}
-
-/// The level that a part with all its boards has settled.
-fn level_of(alloc: Global, shelf: &Shelf, part: Part) -> Result<Level, BuildFault>
-    requires shelf { IsShelf shelf.now }
-    requires low { length shelf.now ≤ HIGHEST_LEVEL }
-    requires whole { IsWhole part × (part.level ≡ length shelf.now) }
-    requires closed { IsClosed part }
-    requires sound { IsSoundPart (table_of shelf.now).value part }
-    ensures consistent { IfOk result (λ level. Consistent shelf.now level) }
-    ensures meaning { IfOk result (λ level. TellsTruth (shelf.now ++ level ∷ [])) }
-    ensures planned { IfOk result (IsPlannedLowest shelf.now) }
-    ensures memory { IfErr result (λ fault. fault ≡ BuildFault.Memory) }
-{
-    let parts = closed_alone(alloc, part)?;
     let image = finish_closed(alloc, shelf, parts)?;
-    Ok(Level::new(image))
+    Ok(level_of(shelf, image))
 }
 
-/// The one part of a level, closed.
-fn closed_alone(alloc: Global, part: Part) -> Result<Vec<ClosedPart>, AllocError>
-    requires { IsClosed part }
-    ensures { IfOk result (λ parts. parts.items ≡ part ∷ []) }
-{
-    let mut parts = Vec::with_capacity(alloc, 1)?;
-    parts.push(part.close())?;
-    Ok(parts)
-}
-
-/// The part of all boards of the shelf's next level, with all gains closed.
-fn settled_part<P: Progress>(
+/// The one part of the shelf's next level, with all gains closed.
+fn settled_parts<P: Progress>(
     alloc: Global,
     shelf: &Shelf,
     progress: &mut P,
-) -> Result<Part, BuildFault>
+) -> Result<Vec<ClosedPart>, BuildFault>
     requires low { length shelf.now ≤ HIGHEST_LEVEL }
-    ensures whole { IfOk result (λ part. IsWhole part × (part.level ≡ length shelf.now)) }
-    ensures closed { IfOk result IsClosed }
-    ensures sound { IfOk result (IsSoundPart (table_of shelf.now).value) }
+    ensures settled { IfOk result (λ parts. AreSettled shelf.now parts.items) }
     ensures refused { IfErr result (λ fault. (fault ≡ BuildFault.Memory) ⊎ IsStopped P.stops fault) }
 {
-    expect_wanted(progress)?;
     let Ok(mut part) = Part::scan(alloc, shelf, 1, 0) else {
         return Err(BuildFault::Memory);
     };
@@ -116,7 +73,19 @@ fn settled_part<P: Progress>(
         expect_wanted(progress)?;
         spread_all(&mut part, &mut outboxes, progress)?;
     }
-    Ok(part)
+    expect_wanted(progress)?;
+    let parts = closed_alone(alloc, part)?;
+    Ok(parts)
+}
+
+/// The one part of a level, closed.
+fn closed_alone(alloc: Global, part: Part) -> Result<Vec<ClosedPart>, AllocError>
+    requires { IsClosed part }
+    ensures { IfOk result (λ parts. parts.items ≡ part ∷ []) }
+{
+    let mut parts = Vec::with_capacity(alloc, 1)?;
+    parts.push(part.close())?;
+    Ok(parts)
 }
 
 /// Tells `progress` which gain is open and how many boards were spread.

@@ -20,6 +20,7 @@
 
 mod alone;
 mod faults;
+mod levels;
 mod owned;
 mod telling;
 mod together;

@@ -1,28 +1,28 @@
 //! A level built by several owners, each in a thread of its own.
 
-ghost use Rattle.std.specs.Prelude.{◌≡◌, ◌⊎◌, ◌≤◌, ◌<◌, ◌+◌, ◌↔◌, ◌++◌, ◌∷◌, [], ℕ, ℤ, List, IfOk, IfErr, Err, length, vec_len};
-ghost use Rattle.awari_play.specs.Least.{IsPlannedLowest};
+ghost use Rattle.std.specs.Prelude.{◌≡◌, ◌⊎◌, ◌≤◌, ◌<◌, ◌+◌, ◌↔◌, ℕ, ℤ, List, IfOk, IfErr, Err, length, vec_len};
 ghost use Rattle.awari_table.specs.Images.{table_of};
-ghost use Rattle.awari_table.specs.Shelves.{Consistent, IsShelf};
 ghost use Rattle.awari_table.specs.declared.TheConstants.{HIGHEST_LEVEL};
-ghost use Rattle.awari_theory.specs.Truth.{TellsTruth};
 ghost use Rattle.awari_lines.specs.Rings.{HaveRoom};
 ghost use Rattle.awari_phase.specs.Owners.{all_ends};
 ghost use Rattle.awari_phase.specs.PhaseFault.{IsStop, IsWant};
 ghost use Rattle.awari_phase.specs.declared.faults.PhaseFault.{PhaseFault};
 ghost use Rattle.awari_build.specs.BuildFault.{IsOfPhase, IsStopped};
+ghost use Rattle.awari_build.specs.NextLevel.{IsNextLevel};
+ghost use Rattle.awari_build.specs.Settled.{AreSettled};
 ghost use Rattle.awari_build.specs.Owned.{AreAt};
 ghost use Rattle.awari_pace.specs.Paces.{HasOwners, IsPaced};
 
 use crate::faults::BuildFault;
-use crate::telling::{begin, expect_wanted};
+use crate::levels::{begin_next, level_of};
+use awari_block::ClosedPart;
+use awari_heard::{Progress, Silent, Told, finish_parallel};
 use awari_pace::{MOST_OWNERS, MOST_ROOM, MOST_SWEEPS, Pace};
 use awari_phase::{
-    Gate, Owner, PhaseFault, Progress, Silent, Told, closed_parts, finished_owners_are_right,
-    gain_phase_with_progress, open_gain, scanned_owners,
+    Gate, Owner, PhaseFault, closed_parts, finished_owners_are_right, gain_phase_with_progress,
+    open_gain, scanned_owners,
 };
-use awari_heard::finish_parallel;
-use awari_table::{HIGHEST_LEVEL, Level, Shelf};
+use awari_table::{Level, Shelf};
 use std::alloc::{AllocError, Global};
 use std::sync::Wait;
 use std::thread::Threads;
@@ -39,8 +39,8 @@ use std::thread::Threads;
 /// - 53 `Memory`: memory ran out.
 /// - 52 `Phase`: a thread could not be started.
 ///
-/// The level is proved right, whatever order the owners' steps have, so nothing verifies it when the
-/// program runs.
+/// Whatever order the owners' steps have, the level is proved right, with the lowest plans. So it is
+/// that of `build_alone`, and nothing verifies it when the program runs.
 pub fn build_level<R: Threads + Wait + Sync, G: Gate + Sync>(
     rt: &R,
     alloc: Global,
@@ -48,11 +48,7 @@ pub fn build_level<R: Threads + Wait + Sync, G: Gate + Sync>(
     pace: Pace,
     gate: &G,
 ) -> Result<Level, BuildFault>
-    ensures consistent { IfOk result (λ level. Consistent shelf.now level) }
-    ensures meaning { IfOk result (λ level. TellsTruth (shelf.now ++ level ∷ [])) }
-
-    // Its plans are the lowest, so there is one level that it may be, that of `build_alone`.
-    ensures planned { IfOk result (IsPlannedLowest shelf.now) }
+    ensures next { IfOk result (IsNextLevel shelf.now) }
     ensures owners { (result ≡ Err BuildFault.Owners) ↔ (HasOwners pace → ⊥) }
     ensures pace { (result ≡ Err BuildFault.Pace) ↔ (HasOwners pace × (IsPaced pace → ⊥)) }
     ensures too_high { (result ≡ Err BuildFault.TooHigh) ↔ (HasOwners pace × IsPaced pace × (HIGHEST_LEVEL < length shelf.now)) }
@@ -87,11 +83,7 @@ pub fn build_level_with_progress<R: Threads + Wait + Sync, G: Gate + Sync, P: Pr
     pace: Pace,
     mut watch: Watch<'_, G, P>,
 ) -> Result<Level, BuildFault>
-    ensures consistent { IfOk result (λ level. Consistent shelf.now level) }
-    ensures meaning { IfOk result (λ level. TellsTruth (shelf.now ++ level ∷ [])) }
-
-    // Its plans are the lowest, so there is one level that it may be, that of `build_alone`.
-    ensures planned { IfOk result (IsPlannedLowest shelf.now) }
+    ensures next { IfOk result (IsNextLevel shelf.now) }
     ensures owners { (result ≡ Err BuildFault.Owners) ↔ (HasOwners pace → ⊥) }
     ensures pace { (result ≡ Err BuildFault.Pace) ↔ (HasOwners pace × (IsPaced pace → ⊥)) }
     ensures too_high { (result ≡ Err BuildFault.TooHigh) ↔ (HasOwners pace × IsPaced pace × (HIGHEST_LEVEL < length shelf.now)) }
@@ -105,57 +97,36 @@ pub fn build_level_with_progress<R: Threads + Wait + Sync, G: Gate + Sync, P: Pr
     if !(1..=MOST_ROOM).contains(&pace.room) || !(1..=MOST_SWEEPS).contains(&pace.sweeps) {
         return Err(BuildFault::Pace);
     }
-    if shelf.levels() > HIGHEST_LEVEL {
-        return Err(BuildFault::TooHigh);
-    }
-    begin(watch.progress, shelf.levels());
-    let owners = settled_owners(rt, alloc, shelf, pace, &mut watch)?;
+    begin_next(shelf, watch.progress)?;
+    let parts = settled_parts(rt, alloc, shelf, pace, &mut watch)?;
     watch.progress.hear(Told::Planned);
-    level_of(rt, alloc, shelf, owners)
-}
-
-/// The level that its owners have settled.
-fn level_of<R: Threads + Sync>(
-    rt: &R,
-    alloc: Global,
-    shelf: &Shelf,
-    owners: Vec<Owner>,
-) -> Result<Level, BuildFault>
-    requires shelf { IsShelf shelf.now }
-    requires low { length shelf.now ≤ HIGHEST_LEVEL }
-    requires closed { AreAt (table_of shelf.now).value (length shelf.now) 1 owners.items }
-    ensures consistent { IfOk result (λ level. Consistent shelf.now level) }
-    ensures meaning { IfOk result (λ level. TellsTruth (shelf.now ++ level ∷ [])) }
-    ensures planned { IfOk result (IsPlannedLowest shelf.now) }
-    ensures memory { IfErr result (λ fault. fault ≡ BuildFault.Memory) }
-{
-    finished_owners_are_right();
-    let threads = owners.len();
-    let parts = closed_parts(alloc, owners)?;
+    let threads = parts.len();
     let image = finish_parallel(rt, alloc, shelf, parts, threads)?;
-    Ok(Level::new(image))
+    Ok(level_of(shelf, image))
 }
 
-/// The owners of the shelf's next level, with all gains closed.
-fn settled_owners<R: Threads + Wait + Sync, G: Gate + Sync, P: Progress>(
+/// The parts of the owners of the shelf's next level, with all gains closed.
+fn settled_parts<R: Threads + Wait + Sync, G: Gate + Sync, P: Progress>(
     rt: &R,
     alloc: Global,
     shelf: &Shelf,
     pace: Pace,
     watch: &mut Watch<'_, G, P>,
-) -> Result<Vec<Owner>, BuildFault>
+) -> Result<Vec<ClosedPart>, BuildFault>
     requires low { length shelf.now ≤ HIGHEST_LEVEL }
     requires owners { HasOwners pace }
     requires pace { IsPaced pace }
-    ensures closed { IfOk result (λ owners. AreAt (table_of shelf.now).value (length shelf.now) 1 owners.items) }
+    ensures settled { IfOk result (λ parts. AreSettled shelf.now parts.items) }
     ensures phase { IfErr result (λ fault. IsOfPhase fault ⊎ IsStopped P.stops fault) }
 {
-    expect_wanted(watch.progress)?;
+    // Ghost: owners with nothing more to do heard of all spread boards.
+    finished_owners_are_right();
     let mut owners = begun_owners(rt, alloc, shelf, pace)?;
     for _gain in 0..shelf.levels() {
         owners = closed_gain(rt, owners, watch.gate, pace.sweeps, watch.progress)?;
     }
-    Ok(owners)
+    let parts = closed_parts(alloc, owners)?;
+    Ok(parts)
 }
 
 /// As many owners of the shelf's next level as `pace` says, on rings with room for as much, before

@@ -5,8 +5,8 @@ ghost use Rattle.awari_build.specs.BuildFault.{IsStopped};
 ghost use Rattle.awari_rank.specs.Rank.{size_of};
 
 use crate::faults::BuildFault;
-use awari_phase::PhaseFault;
 use awari_heard::{Progress, Told};
+use awari_phase::PhaseFault;
 use awari_rank::size;
 
 /// Tells that the level of so many stones begins.

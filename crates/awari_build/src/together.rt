@@ -1,24 +1,22 @@
 //! A level built in segments, which threads scan, open and spread side by side.
 
-ghost use Rattle.std.specs.Prelude.{◌≡◌, ◌≤◌, ◌<◌, ◌+◌, ◌-◌, ◌^◌, ◌⊎◌, ◌↔◌, ◌++◌, ◌∷◌, [], ℕ, ℤ, List, All, length, IfOk, IfErr, Err};
+ghost use Rattle.std.specs.Prelude.{◌≡◌, ◌≤◌, ◌<◌, ◌+◌, ◌-◌, ◌^◌, ◌⊎◌, ◌↔◌, ℕ, ℤ, List, length, IfOk, IfErr, Err};
 ghost use Rattle.awari_block.specs.Counts.{spread_in};
-ghost use Rattle.awari_block.specs.Part.{IsClosed};
 ghost use Rattle.awari_build.specs.BuildFault.{IsStopped};
+ghost use Rattle.awari_build.specs.NextLevel.{IsNextLevel};
+ghost use Rattle.awari_build.specs.Settled.{AreSettled, IsSettled};
 ghost use Rattle.awari_heard.specs.Level.{AreHeard, AreWhole};
-ghost use Rattle.awari_play.specs.Least.{IsPlannedLowest};
-ghost use Rattle.awari_table.specs.Images.{table_of};
-ghost use Rattle.awari_table.specs.Shelves.{Consistent, IsShelf};
 ghost use Rattle.awari_table.specs.declared.TheConstants.{HIGHEST_LEVEL};
-ghost use Rattle.awari_theory.specs.Truth.{TellsTruth};
 ghost use Rattle.awari_waves.specs.Each.{AreFrom, NoneAreFresh, HasDue};
 
 use crate::faults::BuildFault;
-use crate::telling::{begin, expect_wanted};
+use crate::levels::{begin_next, level_of};
+use crate::telling::expect_wanted;
 use awari_block::ClosedPart;
-use awari_heard::{distances_fit, one_part_hears_all};
-use awari_heard::{Progress, Silent, Told};
-use awari_heard::{finish_closed, finish_parallel};
-use awari_table::{HIGHEST_LEVEL, Image, Level, Shelf};
+use awari_heard::{
+    Progress, Silent, Told, distances_fit, finish_closed, finish_parallel, one_part_hears_all,
+};
+use awari_table::{Image, Level, Shelf};
 use awari_waves::Analysis;
 use std::alloc::{AllocError, Global};
 use std::thread::Threads;
@@ -28,18 +26,15 @@ use std::thread::Threads;
 /// nine bytes a board, for the boards that are settled and not spread yet and their notes, and for
 /// the entries.
 ///
-/// The level is proved right, so nothing verifies it when the program runs.
+/// The level is proved right, with the lowest plans, so it is that of `build_alone`. Nothing verifies it
+/// when the program runs.
 pub fn build_together<R: Threads + Sync>(
     rt: &R,
     alloc: Global,
     shelf: &Shelf,
     threads: usize,
 ) -> Result<Level, BuildFault>
-    ensures consistent { IfOk result (λ level. Consistent shelf.now level) }
-    ensures meaning { IfOk result (λ level. TellsTruth (shelf.now ++ level ∷ [])) }
-
-    // Its plans are the lowest, so there is one level that it may be, that of `build_alone`.
-    ensures planned { IfOk result (IsPlannedLowest shelf.now) }
+    ensures next { IfOk result (IsNextLevel shelf.now) }
     ensures too_high { (result ≡ Err BuildFault.TooHigh) ↔ (HIGHEST_LEVEL < length shelf.now) }
     ensures fault { IfErr result (λ fault. (fault ≡ BuildFault.TooHigh) ⊎ (fault ≡ BuildFault.Memory)) }
 {
@@ -57,48 +52,18 @@ pub fn build_together_with_progress<R: Threads + Sync, P: Progress>(
     threads: usize,
     progress: &mut P,
 ) -> Result<Level, BuildFault>
-    ensures consistent { IfOk result (λ level. Consistent shelf.now level) }
-    ensures meaning { IfOk result (λ level. TellsTruth (shelf.now ++ level ∷ [])) }
-
-    // Its plans are the lowest, so there is one level that it may be, that of `build_alone`.
-    ensures planned { IfOk result (IsPlannedLowest shelf.now) }
+    ensures next { IfOk result (IsNextLevel shelf.now) }
     ensures too_high { (result ≡ Err BuildFault.TooHigh) ↔ (HIGHEST_LEVEL < length shelf.now) }
     ensures fault { IfErr result (λ fault. (fault ≡ BuildFault.TooHigh) ⊎ ((fault ≡ BuildFault.Memory) ⊎ IsStopped P.stops fault)) }
 {
-    if shelf.levels() > HIGHEST_LEVEL {
-        return Err(BuildFault::TooHigh);
-    }
-    begin(progress, shelf.levels());
-    let analysis = settled_level(rt, alloc, shelf, threads, progress)?;
-    expect_wanted(progress)?;
+    begin_next(shelf, progress)?;
+    let parts = settled_parts(rt, alloc, shelf, threads, progress)?;
     progress.hear(Told::Planned);
-    level_of(rt, alloc, shelf, threads, analysis)
-}
-
-/// The level of an analysis whose gains are all closed.
-fn level_of<R: Threads + Sync>(
-    rt: &R,
-    alloc: Global,
-    shelf: &Shelf,
-    threads: usize,
-    analysis: Analysis,
-) -> Result<Level, BuildFault>
-    requires shelf { IsShelf shelf.now }
-    requires low { length shelf.now ≤ HIGHEST_LEVEL }
-    requires level { analysis.level ≡ length shelf.now }
-    requires closed { (analysis.gain ≡ 1) × NoneAreFresh analysis.parts }
-    requires heard { AreHeard (table_of shelf.now).value analysis.parts }
-    ensures consistent { IfOk result (λ level. Consistent shelf.now level) }
-    ensures meaning { IfOk result (λ level. TellsTruth (shelf.now ++ level ∷ [])) }
-    ensures planned { IfOk result (IsPlannedLowest shelf.now) }
-    ensures memory { IfErr result (λ fault. fault ≡ BuildFault.Memory) }
-{
-    let parts = analysis.close(alloc)?;
     let image = finished(rt, alloc, shelf, threads, parts)?;
-    Ok(Level::new(image))
+    Ok(level_of(shelf, image))
 }
 
-/// The image of closed parts, made by so many threads.
+/// The image of settled parts, made by so many threads.
 fn finished<R: Threads + Sync>(
     rt: &R,
     alloc: Global,
@@ -107,9 +72,8 @@ fn finished<R: Threads + Sync>(
     parts: Vec<ClosedPart>,
 ) -> Result<Image, AllocError>
     requires low { length shelf.now ≤ HIGHEST_LEVEL }
-    requires whole { AreWhole (length shelf.now) parts.items }
-    ensures planned { All IsClosed parts.items → AreHeard (table_of shelf.now).value parts.items → IfOk result (IsPlannedLowest shelf.now) }
-    ensures consistent { All IsClosed parts.items → AreHeard (table_of shelf.now).value parts.items → IfOk result (Consistent shelf.now) }
+    requires settled { AreSettled shelf.now parts.items }
+    ensures { IfOk result (IsSettled shelf.now) }
 {
     if threads < 2 {
         return finish_closed(alloc, shelf, parts);
@@ -117,21 +81,18 @@ fn finished<R: Threads + Sync>(
     finish_parallel(rt, alloc, shelf, parts, threads)
 }
 
-/// The shelf's next level, with all gains closed.
-fn settled_level<R: Threads + Sync, P: Progress>(
+/// The segments of the shelf's next level, with all gains closed.
+fn settled_parts<R: Threads + Sync, P: Progress>(
     rt: &R,
     alloc: Global,
     shelf: &Shelf,
     threads: usize,
     progress: &mut P,
-) -> Result<Analysis, BuildFault>
+) -> Result<Vec<ClosedPart>, BuildFault>
     requires low { length shelf.now ≤ HIGHEST_LEVEL }
-    ensures level { IfOk result (λ all. all.level ≡ length shelf.now) }
-    ensures closed { IfOk result (λ all. (all.gain ≡ 1) × NoneAreFresh all.parts) }
-    ensures heard { IfOk result (λ all. AreHeard (table_of shelf.now).value all.parts) }
+    ensures settled { IfOk result (λ parts. AreSettled shelf.now parts.items) }
     ensures refused { IfErr result (λ fault. (fault ≡ BuildFault.Memory) ⊎ IsStopped P.stops fault) }
 {
-    expect_wanted(progress)?;
     let mut analysis = Analysis::scan(rt, alloc, shelf, threads)?;
     while analysis.gain() > 1 {
         let opened = analysis.open_gain(rt)?;
@@ -139,7 +100,9 @@ fn settled_level<R: Threads + Sync, P: Progress>(
         expect_wanted(progress)?;
         analysis = spread_all(rt, opened, progress)?;
     }
-    Ok(analysis)
+    expect_wanted(progress)?;
+    let parts = analysis.close(alloc)?;
+    Ok(parts)
 }
 
 /// Tells `progress` which gain is open and how many boards were spread.

@@ -1,7 +1,9 @@
-use Rattle.std.proofs.Common.{◌∙◌}
+use Rattle.std.proofs.Common.{sym, subst, ◌∙◌, arith}
 use Rattle.awari_table.specs.Images.{table_of}
+use Rattle.awari_build.specs.Settled.{AreSettled}
+use Rattle.awari_build.proofs.Whole.{whole_settled}
 use Rattle.awari_build.proofs.Stepping.{sound_opened}
-use Rattle.awari_build.proofs.alone.settled_part.Goals as goal
+use Rattle.awari_build.proofs.alone.settled_parts.Goals as goal
 
 pub spread_all-requires-clause-sound : goal.spread_all-requires-clause-sound
 spread_all-requires-clause-sound g c =
@@ -18,3 +20,11 @@ loop-part-preserved g c =
       idle = spread.idle;
       sound = spread.sound _ (sound_opened _ _ _ c.open_gain.ensures.tallied c.open_gain.ensures.own before.sound);
     }
+
+pub returns-clause-settled : goal.returns-clause-settled
+returns-clause-settled g c =
+    let rest = c.loop-part.invariant in
+    let gain = c.gain.ensures in
+    let last = c.loop-part-test.false in
+    subst (AreSettled c.args.shelf.now) (sym c.in_ok-parts.ensures)
+    (whole_settled c.args.shelf.now c.loop-part.part rest.whole rest.level (omega (arith, gain, last), rest.idle) rest.sound)

@@ -2,7 +2,7 @@ use Rattle.std.proofs.Common.{◌≡◌, length, []}
 use Rattle.awari_heard.specs.Level.{IsWhole}
 use Rattle.awari_table.specs.Images.{table_of}
 use Rattle.awari_build.specs.Sound.{IsSoundPart}
-use Rattle.awari_build.proofs.alone.settled_part.Given as goal
+use Rattle.awari_build.proofs.alone.settled_parts.Given as goal
 
 abbrev pub invariant-loop-part : goal.invariant-loop-part
 invariant-loop-part g l = record {
