@@ -1,3 +1,1 @@
-pub mod Stepping
-pub mod Whole
 pub mod Gains

@@ -2,5 +2,4 @@ pub use Rattle.awari_pace.specs.Paces
 pub mod BuildFault
 pub mod NextLevel
 pub mod Settled
-pub mod Sound
 pub mod Owned

@@ -1,27 +1,20 @@
-//! A level built by one part, in one thread.
+//! A level built in segments by one thread, with no handle.
 
-ghost use Rattle.std.specs.Prelude.{◌≡◌, ◌≤◌, ◌<◌, ◌+◌, ◌⊎◌, ◌↔◌, ◌∷◌, [], ℕ, ℤ, List, length, IfOk, IfErr, OnOk, Err, Some};
-ghost use Rattle.awari_block.specs.Counts.{spread_of};
-ghost use Rattle.awari_block.specs.Part.{IsLeastDue, unspread, IsClosed};
-ghost use Rattle.awari_heard.specs.Level.{IsWhole};
+ghost use Rattle.std.specs.Prelude.{◌≡◌, ◌<◌, ◌⊎◌, ◌↔◌, length, IfOk, IfErr, Err};
 ghost use Rattle.awari_build.specs.BuildFault.{IsStopped};
 ghost use Rattle.awari_build.specs.NextLevel.{IsNextLevel};
-ghost use Rattle.awari_build.specs.Settled.{AreSettled};
-ghost use Rattle.awari_build.specs.Sound.{IsSoundPart};
 ghost use Rattle.awari_table.specs.declared.TheConstants.{HIGHEST_LEVEL};
 
 use crate::faults::BuildFault;
-use crate::levels::{begin_next, level_of};
-use crate::telling::expect_wanted;
-use awari_block::ClosedPart;
-use awari_heard::{Progress, Silent, Told, distances_fit, finish_closed};
-use awari_owner::{Outboxes, Part};
+use crate::waves::build_by_waves;
+use awari_heard::{Progress, Silent};
 use awari_table::{Level, Shelf};
-use std::alloc::{AllocError, Global};
+use awari_waves::Alone;
+use std::alloc::Global;
 
-/// The shelf's next level, built by one part in one thread. It always returns. Refused as 51
-/// `TooHigh` if the shelf has all levels, and as 53 `Memory` if memory runs out. It takes memory for
-/// the part, less than eleven bytes a board, and for the entries.
+/// The shelf's next level, built by this thread alone. It always returns. Refused as 51 `TooHigh` if
+/// the shelf has all levels, and as 53 `Memory` if memory runs out. It takes memory for nine bytes a
+/// board, for the boards that are settled and not spread yet and their notes, and for the entries.
 ///
 /// The level is proved right, with the lowest plans, so there is one level that it may be. Nothing
 /// verifies it when the program runs.
@@ -46,106 +39,5 @@ pub fn build_alone_with_progress<P: Progress>(
     ensures too_high { (result ≡ Err BuildFault.TooHigh) ↔ (HIGHEST_LEVEL < length shelf.now) }
     ensures fault { IfErr result (λ fault. (fault ≡ BuildFault.TooHigh) ⊎ ((fault ≡ BuildFault.Memory) ⊎ IsStopped P.stops fault)) }
 {
-    begin_next(shelf, progress)?;
-    let parts = settled_parts(alloc, shelf, progress)?;
-    progress.hear(Told::Planned);
-    let image = finish_closed(alloc, shelf, parts)?;
-    Ok(level_of(shelf, image))
-}
-
-/// The one part of the shelf's next level, with all gains closed.
-fn settled_parts<P: Progress>(
-    alloc: Global,
-    shelf: &Shelf,
-    progress: &mut P,
-) -> Result<Vec<ClosedPart>, BuildFault>
-    requires low { length shelf.now ≤ HIGHEST_LEVEL }
-    ensures settled { IfOk result (λ parts. AreSettled shelf.now parts.items) }
-    ensures refused { IfErr result (λ fault. (fault ≡ BuildFault.Memory) ⊎ IsStopped P.stops fault) }
-{
-    let Ok(mut part) = Part::scan(alloc, shelf, 1, 0) else {
-        return Err(BuildFault::Memory);
-    };
-    let mut outboxes = Outboxes::new(alloc, 1, 0)?;
-    while part.gain() > 1 {
-        part.open_gain(part.gain() - 1);
-        tell(&part, progress);
-        expect_wanted(progress)?;
-        spread_all(&mut part, &mut outboxes, progress)?;
-    }
-    expect_wanted(progress)?;
-    let parts = closed_alone(alloc, part)?;
-    Ok(parts)
-}
-
-/// The one part of a level, closed.
-fn closed_alone(alloc: Global, part: Part) -> Result<Vec<ClosedPart>, AllocError>
-    requires { IsClosed part }
-    ensures { IfOk result (λ parts. parts.items ≡ part ∷ []) }
-{
-    let mut parts = Vec::with_capacity(alloc, 1)?;
-    parts.push(part.close())?;
-    Ok(parts)
-}
-
-/// Tells `progress` which gain is open and how many boards were spread.
-fn tell<P: Progress>(part: &Part, progress: &mut P)
-    ensures { P.hears progress.old (Told.Settled part.now.gain (spread_of part.now)) progress.new }
-{
-    progress.hear(Told::Settled {
-        gain: usize::from(part.gain()),
-        boards: part.boards_spread(),
-    });
-}
-
-/// Spreads all boards that are settled at the open gain, the nearest first. `progress` hears of each
-/// new distance, and may stop there.
-fn spread_all<P: Progress>(
-    part: &mut Part,
-    outboxes: &mut Outboxes,
-    progress: &mut P,
-) -> Result<(), BuildFault>
-    requires whole { IsWhole part.old }
-    requires alone { (outboxes.old.owner ≡ 0) × (length outboxes.old.queues ≡ 1) }
-    requires low { part.old.level ≤ HIGHEST_LEVEL }
-    requires sound { (value : List ℕ → ℤ) × IsSoundPart value part.old }
-    ensures whole { IsWhole part.new × (part.new.level ≡ part.old.level) × (part.new.gain ≡ part.old.gain) }
-    ensures idle { OnOk result (part.new.fresh ≡ []) }
-    ensures alone { (outboxes.new.owner ≡ 0) × (length outboxes.new.queues ≡ 1) }
-    ensures sound { (value : List ℕ → ℤ) → IsSoundPart value part.old → IsSoundPart value part.new }
-    ensures stopped { IfErr result (IsStopped P.stops) }
-{
-    while let Some(dist) = part.due() {
-        if part.wave() < dist {
-            tell(part, progress);
-            expect_wanted(progress)?;
-        }
-        spread_nearest(part, outboxes, dist);
-    }
-    Ok(())
-}
-
-/// Spreads the first fresh board, which is of this distance.
-fn spread_nearest(part: &mut Part, outboxes: &mut Outboxes, dist: u32)
-    requires whole { IsWhole part.old }
-    requires alone { (outboxes.old.owner ≡ 0) × (length outboxes.old.queues ≡ 1) }
-    requires low { part.old.level ≤ HIGHEST_LEVEL }
-    requires least { IsLeastDue part.old (Some dist) }
-    requires timely { part.old.wave ≤ dist }
-    requires sound { (value : List ℕ → ℤ) × IsSoundPart value part.old }
-    ensures whole { IsWhole part.new × (part.new.level ≡ part.old.level) × (part.new.gain ≡ part.old.gain) }
-    ensures fewer { unspread part.new + 1 ≡ unspread part.old }
-    ensures alone { (outboxes.new.owner ≡ 0) × (length outboxes.new.queues ≡ 1) }
-    ensures sound { (value : List ℕ → ℤ) → IsSoundPart value part.old → IsSoundPart value part.new }
-{
-    // Ghost: `distances_fit` bounds dist + 1.
-    distances_fit();
-    if part.wave() < dist {
-        part.open_wave(dist);
-    }
-    match part.spread_one(outboxes) {
-        Ok(true) => {}
-        Ok(false) => unreachable!(),
-        Err(_) => unreachable!(),
-    }
+    build_by_waves(&Alone, alloc, shelf, progress)
 }

@@ -24,6 +24,7 @@ mod levels;
 mod owned;
 mod telling;
 mod together;
+mod waves;
 
 pub use alone::{build_alone, build_alone_with_progress};
 pub use awari_pace::{MOST_OWNERS, MOST_ROOM, MOST_SWEEPS, Pace};

@@ -1,10 +1,10 @@
 use Rattle.std.proofs.Common.{sym, subst}
 use Rattle.awari_heard.specs.Level.{AreHeard, AreWhole}
 use Rattle.awari_table.specs.Images.{table_of}
-use Rattle.awari_build.proofs.together.settled_parts.Goals as goal
+use Rattle.awari_build.proofs.waves.settled_parts.Goals as goal
 
 pub spread_all-requires-clause-heard : goal.spread_all-requires-clause-heard
-spread_all-requires-clause-heard g c κs within =
+spread_all-requires-clause-heard g c =
     let value = (table_of c.args.shelf.now).value in
     (value, c.in_ok-opened.ensures.heard value c.loop-analysis.invariant.heard)
 

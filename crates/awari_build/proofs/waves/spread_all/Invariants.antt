@@ -1,7 +1,7 @@
 use Rattle.std.proofs.Common.{◌≡◌, ℕ, ℤ, ◌-◌, ◌^◌, ◌≤◌, List}
 use Rattle.awari_heard.specs.Level.{AreHeard}
 use Rattle.awari_waves.specs.Each.{AreFrom}
-use Rattle.awari_build.proofs.together.spread_all.Given as goal
+use Rattle.awari_build.proofs.waves.spread_all.Given as goal
 
 abbrev pub invariant-loop-dist : goal.invariant-loop-dist
 invariant-loop-dist g l = record {

@@ -2,7 +2,7 @@ use Rattle.std.proofs.Common.{◌≡◌, length}
 use Rattle.awari_table.specs.Images.{table_of}
 use Rattle.awari_heard.specs.Level.{AreHeard}
 use Rattle.awari_waves.specs.Each.{NoneAreFresh}
-use Rattle.awari_build.proofs.together.settled_parts.Given as goal
+use Rattle.awari_build.proofs.waves.settled_parts.Given as goal
 
 abbrev pub invariant-loop-analysis : goal.invariant-loop-analysis
 invariant-loop-analysis g l = record {

@@ -1,0 +1,126 @@
+//! A level built in segments, wave by wave, by one thread or by several.
+
+ghost use Rattle.std.specs.Prelude.{◌≡◌, ◌≤◌, ◌<◌, ◌+◌, ◌-◌, ◌^◌, ◌⊎◌, ◌↔◌, ℕ, ℤ, List, length, IfOk, IfErr, Err};
+ghost use Rattle.awari_block.specs.Counts.{spread_in};
+ghost use Rattle.awari_build.specs.BuildFault.{IsStopped};
+ghost use Rattle.awari_build.specs.NextLevel.{IsNextLevel};
+ghost use Rattle.awari_build.specs.Settled.{AreSettled};
+ghost use Rattle.awari_heard.specs.Level.{AreHeard, AreWhole};
+ghost use Rattle.awari_table.specs.declared.TheConstants.{HIGHEST_LEVEL};
+ghost use Rattle.awari_waves.specs.Each.{AreFrom, NoneAreFresh, HasDue};
+
+use crate::faults::BuildFault;
+use crate::levels::{begin_next, level_of};
+use crate::telling::expect_wanted;
+use awari_block::ClosedPart;
+use awari_heard::{Progress, Told, distances_fit, one_part_hears_all};
+use awari_table::{Level, Shelf};
+use awari_waves::{Analysis, Workers};
+use std::alloc::{AllocError, Global};
+
+/// The shelf's next level, built by these workers. Refused as `build_alone_with_progress` is.
+pub(crate) fn build_by_waves<W: Workers, P: Progress>(
+    workers: &W,
+    alloc: Global,
+    shelf: &Shelf,
+    progress: &mut P,
+) -> Result<Level, BuildFault>
+    requires ready { W.ready }
+    ensures next { IfOk result (IsNextLevel shelf.now) }
+    ensures too_high { (result ≡ Err BuildFault.TooHigh) ↔ (HIGHEST_LEVEL < length shelf.now) }
+    ensures fault { IfErr result (λ fault. (fault ≡ BuildFault.TooHigh) ⊎ ((fault ≡ BuildFault.Memory) ⊎ IsStopped P.stops fault)) }
+{
+    begin_next(shelf, progress)?;
+    let parts = settled_parts(workers, alloc, shelf, progress)?;
+    progress.hear(Told::Planned);
+    let image = workers.finish(alloc, shelf, parts)?;
+    Ok(level_of(shelf, image))
+}
+
+/// The segments of the shelf's next level, with all gains closed.
+fn settled_parts<W: Workers, P: Progress>(
+    workers: &W,
+    alloc: Global,
+    shelf: &Shelf,
+    progress: &mut P,
+) -> Result<Vec<ClosedPart>, BuildFault>
+    requires ready { W.ready }
+    requires low { length shelf.now ≤ HIGHEST_LEVEL }
+    ensures settled { IfOk result (λ parts. AreSettled shelf.now parts.items) }
+    ensures refused { IfErr result (λ fault. (fault ≡ BuildFault.Memory) ⊎ IsStopped P.stops fault) }
+{
+    let mut analysis = Analysis::scan(workers, alloc, shelf)?;
+    while analysis.gain() > 1 {
+        let opened = analysis.open_gain(workers)?;
+        tell(&opened, progress);
+        expect_wanted(progress)?;
+        analysis = spread_all(workers, opened, progress)?;
+    }
+    expect_wanted(progress)?;
+    let parts = analysis.close(alloc)?;
+    Ok(parts)
+}
+
+/// Tells `progress` which gain is open and how many boards were spread.
+fn tell<P: Progress>(analysis: &Analysis, progress: &mut P)
+    ensures { P.hears progress.old (Told.Settled analysis.now.gain (spread_in analysis.now.parts)) progress.new }
+{
+    progress.hear(Told::Settled {
+        gain: usize::from(analysis.gain()),
+        boards: analysis.boards_spread(),
+    });
+}
+
+/// Spreads all boards that are settled at the open gain, the nearest first. `progress` hears of each
+/// greater distance, and may stop there.
+fn spread_all<W: Workers, P: Progress>(
+    workers: &W,
+    mut analysis: Analysis,
+    progress: &mut P,
+) -> Result<Analysis, BuildFault>
+    requires ready { W.ready }
+    requires opened { analysis.gain ≤ analysis.level }
+    requires begun { analysis.wave ≡ 0 }
+    requires heard { (value : List ℕ → ℤ) × AreHeard value analysis.parts }
+    ensures same { IfOk result (λ all. (all.level ≡ analysis.level) × (all.gain ≡ analysis.gain)) }
+    ensures idle { IfOk result (λ all. NoneAreFresh all.parts) }
+    ensures heard { IfOk result (λ all. (value : List ℕ → ℤ) → AreHeard value analysis.parts → AreHeard value all.parts) }
+    ensures refused { IfErr result (λ fault. (fault ≡ BuildFault.Memory) ⊎ IsStopped P.stops fault) }
+{
+    let mut from: u32 = 0;
+    while let Some(dist) = analysis.due(from) {
+        if analysis.wave() < dist {
+            tell(&analysis, progress);
+            expect_wanted(progress)?;
+        }
+        analysis = spread_nearest(workers, analysis, dist)?;
+        from = dist + 1;
+    }
+    Ok(analysis)
+}
+
+/// Spreads the boards of this distance, the least of a fresh board.
+fn spread_nearest<W: Workers>(
+    workers: &W,
+    analysis: Analysis,
+    dist: u32,
+) -> Result<Analysis, AllocError>
+    requires ready { W.ready }
+    requires opened { analysis.gain ≤ analysis.level }
+    requires timely { analysis.wave ≤ dist }
+    requires far { AreFrom dist analysis.parts }
+    requires due { HasDue dist analysis.parts }
+    requires whole { AreWhole analysis.level analysis.parts × (analysis.level ≤ 24) }
+    requires heard { (value : List ℕ → ℤ) × AreHeard value analysis.parts }
+    ensures near { dist < 2 ^ 32 - 1 }
+    ensures same { IfOk result (λ all. (all.level ≡ analysis.level) × (all.gain ≡ analysis.gain)) }
+    ensures wave { IfOk result (λ all. all.wave ≡ dist) }
+    ensures heard { IfOk result (λ all. (value : List ℕ → ℤ) → AreHeard value analysis.parts → AreHeard value all.parts) }
+    ensures farther { IfOk result (λ all. AreFrom (dist + 1) all.parts) }
+{
+    // Ghost: these bound dist + 1.
+    distances_fit();
+    one_part_hears_all();
+    let after = analysis.spread(workers, dist)?;
+    Ok(after)
+}
