@@ -1,0 +1,14 @@
+-- What holds of a level that is begun.
+use Rattle.std.specs.Prelude.{◌≤◌, ◌⊎◌, ℕ, List}
+use Rattle.awari_block.specs.Part.{Part}
+use Rattle.awari_waves.specs.Each.{AreFrom, HasDue, NoneAreFresh, PassesFirst}
+use Rattle.awari_slices.specs.declared.drafts.Draft.TheInside.{Inside}
+
+-- No fresh board is nearer than the open wave, and if some are fresh a gain is open.
+pub record IsDraft (d : Inside) : Type 0 where
+  pub from : AreFrom d.analysis.wave d.analysis.parts
+  pub opened : (d.analysis.gain ≤ d.analysis.level) ⊎ NoneAreFresh d.analysis.parts
+
+-- of the least distance of a fresh board, the first block that has such boards has none afterwards
+abbrev pub SpreadsNearest : List Part → List Part → Type 0
+SpreadsNearest old new = (dist : ℕ) × AreFrom dist old × HasDue dist old × PassesFirst dist old new
