@@ -26,10 +26,10 @@ pub all_has : {A : Type 0} → (P : A → Type 0) (xs : List A) → ((x : A) →
 all_has P [] each = All-nil P
 all_has P (m ∷ notes) each = All-cons P m notes (each m (inl refl)) (all_has P notes (λ k has. each k (inr has)))
 
-pub has_all : {A : Type 0} → (P : A → Type 0) (xs : List A) (x : A) → All P xs → Has xs x → P x
-has_all P [] m all has = absurd has
-has_all P (x ∷ notes) m all (inl is) = subst P (sym is) (all 0 x (omega arith))
-has_all P (x ∷ notes) m all (inr has) = has_all P notes m (All-tail P x notes all) has
+pub has_all : {A : Type 0} → (P : A → Type 0) (xs : List A) → All P xs → (x : A) → Has xs x → P x
+has_all P [] all x has = absurd has
+has_all P (y ∷ ys) all x (inl is) = subst P (sym is) (all 0 y (omega arith))
+has_all P (y ∷ ys) all x (inr has) = has_all P ys (All-tail P y ys all) x has
 
 -- a note for a board is a note, and is for it
 pub Has-notes_for : (r : ℕ) (notes : List Note) (m : Note) → Has (notes_for r notes) m → Has notes m × (m.target ≡ r)

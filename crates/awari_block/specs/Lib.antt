@@ -13,3 +13,4 @@ pub mod Shares
 pub mod ClosedFields
 pub mod Awaited
 pub mod Counts
+pub mod Each

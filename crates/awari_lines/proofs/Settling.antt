@@ -3,7 +3,8 @@ use Rattle.std.proofs.Common.{◌≡◌, ℕ, ◌+◌, ◌<◌, ◌≤◌, List,
 use Rattle.std.proofs.lemmas.Bool.{cases_eq, cases_lt}
 use Rattle.awari_lines.specs.declared.ends.Ends.{Ends}
 use Rattle.awari_lines.specs.declared.ends.RingPair.{RingPair}
-use Rattle.awari_lines.specs.Rings.{AreExact, EachTo, LookedAt, NoneWait, NothingWaits, IsGrid, SameHistory, sent_on, received_on, waiting_on, pair_of}
+use Rattle.awari_lines.specs.Rings.{AreExact, LookedAt, NoneWait, NothingWaits, IsGrid, SameHistory, sent_on, received_on, waiting_on, pair_of}
+use Rattle.awari_block.specs.Each.{EachTo}
 use Rattle.awari_lines.proofs.Grids.{history_then}
 
 abbrev pub ExactOn : Option RingPair → Option RingPair → Type 0

@@ -163,11 +163,6 @@ pub record SameHistory (a b : Ends) : Type 0 where
   pub sent : (j : ℕ) → j ≢ a.owner → sent_to b j ≡ sent_to a j
   pub received : (j : ℕ) → j ≢ a.owner → received_from b j ≡ received_from a j
 
--- this holds of each of the first list and the one at its place in the second, which is as long
-pub record EachTo {X : Type 0} (R : X → X → Type 0) (xs ys : List X) : Type 0 where
-  pub many : length ys ≡ length xs
-  pub each : (i : ℕ) (d : X) → i < length xs → R (slice_index_or xs i d) (slice_index_or ys i d)
-
 -- on each ring what was received, and then what is known to wait, is what was sent
 abbrev pub AreExact : List Ends → Type 0
 AreExact es = (i j : ℕ) (d : Ends) → i < length es → j < length es → i ≢ j

@@ -1,7 +1,8 @@
 //! What all rings hold, once all ends are in one thread.
 
 ghost use Rattle.std.specs.Prelude.{◌<◌, ◌↔◌, length, slice_index_or, IsTrue};
-ghost use Rattle.awari_lines.specs.Rings.{AreExact, EachTo, IsGrid, LookedAt, NoneWait, NothingWaits, SameHistory};
+ghost use Rattle.awari_lines.specs.Rings.{AreExact, IsGrid, LookedAt, NoneWait, NothingWaits, SameHistory};
+ghost use Rattle.awari_block.specs.Each.{EachTo};
 ghost use Rattle.awari_lines.specs.declared.ends.Ends.{Ends as AnEnds};
 
 use crate::ends::Ends;

@@ -7,7 +7,8 @@ use Rattle.awari_owner.specs.Sound as part
 use Rattle.awari_owner.proofs.Sounding.{stake_same, sound_opened, stays_both, wave_opened}
 use Rattle.awari_block.specs.Blocks.{KeepSettled}
 use Rattle.awari_block.specs.Part.{Part}
-use Rattle.awari_lines.specs.Rings.{EachTo, IsGrid, IsOther, SamePairs, SameHistory, owners_of, sent_to, received_from}
+use Rattle.awari_block.specs.Each.{EachTo}
+use Rattle.awari_lines.specs.Rings.{IsGrid, IsOther, SamePairs, SameHistory, owners_of, sent_to, received_from}
 use Rattle.awari_lines.specs.declared.ends.Ends.{Ends}
 use Rattle.awari_phase.specs.declared.owners.Owner.{Owner}
 use Rattle.awari_phase.specs.Owners.{Batches, IsSound, notes_boxed, notes_given, notes_taken, Kept, Grown, AllGrown, AreFinished, AreInWave, AreReceived, AreSent, JoinsWave, all_ends, ends_of, rest_of}

@@ -2,7 +2,8 @@
 use Rattle.std.proofs.Common.{◌≡◌, ℕ, ◌<◌, List, [], ◌∷◌, length, get_or, sym, subst, ◌∙◌, arith}
 use Rattle.std.proofs.lemmas.List.{length-map, get_or_default}
 use Rattle.std.proofs.Math.ListN.{get_or-map}
-use Rattle.awari_lines.specs.Rings.{EachTo, IsGrid, SamePairs}
+use Rattle.awari_block.specs.Each.{EachTo}
+use Rattle.awari_lines.specs.Rings.{IsGrid, SamePairs}
 use Rattle.awari_lines.specs.declared.ends.Ends.{Ends}
 use Rattle.awari_lines.proofs.Grids.{grid_kept}
 use Rattle.awari_phase.specs.declared.owners.Owner.{Owner}

@@ -46,8 +46,8 @@ module _ (value : List ℕ → ℤ) (n : ℕ) (os : List Owner) (d : Owner) (tog
       elim (Has-append_cases (notes_of (map items_of waits)) (notes_boxed (owner i).outboxes j) m has) [
         | inl waiting ↦ open_since (owner i).part received sent [] waits [] (together.waits j i d low' low (λ e. apart (sym e)))
             (ap (λ l. l ++ waits) (append-nil received) ∙ on_ring i j low low' apart ∙ sym (append-nil sent)) (All-nil (IsOpenBatch (owner i).part)) m waiting
-        | inr boxed ↦ has_all (IsCurrentNote (owner i).part) (notes_boxed (owner i).outboxes j) m
-            ((together.sound i d low).opened j ((λ e. apart (sym (e ∙ number))), subst (λ k. j < k) (sym many) low')) boxed
+        | inr boxed ↦ has_all (IsCurrentNote (owner i).part) (notes_boxed (owner i).outboxes j)
+            ((together.sound i d low).opened j ((λ e. apart (sym (e ∙ number))), subst (λ k. j < k) (sym many) low')) m boxed
       ]
 
   pub sound_looked : AreSound value n (length os) (part_at (parts_of os)) (coming_notes os d) (taken_notes os d)

@@ -2,7 +2,8 @@
 use Rattle.std.proofs.Common.{◌≡◌, ℕ, ◌<◌, List, [], length, All, ℤ, sym, subst, ◌∙◌, arith, get_or}
 use Rattle.awari_owner.specs.Outboxes.{Outboxes}
 use Rattle.awari_owner.proofs.Sounding.{gain_opened, sound_opened}
-use Rattle.awari_lines.specs.Rings.{EachTo, IsGrid, owners_of, received_from, sent_to}
+use Rattle.awari_block.specs.Each.{EachTo}
+use Rattle.awari_lines.specs.Rings.{IsGrid, owners_of, received_from, sent_to}
 use Rattle.awari_lines.specs.declared.ends.Ends.{Ends}
 use Rattle.awari_phase.specs.declared.owners.Owner.{Owner}
 use Rattle.awari_phase.specs.Owners.{AreFinished, Batches, IsSound, OpensNext, all_ends, notes_boxed, notes_given, notes_taken}

@@ -12,7 +12,8 @@ use Rattle.awari_owner.specs.declared.faults.OwnerFault.{OwnerFault}
 use Rattle.awari_owner.specs.declared.faults.OwnerFault.TheVariants as owner_fault
 use Rattle.awari_block.specs.declared.notes.Note.{Note}
 use Rattle.awari_table.specs.declared.TheConstants.{HIGHEST_LEVEL}
-use Rattle.awari_lines.specs.Rings.{EachTo, Notes, IsGrid, IsOther, SameHistory, SamePairs, sent_to, received_from, waiting_from}
+use Rattle.awari_block.specs.Each.{EachTo}
+use Rattle.awari_lines.specs.Rings.{Notes, IsGrid, IsOther, SameHistory, SamePairs, sent_to, received_from, waiting_from}
 use Rattle.awari_lines.specs.declared.ends.Ends.{Ends}
 use Rattle.awari_lines.proofs.Grids.{grid_kept}
 use Rattle.awari_owner.specs.Outboxes.{notes_of, queue_to}
@@ -47,7 +48,7 @@ choice P none n each = ((λ i. pick P none n i each (cases_lt i n)), λ i low. p
 pub has_open : (part : Part) (bs : Batches) (m : Note) → All (IsOpenBatch part) bs → Has (notes_of bs) m → IsCurrentNote part m
 has_open part [] m all has = absurd has
 has_open part (b ∷ bs) m all has = elim (Has-append_cases b (notes_of bs) m has) [
-  | inl here ↦ has_all (IsCurrentNote part) b m (all 0 b (omega arith)).opened here
+  | inl here ↦ has_all (IsCurrentNote part) b (all 0 b (omega arith)).opened m here
   | inr later ↦ has_open part bs m (λ i d low. all (suc i) d (omega (arith, low))) later
 ]
 
@@ -174,7 +175,7 @@ module _ (value : List ℕ → ℤ) (n : ℕ) (os ps : List Owner) (d : Owner) (
         | inl last ↦ back m (Has-append_left (notes_of (map items_of came.0)) (notes_of (map items_of waits)) m (came.2 m last))
         | inr later ↦ elim (Has-append_cases (notes_of (map items_of waits)) (notes_boxed (now i).outboxes j) m later) [
           | inl waiting ↦ back m (Has-append_right (notes_of (map items_of came.0)) (notes_of (map items_of waits)) m waiting)
-          | inr boxed ↦ has_all (IsCurrentNote (now i).part) (notes_boxed (now i).outboxes j) m (sender.sound.opened j (other i j low low' apart)) boxed
+          | inr boxed ↦ has_all (IsCurrentNote (now i).part) (notes_boxed (now i).outboxes j) (sender.sound.opened j (other i j low low' apart)) m boxed
         ]
       ]
 

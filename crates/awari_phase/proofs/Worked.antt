@@ -4,7 +4,8 @@ use Rattle.std.proofs.lemmas.List.{get_or_append_left, length-map, map-append}
 use Rattle.std.proofs.lemmas.List.Elements.{All-append, All-weaker}
 use Rattle.std.proofs.lemmas.Bool.{cases_lt}
 use Rattle.std.proofs.Math.Seq.{get_or-append_seam}
-use Rattle.awari_lines.specs.Rings.{EachTo, IsGrid, SameHistory, SamePairs, received_from, sent_to}
+use Rattle.awari_block.specs.Each.{EachTo}
+use Rattle.awari_lines.specs.Rings.{IsGrid, SameHistory, SamePairs, received_from, sent_to}
 use Rattle.awari_lines.specs.declared.ends.Ends.{Ends}
 use Rattle.awari_block.specs.Part.{Part}
 use Rattle.awari_owner.specs.declared.faults.OwnerFault.{OwnerFault}

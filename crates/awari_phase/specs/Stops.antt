@@ -1,7 +1,8 @@
 -- How a worker comes to a fault, and what became of owners that worked. What the public contracts say of a refused round goes by
 -- this.
 use Rattle.std.specs.Prelude.{◌≡◌, ◌≢◌, ◌⊎◌, ℕ, List, [], ◌∷◌, ◌++◌, None, Some}
-use Rattle.awari_lines.specs.Rings.{EachTo, Notes, IsOther, SamePairs, sent_to, received_from}
+use Rattle.awari_block.specs.Each.{EachTo}
+use Rattle.awari_lines.specs.Rings.{Notes, IsOther, SamePairs, sent_to, received_from}
 use Rattle.awari_lines.specs.declared.ends.Ends.{Ends}
 use Rattle.awari_owner.specs.Outboxes.{Outboxes}
 use Rattle.awari_owner.specs.Sound.{RefusesNote}

@@ -1,7 +1,8 @@
 //! The next gain, or the next distance, opened in all parts.
 
 ghost use Rattle.std.specs.Prelude.{◌≡◌, ◌≤◌, All, []};
-ghost use Rattle.awari_lines.specs.Rings.{EachTo, IsGrid};
+ghost use Rattle.awari_block.specs.Each.{EachTo};
+ghost use Rattle.awari_lines.specs.Rings.{IsGrid};
 ghost use Rattle.awari_block.specs.Blocks.{due_dist};
 ghost use Rattle.awari_phase.specs.Owners.{AllGrown, AreIdle, AreReceived, AreSent, OpensNext, JoinsWave, StayFinished, StayTogether, all_ends};
 ghost use Rattle.awari_phase.specs.declared.owners.Owner.{Owner as AnOwner};

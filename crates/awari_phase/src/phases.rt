@@ -1,7 +1,8 @@
 //! Rounds, until a gain is closed.
 
 ghost use Rattle.std.specs.Prelude.{◌≡◌, ◌⊎◌, ◌≤◌, All, IsTrue, false, IsNone, IfSome, IfOk, IfErr, [], slice_get};
-ghost use Rattle.awari_lines.specs.Rings.{EachTo, IsGrid};
+ghost use Rattle.awari_block.specs.Each.{EachTo};
+ghost use Rattle.awari_lines.specs.Rings.{IsGrid};
 ghost use Rattle.awari_block.specs.Blocks.{due_dist};
 ghost use Rattle.awari_block.specs.Counts.{spread_in};
 ghost use Rattle.awari_phase.specs.Owners.{AllGrown, AreIdle, AreReceived, AreSent, Kept, StayFinished, StayTogether, all_ends, parts_of};

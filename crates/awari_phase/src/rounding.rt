@@ -1,7 +1,8 @@
 //! Rounds: all owners work, each in a thread of its own, or one after the other.
 
 ghost use Rattle.std.specs.Prelude.{◌≡◌, ◌≤◌, ℕ, ℤ, List, IsNone, IfOk, IfErr, IfSome};
-ghost use Rattle.awari_lines.specs.Rings.{EachTo, IsGrid};
+ghost use Rattle.awari_block.specs.Each.{EachTo};
+ghost use Rattle.awari_lines.specs.Rings.{IsGrid};
 ghost use Rattle.awari_table.specs.declared.TheConstants.{HIGHEST_LEVEL};
 ghost use Rattle.awari_phase.specs.Owners.{AreTogether, Kept, StayTogether, Swept, all_ends};
 ghost use Rattle.awari_phase.specs.PhaseFault.{AreWell, IfTogether, IsFirstFault, IsRefusal, IsWant, fault_of};

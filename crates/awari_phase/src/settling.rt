@@ -1,7 +1,8 @@
 //! What the rings hold, once all owners are in one thread.
 
 ghost use Rattle.std.specs.Prelude.{◌≡◌, ◌<◌, ◌↔◌, length, map, slice_index_or, IsTrue};
-ghost use Rattle.awari_lines.specs.Rings.{EachTo, IsGrid, LookedAt, NoneWait, NothingWaits, SameHistory};
+ghost use Rattle.awari_block.specs.Each.{EachTo};
+ghost use Rattle.awari_lines.specs.Rings.{IsGrid, LookedAt, NoneWait, NothingWaits, SameHistory};
 ghost use Rattle.awari_lines.specs.declared.ends.Ends.{Ends as AnEnds};
 ghost use Rattle.awari_phase.specs.Owners.{AreLooked, all_ends, rest_of};
 

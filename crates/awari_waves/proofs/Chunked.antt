@@ -19,17 +19,17 @@ use Rattle.awari_heard.specs.Heard.{Hears, HearsTruth, IsSpread, HearsNotes, Are
 use Rattle.awari_scan.specs.Found.{Source, code_by, code_of}
 use Rattle.awari_heard.specs.Level.{AreHeard, no_part, part_at}
 use Rattle.awari_heard.proofs.SpreadBoards.{IsInjective, spread_before, spread_stays}
-use Rattle.awari_waves.specs.Lists.{AreDistinct, In}
+use Rattle.awari_waves.specs.Lists.{AreDistinct}
 use Rattle.awari_waves.specs.Waves.{AreSourcesOf, CanAllHear, HearsFrom, IsCodeFor, IsCut, IsPending, SettlesAll, codes_to, note_by, value_of_kind, with_pending, both_by, notes_by}
-use Rattle.awari_waves.proofs.Sources.{IsFrom, Keeps, all_in, codes_distinct, codes_in, distinct_apart, distinct_first, distinct_second, in_codes, in_either, in_first, in_map, in_or_not, in_second, source_all, source_from, sources_distinct}
+use Rattle.awari_waves.proofs.Sources.{IsFrom, Keeps, codes_distinct, codes_in, distinct_apart, distinct_first, distinct_second, in_codes, in_map, in_or_not, source_all, source_from, sources_distinct}
 use Rattle.awari_waves.proofs.Laying.{sources_both}
-use Rattle.awari_block.proofs.NoteLists.{heard_note, Has-append_cases, Has-append_left, Has-append_right}
+use Rattle.awari_block.proofs.NoteLists.{heard_note, Has-append_cases, Has-append_left, Has-append_right, all_has}
 use Rattle.awari_waves.proofs.Noting.{code_is, noted_from, noted_in, notes_apart}
 use Rattle.awari_heard.proofs.Coming.{all_unheard, for_either, for_new, for_still, once_more}
 
 -- ---- pending boards
 
-pub pend_zero : (w : ℕ) (ranks : List ℕ) (fresh : List Due) (r : ℕ) → times_due (map (λ x. (w, x)) ranks ++ fresh) r ≡ 0 → (In ranks r → ⊥) × (times_due fresh r ≡ 0)
+pub pend_zero : (w : ℕ) (ranks : List ℕ) (fresh : List Due) (r : ℕ) → times_due (map (λ x. (w, x)) ranks ++ fresh) r ≡ 0 → (Has ranks r → ⊥) × (times_due fresh r ≡ 0)
 pend_zero w [] fresh r none = ((λ h. h), none)
 pend_zero w (x ∷ ranks) fresh r none =
     let cons = times_due-cons (w, x) (map (λ y. (w, y)) ranks ++ fresh) r in
@@ -39,7 +39,7 @@ pend_zero w (x ∷ ranks) fresh r none =
     here : (a b : ℕ) → a ≡ b → one_if (a == b) ≡ 1
     here a b e = grind (arith, nat_tests)
 
-pub pend_none : (w : ℕ) (ranks : List ℕ) (fresh : List Due) (r : ℕ) → (In ranks r → ⊥) → times_due fresh r ≡ 0 → times_due (map (λ x. (w, x)) ranks ++ fresh) r ≡ 0
+pub pend_none : (w : ℕ) (ranks : List ℕ) (fresh : List Due) (r : ℕ) → (Has ranks r → ⊥) → times_due fresh r ≡ 0 → times_due (map (λ x. (w, x)) ranks ++ fresh) r ≡ 0
 pend_none w [] fresh r apart none = none
 pend_none w (x ∷ ranks) fresh r apart none =
     let cons = times_due-cons (w, x) (map (λ y. (w, y)) ranks ++ fresh) r in
@@ -89,17 +89,17 @@ part_of_map f parts i d h = get_or-map f parts i no_part d h
 module _ (stake : Stake) (span : ℕ) (old : List Part) (injective : IsInjective) (keeps : Keeps) (boards : (p q : List ℕ) (x : ℕ) → IsBoard p → IsQuietMove p x q → IsBoard q)
     (one : 1 ≤ stake.gain) (grid : IsCut stake span old) where
   -- the boards of one kind, and their sources
-  module _ (kind : Kind) (ranks : List ℕ) (sources : List Source) (pending : (r : ℕ) → In ranks r → IsPending stake span old kind r) (found : AreSourcesOf stake.level ranks sources) where
+  module _ (kind : Kind) (ranks : List ℕ) (sources : List Source) (pending : (r : ℕ) → Has ranks r → IsPending stake span old kind r) (found : AreSourcesOf stake.level ranks sources) where
     -- such a board, in its block
-    pub chunk_spread : (i r : ℕ) → i < length old → InBlock (part_at old i) r → In ranks r → IsSpread (part_at old i) r (value_of_kind kind stake.gain) stake.wave
+    pub chunk_spread : (i r : ℕ) → i < length old → InBlock (part_at old i) r → Has ranks r → IsSpread (part_at old i) r (value_of_kind kind stake.gain) stake.wave
     chunk_spread i r few inside listed =
         let at = grid.only i r few inside in
         let is = pending r listed in
         (subst (λ b. settled_at (part_at old b) r ≡ Some (value_of_kind kind stake.gain, stake.wave)) at is.settled, subst (λ b. times_due (part_at old b).fresh r ≡ 0) at is.taken)
 
     -- a code for a block is a note of one of these boards
-    pub code_true : (j c : ℕ) (p q : List ℕ) (x : ℕ) → j < length old → In (codes_to span j sources) c → IsBoard p → sum p ≡ stake.level → c / 8 ≡ rank_of p → c % 8 ≡ x → IsQuietMove p x q
-        → In ranks (rank_of q) × IsNoteOf q (value_of_kind kind stake.gain) stake.wave p x (note_by (stake_of (part_at old j)) kind c)
+    pub code_true : (j c : ℕ) (p q : List ℕ) (x : ℕ) → j < length old → Has (codes_to span j sources) c → IsBoard p → sum p ≡ stake.level → c / 8 ≡ rank_of p → c % 8 ≡ x → IsQuietMove p x q
+        → Has ranks (rank_of q) × IsNoteOf q (value_of_kind kind stake.gain) stake.wave p x (note_by (stake_of (part_at old j)) kind c)
     code_true j c p q x few has board stones rank pit quiet =
         let m = in_codes span j sources c has in
         let y : Source = m.0 in
@@ -109,13 +109,13 @@ module _ (stake : Stake) (span : ℕ) (old : List Part) (injective : IsInjective
         let same_board : y.0 ≡ p = injective y.0 p from.from board (from.sum_from ∙ sym stones) (omega (arith, code, rank, own)) in
         let same_pit : y.1 ≡ x = omega (arith, code, pit, own) in
         let to : from.q ≡ q = from.quiet.leaves ∙ ap (next_board y.0) same_pit ∙ ap (λ b. next_board b x) same_board ∙ sym quiet.leaves in (
-          subst (λ (b : List ℕ). In ranks (rank_of b)) to from.listed,
+          subst (λ (b : List ℕ). Has ranks (rank_of b)) to from.listed,
           note_is stake (stake_of (part_at old j)) kind p q x c (grid.level j few) (grid.gain j few) (grid.wave j few) one stones rank pit quiet,
         )
 
     -- and of each move to them there is one
-    pub code_all : (j : ℕ) (p q : List ℕ) (x : ℕ) → j < length old → IsBoard p → sum p ≡ stake.level → InBlock (part_at old j) (rank_of p) → IsQuietMove p x q → In ranks (rank_of q)
-        → In (codes_to span j sources) (code_by (rank_of p) x) × IsNoteOf q (value_of_kind kind stake.gain) stake.wave p x (note_by (stake_of (part_at old j)) kind (code_by (rank_of p) x))
+    pub code_all : (j : ℕ) (p q : List ℕ) (x : ℕ) → j < length old → IsBoard p → sum p ≡ stake.level → InBlock (part_at old j) (rank_of p) → IsQuietMove p x q → Has ranks (rank_of q)
+        → Has (codes_to span j sources) (code_by (rank_of p) x) × IsNoteOf q (value_of_kind kind stake.gain) stake.wave p x (note_by (stake_of (part_at old j)) kind (code_by (rank_of p) x))
     code_all j p q x few board stones inside quiet listed =
         let own = quiet.legal.own in
         let keep = keeps p q x board quiet in (
@@ -124,7 +124,7 @@ module _ (stake : Stake) (span : ℕ) (old : List Part) (injective : IsInjective
         )
 
     -- for a board of its block
-    pub code_fits : (j c : ℕ) → In (codes_to span j sources) c → IsCodeFor (part_at old j) c
+    pub code_fits : (j c : ℕ) → Has (codes_to span j sources) c → IsCodeFor (part_at old j) c
     code_fits j c has =
         let m = in_codes span j sources c has in
         let y : Source = m.0 in
@@ -136,10 +136,10 @@ module _ (stake : Stake) (span : ℕ) (old : List Part) (injective : IsInjective
         (subst₂ (λ b r. InBlock (part_at old b) r) m.3 rank mine.1, omega (arith, code, own))
 
     pub codes_fit : (j : ℕ) (codes : List ℕ) → codes ≡ codes_to span j sources → All (IsCodeFor (part_at old j)) codes
-    codes_fit j codes is = all_in (IsCodeFor (part_at old j)) codes (λ c h. code_fits j c (subst (λ (l : List ℕ). In l c) is h))
+    codes_fit j codes is = all_has (IsCodeFor (part_at old j)) codes (λ c h. code_fits j c (subst (λ (l : List ℕ). Has l c) is h))
 
     -- of a quiet move that was not heard before, since the board was not spread
-    pub code_unheard : (j c : ℕ) (others : List ℕ) (notes : List Note) → j < length old → In (codes_to span j sources) c → ((r : ℕ) → In ranks r → In others r)
+    pub code_unheard : (j c : ℕ) (others : List ℕ) (notes : List Note) → j < length old → Has (codes_to span j sources) c → ((r : ℕ) → Has ranks r → Has others r)
         → ((i : ℕ) → i < length old → HearsTruth (with_pending others (part_at old i)) (with_pending others (part_at old j)) notes) → IsUnheard stake.level notes (note_by (stake_of (part_at old j)) kind c)
     code_unheard j c others notes few has among truth =
         let m = in_codes span j sources c has in
@@ -164,7 +164,7 @@ module _ (stake : Stake) (span : ℕ) (old : List Part) (injective : IsInjective
             (pend_zero (part_at old (rank_of from.q / span)).wave others (part_at old (rank_of from.q / span)).fresh (rank_of from.q) told.2.1).0 (among (rank_of from.q) from.listed))
 
   -- the blocks can hear what was found of both kinds
-  pub can_hear : (lost won : List ℕ) (xs ys : List Source) (lost_notes won_notes : ℕ → List ℕ) → ((r : ℕ) → In lost r → IsPending stake span old Lost r) → ((r : ℕ) → In won r → IsPending stake span old Won r)
+  pub can_hear : (lost won : List ℕ) (xs ys : List Source) (lost_notes won_notes : ℕ → List ℕ) → ((r : ℕ) → Has lost r → IsPending stake span old Lost r) → ((r : ℕ) → Has won r → IsPending stake span old Won r)
       → AreSourcesOf stake.level lost xs → AreSourcesOf stake.level won ys → ((j : ℕ) → lost_notes j ≡ codes_to span j xs) → ((j : ℕ) → won_notes j ≡ codes_to span j ys)
       → stake.gain ≤ stake.level → stake.wave < 2 ^ 32 - 1 → length old < 2 ^ 64 → CanAllHear 0 lost_notes won_notes old
   can_hear lost won xs ys lost_notes won_notes pend_lost pend_won found_lost found_won at_lost at_won inward near few = record {
@@ -183,7 +183,7 @@ module _ (stake : Stake) (span : ℕ) (old : List Part) (injective : IsInjective
 
   -- the lost boards of a chunk and the won ones, whose notes each block heard
   module _ (lost won rest : List ℕ) (xs ys : List Source) (lost_notes won_notes : ℕ → List ℕ) (new : List Part)
-      (pend_lost : (r : ℕ) → In lost r → IsPending stake span old Lost r) (pend_won : (r : ℕ) → In won r → IsPending stake span old Won r)
+      (pend_lost : (r : ℕ) → Has lost r → IsPending stake span old Lost r) (pend_won : (r : ℕ) → Has won r → IsPending stake span old Won r)
       (found_lost : AreSourcesOf stake.level lost xs) (found_won : AreSourcesOf stake.level won ys)
       (at_lost : (j : ℕ) → lost_notes j ≡ codes_to span j xs) (at_won : (j : ℕ) → won_notes j ≡ codes_to span j ys)
       (hears : HearsFrom 0 lost_notes won_notes old new) (distinct : AreDistinct ((lost ++ won) ++ rest)) where
@@ -204,17 +204,17 @@ module _ (stake : Stake) (span : ℕ) (old : List Part) (injective : IsInjective
         subst AreDistinct (map-append code_of xs ys)
         (sources_distinct stake.level (lost ++ won) (xs ++ ys) injective keeps (distinct_first (lost ++ won) rest distinct) (sources_both stake.level lost won xs ys found_lost found_won))
 
-    lost_listed : (j c : ℕ) → In (lost_notes j) c → In (codes_to span j xs) c
-    lost_listed j c h = subst (λ (l : List ℕ). In l c) (at_lost j) h
+    lost_listed : (j c : ℕ) → Has (lost_notes j) c → Has (codes_to span j xs) c
+    lost_listed j c h = subst (λ (l : List ℕ). Has l c) (at_lost j) h
 
-    won_listed : (j c : ℕ) → In (won_notes j) c → In (codes_to span j ys) c
-    won_listed j c h = subst (λ (l : List ℕ). In l c) (at_won j) h
+    won_listed : (j c : ℕ) → Has (won_notes j) c → Has (codes_to span j ys) c
+    won_listed j c h = subst (λ (l : List ℕ). Has l c) (at_won j) h
 
-    listed_lost : (r : ℕ) → In lost r → In everyone r
-    listed_lost r h = in_first (lost ++ won) rest r (in_first lost won r h)
+    listed_lost : (r : ℕ) → Has lost r → Has everyone r
+    listed_lost r h = Has-append_left (lost ++ won) rest r (Has-append_left lost won r h)
 
-    listed_won : (r : ℕ) → In won r → In everyone r
-    listed_won r h = in_first (lost ++ won) rest r (in_second lost won r h)
+    listed_won : (r : ℕ) → Has won r → Has everyone r
+    listed_won r h = Has-append_left (lost ++ won) rest r (Has-append_right lost won r h)
 
     abbrev IsTrueTo : ℕ → List Note → Type 0
     IsTrueTo j notes = (i : ℕ) → i < length old → HearsTruth (with_pending everyone (part_at old i)) (with_pending everyone (part_at old j)) notes
@@ -247,7 +247,7 @@ module _ (stake : Stake) (span : ℕ) (old : List Part) (injective : IsInjective
             let b = in_codes span j ys to.0 (won_listed j to.0 to.1) in
             let same : to.0 ≡ from.0 =
             code_is to.0 from.0 (sym (ap (λ (n : Note). n.target) to.2) ∙ target ∙ ap (λ (n : Note). n.target) from.2) (sym (ap (λ (n : Note). n.pit) to.2) ∙ pit ∙ ap (λ (n : Note). n.pit) from.2) in
-            distinct_apart (map code_of xs) (map code_of ys) to.0 distinct_codes (subst (In (map code_of xs)) (sym a.2 ∙ sym same) (in_map xs a.0 a.1)) (subst (In (map code_of ys)) (sym b.2) (in_map ys b.0 b.1))
+            distinct_apart (map code_of xs) (map code_of ys) to.0 distinct_codes (subst (Has (map code_of xs)) (sym a.2 ∙ sym same) (in_map xs a.0 a.1)) (subst (Has (map code_of ys)) (sym b.2) (in_map ys b.0 b.1))
 
     told_block : (value : List ℕ → ℤ) (j : ℕ) (notes : List Note) → j < length old → IsTrueTo j notes → IsTallied value (part_at old j) notes → IsTallied value (part_at new j) (with_both j notes)
     told_block value j notes few truth tallied =
@@ -265,13 +265,13 @@ module _ (stake : Stake) (span : ℕ) (old : List Part) (injective : IsInjective
         let b = inside.1 in
         (omega (arith, a, s.same.start), omega (arith, b, s.size, s.same.start))
 
-    spread_now : (i r : ℕ) (v : ℤ) (d : ℕ) → i < length old → InBlock (part_at old i) r → (In rest r → ⊥) → IsSpread (part_at old i) r v d → IsSpread (with_pending rest (part_at new i)) r v d
+    spread_now : (i r : ℕ) (v : ℤ) (d : ℕ) → i < length old → InBlock (part_at old i) r → (Has rest r → ⊥) → IsSpread (part_at old i) r v d → IsSpread (with_pending rest (part_at new i)) r v d
     spread_now i r v d few inside apart spread =
         let s = hears.settles i few in
         let now = spread_stays (part_at old i) (part_at new i) s.same.start s.stays s.joins r v d inside.0 spread in
         (now.0, pend_none (part_at new i).wave rest (part_at new i).fresh r apart now.1)
 
-    spread_then : (i r : ℕ) (v : ℤ) (d : ℕ) → i < length old → InBlock (part_at old i) r → IsSpread (with_pending rest (part_at new i)) r v d → (In rest r → ⊥) × IsSpread (part_at old i) r v d
+    spread_then : (i r : ℕ) (v : ℤ) (d : ℕ) → i < length old → InBlock (part_at old i) r → IsSpread (with_pending rest (part_at new i)) r v d → (Has rest r → ⊥) × IsSpread (part_at old i) r v d
     spread_then i r v d few inside spread =
         let s = hears.settles i few in
         let none = pend_zero (part_at new i).wave rest (part_at new i).fresh r spread.1 in
@@ -280,11 +280,11 @@ module _ (stake : Stake) (span : ℕ) (old : List Part) (injective : IsInjective
     spread_still : (i r : ℕ) (v : ℤ) (d : ℕ) → i < length old → InBlock (part_at old i) r → IsSpread (with_pending everyone (part_at old i)) r v d → IsSpread (with_pending rest (part_at new i)) r v d
     spread_still i r v d few inside spread =
         let none = pend_zero (part_at old i).wave everyone (part_at old i).fresh r spread.1 in
-        spread_now i r v d few inside (λ h. none.0 (in_second (lost ++ won) rest r h)) (spread.0, none.1)
+        spread_now i r v d few inside (λ h. none.0 (Has-append_right (lost ++ won) rest r h)) (spread.0, none.1)
 
     -- a note of a code is true
-    from_code : (kind : Kind) (ranks : List ℕ) (sources : List Source) → ((r : ℕ) → In ranks r → IsPending stake span old kind r) → AreSourcesOf stake.level ranks sources → ((r : ℕ) → In ranks r → In (lost ++ won) r)
-        → (i j c : ℕ) (p q : List ℕ) (x : ℕ) (m : Note) → i < length old → j < length old → IsBoard p → sum p ≡ stake.level → InBlock (part_at old i) (rank_of q) → IsQuietMove p x q → In (codes_to span j sources) c
+    from_code : (kind : Kind) (ranks : List ℕ) (sources : List Source) → ((r : ℕ) → Has ranks r → IsPending stake span old kind r) → AreSourcesOf stake.level ranks sources → ((r : ℕ) → Has ranks r → Has (lost ++ won) r)
+        → (i j c : ℕ) (p q : List ℕ) (x : ℕ) (m : Note) → i < length old → j < length old → IsBoard p → sum p ≡ stake.level → InBlock (part_at old i) (rank_of q) → IsQuietMove p x q → Has (codes_to span j sources) c
         → c / 8 ≡ rank_of p → m ≡ note_by (stake_of (part_at old j)) kind c → m.pit ≡ x
         → (v : ℤ) × (d : ℕ) × IsSpread (with_pending rest (part_at new i)) (rank_of q) v d × IsNoteOf q v d p x m
     from_code kind ranks sources pending found among i j c p q x m few few' board stones in_q quiet has rank is pit =
@@ -297,10 +297,10 @@ module _ (stake : Stake) (span : ℕ) (old : List Part) (injective : IsInjective
         )
 
     -- and each is there
-    via_code : (kind : Kind) (ranks : List ℕ) (sources : List Source) → ((r : ℕ) → In ranks r → IsPending stake span old kind r) → AreSourcesOf stake.level ranks sources
+    via_code : (kind : Kind) (ranks : List ℕ) (sources : List Source) → ((r : ℕ) → Has ranks r → IsPending stake span old kind r) → AreSourcesOf stake.level ranks sources
         → (i j : ℕ) (p q : List ℕ) (x : ℕ) (v : ℤ) (d : ℕ) → i < length old → j < length old → IsBoard p → sum p ≡ stake.level → InBlock (part_at old j) (rank_of p) → InBlock (part_at old i) (rank_of q) → IsQuietMove p x q
-        → IsSpread (part_at old i) (rank_of q) v d → In ranks (rank_of q)
-        → (c : ℕ) × In (codes_to span j sources) c × (c / 8 ≡ rank_of p) × IsNoteOf q v d p x (note_by (stake_of (part_at old j)) kind c)
+        → IsSpread (part_at old i) (rank_of q) v d → Has ranks (rank_of q)
+        → (c : ℕ) × Has (codes_to span j sources) c × (c / 8 ≡ rank_of p) × IsNoteOf q v d p x (note_by (stake_of (part_at old j)) kind c)
     via_code kind ranks sources pending found i j p q x v d few few' board stones in_p in_q quiet spread listed =
         let all = code_all kind ranks sources pending found j p q x few' board stones in_p quiet listed in
         let here = chunk_spread kind ranks sources pending found i (rank_of q) few in_q listed in
@@ -326,11 +326,11 @@ module _ (stake : Stake) (span : ℕ) (old : List Part) (injective : IsInjective
             | inr new ↦ elim (Has-append_cases (lost_by j) (won_by j) m new.0) [
               | inl lose ↦ (
                   let l = noted_from (stake_of (part_at old j)) Lost (lost_notes j) m lose in
-                  from_code Lost lost xs pend_lost found_lost (λ r h. in_first lost won r h) i j l.0 p q x m few few' board (level ∙ grid.level j few') in_q' quiet (lost_listed j l.0 l.1)
+                  from_code Lost lost xs pend_lost found_lost (λ r h. Has-append_left lost won r h) i j l.0 p q x m few few' board (level ∙ grid.level j few') in_q' quiet (lost_listed j l.0 l.1)
                   (sym (ap (λ (n : Note). n.target) l.2) ∙ new.1) l.2 pit)
               | inr win ↦ (
                   let w = noted_from (stake_of (part_at old j)) Won (won_notes j) m win in
-                  from_code Won won ys pend_won found_won (λ r h. in_second lost won r h) i j w.0 p q x m few few' board (level ∙ grid.level j few') in_q' quiet (won_listed j w.0 w.1)
+                  from_code Won won ys pend_won found_won (λ r h. Has-append_right lost won r h) i j w.0 p q x m few few' board (level ∙ grid.level j few') in_q' quiet (won_listed j w.0 w.1)
                   (sym (ap (λ (n : Note). n.target) w.2) ∙ new.1) w.2 pit)
             ]
           ];
@@ -342,7 +342,7 @@ module _ (stake : Stake) (span : ℕ) (old : List Part) (injective : IsInjective
           elim (in_or_not lost (rank_of q)) [
             | inl l ↦ (
                 let told = via_code Lost lost xs pend_lost found_lost i j p q x v d few few' board (level ∙ grid.level j few') in_p' in_q' quiet then.1 l in
-                let listed : In (lost_notes j) told.0 = subst (λ (l : List ℕ). In l told.0) (sym (at_lost j)) told.1 in (
+                let listed : Has (lost_notes j) told.0 = subst (λ (l : List ℕ). Has l told.0) (sym (at_lost j)) told.1 in (
                   note_by (stake_of (part_at old j)) Lost told.0,
                   subst (λ r. Has (notes_for r (with_both j notes)) (note_by (stake_of (part_at old j)) Lost told.0)) told.2
                       (for_new (lost_by j ++ won_by j) notes _ (Has-append_left (lost_by j) (won_by j) _ (noted_in (stake_of (part_at old j)) Lost (lost_notes j) told.0 listed))),
@@ -351,7 +351,7 @@ module _ (stake : Stake) (span : ℕ) (old : List Part) (injective : IsInjective
             | inr not_lost ↦ elim (in_or_not won (rank_of q)) [
               | inl w ↦ (
                   let told = via_code Won won ys pend_won found_won i j p q x v d few few' board (level ∙ grid.level j few') in_p' in_q' quiet then.1 w in
-                  let listed : In (won_notes j) told.0 = subst (λ (l : List ℕ). In l told.0) (sym (at_won j)) told.1 in (
+                  let listed : Has (won_notes j) told.0 = subst (λ (l : List ℕ). Has l told.0) (sym (at_won j)) told.1 in (
                     note_by (stake_of (part_at old j)) Won told.0,
                     subst (λ r. Has (notes_for r (with_both j notes)) (note_by (stake_of (part_at old j)) Won told.0)) told.2
                         (for_new (lost_by j ++ won_by j) notes _ (Has-append_right (lost_by j) (won_by j) _ (noted_in (stake_of (part_at old j)) Won (won_notes j) told.0 listed))),
@@ -361,8 +361,8 @@ module _ (stake : Stake) (span : ℕ) (old : List Part) (injective : IsInjective
                   let told = own.all_notes p x q v d board level in_p' in_q' quiet (
                     then.1.0,
                     pend_none (part_at old i).wave everyone (part_at old i).fresh (rank_of q)
-                        (λ h. elim (in_either (lost ++ won) rest (rank_of q) h) [
-                          | inl both ↦ elim (in_either lost won (rank_of q) both) [ inl l ↦ not_lost l | inr w ↦ not_won w ]
+                        (λ h. elim (Has-append_cases (lost ++ won) rest (rank_of q) h) [
+                          | inl both ↦ elim (Has-append_cases lost won (rank_of q) both) [ inl l ↦ not_lost l | inr w ↦ not_won w ]
                           | inr r ↦ then.0 r
                         ]) then.1.1,
                   ) in (

@@ -1,13 +1,13 @@
 -- The same boards, of which those that were settled keep value and distance.
-use Rattle.std.proofs.Common.{◌≡◌, ℕ, List, refl, sym, subst, ◌∙◌, arith}
+use Rattle.std.proofs.Common.{◌≡◌, ℕ, List, refl, sym, subst, ◌∙◌, arith, get_or}
 use Rattle.awari_block.specs.Blocks.{cell_in}
 use Rattle.awari_block.specs.Boards.{Settles}
 use Rattle.awari_block.specs.Cells.{Keeps}
 use Rattle.awari_block.specs.Part.{Part}
 use Rattle.awari_block.proofs.BlockLemmas.{keeps_both, keeps_same}
-use Rattle.awari_heard.specs.Level.{part_at}
 use Rattle.awari_heard.specs.Heard.{SameBlock}
-use Rattle.awari_waves.specs.Each.{Each, KeepsBoards, IsAtWave, OpensSegment}
+use Rattle.awari_waves.specs.Each.{KeepsBoards, IsAtWave, OpensSegment}
+use Rattle.awari_block.specs.Each.{EachTo}
 
 pub keeps_none : (part : Part) → KeepsBoards part part
 keeps_none part = record {
@@ -36,31 +36,31 @@ keeps_settled a b settles = record { block = record { level = settles.same.level
 
 -- ---- of each block of a level
 
-pub same_each : (old new : List Part) → Each KeepsBoards old new → Each SameBlock old new
-same_each old new all = record { blocks = all.blocks; each = λ i few. (all.each i few).block }
+pub same_each : (old new : List Part) → EachTo KeepsBoards old new → EachTo SameBlock old new
+same_each old new all = record { many = all.many; each = λ i d few. (all.each i d few).block }
 
-pub keeps_each : (a b c : List Part) → Each KeepsBoards a b → Each KeepsBoards b c → Each KeepsBoards a c
+pub keeps_each : (a b c : List Part) → EachTo KeepsBoards a b → EachTo KeepsBoards b c → EachTo KeepsBoards a c
 keeps_each a b c one two = record {
-  blocks = two.blocks ∙ one.blocks;
-  each = λ i few. keeps_then (part_at a i) (part_at b i) (part_at c i) (one.each i few) (two.each i (let many = one.blocks in omega (arith, few, many)));
+  many = two.many ∙ one.many;
+  each = λ i d few. keeps_then (get_or a i d) (get_or b i d) (get_or c i d) (one.each i d few) (two.each i d (let many = one.many in omega (arith, few, many)));
 }
 
-pub keeps_all : (parts : List Part) → Each KeepsBoards parts parts
-keeps_all parts = record { blocks = refl; each = λ i few. keeps_none (part_at parts i) }
+pub keeps_all : (parts : List Part) → EachTo KeepsBoards parts parts
+keeps_all parts = record { many = refl; each = λ i d few. keeps_none (get_or parts i d) }
 
-pub keeps_waved : (dist : ℕ) (old new : List Part) → Each (IsAtWave dist) old new → Each KeepsBoards old new
+pub keeps_waved : (dist : ℕ) (old new : List Part) → EachTo (IsAtWave dist) old new → EachTo KeepsBoards old new
 keeps_waved dist old new all = record {
-  blocks = all.blocks;
-  each = λ i few. subst (KeepsBoards (part_at old i)) (sym (all.each i few)) (record {
+  many = all.many;
+  each = λ i d few. subst (KeepsBoards (get_or old i d)) (sym (all.each i d few)) (record {
     block = record { level = refl; start = refl; size = refl };
-    stays = λ r low. keeps_same (cell_in (part_at old i).start (part_at old i).cells r) (cell_in (part_at old i).start (part_at old i).cells r) refl;
+    stays = λ r low. keeps_same (cell_in (get_or old i d).start (get_or old i d).cells r) (cell_in (get_or old i d).start (get_or old i d).cells r) refl;
   });
 }
 
-pub keeps_opened : (gain : ℕ) (old new : List Part) → Each (OpensSegment gain) old new → Each KeepsBoards old new
+pub keeps_opened : (gain : ℕ) (old new : List Part) → EachTo (OpensSegment gain) old new → EachTo KeepsBoards old new
 keeps_opened gain old new all = record {
-  blocks = all.blocks;
-  each = λ i few. let settles = (all.each i few).settles in record {
+  many = all.many;
+  each = λ i d few. let settles = (all.each i d few).settles in record {
     block = record { level = settles.same.level; start = settles.same.start; size = settles.size };
     stays = settles.stays;
   };

@@ -4,17 +4,17 @@ use Rattle.std.proofs.lemmas.Bool.Decides.{nat_tests}
 use Rattle.std.proofs.lemmas.List.{length_push, take-append-drop}
 use Rattle.awari_board.specs.Rules.{IsBoard}
 use Rattle.awari_rank.specs.Rank.{rank_of, size_of}
-use Rattle.awari_block.specs.Notes.{IsQuietMove}
+use Rattle.awari_block.specs.Notes.{IsQuietMove, Has}
 use Rattle.awari_unmove.specs.Predecessors.{IsPredecessors}
 use Rattle.awari_scan.specs.Found.{Lists, Source, code_of}
 use Rattle.awari_scan.proofs.Finding.{IsNext, next_source, none_left}
 use Rattle.awari_block.specs.declared.notes.Kind.{Kind}
-use Rattle.awari_waves.specs.Lists.{In, list_at, with_put}
+use Rattle.awari_waves.specs.Lists.{list_at, with_put}
 use Rattle.awari_waves.specs.Rows.{lists_by, notes_at}
 use Rattle.awari_waves.specs.declared.lists.Row.{Row}
 use Rattle.awari_waves.specs.Waves.{AreSourcesOf, CanFind, Finds, FindsFor, Puts, codes_to}
-use Rattle.awari_waves.proofs.Sources.{all_in, each_in, in_first, in_second}
 use Rattle.awari_waves.proofs.ListLemmas.{with_put-at, with_put-other}
+use Rattle.awari_block.proofs.NoteLists.{Has-append_left, Has-append_right, all_has, has_all}
 
 pub codes_to-append : (span to : ℕ) (xs ys : List Source) → codes_to span to (xs ++ ys) ≡ codes_to span to xs ++ codes_to span to ys
 codes_to-append span to [] ys = refl
@@ -127,10 +127,10 @@ finds_pieces level span ranks low high kind a b is one two = (
   λ to. notes_append kind a b to ∙ ap (λ l. l ++ notes_at kind b to) (one.2 to) ∙ ap (λ l. codes_to span to one.0 ++ l) (two.2 to) ∙ sym (codes_to-append span to one.0 two.0),
 )
 
-pub can_find : (level span : ℕ) (ranks part : List ℕ) (rows few : ℕ) → ((x : ℕ) → In part x → In ranks x) → 1 ≤ few → CanFind level span ranks rows → CanFind level span part few
+pub can_find : (level span : ℕ) (ranks part : List ℕ) (rows few : ℕ) → ((x : ℕ) → Has part x → Has ranks x) → 1 ≤ few → CanFind level span ranks rows → CanFind level span part few
 can_find level span ranks part rows few among some can = record {
   low = can.low;
-  inside = all_in (λ rank. rank < size_of level) part (λ x h. each_in (λ rank. rank < size_of level) ranks can.inside x (among x h));
+  inside = all_has (λ rank. rank < size_of level) part (λ x h. has_all (λ rank. rank < size_of level) ranks can.inside x (among x h));
   few = can.few;
   blocks = can.blocks;
   some = some;
@@ -141,11 +141,11 @@ halves ranks low high half front back = sym (ap (λ l. l ++ high) front ∙ ap (
 
 pub can_first : (level span : ℕ) (ranks low : List ℕ) (half rows few : ℕ) → low ≡ take half ranks → 1 ≤ few → CanFind level span ranks rows → CanFind level span low few
 can_first level span ranks low half rows few is =
-    can_find level span ranks low rows few (λ x h. subst (λ (l : List ℕ). In l x) (sym (halves ranks low (drop half ranks) half is refl)) (in_first low (drop half ranks) x h))
+    can_find level span ranks low rows few (λ x h. subst (λ (l : List ℕ). Has l x) (sym (halves ranks low (drop half ranks) half is refl)) (Has-append_left low (drop half ranks) x h))
 
 pub can_second : (level span : ℕ) (ranks high : List ℕ) (half rows few : ℕ) → high ≡ drop half ranks → 1 ≤ few → CanFind level span ranks rows → CanFind level span high few
 can_second level span ranks high half rows few is =
-    can_find level span ranks high rows few (λ x h. subst (λ (l : List ℕ). In l x) (sym (halves ranks (take half ranks) high half refl is)) (in_second (take half ranks) high x h))
+    can_find level span ranks high rows few (λ x h. subst (λ (l : List ℕ). Has l x) (sym (halves ranks (take half ranks) high half refl is)) (Has-append_right (take half ranks) high x h))
 
 pub finds_split : (level span : ℕ) (ranks low high : List ℕ) (half : ℕ) (kind : Kind) (a b : List Row) → low ≡ take half ranks → high ≡ drop half ranks → FindsFor level span low (notes_at kind a)
     → FindsFor level span high (notes_at kind b) → FindsFor level span ranks (notes_at kind (a ++ b))

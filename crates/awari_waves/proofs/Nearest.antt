@@ -4,12 +4,12 @@ use Rattle.std.specs.Option.{option_eq}
 use Rattle.std.proofs.lemmas.Bool.Decides.{nat_tests}
 use Rattle.std.proofs.lemmas.List.{get_or_default}
 use Rattle.std.proofs.lemmas.List.Elements.{All-append, All-cons, All-nil}
-use Rattle.awari_block.specs.Blocks.{Due, due_dist, due_rank, times_due}
+use Rattle.awari_block.specs.Blocks.{Due, due_dist, due_rank, times_due, nearer_of}
 use Rattle.awari_block.specs.Part.{InBlock, IsFreshIn, Part, settled_at}
 use Rattle.awari_block.proofs.BlockLemmas.{one_if, times_due-cons}
 use Rattle.awari_block.proofs.Freshness.{fresh_of_block}
 use Rattle.awari_heard.specs.Level.{no_part, part_at}
-use Rattle.awari_waves.specs.Each.{AreFrom, HasFresh, NoneAreFresh, HasDue, nearer_of}
+use Rattle.awari_waves.specs.Each.{AreFrom, HasFresh, NoneAreFresh, HasDue}
 use Rattle.awari_waves.specs.Lists.{dues_from, dues_of, list_at}
 use Rattle.awari_waves.specs.SegmentFields.{IsSegment}
 use Rattle.awari_waves.specs.declared.segments.Segment.TheInside.{Inside}

@@ -12,7 +12,8 @@ use Rattle.awari_heard.specs.Heard.{Hears, SameBlock}
 use Rattle.awari_heard.proofs.Gains.{opened}
 use Rattle.awari_heard.proofs.SpreadBoards.{spread_before, spread_stays}
 use Rattle.awari_heard.proofs.PlannedTallies.{wave_tally}
-use Rattle.awari_waves.specs.Each.{CanOpen, CanOpenWave, Each, OpensSegment, IsAtWave, at_gain}
+use Rattle.awari_waves.specs.Each.{CanOpen, CanOpenWave, OpensSegment, IsAtWave, at_gain}
+use Rattle.awari_block.specs.Each.{EachTo}
 use Rattle.awari_waves.specs.Waves.{IsCut}
 
 -- The block is the same. Settled boards keep value and distance, and those that are newly settled join the fresh ones.
@@ -37,10 +38,10 @@ hears_between s s' p p' notes source part hears = record {
 }
 
 -- of all parts, if the cells tell what they told
-pub heard_still : (value : List ℕ → ℤ) (old new : List Part) → Each StaysSpread old new → ((i : ℕ) → i < length old → (notes : List Note) → IsTallied value (part_at old i) notes → IsTallied value (part_at new i) notes)
+pub heard_still : (value : List ℕ → ℤ) (old new : List Part) → EachTo StaysSpread old new → ((i : ℕ) → i < length old → (notes : List Note) → IsTallied value (part_at old i) notes → IsTallied value (part_at new i) notes)
     → AreHeard value old → AreHeard value new
 heard_still value old new all tells heard j d h =
-    let many = all.blocks in
+    let many = all.many in
     let few : j < length old = omega (arith, h, many) in
     let before = heard j no_part few in
     let notes : List Note = before.0 in
@@ -49,34 +50,34 @@ heard_still value old new all tells heard j d h =
       subst (λ (p : Part). IsTallied value p notes) here (tells j few notes before.1),
       λ i e k.
           let low : i < length old = omega (arith, k, many) in
-          subst₂ (λ (s p : Part). Hears s p notes) (sym (get_or_default new i e no_part k)) here (hears_between (part_at old i) (part_at new i) (part_at old j) (part_at new j) notes (all.each i low) (all.each j few) (before.2 i no_part low)),
+          subst₂ (λ (s p : Part). Hears s p notes) (sym (get_or_default new i e no_part k)) here (hears_between (part_at old i) (part_at new i) (part_at old j) (part_at new j) notes (all.each i no_part low) (all.each j no_part few) (before.2 i no_part low)),
     )
 
 -- ---- the same blocks
 
-pub grid_moved : (stake : Stake) (span gain wave : ℕ) (old new : List Part) → IsCut stake span old → Each SameBlock old new → ((i : ℕ) → i < length old → (part_at new i).gain ≡ gain)
+pub grid_moved : (stake : Stake) (span gain wave : ℕ) (old new : List Part) → IsCut stake span old → EachTo SameBlock old new → ((i : ℕ) → i < length old → (part_at new i).gain ≡ gain)
     → ((i : ℕ) → i < length old → (part_at new i).wave ≡ wave) → IsCut (record stake { gain = gain; wave = wave }) span new
 grid_moved stake span gain wave old new grid all gains waves = record {
-  level = λ i h. (all.each i (few i h)).level ∙ grid.level i (few i h);
+  level = λ i h. (all.each i no_part (few i h)).level ∙ grid.level i (few i h);
   gain = λ i h. gains i (few i h);
   wave = λ i h. waves i (few i h);
   within = λ i h.
-      let s = all.each i (few i h) in
+      let s = all.each i no_part (few i h) in
       let w = grid.within i (few i h) in
       omega (arith, w, s.start, s.size);
   home = λ rank h.
       let at = grid.home rank h in
-      let s = all.each (rank / span) at.0 in
-      let many = all.blocks in
+      let s = all.each (rank / span) no_part at.0 in
+      let many = all.many in
       let a = at.0 in
       let b = at.1.0 in
       let d = at.1.1 in
       ((omega (arith, a, many)), (omega (arith, b, s.start), omega (arith, d, s.start, s.size)));
-  only = λ i rank h inside. grid.only i rank (few i h) (inside_old (part_at old i) (part_at new i) (all.each i (few i h)) rank inside);
+  only = λ i rank h inside. grid.only i rank (few i h) (inside_old (part_at old i) (part_at new i) (all.each i no_part (few i h)) rank inside);
 }
   where
     few : (i : ℕ) → i < length new → i < length old
-    few i h = let many = all.blocks in omega (arith, h, many)
+    few i h = let many = all.many in omega (arith, h, many)
 
 blocks_still : (level low high : ℕ) (old new : List Part) → length new ≡ length old → ((i : ℕ) → i < length old → SameBlock (part_at old i) (part_at new i)) → AreBlocks level low high old → AreBlocks level low high new
 blocks_still level low high [] [] many same are = are
@@ -87,8 +88,8 @@ blocks_still level low high (x ∷ xs) (y ∷ ys) many same are =
     let rest = blocks_still level (low + length x.cells) high xs ys (omega (arith, many)) (λ i few. same (suc i) (omega (arith, few))) are.1 in
     ((first.level ∙ are.0.0, first.start ∙ are.0.1), subst (λ n. AreBlocks level (low + n) high ys) (sym first.size) rest)
 
-pub whole_still : (level : ℕ) (old new : List Part) → Each SameBlock old new → AreWhole level old → AreWhole level new
-whole_still level old new all are = blocks_still level 0 (size_of level) old new all.blocks all.each are
+pub whole_still : (level : ℕ) (old new : List Part) → EachTo SameBlock old new → AreWhole level old → AreWhole level new
+whole_still level old new all are = blocks_still level 0 (size_of level) old new all.many (λ i h. all.each i no_part h) are
 
 -- ---- a gain is opened
 
@@ -104,19 +105,19 @@ gain_told value gain old new one next opens notes tallied =
     subst (λ (p : Part). IsTallied value p notes) (same_stake (at_gain gain old) new opens.settles.same)
     (opened value notes old new.cells new.fresh gain one (sym next) opens.settles.size (λ k h. opens.cells.inside k h (omega arith) h) tallied)
 
-opened_spread : (gain : ℕ) (old new : List Part) → Each (OpensSegment gain) old new → Each StaysSpread old new
-opened_spread gain old new all = record { blocks = all.blocks; each = λ i few. gain_spread gain (part_at old i) (part_at new i) (all.each i few) }
+opened_spread : (gain : ℕ) (old new : List Part) → EachTo (OpensSegment gain) old new → EachTo StaysSpread old new
+opened_spread gain old new all = record { many = all.many; each = λ i d few. gain_spread gain (get_or old i d) (get_or new i d) (all.each i d few) }
 
-pub opened_same : (gain : ℕ) (old new : List Part) → Each (OpensSegment gain) old new → Each SameBlock old new
-opened_same gain old new all = record { blocks = all.blocks; each = λ i few. (gain_spread gain (part_at old i) (part_at new i) (all.each i few)).block }
+pub opened_same : (gain : ℕ) (old new : List Part) → EachTo (OpensSegment gain) old new → EachTo SameBlock old new
+opened_same gain old new all = record { many = all.many; each = λ i d few. (gain_spread gain (get_or old i d) (get_or new i d) (all.each i d few)).block }
 
-pub opened_heard : (value : List ℕ → ℤ) (gain : ℕ) (old new : List Part) → CanOpen gain old → Each (OpensSegment gain) old new → AreHeard value old → AreHeard value new
+pub opened_heard : (value : List ℕ → ℤ) (gain : ℕ) (old new : List Part) → CanOpen gain old → EachTo (OpensSegment gain) old new → AreHeard value old → AreHeard value new
 opened_heard value gain old new can all heard =
-    heard_still value old new (opened_spread gain old new all) (λ i few. gain_told value gain (part_at old i) (part_at new i) can.positive (can.next i few) (all.each i few)) heard
+    heard_still value old new (opened_spread gain old new all) (λ i few. gain_told value gain (part_at old i) (part_at new i) can.positive (can.next i few) (all.each i no_part few)) heard
 
-pub opened_grid : (stake : Stake) (span gain : ℕ) (old new : List Part) → IsCut stake span old → Each (OpensSegment gain) old new → IsCut (record stake { gain = gain; wave = 0 }) span new
+pub opened_grid : (stake : Stake) (span gain : ℕ) (old new : List Part) → IsCut stake span old → EachTo (OpensSegment gain) old new → IsCut (record stake { gain = gain; wave = 0 }) span new
 opened_grid stake span gain old new grid all =
-    grid_moved stake span gain 0 old new grid (opened_same gain old new all) (λ i few. (all.each i few).settles.same.gain) (λ i few. (all.each i few).settles.same.wave)
+    grid_moved stake span gain 0 old new grid (opened_same gain old new all) (λ i few. (all.each i no_part few).settles.same.gain) (λ i few. (all.each i no_part few).settles.same.wave)
 
 -- ---- a distance is opened
 
@@ -131,17 +132,17 @@ wave_told : (value : List ℕ → ℤ) (dist : ℕ) (old : Part) → old.wave < 
 wave_told value dist old farther notes tallied p is stones inside =
     wave_tally value (cell_at old (rank_of p)) p (notes_for (rank_of p) notes) old.gain old.wave dist (omega (arith, farther)) (tallied p is stones inside)
 
-waved_spread : (dist : ℕ) (old new : List Part) → Each (IsAtWave dist) old new → Each StaysSpread old new
-waved_spread dist old new all = record { blocks = all.blocks; each = λ i few. subst (StaysSpread (part_at old i)) (sym (all.each i few)) (wave_spread dist (part_at old i)) }
+waved_spread : (dist : ℕ) (old new : List Part) → EachTo (IsAtWave dist) old new → EachTo StaysSpread old new
+waved_spread dist old new all = record { many = all.many; each = λ i d few. subst (StaysSpread (get_or old i d)) (sym (all.each i d few)) (wave_spread dist (get_or old i d)) }
 
-pub waved_same : (dist : ℕ) (old new : List Part) → Each (IsAtWave dist) old new → Each SameBlock old new
-waved_same dist old new all = let spread = waved_spread dist old new all in record { blocks = all.blocks; each = λ i few. (spread.each i few).block }
+pub waved_same : (dist : ℕ) (old new : List Part) → EachTo (IsAtWave dist) old new → EachTo SameBlock old new
+waved_same dist old new all = let spread = waved_spread dist old new all in record { many = all.many; each = λ i d few. (spread.each i d few).block }
 
-pub waved_heard : (value : List ℕ → ℤ) (dist : ℕ) (old new : List Part) → CanOpenWave dist old → Each (IsAtWave dist) old new → AreHeard value old → AreHeard value new
+pub waved_heard : (value : List ℕ → ℤ) (dist : ℕ) (old new : List Part) → CanOpenWave dist old → EachTo (IsAtWave dist) old new → AreHeard value old → AreHeard value new
 waved_heard value dist old new can all heard =
     heard_still value old new (waved_spread dist old new all)
-    (λ i few notes tallied. subst (λ (p : Part). IsTallied value p notes) (sym (all.each i few)) (wave_told value dist (part_at old i) (can.farther i few) notes tallied)) heard
+    (λ i few notes tallied. subst (λ (p : Part). IsTallied value p notes) (sym (all.each i no_part few)) (wave_told value dist (part_at old i) (can.farther i few) notes tallied)) heard
 
-pub waved_grid : (stake : Stake) (span dist : ℕ) (old new : List Part) → IsCut stake span old → Each (IsAtWave dist) old new → IsCut (record stake { wave = dist }) span new
+pub waved_grid : (stake : Stake) (span dist : ℕ) (old new : List Part) → IsCut stake span old → EachTo (IsAtWave dist) old new → IsCut (record stake { wave = dist }) span new
 waved_grid stake span dist old new grid all =
-    grid_moved stake span stake.gain dist old new grid (waved_same dist old new all) (λ i few. ap (λ (p : Part). p.gain) (all.each i few) ∙ grid.gain i few) (λ i few. ap (λ (p : Part). p.wave) (all.each i few))
+    grid_moved stake span stake.gain dist old new grid (waved_same dist old new all) (λ i few. ap (λ (p : Part). p.gain) (all.each i no_part few) ∙ grid.gain i few) (λ i few. ap (λ (p : Part). p.wave) (all.each i no_part few))

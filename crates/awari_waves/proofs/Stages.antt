@@ -6,12 +6,13 @@ use Rattle.awari_block.specs.Blocks.{Due, due_dist}
 use Rattle.awari_block.specs.Part.{Part, IsClosed}
 use Rattle.awari_block.specs.declared.stakes.Stake.{Stake}
 use Rattle.awari_heard.specs.Level.{no_part}
-use Rattle.awari_waves.specs.Each.{AreFrom, NoneAreFresh, CanOpen, CanOpenWave, Each, PassesFirst, SameFresh}
+use Rattle.awari_waves.specs.Each.{AreFrom, NoneAreFresh, CanOpen, CanOpenWave, PassesFirst, SameFresh}
+use Rattle.awari_block.specs.Each.{EachTo}
 use Rattle.awari_waves.specs.Waves.{IsCut, IsPassed}
 
 -- the blocks that take the places of others are as many
-pub kept_items : {Z : Type 0} (P : Part → Part → Type 0) (v : Vec Part Z) (new : List Part) → Each P v.items new → (with_items v new).items ≡ new
-kept_items P v new each = let same = each.blocks in let len = v.ok.0 in with_items_is v new (omega (arith, same, len))
+pub kept_items : {Z : Type 0} (P : Part → Part → Type 0) (v : Vec Part Z) (new : List Part) → EachTo P v.items new → (with_items v new).items ≡ new
+kept_items P v new each = let same = each.many in let len = v.ok.0 in with_items_is v new (omega (arith, same, len))
 
 module _ (stake : Stake) (span : ℕ) (parts : List Part) (grid : IsCut stake span parts) where
   pub can_open : (gain : ℕ) → 1 ≤ gain → gain + 1 ≡ stake.gain → NoneAreFresh parts → CanOpen gain parts
@@ -32,7 +33,7 @@ module _ (stake : Stake) (span : ℕ) (parts : List Part) (grid : IsCut stake sp
       subst IsClosed same (grid.gain i h ∙ last, idle i h)
 
 -- what was so before the distance was opened is so after it
-pub passes_before : (dist : ℕ) (old mid new : List Part) → Each SameFresh old mid → PassesFirst dist mid new → PassesFirst dist old new
+pub passes_before : (dist : ℕ) (old mid new : List Part) → EachTo SameFresh old mid → PassesFirst dist mid new → PassesFirst dist old new
 passes_before dist old mid new same first i few before =
-    let many = same.blocks in
-    first i (omega (arith, few, many)) (λ j less. subst (λ fs. All (λ (f : Due). dist < due_dist f) fs) (sym (same.each j (omega (arith, less, few)))) (before j less))
+    let many = same.many in
+    first i (omega (arith, few, many)) (λ j less. subst (λ fs. All (λ (f : Due). dist < due_dist f) fs) (sym (same.each j no_part (omega (arith, less, few)))) (before j less))

@@ -15,14 +15,16 @@ use Rattle.awari_block.specs.declared.stakes.Stake.{Stake}
 use Rattle.awari_block.proofs.BlockLemmas.{one_if, times_due-cons, times_due-permuted}
 use Rattle.awari_heard.specs.Heard.{Hears, IsSpread}
 use Rattle.awari_heard.specs.Level.{AreHeard, no_part, part_at}
-use Rattle.awari_waves.specs.Lists.{AreDistinct, In}
+use Rattle.awari_waves.specs.Lists.{AreDistinct}
 use Rattle.awari_waves.specs.Each.{PassesFirst}
 use Rattle.awari_waves.specs.Fronts.{IsFront}
 use Rattle.awari_waves.specs.declared.chunks.Front.{Front}
 use Rattle.awari_waves.specs.Waves.{GivesFresh, IsCut, IsPassed, IsPending, IsWaving, SettlesAll, SpreadsChunk, value_of_kind, with_pending}
-use Rattle.awari_waves.proofs.Sources.{all_in, each_in, distinct_apart, distinct_both, distinct_first, distinct_second, in_either, in_first, in_second}
+use Rattle.awari_waves.proofs.Sources.{distinct_apart, distinct_both, distinct_first, distinct_second}
 use Rattle.awari_waves.proofs.Chunked.{part_of_map, pend_none, pend_zero}
 use Rattle.awari_waves.proofs.Keeping.{keeps_but, keeps_none, keeps_settled, keeps_then}
+use Rattle.awari_block.specs.Notes.{Has}
+use Rattle.awari_block.proofs.NoteLists.{Has-append_left, Has-append_right, Has-append_cases, all_has, has_all}
 
 -- ---- what was heard stays so, where the same boards are spread
 
@@ -64,7 +66,7 @@ reheard value P P' old new many same forth back told j d h =
 
 -- ---- counts
 
-given_once : (w : ℕ) (given : List ℕ) (F : List Due) (r : ℕ) → In given r → 1 + times_due F r ≤ times_due (map (λ x. (w, x)) given ++ F) r
+given_once : (w : ℕ) (given : List ℕ) (F : List Due) (r : ℕ) → Has given r → 1 + times_due F r ≤ times_due (map (λ x. (w, x)) given ++ F) r
 given_once w [] F r h = elim h [ ]
 given_once w (x ∷ given) F r (inl same) =
     let cons = times_due-cons (w, x) (map (λ y. (w, y)) given ++ F) r in
@@ -138,16 +140,16 @@ module _ (stake : Stake) (span : ℕ) (now : List Part) (k : ℕ) (kind : Kind) 
   count r = times_due-permuted (map (λ x. ((part_at now k).wave, x)) given ++ new.fresh) (part_at now k).fresh r gives.moved
 
   -- each is a board of the segment, and fresh no longer
-  given_at : (r : ℕ) → In given r → InBlock (part_at now k) r × (settled_at (part_at now k) r ≡ Some (value_of_kind kind (part_at now k).gain, (part_at now k).wave))
-  given_at r h = each_in (λ r. InBlock (part_at now k) r × (settled_at (part_at now k) r ≡ Some (value_of_kind kind (part_at now k).gain, (part_at now k).wave))) given gives.valued r h
+  given_at : (r : ℕ) → Has given r → InBlock (part_at now k) r × (settled_at (part_at now k) r ≡ Some (value_of_kind kind (part_at now k).gain, (part_at now k).wave))
+  given_at r h = has_all (λ r. InBlock (part_at now k) r × (settled_at (part_at now k) r ≡ Some (value_of_kind kind (part_at now k).gain, (part_at now k).wave))) given gives.valued r h
 
-  given_home : (r : ℕ) → In given r → r / span ≡ k
+  given_home : (r : ℕ) → Has given r → r / span ≡ k
   given_home r h = grid.only k r few (given_at r h).0
 
-  given_left : (r : ℕ) → In given r → times_due new.fresh r ≡ 0
+  given_left : (r : ℕ) → Has given r → times_due new.fresh r ≡ 0
   given_left r h = let one = given_once (part_at now k).wave given new.fresh r h in let c = count r in let most = once r in omega (arith, one, c, most)
 
-  pub given_pending : (r : ℕ) → In given r → IsPending stake span now' kind r
+  pub given_pending : (r : ℕ) → Has given r → IsPending stake span now' kind r
   given_pending r h =
       let at = given_at r h in
       let home = given_home r h in
@@ -175,7 +177,7 @@ module _ (stake : Stake) (span : ℕ) (now : List Part) (k : ℕ) (kind : Kind) 
           subst (λ n. times_due (part_at now' n).fresh r ≡ 0) (sym same) (subst (λ (p : Part). times_due p.fresh r ≡ 0) (sym here) none.1)
       by false e = subst (λ (p : Part). times_due p.fresh r ≡ 0) (sym (there (r / span) (differ (r / span) k e))) is.taken
 
-  pub given_apart : (other : Kind) (r : ℕ) → IsPending stake span now other r → In given r → ⊥
+  pub given_apart : (other : Kind) (r : ℕ) → IsPending stake span now other r → Has given r → ⊥
   given_apart other r is h =
       let was = subst (λ n. times_due (part_at now n).fresh r ≡ 0) (given_home r h) is.taken in
       let one = given_once (part_at now k).wave given new.fresh r h in
@@ -186,7 +188,7 @@ module _ (stake : Stake) (span : ℕ) (now : List Part) (k : ℕ) (kind : Kind) 
   distinct_given = given_distinct (part_at now k).wave given new.fresh (λ r. let c = count r in let most = once r in omega (arith, c, most))
 
   -- no other board becomes spread
-  pub given_heard : (value : List ℕ → ℤ) (P P' : List ℕ) → ((r : ℕ) → In P' r → In P r ⊎ In given r) → ((r : ℕ) → In P r → In P' r) → ((r : ℕ) → In given r → In P' r)
+  pub given_heard : (value : List ℕ → ℤ) (P P' : List ℕ) → ((r : ℕ) → Has P' r → Has P r ⊎ Has given r) → ((r : ℕ) → Has P r → Has P' r) → ((r : ℕ) → Has given r → Has P' r)
       → AreHeard value (map (with_pending P) now) → AreHeard value (map (with_pending P') now')
   given_heard value P P' split first second = reheard value P P' now now' (length-set now k new) given_same forth back
     where
@@ -196,10 +198,10 @@ module _ (stake : Stake) (span : ℕ) (now : List Part) (k : ℕ) (kind : Kind) 
         pend_none (part_at now' i).wave P' (part_at now' i).fresh r out (by (i == k) refl),
       )
         where
-          was : (In P r → ⊥) × (times_due (part_at now i).fresh r ≡ 0)
+          was : (Has P r → ⊥) × (times_due (part_at now i).fresh r ≡ 0)
           was = pend_zero (part_at now i).wave P (part_at now i).fresh r spread.1
 
-          none_given : In given r → ⊥
+          none_given : Has given r → ⊥
           none_given g =
               let same : i ≡ k = sym (grid.only i r h inside) ∙ given_home r g in
               let zero_now = subst (λ n. times_due (part_at now n).fresh r ≡ 0) same was.1 in
@@ -207,7 +209,7 @@ module _ (stake : Stake) (span : ℕ) (now : List Part) (k : ℕ) (kind : Kind) 
               let c = count r in
               omega (arith, zero_now, one, c)
 
-          out : In P' r → ⊥
+          out : Has P' r → ⊥
           out g = elim (split r g) [ inl p ↦ was.0 p | inr q ↦ none_given q ]
 
           by : (b : Bool) → (i == k) ≡ b → times_due (part_at now' i).fresh r ≡ 0
@@ -224,7 +226,7 @@ module _ (stake : Stake) (span : ℕ) (now : List Part) (k : ℕ) (kind : Kind) 
         pend_none (part_at now i).wave P (part_at now i).fresh r (λ p. is.0 (first r p)) (by (i == k) refl),
       )
         where
-          is : (In P' r → ⊥) × (times_due (part_at now' i).fresh r ≡ 0)
+          is : (Has P' r → ⊥) × (times_due (part_at now' i).fresh r ≡ 0)
           is = pend_zero (part_at now' i).wave P' (part_at now' i).fresh r spread.1
 
           by : (b : Bool) → (i == k) ≡ b → times_due (part_at now i).fresh r ≡ 0
@@ -286,15 +288,15 @@ waving_lost stake span n old now lost won k d new given lost' few done is gives'
     subst (λ (l : List ℕ). IsWaving stake span n old (set now k new) l won) (sym is) (record {
       blocks = length-set now k new ∙ waving.blocks;
       grid = given_grid stake span now k Lost new given few waving.grid gives once;
-      of_lost = all_in (IsPending stake span (set now k new) Lost) (lost ++ given) (λ r h. elim (in_either lost given r h) [
-        | inl before ↦ still_pending stake span now k Lost new given few waving.grid gives once Lost r (each_in (IsPending stake span now Lost) lost waving.of_lost r before)
+      of_lost = all_has (IsPending stake span (set now k new) Lost) (lost ++ given) (λ r h. elim (Has-append_cases lost given r h) [
+        | inl before ↦ still_pending stake span now k Lost new given few waving.grid gives once Lost r (has_all (IsPending stake span now Lost) lost waving.of_lost r before)
         | inr more ↦ given_pending stake span now k Lost new given few waving.grid gives once r more
       ]);
-      of_won = all_in (IsPending stake span (set now k new) Won) won (λ r h. still_pending stake span now k Lost new given few waving.grid gives once Won r (each_in (IsPending stake span now Won) won waving.of_won r h));
+      of_won = all_has (IsPending stake span (set now k new) Won) won (λ r h. still_pending stake span now k Lost new given few waving.grid gives once Won r (has_all (IsPending stake span now Won) won waving.of_won r h));
       apart = distinct_both (lost ++ given) won
           (distinct_both lost given (distinct_first lost won waving.apart) (distinct_given stake span now k Lost new given few waving.grid gives once) (λ r h g. apart_lost r h g))
           (distinct_second lost won waving.apart)
-          (λ r h w. elim (in_either lost given r h) [ inl before ↦ distinct_apart lost won r waving.apart before w | inr more ↦ apart_won r w more ]);
+          (λ r h w. elim (Has-append_cases lost given r h) [ inl before ↦ distinct_apart lost won r waving.apart before w | inr more ↦ apart_won r w more ]);
       same = λ i h.
           let was = waving.same i h in
           let many = waving.blocks in
@@ -305,12 +307,12 @@ waving_lost stake span n old now lost won k d new given lost' few done is gives'
           subst IsPassed (sym (let there : part_at (set now k new) i ≡ part_at now i = rw get_or-set_other refl in there)) (waving.passed i less (omega (arith, inside, length-set now k new)));
       heard = λ value told.
           given_heard stake span now k Lost new given few waving.grid gives once value (lost ++ won) ((lost ++ given) ++ won)
-          (λ r h. elim (in_either (lost ++ given) won r h) [
-            | inl some ↦ elim (in_either lost given r some) [ inl before ↦ inl (in_first lost won r before) | inr more ↦ inr more ]
-            | inr w ↦ inl (in_second lost won r w)
+          (λ r h. elim (Has-append_cases (lost ++ given) won r h) [
+            | inl some ↦ elim (Has-append_cases lost given r some) [ inl before ↦ inl (Has-append_left lost won r before) | inr more ↦ inr more ]
+            | inr w ↦ inl (Has-append_right lost won r w)
           ])
-          (λ r h. elim (in_either lost won r h) [ inl before ↦ in_first (lost ++ given) won r (in_first lost given r before) | inr w ↦ in_second (lost ++ given) won r w ])
-          (λ r h. in_first (lost ++ given) won r (in_second lost given r h))
+          (λ r h. elim (Has-append_cases lost won r h) [ inl before ↦ Has-append_left (lost ++ given) won r (Has-append_left lost given r before) | inr w ↦ Has-append_right (lost ++ given) won r w ])
+          (λ r h. Has-append_left (lost ++ given) won r (Has-append_right lost given r h))
           (waving.heard value told);
     })
   where
@@ -323,11 +325,11 @@ waving_lost stake span n old now lost won k d new given lost' few done is gives'
     once : (r : ℕ) → times_due (part_at now k).fresh r ≤ 1
     once = (subst AreFresh same fresh').once
 
-    apart_lost : (r : ℕ) → In lost r → In given r → ⊥
-    apart_lost r h g = given_apart stake span now k Lost new given few waving.grid gives once Lost r (each_in (IsPending stake span now Lost) lost waving.of_lost r h) g
+    apart_lost : (r : ℕ) → Has lost r → Has given r → ⊥
+    apart_lost r h g = given_apart stake span now k Lost new given few waving.grid gives once Lost r (has_all (IsPending stake span now Lost) lost waving.of_lost r h) g
 
-    apart_won : (r : ℕ) → In won r → In given r → ⊥
-    apart_won r h g = given_apart stake span now k Lost new given few waving.grid gives once Won r (each_in (IsPending stake span now Won) won waving.of_won r h) g
+    apart_won : (r : ℕ) → Has won r → Has given r → ⊥
+    apart_won r h g = given_apart stake span now k Lost new given few waving.grid gives once Won r (has_all (IsPending stake span now Won) won waving.of_won r h) g
 
 pub waving_won : (stake : Stake) (span n : ℕ) (old now : List Part) (lost won : List ℕ) (k : ℕ) (d new : Part) (given won' : List ℕ) → k < length now → n ≤ k → won' ≡ won ++ given
     → GivesFresh Won (get_or now k d) new given → AreFresh (get_or now k d) → IsWaving stake span n old now lost won → IsWaving stake span n old (set now k new) lost won'
@@ -335,14 +337,14 @@ waving_won stake span n old now lost won k d new given won' few done is gives' f
     subst (λ (w : List ℕ). IsWaving stake span n old (set now k new) lost w) (sym is) (record {
       blocks = length-set now k new ∙ waving.blocks;
       grid = given_grid stake span now k Won new given few waving.grid gives once;
-      of_lost = all_in (IsPending stake span (set now k new) Lost) lost (λ r h. still_pending stake span now k Won new given few waving.grid gives once Lost r (each_in (IsPending stake span now Lost) lost waving.of_lost r h));
-      of_won = all_in (IsPending stake span (set now k new) Won) (won ++ given) (λ r h. elim (in_either won given r h) [
-        | inl before ↦ still_pending stake span now k Won new given few waving.grid gives once Won r (each_in (IsPending stake span now Won) won waving.of_won r before)
+      of_lost = all_has (IsPending stake span (set now k new) Lost) lost (λ r h. still_pending stake span now k Won new given few waving.grid gives once Lost r (has_all (IsPending stake span now Lost) lost waving.of_lost r h));
+      of_won = all_has (IsPending stake span (set now k new) Won) (won ++ given) (λ r h. elim (Has-append_cases won given r h) [
+        | inl before ↦ still_pending stake span now k Won new given few waving.grid gives once Won r (has_all (IsPending stake span now Won) won waving.of_won r before)
         | inr more ↦ given_pending stake span now k Won new given few waving.grid gives once r more
       ]);
       apart = distinct_both lost (won ++ given) (distinct_first lost won waving.apart)
           (distinct_both won given (distinct_second lost won waving.apart) (distinct_given stake span now k Won new given few waving.grid gives once) (λ r h g. apart_won r h g))
-          (λ r l h. elim (in_either won given r h) [ inl before ↦ distinct_apart lost won r waving.apart l before | inr more ↦ apart_lost r l more ]);
+          (λ r l h. elim (Has-append_cases won given r h) [ inl before ↦ distinct_apart lost won r waving.apart l before | inr more ↦ apart_lost r l more ]);
       same = λ i h.
           let was = waving.same i h in
           let many = waving.blocks in
@@ -353,12 +355,12 @@ waving_won stake span n old now lost won k d new given won' few done is gives' f
           subst IsPassed (sym (let there : part_at (set now k new) i ≡ part_at now i = rw get_or-set_other refl in there)) (waving.passed i less (omega (arith, inside, length-set now k new)));
       heard = λ value told.
           given_heard stake span now k Won new given few waving.grid gives once value (lost ++ won) (lost ++ (won ++ given))
-          (λ r h. elim (in_either lost (won ++ given) r h) [
-            | inl l ↦ inl (in_first lost won r l)
-            | inr some ↦ elim (in_either won given r some) [ inl before ↦ inl (in_second lost won r before) | inr more ↦ inr more ]
+          (λ r h. elim (Has-append_cases lost (won ++ given) r h) [
+            | inl l ↦ inl (Has-append_left lost won r l)
+            | inr some ↦ elim (Has-append_cases won given r some) [ inl before ↦ inl (Has-append_right lost won r before) | inr more ↦ inr more ]
           ])
-          (λ r h. elim (in_either lost won r h) [ inl l ↦ in_first lost (won ++ given) r l | inr w ↦ in_second lost (won ++ given) r (in_first won given r w) ])
-          (λ r h. in_second lost (won ++ given) r (in_second won given r h))
+          (λ r h. elim (Has-append_cases lost won r h) [ inl l ↦ Has-append_left lost (won ++ given) r l | inr w ↦ Has-append_right lost (won ++ given) r (Has-append_left won given r w) ])
+          (λ r h. Has-append_right lost (won ++ given) r (Has-append_right won given r h))
           (waving.heard value told);
     })
   where
@@ -371,11 +373,11 @@ waving_won stake span n old now lost won k d new given won' few done is gives' f
     once : (r : ℕ) → times_due (part_at now k).fresh r ≤ 1
     once = (subst AreFresh same fresh').once
 
-    apart_lost : (r : ℕ) → In lost r → In given r → ⊥
-    apart_lost r h g = given_apart stake span now k Won new given few waving.grid gives once Lost r (each_in (IsPending stake span now Lost) lost waving.of_lost r h) g
+    apart_lost : (r : ℕ) → Has lost r → Has given r → ⊥
+    apart_lost r h g = given_apart stake span now k Won new given few waving.grid gives once Lost r (has_all (IsPending stake span now Lost) lost waving.of_lost r h) g
 
-    apart_won : (r : ℕ) → In won r → In given r → ⊥
-    apart_won r h g = given_apart stake span now k Won new given few waving.grid gives once Won r (each_in (IsPending stake span now Won) won waving.of_won r h) g
+    apart_won : (r : ℕ) → Has won r → Has given r → ⊥
+    apart_won r h g = given_apart stake span now k Won new given few waving.grid gives once Won r (has_all (IsPending stake span now Won) won waving.of_won r h) g
 
 -- once it gave both, the fresh boards of a segment are farther
 passed_by : (old mid new : Part) (lost won : List ℕ) → 1 ≤ old.gain → GivesFresh Lost old mid lost → AreFresh mid → GivesFresh Won mid new won → IsPassed new

@@ -1,5 +1,5 @@
 -- What holds of each of the blocks of a level.
-use Rattle.std.specs.Prelude.{◌≡◌, ℕ, ◌+◌, ◌<◌, ◌≤◌, true, false, List, [], length, min, Option, None, Some, All, ℤ}
+use Rattle.std.specs.Prelude.{◌≡◌, ℕ, ◌+◌, ◌<◌, ◌≤◌, true, false, List, [], length, Some, All, ℤ}
 use Rattle.awari_block.specs.Blocks.{due_dist, times_due, KeepSettled}
 use Rattle.awari_block.specs.Cells.{is_settled}
 use Rattle.awari_block.specs.Part.{Part, InBlock, settled_at, stored_at}
@@ -7,11 +7,6 @@ use Rattle.awari_block.specs.declared.cells.Cell.{Cell}
 use Rattle.awari_block.specs.Boards.{OpensCells, Settles}
 use Rattle.awari_heard.specs.Level.{part_at}
 use Rattle.awari_heard.specs.Heard.{SameBlock}
-
--- of each of these parts and the one that takes its place this holds
-pub record Each (P : Part → Part → Type 0) (old new : List Part) : Type 0 where
-  pub blocks : length new ≡ length old
-  pub each : (i : ℕ) → i < length old → P (part_at old i) (part_at new i)
 
 -- no board of these parts is fresh
 abbrev pub NoneAreFresh : List Part → Type 0
@@ -83,9 +78,3 @@ abbrev pub IsFarther : Part → ℕ → Cell → Type 0
 IsFarther part rank cell = is_settled (stored_at part rank).mark ≡ false → is_settled cell.mark ≡ true → part.wave < cell.dist
 
 -- ---- which distance is due
-
--- the nearer of two numbers, if there is one
-abbrev pub nearer_of : Option ℕ → Option ℕ → Option ℕ
-nearer_of None other = other
-nearer_of (Some a) None = Some a
-nearer_of (Some a) (Some b) = Some (min a b)

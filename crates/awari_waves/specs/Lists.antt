@@ -1,16 +1,12 @@
 -- Lists by a number: fresh boards by distance, notes by block.
-use Rattle.std.specs.Prelude.{ℕ, zero, suc, ◌≡◌, ◌⊎◌, List, [], ◌∷◌, ◌++◌, map, slice_index_or, Vec}
+use Rattle.std.specs.Prelude.{ℕ, zero, suc, List, [], ◌∷◌, ◌++◌, map, slice_index_or, Vec}
 use Rattle.awari_block.specs.Blocks.{Due}
-
--- x is among these
-abbrev pub In : {A : Type 0} → List A → A → Type 0
-In [] x = ⊥
-In (y ∷ ys) x = (x ≡ y) ⊎ In ys x
+use Rattle.awari_block.specs.Notes.{Has}
 
 -- no two are equal
 abbrev pub AreDistinct : List ℕ → Type 0
 AreDistinct [] = Unit {0}
-AreDistinct (x ∷ xs) = (In xs x → ⊥) × AreDistinct xs
+AreDistinct (x ∷ xs) = (Has xs x → ⊥) × AreDistinct xs
 
 -- the list at this number, empty where there is none
 abbrev pub list_at : List (List ℕ) → ℕ → List ℕ

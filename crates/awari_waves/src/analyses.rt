@@ -6,7 +6,8 @@ ghost use Rattle.awari_block.specs.Part.{IsClosed};
 ghost use Rattle.awari_table.specs.Images.{table_of};
 ghost use Rattle.awari_table.specs.declared.TheConstants.{HIGHEST_LEVEL};
 ghost use Rattle.awari_heard.specs.Level.{AreHeard, AreWhole};
-ghost use Rattle.awari_waves.specs.Each.{AreFrom, Each, KeepsBoards, NoneAreFresh, HasDue, PassesFirst, SameFresh};
+ghost use Rattle.awari_waves.specs.Each.{AreFrom, KeepsBoards, NoneAreFresh, HasDue, PassesFirst, SameFresh};
+ghost use Rattle.awari_block.specs.Each.{EachTo};
 ghost use Rattle.awari_waves.specs.Fronts.{IsRoom};
 ghost use Rattle.awari_waves.specs.declared.chunks.Front.{Front as FrontView};
 
@@ -139,7 +140,7 @@ impl Analysis {
         ensures gain { IfOk result (λ after. after.gain + 1 ≡ self.gain) }
         ensures wave { IfOk result (λ after. after.wave ≡ 0) }
         ensures heard { IfOk result (λ after. (value : List ℕ → ℤ) → AreHeard value self.parts → AreHeard value after.parts) }
-        ensures stays { IfOk result (λ after. Each KeepsBoards self.parts after.parts) }
+        ensures stays { IfOk result (λ after. EachTo KeepsBoards self.parts after.parts) }
     {
         let Analysis {
             front,
@@ -174,7 +175,7 @@ impl Analysis {
         ensures gain { IfOk result (λ after. after.gain ≡ self.gain) }
         ensures wave { IfOk result (λ after. after.wave ≡ dist) }
         ensures heard { IfOk result (λ after. (value : List ℕ → ℤ) → AreHeard value self.parts → AreHeard value after.parts) }
-        ensures stays { IfOk result (λ after. Each KeepsBoards self.parts after.parts) }
+        ensures stays { IfOk result (λ after. EachTo KeepsBoards self.parts after.parts) }
         ensures farther { IfOk result (λ after. AreFrom (dist + 1) after.parts) }
     {
         let opened = self.at_distance(dist);
@@ -201,7 +202,7 @@ impl Analysis {
         ensures gain { IfOk result (λ after. after.gain ≡ self.gain) }
         ensures wave { IfOk result (λ after. after.wave ≡ dist) }
         ensures heard { IfOk result (λ after. (value : List ℕ → ℤ) → AreHeard value self.parts → AreHeard value after.parts) }
-        ensures stays { IfOk result (λ after. Each KeepsBoards self.parts after.parts) }
+        ensures stays { IfOk result (λ after. EachTo KeepsBoards self.parts after.parts) }
         ensures from { IfOk result (λ after. AreFrom dist after.parts) }
 
         // So calls that go on with what the last one gave come to an end.
@@ -225,7 +226,7 @@ impl Analysis {
         ensures gain { IfOk result (λ after. after.gain ≡ self.gain) }
         ensures wave { IfOk result (λ after. after.wave ≡ self.wave) }
         ensures heard { IfOk result (λ after. (value : List ℕ → ℤ) → AreHeard value self.parts → AreHeard value after.parts) }
-        ensures stays { IfOk result (λ after. Each KeepsBoards self.parts after.parts) }
+        ensures stays { IfOk result (λ after. EachTo KeepsBoards self.parts after.parts) }
         ensures from { IfOk result (λ after. AreFrom self.wave after.parts) }
         ensures first { IfOk result (λ after. PassesFirst self.wave self.parts after.parts) }
     {
@@ -252,7 +253,7 @@ impl Analysis {
         ensures gain { IfOk result (λ after. after.gain ≡ self.gain) }
         ensures wave { IfOk result (λ after. after.wave ≡ self.wave) }
         ensures heard { IfOk result (λ after. (value : List ℕ → ℤ) → AreHeard value self.parts → AreHeard value after.parts) }
-        ensures stays { IfOk result (λ after. Each KeepsBoards self.parts after.parts) }
+        ensures stays { IfOk result (λ after. EachTo KeepsBoards self.parts after.parts) }
         ensures farther { IfOk result (λ after. AreFrom (self.wave + 1) after.parts) }
     {
         let Analysis {
@@ -276,8 +277,8 @@ impl Analysis {
         ensures gain { result.gain ≡ self.gain }
         ensures wave { result.wave ≡ dist }
         ensures heard { (value : List ℕ → ℤ) → AreHeard value self.parts → AreHeard value result.parts }
-        ensures stays { Each KeepsBoards self.parts result.parts }
-        ensures fresh { Each SameFresh self.parts result.parts }
+        ensures stays { EachTo KeepsBoards self.parts result.parts }
+        ensures fresh { EachTo SameFresh self.parts result.parts }
     {
         if dist <= self.front.stake.wave {
             return self;

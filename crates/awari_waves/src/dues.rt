@@ -2,9 +2,10 @@
 
 ghost use Rattle.std.specs.Prelude.{◌≡◌, ℕ, ◌<◌, ◌≤◌, IfNone, IfSome, length};
 ghost use Rattle.awari_heard.specs.Level.{part_at};
-ghost use Rattle.awari_waves.specs.Each.{AreFrom, NoneAreFresh, HasDue, nearer_of};
+ghost use Rattle.awari_waves.specs.Each.{AreFrom, NoneAreFresh, HasDue};
 
 use crate::segments::Segment;
+use awari_block::nearer;
 
 /// The least distance of a fresh board of these segments, none if no board is fresh. Condition: no
 /// fresh board is nearer than `from`.
@@ -32,16 +33,5 @@ pub fn are_from_wave(wave: u32, segments: &[Segment])
 {
     for segment in segments {
         let _ = segment.wave();
-    }
-}
-
-/// The nearer of two distances, if there is one.
-pub(crate) fn nearer(one: Option<u32>, other: Option<u32>) -> Option<u32>
-    ensures { result ≡ nearer_of one other }
-{
-    match (one, other) {
-        (Some(a), Some(b)) => Some(a.min(b)),
-        (Some(a), None) => Some(a),
-        (None, b) => b,
     }
 }

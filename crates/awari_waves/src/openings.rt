@@ -2,7 +2,8 @@
 
 ghost use Rattle.std.specs.Prelude.{OnOk};
 ghost use Rattle.std.specs.Thread.{IsSync};
-ghost use Rattle.awari_waves.specs.Each.{CanOpen, CanOpenWave, Each, OpensSegment, IsAtWave};
+ghost use Rattle.awari_waves.specs.Each.{CanOpen, CanOpenWave, OpensSegment, IsAtWave};
+ghost use Rattle.awari_block.specs.Each.{EachTo};
 
 use crate::segments::Segment;
 use rayon::join_mut;
@@ -19,7 +20,7 @@ pub fn open_in_threads<R: Threads + Sync>(
     segments: &mut [Segment],
 ) -> Result<(), AllocError>
     requires can { CanOpen gain segments.old }
-    ensures opened { OnOk result (Each (OpensSegment gain) segments.old segments.new) }
+    ensures opened { OnOk result (EachTo (OpensSegment gain) segments.old segments.new) }
 {
     if threads < 2 {
         return open_all(gain, segments);
@@ -31,11 +32,11 @@ pub fn open_in_threads<R: Threads + Sync>(
         rt,
         &mut ||
             requires { IsSync R.row × CanOpen gain low.now }
-            ensures { OnOk result (Each (OpensSegment gain) low.entry.now low.exit.now) }
+            ensures { OnOk result (EachTo (OpensSegment gain) low.entry.now low.exit.now) }
         { open_in_threads(rt, 1, gain, low) },
         &mut ||
             requires { IsSync R.row × CanOpen gain high.now }
-            ensures { OnOk result (Each (OpensSegment gain) high.entry.now high.exit.now) }
+            ensures { OnOk result (EachTo (OpensSegment gain) high.entry.now high.exit.now) }
         { open_in_threads(rt, fewer, gain, high) },
     );
     low_done?;
@@ -46,7 +47,7 @@ pub fn open_in_threads<R: Threads + Sync>(
 /// Opens the next smaller gain in one segment after the other.
 pub fn open_all(gain: u8, segments: &mut [Segment]) -> Result<(), AllocError>
     requires can { CanOpen gain segments.old }
-    ensures opened { OnOk result (Each (OpensSegment gain) segments.old segments.new) }
+    ensures opened { OnOk result (EachTo (OpensSegment gain) segments.old segments.new) }
 {
     for k in 0..segments.len() {
         segments[k].open_gain(gain)?;
@@ -57,7 +58,7 @@ pub fn open_all(gain: u8, segments: &mut [Segment]) -> Result<(), AllocError>
 /// Opens the wave of a greater distance in all segments. Condition: no fresh board has a smaller one.
 pub fn open_waves(dist: u32, segments: &mut [Segment])
     requires can { CanOpenWave dist segments.old }
-    ensures opened { Each (IsAtWave dist) segments.old segments.new }
+    ensures opened { EachTo (IsAtWave dist) segments.old segments.new }
 {
     for k in 0..segments.len() {
         segments[k].open_wave(dist);

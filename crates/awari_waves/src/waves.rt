@@ -4,7 +4,8 @@ ghost use Rattle.std.specs.Prelude.{◌≡◌, ◌≢◌, ℕ, ℤ, ◌+◌, ◌
 ghost use Rattle.awari_block.specs.Part.{Part as PartView};
 ghost use Rattle.awari_block.specs.declared.stakes.Stake.{Stake as StakeView};
 ghost use Rattle.awari_heard.specs.Level.{AreHeard, part_at};
-ghost use Rattle.awari_waves.specs.Each.{Each, KeepsBoards, PassesFirst};
+ghost use Rattle.awari_waves.specs.Each.{KeepsBoards, PassesFirst};
+ghost use Rattle.awari_block.specs.Each.{EachTo};
 ghost use Rattle.awari_waves.specs.Fronts.{ArePending, IsFront, IsRoom};
 ghost use Rattle.awari_waves.specs.Waves.{IsPassed, IsWaving};
 
@@ -31,7 +32,7 @@ pub fn spread_wave<W: Workers>(
     ensures heard { OnOk result ((value : List ℕ → ℤ) → AreHeard value segments.old → AreHeard value segments.new) }
     ensures passed { OnOk result (All IsPassed segments.new) }
     ensures front { OnOk result (IsFront front segments.new) }
-    ensures same { OnOk result (Each KeepsBoards segments.old segments.new) }
+    ensures same { OnOk result (EachTo KeepsBoards segments.old segments.new) }
     ensures room { OnOk result (IsRoom front room.new) }
 {
     room.chunk.lost.clear();
@@ -59,7 +60,7 @@ pub fn spread_some<W: Workers>(
     ensures heard { OnOk result ((value : List ℕ → ℤ) → AreHeard value segments.old → AreHeard value segments.new) }
     ensures first { OnOk result (PassesFirst front.stake.wave segments.old segments.new) }
     ensures front { OnOk result (IsFront front segments.new) }
-    ensures same { OnOk result (Each KeepsBoards segments.old segments.new) }
+    ensures same { OnOk result (EachTo KeepsBoards segments.old segments.new) }
     ensures room { OnOk result (IsRoom front room.new) }
 {
     room.chunk.lost.clear();

@@ -7,7 +7,8 @@ ghost use Rattle.awari_table.specs.Images.{table_of};
 ghost use Rattle.awari_table.specs.declared.TheConstants.{HIGHEST_LEVEL};
 ghost use Rattle.awari_heard.specs.Kept.{IsKept};
 ghost use Rattle.awari_heard.specs.Level.{AreWhole};
-ghost use Rattle.awari_waves.specs.Each.{CanOpen, Each, OpensSegment};
+ghost use Rattle.awari_waves.specs.Each.{CanOpen, OpensSegment};
+ghost use Rattle.awari_block.specs.Each.{EachTo};
 ghost use Rattle.awari_waves.specs.Rows.{notes_at};
 ghost use Rattle.awari_waves.specs.Scanned.{AreScannedFrom, CanScanFrom};
 ghost use Rattle.awari_waves.specs.Waves.{CanFind, CanAllHear, FindsFor, HearsFrom};
@@ -61,7 +62,7 @@ pub trait Workers {
     fn open_gains(&self, gain: u8, segments: &mut [Segment]) -> Result<(), AllocError>
         requires ready { ready }
         requires can { CanOpen gain segments.old }
-        ensures opened { OnOk result (Each (OpensSegment gain) segments.old segments.new) };
+        ensures opened { OnOk result (EachTo (OpensSegment gain) segments.old segments.new) };
 
     /// Finds the notes of the chunk, each row by one thread. The result is how many rows have them:
     /// the first ones. Refused if memory runs out; then the level is lost.

@@ -1,6 +1,9 @@
 use Rattle.std.proofs.Common.{◌^◌, ◌≤◌, rules}
 use Rattle.awari_waves.proofs.Waving.{front_still, passes_first, waving_end, waving_none}
 use Rattle.awari_waves.proofs.waves.spread_some.Goals as goal
+use Rattle.awari_block.proofs.ListParts.{each_at}
+use Rattle.awari_waves.specs.Each.{KeepsBoards}
+use Rattle.awari_heard.specs.Level.{no_part}
 
 pub spread-requires-clause-front : goal.spread-requires-clause-front
 spread-requires-clause-front g c =
@@ -25,7 +28,7 @@ returns-clause-front g c =
 pub returns-clause-same : goal.returns-clause-same
 returns-clause-same g c =
     let waving = c.in_ok-spread.ensures.waving c.args.segments.now _ (c.in_ok-gather.ensures.waving c.args.front.stake (2 ^ c.args.front.log) c.args.segments.now (waving_none c.args.front.stake (2 ^ c.args.front.log) c.args.segments.now _ _ c.clear.ensures.items c.clear-2.ensures.items c.requires.front.grid)) in
-    record { blocks = waving.blocks; each = waving.same }
+    each_at KeepsBoards no_part _ _ waving.blocks waving.same
 
 pub returns-clause-first : goal.returns-clause-first
 returns-clause-first g c =

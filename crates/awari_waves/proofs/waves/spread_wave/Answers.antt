@@ -1,6 +1,9 @@
 use Rattle.std.proofs.Common.{◌^◌, ◌≤◌, length, arith}
 use Rattle.awari_waves.proofs.Waving.{all_passed, front_still, waving_end, waving_none}
 use Rattle.awari_waves.proofs.waves.spread_wave.Goals as goal
+use Rattle.awari_block.proofs.ListParts.{each_at}
+use Rattle.awari_waves.specs.Each.{KeepsBoards}
+use Rattle.awari_heard.specs.Level.{no_part}
 
 pub loop-from-init : goal.loop-from-init
 loop-from-init g c = record {
@@ -38,4 +41,4 @@ pub returns-clause-front : goal.returns-clause-front
 returns-clause-front g c = front_still c.args.front c.args.segments.now c.loop-from.segments _ _ _ c.requires.front c.loop-from.invariant.waving
 
 pub returns-clause-same : goal.returns-clause-same
-returns-clause-same g c = record { blocks = c.loop-from.invariant.waving.blocks; each = c.loop-from.invariant.waving.same }
+returns-clause-same g c = each_at KeepsBoards no_part _ _ c.loop-from.invariant.waving.blocks c.loop-from.invariant.waving.same

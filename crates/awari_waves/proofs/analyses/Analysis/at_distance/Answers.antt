@@ -3,7 +3,8 @@ use Rattle.std.specs.Vec.{with_items}
 use Rattle.awari_block.specs.Part.{Part}
 use Rattle.awari_heard.specs.Level.{AreHeard, AreWhole}
 use Rattle.awari_waves.specs.Analyses.{AnalysisView}
-use Rattle.awari_waves.specs.Each.{AreFrom, Each, IsAtWave, KeepsBoards, SameFresh}
+use Rattle.awari_waves.specs.Each.{AreFrom, IsAtWave, KeepsBoards, SameFresh}
+use Rattle.awari_block.specs.Each.{EachTo}
 use Rattle.awari_waves.specs.Waves.{IsCut}
 use Rattle.awari_waves.proofs.Keeping.{keeps_all, keeps_waved}
 use Rattle.awari_waves.proofs.Opened.{waved_grid, waved_heard, waved_same, whole_still}
@@ -18,7 +19,7 @@ invariant_of-result-2 c =
     let a = c.self.inside in
     let before = c.self.invariant in
     let new = c.open_waves.new.segments in
-    let opened : Each (IsAtWave c.args.dist) a.segments.items new = subst (λ l. Each (IsAtWave c.args.dist) l new) c.as_mut_slice.ensures.value c.open_waves.ensures.opened in
+    let opened : EachTo (IsAtWave c.args.dist) a.segments.items new = subst (λ l. EachTo (IsAtWave c.args.dist) l new) c.as_mut_slice.ensures.value c.open_waves.ensures.opened in
     let items : (with_items a.segments new).items ≡ new = kept_items (IsAtWave c.args.dist) a.segments new opened in
     record {
       low = before.low;
@@ -36,31 +37,31 @@ pub returns-clause-heard : goal.returns-clause-heard
 returns-clause-heard c value heard =
     let a = c.self.inside in
     let new = c.open_waves.new.segments in
-    let opened : Each (IsAtWave c.args.dist) a.segments.items new = subst (λ l. Each (IsAtWave c.args.dist) l new) c.as_mut_slice.ensures.value c.open_waves.ensures.opened in
+    let opened : EachTo (IsAtWave c.args.dist) a.segments.items new = subst (λ l. EachTo (IsAtWave c.args.dist) l new) c.as_mut_slice.ensures.value c.open_waves.ensures.opened in
     let items : (with_items a.segments new).items ≡ new = kept_items (IsAtWave c.args.dist) a.segments new opened in
     let test = c.if-dist-self.false in
     let can = can_wave a.front.stake (2 ^ a.front.log) a.segments.items c.self.invariant.grid c.args.dist test (subst (λ (v : AnalysisView). AreFrom c.args.dist v.parts) (sym c.self.view_is) c.requires.far) in
     subst (AreHeard value) (sym items) (waved_heard value c.args.dist a.segments.items new can opened (subst (λ (v : AnalysisView). AreHeard value v.parts) (sym c.self.view_is) heard))
 
 pub returns-then-dist-self-clause-stays : goal.returns-then-dist-self-clause-stays
-returns-then-dist-self-clause-stays c = subst (λ (v : AnalysisView). Each KeepsBoards v.parts c.self.inside.segments.items) c.self.view_is (keeps_all c.self.inside.segments.items)
+returns-then-dist-self-clause-stays c = subst (λ (v : AnalysisView). EachTo KeepsBoards v.parts c.self.inside.segments.items) c.self.view_is (keeps_all c.self.inside.segments.items)
 
 pub returns-clause-stays : goal.returns-clause-stays
 returns-clause-stays c =
     let a = c.self.inside in
     let new = c.open_waves.new.segments in
-    let opened : Each (IsAtWave c.args.dist) a.segments.items new = subst (λ l. Each (IsAtWave c.args.dist) l new) c.as_mut_slice.ensures.value c.open_waves.ensures.opened in
+    let opened : EachTo (IsAtWave c.args.dist) a.segments.items new = subst (λ l. EachTo (IsAtWave c.args.dist) l new) c.as_mut_slice.ensures.value c.open_waves.ensures.opened in
     let items : (with_items a.segments new).items ≡ new = kept_items (IsAtWave c.args.dist) a.segments new opened in
-    subst (λ (v : AnalysisView). Each KeepsBoards v.parts (with_items a.segments new).items) c.self.view_is (subst (Each KeepsBoards a.segments.items) (sym items) (keeps_waved c.args.dist a.segments.items new opened))
+    subst (λ (v : AnalysisView). EachTo KeepsBoards v.parts (with_items a.segments new).items) c.self.view_is (subst (EachTo KeepsBoards a.segments.items) (sym items) (keeps_waved c.args.dist a.segments.items new opened))
 
 pub returns-then-dist-self-clause-fresh : goal.returns-then-dist-self-clause-fresh
-returns-then-dist-self-clause-fresh c = subst (λ (v : AnalysisView). Each SameFresh v.parts c.self.inside.segments.items) c.self.view_is (record { blocks = refl; each = λ i few. refl })
+returns-then-dist-self-clause-fresh c = subst (λ (v : AnalysisView). EachTo SameFresh v.parts c.self.inside.segments.items) c.self.view_is (record { many = refl; each = λ i d few. refl })
 
 pub returns-clause-fresh : goal.returns-clause-fresh
 returns-clause-fresh c =
     let a = c.self.inside in
     let new = c.open_waves.new.segments in
-    let opened : Each (IsAtWave c.args.dist) a.segments.items new = subst (λ l. Each (IsAtWave c.args.dist) l new) c.as_mut_slice.ensures.value c.open_waves.ensures.opened in
+    let opened : EachTo (IsAtWave c.args.dist) a.segments.items new = subst (λ l. EachTo (IsAtWave c.args.dist) l new) c.as_mut_slice.ensures.value c.open_waves.ensures.opened in
     let items : (with_items a.segments new).items ≡ new = kept_items (IsAtWave c.args.dist) a.segments new opened in
-    subst (λ (v : AnalysisView). Each SameFresh v.parts (with_items a.segments new).items) c.self.view_is
-    (subst (Each SameFresh a.segments.items) (sym items) (record { blocks = opened.blocks; each = λ i few. ap (λ (p : Part). p.fresh) (opened.each i few) }))
+    subst (λ (v : AnalysisView). EachTo SameFresh v.parts (with_items a.segments new).items) c.self.view_is
+    (subst (EachTo SameFresh a.segments.items) (sym items) (record { many = opened.many; each = λ i d few. ap (λ (p : Part). p.fresh) (opened.each i d few) }))

@@ -3,7 +3,8 @@ use Rattle.std.specs.Vec.{with_items}
 use Rattle.awari_heard.specs.Level.{AreHeard, AreWhole}
 use Rattle.awari_heard.specs.Heard.{SameBlock}
 use Rattle.awari_waves.specs.Analyses.{AnalysisView}
-use Rattle.awari_waves.specs.Each.{Each, KeepsBoards, PassesFirst}
+use Rattle.awari_waves.specs.Each.{KeepsBoards, PassesFirst}
+use Rattle.awari_block.specs.Each.{EachTo}
 use Rattle.awari_waves.specs.Waves.{IsCut}
 use Rattle.awari_waves.proofs.Keeping.{same_each}
 use Rattle.awari_waves.proofs.Opened.{whole_still}
@@ -15,7 +16,7 @@ invariant_of-result g c =
     let a = c.self.inside in
     let before = c.self.invariant in
     let new = c.spread_some.new.segments in
-    let same : Each SameBlock a.segments.items new = same_each a.segments.items new (subst (λ l. Each KeepsBoards l new) c.as_mut_slice.ensures.value c.in_ok-spread_some.ensures.same) in
+    let same : EachTo SameBlock a.segments.items new = same_each a.segments.items new (subst (λ l. EachTo KeepsBoards l new) c.as_mut_slice.ensures.value c.in_ok-spread_some.ensures.same) in
     let items : (with_items a.segments new).items ≡ new = kept_items SameBlock a.segments new same in
     record {
       low = before.low;
@@ -33,7 +34,7 @@ pub returns-clause-heard : goal.returns-clause-heard
 returns-clause-heard g c value heard =
     let a = c.self.inside in
     let new = c.spread_some.new.segments in
-    let same : Each SameBlock a.segments.items new = same_each a.segments.items new (subst (λ l. Each KeepsBoards l new) c.as_mut_slice.ensures.value c.in_ok-spread_some.ensures.same) in
+    let same : EachTo SameBlock a.segments.items new = same_each a.segments.items new (subst (λ l. EachTo KeepsBoards l new) c.as_mut_slice.ensures.value c.in_ok-spread_some.ensures.same) in
     let items : (with_items a.segments new).items ≡ new = kept_items SameBlock a.segments new same in
     let opened = subst (λ (v : AnalysisView). AreHeard value v.parts) (sym c.self.view_is) heard in
     subst (AreHeard value) (sym items) (c.in_ok-spread_some.ensures.heard value (subst (AreHeard value) (sym c.as_mut_slice.ensures.value) opened))
@@ -42,15 +43,15 @@ pub returns-clause-stays : goal.returns-clause-stays
 returns-clause-stays g c =
     let a = c.self.inside in
     let new = c.spread_some.new.segments in
-    let same : Each KeepsBoards a.segments.items new = subst (λ l. Each KeepsBoards l new) c.as_mut_slice.ensures.value c.in_ok-spread_some.ensures.same in
+    let same : EachTo KeepsBoards a.segments.items new = subst (λ l. EachTo KeepsBoards l new) c.as_mut_slice.ensures.value c.in_ok-spread_some.ensures.same in
     let items : (with_items a.segments new).items ≡ new = kept_items KeepsBoards a.segments new same in
-    subst (λ (v : AnalysisView). Each KeepsBoards v.parts (with_items a.segments new).items) c.self.view_is (subst (Each KeepsBoards a.segments.items) (sym items) same)
+    subst (λ (v : AnalysisView). EachTo KeepsBoards v.parts (with_items a.segments new).items) c.self.view_is (subst (EachTo KeepsBoards a.segments.items) (sym items) same)
 
 pub returns-clause-first : goal.returns-clause-first
 returns-clause-first g c =
     let a = c.self.inside in
     let new = c.spread_some.new.segments in
-    let same : Each KeepsBoards a.segments.items new = subst (λ l. Each KeepsBoards l new) c.as_mut_slice.ensures.value c.in_ok-spread_some.ensures.same in
+    let same : EachTo KeepsBoards a.segments.items new = subst (λ l. EachTo KeepsBoards l new) c.as_mut_slice.ensures.value c.in_ok-spread_some.ensures.same in
     let items : (with_items a.segments new).items ≡ new = kept_items KeepsBoards a.segments new same in
     let first : PassesFirst a.front.stake.wave a.segments.items new = subst (λ l. PassesFirst a.front.stake.wave l new) c.as_mut_slice.ensures.value c.in_ok-spread_some.ensures.first in
     subst (λ (v : AnalysisView). PassesFirst v.wave v.parts (with_items a.segments new).items) c.self.view_is (subst (PassesFirst a.front.stake.wave a.segments.items) (sym items) first)
