@@ -20,7 +20,7 @@ use Rattle.awari_scan.specs.Found.{Source, code_by, code_of}
 use Rattle.awari_heard.specs.Level.{AreHeard, no_part, part_at}
 use Rattle.awari_heard.proofs.SpreadBoards.{IsInjective, spread_before, spread_stays}
 use Rattle.awari_waves.specs.Lists.{AreDistinct}
-use Rattle.awari_waves.specs.Waves.{AreSourcesOf, CanAllHear, HearsFrom, IsCodeFor, IsCut, IsPending, SettlesAll, codes_to, note_by, value_of_kind, with_pending, both_by, notes_by}
+use Rattle.awari_waves.specs.Waves.{AreSourcesOf, CanAllHear, HearsFrom, IsCodeFor, AreSegments, AwaitsSpread, SettlesAll, codes_to, note_by, value_of_kind, with_pending, both_by, notes_by}
 use Rattle.awari_waves.proofs.Sources.{IsFrom, Keeps, codes_distinct, codes_in, distinct_apart, distinct_first, distinct_second, in_codes, in_map, in_or_not, source_all, source_from, sources_distinct}
 use Rattle.awari_waves.proofs.Laying.{sources_both}
 use Rattle.awari_block.proofs.NoteLists.{heard_note, Has-append_cases, Has-append_left, Has-append_right, all_has}
@@ -87,9 +87,9 @@ pub part_of_map : (f : Part → Part) (parts : List Part) (i : ℕ) (d : Part) �
 part_of_map f parts i d h = get_or-map f parts i no_part d h
 
 module _ (stake : Stake) (span : ℕ) (old : List Part) (injective : IsInjective) (keeps : Keeps) (boards : (p q : List ℕ) (x : ℕ) → IsBoard p → IsQuietMove p x q → IsBoard q)
-    (one : 1 ≤ stake.gain) (grid : IsCut stake span old) where
+    (one : 1 ≤ stake.gain) (grid : AreSegments stake span old) where
   -- the boards of one kind, and their sources
-  module _ (kind : Kind) (ranks : List ℕ) (sources : List Source) (pending : (r : ℕ) → Has ranks r → IsPending stake span old kind r) (found : AreSourcesOf stake.level ranks sources) where
+  module _ (kind : Kind) (ranks : List ℕ) (sources : List Source) (pending : (r : ℕ) → Has ranks r → AwaitsSpread stake span old kind r) (found : AreSourcesOf stake.level ranks sources) where
     -- such a board, in its block
     pub chunk_spread : (i r : ℕ) → i < length old → InBlock (part_at old i) r → Has ranks r → IsSpread (part_at old i) r (value_of_kind kind stake.gain) stake.wave
     chunk_spread i r few inside listed =
@@ -164,7 +164,7 @@ module _ (stake : Stake) (span : ℕ) (old : List Part) (injective : IsInjective
             (pend_zero (part_at old (rank_of from.q / span)).wave others (part_at old (rank_of from.q / span)).fresh (rank_of from.q) told.2.1).0 (among (rank_of from.q) from.listed))
 
   -- the blocks can hear what was found of both kinds
-  pub can_hear : (lost won : List ℕ) (xs ys : List Source) (lost_notes won_notes : ℕ → List ℕ) → ((r : ℕ) → Has lost r → IsPending stake span old Lost r) → ((r : ℕ) → Has won r → IsPending stake span old Won r)
+  pub can_hear : (lost won : List ℕ) (xs ys : List Source) (lost_notes won_notes : ℕ → List ℕ) → ((r : ℕ) → Has lost r → AwaitsSpread stake span old Lost r) → ((r : ℕ) → Has won r → AwaitsSpread stake span old Won r)
       → AreSourcesOf stake.level lost xs → AreSourcesOf stake.level won ys → ((j : ℕ) → lost_notes j ≡ codes_to span j xs) → ((j : ℕ) → won_notes j ≡ codes_to span j ys)
       → stake.gain ≤ stake.level → stake.wave < 2 ^ 32 - 1 → length old < 2 ^ 64 → CanAllHear 0 lost_notes won_notes old
   can_hear lost won xs ys lost_notes won_notes pend_lost pend_won found_lost found_won at_lost at_won inward near few = record {
@@ -183,7 +183,7 @@ module _ (stake : Stake) (span : ℕ) (old : List Part) (injective : IsInjective
 
   -- the lost boards of a chunk and the won ones, whose notes each block heard
   module _ (lost won rest : List ℕ) (xs ys : List Source) (lost_notes won_notes : ℕ → List ℕ) (new : List Part)
-      (pend_lost : (r : ℕ) → Has lost r → IsPending stake span old Lost r) (pend_won : (r : ℕ) → Has won r → IsPending stake span old Won r)
+      (pend_lost : (r : ℕ) → Has lost r → AwaitsSpread stake span old Lost r) (pend_won : (r : ℕ) → Has won r → AwaitsSpread stake span old Won r)
       (found_lost : AreSourcesOf stake.level lost xs) (found_won : AreSourcesOf stake.level won ys)
       (at_lost : (j : ℕ) → lost_notes j ≡ codes_to span j xs) (at_won : (j : ℕ) → won_notes j ≡ codes_to span j ys)
       (hears : HearsFrom 0 lost_notes won_notes old new) (distinct : AreDistinct ((lost ++ won) ++ rest)) where
@@ -283,7 +283,7 @@ module _ (stake : Stake) (span : ℕ) (old : List Part) (injective : IsInjective
         spread_now i r v d few inside (λ h. none.0 (Has-append_right (lost ++ won) rest r h)) (spread.0, none.1)
 
     -- a note of a code is true
-    from_code : (kind : Kind) (ranks : List ℕ) (sources : List Source) → ((r : ℕ) → Has ranks r → IsPending stake span old kind r) → AreSourcesOf stake.level ranks sources → ((r : ℕ) → Has ranks r → Has (lost ++ won) r)
+    from_code : (kind : Kind) (ranks : List ℕ) (sources : List Source) → ((r : ℕ) → Has ranks r → AwaitsSpread stake span old kind r) → AreSourcesOf stake.level ranks sources → ((r : ℕ) → Has ranks r → Has (lost ++ won) r)
         → (i j c : ℕ) (p q : List ℕ) (x : ℕ) (m : Note) → i < length old → j < length old → IsBoard p → sum p ≡ stake.level → InBlock (part_at old i) (rank_of q) → IsQuietMove p x q → Has (codes_to span j sources) c
         → c / 8 ≡ rank_of p → m ≡ note_by (stake_of (part_at old j)) kind c → m.pit ≡ x
         → (v : ℤ) × (d : ℕ) × IsSpread (with_pending rest (part_at new i)) (rank_of q) v d × IsNoteOf q v d p x m
@@ -297,7 +297,7 @@ module _ (stake : Stake) (span : ℕ) (old : List Part) (injective : IsInjective
         )
 
     -- and each is there
-    via_code : (kind : Kind) (ranks : List ℕ) (sources : List Source) → ((r : ℕ) → Has ranks r → IsPending stake span old kind r) → AreSourcesOf stake.level ranks sources
+    via_code : (kind : Kind) (ranks : List ℕ) (sources : List Source) → ((r : ℕ) → Has ranks r → AwaitsSpread stake span old kind r) → AreSourcesOf stake.level ranks sources
         → (i j : ℕ) (p q : List ℕ) (x : ℕ) (v : ℤ) (d : ℕ) → i < length old → j < length old → IsBoard p → sum p ≡ stake.level → InBlock (part_at old j) (rank_of p) → InBlock (part_at old i) (rank_of q) → IsQuietMove p x q
         → IsSpread (part_at old i) (rank_of q) v d → Has ranks (rank_of q)
         → (c : ℕ) × Has (codes_to span j sources) c × (c / 8 ≡ rank_of p) × IsNoteOf q v d p x (note_by (stake_of (part_at old j)) kind c)
@@ -398,7 +398,7 @@ module _ (stake : Stake) (span : ℕ) (old : List Part) (injective : IsInjective
 pub settles_all : (lost won : ℕ → List ℕ) (old new : List Part) → HearsFrom 0 lost won old new → SettlesAll old new
 settles_all lost won old new hears = record { blocks = hears.blocks; settles = hears.settles; passed = hears.passed }
 
-pub grid_still : (stake : Stake) (span : ℕ) (old new : List Part) → IsCut stake span old → SettlesAll old new → IsCut stake span new
+pub grid_still : (stake : Stake) (span : ℕ) (old new : List Part) → AreSegments stake span old → SettlesAll old new → AreSegments stake span new
 grid_still stake span old new grid all = record {
   level = λ i h. (all.settles i (few i h)).same.level ∙ grid.level i (few i h);
   gain = λ i h. (all.settles i (few i h)).same.gain ∙ grid.gain i (few i h);

@@ -10,7 +10,7 @@ use Rattle.awari_heard.specs.Heard.{Hears}
 use Rattle.awari_heard.specs.Level.{AreBlocks, AreHeard, AreWhole, no_part, part_at}
 use Rattle.awari_waves.specs.Each.{NoneAreFresh}
 use Rattle.awari_waves.specs.Scanned.{IsScannedPart}
-use Rattle.awari_waves.specs.Waves.{IsCut}
+use Rattle.awari_waves.specs.Waves.{AreSegments}
 use Rattle.awari_waves.proofs.Spans.{grid_of}
 use Rattle.awari_scan.proofs.Finding.{level_few}
 
@@ -55,7 +55,7 @@ module _ (value : List ℕ → ℤ) (n span : ℕ) where
       }
 
   module _ (reached : ℕ) (parts : List Part) (low : n ≤ 24) (some : 0 < span) (done : AreScannedTo value n span reached parts) (all : size_of n ≤ reached) where
-    pub scanned-grid : IsCut (record { level = n; gain = n + 1; wave = 0 }) span parts
+    pub scanned-grid : AreSegments (record { level = n; gain = n + 1; wave = 0 }) span parts
     scanned-grid = grid_of (record { level = n; gain = n + 1; wave = 0 }) span parts some (record {
       level = λ i h. (done.each i h).level;
       gain = λ i h. (done.each i h).gain;

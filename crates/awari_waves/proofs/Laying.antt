@@ -131,7 +131,6 @@ pub can_find : (level span : ℕ) (ranks part : List ℕ) (rows few : ℕ) → (
 can_find level span ranks part rows few among some can = record {
   low = can.low;
   inside = all_has (λ rank. rank < size_of level) part (λ x h. has_all (λ rank. rank < size_of level) ranks can.inside x (among x h));
-  few = can.few;
   blocks = can.blocks;
   some = some;
 }

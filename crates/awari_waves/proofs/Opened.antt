@@ -14,7 +14,7 @@ use Rattle.awari_heard.proofs.SpreadBoards.{spread_before, spread_stays}
 use Rattle.awari_heard.proofs.PlannedTallies.{wave_tally}
 use Rattle.awari_waves.specs.Each.{CanOpen, CanOpenWave, OpensSegment, IsAtWave, at_gain}
 use Rattle.awari_block.specs.Each.{EachTo}
-use Rattle.awari_waves.specs.Waves.{IsCut}
+use Rattle.awari_waves.specs.Waves.{AreSegments}
 
 -- The block is the same. Settled boards keep value and distance, and those that are newly settled join the fresh ones.
 pub record StaysSpread (old new : Part) : Type 0 where
@@ -55,8 +55,8 @@ heard_still value old new all tells heard j d h =
 
 -- ---- the same blocks
 
-pub grid_moved : (stake : Stake) (span gain wave : ℕ) (old new : List Part) → IsCut stake span old → EachTo SameBlock old new → ((i : ℕ) → i < length old → (part_at new i).gain ≡ gain)
-    → ((i : ℕ) → i < length old → (part_at new i).wave ≡ wave) → IsCut (record stake { gain = gain; wave = wave }) span new
+pub grid_moved : (stake : Stake) (span gain wave : ℕ) (old new : List Part) → AreSegments stake span old → EachTo SameBlock old new → ((i : ℕ) → i < length old → (part_at new i).gain ≡ gain)
+    → ((i : ℕ) → i < length old → (part_at new i).wave ≡ wave) → AreSegments (record stake { gain = gain; wave = wave }) span new
 grid_moved stake span gain wave old new grid all gains waves = record {
   level = λ i h. (all.each i no_part (few i h)).level ∙ grid.level i (few i h);
   gain = λ i h. gains i (few i h);
@@ -115,7 +115,7 @@ pub opened_heard : (value : List ℕ → ℤ) (gain : ℕ) (old new : List Part)
 opened_heard value gain old new can all heard =
     heard_still value old new (opened_spread gain old new all) (λ i few. gain_told value gain (part_at old i) (part_at new i) can.positive (can.next i few) (all.each i no_part few)) heard
 
-pub opened_grid : (stake : Stake) (span gain : ℕ) (old new : List Part) → IsCut stake span old → EachTo (OpensSegment gain) old new → IsCut (record stake { gain = gain; wave = 0 }) span new
+pub opened_grid : (stake : Stake) (span gain : ℕ) (old new : List Part) → AreSegments stake span old → EachTo (OpensSegment gain) old new → AreSegments (record stake { gain = gain; wave = 0 }) span new
 opened_grid stake span gain old new grid all =
     grid_moved stake span gain 0 old new grid (opened_same gain old new all) (λ i few. (all.each i no_part few).settles.same.gain) (λ i few. (all.each i no_part few).settles.same.wave)
 
@@ -143,6 +143,6 @@ waved_heard value dist old new can all heard =
     heard_still value old new (waved_spread dist old new all)
     (λ i few notes tallied. subst (λ (p : Part). IsTallied value p notes) (sym (all.each i no_part few)) (wave_told value dist (part_at old i) (can.farther i few) notes tallied)) heard
 
-pub waved_grid : (stake : Stake) (span dist : ℕ) (old new : List Part) → IsCut stake span old → EachTo (IsAtWave dist) old new → IsCut (record stake { wave = dist }) span new
+pub waved_grid : (stake : Stake) (span dist : ℕ) (old new : List Part) → AreSegments stake span old → EachTo (IsAtWave dist) old new → AreSegments (record stake { wave = dist }) span new
 waved_grid stake span dist old new grid all =
     grid_moved stake span stake.gain dist old new grid (waved_same dist old new all) (λ i few. ap (λ (p : Part). p.gain) (all.each i no_part few) ∙ grid.gain i few) (λ i few. ap (λ (p : Part). p.wave) (all.each i no_part few))

@@ -1,11 +1,22 @@
 -- A level that is cut into blocks of one length.
-use Rattle.std.proofs.Common.{◌≡◌, ℕ, suc, ◌+◌, ◌*◌, ◌/◌, ◌<◌, ◌≤◌, inl, inr, List, length, ap, ◌∙◌, arith}
+use Rattle.std.proofs.Common.{◌≡◌, ℕ, suc, ◌+◌, ◌*◌, ◌/◌, ◌<◌, ◌≤◌, inl, inr, List, length, ap, ◌∙◌, arith, min}
 use Rattle.std.proofs.lemmas.Bool.{cases_lt, cases_eq}
 use Rattle.std.proofs.lemmas.Nat.{div_below, mul-le}
 use Rattle.std.proofs.Math.Nat.{suc-mul, div-mul-le_self, lt-div-mul-add}
 use Rattle.awari_block.specs.Part.{Part}
 use Rattle.awari_block.specs.declared.stakes.Stake.{Stake}
-use Rattle.awari_waves.specs.Waves.{AreSpans, IsCut}
+use Rattle.awari_waves.specs.Waves.{AreSegments}
+use Rattle.awari_heard.specs.Level.{part_at}
+use Rattle.awari_rank.specs.Rank.{size_of}
+
+-- The boards of the level, `span` in each block and fewer in the last.
+pub record AreConsecutive (stake : Stake) (span : ℕ) (parts : List Part) : Type 0 where
+  pub level : (i : ℕ) → i < length parts → (part_at parts i).level ≡ stake.level
+  pub gain : (i : ℕ) → i < length parts → (part_at parts i).gain ≡ stake.gain
+  pub wave : (i : ℕ) → i < length parts → (part_at parts i).wave ≡ stake.wave
+  pub start : (i : ℕ) → i < length parts → (part_at parts i).start ≡ i * span
+  pub end : (i : ℕ) → i < length parts → (part_at parts i).start + length (part_at parts i).cells ≡ min ((i + 1) * span) (size_of stake.level)
+  pub all : size_of stake.level ≤ length parts * span
 
 next : (k s : ℕ) → (k + 1) * s ≡ k * s + s
 next k s = (let e : k + 1 ≡ suc k = omega arith in ap (λ j. j * s) e) ∙ suc-mul k s
@@ -19,7 +30,7 @@ div_at r k s some low high = elim (cases_eq (r / s) k) [
   ]
 ]
 
-pub grid_of : (stake : Stake) (span : ℕ) (parts : List Part) → 0 < span → AreSpans stake span parts → IsCut stake span parts
+pub grid_of : (stake : Stake) (span : ℕ) (parts : List Part) → 0 < span → AreConsecutive stake span parts → AreSegments stake span parts
 grid_of stake span parts some are = record {
   level = are.level;
   gain = are.gain;

@@ -8,13 +8,13 @@ use Rattle.awari_block.specs.declared.stakes.Stake.{Stake}
 use Rattle.awari_heard.specs.Level.{no_part}
 use Rattle.awari_waves.specs.Each.{AreFrom, NoneAreFresh, CanOpen, CanOpenWave, PassesFirst, SameFresh}
 use Rattle.awari_block.specs.Each.{EachTo}
-use Rattle.awari_waves.specs.Waves.{IsCut, IsPassed}
+use Rattle.awari_waves.specs.Waves.{AreSegments, IsPassed}
 
 -- the blocks that take the places of others are as many
 pub kept_items : {Z : Type 0} (P : Part → Part → Type 0) (v : Vec Part Z) (new : List Part) → EachTo P v.items new → (with_items v new).items ≡ new
 kept_items P v new each = let same = each.many in let len = v.ok.0 in with_items_is v new (omega (arith, same, len))
 
-module _ (stake : Stake) (span : ℕ) (parts : List Part) (grid : IsCut stake span parts) where
+module _ (stake : Stake) (span : ℕ) (parts : List Part) (grid : AreSegments stake span parts) where
   pub can_open : (gain : ℕ) → 1 ≤ gain → gain + 1 ≡ stake.gain → NoneAreFresh parts → CanOpen gain parts
   can_open gain some next idle = record { positive = some; next = λ i h. grid.gain i h ∙ sym next; idle = idle }
 

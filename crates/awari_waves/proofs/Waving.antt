@@ -17,9 +17,9 @@ use Rattle.awari_heard.specs.Heard.{Hears, IsSpread}
 use Rattle.awari_heard.specs.Level.{AreHeard, no_part, part_at}
 use Rattle.awari_waves.specs.Lists.{AreDistinct}
 use Rattle.awari_waves.specs.Each.{PassesFirst}
-use Rattle.awari_waves.specs.Fronts.{IsFront}
+use Rattle.awari_waves.specs.Fronts.{AreAtFront}
 use Rattle.awari_waves.specs.declared.chunks.Front.{Front}
-use Rattle.awari_waves.specs.Waves.{GivesFresh, IsCut, IsPassed, IsPending, IsWaving, SettlesAll, SpreadsChunk, value_of_kind, with_pending}
+use Rattle.awari_waves.specs.Waves.{GivesFresh, AreSegments, IsPassed, AwaitsSpread, IsPartlySpread, SettlesAll, SpreadsChunk, value_of_kind, with_pending}
 use Rattle.awari_waves.proofs.Sources.{distinct_apart, distinct_both, distinct_first, distinct_second}
 use Rattle.awari_waves.proofs.Chunked.{part_of_map, pend_none, pend_zero}
 use Rattle.awari_waves.proofs.Keeping.{keeps_but, keeps_none, keeps_settled, keeps_then}
@@ -102,7 +102,7 @@ given_distinct w (x ∷ given) F few = (
 
 -- ---- a segment gives boards of one kind
 
-module _ (stake : Stake) (span : ℕ) (now : List Part) (k : ℕ) (kind : Kind) (new : Part) (given : List ℕ) (few : k < length now) (grid : IsCut stake span now) (gives : GivesFresh kind (part_at now k) new given)
+module _ (stake : Stake) (span : ℕ) (now : List Part) (k : ℕ) (kind : Kind) (new : Part) (given : List ℕ) (few : k < length now) (grid : AreSegments stake span now) (gives : GivesFresh kind (part_at now k) new given)
     (once : (r : ℕ) → times_due (part_at now k).fresh r ≤ 1) where
   abbrev now' : List Part
   now' = set now k new
@@ -123,7 +123,7 @@ module _ (stake : Stake) (span : ℕ) (now : List Part) (k : ℕ) (kind : Kind) 
       by true e = subst (λ n. SameBut (part_at now n) (part_at now' n)) (sym (eqb-true i k e)) (subst (SameBut (part_at now k)) (sym here) gives.rest)
       by false e = subst (SameBut (part_at now i)) (sym (there i (differ i k e))) refl
 
-  pub given_grid : IsCut stake span now'
+  pub given_grid : AreSegments stake span now'
   given_grid = record {
     level = λ i h. ap (λ (p : Part). p.level) (given_same i (low i h)) ∙ grid.level i (low i h);
     gain = λ i h. ap (λ (p : Part). p.gain) (given_same i (low i h)) ∙ grid.gain i (low i h);
@@ -149,7 +149,7 @@ module _ (stake : Stake) (span : ℕ) (now : List Part) (k : ℕ) (kind : Kind) 
   given_left : (r : ℕ) → Has given r → times_due new.fresh r ≡ 0
   given_left r h = let one = given_once (part_at now k).wave given new.fresh r h in let c = count r in let most = once r in omega (arith, one, c, most)
 
-  pub given_pending : (r : ℕ) → Has given r → IsPending stake span now' kind r
+  pub given_pending : (r : ℕ) → Has given r → AwaitsSpread stake span now' kind r
   given_pending r h =
       let at = given_at r h in
       let home = given_home r h in
@@ -162,7 +162,7 @@ module _ (stake : Stake) (span : ℕ) (now : List Part) (k : ℕ) (kind : Kind) 
       }
 
   -- and the others are as they were
-  pub still_pending : (other : Kind) (r : ℕ) → IsPending stake span now other r → IsPending stake span now' other r
+  pub still_pending : (other : Kind) (r : ℕ) → AwaitsSpread stake span now other r → AwaitsSpread stake span now' other r
   still_pending other r is = record {
     inside = is.inside;
     settled = subst (λ (p : Part). settled_at p r ≡ Some (value_of_kind other stake.gain, stake.wave)) (sym (given_same (r / span) (grid.home r is.inside).0)) is.settled;
@@ -177,7 +177,7 @@ module _ (stake : Stake) (span : ℕ) (now : List Part) (k : ℕ) (kind : Kind) 
           subst (λ n. times_due (part_at now' n).fresh r ≡ 0) (sym same) (subst (λ (p : Part). times_due p.fresh r ≡ 0) (sym here) none.1)
       by false e = subst (λ (p : Part). times_due p.fresh r ≡ 0) (sym (there (r / span) (differ (r / span) k e))) is.taken
 
-  pub given_apart : (other : Kind) (r : ℕ) → IsPending stake span now other r → Has given r → ⊥
+  pub given_apart : (other : Kind) (r : ℕ) → AwaitsSpread stake span now other r → Has given r → ⊥
   given_apart other r is h =
       let was = subst (λ n. times_due (part_at now n).fresh r ≡ 0) (given_home r h) is.taken in
       let one = given_once (part_at now k).wave given new.fresh r h in
@@ -243,9 +243,9 @@ map_none : (parts : List Part) → map (with_pending []) parts ≡ parts
 map_none [] = refl
 map_none (p ∷ parts) = ap (λ ps. p ∷ ps) (map_none parts)
 
-pub waving_none : (stake : Stake) (span : ℕ) (old : List Part) (lost won : List ℕ) → lost ≡ [] → won ≡ [] → IsCut stake span old → IsWaving stake span 0 old old lost won
+pub waving_none : (stake : Stake) (span : ℕ) (old : List Part) (lost won : List ℕ) → lost ≡ [] → won ≡ [] → AreSegments stake span old → IsPartlySpread stake span 0 old old lost won
 waving_none stake span old lost won no_lost no_won grid =
-    subst₂ (λ (l w : List ℕ). IsWaving stake span 0 old old l w) (sym no_lost) (sym no_won) (record {
+    subst₂ (λ (l w : List ℕ). IsPartlySpread stake span 0 old old l w) (sym no_lost) (sym no_won) (record {
       blocks = refl;
       grid = grid;
       of_lost = λ k d h. absurd (omega arith);
@@ -256,14 +256,14 @@ waving_none stake span old lost won no_lost no_won grid =
       heard = λ value told. subst (AreHeard value) (sym (map_none old)) told;
     })
 
-pub waving_end : (stake : Stake) (span n : ℕ) (old now : List Part) (lost won : List ℕ) → lost ≡ [] → won ≡ [] → IsWaving stake span n old now lost won → (value : List ℕ → ℤ) → AreHeard value old → AreHeard value now
+pub waving_end : (stake : Stake) (span n : ℕ) (old now : List Part) (lost won : List ℕ) → lost ≡ [] → won ≡ [] → IsPartlySpread stake span n old now lost won → (value : List ℕ → ℤ) → AreHeard value old → AreHeard value now
 waving_end stake span n old now lost won no_lost no_won waving value told =
     subst (AreHeard value) (map_none now) (subst₂ (λ (l w : List ℕ). AreHeard value (map (with_pending (l ++ w)) now)) no_lost no_won (waving.heard value told))
 
-pub waving_spread : (stake : Stake) (span n : ℕ) (old now new : List Part) (lost won lost' won' : List ℕ) → lost' ≡ [] → won' ≡ [] → SpreadsChunk lost won now new → SettlesAll now new → IsCut stake span new
-    → IsWaving stake span n old now lost won → IsWaving stake span n old new lost' won'
+pub waving_spread : (stake : Stake) (span n : ℕ) (old now new : List Part) (lost won lost' won' : List ℕ) → lost' ≡ [] → won' ≡ [] → SpreadsChunk lost won now new → SettlesAll now new → AreSegments stake span new
+    → IsPartlySpread stake span n old now lost won → IsPartlySpread stake span n old new lost' won'
 waving_spread stake span n old now new lost won lost' won' no_lost no_won spreads all grid waving =
-    subst₂ (λ (l w : List ℕ). IsWaving stake span n old new l w) (sym no_lost) (sym no_won) (record {
+    subst₂ (λ (l w : List ℕ). IsPartlySpread stake span n old new l w) (sym no_lost) (sym no_won) (record {
       blocks = all.blocks ∙ waving.blocks;
       grid = grid;
       of_lost = λ k d h. absurd (omega arith);
@@ -283,16 +283,16 @@ waving_spread stake span n old now new lost won lost' won' no_lost no_won spread
     })
 
 pub waving_lost : (stake : Stake) (span n : ℕ) (old now : List Part) (lost won : List ℕ) (k : ℕ) (d new : Part) (given lost' : List ℕ) → k < length now → n ≤ k → lost' ≡ lost ++ given
-    → GivesFresh Lost (get_or now k d) new given → AreFresh (get_or now k d) → IsWaving stake span n old now lost won → IsWaving stake span n old (set now k new) lost' won
+    → GivesFresh Lost (get_or now k d) new given → AreFresh (get_or now k d) → IsPartlySpread stake span n old now lost won → IsPartlySpread stake span n old (set now k new) lost' won
 waving_lost stake span n old now lost won k d new given lost' few done is gives' fresh' waving =
-    subst (λ (l : List ℕ). IsWaving stake span n old (set now k new) l won) (sym is) (record {
+    subst (λ (l : List ℕ). IsPartlySpread stake span n old (set now k new) l won) (sym is) (record {
       blocks = length-set now k new ∙ waving.blocks;
       grid = given_grid stake span now k Lost new given few waving.grid gives once;
-      of_lost = all_has (IsPending stake span (set now k new) Lost) (lost ++ given) (λ r h. elim (Has-append_cases lost given r h) [
-        | inl before ↦ still_pending stake span now k Lost new given few waving.grid gives once Lost r (has_all (IsPending stake span now Lost) lost waving.of_lost r before)
+      of_lost = all_has (AwaitsSpread stake span (set now k new) Lost) (lost ++ given) (λ r h. elim (Has-append_cases lost given r h) [
+        | inl before ↦ still_pending stake span now k Lost new given few waving.grid gives once Lost r (has_all (AwaitsSpread stake span now Lost) lost waving.of_lost r before)
         | inr more ↦ given_pending stake span now k Lost new given few waving.grid gives once r more
       ]);
-      of_won = all_has (IsPending stake span (set now k new) Won) won (λ r h. still_pending stake span now k Lost new given few waving.grid gives once Won r (has_all (IsPending stake span now Won) won waving.of_won r h));
+      of_won = all_has (AwaitsSpread stake span (set now k new) Won) won (λ r h. still_pending stake span now k Lost new given few waving.grid gives once Won r (has_all (AwaitsSpread stake span now Won) won waving.of_won r h));
       apart = distinct_both (lost ++ given) won
           (distinct_both lost given (distinct_first lost won waving.apart) (distinct_given stake span now k Lost new given few waving.grid gives once) (λ r h g. apart_lost r h g))
           (distinct_second lost won waving.apart)
@@ -326,20 +326,20 @@ waving_lost stake span n old now lost won k d new given lost' few done is gives'
     once = (subst AreFresh same fresh').once
 
     apart_lost : (r : ℕ) → Has lost r → Has given r → ⊥
-    apart_lost r h g = given_apart stake span now k Lost new given few waving.grid gives once Lost r (has_all (IsPending stake span now Lost) lost waving.of_lost r h) g
+    apart_lost r h g = given_apart stake span now k Lost new given few waving.grid gives once Lost r (has_all (AwaitsSpread stake span now Lost) lost waving.of_lost r h) g
 
     apart_won : (r : ℕ) → Has won r → Has given r → ⊥
-    apart_won r h g = given_apart stake span now k Lost new given few waving.grid gives once Won r (has_all (IsPending stake span now Won) won waving.of_won r h) g
+    apart_won r h g = given_apart stake span now k Lost new given few waving.grid gives once Won r (has_all (AwaitsSpread stake span now Won) won waving.of_won r h) g
 
 pub waving_won : (stake : Stake) (span n : ℕ) (old now : List Part) (lost won : List ℕ) (k : ℕ) (d new : Part) (given won' : List ℕ) → k < length now → n ≤ k → won' ≡ won ++ given
-    → GivesFresh Won (get_or now k d) new given → AreFresh (get_or now k d) → IsWaving stake span n old now lost won → IsWaving stake span n old (set now k new) lost won'
+    → GivesFresh Won (get_or now k d) new given → AreFresh (get_or now k d) → IsPartlySpread stake span n old now lost won → IsPartlySpread stake span n old (set now k new) lost won'
 waving_won stake span n old now lost won k d new given won' few done is gives' fresh' waving =
-    subst (λ (w : List ℕ). IsWaving stake span n old (set now k new) lost w) (sym is) (record {
+    subst (λ (w : List ℕ). IsPartlySpread stake span n old (set now k new) lost w) (sym is) (record {
       blocks = length-set now k new ∙ waving.blocks;
       grid = given_grid stake span now k Won new given few waving.grid gives once;
-      of_lost = all_has (IsPending stake span (set now k new) Lost) lost (λ r h. still_pending stake span now k Won new given few waving.grid gives once Lost r (has_all (IsPending stake span now Lost) lost waving.of_lost r h));
-      of_won = all_has (IsPending stake span (set now k new) Won) (won ++ given) (λ r h. elim (Has-append_cases won given r h) [
-        | inl before ↦ still_pending stake span now k Won new given few waving.grid gives once Won r (has_all (IsPending stake span now Won) won waving.of_won r before)
+      of_lost = all_has (AwaitsSpread stake span (set now k new) Lost) lost (λ r h. still_pending stake span now k Won new given few waving.grid gives once Lost r (has_all (AwaitsSpread stake span now Lost) lost waving.of_lost r h));
+      of_won = all_has (AwaitsSpread stake span (set now k new) Won) (won ++ given) (λ r h. elim (Has-append_cases won given r h) [
+        | inl before ↦ still_pending stake span now k Won new given few waving.grid gives once Won r (has_all (AwaitsSpread stake span now Won) won waving.of_won r before)
         | inr more ↦ given_pending stake span now k Won new given few waving.grid gives once r more
       ]);
       apart = distinct_both lost (won ++ given) (distinct_first lost won waving.apart)
@@ -374,10 +374,10 @@ waving_won stake span n old now lost won k d new given won' few done is gives' f
     once = (subst AreFresh same fresh').once
 
     apart_lost : (r : ℕ) → Has lost r → Has given r → ⊥
-    apart_lost r h g = given_apart stake span now k Won new given few waving.grid gives once Lost r (has_all (IsPending stake span now Lost) lost waving.of_lost r h) g
+    apart_lost r h g = given_apart stake span now k Won new given few waving.grid gives once Lost r (has_all (AwaitsSpread stake span now Lost) lost waving.of_lost r h) g
 
     apart_won : (r : ℕ) → Has won r → Has given r → ⊥
-    apart_won r h g = given_apart stake span now k Won new given few waving.grid gives once Won r (has_all (IsPending stake span now Won) won waving.of_won r h) g
+    apart_won r h g = given_apart stake span now k Won new given few waving.grid gives once Won r (has_all (AwaitsSpread stake span now Won) won waving.of_won r h) g
 
 -- once it gave both, the fresh boards of a segment are farther
 passed_by : (old mid new : Part) (lost won : List ℕ) → 1 ≤ old.gain → GivesFresh Lost old mid lost → AreFresh mid → GivesFresh Won mid new won → IsPassed new
@@ -433,7 +433,7 @@ none_of_both now k d e mid new given more lost won lost' won' few is_lost is_won
 pub waving_both : (stake : Stake) (span k : ℕ) (old now : List Part) (lost won : List ℕ) (d e mid new : Part) (given more lost' won' : List ℕ) → k < length now → lost' ≡ lost ++ given → won' ≡ won ++ more
     → 1 ≤ (get_or now k d).gain → GivesFresh Lost (get_or now k d) mid given → AreFresh (get_or now k d)
     → GivesFresh Won (get_or (set now k mid) k e) new more → AreFresh (get_or (set now k mid) k e)
-    → IsWaving stake span k old now lost won → IsWaving stake span (k + 1) old (set (set now k mid) k new) lost' won'
+    → IsPartlySpread stake span k old now lost won → IsPartlySpread stake span (k + 1) old (set (set now k mid) k new) lost' won'
 waving_both stake span k old now lost won d e mid new given more lost' won' few is_lost is_won one gives fresh gives' fresh' waving = record {
   blocks = last.blocks;
   grid = last.grid;
@@ -448,7 +448,7 @@ waving_both stake span k old now lost won d e mid new given more lost' won' few 
     low : k < length (set now k mid)
     low = omega (arith, few, length-set now k mid)
 
-    last : IsWaving stake span k old (set (set now k mid) k new) lost' won'
+    last : IsPartlySpread stake span k old (set (set now k mid) k new) lost' won'
     last =
         waving_won stake span k old (set now k mid) lost' won k e new more won' low (omega arith) is_won gives' fresh'
         (waving_lost stake span k old now lost won k d mid given lost' few (omega arith) is_lost gives fresh waving)
@@ -469,12 +469,12 @@ waving_both stake span k old now lost won d e mid new given more lost' won' few 
         differs : (a b : ℕ) → (a == b) ≡ false → a ≢ b
         differs a b e = grind (arith, nat_tests)
 
-pub all_passed : (stake : Stake) (span k : ℕ) (old now : List Part) (lost won : List ℕ) → length now ≤ k → IsWaving stake span k old now lost won → All IsPassed now
+pub all_passed : (stake : Stake) (span k : ℕ) (old now : List Part) (lost won : List ℕ) → length now ≤ k → IsPartlySpread stake span k old now lost won → All IsPassed now
 all_passed stake span k old now lost won end waving i d h =
     subst IsPassed (sym (get_or_default now i d no_part h)) (waving.passed i (omega (arith, h, end)) h)
 
 -- the first block that was not passed is so, if the blocks are gathered beyond it
-pub passes_first : (stake : Stake) (span next : ℕ) (old new : List Part) (lost won : List ℕ) → IsCut stake span old → IsWaving stake span next old new lost won
+pub passes_first : (stake : Stake) (span next : ℕ) (old new : List Part) (lost won : List ℕ) → AreSegments stake span old → IsPartlySpread stake span next old new lost won
     → ((i : ℕ) → i < length old → ((j : ℕ) → 0 ≤ j → j < i → IsPassed (part_at old j)) → i < next) → PassesFirst stake.wave old new
 passes_first stake span next old new lost won grid waving reached i few before =
     let many = waving.blocks in
@@ -483,10 +483,9 @@ passes_first stake span next old new lost won grid waving reached i few before =
     (waving.passed i (reached i few (λ j low less. subst (λ w. All (λ (f : Due). w < due_dist f) (part_at old j).fresh) (sym (grid.wave j (omega (arith, less, few)))) (before j less))) inside)
 
 -- what stands at the start stands while the wave is spread
-pub front_still : (front : Front) (old now : List Part) (k : ℕ) (lost won : List ℕ) → IsFront front old → IsWaving front.stake (2 ^ front.log) k old now lost won → IsFront front now
+pub front_still : (front : Front) (old now : List Part) (k : ℕ) (lost won : List ℕ) → AreAtFront front old → IsPartlySpread front.stake (2 ^ front.log) k old now lost won → AreAtFront front now
 front_still front old now k lost won is waving = record {
   low = is.low;
-  few = is.few;
   opened = is.opened;
   inward = is.inward;
   near = is.near;

@@ -1,30 +1,28 @@
 -- What stands while a wave is spread.
 use Rattle.std.specs.Prelude.{◌≡◌, ◌-◌, ◌^◌, ◌<◌, ◌≤◌, List, length, All}
-use Rattle.awari_rank.specs.Rank.{size_of}
 use Rattle.awari_block.specs.Part.{Part}
 use Rattle.awari_block.specs.declared.notes.Kind.TheVariants.{Lost, Won}
-use Rattle.awari_waves.specs.Waves.{IsCut, IsPending}
+use Rattle.awari_waves.specs.Waves.{AreSegments, AwaitsSpread}
 use Rattle.awari_waves.specs.declared.chunks.Front.{Front}
 use Rattle.awari_waves.specs.declared.chunks.Chunk.{Chunk}
 use Rattle.awari_waves.specs.declared.chunks.Room.{Room}
 
 -- these parts are the blocks of a level, each with 2 ^ log boards and the last with fewer, and all stand at this place
-pub record IsFront (front : Front) (parts : List Part) : Type 0 where
+pub record AreAtFront (front : Front) (parts : List Part) : Type 0 where
   pub low : front.stake.level ≤ 24
-  pub few : size_of front.stake.level ≤ 2 ^ 29
   pub opened : 1 ≤ front.stake.gain
   pub inward : front.stake.gain ≤ front.stake.level
   pub near : front.stake.wave < 2 ^ 32 - 1
   pub blocks : front.log < 32
   pub numbers : length parts < 2 ^ 32
-  pub grid : IsCut front.stake (2 ^ front.log) parts
+  pub grid : AreSegments front.stake (2 ^ front.log) parts
 
 -- the index is that of the level, and there is a row
-pub record IsRoom (front : Front) (room : Room) : Type 0 where
+pub record IsRoomFor (front : Front) (room : Room) : Type 0 where
   pub index : room.index ≡ front.stake.level
   pub some : 1 ≤ length room.rows.items
 
 -- the boards of the chunk were taken from the fresh ones and are not spread yet
-pub record ArePending (front : Front) (parts : List Part) (chunk : Chunk) : Type 0 where
-  pub lost : All (IsPending front.stake (2 ^ front.log) parts Lost) chunk.lost.items
-  pub won : All (IsPending front.stake (2 ^ front.log) parts Won) chunk.won.items
+pub record AwaitSpread (front : Front) (parts : List Part) (chunk : Chunk) : Type 0 where
+  pub lost : All (AwaitsSpread front.stake (2 ^ front.log) parts Lost) chunk.lost.items
+  pub won : All (AwaitsSpread front.stake (2 ^ front.log) parts Won) chunk.won.items

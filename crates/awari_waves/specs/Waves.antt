@@ -1,5 +1,13 @@
--- What the blocks of a level are told of a chunk of its fresh boards. Nothing is on its way before it or after it.
-use Rattle.std.specs.Prelude.{◌≡◌, ℕ, ◌+◌, ◌*◌, ◌/◌, ◌%◌, ◌==◌, ◌-◌, ◌^◌, min, ◌<◌, ◌≤◌, List, [], ◌∷◌, ◌++◌, length, map, filter, sum, ℤ, pos, neg_ℤ, Some, All}
+-- What the segments of a level are told of a chunk of its fresh boards. Nothing is on its way before it or after it.
+--
+-- How to think of it. A wave is spread chunk by chunk. The boards of a chunk are taken from the fresh
+-- ones of their segments, so they await spread: settled, not fresh, and not heard of. While they do, they
+-- count as fresh (with_pending); then AreHeard holds as if they had not been taken. First their notes are
+-- found: each row has for each segment the codes of the predecessors of its share of the boards, each once
+-- (FindsFor). Then each segment hears its codes of all rows, those of lost boards before those of won ones
+-- (HearsFrom). Each of these notes is new, since no board of the chunk was spread before and a board has
+-- each predecessor once. So SpreadsChunk follows: AreHeard holds again, with the chunk's boards spread.
+use Rattle.std.specs.Prelude.{◌≡◌, ℕ, ◌+◌, ◌/◌, ◌%◌, ◌==◌, ◌-◌, ◌^◌, ◌<◌, ◌≤◌, List, [], ◌∷◌, ◌++◌, length, map, filter, sum, ℤ, pos, neg_ℤ, Some, All}
 use Rattle.std.specs.List.Sorted.{IsPermutation}
 use Rattle.awari_board.specs.Rules.{IsBoard}
 use Rattle.awari_rank.specs.Rank.{rank_of, size_of}
@@ -73,7 +81,6 @@ Finds level span ranks old new = (sources : List Source) × AreSourcesOf level r
 pub record CanFind (level span : ℕ) (ranks : List ℕ) (rows : ℕ) : Type 0 where
   pub low : level ≤ 24
   pub inside : All (λ rank. rank < size_of level) ranks
-  pub few : size_of level ≤ 2 ^ 29
   pub blocks : 0 < span
   pub some : 1 ≤ rows
 
@@ -101,7 +108,7 @@ value_of_kind Won gain = pos gain
 value_of_kind Lost gain = neg_ℤ (pos gain)
 
 -- Blocks of `span` boards: the board of each rank is in the block that its rank tells, and in no other.
-pub record IsCut (stake : Stake) (span : ℕ) (parts : List Part) : Type 0 where
+pub record AreSegments (stake : Stake) (span : ℕ) (parts : List Part) : Type 0 where
   pub level : (i : ℕ) → i < length parts → (part_at parts i).level ≡ stake.level
   pub gain : (i : ℕ) → i < length parts → (part_at parts i).gain ≡ stake.gain
   pub wave : (i : ℕ) → i < length parts → (part_at parts i).wave ≡ stake.wave
@@ -109,17 +116,8 @@ pub record IsCut (stake : Stake) (span : ℕ) (parts : List Part) : Type 0 where
   pub home : (rank : ℕ) → rank < size_of stake.level → (rank / span < length parts) × InBlock (part_at parts (rank / span)) rank
   pub only : (i rank : ℕ) → i < length parts → InBlock (part_at parts i) rank → rank / span ≡ i
 
--- The boards of the level, `span` in each block and fewer in the last.
-pub record AreSpans (stake : Stake) (span : ℕ) (parts : List Part) : Type 0 where
-  pub level : (i : ℕ) → i < length parts → (part_at parts i).level ≡ stake.level
-  pub gain : (i : ℕ) → i < length parts → (part_at parts i).gain ≡ stake.gain
-  pub wave : (i : ℕ) → i < length parts → (part_at parts i).wave ≡ stake.wave
-  pub start : (i : ℕ) → i < length parts → (part_at parts i).start ≡ i * span
-  pub end : (i : ℕ) → i < length parts → (part_at parts i).start + length (part_at parts i).cells ≡ min ((i + 1) * span) (size_of stake.level)
-  pub all : size_of stake.level ≤ length parts * span
-
 -- a board that was taken from the fresh ones and is not spread yet: settled at the open gain and wave
-pub record IsPending (stake : Stake) (span : ℕ) (parts : List Part) (kind : Kind) (rank : ℕ) : Type 0 where
+pub record AwaitsSpread (stake : Stake) (span : ℕ) (parts : List Part) (kind : Kind) (rank : ℕ) : Type 0 where
   pub inside : rank < size_of stake.level
   pub settled : settled_at (part_at parts (rank / span)) rank ≡ Some (value_of_kind kind stake.gain, stake.wave)
   pub taken : times_due (part_at parts (rank / span)).fresh rank ≡ 0
@@ -156,11 +154,11 @@ pub record SettlesAll (old new : List Part) : Type 0 where
 
 -- A wave while it is spread: of the first k blocks no fresh board of the open wave is left. These boards were taken from
 -- the fresh ones and are not spread yet, and count as fresh.
-pub record IsWaving (stake : Stake) (span k : ℕ) (old now : List Part) (lost won : List ℕ) : Type 0 where
+pub record IsPartlySpread (stake : Stake) (span k : ℕ) (old now : List Part) (lost won : List ℕ) : Type 0 where
   pub blocks : length now ≡ length old
-  pub grid : IsCut stake span now
-  pub of_lost : All (IsPending stake span now Lost) lost
-  pub of_won : All (IsPending stake span now Won) won
+  pub grid : AreSegments stake span now
+  pub of_lost : All (AwaitsSpread stake span now Lost) lost
+  pub of_won : All (AwaitsSpread stake span now Won) won
   pub apart : AreDistinct (lost ++ won)
   pub same : (i : ℕ) → i < length old → KeepsBoards (part_at old i) (part_at now i)
   pub passed : (i : ℕ) → i < k → i < length now → IsPassed (part_at now i)

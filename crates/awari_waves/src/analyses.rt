@@ -8,7 +8,7 @@ ghost use Rattle.awari_table.specs.declared.TheConstants.{HIGHEST_LEVEL};
 ghost use Rattle.awari_heard.specs.Level.{AreHeard, AreWhole};
 ghost use Rattle.awari_waves.specs.Each.{AreFrom, KeepsBoards, NoneAreFresh, HasDue, PassesFirst, SameFresh};
 ghost use Rattle.awari_block.specs.Each.{EachTo};
-ghost use Rattle.awari_waves.specs.Fronts.{IsRoom};
+ghost use Rattle.awari_waves.specs.Fronts.{IsRoomFor};
 ghost use Rattle.awari_waves.specs.declared.chunks.Front.{Front as FrontView};
 
 use crate::chunks::{Chunk, Front, Room};
@@ -350,7 +350,7 @@ fn log_of(boards: u32) -> u32
 /// Room to spread the boards of the index's level, for so many threads.
 fn room_for(alloc: Global, index: Index, threads: usize) -> Result<Room, AllocError>
     requires { 1 ≤ threads }
-    ensures { IfOk result (λ room. (front : FrontView) → front.stake.level ≡ index → IsRoom front room) }
+    ensures { IfOk result (λ room. (front : FrontView) → front.stake.level ≡ index → IsRoomFor front room) }
 {
     let rows = rows(alloc, threads)?;
     let chunk = Chunk {

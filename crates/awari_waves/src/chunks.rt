@@ -5,7 +5,7 @@ ghost use Rattle.std.specs.Thread.{IsSync};
 ghost use Rattle.awari_block.specs.declared.notes.Kind.TheVariants.{Lost, Won};
 ghost use Rattle.awari_waves.specs.Lists.{list_at};
 ghost use Rattle.awari_waves.specs.Rows.{notes_at};
-ghost use Rattle.awari_waves.specs.Fronts.{ArePending, IsFront, IsRoom};
+ghost use Rattle.awari_waves.specs.Fronts.{AwaitSpread, AreAtFront, IsRoomFor};
 ghost use Rattle.awari_waves.specs.Waves.{CanFind, CanAllHear, FindsFor, HearsFrom, SettlesAll, SpreadsChunk};
 
 use crate::finding::find;
@@ -67,13 +67,13 @@ pub fn spread_chunk<W: Workers>(
     segments: &mut [Segment],
 ) -> Result<(), AllocError>
     requires ready { W.ready }
-    requires front { IsFront front segments.old }
-    requires room { IsRoom front room.old }
-    requires pending { ArePending front segments.old room.old.chunk }
+    requires front { AreAtFront front segments.old }
+    requires room { IsRoomFor front room.old }
+    requires pending { AwaitSpread front segments.old room.old.chunk }
     ensures spread { OnOk result (SpreadsChunk room.old.chunk.lost.items room.old.chunk.won.items segments.old segments.new) }
     ensures settles { OnOk result (SettlesAll segments.old segments.new) }
-    ensures front { OnOk result (IsFront front segments.new) }
-    ensures room { OnOk result (IsRoom front room.new) }
+    ensures front { OnOk result (AreAtFront front segments.new) }
+    ensures room { OnOk result (IsRoomFor front room.new) }
 {
     ranks_tell_boards_apart();
     moves_keep_boards();

@@ -8,7 +8,7 @@ ghost use Rattle.awari_table.specs.declared.TheConstants.{HIGHEST_LEVEL};
 ghost use Rattle.awari_heard.specs.Level.{AreHeard, AreWhole};
 ghost use Rattle.awari_waves.specs.Each.{NoneAreFresh};
 ghost use Rattle.awari_waves.specs.Scanned.{AreScannedFrom, CanScanFrom, IsScannedPart};
-ghost use Rattle.awari_waves.specs.Waves.{IsCut};
+ghost use Rattle.awari_waves.specs.Waves.{AreSegments};
 
 use crate::segments::Segment;
 use crate::workers::Workers;
@@ -43,7 +43,7 @@ pub fn scanned_segments<W: Workers>(
     requires low { length shelf.now ≤ HIGHEST_LEVEL }
     requires level { index.now ≡ length shelf.now }
     requires some { 0 < span }
-    ensures grid { IfOk result (λ segments. IsCut (record { level = length shelf.now; gain = length shelf.now + 1; wave = 0 }) span segments.items) }
+    ensures grid { IfOk result (λ segments. AreSegments (record { level = length shelf.now; gain = length shelf.now + 1; wave = 0 }) span segments.items) }
     ensures whole { IfOk result (λ segments. AreWhole (length shelf.now) segments.items) }
     ensures idle { IfOk result (λ segments. NoneAreFresh segments.items) }
     ensures heard { IfOk result (λ segments. AreHeard (table_of shelf.now).value segments.items) }

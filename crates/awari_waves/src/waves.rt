@@ -6,8 +6,8 @@ ghost use Rattle.awari_block.specs.declared.stakes.Stake.{Stake as StakeView};
 ghost use Rattle.awari_heard.specs.Level.{AreHeard, part_at};
 ghost use Rattle.awari_waves.specs.Each.{KeepsBoards, PassesFirst};
 ghost use Rattle.awari_block.specs.Each.{EachTo};
-ghost use Rattle.awari_waves.specs.Fronts.{ArePending, IsFront, IsRoom};
-ghost use Rattle.awari_waves.specs.Waves.{IsPassed, IsWaving};
+ghost use Rattle.awari_waves.specs.Fronts.{AwaitSpread, AreAtFront, IsRoomFor};
+ghost use Rattle.awari_waves.specs.Waves.{IsPassed, IsPartlySpread};
 
 use crate::chunks::{Chunk, Front, Room, spread_chunk};
 use crate::segments::Segment;
@@ -27,13 +27,13 @@ pub fn spread_wave<W: Workers>(
     segments: &mut [Segment],
 ) -> Result<(), AllocError>
     requires ready { W.ready }
-    requires front { IsFront front segments.old }
-    requires room { IsRoom front room.old }
+    requires front { AreAtFront front segments.old }
+    requires room { IsRoomFor front room.old }
     ensures heard { OnOk result ((value : List ℕ → ℤ) → AreHeard value segments.old → AreHeard value segments.new) }
     ensures passed { OnOk result (All IsPassed segments.new) }
-    ensures front { OnOk result (IsFront front segments.new) }
+    ensures front { OnOk result (AreAtFront front segments.new) }
     ensures same { OnOk result (EachTo KeepsBoards segments.old segments.new) }
-    ensures room { OnOk result (IsRoom front room.new) }
+    ensures room { OnOk result (IsRoomFor front room.new) }
 {
     room.chunk.lost.clear();
     room.chunk.won.clear();
@@ -55,13 +55,13 @@ pub fn spread_some<W: Workers>(
     segments: &mut [Segment],
 ) -> Result<(), AllocError>
     requires ready { W.ready }
-    requires front { IsFront front segments.old }
-    requires room { IsRoom front room.old }
+    requires front { AreAtFront front segments.old }
+    requires room { IsRoomFor front room.old }
     ensures heard { OnOk result ((value : List ℕ → ℤ) → AreHeard value segments.old → AreHeard value segments.new) }
     ensures first { OnOk result (PassesFirst front.stake.wave segments.old segments.new) }
-    ensures front { OnOk result (IsFront front segments.new) }
+    ensures front { OnOk result (AreAtFront front segments.new) }
     ensures same { OnOk result (EachTo KeepsBoards segments.old segments.new) }
-    ensures room { OnOk result (IsRoom front room.new) }
+    ensures room { OnOk result (IsRoomFor front room.new) }
 {
     room.chunk.lost.clear();
     room.chunk.won.clear();
@@ -83,8 +83,8 @@ fn gather(
     ensures blocks { OnOk result (length segments.new ≡ length segments.old) }
     ensures first { IfOk result (λ next. 1 ≤ most → chunk.old.lost.items ≡ [] → chunk.old.won.items ≡ [] → (i : ℕ) → i < length segments.old
         → ((j : ℕ) → from ≤ j → j < i → IsPassed (part_at segments.old j)) → i < next) }
-    ensures waving { IfOk result (λ next. (stake : StakeView) (span : ℕ) (old : List PartView) → IsWaving stake span from old segments.old chunk.old.lost.items chunk.old.won.items
-        → IsWaving stake span next old segments.new chunk.new.lost.items chunk.new.won.items) }
+    ensures waving { IfOk result (λ next. (stake : StakeView) (span : ℕ) (old : List PartView) → IsPartlySpread stake span from old segments.old chunk.old.lost.items chunk.old.won.items
+        → IsPartlySpread stake span next old segments.new chunk.new.lost.items chunk.new.won.items) }
 {
     for k in from..segments.len() {
         give(k, chunk, segments)?;
@@ -108,8 +108,8 @@ fn give(k: usize, chunk: &mut Chunk, segments: &mut [Segment]) -> Result<(), All
     ensures blocks { OnOk result (length segments.new ≡ length segments.old) }
     ensures others { (i : ℕ) → i ≢ k → part_at segments.new i ≡ part_at segments.old i }
     ensures none { OnOk result (IsPassed (part_at segments.old k) → (chunk.new.lost.items ≡ chunk.old.lost.items) × (chunk.new.won.items ≡ chunk.old.won.items)) }
-    ensures waving { OnOk result ((stake : StakeView) (span : ℕ) (old : List PartView) → IsWaving stake span k old segments.old chunk.old.lost.items chunk.old.won.items
-        → IsWaving stake span (k + 1) old segments.new chunk.new.lost.items chunk.new.won.items) }
+    ensures waving { OnOk result ((stake : StakeView) (span : ℕ) (old : List PartView) → IsPartlySpread stake span k old segments.old chunk.old.lost.items chunk.old.won.items
+        → IsPartlySpread stake span (k + 1) old segments.new chunk.new.lost.items chunk.new.won.items) }
 {
     segments[k].give(Kind::Lost, &mut chunk.lost)?;
     segments[k].give(Kind::Won, &mut chunk.won)?;
@@ -124,13 +124,13 @@ fn spread<W: Workers>(
     segments: &mut [Segment],
 ) -> Result<(), AllocError>
     requires ready { W.ready }
-    requires front { IsFront front segments.old }
-    requires room { IsRoom front room.old }
-    requires pending { ArePending front segments.old room.old.chunk }
-    ensures waving { OnOk result ((old : List PartView) (k : ℕ) → IsWaving front.stake (2 ^ front.log) k old segments.old room.old.chunk.lost.items room.old.chunk.won.items
-        → IsWaving front.stake (2 ^ front.log) k old segments.new room.new.chunk.lost.items room.new.chunk.won.items) }
+    requires front { AreAtFront front segments.old }
+    requires room { IsRoomFor front room.old }
+    requires pending { AwaitSpread front segments.old room.old.chunk }
+    ensures waving { OnOk result ((old : List PartView) (k : ℕ) → IsPartlySpread front.stake (2 ^ front.log) k old segments.old room.old.chunk.lost.items room.old.chunk.won.items
+        → IsPartlySpread front.stake (2 ^ front.log) k old segments.new room.new.chunk.lost.items room.new.chunk.won.items) }
     ensures empty { OnOk result ((room.new.chunk.lost.items ≡ []) × (room.new.chunk.won.items ≡ [])) }
-    ensures room { OnOk result (IsRoom front room.new) }
+    ensures room { OnOk result (IsRoomFor front room.new) }
 {
     spread_chunk(workers, front, room, segments)?;
     room.chunk.lost.clear();

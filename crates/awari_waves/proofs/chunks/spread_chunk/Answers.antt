@@ -2,7 +2,7 @@ use Rattle.std.proofs.Common.{◌≡◌, ◌<◌, ◌^◌, List, take, length, s
 use Rattle.std.proofs.lemmas.List.{with_items_is}
 use Rattle.awari_block.specs.declared.notes.Kind.TheVariants.{Lost, Won}
 use Rattle.awari_waves.specs.Rows.{notes_at}
-use Rattle.awari_waves.specs.Waves.{FindsFor, IsPending}
+use Rattle.awari_waves.specs.Waves.{FindsFor, AwaitsSpread}
 use Rattle.awari_waves.specs.declared.lists.Row.{Row}
 use Rattle.awari_waves.proofs.Chunked.{can_hear, chunk_heard, grid_still, settles_all}
 use Rattle.awari_waves.proofs.chunks.spread_chunk.Goals as goal
@@ -20,7 +20,7 @@ hear_rows-requires-clause-can g c =
     let won = subst (λ (rows : List Row). FindsFor c.args.front.stake.level (2 ^ c.args.front.log) c.args.room.now.chunk.won.items (notes_at Won (take c.in_ok-found.found rows))) rows found_won in
     let few : length c.args.segments.now < 2 ^ 64 = (let b = front.numbers in omega (arith, b)) in
     let can = can_hear c.args.front.stake (2 ^ c.args.front.log) c.args.segments.now c.ranks_tell_boards_apart.ensures (λ p q x is move. c.moves_keep_boards.ensures.stones p q x 0 is move) (λ p q x is move. c.moves_keep_boards.ensures.board p q x 0 is move) front.opened front.grid c.args.room.now.chunk.lost.items c.args.room.now.chunk.won.items lost.0 won.0 (notes_at Lost (take c.in_ok-found.found c.as_slice.result.now)) (notes_at Won (take c.in_ok-found.found c.as_slice.result.now))
-    (has_all (IsPending c.args.front.stake (2 ^ c.args.front.log) c.args.segments.now Lost) c.args.room.now.chunk.lost.items c.requires.pending.lost) (has_all (IsPending c.args.front.stake (2 ^ c.args.front.log) c.args.segments.now Won) c.args.room.now.chunk.won.items c.requires.pending.won)
+    (has_all (AwaitsSpread c.args.front.stake (2 ^ c.args.front.log) c.args.segments.now Lost) c.args.room.now.chunk.lost.items c.requires.pending.lost) (has_all (AwaitsSpread c.args.front.stake (2 ^ c.args.front.log) c.args.segments.now Won) c.args.room.now.chunk.won.items c.requires.pending.won)
     lost.1 won.1 lost.2 won.2 front.inward front.near few in
     search (rules, can)
 
@@ -35,7 +35,7 @@ returns-clause-spread g c = λ value rest distinct told.
     let found_won : FindsFor c.args.front.stake.level (2 ^ c.args.front.log) c.args.room.now.chunk.won.items (notes_at Won (take c.in_ok-found.found c.find_chunk.new.rows)) = search (rules, c.requires.room.index) in
     let won = subst (λ (rows : List Row). FindsFor c.args.front.stake.level (2 ^ c.args.front.log) c.args.room.now.chunk.won.items (notes_at Won (take c.in_ok-found.found rows))) rows found_won in
     chunk_heard c.args.front.stake (2 ^ c.args.front.log) c.args.segments.now c.ranks_tell_boards_apart.ensures (λ p q x is move. c.moves_keep_boards.ensures.stones p q x 0 is move) (λ p q x is move. c.moves_keep_boards.ensures.board p q x 0 is move) front.opened front.grid c.args.room.now.chunk.lost.items c.args.room.now.chunk.won.items rest lost.0 won.0 (notes_at Lost (take c.in_ok-found.found c.as_slice.result.now)) (notes_at Won (take c.in_ok-found.found c.as_slice.result.now)) c.hear_rows.new.segments
-    (has_all (IsPending c.args.front.stake (2 ^ c.args.front.log) c.args.segments.now Lost) c.args.room.now.chunk.lost.items c.requires.pending.lost) (has_all (IsPending c.args.front.stake (2 ^ c.args.front.log) c.args.segments.now Won) c.args.room.now.chunk.won.items c.requires.pending.won)
+    (has_all (AwaitsSpread c.args.front.stake (2 ^ c.args.front.log) c.args.segments.now Lost) c.args.room.now.chunk.lost.items c.requires.pending.lost) (has_all (AwaitsSpread c.args.front.stake (2 ^ c.args.front.log) c.args.segments.now Won) c.args.room.now.chunk.won.items c.requires.pending.won)
     lost.1 won.1 lost.2 won.2 c.in_ok-hear_rows.ensures.heard distinct value told
 
 pub returns-clause-settles : goal.returns-clause-settles
@@ -47,7 +47,6 @@ returns-clause-front g c =
     let hears = c.in_ok-hear_rows.ensures.heard in
     record {
       low = front.low;
-      few = front.few;
       opened = front.opened;
       inward = front.inward;
       near = front.near;

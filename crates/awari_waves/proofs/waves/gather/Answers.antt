@@ -1,7 +1,7 @@
 use Rattle.std.proofs.Common.{◌≡◌, ◌≤◌, ◌+◌, length, sym, ap, subst, ◌∙◌, inl, inr, rules, arith}
 use Rattle.std.proofs.lemmas.Bool.{cases_lt}
 use Rattle.awari_heard.specs.Level.{part_at}
-use Rattle.awari_waves.specs.Waves.{IsPassed, IsWaving}
+use Rattle.awari_waves.specs.Waves.{IsPassed, IsPartlySpread}
 use Rattle.awari_waves.proofs.waves.gather.Goals as goal
 
 pub returns-then-is_full-clause-waving : goal.returns-then-is_full-clause-waving
@@ -39,4 +39,4 @@ loop-k-preserved c =
 pub returns-clause-waving : goal.returns-clause-waving
 returns-clause-waving c = λ stake span old waving.
     let end : c.loop-k.k ≡ length c.loop-k.segments = search rules in
-    subst (λ k. IsWaving stake span k old c.loop-k.segments c.loop-k.chunk.lost.items c.loop-k.chunk.won.items) end (c.loop-k.invariant.waving stake span old waving)
+    subst (λ k. IsPartlySpread stake span k old c.loop-k.segments c.loop-k.chunk.lost.items c.loop-k.chunk.won.items) end (c.loop-k.invariant.waving stake span old waving)

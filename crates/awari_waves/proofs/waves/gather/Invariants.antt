@@ -2,7 +2,7 @@ use Rattle.std.proofs.Common.{◌≡◌, ◌<◌, ◌≤◌, ℕ, List, [], leng
 use Rattle.awari_block.specs.Part.{Part}
 use Rattle.awari_block.specs.declared.stakes.Stake.{Stake}
 use Rattle.awari_heard.specs.Level.{part_at}
-use Rattle.awari_waves.specs.Waves.{IsPassed, IsWaving}
+use Rattle.awari_waves.specs.Waves.{IsPassed, IsPartlySpread}
 use Rattle.awari_waves.proofs.waves.gather.Given as goal
 
 abbrev pub invariant-loop-k : goal.invariant-loop-k
@@ -11,6 +11,6 @@ invariant-loop-k l = record {
   others : (i : ℕ) → l.k ≤ i → part_at l.segments i ≡ part_at l.initial.segments i;
   none : l.initial.chunk.lost.items ≡ [] → l.initial.chunk.won.items ≡ [] → ((j : ℕ) → l.from ≤ j → j < l.k → IsPassed (part_at l.initial.segments j))
       → (l.chunk.lost.items ≡ []) × (l.chunk.won.items ≡ []);
-  waving : (stake : Stake) (span : ℕ) (old : List Part) → IsWaving stake span l.from old l.initial.segments l.initial.chunk.lost.items l.initial.chunk.won.items
-      → IsWaving stake span l.k old l.segments l.chunk.lost.items l.chunk.won.items;
+  waving : (stake : Stake) (span : ℕ) (old : List Part) → IsPartlySpread stake span l.from old l.initial.segments l.initial.chunk.lost.items l.initial.chunk.won.items
+      → IsPartlySpread stake span l.k old l.segments l.chunk.lost.items l.chunk.won.items;
 }

@@ -1,13 +1,13 @@
 use Rattle.std.proofs.Common.{◌≡◌, ◌^◌, ◌-◌, [], length}
-use Rattle.awari_waves.specs.Fronts.{IsRoom}
-use Rattle.awari_waves.specs.Waves.{IsWaving}
+use Rattle.awari_waves.specs.Fronts.{IsRoomFor}
+use Rattle.awari_waves.specs.Waves.{IsPartlySpread}
 use Rattle.awari_waves.proofs.waves.spread_wave.Given as goal
 
 abbrev pub invariant-loop-from : goal.invariant-loop-from
 invariant-loop-from g l = record {
-  waving : IsWaving l.front.stake (2 ^ l.front.log) l.from l.initial.segments l.segments l.room.chunk.lost.items l.room.chunk.won.items;
+  waving : IsPartlySpread l.front.stake (2 ^ l.front.log) l.from l.initial.segments l.segments l.room.chunk.lost.items l.room.chunk.won.items;
   empty : (l.room.chunk.lost.items ≡ []) × (l.room.chunk.won.items ≡ []);
-  room : IsRoom l.front l.room;
+  room : IsRoomFor l.front l.room;
 }
 
 abbrev pub decreases-loop-from : goal.decreases-loop-from

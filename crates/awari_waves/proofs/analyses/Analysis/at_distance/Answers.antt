@@ -5,7 +5,7 @@ use Rattle.awari_heard.specs.Level.{AreHeard, AreWhole}
 use Rattle.awari_waves.specs.Analyses.{AnalysisView}
 use Rattle.awari_waves.specs.Each.{AreFrom, IsAtWave, KeepsBoards, SameFresh}
 use Rattle.awari_block.specs.Each.{EachTo}
-use Rattle.awari_waves.specs.Waves.{IsCut}
+use Rattle.awari_waves.specs.Waves.{AreSegments}
 use Rattle.awari_waves.proofs.Keeping.{keeps_all, keeps_waved}
 use Rattle.awari_waves.proofs.Opened.{waved_grid, waved_heard, waved_same, whole_still}
 use Rattle.awari_waves.proofs.Stages.{can_wave, kept_items}
@@ -23,12 +23,11 @@ invariant_of-result-2 c =
     let items : (with_items a.segments new).items ≡ new = kept_items (IsAtWave c.args.dist) a.segments new opened in
     record {
       low = before.low;
-      few = before.few;
       opened = before.opened;
       inward = before.inward;
       some = before.some;
       numbers = before.numbers;
-      grid = subst (IsCut (record a.front.stake { wave = c.args.dist }) (2 ^ a.front.log)) (sym items) (waved_grid a.front.stake (2 ^ a.front.log) c.args.dist a.segments.items new before.grid opened);
+      grid = subst (AreSegments (record a.front.stake { wave = c.args.dist }) (2 ^ a.front.log)) (sym items) (waved_grid a.front.stake (2 ^ a.front.log) c.args.dist a.segments.items new before.grid opened);
       whole = subst (AreWhole a.front.stake.level) (sym items) (whole_still a.front.stake.level a.segments.items new (waved_same c.args.dist a.segments.items new opened) before.whole);
       room = record { index = before.room.index; some = before.room.some };
     }

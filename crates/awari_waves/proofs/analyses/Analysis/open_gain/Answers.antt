@@ -4,7 +4,7 @@ use Rattle.awari_heard.specs.Level.{AreHeard, AreWhole}
 use Rattle.awari_waves.specs.Analyses.{AnalysisView}
 use Rattle.awari_waves.specs.Each.{NoneAreFresh, KeepsBoards, OpensSegment}
 use Rattle.awari_block.specs.Each.{EachTo}
-use Rattle.awari_waves.specs.Waves.{IsCut}
+use Rattle.awari_waves.specs.Waves.{AreSegments}
 use Rattle.awari_waves.proofs.Keeping.{keeps_opened}
 use Rattle.awari_waves.proofs.Opened.{opened_grid, opened_heard, opened_same, whole_still}
 use Rattle.awari_waves.proofs.Stages.{can_open, kept_items}
@@ -20,12 +20,11 @@ invariant_of-result g c =
     let items : (with_items a.segments new).items ≡ new = kept_items (OpensSegment (a.front.stake.gain - 1)) a.segments new opened in
     record {
       low = before.low;
-      few = before.few;
       opened = omega (arith, more);
       inward = let inward = before.inward in omega (arith, inward);
       some = before.some;
       numbers = before.numbers;
-      grid = subst (IsCut (record a.front.stake { gain = a.front.stake.gain - 1; wave = 0 }) (2 ^ a.front.log)) (sym items) (opened_grid a.front.stake (2 ^ a.front.log) (a.front.stake.gain - 1) a.segments.items new before.grid opened);
+      grid = subst (AreSegments (record a.front.stake { gain = a.front.stake.gain - 1; wave = 0 }) (2 ^ a.front.log)) (sym items) (opened_grid a.front.stake (2 ^ a.front.log) (a.front.stake.gain - 1) a.segments.items new before.grid opened);
       whole = subst (AreWhole a.front.stake.level) (sym items) (whole_still a.front.stake.level a.segments.items new (opened_same (a.front.stake.gain - 1) a.segments.items new opened) before.whole);
       room = record { index = before.room.index; some = before.room.some };
     }

@@ -1,8 +1,7 @@
 use Rattle.std.proofs.Common.{◌*◌, ◌%◌, ◌^◌, ◌≡◌, ◌+◌, ◌≤◌, length, sym, subst, arith}
 use Rattle.std.proofs.lemmas.Nat.{pow_below}
 use Rattle.awari_heard.specs.Level.{AreWhole}
-use Rattle.awari_waves.specs.Waves.{IsCut}
-use Rattle.awari_scan.proofs.Finding.{level_few}
+use Rattle.awari_waves.specs.Waves.{AreSegments}
 use Rattle.awari_waves.proofs.analyses.Analysis.scan.Goals as goal
 
 pub invariant_of-result : goal.invariant_of-result
@@ -14,13 +13,12 @@ invariant_of-result g c =
     let span : 1 * 2 ^ c.log_of-log.result % 4294967296 ≡ 2 ^ c.log_of-log.result = omega (arith, short) in
     record {
       low = low;
-      few = level_few c.levels-level.result low;
       opened = omega arith;
       inward = omega arith;
       some = c.log_of-log.ensures;
       numbers = numbers;
-      grid = subst (λ n. IsCut (record { level = n; gain = n + 1; wave = 0 }) (2 ^ c.log_of-log.result) c.in_ok-segments.segments.items) (sym number)
-          (subst (λ s. IsCut (record { level = length c.args.shelf.now; gain = length c.args.shelf.now + 1; wave = 0 }) s c.in_ok-segments.segments.items) span c.in_ok-segments.ensures.grid);
+      grid = subst (λ n. AreSegments (record { level = n; gain = n + 1; wave = 0 }) (2 ^ c.log_of-log.result) c.in_ok-segments.segments.items) (sym number)
+          (subst (λ s. AreSegments (record { level = length c.args.shelf.now; gain = length c.args.shelf.now + 1; wave = 0 }) s c.in_ok-segments.segments.items) span c.in_ok-segments.ensures.grid);
       whole = subst (λ n. AreWhole n c.in_ok-segments.segments.items) (sym number) c.in_ok-segments.ensures.whole;
       room = c.in_ok-room.ensures _ (sym c.in_ok-index.ensures);
     }

@@ -5,7 +5,7 @@ use Rattle.awari_heard.specs.Heard.{SameBlock}
 use Rattle.awari_waves.specs.Analyses.{AnalysisView}
 use Rattle.awari_waves.specs.Each.{AreFrom, KeepsBoards}
 use Rattle.awari_block.specs.Each.{EachTo}
-use Rattle.awari_waves.specs.Waves.{IsCut}
+use Rattle.awari_waves.specs.Waves.{AreSegments}
 use Rattle.awari_waves.proofs.Keeping.{same_each}
 use Rattle.awari_waves.proofs.Opened.{whole_still}
 use Rattle.awari_waves.proofs.Stages.{from_passed, kept_items}
@@ -20,12 +20,11 @@ invariant_of-result g c =
     let items : (with_items a.segments new).items ≡ new = kept_items SameBlock a.segments new same in
     record {
       low = before.low;
-      few = before.few;
       opened = before.opened;
       inward = before.inward;
       some = before.some;
       numbers = before.numbers;
-      grid = subst (IsCut a.front.stake (2 ^ a.front.log)) (sym items) c.in_ok-spread_wave.ensures.front.grid;
+      grid = subst (AreSegments a.front.stake (2 ^ a.front.log)) (sym items) c.in_ok-spread_wave.ensures.front.grid;
       whole = subst (AreWhole a.front.stake.level) (sym items) (whole_still a.front.stake.level a.segments.items new same before.whole);
       room = c.in_ok-spread_wave.ensures.room;
     }
