@@ -18,8 +18,8 @@ pub const NO_GAIN: u8 = 255;
 const STRETCH: usize = 64;
 
 /// For each of these boards of a level the gain whose opening may settle it, with no gain open, or
-/// [`NO_GAIN`]. It takes a byte a board, and is refused only if memory runs out. Conditions: the level has at most 24
-/// stones, and each cell fits it.
+/// [`NO_GAIN`]. It takes a byte a board, and is refused only if memory runs out. Conditions: the level
+/// has at most 24 stones, and each cell fits it.
 pub fn awaited_gains(alloc: Global, level: u8, cells: &[Cell]) -> Result<Vec<u8>, AllocError>
     requires low { level ≤ 24 }
     requires fit { All (λ c. FitsBy c.mark level (level + 1) c.score c.dist) cells.now }

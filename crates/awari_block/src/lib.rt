@@ -6,15 +6,15 @@
 //! leads to a settled board. `specs/Tally.antt` defines what a cell knows of the notes that its board
 //! heard. `Boards::unopened` takes all memory that the boards ever need.
 //!
-//! The kind of the notes that a settled board gives, in `crates/awari_block/src/cells.rt`:
+//! The nearer of two distances, in `crates/awari_block/src/dues.rt`:
 //!
-//!     pub fn kind(&self) -> Kind
-//!         ensures { result ≡ kind_of self.now.score }
+//!     pub fn nearer(one: Option<u32>, other: Option<u32>) -> Option<u32>
+//!         ensures { result ≡ nearer_of one other }
 //!     {
-//!         if self.score > 0 {
-//!             Kind::Won
-//!         } else {
-//!             Kind::Lost
+//!         match (one, other) {
+//!             (Some(a), Some(b)) => Some(a.min(b)),
+//!             (Some(a), None) => Some(a),
+//!             (None, b) => b,
 //!         }
 //!     }
 #![tactic(auto)]
@@ -32,7 +32,7 @@ mod pits;
 mod stakes;
 mod words;
 
-pub use awaited::{awaited_gains, next_awaiting};
+pub use awaited::{NO_GAIN, awaited_gains, next_awaiting};
 pub use blocks::{Block, block_length};
 pub use boards::Boards;
 pub use cells::{Cell, Mark};

@@ -13,7 +13,7 @@ use awari_plan::kept_levels_are_right;
 use awari_table::{HIGHEST_LEVEL, Image, Level, Shelf};
 
 /// Tells that the shelf's next level begins, and asks whether it is wanted. Refused as 51 `TooHigh`,
-/// with nothing told, if the shelf has all levels.
+/// with nothing told, if the shelf has all levels, and as 52 `Phase` if the level is not wanted.
 pub(crate) fn begin_next<P: Progress>(shelf: &Shelf, progress: &mut P) -> Result<(), BuildFault>
     ensures low { OnOk result (length shelf.now ≤ HIGHEST_LEVEL) }
     ensures too_high { (result ≡ Err BuildFault.TooHigh) ↔ (HIGHEST_LEVEL < length shelf.now) }
@@ -26,7 +26,8 @@ pub(crate) fn begin_next<P: Progress>(shelf: &Shelf, progress: &mut P) -> Result
     expect_wanted(progress)
 }
 
-/// The shelf's next level, which has this image.
+/// The shelf's next level, which has this image. Conditions: the shelf has at most `HIGHEST_LEVEL`
+/// levels, and the image was made of settled parts. It takes no memory.
 pub(crate) fn level_of(shelf: &Shelf, image: Image) -> Level
     requires low { length shelf.now ≤ HIGHEST_LEVEL }
     requires settled { IsSettled shelf.now image }

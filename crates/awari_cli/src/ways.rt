@@ -9,8 +9,8 @@ ghost use Rattle.awari_table.specs.Shelves.{Consistent};
 use awari_build::{
     BuildFault, Pace, Watch, build_level_with_progress, build_together_with_progress,
 };
-use awari_phase::Open;
 use awari_heard::Progress;
+use awari_phase::Open;
 use awari_table::{Level, Shelf};
 use std::alloc::Global;
 use std::sync::Wait;

@@ -23,8 +23,8 @@ mod openings;
 mod rings;
 mod senders;
 
-pub use awari_pace::{MOST_OWNERS, MOST_ROOM};
 pub use awari_owner::coming_notes_are_expected;
+pub use awari_pace::{MOST_OWNERS, MOST_ROOM};
 pub use cores::{Core, Ran};
 pub use events::Event;
 pub use faults::CoreFault;

@@ -6,15 +6,16 @@
 //! [`finish_closed`] and [`finish_parallel`] make the image of the level, and take memory for its
 //! entries. A [`Progress`] hears how far a build is, and may stop it.
 //!
-//! The entry of a board, in `crates/awari_heard/src/entries.rt`:
+//! The image that has the entries of closed parts, in `crates/awari_heard/src/entries.rt`:
 //!
-//!     fn entry(value: i8, plans: u8, dist: u32) -> Entry
-//!         ensures { (result.value ≡ value) × (result.dist ≡ dist) × IsLowestIn plans result.plan }
+//!     pub fn kept_image(shelf: &Shelf, entries: Entries) -> Image
+//!         requires low { length shelf.now ≤ HIGHEST_LEVEL }
+//!         ensures { (parts : List Part) → AreWhole (length shelf.now) parts → PutsBlocks parts [] entries → IsKept shelf.now parts result }
 //!     {
-//!         Entry {
-//!             value,
-//!             plan: lowest_pit(plans),
-//!             dist,
+//!         Image {
+//!             level: shelf.levels(),
+//!             limit: entries.greatest_dist(),
+//!             entries,
 //!         }
 //!     }
 #![tactic(auto)]
@@ -25,8 +26,6 @@ mod parallel;
 mod progress;
 
 pub use entries::{finish_closed, push_block};
-pub use laws::{
-    closed_parts_are_right, distances_fit, one_part_hears_all, quiet_boards_are_right,
-};
+pub use laws::{closed_parts_are_right, distances_fit, one_part_hears_all, quiet_boards_are_right};
 pub use parallel::finish_parallel;
 pub use progress::{Progress, Silent, Told};

@@ -5,7 +5,7 @@
 -- those still on their way. The spread boards of i owe just these notes to boards of j, each once
 -- (HoldsNotes). What j knows is a tally of what it took from the others, and of what its own spread
 -- boards told its own boards. OwnerSound says both of one owner. It holds after every step, whatever
--- the others do, since it speaks of lists and not of time. Level.antt says what follows of all owners.
+-- the others do, since it speaks of lists and not of time. Owners.antt says it of all owners.
 use Rattle.std.specs.Prelude.{◌≡◌, ◌≢◌, ℕ, ◌+◌, ◌-◌, ◌^◌, ◌<◌, ◌≤◌, ◌==◌, if◌then◌else◌, true, List, [], ◌∷◌, ◌++◌, length, sum, All, ℤ, Some, slice_set, None}
 use Rattle.awari_board.specs.Rules.{IsBoard}
 use Rattle.awari_rank.specs.Rank.{rank_of, size_of}

@@ -13,7 +13,7 @@ use std::test::Fail;
 use std::thread::Threads;
 
 /// Boards won, even and lost, and the limit, of levels 0 to 13.
-const COUNTS: [(u32, u32, u32, u32); 14] = [
+pub(crate) const COUNTS: [(u32, u32, u32, u32); 14] = [
     (0, 1, 0, 0),
     (5, 0, 7, 1),
     (24, 13, 41, 9),
@@ -30,7 +30,7 @@ const COUNTS: [(u32, u32, u32, u32); 14] = [
     (1365150, 311700, 819294, 124),
 ];
 
-fn expect_counts(rt: &impl Abort, level: &Level, counts: (u32, u32, u32, u32)) {
+pub(crate) fn expect_counts(rt: &impl Abort, level: &Level, counts: (u32, u32, u32, u32)) {
     let Counts { won, even, lost } = level.counts();
     let found = (won, even, lost, level.limit());
     expect_equal(rt, level.number(), found, counts);

@@ -6,8 +6,8 @@ use awari_build::{
     BuildFault, Pace, Watch, build_alone_with_progress, build_level_with_progress,
     build_together_with_progress,
 };
-use awari_phase::Open;
 use awari_heard::{Progress, Told};
+use awari_phase::Open;
 use awari_table::{Level, Shelf};
 use std::alloc::Global;
 use std::sync::Wait;

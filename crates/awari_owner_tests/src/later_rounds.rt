@@ -4,8 +4,8 @@ ghost use Rattle.std.specs.Prelude.{⊤};
 
 use crate::expect::expect_equal;
 use crate::sweeps::opened_owners;
-use awari_phase::{Gate, PhaseFault, gain_phase_with_progress};
 use awari_heard::{Progress, Told};
+use awari_phase::{Gate, PhaseFault, gain_phase_with_progress};
 use std::sync::atomic::{AtomicU64, Ordering};
 use std::test::Fail;
 use std::thread;

@@ -44,6 +44,8 @@ mod schedules;
 #[cfg(test)]
 mod shelves;
 #[cfg(test)]
+mod slices;
+#[cfg(test)]
 mod stops;
 #[cfg(test)]
 mod sweeps;

@@ -15,7 +15,7 @@ use awari_heard::closed_parts_are_right;
 use awari_owner::sound_parts_are_told;
 
 /// Owners that are sound together, and whose rings `settle_owners` looked at, are sound as
-/// `specs/Level.antt` of `awari_owner` defines it. The notes are those that each took from each other
+/// `specs/Owners.antt` of `awari_owner` defines it. The notes are those that each took from each other
 /// one, and those that are on their way to it.
 pub fn owners_together_are_sound()
     ensures { (value : List ℕ → ℤ) (n : ℕ) (os : List Owner) (d : Owner) → AreTogether value n os → AreLooked os

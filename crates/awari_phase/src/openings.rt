@@ -14,9 +14,9 @@ use std::thread::Threads;
 /// From how many fresh boards on, of all owners together, a distance is opened in threads.
 const MANY_FRESH: usize = 20_000;
 
-/// Opens the next smaller gain in each part, several parts at a time, at distance 0. Conditions: no board is fresh,
-/// nothing is to be sent or waits on a ring, and the open gain is at least 2. It takes memory for
-/// threads alone. If no thread can be started, it opens the parts one after the other.
+/// Opens the next smaller gain in each part, several parts at a time, at distance 0. Conditions: no
+/// board is fresh, nothing is to be sent or waits on a ring, and the open gain is at least 2. It takes
+/// memory for threads alone. If no thread can be started, it opens the parts one after the other.
 pub fn open_gain<R: Threads + Sync>(rt: &R, owners: &mut [Owner])
     requires idle { AreIdle owners.old }
     requires sent { AreSent owners.old }

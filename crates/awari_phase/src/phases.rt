@@ -13,10 +13,10 @@ use crate::faults::PhaseFault;
 use crate::gates::Gate;
 use crate::openings::open_waves;
 use crate::owners::Owner;
-use awari_block::nearer;
-use awari_heard::{Progress, Silent, Told};
 use crate::rounding::round_with;
 use crate::settling::settle_owners;
+use awari_block::nearer;
+use awari_heard::{Progress, Silent, Told};
 use std::sync::Wait;
 use std::thread::Threads;
 

@@ -14,8 +14,8 @@ use crate::gates::Gate;
 use crate::owners::Owner;
 use crate::settling::settle_owners;
 use crate::starting::work_all;
-use awari_owner::{OwnerFault, coming_notes_are_expected, sound_parts_are_told};
 use awari_heard::distances_fit;
+use awari_owner::{OwnerFault, coming_notes_are_expected, sound_parts_are_told};
 use std::sync::Wait;
 use std::thread::Threads;
 

@@ -1,5 +1,5 @@
 -- A finished image is consistent over the shelf, where its parts heard what was due.
-use Rattle.std.proofs.Common.{◌≤◌, List, [], All, length, ◌≡◌, ◌-◌, ◌∷◌, ◌∙◌}
+use Rattle.std.proofs.Common.{◌≤◌, List, [], All, length, ◌≡◌, ◌∷◌, ◌∙◌}
 use Rattle.awari_rank.specs.Rank.{rank_of}
 use Rattle.awari_table.specs.declared.TheConstants.{HIGHEST_LEVEL}
 use Rattle.awari_table.specs.declared.images.Image.{Image}

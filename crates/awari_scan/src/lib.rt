@@ -6,19 +6,13 @@
 //! a scanned part are, and `specs/Found.antt` what is found of a board. `scanned_cells` and
 //! [`scanned_cells_parallel`] take memory; nothing else does.
 //!
-//! The predecessors of a board, in `crates/awari_scan/src/targets.rt`:
+//! A board and its pit as a row of notes keeps them, in `crates/awari_scan/src/targets.rt`:
 //!
-//!     pub fn find_all(board: &PackedBoard, targets: &mut [u32]) -> usize
-//!         requires room { 288 ≤ length targets.old }
-//!         requires low { sum board.now ≤ 24 }
-//!         ensures found { ListsAll board.now targets.new result }
-//!         ensures few { result ≤ 288 }
-//!         ensures same { length targets.new ≡ length targets.old }
+//!     fn code(rank: u32, pit: u8) -> u32
+//!         requires { (rank < 2 ^ 29) × (pit < 6) }
+//!         ensures { result ≡ code_by rank pit }
 //!     {
-//!         moves_keep_boards();
-//!         let PackedUnmoves { own, far } = PackedUnmoves::of(board);
-//!         let found = find_own(own, targets);
-//!         find_far(far, targets, found)
+//!         rank * 8 + u32::from(pit)
 //!     }
 #![tactic(auto)]
 

@@ -1,13 +1,13 @@
 //! A level that is begun.
 
-ghost use Rattle.std.specs.Prelude.{◌≡◌, ℕ, ℤ, ◌+◌, ◌^◌, ◌-◌, ◌<◌, ◌≤◌, ◌⊎◌, List, All, IfOk, IsTrue, length};
+ghost use Rattle.std.specs.Prelude.{◌≡◌, ℕ, ℤ, ◌+◌, ◌^◌, ◌-◌, ◌<◌, ◌≤◌, ◌⊎◌, ◌↔◌, List, All, IfOk, IsTrue, length};
 ghost use Rattle.awari_block.specs.Counts.{spread_in};
 ghost use Rattle.awari_block.specs.Part.{IsClosed};
 ghost use Rattle.awari_heard.specs.Kept.{IsKept};
 ghost use Rattle.awari_heard.specs.Level.{AreHeard, AreWhole};
 ghost use Rattle.awari_table.specs.Images.{table_of};
 ghost use Rattle.awari_table.specs.declared.TheConstants.{HIGHEST_LEVEL};
-ghost use Rattle.awari_slices.specs.Drafts.{SpreadsNearest};
+ghost use Rattle.awari_slices.specs.Drafts.{AreSlices, SpreadsNearest};
 ghost use Rattle.awari_waves.specs.Each.{AreFrom, NoneAreFresh, HasDue};
 
 use awari_heard::{distances_fit, one_part_hears_all};
@@ -62,7 +62,7 @@ impl Draft {
 
     /// Whether all gains are closed.
     pub fn is_settled(&self) -> bool
-        ensures { IsTrue result → (self.now.gain ≡ 1) × NoneAreFresh self.now.parts }
+        ensures { IsTrue result ↔ (self.now.gain ≡ 1) × NoneAreFresh self.now.parts }
     {
         self.analysis.gain() == 1 && self.analysis.due(self.analysis.wave()).is_none()
     }
@@ -115,6 +115,7 @@ pub fn spread_slices(draft: Draft, slices: u32, boards: usize) -> Result<Draft, 
     requires heard { (value : List ℕ → ℤ) × AreHeard value draft.parts }
     ensures level { IfOk result (λ after. after.level ≡ draft.level) }
     ensures heard { IfOk result (λ after. (value : List ℕ → ℤ) → AreHeard value draft.parts → AreHeard value after.parts) }
+    ensures slices { IfOk result (AreSlices slices draft) }
 {
     let mut after = draft;
     for _slice in 0..slices {

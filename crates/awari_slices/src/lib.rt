@@ -11,6 +11,7 @@
 //!         requires heard { (value : List ℕ → ℤ) × AreHeard value draft.parts }
 //!         ensures level { IfOk result (λ after. after.level ≡ draft.level) }
 //!         ensures heard { IfOk result (λ after. (value : List ℕ → ℤ) → AreHeard value draft.parts → AreHeard value after.parts) }
+//!         ensures slices { IfOk result (AreSlices slices draft) }
 //!     {
 //!         let mut after = draft;
 //!         for _slice in 0..slices {

@@ -162,9 +162,10 @@ impl Analysis {
         })
     }
 
-    /// Spreads all fresh boards of this distance, which is opened first if a smaller one is open. Settled
-    /// boards keep value and distance. Conditions: a gain is open, the open wave is not greater, no fresh board is nearer, and the
-    /// distance is below the greatest u32. Refused if memory runs out; then the level is lost.
+    /// Spreads all fresh boards of this distance, which is opened first if a smaller one is open.
+    /// Settled boards keep value and distance. Conditions: a gain is open, the open wave is not
+    /// greater, no fresh board is nearer, and the distance is below the greatest u32. Refused if
+    /// memory runs out; then the level is lost.
     pub fn spread<W: Workers>(self, workers: &W, dist: u32) -> Result<Analysis, AllocError>
         requires ready { W.ready }
         requires opened { self.gain ≤ self.level }

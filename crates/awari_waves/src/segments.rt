@@ -14,9 +14,8 @@ ghost use Rattle.awari_waves.specs.Rows.{notes_at};
 ghost use Rattle.awari_waves.specs.Waves.{GivesFresh, IsCodeFor, IsReady, StaysPassed, both_by, notes_by};
 ghost use Rattle.awari_heard.specs.Heard.{HearsNotes};
 
-use awari_block::nearer;
 use crate::lists::{Lists, Row};
-use awari_block::{Cell, ClosedPart, Kind, Stake, awaited_gains, next_awaiting};
+use awari_block::{Cell, ClosedPart, Kind, Stake, awaited_gains, nearer, next_awaiting};
 use awari_rank::ranks_tell_boards_apart;
 use std::alloc::{AllocError, Global};
 use std::marker::Model;
