@@ -2,9 +2,10 @@
 use Rattle.std.proofs.Common.{◌≡◌, ℕ, ◌+◌, ◌-◌, ◌<◌, ◌≤◌, inl, inr, List, [], ◌∷◌, ◌++◌, length, get_or, sum, refl, sym, ◌∙◌, ap, subst, subst₂, arith, length-append}
 use Rattle.std.proofs.lemmas.Bool.{cases_lt}
 use Rattle.std.proofs.lemmas.List.{get_or_append_left, get_or-append_right}
+use Rattle.awari_rank.specs.Fillings.{last_of, none}
 use Rattle.awari_rank.specs.Rank.{rank_of}
 use Rattle.awari_rank.proofs.Ranking.{rank_fixes}
-use Rattle.awari_index.specs.Runs.{AreAllTails, AreTails, IsBoardAt, IsTail, PushesTails, board_in, last_of, none}
+use Rattle.awari_index.specs.Runs.{AreAllTails, AreTails, IsBoardAt, IsTail, PushesTails, board_in}
 use Rattle.awari_index.proofs.Halving.{tail_at}
 
 -- the first i fillings of k stones were put behind these boards

@@ -1,18 +1,14 @@
 -- The rank of a board by its halves.
-use Rattle.std.proofs.Common.{◌≡◌, ℕ, zero, suc, ◌+◌, ◌-◌, ◌<◌, ◌≤◌, inl, inr, true, List, [], ◌∷◌, ◌++◌, length, sum, get_or, set, take, drop, refl, sym, ◌∙◌, ap, subst, arith, length-append, length-drop}
-use Rattle.std.proofs.lemmas.Bool.{cases_lt, false≢true}
-use Rattle.std.proofs.lemmas.Bool.Decides.{nat_tests}
-use Rattle.std.proofs.lemmas.List.{get_or_default, length-take-le, take-append-drop}
+use Rattle.std.proofs.Common.{◌≡◌, ℕ, zero, suc, ◌+◌, ◌-◌, ◌<◌, ◌≤◌, List, [], ◌∷◌, ◌++◌, length, sum, get_or, set, take, drop, refl, sym, ◌∙◌, ap, subst, arith, length-append}
+use Rattle.std.proofs.lemmas.List.{drop_at, get_or-drop, get_or_default, length-take-le}
 use Rattle.std.proofs.lemmas.List.Sums.{sum_by-append, sum_by-take-drop}
-use Rattle.std.specs.Ordering.{nat_cmp, is_lt, ordering_then}
-use Rattle.std.specs.Cmp.Lexicographic.{slice_cmp}
-use Rattle.std.specs.declared.cmp.Ordering.TheVariants.{Greater}
-use Rattle.awari_board.specs.Rules.{IsBoard}
-use Rattle.awari_rank.specs.Rank.{is_smaller, rank_of, size_of}
-use Rattle.awari_rank.proofs.Order.{rank_orders}
+use Rattle.awari_board.specs.Rules.{IsBoard, own_stones}
+use Rattle.awari_rank.specs.Fillings.{last_of, none}
+use Rattle.awari_rank.specs.Rank.{rank_of, size_of}
+use Rattle.awari_rank.proofs.Fillings.{first_fillings, halved, place}
 use Rattle.awari_rank.proofs.Ranking.{larger, rank_of-larger, rank_of-below, rank_fixes}
-use Rattle.awari_rank.proofs.Succeeding.{IsFirst, first_set, larger-append, larger-first, moved_next, rank_of-next}
-use Rattle.awari_index.specs.Runs.{AreAllTails, IsBoardAt, IsHead, IsTail, board_in, fillings, first_of, last_of, none}
+use Rattle.awari_rank.proofs.Succeeding.{IsFirst, first_set, larger-first, moved_next, rank_of-next}
+use Rattle.awari_index.specs.Runs.{AreAllTails, IsBoardAt, IsHead, IsTail, board_in, fillings, first_of}
 use Rattle.awari_index.specs.declared.runs.Run.{Run}
 
 -- ---- a head and a tail
@@ -29,82 +25,27 @@ rank_none k =
 -- the board of a head with the other pits of a tail comes as far behind the head as the tail behind the first
 pub joined_at : (n r k j : ℕ) (p t : List ℕ) → IsBoardAt n r p → drop 6 p ≡ first_of k → IsTail k j t → IsBoardAt n (r + j) (take 6 p ++ drop 6 t)
 joined_at n r k j p t head rest tail =
-    let long = head.board.pits in
-    let long' = tail.at.board.pits in
-    let q : List ℕ = take 6 p ++ drop 6 t in
-    let front : length (take 6 p) ≡ 6 = length-take-le 6 p (omega (arith, long)) in
-    let back : length (drop 6 t) ≡ 6 = omega (arith, long', length-drop 6 t) in
-    let whole : p ≡ take 6 p ++ first_of k = sym (take-append-drop 6 p) ∙ ap (λ l. take 6 p ++ l) rest in
-    let whole' : t ≡ none ++ drop 6 t = sym (take-append-drop 6 t) ∙ ap (λ l. l ++ drop 6 t) tail.own in
+    let h = halved p head.board.pits in
+    let h' = halved t tail.at.board.pits in
+    let own : own_stones t ≡ 0 = ap sum tail.own in
     let of_first : sum (first_of k) ≡ k = omega arith in
-    let of_tail : sum (drop 6 t) ≡ k =
-    (let e : sum t ≡ sum (none ++ drop 6 t) = ap sum whole' in let a = sum_by-append (λ x. x) none (drop 6 t) in let none_sum : sum none ≡ 0 = refl in let stones = tail.at.stones in omega (arith, e, a, none_sum, stones)) in
-    let of_all : sum q ≡ n =
-    (let e : sum p ≡ sum (take 6 p ++ first_of k) = ap sum whole in let a = sum_by-append (λ x. x) (take 6 p) (first_of k) in let b = sum_by-append (λ x. x) (take 6 p) (drop 6 t) in let stones = head.stones in omega (arith, e, a, b, of_first, of_tail, stones)) in
-    let all_long : length q ≡ 12 = omega (arith, length-append (take 6 p) (drop 6 t), front, back) in
-    let one = larger-append (take 6 p) (first_of k) (drop 6 t) (sym back) (of_first ∙ sym of_tail) in
-    let two = larger-append none (first_of k) (drop 6 t) (sym back) (of_first ∙ sym of_tail) in
-    let at_p = rank_of-larger p long in
-    let at_q = rank_of-larger q all_long in
-    let at_t = rank_of-larger t long' in
-    let same_p = ap larger whole in
-    let same_t = ap larger whole' in
+    let others : sum (drop 6 p) ≡ k = ap sum rest ∙ of_first in
+    let stones : sum (take 6 p ++ drop 6 t) ≡ n = omega (arith, sum_by-append (λ x. x) (take 6 p) (drop 6 t), h.stones, h'.stones, own, others, head.stones, tail.at.stones) in
     record {
-      board = record { pits = all_long; stones = (let stones = head.stones in let few = head.board.stones in omega (arith, of_all, stones, few)) };
-      stones = of_all;
+      board = record { pits = omega (arith, length-append (take 6 p) (drop 6 t), h.front, h'.back); stones = omega (arith, stones, head.stones, head.board.stones) };
+      stones = stones;
       rank = omega (
         arith,
-        one,
-        two,
-        at_p,
-        at_q,
-        at_t,
-        same_p,
-        same_t,
-        no_larger k,
+        place p t head.board.pits tail.at.board.pits own (tail.at.stones ∙ sym others),
+        ap (λ (l : List ℕ). rank_of (none ++ l)) rest ∙ rank_none k,
         head.rank,
         tail.at.rank,
-        ap size_of head.stones,
-        ap size_of of_all,
-        ap size_of tail.at.stones,
       );
     }
 
--- ---- boards with no own stones
-
-smaller_zero : (x : ℕ) (xs ys : List ℕ) → is_smaller (x ∷ xs) (0 ∷ ys) ≡ true → (x ≡ 0) × (is_smaller xs ys ≡ true)
-smaller_zero zero xs ys less = (refl, less)
-smaller_zero (suc x) xs ys less = absurd (false≢true (sym (ap (λ o. is_lt (ordering_then o (slice_cmp nat_cmp xs ys))) greater) ∙ less))
-  where
-    greater : nat_cmp (suc x) 0 ≡ Greater
-    greater = grind (arith, nat_tests)
-
-own_none : (b : List ℕ) (ys : List ℕ) → length b ≡ 12 → is_smaller b (none ++ ys) ≡ true → take 6 b ≡ none
-own_none (a ∷ b ∷ c ∷ d ∷ e ∷ f ∷ xs) ys long less =
-    let one = smaller_zero a (b ∷ c ∷ d ∷ e ∷ f ∷ xs) (0 ∷ 0 ∷ 0 ∷ 0 ∷ 0 ∷ ys) less in
-    let two = smaller_zero b (c ∷ d ∷ e ∷ f ∷ xs) (0 ∷ 0 ∷ 0 ∷ 0 ∷ ys) one.1 in
-    let three = smaller_zero c (d ∷ e ∷ f ∷ xs) (0 ∷ 0 ∷ 0 ∷ ys) two.1 in
-    let four = smaller_zero d (e ∷ f ∷ xs) (0 ∷ 0 ∷ ys) three.1 in
-    let five = smaller_zero e (f ∷ xs) (0 ∷ ys) four.1 in
-    let six = smaller_zero f xs ys five.1 in
-    (λ i. one.0 i ∷ two.0 i ∷ three.0 i ∷ four.0 i ∷ five.0 i ∷ six.0 i ∷ [])
-own_none [] ys long less = absurd (omega arith)
-own_none (a ∷ []) ys long less = absurd (omega arith)
-own_none (a ∷ b ∷ []) ys long less = absurd (omega arith)
-own_none (a ∷ b ∷ c ∷ []) ys long less = absurd (omega arith)
-own_none (a ∷ b ∷ c ∷ d ∷ []) ys long less = absurd (omega arith)
-own_none (a ∷ b ∷ c ∷ d ∷ e ∷ []) ys long less = absurd (omega arith)
-
 -- up to the last filling no board has own stones
 pub tail_at : (k j : ℕ) (p : List ℕ) → IsBoardAt k j p → j ≤ rank_of (none ++ last_of k) → IsTail k j p
-tail_at k j p at most =
-    elim (cases_lt j (rank_of (none ++ last_of k))) [
-      | inl less ↦ record { at = at; own = own_none p (last_of k) at.board.pits (rank_orders p (none ++ last_of k) at.board.pits refl (at.stones ∙ sym stones) (let r = at.rank in omega (arith, r, less))) }
-      | inr same ↦ record { at = at; own = ap (take 6) (rank_fixes p (none ++ last_of k) at.board.pits refl (at.stones ∙ sym stones) (let r = at.rank in omega (arith, r, same, most))) }
-    ]
-  where
-    stones : sum (none ++ last_of k) ≡ k
-    stones = omega arith
+tail_at k j p at most = record { at = at; own = first_fillings k p at.board.pits at.stones (omega (arith, at.rank, most)) }
 
 -- ---- the run after a run
 
@@ -188,18 +129,8 @@ run_end n run starts boards e d last head all at_e is at_d =
       at = subst (IsBoardAt n (run.start + (fillings starts run.stones - 1))) (sym (is ∙ ap (λ (t : List ℕ). take 6 run.board ++ drop 6 t) at_d))
           (subst (λ (m : ℕ). IsBoardAt n (run.start + (fillings starts run.stones - 1)) (take 6 run.board ++ drop 6 (get_or boards m d))) at
           (run_board n run starts boards (fillings starts run.stones - 1) d head all (omega (arith, some))));
-      rest = ap (drop 6) is ∙ ap (λ (t : List ℕ). drop 6 (take 6 run.board ++ drop 6 t)) here ∙ drop_front (take 6 run.board) (last_of run.stones) front;
+      rest = ap (drop 6) is ∙ ap (λ (t : List ℕ). drop 6 (take 6 run.board ++ drop 6 t)) here ∙ drop_at (take 6 run.board) (last_of run.stones) 6 front;
     }
-  where
-    drop_front : (xs ys : List ℕ) → length xs ≡ 6 → drop 6 (xs ++ ys) ≡ ys
-    drop_front (a ∷ b ∷ c ∷ e ∷ f ∷ g ∷ []) ys long = refl
-    drop_front (a ∷ b ∷ c ∷ e ∷ f ∷ g ∷ h ∷ xs) ys long = absurd (omega arith)
-    drop_front [] ys long = absurd (omega arith)
-    drop_front (a ∷ []) ys long = absurd (omega arith)
-    drop_front (a ∷ b ∷ []) ys long = absurd (omega arith)
-    drop_front (a ∷ b ∷ c ∷ []) ys long = absurd (omega arith)
-    drop_front (a ∷ b ∷ c ∷ e ∷ []) ys long = absurd (omega arith)
-    drop_front (a ∷ b ∷ c ∷ e ∷ f ∷ []) ys long = absurd (omega arith)
 
 -- the run that begins behind it
 pub next_run : (n r : ℕ) (k : ℕ) (last next : List ℕ) → IsBoardAt n r last → drop 6 last ≡ last_of k → IsBoard next → sum next ≡ sum last → rank_of next ≡ rank_of last + 1
@@ -208,16 +139,7 @@ next_run n r k last next at rest board stones rank =
     let here : IsBoardAt n (r + 1) next = record { board = board; stones = stones ∙ at.stones; rank = rank ∙ ap (λ m. m + 1) at.rank } in
     let head = head_after n r k last next at rest here in
     let m : ℕ = head.0 in
-    let eleven : get_or next 11 0 ≡ m = at_eleven next m board.pits head.1 in (
+    let eleven : get_or next 11 0 ≡ m = sym (get_or-drop 6 next 5 0) ∙ ap (λ (l : List ℕ). get_or l 5 0) head.1 in (
       record { at = record { board = board; stones = here.stones; rank = refl }; rest = head.1 ∙ ap first_of (sym eleven) },
       here.rank,
     )
-  where
-    at_eleven : (p : List ℕ) (m : ℕ) → length p ≡ 12 → drop 6 p ≡ first_of m → get_or p 11 0 ≡ m
-    at_eleven (a ∷ b ∷ c ∷ e ∷ f ∷ g ∷ xs) m long is = ap (λ (l : List ℕ). get_or l 5 0) is
-    at_eleven [] m long is = absurd (omega arith)
-    at_eleven (a ∷ []) m long is = absurd (omega arith)
-    at_eleven (a ∷ b ∷ []) m long is = absurd (omega arith)
-    at_eleven (a ∷ b ∷ c ∷ []) m long is = absurd (omega arith)
-    at_eleven (a ∷ b ∷ c ∷ e ∷ []) m long is = absurd (omega arith)
-    at_eleven (a ∷ b ∷ c ∷ e ∷ f ∷ []) m long is = absurd (omega arith)

@@ -3,9 +3,10 @@ use Rattle.std.proofs.Common.{◌≡◌, ℕ, ◌+◌, ◌*◌, ◌-◌, ◌<◌
 use Rattle.std.proofs.lemmas.Bool.{cases_lt}
 use Rattle.std.proofs.lemmas.List.{get_or_append_left, get_or-append_right, get_or_default, get_or-map, length-map}
 use Rattle.awari_board.specs.Rules.{IsBoard}
+use Rattle.awari_rank.specs.Fillings.{none}
 use Rattle.awari_rank.specs.Rank.{rank_of, size_of}
 use Rattle.awari_rank.proofs.Ranking.{rank_fixes, rank_of-below}
-use Rattle.awari_index.specs.Runs.{AreAllTails, AreRuns, AreWindows, EndsRun, IsBoardAt, IsHead, IsStretch, board_in, fillings, first_of, no_run, none, starts_to}
+use Rattle.awari_index.specs.Runs.{AreAllTails, AreRuns, AreWindows, EndsRun, IsBoardAt, IsHead, IsStretch, board_in, fillings, first_of, no_run, starts_to}
 use Rattle.awari_index.specs.declared.runs.Run.{Run}
 use Rattle.awari_index.proofs.Halving.{few_rest, rank_none, run_board}
 use Rattle.awari_rank.proofs.Reaching.{size_of-positive}

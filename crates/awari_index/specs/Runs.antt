@@ -2,6 +2,7 @@
 -- rank these have all fillings, from that with all stones in pit 11 to that with all in pit 6.
 use Rattle.std.specs.Prelude.{◌≡◌, ℕ, ◌+◌, ◌-◌, ◌*◌, ◌<◌, ◌≤◌, List, [], ◌∷◌, ◌++◌, length, map, sum, take, drop, slice_index_or}
 use Rattle.awari_board.specs.Rules.{IsBoard}
+use Rattle.awari_rank.specs.Fillings.{last_of, none}
 use Rattle.awari_rank.specs.Rank.{rank_of}
 use Rattle.awari_index.specs.declared.runs.Run.{Run}
 
@@ -11,15 +12,9 @@ pub record IsBoardAt (n r : ℕ) (p : List ℕ) : Type 0 where
   pub stones : sum p ≡ n
   pub rank : rank_of p ≡ r
 
--- six empty pits, and six that have k stones in the last or in the first
-abbrev pub none : List ℕ
-none = 0 ∷ 0 ∷ 0 ∷ 0 ∷ 0 ∷ 0 ∷ []
-
+-- six pits that have k stones in the last
 abbrev pub first_of : ℕ → List ℕ
 first_of k = 0 ∷ 0 ∷ 0 ∷ 0 ∷ 0 ∷ k ∷ []
-
-abbrev pub last_of : ℕ → List ℕ
-last_of k = k ∷ 0 ∷ 0 ∷ 0 ∷ 0 ∷ 0 ∷ []
 
 -- ---- fillings of pits 6 to 11
 

@@ -1,8 +1,9 @@
 //! The fillings of pits 6 to 11.
 
 ghost use Rattle.std.specs.Prelude.{◌≡◌, ℕ, ◌+◌, ◌-◌, ◌<◌, ◌≤◌, ◌++◌, min, IfOk, OnOk, length, slice_index_or};
+ghost use Rattle.awari_rank.specs.Fillings.{last_of, none};
 ghost use Rattle.awari_rank.specs.Rank.{size_of};
-ghost use Rattle.awari_index.specs.Runs.{AreAllTails, AreTailsAt, IsBoardAt, PushesTails, board_in, fillings, last_of, none};
+ghost use Rattle.awari_index.specs.Runs.{AreAllTails, AreTailsAt, IsBoardAt, PushesTails, board_in, fillings};
 
 use awari_board::Board;
 use awari_packed::PackedBoard;

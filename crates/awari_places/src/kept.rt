@@ -25,15 +25,10 @@ impl Run {
     pub fn new() -> Self
         ensures { result.count ≡ 0 }
     {
-        let none = Entry {
-            value: 0,
-            plan: None,
-            dist: 0,
-        };
         Run {
             first: 0,
             count: 0,
-            entries: [none; RUN_LEN],
+            entries: [Entry::NONE; RUN_LEN],
         }
     }
 }

@@ -6,3 +6,4 @@ pub mod Reaching
 pub mod Succeeding
 pub mod Table
 pub mod Unranking
+pub mod Fillings

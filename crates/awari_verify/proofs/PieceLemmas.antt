@@ -4,10 +4,11 @@ use Rattle.std.specs.List.{AllZip, range_with_len}
 use Rattle.std.proofs.lemmas.Bool.{cases_lt}
 use Rattle.std.proofs.lemmas.List.Sums.{sum_by-take-drop}
 use Rattle.awari_board.specs.Rules.{IsBoard, own_stones}
+use Rattle.awari_rank.specs.Fillings.{none}
 use Rattle.awari_rank.specs.Rank.{rank_of}
 use Rattle.awari_table.specs.Certificate.{Table}
 use Rattle.awari_table.specs.declared.rules.Distances.{Distances}
-use Rattle.awari_verify.specs.Pieces.{none, other_filling, part_of, piece_of, InTile, Looks}
+use Rattle.awari_verify.specs.Pieces.{other_filling, part_of, piece_of, InTile, Looks}
 use Rattle.awari_verify.specs.declared.pieces.Nearest.{Nearest}
 use Rattle.awari_verify.proofs.LookLemmas.{Looks-then}
 use Rattle.awari_verify.proofs.TileLemmas.{other_filled}

@@ -4,12 +4,13 @@ use Rattle.std.proofs.lemmas.Bool.{cases_lt}
 use Rattle.std.proofs.lemmas.List.{length-take-le}
 use Rattle.std.proofs.lemmas.List.Sums.{sum_by-append, sum_by-take-drop}
 use Rattle.awari_board.specs.Rules.{IsBoard, own_stones, turned}
+use Rattle.awari_rank.specs.Fillings.{none}
 use Rattle.awari_rank.specs.Rank.{rank_of}
 use Rattle.awari_table.specs.Certificate.{Table}
 use Rattle.awari_table.specs.Shelves.{highest_by}
 use Rattle.awari_table.specs.declared.rules.Distances.{Distances}
 use Rattle.awari_table.specs.declared.rules.Distances.TheVariants.{Falling, Least}
-use Rattle.awari_verify.specs.Pieces.{none, own_filling, InRun, InTile, Looks}
+use Rattle.awari_verify.specs.Pieces.{own_filling, InRun, InTile, Looks}
 use Rattle.awari_verify.specs.declared.pieces.Nearest.{Nearest}
 use Rattle.awari_verify.proofs.FillingLemmas.{tile_run}
 use Rattle.awari_verify.proofs.LookLemmas.{Looks-then}

@@ -1,6 +1,7 @@
 -- A level in pieces. Private functions alone go by this: no public contract does.
-use Rattle.std.specs.Prelude.{◌≡◌, ℕ, ◌+◌, ◌*◌, ◌/◌, ◌%◌, ◌<◌, ◌≤◌, List, [], ◌∷◌, ◌++◌, sum, take, drop, Option, Some, None, MatchOption}
+use Rattle.std.specs.Prelude.{◌≡◌, ℕ, ◌+◌, ◌*◌, ◌/◌, ◌%◌, ◌<◌, ◌≤◌, List, ◌++◌, sum, take, drop, Option, Some, None, MatchOption}
 use Rattle.awari_board.specs.Rules.{IsBoard, own_stones}
+use Rattle.awari_rank.specs.Fillings.{none}
 use Rattle.awari_rank.specs.Rank.{rank_of}
 use Rattle.awari_table.specs.declared.rules.Distances.{Distances}
 use Rattle.awari_table.specs.declared.rules.Distances.TheVariants.{Least}
@@ -19,9 +20,6 @@ abbrev pub refusal_of : Nearest → Option Refusal
 refusal_of nearest = refusal_at nearest.rank nearest.rule
 
 -- the board whose pits 6 to 11 are those of p, or pits 0 to 5, with the other six empty; its rank numbers the ways to fill six pits
-abbrev pub none : List ℕ
-none = 0 ∷ 0 ∷ 0 ∷ 0 ∷ 0 ∷ 0 ∷ []
-
 abbrev pub other_filling : List ℕ → ℕ
 other_filling p = rank_of (none ++ drop 6 p)
 

@@ -71,14 +71,9 @@ pub struct Seen {
 impl Seen {
     /// A blank, to be filled in.
     pub fn nothing() -> Self {
-        let entry = Entry {
-            value: 0,
-            plan: None,
-            dist: 0,
-        };
         Seen {
             stones: 0,
-            entry,
+            entry: Entry::NONE,
             end: None,
             moves: [None; 6],
         }

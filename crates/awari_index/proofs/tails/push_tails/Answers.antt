@@ -1,6 +1,7 @@
 use Rattle.std.proofs.Common.{◌≡◌, ◌+◌, ◌<◌, ◌++◌, List, ℕ, sum, sym, ap, subst, ◌∙◌, rules, arith}
+use Rattle.awari_rank.specs.Fillings.{last_of, none}
 use Rattle.awari_rank.specs.Rank.{rank_of, size_of}
-use Rattle.awari_index.specs.Runs.{PushesTails, last_of, none}
+use Rattle.awari_index.specs.Runs.{PushesTails}
 use Rattle.awari_index.proofs.Filling.{IsFilling, IsFilling-end, IsFilling-more}
 use Rattle.awari_index.proofs.Halving.{tail_at}
 use Rattle.awari_index.proofs.tails.push_tails.Goals as goal

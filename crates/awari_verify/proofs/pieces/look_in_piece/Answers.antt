@@ -1,5 +1,6 @@
 use Rattle.std.proofs.Common.{◌-◌, ◌%◌, ◌<◌, ◌≤◌, ◌++◌, ℕ, List, drop, refl, arith}
-use Rattle.awari_verify.specs.Pieces.{none, other_filling}
+use Rattle.awari_rank.specs.Fillings.{none}
+use Rattle.awari_verify.specs.Pieces.{other_filling}
 use Rattle.awari_verify.proofs.LookLemmas.{Looks-none, Looks-some}
 use Rattle.awari_verify.proofs.PieceLemmas.{IsOfPiece, of_piece, piece_first, piece_more, piece_own}
 use Rattle.awari_verify.proofs.TileLemmas.{highest_low}

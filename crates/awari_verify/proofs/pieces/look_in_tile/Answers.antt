@@ -1,6 +1,6 @@
 use Rattle.std.proofs.Common.{◌≡◌, ◌+◌, ◌-◌, ◌++◌, ℕ, sum, take, refl, sym, ap, ◌∙◌, arith}
+use Rattle.awari_rank.specs.Fillings.{none}
 use Rattle.awari_rank.specs.Rank.{size_of}
-use Rattle.awari_verify.specs.Pieces.{none}
 use Rattle.awari_verify.proofs.LookLemmas.{Looks-none, Looks-some}
 use Rattle.awari_verify.proofs.TileLemmas.{highest_low, own_filled, own_rest, tile_more}
 use Rattle.awari_verify.proofs.pieces.look_in_tile.Goals as goal
