@@ -1,5 +1,5 @@
 -- Where the entry stands that breaks a rule, in the text of levels and in a level's file, and what the rule asks.
-use Rattle.std.specs.Prelude.{◌≢◌, ℕ, zero, suc, ◌+◌, ◌*◌, ◌<◌, ◌≤◌, List, codes}
+use Rattle.std.specs.Prelude.{◌≢◌, ℕ, zero, suc, ◌+◌, ◌<◌, ◌≤◌, List, codes}
 use Rattle.awari_rank.specs.Rank.{size_of}
 use Rattle.awari_table.specs.declared.TheConstants.{HIGHEST_LEVEL}
 use Rattle.awari_verify.specs.declared.rules.Rule.{Rule}
@@ -21,12 +21,9 @@ limit_line level = lines_below level + 1
 abbrev pub entry_line : ℕ → ℕ → ℕ
 entry_line level rank = lines_below level + 2 + rank
 
--- the byte of a level's file at which its limit begins, and the byte at which an entry begins, counted from 0
+-- the byte of a level's file at which its limit begins, counted from 0
 abbrev pub limit_byte : ℕ
 limit_byte = 16
-
-abbrev pub entry_byte : ℕ → ℕ
-entry_byte rank = 52 + 6 * rank
 
 -- what a rule asks, as the end of a sentence
 abbrev pub asked_text : Rule → List ℕ

@@ -2,8 +2,9 @@
 //! what the rule asks. It is said beside a refusal, and nothing is promised of it.
 
 ghost use Rattle.std.specs.Prelude.{◌≡◌, ◌≢◌, ◌≤◌, ◌*◌, ◌^◌, ◌↔◌, IsSome, IfSome, min, sum};
-ghost use Rattle.awari_answers.specs.Broken.{HasBoard, asked_text, entry_byte, entry_line, limit_byte, limit_line, lines_below};
+ghost use Rattle.awari_answers.specs.Broken.{HasBoard, asked_text, entry_line, limit_byte, limit_line, lines_below};
 ghost use Rattle.awari_board.specs.Rules.{IsBoard};
+ghost use Rattle.awari_file.specs.FileText.{entry_place};
 ghost use Rattle.awari_rank.specs.Rank.{rank_of};
 ghost use Rattle.awari_table.specs.declared.TheConstants.{HIGHEST_LEVEL};
 
@@ -11,7 +12,7 @@ use crate::printing::{Refused, print};
 use crate::remarks::Explained;
 use awari_board::Board;
 use awari_check::{Answer, CheckFault};
-use awari_file::{ENTRY_LEN, HEADER_LEN};
+use awari_file::entry_place;
 use awari_folder::FolderFault;
 use awari_rank::{size, unrank};
 use awari_table::HIGHEST_LEVEL;
@@ -114,12 +115,12 @@ fn board_of(level: u8, rank: u32, rule: Rule) -> Option<Board>
 /// The byte of a level's file at which the entry begins, or the limit for V7.
 fn byte_of(rank: u32, rule: Rule) -> u64
     ensures limit { rule ≡ Rule.V7 → result ≡ limit_byte }
-    ensures entry { rule ≢ Rule.V7 → result ≡ entry_byte rank }
+    ensures entry { rule ≢ Rule.V7 → result ≡ entry_place rank }
 {
     if rule == Rule::V7 {
         LIMIT_PLACE
     } else {
-        HEADER_LEN as u64 + ENTRY_LEN as u64 * u64::from(rank)
+        entry_place(rank)
     }
 }
 

@@ -15,7 +15,7 @@ use Rattle.awari_table.specs.declared.images.Entry.{Entry}
 use Rattle.awari_table.specs.declared.images.Image.{Image}
 use Rattle.awari_table.specs.Images.{no_entry}
 use Rattle.awari_table.specs.Spelling.{IsEntry}
-use Rattle.awari_file.specs.FileText.{HasFile, plan_byte, entry_text, header_text, body_text, file_text}
+use Rattle.awari_file.specs.FileText.{HasFile, plan_byte, entry_place, entry_text, header_text, body_text, file_text}
 
 pub entries_len : (es : List Entry) → length (flat_map entry_text es) ≡ 6 * length es
 entries_len [] = refl
@@ -32,11 +32,11 @@ pub header_len : (version level limit : ℕ) (below : List ℕ) → length below
 header_len version level limit below whole = omega (arith, whole)
 
 pub entry_in_file : (version : ℕ) (image : Image) (below : List ℕ) (k : ℕ) → HasFile version image below → k < length image.entries
-    → take 6 (drop (52 + 6 * k) (file_text version image below)) ≡ entry_text (get_or image.entries k no_entry)
+    → take 6 (drop (entry_place k) (file_text version image below)) ≡ entry_text (get_or image.entries k no_entry)
 entry_in_file version image below k has low =
     let header = header_text version image.level image.limit below in let entries = flat_map entry_text image.entries in let digest = sha256 (body_text version image below) in
     let long : length header ≡ 52 = header_len version image.level image.limit below has.whole in
-    ap (λ (l : List ℕ). take 6 (drop (52 + 6 * k) l)) (append_assoc header entries digest) ∙ ap (λ (n : ℕ). take 6 (drop (n + 6 * k) (header ++ (entries ++ digest)))) (sym long)
+    ap (λ (l : List ℕ). take 6 (drop (entry_place k) l)) (append_assoc header entries digest) ∙ ap (λ (n : ℕ). take 6 (drop (n + 6 * k) (header ++ (entries ++ digest)))) (sym long)
     ∙ ap (λ (l : List ℕ). take 6 l) (drop-append-add header (entries ++ digest) (6 * k)) ∙ entry_there image.entries k digest low
 
 -- what is told of the bytes of an entry is told of the entry
@@ -57,10 +57,10 @@ entry_fits (e ∷ es) zero all low = all.0
 entry_fits (e ∷ es) (suc k) all low = entry_fits es k all.1 (omega (arith, low))
 
 pub told_in_file : (version : ℕ) (image : Image) (below file bytes : List ℕ) (k : ℕ) (m : PlainEntry) → HasFile version image below → file ≡ file_text version image below → k < size_of image.level
-    → bytes ≡ take 6 (drop (52 + 6 * k) file)
+    → bytes ≡ take 6 (drop (entry_place k) file)
     → m.value ≡ cast_signed w8 (get_or bytes 0 0) → m.plan ≡ get_or bytes 1 0 → m.distance ≡ from_be_bytes w32 (get_or bytes 2 0 ∷ get_or bytes 3 0 ∷ get_or bytes 4 0 ∷ get_or bytes 5 0 ∷ [])
     → m ≡ told_entry (get_or image.entries k no_entry)
 told_in_file version image below file bytes k m has text low six v p d =
     let inside : k < length image.entries = omega (arith, low, has.sized) in
     told_again (get_or image.entries k no_entry) m bytes (entry_fits image.entries k has.entries inside)
-    (six ∙ ap (λ (l : List ℕ). take 6 (drop (52 + 6 * k) l)) text ∙ entry_in_file version image below k has inside) v p d
+    (six ∙ ap (λ (l : List ℕ). take 6 (drop (entry_place k) l)) text ∙ entry_in_file version image below k has inside) v p d

@@ -1,11 +1,11 @@
 -- What the bytes of a file say, and whether they are one.
-use Rattle.std.specs.Prelude.{◌≡◌, ◌≢◌, ◌⊎◌, ◌↔◌, ℕ, ◌+◌, ◌*◌, ◌<◌, ◌≤◌, List, [], length, sum, Err, slice_index_or}
-use Rattle.awari_rank.specs.Rank.{rank_of, size_of}
+use Rattle.std.specs.Prelude.{◌≡◌, ◌≢◌, ◌⊎◌, ◌↔◌, ℕ, ◌+◌, ◌<◌, ◌≤◌, List, [], length, sum, Err, slice_index_or}
+use Rattle.awari_rank.specs.Rank.{rank_of}
 use Rattle.awari_table.specs.declared.images.Entry.{Entry}
 use Rattle.awari_table.specs.declared.images.Image.{Image}
 use Rattle.awari_table.specs.Images.{no_entry, no_image}
 use Rattle.awari_file.specs.FileFault.{number_of}
-use Rattle.awari_file.specs.FileText.{HasFile, IsFileOf, file_text}
+use Rattle.awari_file.specs.FileText.{HasFile, IsFileOf, file_len, file_text}
 use Rattle.awari_file.specs.Reading.{file_in}
 use Rattle.awari_file.specs.declared.contents.Loaded.{Loaded}
 use Rattle.awari_file.specs.declared.faults.FileFault.{FileFault}
@@ -34,7 +34,7 @@ IsUnfit below bytes number =
 
 -- There are as many bytes as the file of this level has.
 abbrev pub IsSized : ℕ → List ℕ → Type 0
-IsSized level bytes = length bytes ≡ 84 + 6 * size_of level
+IsSized level bytes = length bytes ≡ file_len level
 
 -- It is what the bytes say of the board, if they are the file of its level.
 abbrev pub TellsEntry : List ℕ → List ℕ → PlainEntry → Type 0

@@ -13,23 +13,8 @@ use awari_play::{MoveWorth, worth_of};
 use awari_table::{Entry, Shelf};
 use awari_verify::{Rule, VerifyFault};
 
-/// More than 48 stones: the number of `BoardFault::TooMany`.
-pub(crate) const TOO_MANY: u8 = 3;
-
 /// The board's level is not there: the number of `NotYet`.
 pub(crate) const NOT_YET: u8 = 59;
-
-/// The bytes are not as many as those of the file: the number of `FileFault::Truncated`.
-pub(crate) const TRUNCATED: u8 = 60;
-
-/// The file does not name that digest: the number of `FolderFault::Below`.
-pub(crate) const BELOW: u8 = 80;
-
-/// Memory ran out: the number of `FolderFault::Memory`.
-pub(crate) const MEMORY: u8 = 84;
-
-/// The file is of version 1: the number of `FolderFault::Old`.
-pub(crate) const OLD: u8 = 86;
 
 /// The level has fewer boards: the number of `NoRank`.
 pub(crate) const NO_RANK: u8 = 93;

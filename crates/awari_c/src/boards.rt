@@ -11,8 +11,8 @@ ghost use Rattle.awari_board.specs.declared.text.BoardFault.{BoardFault};
 ghost use Rattle.awari_rank.specs.Rank.{rank_of, size_of};
 ghost use Rattle.awari_c.specs.Boards.{IsAnswer, IsPlaceAnswer, bit_if, legal_bits};
 
-use crate::answers::{NO_RANK, NOT_YET, TOO_MANY};
-use awari_board::{Board, tests_decide};
+use crate::answers::{NO_RANK, NOT_YET};
+use awari_board::{Board, BoardFault, tests_decide};
 use awari_rank::{rank, size, unrank};
 use awari_table::HIGHEST_LEVEL;
 
@@ -55,7 +55,7 @@ pub extern "C" fn awari_rank(pits: &[u8; 12], level: &mut u8, place: &mut u32) -
     ensures untouched { result ≢ 0 → (level.new ≡ level.old) × (place.new ≡ place.old) }
 {
     let Ok(board) = Board::of(*pits) else {
-        return TOO_MANY;
+        return BoardFault::TooMany.number();
     };
     if board.stones() > HIGHEST_LEVEL {
         return NOT_YET;
@@ -119,7 +119,7 @@ pub extern "C" fn awari_play(pits: &[u8; 12], pit: u8, out: &mut [u8; 12], captu
     ensures untouched { result ≢ 0 → (out.new ≡ out.old) × (captures.new ≡ captures.old) }
 {
     let Ok(board) = Board::of(*pits) else {
-        return TOO_MANY;
+        return BoardFault::TooMany.number();
     };
     match board.play(pit) {
         Ok(moved) => {

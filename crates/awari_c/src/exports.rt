@@ -10,13 +10,13 @@ ghost use Rattle.awari_c.specs.Told.{told_entry, IsRefusal, TellsLine, TellsMove
 ghost use Rattle.awari_c.specs.declared.answers.PlainMove.{PlainMove as AMove};
 
 use crate::answers::{
-    MEMORY, NOT_YET, PlainEntry, PlainFault, PlainMove, TOO_MANY, told_entry, told_fault,
-    told_moves,
+    NOT_YET, PlainEntry, PlainFault, PlainMove, told_entry, told_fault, told_moves,
 };
 use crate::handles::{Handle, put, take};
 use crate::lines::{copy_to, line_of};
 use crate::storing::{add_first, add_to, shared_levels};
-use awari_board::Board;
+use awari_board::{Board, BoardFault};
+use awari_folder::FolderFault;
 use awari_packed::PackedBoard;
 use awari_play::LineFault;
 use awari_theory::shelves_tell_the_truth;
@@ -83,7 +83,7 @@ pub extern "C" fn awari_probe(
     ensures kept { stored_in handle.new.is_open handle.new.stored ≡ stored_in handle.old.is_open handle.old.stored }
 {
     let Ok(board) = Board::of(*pits) else {
-        return TOO_MANY;
+        return BoardFault::TooMany.number();
     };
     let Some(stored) = take(handle, alloc) else {
         return NOT_YET;
@@ -97,7 +97,7 @@ pub extern "C" fn awari_probe(
             *out = told_entry(entry);
             0
         }
-        Err(_) => NOT_YET,
+        Err(fault) => fault.number(),
     }
 }
 
@@ -118,7 +118,7 @@ pub extern "C" fn awari_probe_value(
     ensures kept { stored_in handle.new.is_open handle.new.stored ≡ stored_in handle.old.is_open handle.old.stored }
 {
     let Ok(board) = Board::of(*pits) else {
-        return TOO_MANY;
+        return BoardFault::TooMany.number();
     };
     let Some(stored) = take(handle, alloc) else {
         return NOT_YET;
@@ -151,7 +151,7 @@ pub extern "C" fn awari_probe_moves(
     ensures kept { stored_in handle.new.is_open handle.new.stored ≡ stored_in handle.old.is_open handle.old.stored }
 {
     let Ok(board) = Board::of(*pits) else {
-        return TOO_MANY;
+        return BoardFault::TooMany.number();
     };
     let Some(stored) = take(handle, alloc) else {
         return NOT_YET;
@@ -186,7 +186,7 @@ pub extern "C" fn awari_line(
     ensures kept { stored_in handle.new.is_open handle.new.stored ≡ stored_in handle.old.is_open handle.old.stored }
 {
     let Ok(board) = Board::of(*pits) else {
-        return TOO_MANY;
+        return BoardFault::TooMany.number();
     };
     let Some(stored) = take(handle, alloc) else {
         return NOT_YET;
@@ -202,7 +202,7 @@ pub extern "C" fn awari_line(
             0
         }
         Err(LineFault::NotYet { .. }) => NOT_YET,
-        Err(LineFault::Memory) => MEMORY,
+        Err(LineFault::Memory) => FolderFault::Memory.number(),
     }
 }
 
@@ -225,7 +225,7 @@ pub extern "C" fn awari_share_with(from: &mut Handle, to: &mut Handle, alloc: Gl
             put(to, shared);
             0
         }
-        None => MEMORY,
+        None => FolderFault::Memory.number(),
     }
 }
 

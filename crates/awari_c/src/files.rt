@@ -12,21 +12,14 @@ ghost use Rattle.awari_c.specs.Files.{AreFilesOf, AreSized, IsFilesAnswer, IsOve
 ghost use Rattle.awari_c.specs.Told.{TellsMove};
 ghost use Rattle.awari_c.specs.declared.answers.PlainMove.{PlainMove as AMove};
 
-use crate::answers::{
-    BELOW, MEMORY, NOT_YET, OLD, PlainEntry, PlainMove, TOO_MANY, TRUNCATED, no_move, told_worth,
-};
-use awari_board::Board;
-use awari_file::{FileFault, OLD_VERSION, read_image};
+use crate::answers::{NOT_YET, PlainEntry, PlainMove, no_move, told_worth};
+use awari_board::{Board, BoardFault};
+use awari_file::{FileFault, OLD_VERSION, entry_place, file_len, read_image};
+use awari_folder::FolderFault;
 use awari_play::MoveWorth;
-use awari_rank::{rank, size};
+use awari_rank::rank;
 use awari_table::{Counted, HIGHEST_LEVEL};
 use std::alloc::Global;
-
-/// How many bytes of a file come before its entries.
-const HEADER: usize = 52;
-
-/// How many bytes an entry has.
-const ENTRY: usize = 6;
 
 /// What the file of the board's level says of the board, and 0. It is 3 if the board has more than 48
 /// stones, 59 if it has more than 24, and 60 if there are not as many bytes as that file has. Nothing is
@@ -42,14 +35,14 @@ pub extern "C" fn awari_probe_file(bytes: &[u8], pits: &[u8; 12], out: &mut Plai
     ensures untouched { result ≢ 0 → out.new ≡ out.old }
 {
     let Ok(board) = Board::of(*pits) else {
-        return TOO_MANY;
+        return BoardFault::TooMany.number();
     };
     let stones = board.stones();
     if stones > HIGHEST_LEVEL {
         return NOT_YET;
     }
     if !is_sized(bytes, stones) {
-        return TRUNCATED;
+        return FileFault::Truncated.number();
     }
     let found = entry_at(bytes, &board);
     *out = found;
@@ -72,14 +65,14 @@ pub extern "C" fn awari_probe_moves_files(
     ensures untouched { result ≢ 0 → out.new ≡ out.old }
 {
     let Ok(board) = Board::of(*pits) else {
-        return TOO_MANY;
+        return BoardFault::TooMany.number();
     };
     let stones = board.stones();
     if stones > HIGHEST_LEVEL || stones as usize >= files.len() {
         return NOT_YET;
     }
     if !are_sized(files, stones) {
-        return TRUNCATED;
+        return FileFault::Truncated.number();
     }
     let moves = moves_by(files, &board);
     *out = moves;
@@ -91,7 +84,7 @@ fn is_sized(bytes: &[u8], level: u8) -> bool
     requires { level ≤ 24 }
     ensures { IsTrue result ↔ IsSized level bytes.now }
 {
-    bytes.len() == HEADER + ENTRY * size(level) as usize + 32
+    bytes.len() as u64 == file_len(level)
 }
 
 /// Whether each file up to this level's has as many bytes as it should.
@@ -176,8 +169,8 @@ fn entry_at(bytes: &[u8], board: &Board) -> PlainEntry
     requires sized { IsSized (sum board.now) bytes.now }
     ensures { TellsEntry bytes.now board.now result }
 {
-    let place = rank(board) as usize;
-    told_by(six_at(bytes, HEADER + ENTRY * place))
+    let place = entry_place(rank(board));
+    told_by(six_at(bytes, place as usize))
 }
 
 /// The six bytes from there on.
@@ -223,14 +216,15 @@ pub extern "C" fn awari_check_file(
     let loaded = match read_image(alloc, &mut Counted::new(bytes)) {
         Ok(loaded) => loaded,
         // Bytes in memory answer no fault, though no contract of a reader says so.
-        Err(FileFault::Memory | FileFault::Read) => return MEMORY,
+        Err(FileFault::Memory | FileFault::Read) => return FolderFault::Memory.number(),
         Err(fault) => return fault.number(),
     };
+    let level = loaded.image.level;
     if loaded.version == OLD_VERSION {
-        return OLD;
+        return FolderFault::Old { level }.number();
     }
     if loaded.below != *below {
-        return BELOW;
+        return FolderFault::Below { level }.number();
     }
     *digest = loaded.digest;
     0

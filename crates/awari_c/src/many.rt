@@ -7,7 +7,7 @@ ghost use Rattle.awari_c.specs.Boards.{IsAnswer};
 ghost use Rattle.awari_c.specs.Owned.{stored_in, levels_in};
 ghost use Rattle.awari_c.specs.Told.{told_entries, told_entry, IsTold};
 
-use crate::answers::{NOT_YET, PlainEntry, TOO_MANY, told_entry};
+use crate::answers::{PlainEntry, told_entry};
 use crate::handles::{Handle, put, take};
 use awari_board::Board;
 use awari_table::Shelf;
@@ -69,7 +69,7 @@ fn told_by(shelf: &Shelf, pits: &[u8; 12]) -> Result<PlainEntry, u8>
     ensures known { IfOk result (λ _. sum pits.now < length shelf.now) }
     ensures refused { IfErr result (λ answer. (answer ≢ 0) × IsAnswer (sum pits.now) (length shelf.now) answer) }
 {
-    let board = Board::of(*pits).map_err(|_| TOO_MANY)?;
-    let entry = shelf.entry(&board).map_err(|_| NOT_YET)?;
+    let board = Board::of(*pits).map_err(|fault| fault.number())?;
+    let entry = shelf.entry(&board).map_err(|fault| fault.number())?;
     Ok(told_entry(entry))
 }

@@ -1,6 +1,6 @@
 -- The file of a level, byte by byte. Whole numbers are big-endian: `to_be_bytes w16` makes 2 bytes of one, `to_be_bytes w32` 4,
 -- and `to_be_bytes w64` 8.
-use Rattle.std.specs.Prelude.{◌≡◌, ◌⊎◌, ℕ, ◌<◌, ◌≤◌, ◌^◌, ◌==◌, if◌then◌else◌, List, ◌∷◌, ◌++◌, length, Option, Some, None, slice_index}
+use Rattle.std.specs.Prelude.{◌≡◌, ◌⊎◌, ℕ, ◌+◌, ◌*◌, ◌<◌, ◌≤◌, ◌^◌, ◌==◌, if◌then◌else◌, List, ◌∷◌, ◌++◌, length, Option, Some, None, slice_index}
 use Rattle.std.specs.List.{flat_map, AllByRecursion}
 use Rattle.std.specs.Int.{w8, w16, w32, w64, to_be_bytes, cast_unsigned}
 use Rattle.sha2.specs.Sha256.{sha256}
@@ -37,6 +37,13 @@ body_text version image below = header_text version image.level image.limit belo
 -- the file of an image over the file below, in a version: it ends in the digest of all that stands before
 abbrev pub file_text : ℕ → Image → List ℕ → List ℕ
 file_text version image below = body_text version image below ++ sha256 (body_text version image below)
+
+-- how many bytes the file of a level has, those of the header, the entries and the digest, and at which that of a rank begins
+abbrev pub file_len : ℕ → ℕ
+file_len level = 84 + 6 * size_of level
+
+abbrev pub entry_place : ℕ → ℕ
+entry_place rank = 52 + 6 * rank
 
 -- each is below 256
 abbrev pub IsBytes : List ℕ → Type 0

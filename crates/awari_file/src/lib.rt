@@ -38,5 +38,5 @@ pub use fields::{OLD_VERSION, entry_at, header_of};
 pub use laws::{files_tell_images_apart, first_entries_are_680};
 pub use reading::{read_image, read_unsealed};
 pub use sealing::{Behind, Unsealed};
-pub use sizes::{ENTRY_LEN, HEADER_LEN};
+pub use sizes::{ENTRY_LEN, HEADER_LEN, entry_place, file_len};
 pub use writing::write_level;

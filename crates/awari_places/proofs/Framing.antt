@@ -11,6 +11,7 @@ use Rattle.awari_table.specs.declared.images.Image.{Image}
 use Rattle.awari_file.specs.declared.contents.Header.{Header}
 use Rattle.awari_file.specs.declared.faults.FileFault.{FileFault}
 use Rattle.awari_file.specs.declared.faults.FileFault.TheVariants as faults
+use Rattle.awari_file.specs.FileText.{file_len}
 use Rattle.awari_file.specs.Reading.{header_at}
 use Rattle.awari_file.proofs.FieldLaws.{followed_by}
 use Rattle.awari_file.proofs.FileLaws.{header-is}
@@ -18,7 +19,7 @@ use Rattle.awari_folder.specs.declared.faults.FolderFault.{FolderFault}
 use Rattle.awari_folder.specs.declared.faults.FolderFault.TheVariants.{Below, File, Open, Verify, Memory, Occupied, Old}
 use Rattle.awari_folder.specs.Contents.{IsOfFile, Reads}
 use Rattle.awari_places.specs.declared.opening.Opened.{Opened}
-use Rattle.awari_places.specs.Opening.{AreFramed, IsFrame, IsFrameFault, IsFramed, IsOpenFault, framed_by, framed_of, framed_in, length_of}
+use Rattle.awari_places.specs.Opening.{AreFramed, IsFrame, IsFrameFault, IsFramed, IsOpenFault, framed_by, framed_of, framed_in}
 use Rattle.awari_places.specs.Places.{Says, image_in, image_named, images_in, limit_in, limit_or_none}
 use Rattle.awari_places.proofs.Reading.{image_got}
 use Rattle.awari_places.proofs.Saying.{some_of}
@@ -83,8 +84,8 @@ limit_framed level size limit (Err fault) h = absurd cc
 limit_framed level size limit (Ok found) h =
     let a = after_guard (found.0.version == 1) (Old level) _ limit h in
     let b = before_guard (found.0.level == level) (File level faults.LevelOutOfRange) _ limit a in
-    let d = after_guard (nat_lt size (length_of level)) (File level faults.Truncated) _ limit b in
-    let e = after_guard (nat_lt (length_of level) size) (File level faults.Trailing) _ limit d in
+    let d = after_guard (nat_lt size (file_len level)) (File level faults.Truncated) _ limit b in
+    let e = after_guard (nat_lt (file_len level) size) (File level faults.Trailing) _ limit d in
     cc
 
 pub image_limit : (names : ℕ → Option (List ℕ)) (level limit : ℕ) → IsFrame level (names level) (Some limit) → (image_named names level).limit ≡ limit

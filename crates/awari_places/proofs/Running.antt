@@ -8,6 +8,7 @@ use Rattle.awari_rank.specs.Rank.{size_of}
 use Rattle.awari_table.specs.Images.{no_entry}
 use Rattle.awari_table.specs.declared.images.Entry.{Entry}
 use Rattle.awari_table.specs.declared.images.Image.{Image}
+use Rattle.awari_file.specs.FileText.{entry_place}
 use Rattle.awari_file.specs.Reading.{entry_of}
 use Rattle.awari_folder.specs.Contents.{Reads}
 use Rattle.awari_places.specs.Places.{Says, entry_in, entry_or_none, image_in}
@@ -45,14 +46,14 @@ is_entry_at stands levels level rank images says bytes e low named lt is =
     subst (λ (o : Option Image). IsSomeAnd o (λ image. slice_get image.entries rank ≡ Some e)) (sym got) entry
 
 -- the entry of the k-th place of what was read
-entry_read : (n k rank : ℕ) (bytes room : List ℕ) (e : Entry) → length room ≡ 6 * n → k < n → room ≡ take (length room) (drop (52 + 6 * rank) bytes) → e ≡ entry_or_none (entry_of (take 6 (drop (6 * k) room)))
+entry_read : (n k rank : ℕ) (bytes room : List ℕ) (e : Entry) → length room ≡ 6 * n → k < n → room ≡ take (length room) (drop (entry_place rank) bytes) → e ≡ entry_or_none (entry_of (take 6 (drop (6 * k) room)))
     → e ≡ entry_in bytes (rank + k)
 unfolding entry_in
 entry_read n k rank bytes room e long lt there is =
-    let far : 52 + 6 * rank + 6 * k ≡ 52 + 6 * (rank + k) = omega arith in
+    let far : entry_place rank + 6 * k ≡ entry_place (rank + k) = omega arith in
     is
-    ∙ ap (λ (l : List ℕ). entry_or_none (entry_of (take 6 (drop (6 * k) l)))) (there ∙ ap (λ (m : ℕ). take m (drop (52 + 6 * rank) bytes)) long)
-    ∙ ap (λ (l : List ℕ). entry_or_none (entry_of l)) (six_of n k (52 + 6 * rank) bytes lt)
+    ∙ ap (λ (l : List ℕ). entry_or_none (entry_of (take 6 (drop (6 * k) l)))) (there ∙ ap (λ (m : ℕ). take m (drop (entry_place rank) bytes)) long)
+    ∙ ap (λ (l : List ℕ). entry_or_none (entry_of l)) (six_of n k (entry_place rank) bytes lt)
     ∙ ap (λ (m : ℕ). entry_or_none (entry_of (take 6 (drop m bytes)))) far
 
 -- so many bytes were there, so these are the file's
@@ -66,10 +67,10 @@ read_whole (Some bytes) place room (Some size) reads long =
 
 -- what is read of a level's file from a rank on, up to its last board at most
 pub run_said : (stands : ℕ → Option (Option (List ℕ))) (levels level rank n : ℕ) (images : List Image) (room : List ℕ) (found : Option ℕ) (run : Run) → Says stands levels images → level < levels
-    → Reads (stands level) (52 + 6 * rank) room found → IsSomeAnd found (λ size. 52 + 6 * rank + length room ≤ size) → length room ≡ 6 * n → rank + n ≤ size_of level → run.first ≡ rank → AreEntriesOf room run
+    → Reads (stands level) (entry_place rank) room found → IsSomeAnd found (λ size. entry_place rank + length room ≤ size) → length room ≡ 6 * n → rank + n ≤ size_of level → run.first ≡ rank → AreEntriesOf room run
     → IsRunOf images level run
 run_said stands levels level rank n images room found run says low reads whole long few first are k lt =
-    let (bytes, named, there) = read_whole (says.names level) (52 + 6 * rank) room found (subst (λ (s : Option (Option (List ℕ))). Reads s (52 + 6 * rank) room found) (says.known level) reads) whole in
+    let (bytes, named, there) = read_whole (says.names level) (entry_place rank) room found (subst (λ (s : Option (Option (List ℕ))). Reads s (entry_place rank) room found) (says.known level) reads) whole in
     let below : k < n = omega (arith, lt, are.few, long) in
     let here : rank + k < size_of level = omega (arith, below, few) in
     let e = get_or run.entries k no_entry in

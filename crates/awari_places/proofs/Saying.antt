@@ -13,7 +13,7 @@ use Rattle.awari_file.specs.declared.contents.Header.{Header}
 use Rattle.awari_file.specs.declared.contents.Loaded.{Loaded}
 use Rattle.awari_file.specs.declared.faults.FileFault.{FileFault}
 use Rattle.awari_file.specs.declared.faults.FileFault.TheVariants as faults
-use Rattle.awari_file.specs.FileText.{IsFileOf, found_of}
+use Rattle.awari_file.specs.FileText.{IsFileOf, entry_place, found_of}
 use Rattle.awari_file.specs.Reading.{◌>>=◌, header_at, entries_at, end_at, file_in, entry_of}
 use Rattle.awari_file.proofs.FieldLaws.{bind_ok, ok_is}
 use Rattle.awari_file.proofs.WholeSpell.{file_again, low_in, size_small}
@@ -53,7 +53,7 @@ read_ok e = Ok e
 entry_says : (bytes : List ℕ) (image : Image) (k : ℕ) → IsRead bytes image → k < size_of image.level → get_or image.entries k no_entry ≡ entry_in bytes k
 unfolding entry_in
 entry_says bytes image k is lt =
-    let place : drop (6 * k) is.front ≡ drop (52 + 6 * k) bytes = ap (drop (6 * k)) (sym (behind_header bytes (is.header, is.front) is.begins)) ∙ drop-drop (6 * k) 52 bytes in
+    let place : drop (6 * k) is.front ≡ drop (entry_place k) bytes = ap (drop (6 * k)) (sym (behind_header bytes (is.header, is.front) is.begins)) ∙ drop-drop (6 * k) 52 bytes in
     let lies = entry_lies (size_of image.level) k faults.Truncated is.front (image.entries, is.back) no_entry is.entries lt in
     sym (ap (λ (l : List ℕ). entry_or_none (entry_of (take 6 l))) (sym place) ∙ ap entry_or_none lies)
 

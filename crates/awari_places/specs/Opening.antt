@@ -1,26 +1,22 @@
 -- The form of level files as far as it shows in their headers and their lengths.
-use Rattle.std.specs.Prelude.{◌≡◌, ◌⊎◌, ⊤, ℕ, ◌+◌, ◌*◌, ◌<◌, ◌≤◌, ◌==◌, if◌then◌else◌, nat_lt, List, length, Option, Some, None, IsSomeAnd, Result, Ok, Err, IsOk}
-use Rattle.awari_rank.specs.Rank.{size_of}
+use Rattle.std.specs.Prelude.{◌≡◌, ◌⊎◌, ⊤, ℕ, ◌+◌, ◌<◌, ◌≤◌, ◌==◌, if◌then◌else◌, nat_lt, List, length, Option, Some, None, IsSomeAnd, Result, Ok, Err, IsOk}
 use Rattle.awari_table.specs.Images.{greatest_limit}
 use Rattle.awari_file.specs.declared.contents.Header.{Header}
 use Rattle.awari_file.specs.declared.faults.FileFault.{FileFault}
 use Rattle.awari_file.specs.declared.faults.FileFault.TheVariants as faults
+use Rattle.awari_file.specs.FileText.{file_len}
 use Rattle.awari_file.specs.Reading.{header_at}
 use Rattle.awari_folder.specs.declared.faults.FolderFault.{FolderFault}
 use Rattle.awari_folder.specs.declared.faults.FolderFault.TheVariants.{File, Open, Memory, Old}
 use Rattle.awari_places.specs.declared.opening.Opened.{Opened}
 use Rattle.awari_places.specs.Places.{images_in}
 
--- the bytes of a level's file: the header, the entries and the digest
-abbrev pub length_of : ℕ → ℕ
-length_of level = 84 + 6 * size_of level
-
 -- What is answered of a level's file of so many bytes by its header: the limit that it says, or the first fault.
 abbrev pub framed_by : ℕ → ℕ → Result (Header × List ℕ) FileFault → Result ℕ FolderFault
 framed_by level size (Err fault) = Err (File level fault)
 framed_by level size (Ok found) =
     if found.0.version == 1 then Err (Old level)
-    else if found.0.level == level then (if nat_lt size (length_of level) then Err (File level faults.Truncated) else if nat_lt (length_of level) size then Err (File level faults.Trailing) else Ok found.0.limit)
+    else if found.0.level == level then (if nat_lt size (file_len level) then Err (File level faults.Truncated) else if nat_lt (file_len level) size then Err (File level faults.Trailing) else Ok found.0.limit)
     else Err (File level faults.LevelOutOfRange)
 
 -- the same of its first bytes, where it has those of a header

@@ -1,5 +1,5 @@
 -- What the bytes of files say of boards, each at its place, whether that is right or not.
-use Rattle.std.specs.Prelude.{◌≡◌, ℕ, ◌+◌, ◌*◌, List, map, take, drop, Option, Some, None, Result, Ok, Err}
+use Rattle.std.specs.Prelude.{◌≡◌, ℕ, List, map, take, drop, Option, Some, None, Result, Ok, Err}
 use Rattle.std.specs.List.{range_with_len}
 use Rattle.awari_rank.specs.Rank.{size_of}
 use Rattle.awari_table.specs.Images.{no_entry, no_image}
@@ -8,6 +8,7 @@ use Rattle.awari_table.specs.declared.images.Image.{Image}
 use Rattle.awari_file.specs.declared.contents.Header.{Header}
 use Rattle.awari_file.specs.declared.faults.FileFault.{FileFault}
 use Rattle.awari_file.specs.declared.faults.FileFault.TheVariants as faults
+use Rattle.awari_file.specs.FileText.{entry_place}
 use Rattle.awari_file.specs.Reading.{entry_of, header_at}
 use Rattle.awari_folder.specs.Contents.{AreNames}
 
@@ -16,9 +17,9 @@ abbrev pub entry_or_none : Result Entry FileFault → Entry
 entry_or_none (Ok e) = e
 entry_or_none (Err fault) = no_entry
 
--- The entry of a rank is what the six bytes at its place say: behind the header of 52 bytes and the entries before it.
+-- The entry of a rank is what the six bytes at its place say.
 unfoldable pub entry_in : List ℕ → ℕ → Entry
-entry_in bytes rank = entry_or_none (entry_of (take 6 (drop (52 + 6 * rank) bytes)))
+entry_in bytes rank = entry_or_none (entry_of (take 6 (drop (entry_place rank) bytes)))
 
 -- the limit that a header says, 0 where there is none
 abbrev pub limit_or_none : Result (Header × List ℕ) FileFault → ℕ

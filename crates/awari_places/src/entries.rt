@@ -12,7 +12,7 @@ ghost use Rattle.awari_table.specs.declared.images.Image.{Image};
 ghost use Rattle.awari_places.specs.Places.{Says, entry_in, entry_or_none};
 
 use awari_board::Board;
-use awari_file::{ENTRY_LEN, FileFault, HEADER_LEN, entry_at};
+use awari_file::{ENTRY_LEN, FileFault, entry_at, entry_place};
 use awari_folder::{Folder, FolderFault, Refusal};
 use awari_rank::rank;
 use awari_table::Entry;
@@ -40,7 +40,7 @@ fn entry_of_rank<F: Folder>(folder: &mut F, level: u8, rank: u32) -> Result<Entr
     ensures reads { OnlyReads result (F.state folder.old) (F.state folder.new) }
     ensures named { IfErr result (Names level) }
 {
-    let place = HEADER_LEN as u64 + ENTRY_LEN as u64 * u64::from(rank);
+    let place = entry_place(rank);
     let mut bytes = [0; ENTRY_LEN];
     match folder.read_at(level, place, &mut bytes) {
         Ok(size) => read_entry(level, place, size, &bytes),

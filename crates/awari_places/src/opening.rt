@@ -5,15 +5,11 @@ ghost use Rattle.awari_table.specs.declared.TheConstants.{HIGHEST_LEVEL};
 ghost use Rattle.awari_folder.specs.Contents.{AreNames, IsOfFile};
 ghost use Rattle.awari_folder.specs.State.{OnlyReads, Unchanged};
 ghost use Rattle.awari_table.specs.declared.images.Image.{Image};
-ghost use Rattle.awari_places.specs.Opening.{AreFramed, IsFrame, IsFrameFault, IsOpenFault, framed_of, length_of};
+ghost use Rattle.awari_places.specs.Opening.{AreFramed, IsFrame, IsFrameFault, IsOpenFault, framed_of};
 ghost use Rattle.awari_places.specs.Places.{Says};
 
-use awari_file::{ENTRY_LEN, FileFault, HEADER_LEN, OLD_VERSION, header_of};
+use awari_file::{FileFault, HEADER_LEN, OLD_VERSION, file_len, header_of};
 use awari_folder::{Folder, FolderFault, Refusal};
-use awari_rank::size;
-
-/// The bytes of a file besides its entries: the header and the digest.
-const FRAME_LEN: u64 = 84;
 
 /// The levels of a folder whose files are there.
 #[derive(Clone, Copy, Debug, PartialEq, Eq)]
@@ -125,7 +121,7 @@ fn judge(level: u8, size: u64, front: &[u8]) -> Result<u32, FolderFault>
     if header.level != level {
         return file(FileFault::LevelOutOfRange);
     }
-    let whole = length_of(level);
+    let whole = file_len(level);
     if size < whole {
         return file(FileFault::Truncated);
     }
@@ -133,12 +129,4 @@ fn judge(level: u8, size: u64, front: &[u8]) -> Result<u32, FolderFault>
         return file(FileFault::Trailing);
     }
     Ok(header.limit)
-}
-
-/// The bytes of a level's file.
-fn length_of(level: u8) -> u64
-    requires { level ≤ HIGHEST_LEVEL }
-    ensures { result ≡ length_of level }
-{
-    FRAME_LEN + ENTRY_LEN as u64 * u64::from(size(level))
 }

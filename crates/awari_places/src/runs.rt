@@ -13,7 +13,7 @@ ghost use Rattle.awari_places.specs.Places.{Says, entry_or_none};
 ghost use Rattle.awari_places.specs.Runs.{AreEntriesOf, IsEntryAt, IsKept, IsRunOf};
 
 use crate::kept::{RUN_LEN, Run};
-use awari_file::{ENTRY_LEN, FileFault, HEADER_LEN, entry_at};
+use awari_file::{ENTRY_LEN, FileFault, entry_at, entry_place};
 use awari_folder::{Folder, FolderFault, Refusal};
 use awari_rank::size;
 use awari_table::Entry;
@@ -73,7 +73,7 @@ fn fill<F: Folder>(folder: &mut F, run: &mut Run, level: u8, rank: u32) -> Resul
     ensures named { IfErr result (Names level) }
 {
     let count = (size(level) - rank).min(RUN_LEN as u32) as usize;
-    let place = HEADER_LEN as u64 + ENTRY_LEN as u64 * u64::from(rank);
+    let place = entry_place(rank);
     let mut bytes = [0; RUN_BYTES];
     let room = &mut bytes[..count * ENTRY_LEN];
     run.first = rank;

@@ -4,7 +4,7 @@ use Rattle.awari_c.proofs.files.awari_check_file.Goals as goal
 
 pub returns-in-Err : goal.returns-in-Err
 returns-in-Err c = record {
-  ok = λ none. absurd (number_is_some c.in-Err.fault (sym c.number.ensures ∙ none));
-  refused = λ some. inl (c.in-Err.fault, (let known = c.in-Err.ensures.exact in search rules), c.number.ensures);
+  ok = λ none. absurd (number_is_some c.in-Err.fault (sym c.number-in-Err.ensures ∙ none));
+  refused = λ some. inl (c.in-Err.fault, (let known = c.in-Err.ensures.exact in search rules), c.number-in-Err.ensures);
   untouched = λ some. refl;
 }

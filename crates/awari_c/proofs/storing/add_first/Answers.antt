@@ -1,7 +1,4 @@
 use Rattle.std.proofs.lemmas.Result.{err_from_is_err_and}
-use Rattle.std.proofs.Common.{[], subst}
-use Rattle.std.specs.Prelude.{replicate}
-use Rattle.awari_folder.specs.NextFile.{IsNextFile}
 use Rattle.awari_folder.proofs.Placing.{begins_next}
 use Rattle.awari_c.proofs.storing.add_first.Goals as goal
 

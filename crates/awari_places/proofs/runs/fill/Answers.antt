@@ -9,14 +9,14 @@ pub returns-in-Ok-split-clause-run : goal.returns-in-Ok-split-clause-run
 returns-in-Ok-split-clause-run g c = λ levels images says low.
     let long : length c.read_at.new.room ≡ 6 * c.min-count.result = search rules in
     let few : c.args.rank + c.min-count.result ≤ size_of c.args.level = omega (arith, c.min-count.ensures, c.size.ensures.boards, c.requires.rank) in
-    let read = subst (λ (r : ℕ). Reads ((g.F.Folder.state c.args.folder.now).stands c.args.level) (52 + 6 * r) c.read_at.new.room c.in-Ok.size) c.from.ensures c.in-Ok.ensures.read in
-    let whole = subst (λ (r : ℕ). IsSomeAnd c.in-Ok.size (λ size. 52 + 6 * r + length c.read_at.new.room ≤ size)) c.from.ensures (c.in-None.ensures.none refl) in
+    let read = subst (λ (r : ℕ). Reads ((g.F.Folder.state c.args.folder.now).stands c.args.level) r c.read_at.new.room c.in-Ok.size) c.entry_place-place.ensures c.in-Ok.ensures.read in
+    let whole = subst (λ (r : ℕ). IsSomeAnd c.in-Ok.size (λ size. r + length c.read_at.new.room ≤ size)) c.entry_place-place.ensures (c.in-None.ensures.none refl) in
     run_said _ levels c.args.level c.args.rank c.min-count.result images c.read_at.new.room c.in-Ok.size c.split.new.run says low read whole long few c.split.ensures.first c.split.ensures.entries
 
 pub returns-in-Err-clause-run : goal.returns-in-Err-clause-run
 returns-in-Err-clause-run g c = λ levels images says low.
     let long : length c.read_at.new.room ≡ 6 * c.min-count.result = search rules in
     let few : c.args.rank + c.min-count.result ≤ size_of c.args.level = omega (arith, c.min-count.ensures, c.size.ensures.boards, c.requires.rank) in
-    let read = subst (λ (r : ℕ). Reads ((g.F.Folder.state c.args.folder.now).stands c.args.level) (52 + 6 * r) c.read_at.new.room c.in-Ok.size) c.from.ensures c.in-Ok.ensures.read in
-    let whole = subst (λ (r : ℕ). IsSomeAnd c.in-Ok.size (λ size. 52 + 6 * r + length c.read_at.new.room ≤ size)) c.from.ensures (c.in-None.ensures.none refl) in
+    let read = subst (λ (r : ℕ). Reads ((g.F.Folder.state c.args.folder.now).stands c.args.level) r c.read_at.new.room c.in-Ok.size) c.entry_place-place.ensures c.in-Ok.ensures.read in
+    let whole = subst (λ (r : ℕ). IsSomeAnd c.in-Ok.size (λ size. r + length c.read_at.new.room ≤ size)) c.entry_place-place.ensures (c.in-None.ensures.none refl) in
     run_said _ levels c.args.level c.args.rank c.min-count.result images c.read_at.new.room c.in-Ok.size c.split.new.run says low read whole long few c.split.ensures.first c.split.ensures.entries
