@@ -6,16 +6,11 @@ ghost use Rattle.awari_cli.specs.Estimates.{boards_below, files_below};
 ghost use Rattle.awari_table.specs.declared.TheConstants.{HIGHEST_LEVEL};
 
 use awari_answers::print;
+use awari_file::file_len;
 use awari_rank::size;
 use awari_table::HIGHEST_LEVEL;
 use std::fmt;
 use std::io::Write;
-
-/// The bytes of a level's file beside those of its boards.
-const FILE_ENDS: u64 = 84;
-
-/// The bytes of a board in a file.
-const FILE_BOARD: u64 = 6;
 
 /// The bytes that a board below the level in work takes in memory.
 const BOARD_BELOW: u64 = 3;
@@ -101,7 +96,7 @@ fn files_below(level: u8) -> u64
 {
     let mut bytes: u64 = 0;
     for below in 0..level {
-        bytes += FILE_ENDS + FILE_BOARD * u64::from(size(below));
+        bytes += file_len(below);
     }
     bytes
 }

@@ -9,6 +9,6 @@ pub loop-below-preserved : goal.loop-below-preserved
 loop-below-preserved c =
     let i = c.loop-below.invariant in
     record {
-      is = omega (arith, files_more c.loop-below.below, i.is, c.from.ensures, c.size.ensures.boards);
-      few = omega (arith, i.few, c.from.ensures, c.size.type_inv);
+      is = omega (arith, files_more c.loop-below.below, i.is, c.file_len-bytes.ensures.bytes);
+      few = omega (arith, i.few, c.file_len-bytes.ensures.few);
     }
