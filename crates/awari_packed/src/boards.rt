@@ -1,7 +1,7 @@
 //! Positions in one number, and the moves from them.
 
 ghost use Rattle.std.specs.Prelude.{◌≡◌, ◌≢◌, ℕ, ◌+◌, ◌-◌, ◌<◌, ◌≤◌, ◌↔◌, IsTrue, IfSome, IsNone, ◌++◌, List, sum, take, drop, slice_index, slice_set};
-ghost use Rattle.awari_board.specs.Rules.{IsBoard, IsLegal, IsMove, captured_stones, other_stones, turned};
+ghost use Rattle.awari_board.specs.Rules.{IsBoard, IsLegal, IsMove, captured_stones, last_pit, other_stones, turned};
 ghost use Rattle.awari_rank.specs.Rank.{rank_of, size_of};
 ghost use Rattle.awari_packed.specs.TakenBack.{taken_back};
 
@@ -127,6 +127,15 @@ impl PackedBoard {
         }
         let stones = self.pit(pit);
         stones > 0 && (pit + stones >= SIDE || other_stones(self.bits) > 0)
+    }
+
+    /// The pit that the last stone of a sowing from `origin` falls into. Condition: `origin` is below 6.
+    #[inline(always)]
+    pub fn last_pit(&self, origin: u8) -> u8
+        requires { origin < 6 }
+        ensures { result ≡ last_pit self.now origin }
+    {
+        last_of(origin, pit(self.bits, origin))
     }
 
     /// Plays `origin`: sows its stones, captures, and turns the board to the other player.

@@ -5,7 +5,7 @@
 //! other pits are played board by board.
 
 ghost use Rattle.std.specs.Prelude.{◌≡◌, ◌<◌, ◌≤◌, ◌+◌, ℕ, List, IfOk, length, sum, take, vec_len};
-ghost use Rattle.awari_board.specs.Rules.{IsBoard, landing};
+ghost use Rattle.awari_board.specs.Rules.{IsBoard};
 ghost use Rattle.awari_rank.specs.Rank.{size_of};
 ghost use Rattle.awari_table.specs.Images.{table_of};
 ghost use Rattle.awari_table.specs.declared.TheConstants.{HIGHEST_LEVEL};
@@ -118,7 +118,7 @@ fn with_pit(moves: RunMoves, head: &PackedBoard, pit: u8) -> RunMoves
     if !head.legal(pit) {
         return moves;
     }
-    if landing(pit, head.pit(pit)) < 6 {
+    if head.last_pit(pit) < 6 {
         return RunMoves {
             near: moves.near | 1 << pit,
             ..moves
@@ -128,15 +128,6 @@ fn with_pit(moves: RunMoves, head: &PackedBoard, pit: u8) -> RunMoves
         far: moves.far | 1 << pit,
         ..moves
     }
-}
-
-/// Where stone `stone` of a sowing from `origin` falls.
-fn landing(origin: u8, stone: u8) -> u8
-    requires own { origin < 6 }
-    requires first { 1 ≤ stone }
-    ensures { result ≡ landing origin stone }
-{
-    (origin + 1 + (stone - 1) % 11) % 12
 }
 
 /// The cell of a board of the shelf's next level that has these moves.

@@ -8,9 +8,9 @@ pub returns-then-not-legal : goal.returns-then-not-legal
 returns-then-not-legal c = λ p own stones before.
     adds-none p c.args.head.now c.args.pit c.args.moves.near c.args.moves.far own stones (λ legal. false≢true (sym c.if-not-legal.true ∙ c.legal.ensures.1 legal)) before
 
-pub returns-then-landing-lt6 : goal.returns-then-landing-lt6
-returns-then-landing-lt6 c = λ p own stones before.
-    adds-near p c.args.head.now c.args.pit c.args.moves.near c.args.moves.far own stones _ c.landing.result (search rules) (search rules) c.if-landing-lt6.true (small_bit c.args.pit c.requires) before
+pub returns-then-last_pit-lt6 : goal.returns-then-last_pit-lt6
+returns-then-last_pit-lt6 c = λ p own stones before.
+    adds-near p c.args.head.now c.args.pit c.args.moves.near c.args.moves.far own stones _ c.last_pit.result (search rules) c.last_pit.ensures c.if-last_pit-lt6.true (small_bit c.args.pit c.requires) before
 
 pub returns : goal.returns
 returns c = λ p own stones before.
