@@ -107,17 +107,17 @@ noted_none : (n g d : ℕ) (c : Cell) (o : Option ℕ) → IfSome o (MayOpen c.m
 noted_none n g d c None found is idle = is
 noted_none n g d c (Some t) found is idle = absurd (idle t found)
 
-pub filled_more : (n i g d : ℕ) (cells : List Cell) (gains : List ℕ) (o : Option ℕ) → i < length cells → IfSome o (MayOpen (get_or cells i no_cell).mark (get_or cells i no_cell).score n)
-    → ((t : ℕ) → MayOpen (get_or cells i no_cell).mark (get_or cells i no_cell).score n t → o ≡ Some t) → g ≡ unwrap_or o d
+pub filled_more : (n i g d : ℕ) (cells : List Cell) (gains : List ℕ) (o : Option ℕ) (cell : Cell) → i < length cells → get_or cells i no_cell ≡ cell → IfSome o (MayOpen cell.mark cell.score n)
+    → ((t : ℕ) → MayOpen cell.mark cell.score n t → o ≡ Some t) → g ≡ unwrap_or o d
     → AreFilled n d cells gains i → AreFilled n d cells (set gains i g) (i + 1)
-filled_more n i g d cells gains o inside found only is before = record {
+filled_more n i g d cells gains o cell inside read found only is before = record {
   boards = length-set gains i g ∙ before.boards;
   only = λ k t below may. elim (cases_eq k i) [
-    | inl same ↦ here k same ∙ is ∙ ap (λ (p : Option ℕ). unwrap_or p d) (only t (subst (λ j. MayOpen (get_or cells j no_cell).mark (get_or cells j no_cell).score n t) same may))
+    | inl same ↦ here k same ∙ is ∙ ap (λ (p : Option ℕ). unwrap_or p d) (only t (subst (λ (c : Cell). MayOpen c.mark c.score n t) (ap (λ j. get_or cells j no_cell) same ∙ read) may))
     | inr other ↦ get_or-set_other gains i k g 0 other ∙ before.only k t (omega (arith, below, other)) may
   ];
   none = λ k below idle. elim (cases_eq k i) [
-    | inl same ↦ here k same ∙ noted_none n g d (get_or cells i no_cell) o found is (subst (λ j. AwaitsNone (get_or cells j no_cell) n) same idle)
+    | inl same ↦ here k same ∙ noted_none n g d cell o found is (subst (λ (c : Cell). AwaitsNone c n) (ap (λ j. get_or cells j no_cell) same ∙ read) idle)
     | inr other ↦ get_or-set_other gains i k g 0 other ∙ before.none k (omega (arith, below, other)) idle
   ];
 }

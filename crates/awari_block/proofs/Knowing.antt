@@ -1,9 +1,9 @@
 -- What is known of moves, pit by pit, once a note came in.
-use Rattle.std.proofs.Common.{◌≡◌, ℕ, ◌^◌, ◌==◌, ◌⊎◌, inl, inr, Bool, true, false, ◌||◌, if◌then◌else◌, List, ◌∷◌, ℤ, ◌≤ℤ◌, ◌<ℤ◌, Option, Some, None, refl, sym, ap, ◌∙◌, arith, eqb-true}
+use Rattle.std.proofs.Common.{◌≡◌, ℕ, ◌^◌, ◌==◌, ◌⊎◌, inl, inr, Bool, true, false, if◌then◌else◌, List, ◌∷◌, ℤ, ◌≤ℤ◌, ◌<ℤ◌, Option, Some, None, refl, sym, ap, ◌∙◌, arith, eqb-true}
 use Rattle.std.specs.Prelude.{int_lt}
 use Rattle.std.specs.Ordering.{int_eq}
 use Rattle.std.proofs.lemmas.Bool.Decides.{nat_tests, Decides-int_eq}
-use Rattle.std.proofs.lemmas.Bool.{false≢true}
+use Rattle.std.proofs.lemmas.Bool.{eq-eqb, false≢true, or_cases, or_left, or_right}
 use Rattle.std.proofs.lemmas.Int.{ints}
 use Rattle.awari_block.specs.Notes.{Has, gain_by}
 use Rattle.awari_block.specs.Pits.{has_pit, with_pit}
@@ -29,19 +29,6 @@ int_eq-same a b e = (Decides-int_eq a b).1 e
 
 pub int_eq-false : (a b : ℤ) → int_eq a b ≡ false → a ≡ b → ⊥
 int_eq-false a b e same = false≢true (sym e ∙ int_eq-same a b same)
-
-pub eqb-same : (a b : ℕ) → a ≡ b → (a == b) ≡ true
-eqb-same a b e = grind (arith, nat_tests)
-
-pub or_cases : (a b : Bool) → (a || b) ≡ true → (a ≡ true) ⊎ (b ≡ true)
-or_cases true b e = inl refl
-or_cases false b e = inr e
-
-pub or_left : (a b : Bool) → a ≡ true → (a || b) ≡ true
-or_left a b e = grind arith
-
-pub or_right : (a b : Bool) → b ≡ true → (a || b) ≡ true
-or_right a b e = grind arith
 
 -- ---- one note more
 
@@ -85,7 +72,7 @@ module _ (value : List ℕ → ℤ) (p : List ℕ) (notes : List Note) where
       λ has. inr (m, inl refl, eqb-true m.pit x (sym (has_pit-alone m.pit x) ∙ has), sym e),
       λ known. elim (at_before m x v known) [
         | inl before ↦ absurd (let l = low v (knows_at x v before) in omega (arith, ints, l))
-        | inr here ↦ has_pit-alone m.pit x ∙ eqb-same m.pit x here.0
+        | inr here ↦ has_pit-alone m.pit x ∙ eq-eqb m.pit x here.0
       ],
     ),
   )
@@ -115,7 +102,7 @@ module _ (value : List ℕ → ℤ) (p : List ℕ) (notes : List Note) where
               ],
               λ known. has_pit-with pits m.pit x ∙ elim (at_before m x b known) [
                 | inl before ↦ or_right (m.pit == x) (has_pit pits x) ((is.2 x own).1 before)
-                | inr here ↦ or_left (m.pit == x) (has_pit pits x) (eqb-same m.pit x here.0)
+                | inr here ↦ or_left (m.pit == x) (has_pit pits x) (eq-eqb m.pit x here.0)
               ],
             ),
           )

@@ -1,8 +1,10 @@
 -- What is kept of the boards of the open wave, and of the others, as boards come and go.
-use Rattle.std.proofs.Common.{◌≡◌, ◌≢◌, ℕ, ◌+◌, ◌<◌, ◌≤◌, ◌⊎◌, inl, inr, min, true, List, length, Option, Some, None, sym, ap, subst, subst₂, ◌∙◌, arith}
+use Rattle.std.proofs.Common.{◌≡◌, ◌≢◌, ℕ, ◌+◌, ◌<◌, ◌≤◌, ◌⊎◌, inl, inr, min, true, List, get_or, length, Option, Some, None, sym, ap, subst, subst₂, ◌∙◌, arith}
 use Rattle.std.proofs.lemmas.Bool.{cases_eq, cases_lt, false≢true}
+use Rattle.std.proofs.lemmas.List.{get_or_default}
 use Rattle.awari_block.specs.declared.cells.Cell.{Cell}
 use Rattle.awari_block.specs.declared.fresh.Fresh.{Fresh}
+use Rattle.awari_block.specs.Blocks.{no_cell}
 use Rattle.awari_block.specs.Fresh.{dist_at, is_marked, lesser, AreMarked, AreNoted, IsMarkedBelow, IsFirst, IsNext, IsFirstFrom, MarksOne, UnmarksOne}
 
 -- one more index that is marked
@@ -163,18 +165,21 @@ module _ (cells : List Cell) (P Q : ℕ → Type 0) (wave : ℕ) where
             later j (inr more) = inr (omega (arith, more))
 
     -- one more
-    pub noted_more : (near after : List ℕ) (first first' next next' : Option ℕ) (dist : ℕ) → dist_at cells index ≡ dist
-        → (dist ≡ wave → MarksOne index near after × (first' ≡ Some (lesser first index)) × (next' ≡ next))
-        → ((dist ≡ wave → ⊥) → (after ≡ near) × (first' ≡ first) × (next' ≡ Some (lesser next dist)))
+    pub noted_more : (near after : List ℕ) (first first' next next' : Option ℕ) (default : Cell) → index < length cells
+        → ((get_or cells index default).dist ≡ wave → MarksOne index near after × (first' ≡ Some (lesser first index)) × (next' ≡ next))
+        → (((get_or cells index default).dist ≡ wave → ⊥) → (after ≡ near) × (first' ≡ first) × (next' ≡ Some (lesser next (get_or cells index default).dist)))
         → AreNoted cells P wave near first next → AreNoted cells Q wave after first' next'
-    noted_more near after first first' next next' dist at is_near is_far noted = elim (cases_eq dist wave) [
+    noted_more near after first first' next next' default inside is_near is_far noted = elim (cases_eq (get_or cells index default).dist wave) [
       | inl same ↦
           let is = is_near same in
           subst₂ (λ f n. AreNoted cells Q wave after f n) (sym is.1) (sym is.2) (noted_near near after first next (at ∙ same) is.0 noted)
       | inr other ↦
           let is = is_far other in
-          subst (λ (l : List ℕ). AreNoted cells Q wave l first' next') (sym is.0) (subst₂ (λ f n. AreNoted cells Q wave near f n) (sym is.1) (sym is.2) (noted_far near first next dist at other noted))
+          subst (λ (l : List ℕ). AreNoted cells Q wave l first' next') (sym is.0) (subst₂ (λ f n. AreNoted cells Q wave near f n) (sym is.1) (sym is.2) (noted_far near first next _ at other noted))
     ]
+      where
+        at : dist_at cells index ≡ (get_or cells index default).dist
+        at = ap (λ (c : Cell). c.dist) (get_or_default cells index no_cell default inside)
 
 -- the boards below m are those below n, where none between them is marked
 pub below_same : (cells : List Cell) (words : List ℕ) (n m wave : ℕ) (near : List ℕ) (first next : Option ℕ) → n ≤ m → ((k : ℕ) → n ≤ k → k < m → is_marked words k ≡ true → ⊥)

@@ -1,36 +1,12 @@
 -- Sets of own pits.
-use Rattle.std.proofs.Common.{◌≡◌, ◌≢◌, ℕ, zero, suc, ◌-◌, ◌*◌, ◌%◌, ◌^◌, ◌<◌, ◌≤◌, ◌==◌, Bool, true, false, not, ◌&&◌, ◌||◌, Some, None, max, refl, sym, ap, subst, ◌∙◌, arith, bit_and, bit_or, w8}
+use Rattle.std.proofs.Common.{◌≡◌, ℕ, zero, suc, ◌+◌, ◌-◌, ◌*◌, ◌^◌, ◌<◌, ◌≤◌, ◌==◌, ◌⊎◌, ◌↔◌, inl, inr, Bool, true, false, not, ◌&&◌, ◌||◌, Some, None, max, min, refl, sym, ap, subst, ◌∙◌, arith, bit_or, bit_and, w8, eqb-true}
+use Rattle.std.proofs.lemmas.Bool.{cases_eq, eq-eqb, false≢true, ne_eqb, or_cases, or_left, or_right}
 use Rattle.std.proofs.lemmas.Bool.Decides.{nat_tests}
-use Rattle.std.proofs.lemmas.Nat.{and_assoc, and_le_l, and_or_self, and_or_apart, pow_apart, pow_pos}
-use Rattle.std.proofs.lemmas.Nat.Bits.{and_pow, bit_at_or, bit_at-lt, bit_at-zero, bit_at-trailing_zeros, same_from_bits_below}
+use Rattle.std.proofs.lemmas.Nat.{and_le_l, pow_below, pow_pos}
+use Rattle.std.proofs.lemmas.Nat.Bits.{and_pow, bit_at_and, bit_at_not, bit_at_or, bit_at-lt, bit_at-pow_other, bit_at-pow_same, bit_at-zero, bit_at-trailing_zeros, same_from_bits_below}
 use Rattle.std.specs.Int.{bit_at, trailing_zeros}
-use Rattle.std.specs.Int.Bits.{and_zero_r, or_zero_l}
 use Rattle.std.specs.Int.Count.{trailing_of_zero}
 use Rattle.awari_block.specs.Pits.{has_pit, with_pit, without_pit, IsLowestIn}
-use Rattle.awari_block.proofs.SixPits.{below_six}
-
--- a pit is among these and x where it is x or among these
-pub has_pit-with : (pits x y : ℕ) → has_pit (with_pit pits x) y ≡ ((x == y) || has_pit pits y)
-has_pit-with pits x y = by (x == y) refl
-  where
-    same : x ≡ y → not (bit_and (bit_or pits (2 ^ x)) (2 ^ y) == 0) ≡ true
-    same e = subst (λ z. not (bit_and (bit_or pits (2 ^ x)) (2 ^ z) == 0) ≡ true) e (positive (2 ^ x) _ (pow_pos x) (and_or_self (2 ^ x) pits))
-      where
-        positive : (a b : ℕ) → 0 < a → b ≡ a → not (b == 0) ≡ true
-        positive a b h e = grind (arith, nat_tests)
-
-    other : (x == y) ≡ false → not (bit_and (bit_or pits (2 ^ x)) (2 ^ y) == 0) ≡ not (bit_and pits (2 ^ y) == 0)
-    other e = let apart : x ≢ y = differ x y e in ap (λ z. not (z == 0)) (and_or_apart (2 ^ y) pits (2 ^ x) (pow_apart x y apart))
-      where
-        differ : (x y : ℕ) → (x == y) ≡ false → x ≢ y
-        differ x y e = grind (arith, nat_tests)
-
-    by : (b : Bool) → (x == y) ≡ b → not (bit_and (bit_or pits (2 ^ x)) (2 ^ y) == 0) ≡ (b || not (bit_and pits (2 ^ y) == 0))
-    by true e = same (equal x y e)
-      where
-        equal : (x y : ℕ) → (x == y) ≡ true → x ≡ y
-        equal x y e = grind (arith, nat_tests)
-    by false e = other e
 
 -- a set has a pit where it has its bit
 pub has_pit-bit : (pits x : ℕ) → has_pit pits x ≡ (bit_at pits x == 1)
@@ -47,23 +23,16 @@ has_pit-bit pits x = at (bit_at pits x) (2 ^ x) (bit_and pits (2 ^ x)) (and_pow 
         by n some = grind (arith, nat_tests)
     at (suc (suc b)) k n e low some = absurd (omega (arith, low))
 
--- the bit of a pit, as a byte
-pub small_bit : (x : ℕ) → x < 6 → (1 * 2 ^ x) % 256 ≡ 2 ^ x
-small_bit = below_six (λ x. (1 * 2 ^ x) % 256 ≡ 2 ^ x) refl refl refl refl refl refl
-
 -- no pits
 pub has_pit-none : (x : ℕ) → has_pit 0 x ≡ false
-has_pit-none x = has_pit-bit 0 x ∙ at (bit_at 0 x) (bit_at-zero x)
-  where
-    at : (b : ℕ) → b ≡ 0 → (b == 1) ≡ false
-    at b e = grind (arith, nat_tests)
+has_pit-none x = has_pit-bit 0 x ∙ ap (λ b. b == 1) (bit_at-zero x)
 
 -- one pit
 pub has_pit-alone : (x y : ℕ) → has_pit (2 ^ x) y ≡ (x == y)
-has_pit-alone x y = ap (λ n. has_pit n y) (sym (or_zero_l (2 ^ x))) ∙ has_pit-with 0 x y ∙ drop (x == y) (has_pit 0 y) (has_pit-none y)
-  where
-    drop : (a b : Bool) → b ≡ false → (a || b) ≡ a
-    drop a b e = grind arith
+has_pit-alone x y = has_pit-bit (2 ^ x) y ∙ elim (cases_eq y x) [
+  | inl same ↦ subst (λ n. (bit_at (2 ^ x) n == 1) ≡ (x == n)) (sym same) (ap (λ b. b == 1) (bit_at-pow_same x) ∙ sym (eq-eqb x x refl))
+  | inr apart ↦ ap (λ b. b == 1) (bit_at-pow_other x y apart) ∙ sym (ne_eqb x y (λ e. apart (sym e)))
+]
 
 -- the pits of two sets
 pub has_pit-both : (a b x : ℕ) → has_pit (bit_or a b) x ≡ (has_pit a x || has_pit b x)
@@ -75,39 +44,63 @@ has_pit-both a b x =
     at : (i j k : ℕ) → k ≡ max i j → i < 2 → j < 2 → (k == 1) ≡ ((i == 1) || (j == 1))
     at i j k e low below = grind (arith, nat_tests)
 
+-- a pit is among these and x where it is x or among these
+pub has_pit-with : (pits x y : ℕ) → has_pit (with_pit pits x) y ≡ ((x == y) || has_pit pits y)
+has_pit-with pits x y = has_pit-both pits (2 ^ x) y ∙ ap (λ b. has_pit pits y || b) (has_pit-alone x y) ∙ swap (has_pit pits y) (x == y)
+  where
+    swap : (a b : Bool) → (a || b) ≡ (b || a)
+    swap a b = grind arith
+
 -- all pits but one
 pub has_pit-without : (pits x y : ℕ) → x < 6 → y < 6 → has_pit (without_pit pits x) y ≡ (has_pit pits y && not (x == y))
 has_pit-without pits x y own other =
-    ap (λ n. not (n == 0)) (and_assoc (2 ^ y) pits (255 - 2 ^ x)) ∙ below_six (λ x. (y : ℕ) → y < 6 → not (bit_and pits (bit_and (255 - 2 ^ x) (2 ^ y)) == 0) ≡ (has_pit pits y && not (x == y)))
-    (below_six (λ y. not (bit_and pits (bit_and (255 - 2 ^ 0) (2 ^ y)) == 0) ≡ (has_pit pits y && not (0 == y))) (cleared (has_pit pits 0)) (same (has_pit pits 1)) (same (has_pit pits 2)) (same (has_pit pits 3)) (same (has_pit pits 4)) (same (has_pit pits 5)))
-    (below_six (λ y. not (bit_and pits (bit_and (255 - 2 ^ 1) (2 ^ y)) == 0) ≡ (has_pit pits y && not (1 == y))) (same (has_pit pits 0)) (cleared (has_pit pits 1)) (same (has_pit pits 2)) (same (has_pit pits 3)) (same (has_pit pits 4)) (same (has_pit pits 5)))
-    (below_six (λ y. not (bit_and pits (bit_and (255 - 2 ^ 2) (2 ^ y)) == 0) ≡ (has_pit pits y && not (2 == y))) (same (has_pit pits 0)) (same (has_pit pits 1)) (cleared (has_pit pits 2)) (same (has_pit pits 3)) (same (has_pit pits 4)) (same (has_pit pits 5)))
-    (below_six (λ y. not (bit_and pits (bit_and (255 - 2 ^ 3) (2 ^ y)) == 0) ≡ (has_pit pits y && not (3 == y))) (same (has_pit pits 0)) (same (has_pit pits 1)) (same (has_pit pits 2)) (cleared (has_pit pits 3)) (same (has_pit pits 4)) (same (has_pit pits 5)))
-    (below_six (λ y. not (bit_and pits (bit_and (255 - 2 ^ 4) (2 ^ y)) == 0) ≡ (has_pit pits y && not (4 == y))) (same (has_pit pits 0)) (same (has_pit pits 1)) (same (has_pit pits 2)) (same (has_pit pits 3)) (cleared (has_pit pits 4)) (same (has_pit pits 5)))
-    (below_six (λ y. not (bit_and pits (bit_and (255 - 2 ^ 5) (2 ^ y)) == 0) ≡ (has_pit pits y && not (5 == y))) (same (has_pit pits 0)) (same (has_pit pits 1)) (same (has_pit pits 2)) (same (has_pit pits 3)) (same (has_pit pits 4)) (cleared (has_pit pits 5)))
-    x own y other
+    has_pit-bit (without_pit pits x) y
+    ∙ at (bit_at pits y) (bit_at (2 ^ x) y) _ (bit_at_and pits (255 - 2 ^ x) y ∙ ap (min (bit_at pits y)) (bit_at_not w8 (2 ^ x) y (pow_below x 8 (omega (arith, own))) (omega (arith, other)))) (bit_at-lt pits y) (bit_at-lt (2 ^ x) y)
+    ∙ ap (λ c. c && not (bit_at (2 ^ x) y == 1)) (sym (has_pit-bit pits y)) ∙ ap (λ c. has_pit pits y && not c) (sym (has_pit-bit (2 ^ x) y) ∙ has_pit-alone x y)
   where
-    same : (b : Bool) → b ≡ (b && not false)
-    same true = refl
-    same false = refl
+    at : (i j k : ℕ) → k ≡ min i (1 - j) → i < 2 → j < 2 → (k == 1) ≡ ((i == 1) && not (j == 1))
+    at i j k e low below = grind (arith, nat_tests)
 
-    cleared : (b : Bool) → not (bit_and pits 0 == 0) ≡ (b && not true)
-    cleared b = ap (λ n. not (n == 0)) (and_zero_r pits) ∙ none b
-      where
-        none : (b : Bool) → false ≡ (b && not true)
-        none true = refl
-        none false = refl
+-- ---- the pits below k at which something holds, as pit by pit is looked at
+
+pub split : (x k : ℕ) → x < k + 1 → (x < k) ⊎ (k ≡ x)
+split x k h = grind (arith, h)
+
+-- a pit is x or among these where it is among these and x
+pub has_pit-either : (pits x y : ℕ) → (has_pit (with_pit pits x) y ≡ true) ↔ ((x ≡ y) ⊎ (has_pit pits y ≡ true))
+has_pit-either pits x y = (
+  λ has. elim (or_cases (x == y) (has_pit pits y) (sym (has_pit-with pits x y) ∙ has)) [ inl e ↦ inl (eqb-true x y e) | inr old ↦ inr old ],
+  λ either. has_pit-with pits x y ∙ elim either [ inl same ↦ or_left _ _ (eq-eqb x y same) | inr old ↦ or_right _ _ old ],
+)
+
+module _ (P : ℕ → Type 0) where
+  abbrev pub AreBelow : ℕ → ℕ → Type 0
+  AreBelow k pits = (x : ℕ) → x < 6 → (has_pit pits x ≡ true) ↔ ((x < k) × P x)
+
+  pub none_below : AreBelow 0 0
+  none_below x own = (λ has. absurd (false≢true (sym (has_pit-none x) ∙ has)), λ there. absurd (omega (arith, there.0)))
+
+  -- what holds below k, and not at k, is what holds below k + 1
+  pub still_below : (pits k : ℕ) → (P k → ⊥) → AreBelow k pits → AreBelow (k + 1) pits
+  still_below pits k fails is x own = (
+    λ has. let there = (is x own).0 has in (omega (arith, there.0), there.1),
+    λ there. (is x own).1 (elim (split x k there.0) [ inl less ↦ (less, there.1) | inr e ↦ absurd (fails (subst P (sym e) there.1)) ]),
+  )
+
+  -- and at k
+  pub more_below : (pits k : ℕ) → P k → AreBelow k pits → AreBelow (k + 1) (with_pit pits k)
+  more_below pits k here is x own = (
+    λ has. elim ((has_pit-either pits k x).0 has) [
+      | inl same ↦ (omega (arith, same), subst P same here)
+      | inr before ↦ (let there = (is x own).0 before in (omega (arith, there.0), there.1))
+    ],
+    λ there. (has_pit-either pits k x).1 (elim (split x k there.0) [ inl less ↦ inr ((is x own).1 (less, there.1)) | inr e ↦ inl e ]),
+  )
 
 -- the lowest bit is the lowest pit
 pub lowest_is : (pits : ℕ) → pits < 2 ^ 8 → trailing_zeros w8 pits < 6 → IsLowestIn pits (Some (trailing_zeros w8 pits))
-lowest_is pits fits low = (low, has_pit-bit pits (trailing_zeros w8 pits) ∙ one _ lowest.1, λ y less. has_pit-bit pits y ∙ zero_bit _ (lowest.2 y less))
+lowest_is pits fits low = (low, has_pit-bit pits (trailing_zeros w8 pits) ∙ ap (λ b. b == 1) lowest.1, λ y less. has_pit-bit pits y ∙ ap (λ b. b == 1) (lowest.2 y less))
   where
-    one : (b : ℕ) → b ≡ 1 → (b == 1) ≡ true
-    one b e = grind (arith, nat_tests)
-
-    zero_bit : (b : ℕ) → b ≡ 0 → (b == 1) ≡ false
-    zero_bit b e = grind (arith, nat_tests)
-
     some : (n : ℕ) → n ≡ pits → 0 < pits
     some zero e = absurd (let eight : trailing_zeros w8 pits ≡ 8 = subst (λ m. trailing_zeros w8 m ≡ 8) e (trailing_of_zero 8) in omega (arith, eight, low))
     some (suc n) e = omega arith
@@ -117,11 +110,8 @@ lowest_is pits fits low = (low, has_pit-bit pits (trailing_zeros w8 pits) ∙ on
 
 -- where the lowest bit is none of theirs there is no pit
 pub lowest_none : (pits : ℕ) → pits < 2 ^ 8 → 6 ≤ trailing_zeros w8 pits → IsLowestIn pits None
-lowest_none pits fits high x own = has_pit-bit pits x ∙ zero_bit (bit_at pits x) (at pits refl)
+lowest_none pits fits high x own = has_pit-bit pits x ∙ ap (λ b. b == 1) (at pits refl)
   where
-    zero_bit : (b : ℕ) → b ≡ 0 → (b == 1) ≡ false
-    zero_bit b e = grind (arith, nat_tests)
-
     at : (n : ℕ) → n ≡ pits → bit_at pits x ≡ 0
     at zero e = subst (λ m. bit_at m x ≡ 0) e (bit_at-zero x)
     at (suc n) e = (bit_at-trailing_zeros w8 pits (omega arith) fits).2 x (omega (arith, high, own))

@@ -13,7 +13,7 @@ ghost use Rattle.awari_block.specs.declared.notes.Kind.TheVariants.{Won, Lost};
 ghost use Rattle.awari_block.specs.declared.stakes.Stake.{Stake as StakeView};
 
 use crate::notes::Kind;
-use crate::pits::{pit_alone, with_pit, without_pit};
+use crate::pits::Pits;
 use crate::stakes::Stake;
 
 /// What a cell knows of its board.
@@ -39,11 +39,11 @@ pub struct Cell {
     pub dist: u32,
     /// Stones, for the mover.
     pub score: i8,
-    /// The pits of the moves that are known to gain the score, a bit for each. Once the board is
-    /// settled, they are those that serve as its plan.
-    pub plans: u8,
-    /// The pits of the quiet moves of which no note was heard, a bit for each.
-    pub left: u8,
+    /// The pits of the moves that are known to gain the score. Once the board is settled, they are
+    /// those that serve as its plan.
+    pub plans: Pits,
+    /// The pits of the quiet moves of which no note was heard.
+    pub left: Pits,
     /// What the score and the distance say.
     pub mark: Mark,
 }
@@ -86,7 +86,7 @@ impl Cell {
         requires { pit < 6 }
         ensures { result ≡ has_pit self.now.left pit }
     {
-        self.left & (1 << pit) != 0
+        self.left.has(pit)
     }
 
     /// Hears the note of this pit and kind, of the open gain and wave. Conditions: the pit is below
@@ -108,7 +108,7 @@ impl Cell {
         ensures timely { SettlesAtStake stake self.old self.new }
         ensures fits { Fits stake self.new }
     {
-        self.left = without_pit(self.left, pit);
+        self.left = self.left.without(pit);
         match kind {
             Kind::Lost => self.hear_lost(stake, pit),
             Kind::Won => self.hear_won(stake, pit),
@@ -135,12 +135,12 @@ impl Cell {
         match self.mark {
             Mark::Settled => {
                 if self.score == gain && self.dist == dist {
-                    self.plans = with_pit(self.plans, pit);
+                    self.plans = self.plans.with(pit);
                 }
             }
             Mark::Ended => {}
             Mark::Quiet | Mark::Capturing | Mark::Noted => {
-                self.plans = pit_alone(pit);
+                self.plans = Pits::only(pit);
                 self.settle(gain, dist);
             }
         }
@@ -167,7 +167,7 @@ impl Cell {
         let gain = -(stake.gain as i8);
         let far = stake.wave.max(self.dist);
         self.know(gain, pit);
-        if self.left == 0 && self.score == gain {
+        if self.left.is_empty() && self.score == gain {
             self.settle(gain, far + 1);
         } else {
             self.dist = far;
@@ -188,9 +188,9 @@ impl Cell {
         if self.mark == Mark::Quiet || self.score < gain {
             self.mark = Mark::Noted;
             self.score = gain;
-            self.plans = pit_alone(pit);
+            self.plans = Pits::only(pit);
         } else if self.score == gain {
-            self.plans = with_pit(self.plans, pit);
+            self.plans = self.plans.with(pit);
         }
     }
 
@@ -235,7 +235,7 @@ impl Cell {
                 if stake.gain == stake.level {
                     Cell {
                         mark: Mark::Settled,
-                        plans: 0,
+                        plans: Pits::NONE,
                         dist: 0,
                         ..self
                     }
@@ -251,7 +251,7 @@ impl Cell {
                         ..self
                     };
                 }
-                if self.left == 0 && self.score == -(stake.gain as i8) {
+                if self.left.is_empty() && self.score == -(stake.gain as i8) {
                     return Cell {
                         mark: Mark::Settled,
                         dist: self.dist + 1,
@@ -271,21 +271,21 @@ impl Cell {
         Cell {
             dist: 0,
             score: gain,
-            plans: 0,
-            left: 0,
+            plans: Pits::NONE,
+            left: Pits::NONE,
             mark: Mark::Ended,
         }
     }
 
     /// The cell of a board that heard no note, with these quiet pits and no capture.
-    pub fn of_quiet(quiet: u8) -> Cell
+    pub fn of_quiet(quiet: Pits) -> Cell
         ensures cell { view_of result ≡ record { left = quiet; status = tally.Open tally.Nothing 0 0 } }
         ensures fits { (stake : StakeView) → Fits stake result }
     {
         Cell {
             dist: 0,
             score: 0,
-            plans: 0,
+            plans: Pits::NONE,
             left: quiet,
             mark: Mark::Quiet,
         }
@@ -293,7 +293,7 @@ impl Cell {
 
     /// The cell of a board that heard no note, with these quiet pits. Its best captures gain `best`,
     /// and `plans` are their pits.
-    pub fn of_captures(quiet: u8, best: i8, plans: u8) -> Cell
+    pub fn of_captures(quiet: Pits, best: i8, plans: Pits) -> Cell
         ensures cell { view_of result ≡ record { left = quiet; status = tally.Open (tally.ByCapture best) plans 0 } }
         ensures fits { (stake : StakeView) → IsWithin stake.level best → Fits stake result }
     {

@@ -40,4 +40,5 @@ pub use closed::ClosedPart;
 pub use dues::nearer;
 pub use laws::worked_examples;
 pub use notes::{Kind, Note};
+pub use pits::Pits;
 pub use stakes::Stake;

@@ -1,7 +1,7 @@
 -- What a note makes of a cell with its plan.
 use Rattle.std.proofs.Common.{◌≡◌, ℕ, ◌+◌, ◌-◌, ◌^◌, ◌<◌, ◌≤◌, ◌==◌, ◌⊎◌, ◌↔◌, inl, inr, Bool, true, false, not, ◌&&◌, ◌||◌, if◌then◌else◌, max, List, [], ◌∷◌, count_by, ℤ, pos, neg_ℤ, ◌≤ℤ◌, ◌<ℤ◌, Option, Some, None, refl, sym, ap, subst, ◌∙◌, arith, eqb-true}
 use Rattle.std.specs.Ordering.{int_eq}
-use Rattle.std.proofs.lemmas.Bool.{and_parts, false≢true}
+use Rattle.std.proofs.lemmas.Bool.{and_parts, eq-eqb, false≢true, or_cases, or_left, or_right}
 use Rattle.std.proofs.lemmas.Int.{ints}
 use Rattle.awari_board.specs.Rules.{captured}
 use Rattle.awari_board.specs.Tests.{is_legal}
@@ -21,7 +21,7 @@ use Rattle.awari_heard.proofs.Statuses.{IsNew, note_status}
 use Rattle.awari_block.proofs.PitSets.{has_pit-with, has_pit-none, has_pit-alone, has_pit-without, none_left}
 use Rattle.awari_block.specs.Steps as steps
 use Rattle.awari_block.specs.Tally.{Best, Status, Ended, Open, Settled, best_gain, is_unheard, KnowsAt, KnownToServe, IsBestGain, IsOfCapture, IsOpenStatus, IsSettledStatus, IsStatus}
-use Rattle.awari_block.proofs.Knowing.{int_eq-true, int_eq-same, eqb-same, or_cases, or_left, or_right, known_before, gain_more, captures_more, best_gain-after}
+use Rattle.awari_block.proofs.Knowing.{int_eq-true, int_eq-same, known_before, gain_more, captures_more, best_gain-after}
 
 -- ---- what is left
 
@@ -104,7 +104,7 @@ lost_or_going value p notes t count far left capture looked gain best plans true
         same = let low = going.1.most b most.0 in let high = most.1 (neg_ℤ (pos t)) going.1.known in omega (arith, ints, low, high)
 
         test_true : ((left == 0) && int_eq b (neg_ℤ (pos t))) ≡ true
-        test_true = both (left == 0) (int_eq b (neg_ℤ (pos t))) (eqb-same left 0 gone) (int_eq-same b (neg_ℤ (pos t)) same)
+        test_true = both (left == 0) (int_eq b (neg_ℤ (pos t))) (eq-eqb left 0 gone) (int_eq-same b (neg_ℤ (pos t)) same)
           where
             both : (a c : Bool) → a ≡ true → c ≡ true → (a && c) ≡ true
             both a c e f = grind arith
@@ -167,7 +167,7 @@ module _ (value : List ℕ → ℤ) (p : List ℕ) (notes : List Note) (t w : �
         (note_status value p notes t w m (plain.Open (left_of p notes) h.plain.0 far) one fresh opened waved h.plain.1);
     serve = λ x low. (
       λ has. inr (m, inl refl, eqb-true m.pit x (sym (has_pit-alone m.pit x) ∙ has), sym (gained-lost e), λ _. omega arith),
-      λ serves. has_pit-alone m.pit x ∙ eqb-same m.pit x (here x serves),
+      λ serves. has_pit-alone m.pit x ∙ eq-eqb m.pit x (here x serves),
     );
   }
     where
@@ -242,7 +242,7 @@ module _ (value : List ℕ → ℤ) (p : List ℕ) (notes : List Note) (t w : �
       before : KnownToServe value p (m ∷ notes) v dist x → ((m.pit == x) || has_pit plans x) ≡ true
       before (inl captures) = or_right (m.pit == x) (has_pit plans x) ((serve x low).1 (inl captures))
       before (inr (k, inr has, at, gain, near)) = or_right (m.pit == x) (has_pit plans x) ((serve x low).1 (inr (k, has, at, gain, near)))
-      before (inr (k, inl e, at, gain, near)) = or_left (m.pit == x) (has_pit plans x) (eqb-same m.pit x (ap (λ (j : Note). j.pit) (sym e) ∙ at))
+      before (inr (k, inl e, at, gain, near)) = or_left (m.pit == x) (has_pit plans x) (eq-eqb m.pit x (ap (λ (j : Note). j.pit) (sym e) ∙ at))
 
   -- the settled board that hears a note has a positive value, and a note of the gain t that it has is not farther than this one
   reaches : (v : ℤ) (dist : ℕ) → IsSettledAs value p notes t v dist → pos t ≤ℤ v
@@ -303,7 +303,7 @@ module _ (value : List ℕ → ℤ) (p : List ℕ) (notes : List Note) (t w : �
                     let same : v ≡ pos t = gain ∙ gained-lost e in
                     let far = no_farther v dist same s.distance in
                     let less = near (omega (arith, ints, same)) in
-                    false≢true (sym test ∙ both (int_eq v (pos t)) (dist == m.dist + 1) (int_eq-same v (pos t) same) (eqb-same dist (m.dist + 1) (omega (arith, far, less)))))
+                    false≢true (sym test ∙ both (int_eq v (pos t)) (dist == m.dist + 1) (int_eq-same v (pos t) same) (eq-eqb dist (m.dist + 1) (omega (arith, far, less)))))
                     h.serve;
               }
 

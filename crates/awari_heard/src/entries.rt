@@ -9,7 +9,7 @@ ghost use Rattle.awari_heard.specs.Kept.{HasKept, IsKept};
 ghost use Rattle.awari_heard.specs.Filling.{PushesBlock, PutsBlocks};
 ghost use Rattle.awari_table.specs.declared.TheConstants.{HIGHEST_LEVEL};
 
-use awari_block::{Cell, ClosedPart, Mark};
+use awari_block::{Cell, ClosedPart, Mark, Pits};
 use awari_rank::size;
 use awari_table::{Entries, Entry, Image, Shelf};
 use std::alloc::{AllocError, Global};
@@ -78,32 +78,20 @@ pub fn entry_of(cell: Cell) -> Entry
 {
     match cell.mark {
         Mark::Settled => entry(cell.score, cell.plans, cell.dist),
-        Mark::Capturing => {
-            let plans = if cell.score == 0 { cell.plans } else { 0 };
-            entry(0, cell.left | plans, 0)
-        }
-        Mark::Quiet | Mark::Noted => entry(0, cell.left, 0),
+        Mark::Capturing if cell.score == 0 => entry(0, cell.left.with_all(cell.plans), 0),
+        Mark::Capturing | Mark::Quiet | Mark::Noted => entry(0, cell.left, 0),
         Mark::Ended => Entry::NONE,
     }
 }
 
 /// The entry of this value and distance, in which these pits serve.
 #[inline(always)]
-fn entry(value: i8, plans: u8, dist: u32) -> Entry
+fn entry(value: i8, plans: Pits, dist: u32) -> Entry
     ensures { (result.value ≡ value) × (result.dist ≡ dist) × IsLowestIn plans result.plan }
 {
     Entry {
         value,
-        plan: lowest_pit(plans),
+        plan: plans.lowest(),
         dist,
     }
-}
-
-/// The lowest pit of a set, none if the set is empty.
-#[inline(always)]
-fn lowest_pit(pits: u8) -> Option<u8>
-    ensures { IsLowestIn pits result }
-{
-    let lowest = pits.trailing_zeros() as u8;
-    if lowest < 6 { Some(lowest) } else { None }
 }

@@ -1,51 +1,14 @@
 -- The moves that lead out of a block.
-use Rattle.std.proofs.Common.{◌≡◌, ◌≢◌, ℕ, ◌+◌, ◌-◌, ◌^◌, ◌<◌, ◌≤◌, ◌==◌, ◌⊎◌, ◌↔◌, ◌||◌, inl, inr, Bool, true, false, not, IsTrue, List, bit_and, length, get_or, replicate, set, sum, refl, sym, ap, subst, ◌∙◌, arith, eqb-true, length-set}
+use Rattle.std.proofs.Common.{◌≡◌, ℕ, ◌+◌, ◌-◌, ◌<◌, ◌≤◌, ◌↔◌, inl, inr, true, false, List, length, get_or, replicate, set, sum, sym, ap, subst, ◌∙◌, arith, length-set}
 use Rattle.std.proofs.lemmas.Bool.{false≢true, cases_eq}
-use Rattle.std.proofs.lemmas.Bool.Decides.{nat_tests}
 use Rattle.std.proofs.lemmas.List.{get_or_default, get_or-replicate, get_or-set_same, get_or-set_other, length-replicate}
 use Rattle.awari_board.specs.Rules.{IsBoard, IsMove}
 use Rattle.awari_rank.specs.Rank.{rank_of, size_of}
 use Rattle.awari_block.specs.Notes.{IsQuietMove}
-use Rattle.awari_block.specs.Pits.{has_pit, with_pit}
+use Rattle.awari_block.specs.Pits.{has_pit}
 use Rattle.awari_block.specs.Part.{Part, InBlock, Leaves}
 use Rattle.awari_owner.specs.Leaving.{AreLeavingBelow, AreLeaving}
-use Rattle.awari_block.proofs.PitSets.{has_pit-none, has_pit-with}
-
--- ---- one board
-
-module _ (part : Part) (rank : ℕ) where
-  pub leaving-none : AreLeavingBelow part rank 0 0
-  leaving-none pit own = (λ has. absurd (false≢true (sym (has_pit-none pit) ∙ has)), λ both. absurd (omega (arith, both.0)))
-
-  -- a pit whose move does not leave
-  pub leaving-stays : (k pits : ℕ) → (Leaves part rank k → ⊥) → AreLeavingBelow part rank k pits → AreLeavingBelow part rank (k + 1) pits
-  leaving-stays k pits stays h pit own = (
-    λ has. let before = (h pit own).0 has in (omega (arith, before.0), before.1),
-    λ both. elim (split pit k both.0) [ inl less ↦ (h pit own).1 (less, both.1) | inr same ↦ absurd (stays (subst (Leaves part rank) same both.1)) ],
-  )
-    where
-      split : (x k : ℕ) → x < k + 1 → (x < k) ⊎ (x ≡ k)
-      split x k h = grind (arith, h)
-
-  -- a pit whose move leaves
-  pub leaving-more : (k pits : ℕ) → Leaves part rank k → AreLeavingBelow part rank k pits → AreLeavingBelow part rank (k + 1) (with_pit pits k)
-  leaving-more k pits leaves h pit own = by (k == pit) refl
-    where
-      differ : (x y : ℕ) → (x == y) ≡ false → x ≢ y
-      differ x y e = grind (arith, nat_tests)
-
-      by : (b : Bool) → (k == pit) ≡ b → (has_pit (with_pit pits k) pit ≡ true) ↔ ((pit < k + 1) × Leaves part rank pit)
-      by true e =
-          let same : k ≡ pit = eqb-true k pit e in (
-            λ _. (omega (arith, same), subst (Leaves part rank) same leaves),
-            λ _. has_pit-with pits k pit ∙ ap (λ b. b || has_pit pits pit) e,
-          )
-      by false e =
-          let is : has_pit (with_pit pits k) pit ≡ has_pit pits pit = has_pit-with pits k pit ∙ ap (λ b. b || has_pit pits pit) e in
-          let ne = differ k pit e in (
-            λ has. let before = (h pit own).0 (sym is ∙ has) in (omega (arith, before.0), before.1),
-            λ both. is ∙ (h pit own).1 (omega (arith, both.0, ne), both.1),
-          )
+use Rattle.awari_block.proofs.PitSets.{has_pit-none}
 
 -- whether the move leaves, by the one board that has this rank
 module _ (part : Part) (target pit : ℕ) (b : List ℕ) (injective : (p q : List ℕ) → IsBoard p → IsBoard q → sum p ≡ sum q → rank_of p ≡ rank_of q → p ≡ q) (is : IsBoard b) (stones : sum b ≡ part.level) (at : rank_of b ≡ target) where
@@ -118,10 +81,10 @@ leaving_still old new leaving level start size are = record {
         → (has_pit (get_or leaving k 0) pit ≡ true)
         ↔ ((pit < 6) × ((p : List ℕ) → IsBoard p → sum p ≡ n → rank_of p ≡ s + k → (q : List ℕ) × IsQuietMove p pit q × ((s ≤ rank_of q) × (rank_of q - s < many) → ⊥)))
 
--- the byte of a board of the block tells which of its moves leave
-pub leaves_read : (part : Part) (leaving : List ℕ) (target pit byte bit : ℕ) → AreLeaving part leaving → InBlock part target → pit < 6 → byte ≡ get_or leaving (target - part.start) byte → bit ≡ 2 ^ pit
-    → IsTrue (not (bit_and byte bit == 0)) ↔ Leaves part target pit
-leaves_read part leaving target pit byte bit are held own read is = (
+-- what is read of a board of the block tells which of its moves leave
+pub leaves_read : (part : Part) (leaving : List ℕ) (target pit pits : ℕ) → AreLeaving part leaving → InBlock part target → pit < 6 → pits ≡ get_or leaving (target - part.start) pits
+    → (has_pit pits pit ≡ true) ↔ Leaves part target pit
+leaves_read part leaving target pit pits are held own read = (
   λ t. (here.0 (same ∙ t)).1,
   λ leaves. sym same ∙ here.1 (own, leaves),
 )
@@ -134,5 +97,5 @@ leaves_read part leaving target pit byte bit are held own read is = (
         let at : part.start + (target - part.start) ≡ target = (let h = held.0 in omega (arith, h)) in
         subst (λ r. (has_pit (get_or leaving (target - part.start) 0) pit ≡ true) ↔ ((pit < 6) × Leaves part r pit)) at (are.pits (target - part.start) inside pit own)
 
-    same : has_pit (get_or leaving (target - part.start) 0) pit ≡ not (bit_and byte bit == 0)
-    same = ap (λ b. has_pit b pit) (get_or_default leaving (target - part.start) 0 byte inside ∙ sym read) ∙ ap (λ b. not (bit_and byte b == 0)) (sym is)
+    same : has_pit (get_or leaving (target - part.start) 0) pit ≡ has_pit pits pit
+    same = ap (λ n. has_pit n pit) (get_or_default leaving (target - part.start) 0 pits inside ∙ sym read)

@@ -9,7 +9,7 @@ ghost use Rattle.awari_rank.specs.Rank.{rank_of};
 ghost use Rattle.awari_block.specs.Part.{InBlock, Leaves};
 ghost use Rattle.awari_owner.specs.Leaving.{AreLeaving, AreLeavingBelow};
 
-use awari_block::Boards;
+use awari_block::{Boards, Pits};
 use awari_board::moves_keep_boards;
 use awari_packed::PackedBoard;
 use awari_rank::{ranks_tell_boards_apart, size};
@@ -17,12 +17,12 @@ use rayon::prelude::*;
 use std::alloc::{AllocError, Global};
 use std::thread::Threads;
 
-/// For each of these boards the pits whose quiet moves lead to a board of another block, a bit for
-/// each. It takes a byte a board, and is refused only if memory runs out.
-pub fn leaving_pits(alloc: Global, boards: &Boards) -> Result<Vec<u8>, AllocError>
+/// For each of these boards the pits whose quiet moves lead to a board of another block. It takes a
+/// byte a board, and is refused only if memory runs out.
+pub fn leaving_pits(alloc: Global, boards: &Boards) -> Result<Vec<Pits>, AllocError>
     ensures { IfOk result (λ leaving. AreLeaving boards.now leaving.items) }
 {
-    let mut leaving = vec![in alloc; 0; boards.cells().len()]?;
+    let mut leaving = vec![in alloc; Pits::NONE; boards.cells().len()]?;
     if are_all(boards) {
         return Ok(leaving);
     }
@@ -37,17 +37,17 @@ pub fn leaving_pits_parallel<R: Threads + Sync>(
     rt: &R,
     alloc: Global,
     boards: &Boards,
-) -> Result<Vec<u8>, AllocError>
+) -> Result<Vec<Pits>, AllocError>
     ensures { IfOk result (λ leaving. AreLeaving boards.now leaving.items) }
 {
-    let mut leaving = vec![in alloc; 0; boards.cells().len()]?;
+    let mut leaving = vec![in alloc; Pits::NONE; boards.cells().len()]?;
     if are_all(boards) {
         return Ok(leaving);
     }
     par_for_each_mut(
         rt,
         leaving.as_mut_slice(),
-        |place: usize, pits: &mut u8|
+        |place: usize, pits: &mut Pits|
             requires { place < length boards.now.cells }
             ensures { AreLeavingBelow boards.entry.now (boards.entry.now.start + place) 6 pits.new }
         { *pits = pits_at(boards, place) },
@@ -68,30 +68,30 @@ fn are_all(boards: &Boards) -> bool
 /// The pits of the board at this place whose moves lead to a board of another block.
 ///
 /// The six pits are written out as plain numbers, so that the shifts of each move are constants.
-fn pits_at(boards: &Boards, place: usize) -> u8
+fn pits_at(boards: &Boards, place: usize) -> Pits
     requires { place < length boards.now.cells }
     ensures { AreLeavingBelow boards.now (boards.now.start + place) 6 result }
 {
     let (start, _) = boards.block();
     let board = boards.board(start + place as u32);
-    let pits = with_pit(0, boards, &board, 0);
-    let pits = with_pit(pits, boards, &board, 1);
-    let pits = with_pit(pits, boards, &board, 2);
-    let pits = with_pit(pits, boards, &board, 3);
-    let pits = with_pit(pits, boards, &board, 4);
-    with_pit(pits, boards, &board, 5)
+    let pits = with_leaving(Pits::NONE, boards, &board, 0);
+    let pits = with_leaving(pits, boards, &board, 1);
+    let pits = with_leaving(pits, boards, &board, 2);
+    let pits = with_leaving(pits, boards, &board, 3);
+    let pits = with_leaving(pits, boards, &board, 4);
+    with_leaving(pits, boards, &board, 5)
 }
 
 /// These pits, and `pit` if its move leads from this board to one of another block.
 #[inline(always)]
-fn with_pit(pits: u8, boards: &Boards, board: &PackedBoard, pit: u8) -> u8
+fn with_leaving(pits: Pits, boards: &Boards, board: &PackedBoard, pit: u8) -> Pits
     requires board { IsBoard board.now }
     requires stones { sum board.now ≡ boards.now.level }
     requires own { pit < 6 }
     ensures { AreLeavingBelow boards.now (rank_of board.now) pit pits → AreLeavingBelow boards.now (rank_of board.now) (pit + 1) result }
 {
     if leaves(boards, board, pit) {
-        pits | 1 << pit
+        pits.with(pit)
     } else {
         pits
     }

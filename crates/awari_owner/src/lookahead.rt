@@ -9,7 +9,7 @@ ghost use Rattle.awari_board.specs.Rules.{IsBoard};
 ghost use Rattle.awari_block.specs.Part.{InBlock};
 ghost use Rattle.awari_owner.specs.Lookahead.{ArePredecessors, IsAhead, IsRankAt};
 
-use awari_block::{Boards, Note};
+use awari_block::{Boards, Note, Pits};
 use awari_packed::PackedBoard;
 use awari_scan::{MOST_PREDECESSORS, find_all};
 use std::alloc::{AllocError, Global};
@@ -117,17 +117,17 @@ impl Lookahead {
         place
     }
 
-    /// Reads the cells of the boards that these notes are for, and their bytes of `leaving`, which has one
+    /// Reads the cells of the boards that these notes are for, and their sets of `leaving`, which has one
     /// for each board.
-    pub fn look_at(&mut self, boards: &Boards, leaving: &[u8], notes: &[Note])
+    pub fn look_at(&mut self, boards: &Boards, leaving: &[Pits], notes: &[Note])
         ensures { self.new ≡ record self.old { read = self.new.read } }
     {
         let (start, _) = boards.block();
         let mut read = 0;
         for note in notes {
             let place = note.target.wrapping_sub(start) as usize;
-            let pits = leaving.get(place).copied().unwrap_or(0);
-            read ^= dist_in(boards, note.target) ^ u32::from(pits);
+            let pits = leaving.get(place).copied().unwrap_or(Pits::NONE);
+            read ^= dist_in(boards, note.target) ^ u32::from(pits.is_empty());
         }
         self.read = read;
     }

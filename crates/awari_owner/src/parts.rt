@@ -23,7 +23,7 @@ use crate::lookahead::Lookahead;
 use crate::outboxes::Outboxes;
 use crate::queues::reserve_others;
 use crate::spreads::tell_all;
-use awari_block::{Block, Boards, Cell, ClosedPart, Note, block_length};
+use awari_block::{Block, Boards, Cell, ClosedPart, Note, Pits, block_length};
 use awari_board::{SIDE, moves_keep_boards};
 use awari_index::Index;
 use awari_rank::{ranks_tell_boards_apart, size};
@@ -36,12 +36,12 @@ use std::thread::Threads;
 /// One owner's part of a level that is being built. It has what is known of each board of its block,
 /// and which boards are fresh, that is, settled and not spread yet. It has the boards that are spread
 /// next, with their predecessors. And for each board it has the pits whose quiet moves lead out of the
-/// block, a bit for each.
+/// block.
 #[derive(Drop)]
 pub struct Part {
     boards: Boards,
     lookahead: Lookahead,
-    leaving: Vec<u8>,
+    leaving: Vec<Pits>,
 }
 
 impl Model for Part {
@@ -308,7 +308,7 @@ impl Part {
     }
 
     /// The part of these boards, with the pits of the moves that leave them.
-    fn from_boards(alloc: Global, boards: Boards, leaving: Vec<u8>) -> Result<Part, OwnerFault>
+    fn from_boards(alloc: Global, boards: Boards, leaving: Vec<Pits>) -> Result<Part, OwnerFault>
         requires fresh { AreFresh boards }
         requires leaving { AreLeaving boards leaving.items }
         ensures same { IfOk result (λ part. part ≡ boards) }
@@ -344,7 +344,7 @@ impl Part {
         ensures { IsTrue result ↔ Leaves self.now target pit }
     {
         let (start, _) = self.boards.block();
-        self.leaving[(target - start) as usize] & (1 << pit) != 0
+        self.leaving[(target - start) as usize].has(pit)
     }
 }
 

@@ -3,7 +3,7 @@ use Rattle.std.proofs.Common.{◌≡◌, ℕ, zero, suc, ◌<◌, ◌≤◌, ◌
 use Rattle.std.specs.Prelude.{◌-ℤ◌}
 use Rattle.std.specs.Ordering.{int_eq}
 use Rattle.std.proofs.lemmas.Bool.Decides.{nat_tests}
-use Rattle.std.proofs.lemmas.Bool.{false≢true}
+use Rattle.std.proofs.lemmas.Bool.{false≢true, or_cases, or_left, or_right}
 use Rattle.std.proofs.lemmas.Int.{ints}
 use Rattle.awari_board.specs.Rules.{IsMove, captured, next_board}
 use Rattle.awari_board.specs.Tests.{is_legal}
@@ -26,7 +26,7 @@ use Rattle.awari_heard.specs.Finish.{value_by, dist_by, IsQuietAt}
 use Rattle.awari_block.specs.Part.{settled_by}
 use Rattle.awari_heard.proofs.HearingPlans.{unheard_left}
 use Rattle.awari_block.proofs.PitSets.{has_pit-both}
-use Rattle.awari_block.proofs.Knowing.{int_eq-true, int_eq-same, or_cases, or_left, or_right, knows_at}
+use Rattle.awari_block.proofs.Knowing.{int_eq-true, int_eq-same, knows_at}
 use Rattle.awari_heard.proofs.Finishing.{small_gain}
 
 -- The table has of p, and of the boards that its moves lead to, what the cells know, and of boards of fewer stones these values.

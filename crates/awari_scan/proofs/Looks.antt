@@ -3,9 +3,9 @@ use Rattle.std.proofs.Common.{◌≡◌, ℕ, zero, suc, ◌+◌, ◌^◌, ◌<�
 use Rattle.std.specs.Prelude.{◌-ℤ◌, int_lt}
 use Rattle.std.specs.Ordering.{int_eq}
 use Rattle.std.proofs.lemmas.Bool.Decides.{nat_tests}
-use Rattle.std.proofs.lemmas.Bool.{false≢true}
+use Rattle.std.proofs.lemmas.Bool.{eq-eqb, false≢true}
 use Rattle.std.proofs.lemmas.Int.{ints}
-use Rattle.std.proofs.lemmas.Nat.{or_lt}
+use Rattle.std.proofs.lemmas.Nat.{or_lt, pow_below}
 use Rattle.awari_board.specs.Rules.{IsBoard, IsMove, IsLegal, IsEnd, IsEnded, captured, next_board, own_stones}
 use Rattle.awari_board.specs.Tests.{is_legal}
 use Rattle.awari_board.proofs.Keeping.{IsBoard-next, sum-from_IsMove}
@@ -20,19 +20,12 @@ use Rattle.awari_block.specs.Notes.{IsQuietMove}
 use Rattle.awari_block.specs.Pits.{has_pit, with_pit}
 use Rattle.awari_block.specs.Plain.{Captures, Knows, IsBest}
 use Rattle.awari_scan.specs.Scan.{IsRanged, IsBestBelow, IsCounted, ArePlansBelow, IsOutlook, IsScannedCell, outlook_cell}
-use Rattle.awari_block.proofs.SixPits.{below_six}
 use Rattle.awari_block.proofs.Legality.{quiet_counted, counted_quiet}
 use Rattle.awari_scan.proofs.Scanning.{outlook-none, outlook-skips, outlook-quiet, outlook-capture, outlook-ended, outlook-quiet_legal, best-all, captures_within, scanned}
-use Rattle.awari_block.proofs.PitSets.{has_pit-with, has_pit-none, has_pit-alone, none_left}
+use Rattle.awari_block.proofs.PitSets.{has_pit-alone, has_pit-none, none_left, none_below, still_below, more_below, split}
 use Rattle.awari_block.specs.Tally.{Best, Nothing, ByCapture, Ended, Open, best_gain, CapturesFrom, KnowsAt, IsBestGain, IsOfCapture, IsOpenStatus, IsTally, IsStatus, is_unheard}
 use Rattle.awari_block.specs.Steps.{greater_of, pits_after}
-use Rattle.awari_block.proofs.Knowing.{int_lt-true, int_lt-false, int_eq-true, int_eq-false, eqb-same, or_cases, or_left, or_right}
-
-split : (x k : ℕ) → x < k + 1 → (x < k) ⊎ (k ≡ x)
-split x k h = grind (arith, h)
-
-own_few : (k : ℕ) → k < 6 → 2 ^ k < 2 ^ 6
-own_few = below_six (λ k. 2 ^ k < 2 ^ 6) (omega arith) (omega arith) (omega arith) (omega arith) (omega arith) (omega arith)
+use Rattle.awari_block.proofs.Knowing.{int_lt-true, int_lt-false, int_eq-true, int_eq-false}
 
 -- two tests of one fact are one
 same_tests : (a b : Bool) (P : Type 0) → ((a ≡ true) ↔ P) → ((b ≡ true) ↔ P) → a ≡ b
@@ -41,31 +34,11 @@ same_tests true false P f g = sym (g.1 (f.0 refl))
 same_tests false true P f g = f.1 (g.0 refl)
 same_tests false false P f g = refl
 
--- what holds below k, and not at k, is what holds below k + 1
-still_below : (P : ℕ → Type 0) (pits k : ℕ) → (P k → ⊥) → ((x : ℕ) → x < 6 → (has_pit pits x ≡ true) ↔ ((x < k) × P x)) → (x : ℕ) → x < 6 → (has_pit pits x ≡ true) ↔ ((x < k + 1) × P x)
-still_below P pits k fails is x own = (
-  λ has. let there = (is x own).0 has in (omega (arith, there.0), there.1),
-  λ there. (is x own).1 (elim (split x k there.0) [ inl less ↦ (less, there.1) | inr e ↦ absurd (fails (subst P (sym e) there.1)) ]),
-)
-
--- and at k
-more_below : (P : ℕ → Type 0) (pits k : ℕ) → P k → ((x : ℕ) → x < 6 → (has_pit pits x ≡ true) ↔ ((x < k) × P x)) → (x : ℕ) → x < 6 → (has_pit (with_pit pits k) x ≡ true) ↔ ((x < k + 1) × P x)
-more_below P pits k here is x own = (
-  λ has. elim (or_cases (k == x) (has_pit pits x) (sym (has_pit-with pits k x) ∙ has)) [
-    | inl e ↦ (let same = eqb-true k x e in (omega (arith, same), subst P same here))
-    | inr before ↦ (let there = (is x own).0 before in (omega (arith, there.0), there.1))
-  ],
-  λ there. has_pit-with pits k x ∙ elim (split x k there.0) [
-    | inl less ↦ or_right (k == x) (has_pit pits x) ((is x own).1 (less, there.1))
-    | inr e ↦ or_left (k == x) (has_pit pits x) (eqb-same k x e)
-  ],
-)
-
--- and nowhere below k
+-- what holds at k and nowhere below k
 first_below : (P : ℕ → Type 0) (k : ℕ) → P k → ((x : ℕ) → x < k → P x → ⊥) → (x : ℕ) → x < 6 → (has_pit (2 ^ k) x ≡ true) ↔ ((x < k + 1) × P x)
 first_below P k here none x own = (
   λ has. let same = eqb-true k x (sym (has_pit-alone k x) ∙ has) in (omega (arith, same), subst P same here),
-  λ there. has_pit-alone k x ∙ eqb-same k x (elim (split x k there.0) [ inl less ↦ absurd (none x less there.1) | inr e ↦ e ]),
+  λ there. has_pit-alone k x ∙ eq-eqb k x (elim (split x k there.0) [ inl less ↦ absurd (none x less there.1) | inr e ↦ e ]),
 )
 
 module _ (value : List ℕ → ℤ) (p : List ℕ) where
@@ -73,7 +46,7 @@ module _ (value : List ℕ → ℤ) (p : List ℕ) where
   seen_none = record {
     counted = (0, outlook-none value p);
     few = omega arith;
-    quiet_below = λ x own. (λ has. absurd (false≢true (sym (has_pit-none x) ∙ has)), λ there. absurd (omega (arith, there.0)));
+    quiet_below = none_below (λ x. (q : List ℕ) × IsQuietMove p x q);
     plans_below = tt;
   }
 
@@ -93,7 +66,7 @@ module _ (value : List ℕ → ℤ) (p : List ℕ) where
       → IsOutlook value p (k + 1) (with_pit quiet k) best plans
   seen_quiet k quiet best plans q own move h = record {
     counted = (h.counted.0 + 1, outlook-quiet value p k h.counted.0 best q own move h.counted.1);
-    few = or_lt 6 quiet (2 ^ k) h.few (own_few k own);
+    few = or_lt 6 quiet (2 ^ k) h.few (pow_below k 6 own);
     quiet_below = more_below (λ x. (q : List ℕ) × IsQuietMove p x q) quiet k (q, move) h.quiet_below;
     plans_below = plans_still k best plans (λ c r other some. let none : c ≡ 0 = other.captures ∙ sym move.captures in omega (arith, some, none)) h.plans_below;
   }
@@ -216,7 +189,7 @@ module _ (value : List ℕ → ℤ) (p : List ℕ) where
       bare = record { counted = h.counted; few = h.few; quiet_below = h.quiet_below; plans_below = tt }
 
       differ : (n : ℕ) → (n == 0) ≡ false → n ≡ 0 → ⊥
-      differ n e same = false≢true (sym e ∙ eqb-same n 0 same)
+      differ n e same = false≢true (sym e ∙ eq-eqb n 0 same)
 
       by : (b : Bool) → (quiet == 0) ≡ b → IsStatus value p [] (sum p + 1) (if b then Ended gain else Open Nothing 0 0)
       by true e = (end (none_quiet quiet (eqb-true quiet 0 e) bare), omega arith)

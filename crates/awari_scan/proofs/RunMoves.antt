@@ -1,16 +1,15 @@
 -- The boards of a run: with the same own pits and as many stones they have the same legal pits.
-use Rattle.std.proofs.Common.{◌≡◌, ◌≢◌, ℕ, zero, ◌+◌, ◌<◌, ◌==◌, ◌⊎◌, ◌||◌, ◌++◌, not, length, ◌^◌, [], inl, inr, Bool, true, false, List, get_or, sum, take, drop, if◌then◌else◌, bit_and, bit_or, refl, sym, ap, subst, ◌∙◌, arith, eqb-true}
+use Rattle.std.proofs.Common.{◌≡◌, ℕ, zero, ◌+◌, ◌<◌, ◌==◌, ◌++◌, length, [], inl, inr, Bool, true, false, List, get_or, sum, take, drop, if◌then◌else◌, refl, sym, ap, subst, ◌∙◌, arith}
 use Rattle.std.proofs.lemmas.Bool.{false≢true}
-use Rattle.std.proofs.lemmas.Bool.Decides.{nat_tests}
 use Rattle.std.proofs.lemmas.List.{get_or-take, get_or_default, length-take-le, take-append-le, take_all}
 use Rattle.std.proofs.lemmas.List.Sums.{sum_by-take-drop}
 use Rattle.std.specs.Prelude.{slice_index}
 use Rattle.awari_board.specs.Rules.{IsLegal, IsMove, captured_stones, landing, last_pit, next_board, other_stones, run, sown}
 use Rattle.awari_board.proofs.Capturing.{run_to-own}
 use Rattle.awari_index.specs.Runs.{IsBoardAt, IsStretch}
-use Rattle.awari_block.specs.Pits.{has_pit, with_pit}
+use Rattle.awari_block.specs.Pits.{with_pit}
 use Rattle.awari_scan.specs.Scan.{AreMovesBelow}
-use Rattle.awari_block.proofs.PitSets.{has_pit-none, has_pit-with}
+use Rattle.awari_block.proofs.PitSets.{has_pit-either, has_pit-none, split}
 
 same_pit : (p h : List ℕ) (x : ℕ) → x < 6 → take 6 p ≡ take 6 h → slice_index p x ≡ slice_index h x
 same_pit p h x own same = sym (get_or-take 6 p x 0 own) ∙ ap (λ l. get_or l x 0) same ∙ get_or-take 6 h x 0 own
@@ -42,29 +41,6 @@ near_quiet p x legal near = record { legal = legal; captures = sym (none_capture
 
 -- ---- pit by pit
 
-is_with : (pits k x : ℕ) → has_pit (with_pit pits k) x ≡ true → (k ≡ x) ⊎ (has_pit pits x ≡ true)
-is_with pits k x has = by (k == x) refl
-  where
-    by : (b : Bool) → (k == x) ≡ b → (k ≡ x) ⊎ (has_pit pits x ≡ true)
-    by true e = inl (eqb-true k x e)
-    by false e = inr (sym (ap (λ b. b || has_pit pits x) e) ∙ sym (has_pit-with pits k x) ∙ has)
-
-has_old : (pits k x : ℕ) → has_pit pits x ≡ true → has_pit (with_pit pits k) x ≡ true
-has_old pits k x has = has_pit-with pits k x ∙ by (k == x)
-  where
-    by : (b : Bool) → (b || has_pit pits x) ≡ true
-    by true = refl
-    by false = has
-
-has_new : (pits k x : ℕ) → x ≡ k → has_pit (with_pit pits k) x ≡ true
-has_new pits k x same = has_pit-with pits k x ∙ ap (λ b. b || has_pit pits x) (equal k x same)
-  where
-    equal : (k x : ℕ) → x ≡ k → (k == x) ≡ true
-    equal k x e = grind (arith, nat_tests)
-
-split : (x k : ℕ) → x < k + 1 → (x < k) ⊎ (x ≡ k)
-split x k h = grind (arith, h)
-
 module _ (p : List ℕ) where
   pub moves-none : AreMovesBelow p 0 0 0
   moves-none = record { quiet = λ x has. absurd (false≢true (sym (has_pit-none x) ∙ has)); legal = λ x has. absurd (false≢true (sym (has_pit-none x) ∙ has)); all = λ x less. absurd (omega (arith, less)) }
@@ -73,26 +49,26 @@ module _ (p : List ℕ) where
   moves-illegal k near far illegal h = record {
     quiet = h.quiet;
     legal = h.legal;
-    all = λ x less legal. elim (split x k less) [ inl low ↦ h.all x low legal | inr same ↦ absurd (illegal (subst (IsLegal p) same legal)) ];
+    all = λ x less legal. elim (split x k less) [ inl low ↦ h.all x low legal | inr same ↦ absurd (illegal (subst (IsLegal p) (sym same) legal)) ];
   }
 
   moves-near : (k near far : ℕ) → IsLegal p k → last_pit p k < 6 → AreMovesBelow p k near far → AreMovesBelow p (k + 1) (with_pit near k) far
   moves-near k near far legal ends h = record {
-    quiet = λ x has. elim (is_with near k x has) [ inl same ↦ subst (λ y. (q : List ℕ) × IsMove p y 0 q) same (next_board p k, near_quiet p k legal ends) | inr old ↦ h.quiet x old ];
+    quiet = λ x has. elim ((has_pit-either near k x).0 has) [ inl same ↦ subst (λ y. (q : List ℕ) × IsMove p y 0 q) same (next_board p k, near_quiet p k legal ends) | inr old ↦ h.quiet x old ];
     legal = h.legal;
     all = λ x less can. elim (split x k less) [
-      | inl low ↦ elim (h.all x low can) [ inl has ↦ inl (has_old near k x has) | inr has ↦ inr has ]
-      | inr same ↦ inl (has_new near k x same)
+      | inl low ↦ elim (h.all x low can) [ inl has ↦ inl ((has_pit-either near k x).1 (inr has)) | inr has ↦ inr has ]
+      | inr same ↦ inl ((has_pit-either near k x).1 (inl same))
     ];
   }
 
   moves-far : (k near far : ℕ) → IsLegal p k → AreMovesBelow p k near far → AreMovesBelow p (k + 1) near (with_pit far k)
   moves-far k near far legal h = record {
     quiet = h.quiet;
-    legal = λ x has. elim (is_with far k x has) [ inl same ↦ subst (IsLegal p) same legal | inr old ↦ h.legal x old ];
+    legal = λ x has. elim ((has_pit-either far k x).0 has) [ inl same ↦ subst (IsLegal p) same legal | inr old ↦ h.legal x old ];
     all = λ x less can. elim (split x k less) [
-      | inl low ↦ elim (h.all x low can) [ inl has ↦ inl has | inr has ↦ inr (has_old far k x has) ]
-      | inr same ↦ inr (has_new far k x same)
+      | inl low ↦ elim (h.all x low can) [ inl has ↦ inl has | inr has ↦ inr ((has_pit-either far k x).1 (inr has)) ]
+      | inr same ↦ inr ((has_pit-either far k x).1 (inl same))
     ];
   }
 
@@ -102,27 +78,13 @@ module _ (p h : List ℕ) (k near far : ℕ) (own : take 6 p ≡ take 6 h) (ston
   pub adds-none : (IsLegal h k → ⊥) → AreMovesBelow p k near far → AreMovesBelow p (k + 1) near far
   adds-none illegal = moves-illegal p k near far (λ legal. illegal (legal_same h p k (sym own) (sym stones) legal))
 
-  pub adds-near : (bit last : ℕ) → IsLegal h k → last ≡ landing k (slice_index h k) → last < 6 → bit ≡ 2 ^ k → AreMovesBelow p k near far → AreMovesBelow p (k + 1) (bit_or near bit) far
-  adds-near bit last legal ends side is before =
+  pub adds-near : (last : ℕ) → IsLegal h k → last ≡ last_pit h k → last < 6 → AreMovesBelow p k near far → AreMovesBelow p (k + 1) (with_pit near k) far
+  adds-near last legal ends side before =
       let at : last_pit p k ≡ last = ap (landing k) (same_pit p h k legal.own own) ∙ sym ends in
-      subst (λ b. AreMovesBelow p (k + 1) (bit_or near b) far) (sym is) (moves-near p k near far (legal_same p h k own stones legal) (omega (arith, at, side)) before)
+      moves-near p k near far (legal_same p h k own stones legal) (omega (arith, at, side)) before
 
-  pub adds-far : (bit : ℕ) → IsLegal h k → bit ≡ 2 ^ k → AreMovesBelow p k near far → AreMovesBelow p (k + 1) near (bit_or far bit)
-  adds-far bit legal is before = subst (λ b. AreMovesBelow p (k + 1) near (bit_or far b)) (sym is) (moves-far p k near far (legal_same p h k own stones legal) before)
-
--- ---- what a test of a bit tells
-
-pub has_bit : (pits x bit : ℕ) → bit ≡ 2 ^ x → bit_and pits bit ≢ 0 → has_pit pits x ≡ true
-has_bit pits x bit is some = by (bit_and pits (2 ^ x)) (subst (λ n. bit_and pits n ≢ 0) is some)
-  where
-    by : (n : ℕ) → n ≢ 0 → not (n == 0) ≡ true
-    by n some = grind (arith, nat_tests)
-
-pub lacks_bit : (pits x bit : ℕ) → bit ≡ 2 ^ x → bit_and pits bit ≡ 0 → has_pit pits x ≡ false
-lacks_bit pits x bit is none = by (bit_and pits (2 ^ x)) (subst (λ n. bit_and pits n ≡ 0) is none)
-  where
-    by : (n : ℕ) → n ≡ 0 → not (n == 0) ≡ false
-    by n none = grind (arith, nat_tests)
+  pub adds-far : IsLegal h k → AreMovesBelow p k near far → AreMovesBelow p (k + 1) near (with_pit far k)
+  adds-far legal before = moves-far p k near far (legal_same p h k own stones legal) before
 
 -- a board of a stretch
 pub record IsOfStretch (n r : ℕ) (head board : List ℕ) : Type 0 where

@@ -9,7 +9,7 @@ ghost use Rattle.awari_block.specs.Cells.{IsWithin};
 ghost use Rattle.awari_block.specs.Steps.{greater_of, pits_after};
 ghost use Rattle.awari_scan.specs.Scan.{IsOutlook, IsRanged, IsScannedCell};
 
-use awari_block::Cell;
+use awari_block::{Cell, Pits};
 use awari_packed::{PackedBoard, PackedMove};
 use awari_table::Shelf;
 
@@ -17,8 +17,8 @@ use awari_table::Shelf;
 /// is legal.
 #[derive(Clone, Copy)]
 pub struct Outlook {
-    pub quiet: u8,
-    pub plans: u8,
+    pub quiet: Pits,
+    pub plans: Pits,
     pub best: Option<i8>,
 }
 
@@ -30,7 +30,7 @@ pub fn see_quiet(seen: &mut Outlook, pit: u8)
         → IsOutlook value p pit seen.old.quiet seen.old.best seen.old.plans
         → IsOutlook value p (pit + 1) seen.new.quiet seen.new.best seen.new.plans }
 {
-    seen.quiet |= 1 << pit;
+    seen.quiet = seen.quiet.with(pit);
 }
 
 /// Puts one capture more into the outlook.
@@ -60,14 +60,14 @@ fn put_capture(seen: &mut Outlook, pit: u8, gain: i8)
         Some(best) => {
             if best < gain {
                 seen.best = Some(gain);
-                seen.plans = 1 << pit;
+                seen.plans = Pits::only(pit);
             } else if best == gain {
-                seen.plans |= 1 << pit;
+                seen.plans = seen.plans.with(pit);
             }
         }
         None => {
             seen.best = Some(gain);
-            seen.plans = 1 << pit;
+            seen.plans = Pits::only(pit);
         }
     }
 }
@@ -96,10 +96,10 @@ pub fn cell_of(board: &PackedBoard, seen: Outlook) -> Cell
     match seen.best {
         Some(best) => Cell::of_captures(seen.quiet, best, seen.plans),
         None => {
-            if seen.quiet > 0 {
-                Cell::of_quiet(seen.quiet)
-            } else {
+            if seen.quiet.is_empty() {
                 Cell::of_end(end_of(board))
+            } else {
+                Cell::of_quiet(seen.quiet)
             }
         }
     }

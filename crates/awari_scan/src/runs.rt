@@ -12,19 +12,19 @@ ghost use Rattle.awari_table.specs.declared.TheConstants.{HIGHEST_LEVEL};
 ghost use Rattle.awari_scan.specs.Scan.{AreMovesBelow, AreScanned, CanScan, IsOutlook, IsRanged, IsScannedCell};
 
 use crate::outlooks::{Outlook, cell_of, see_capture, see_quiet};
-use awari_block::Cell;
+use awari_block::{Cell, Pits};
 use awari_index::Index;
 use awari_packed::PackedBoard;
 use awari_rank::ranks_tell_boards_apart;
 use awari_table::{Shelf, shelves_are_certificates};
 use std::alloc::{AllocError, Global};
 
-/// The legal pits of the boards of a run, a bit for each: those whose sowing ends on the mover's side,
-/// and those whose sowing ends on the opponent's.
+/// The legal pits of the boards of a run: those whose sowing ends on the mover's side, and those whose
+/// sowing ends on the opponent's.
 #[derive(Clone, Copy)]
 struct RunMoves {
-    near: u8,
-    far: u8,
+    near: Pits,
+    far: Pits,
 }
 
 /// The cells of the boards of the shelf's next level from rank `start` up to, not including, rank
@@ -89,11 +89,11 @@ fn scan_run(shelf: &Shelf, index: &Index, start: u32, rank: u32, cells: &mut [Ce
     ranks_tell_boards_apart();
     let place = (rank - start) as usize;
     let stretch = index.stretch(rank, start + cells.len() as u32);
-    let moves = moves_of(&stretch.head);
+    let RunMoves { near, far } = moves_of(&stretch.head);
     for k in 0..stretch.tails.len() {
         let tail = stretch.tails[k];
         let board = stretch.head.joined(&tail);
-        cells[place + k] = scanned(shelf, moves, &board);
+        cells[place + k] = scanned(shelf, near, far, &board);
     }
     rank + stretch.tails.len() as u32
 }
@@ -102,15 +102,18 @@ fn scan_run(shelf: &Shelf, index: &Index, start: u32, rank: u32, cells: &mut [Ce
 fn moves_of(head: &PackedBoard) -> RunMoves
     ensures { (p : List ℕ) → take 6 p ≡ take 6 head.now → sum p ≡ sum head.now → AreMovesBelow p 6 result.near result.far }
 {
-    let mut moves = RunMoves { near: 0, far: 0 };
+    let mut moves = RunMoves {
+        near: Pits::NONE,
+        far: Pits::NONE,
+    };
     for pit in 0..6u8 {
-        moves = with_pit(moves, head, pit);
+        moves = with_move(moves, head, pit);
     }
     moves
 }
 
 /// These moves, and that from one pit more if it is legal.
-fn with_pit(moves: RunMoves, head: &PackedBoard, pit: u8) -> RunMoves
+fn with_move(moves: RunMoves, head: &PackedBoard, pit: u8) -> RunMoves
     requires { pit < 6 }
     ensures { (p : List ℕ) → take 6 p ≡ take 6 head.now → sum p ≡ sum head.now → AreMovesBelow p pit moves.near moves.far
         → AreMovesBelow p (pit + 1) result.near result.far }
@@ -120,12 +123,12 @@ fn with_pit(moves: RunMoves, head: &PackedBoard, pit: u8) -> RunMoves
     }
     if head.last_pit(pit) < 6 {
         return RunMoves {
-            near: moves.near | 1 << pit,
+            near: moves.near.with(pit),
             ..moves
         };
     }
     RunMoves {
-        far: moves.far | 1 << pit,
+        far: moves.far.with(pit),
         ..moves
     }
 }
@@ -135,45 +138,45 @@ fn with_pit(moves: RunMoves, head: &PackedBoard, pit: u8) -> RunMoves
 /// The six pits are written out as plain numbers. So the processor predicts the tests of each pit
 /// apart, and the shifts of its move are constants. This works only if what they call is inlined into
 /// each of them.
-fn scanned(shelf: &Shelf, moves: RunMoves, board: &PackedBoard) -> Cell
+fn scanned(shelf: &Shelf, near: Pits, far: Pits, board: &PackedBoard) -> Cell
     requires board { IsBoard board.now }
     requires stones { sum board.now ≡ length shelf.now }
     requires low { length shelf.now ≤ HIGHEST_LEVEL }
     requires ranged { IsRanged (table_of shelf.now).value (length shelf.now) }
-    requires moves { AreMovesBelow board.now 6 moves.near moves.far }
+    requires moves { AreMovesBelow board.now 6 near far }
     ensures { IsScannedCell (table_of shelf.now).value board.now result }
 {
     let mut seen = Outlook {
-        quiet: 0,
-        plans: 0,
+        quiet: Pits::NONE,
+        plans: Pits::NONE,
         best: None,
     };
-    see_pit(&mut seen, shelf, moves, board, 0);
-    see_pit(&mut seen, shelf, moves, board, 1);
-    see_pit(&mut seen, shelf, moves, board, 2);
-    see_pit(&mut seen, shelf, moves, board, 3);
-    see_pit(&mut seen, shelf, moves, board, 4);
-    see_pit(&mut seen, shelf, moves, board, 5);
+    see_pit(&mut seen, shelf, near, far, board, 0);
+    see_pit(&mut seen, shelf, near, far, board, 1);
+    see_pit(&mut seen, shelf, near, far, board, 2);
+    see_pit(&mut seen, shelf, near, far, board, 3);
+    see_pit(&mut seen, shelf, near, far, board, 4);
+    see_pit(&mut seen, shelf, near, far, board, 5);
     cell_of(board, seen)
 }
 
 /// Adds one pit to the outlook, in place. If the outlook were handed on by value from pit to pit, it
 /// would be written anew each time.
 #[inline(always)]
-fn see_pit(seen: &mut Outlook, shelf: &Shelf, moves: RunMoves, board: &PackedBoard, pit: u8)
+fn see_pit(seen: &mut Outlook, shelf: &Shelf, near: Pits, far: Pits, board: &PackedBoard, pit: u8)
     requires stones { sum board.now ≡ length shelf.now }
     requires low { length shelf.now ≤ HIGHEST_LEVEL }
     requires ranged { IsRanged (table_of shelf.now).value (length shelf.now) }
-    requires moves { AreMovesBelow board.now 6 moves.near moves.far }
+    requires moves { AreMovesBelow board.now 6 near far }
     requires own { pit < 6 }
     requires seen { IsOutlook (table_of shelf.now).value board.now pit seen.old.quiet seen.old.best seen.old.plans }
     ensures { IsOutlook (table_of shelf.now).value board.now (pit + 1) seen.new.quiet seen.new.best seen.new.plans }
 {
-    if moves.near & (1 << pit) != 0 {
+    if near.has(pit) {
         see_quiet(seen, pit);
         return;
     }
-    if moves.far & (1 << pit) == 0 {
+    if !far.has(pit) {
         return;
     }
     let moved = board.play(pit);

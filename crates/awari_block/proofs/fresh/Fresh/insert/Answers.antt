@@ -1,5 +1,5 @@
-use Rattle.std.proofs.Common.{◌≡◌, ◌<◌, ◌/◌, ◌⊎◌, ℕ, true, ap, length, inl, inr, refl, sym, subst, ◌∙◌, arith}
-use Rattle.awari_block.specs.Fresh.{dist_at, is_marked, IsFresh}
+use Rattle.std.proofs.Common.{◌≡◌, ◌<◌, ◌/◌, ◌⊎◌, ℕ, true, ap, length, inl, inr, sym, subst, ◌∙◌, arith}
+use Rattle.awari_block.specs.Fresh.{is_marked, IsFresh}
 use Rattle.awari_block.proofs.FreshLists.{count_more, count_most}
 use Rattle.awari_block.proofs.Marks.{filled_by, filled_facts}
 use Rattle.awari_block.proofs.Noting.{marked_is, marked_was, marks_add, noted_more}
@@ -50,6 +50,6 @@ returns-clause-sound c =
             (λ k marked. fill k (marked_was old new c.args.index k c.mark.ensures marked));
       };
       noted = noted_more c.args.cells.now (λ k. is_marked old k ≡ true) (λ k. is_marked new k ≡ true) c.args.wave c.args.index (marks_add old new c.args.index c.mark.ensures)
-          c.args.self.now.near.items c.note.new.self.near.items c.args.self.now.first c.note.new.self.first c.args.self.now.next c.note.new.self.next (dist_at c.args.cells.now c.args.index) refl
+          c.args.self.now.near.items c.note.new.self.near.items c.args.self.now.first c.note.new.self.first c.args.self.now.next c.note.new.self.next c.index-cells-index.result c.requires.index
           c.note.ensures.near c.note.ensures.far sound.noted;
     })

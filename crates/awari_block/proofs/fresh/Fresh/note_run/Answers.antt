@@ -1,5 +1,5 @@
 use Rattle.std.proofs.Common.{◌≡◌, ◌+◌, ◌*◌, subst, ◌∙◌, refl, arith}
-use Rattle.awari_block.specs.Fresh.{dist_at, AreNoted, IsMarkedBelow}
+use Rattle.awari_block.specs.Fresh.{AreNoted, IsMarkedBelow}
 use Rattle.awari_block.proofs.Marks.{marked_at, none_at}
 use Rattle.awari_block.proofs.Noting.{below_add, below_same, noted_more, same_both}
 use Rattle.awari_block.proofs.fresh.Fresh.note_run.Goals as goal
@@ -8,6 +8,9 @@ pub bounds-cells-index : goal.bounds-cells-index
 bounds-cells-index c =
     c.requires.marked.inside (64 * c.args.run + c.in-Some.i)
     (marked_at c.args.self.now.words.items c.args.run c.in-Some.i c.index-word.result.now c.requires.run c.index-word.ensures c.in-Some.ensures.some.1 c.in-Some.ensures.some.2)
+
+pub bounds-cells-index-in-Some : goal.bounds-cells-index-in-Some
+bounds-cells-index-in-Some = bounds-cells-index
 
 pub loop-i-preserved : goal.loop-i-preserved
 loop-i-preserved c =
@@ -25,7 +28,7 @@ loop-i-preserved c =
       noted = λ before.
           subst (λ n. AreNoted c.args.cells.now (IsMarkedBelow words n) c.args.wave c.note.new.self.near.items c.note.new.self.first c.note.new.self.next) next
           (noted_more c.args.cells.now _ _ c.args.wave (64 * c.args.run + c.in-Some.i) adds c.loop-i.self.near.items c.note.new.self.near.items c.loop-i.self.first c.note.new.self.first c.loop-i.self.next c.note.new.self.next
-          (dist_at c.args.cells.now (64 * c.args.run + c.in-Some.i)) refl c.note.ensures.near c.note.ensures.far (c.loop-i.invariant.noted before));
+          c.index-cells-index.result (c.requires.marked.inside (64 * c.args.run + c.in-Some.i) marked) c.note.ensures.near c.note.ensures.far (c.loop-i.invariant.noted before));
     }
 
 pub returns-clause-noted : goal.returns-clause-noted

@@ -1,8 +1,7 @@
 use Rattle.std.proofs.Common.{sym, ◌∙◌, rules}
 use Rattle.std.proofs.lemmas.Bool.{false≢true}
-use Rattle.awari_block.proofs.PitSets.{small_bit}
 use Rattle.awari_scan.proofs.RunMoves.{adds-none, adds-near, adds-far}
-use Rattle.awari_scan.proofs.runs.with_pit.Goals as goal
+use Rattle.awari_scan.proofs.runs.with_move.Goals as goal
 
 pub returns-then-not-legal : goal.returns-then-not-legal
 returns-then-not-legal c = λ p own stones before.
@@ -10,8 +9,8 @@ returns-then-not-legal c = λ p own stones before.
 
 pub returns-then-last_pit-lt6 : goal.returns-then-last_pit-lt6
 returns-then-last_pit-lt6 c = λ p own stones before.
-    adds-near p c.args.head.now c.args.pit c.args.moves.near c.args.moves.far own stones _ c.last_pit.result (search rules) c.last_pit.ensures c.if-last_pit-lt6.true (small_bit c.args.pit c.requires) before
+    rw c.with.ensures (adds-near p c.args.head.now c.args.pit c.args.moves.near c.args.moves.far own stones c.last_pit.result (search rules) c.last_pit.ensures c.if-last_pit-lt6.true before)
 
 pub returns : goal.returns
 returns c = λ p own stones before.
-    adds-far p c.args.head.now c.args.pit c.args.moves.near c.args.moves.far own stones _ (search rules) (small_bit c.args.pit c.requires) before
+    rw c.with-2.ensures (adds-far p c.args.head.now c.args.pit c.args.moves.near c.args.moves.far own stones (search rules) before)
