@@ -1,5 +1,5 @@
 -- What putting a cell into a block keeps.
-use Rattle.std.proofs.Common.{◌≡◌, ◌≢◌, ℕ, ◌+◌, ◌-◌, ◌<◌, ◌≤◌, ◌==◌, inl, inr, Bool, true, false, not, ◌&&◌, if◌then◌else◌, nat_le, List, [], ◌∷◌, length, get_or, set, All, cond, refl, sym, ap, subst, subst₂, ◌∙◌, arith, get_or-set_same, get_or-set_other}
+use Rattle.std.proofs.Common.{◌≡◌, ◌≢◌, ℕ, ◌+◌, ◌-◌, ◌<◌, ◌≤◌, ◌==◌, inl, inr, Bool, true, false, not, ◌&&◌, if◌then◌else◌, nat_le, List, [], ◌∷◌, length, get_or, set, All, cond, refl, sym, ap, subst, subst₂, ◌∙◌, arith, get_or-set_same, get_or-set_other, length-set}
 use Rattle.std.proofs.lemmas.Bool.Decides.{nat_tests}
 use Rattle.std.proofs.lemmas.Bool.{cases_eq, cases_lt, false≢true}
 use Rattle.awari_block.specs.declared.cells.Mark.{Mark}
@@ -12,18 +12,12 @@ use Rattle.std.specs.List.Sorted.{IsPermutation}
 use Rattle.awari_block.specs.declared.cells.Cell.{Cell}
 use Rattle.awari_block.specs.Cells.{is_settled, Fits, IsEither, IsAtStake, Keeps}
 use Rattle.awari_block.specs.declared.stakes.Stake.{Stake}
-use Rattle.awari_block.specs.Blocks.{Due, due_rank, due_dist, no_cell, cell_in, is_settled_in, times_due, unsettled, IsDueAs, IsBlock, JoinNewlySettled}
+use Rattle.awari_block.specs.Boards.{Joins, JoinsIf}
+use Rattle.awari_block.specs.FreshSets.{KeepFresh}
+use Rattle.awari_block.specs.Blocks.{Due, due_rank, no_cell, cell_in, is_settled_in, times_due, unsettled, IsDueAs, IsBlock, JoinNewlySettled}
 
 abbrev pub one_if : Bool → ℕ
 one_if b = cond b 1 0
-
--- where the board of a cell that is put is newly settled it joins the fresh, and else nothing changes
-abbrev pub JoinsIf : Bool → Cell → ℕ → List Due → List Due → Type 0
-JoinsIf true new rank fresh after = (f : Due) × (due_rank f ≡ rank) × (due_dist f ≡ new.dist) × IsPermutation (f ∷ fresh) after
-JoinsIf false new rank fresh after = after ≡ fresh
-
-abbrev pub Joins : Cell → Cell → ℕ → List Due → List Due → Type 0
-Joins old new rank fresh after = JoinsIf (is_settled new.mark && not (is_settled old.mark)) new rank fresh after
 
 -- the cell at another rank stays, and the one at the rank is the new one
 pub cell_in-same : (start : ℕ) (cells : List Cell) (rank : ℕ) (c : Cell) → rank - start < length cells → cell_in start (set cells (rank - start) c) rank ≡ c
@@ -60,7 +54,7 @@ pub is_settled_in-same : (start : ℕ) (cells : List Cell) (rank : ℕ) (c : Cel
     → is_settled_in start (set cells (rank - start) c) rank ≡ is_settled c.mark
 is_settled_in-same start cells rank c low high = settled_from start rank _ low ∙ ap (λ (d : Cell). is_settled d.mark) (cell_in-same start cells rank c high)
 
-is_settled_in-here : (start : ℕ) (cells : List Cell) (rank : ℕ) → start ≤ rank → is_settled_in start cells rank ≡ is_settled (cell_in start cells rank).mark
+pub is_settled_in-here : (start : ℕ) (cells : List Cell) (rank : ℕ) → start ≤ rank → is_settled_in start cells rank ≡ is_settled (cell_in start cells rank).mark
 is_settled_in-here start cells rank low = settled_from start rank _ low
 
 -- the number of times that a rank is due, with one more
@@ -154,27 +148,25 @@ module _ (stake : Stake) (start : ℕ) (cells : List Cell) (fresh : List Due) (r
   }
 
   -- a newly settled cell, whose board joins the fresh
-  pub put_joined : (f : Due) (after : List Due) → Fits stake c → IsAtStake stake c → Keeps (cell_in start cells rank) c → is_settled c.mark ≡ true → is_settled (cell_in start cells rank).mark ≡ false
-      → due_rank f ≡ rank → due_dist f ≡ c.dist → IsPermutation (f ∷ fresh) after
-      → IsBlock stake start (set cells (rank - start) c) after
-  put_joined f after fits timely keeps new old at dist moved = record {
+  pub put_joined : (after : List Due) → Fits stake c → IsAtStake stake c → Keeps (cell_in start cells rank) c → is_settled c.mark ≡ true → is_settled (cell_in start cells rank).mark ≡ false
+      → IsPermutation ((c.dist, rank) ∷ fresh) after → IsBlock stake start (set cells (rank - start) c) after
+  put_joined after fits timely keeps new old moved = record {
     fit = All-set (Fits stake) cells (rank - start) c fits sound.fit;
     settled = λ r. elim (cases_eq r rank) [
       | inl here ↦
           let none = subst (λ z. times_due fresh rank ≤ (if z then 1 else 0)) (is_settled_in-here start cells rank low ∙ old) (sound.settled rank) in
-          let count = times_due-permuted (f ∷ fresh) after rank moved ∙ times_due-cons f fresh rank in
-          let one : one_if (due_rank f == rank) ≡ 1 = subst (λ z. one_if (z == rank) ≡ 1) (sym at) (ap one_if (eqb_self rank)) in
+          let count = times_due-permuted ((c.dist, rank) ∷ fresh) after rank moved ∙ times_due-cons (c.dist, rank) fresh rank in
+          let one : one_if (rank == rank) ≡ 1 = ap one_if (eqb_self rank) in
           subst (λ z. times_due after z ≤ (if is_settled_in start (set cells (rank - start) c) z then 1 else 0)) (sym here)
           (subst (λ z. times_due after rank ≤ (if z then 1 else 0)) (sym (is_settled_in-same start cells rank c low high ∙ new)) (omega (arith, none, count, one)))
       | inr other ↦
-          let count = times_due-permuted (f ∷ fresh) after r moved ∙ times_due-cons f fresh r in
-          let none : one_if (due_rank f == r) ≡ 0 = subst (λ z. one_if (z == r) ≡ 0) (sym at) (ap one_if (eqb_apart rank r (λ e. other (sym e)))) in
+          let count = times_due-permuted ((c.dist, rank) ∷ fresh) after r moved ∙ times_due-cons (c.dist, rank) fresh r in
+          let none : one_if (rank == r) ≡ 0 = ap one_if (eqb_apart rank r (λ e. other (sym e))) in
           subst (λ z. times_due after r ≤ (if z then 1 else 0)) (sym (is_settled_in-other start cells rank r c low other)) (omega (arith, count, none, sound.settled r))
     ];
-    due = All-permutation (λ (g : Due). IsDueAs stake g (cell_in start (set cells (rank - start) c) (due_rank g))) (f ∷ fresh) after moved
-        (All-cons (λ (g : Due). IsDueAs stake g (cell_in start (set cells (rank - start) c) (due_rank g))) f fresh
-        (subst (λ r. IsDueAs stake f (cell_in start (set cells (rank - start) c) r)) (sym at)
-        (subst (IsDueAs stake f) (sym (cell_in-same start cells rank c high)) (record { near = sym dist; timely = timely.1; valued = timely.0 })))
+    due = All-permutation (λ (g : Due). IsDueAs stake g (cell_in start (set cells (rank - start) c) (due_rank g))) ((c.dist, rank) ∷ fresh) after moved
+        (All-cons (λ (g : Due). IsDueAs stake g (cell_in start (set cells (rank - start) c) (due_rank g))) (c.dist, rank) fresh
+        (subst (IsDueAs stake (c.dist, rank)) (sym (cell_in-same start cells rank c high)) (record { near = refl; timely = timely.1; valued = timely.0 }))
         (due_still keeps));
   }
 
@@ -211,18 +203,18 @@ module _ (stake : Stake) (start : ℕ) (cells : List Cell) (fresh : List Due) (r
       by false false ea eb j = same_marks (subst₂ (λ x y. JoinsIf (x && not y) c rank fresh after) ea eb j) (ea ∙ sym eb)
       by true false ea eb j =
           let joined = subst₂ (λ x y. JoinsIf (x && not y) c rank fresh after) ea eb j in
-          at joined.0 joined.1 (times_due-permuted (joined.0 ∷ fresh) after r joined.3 ∙ times_due-cons joined.0 fresh r)
+          at (times_due-permuted ((c.dist, rank) ∷ fresh) after r joined ∙ times_due-cons (c.dist, rank) fresh r)
         where
-          at : (f : Due) → due_rank f ≡ rank → times_due after r ≡ one_if (due_rank f == r) + times_due fresh r
+          at : times_due after r ≡ one_if (rank == r) + times_due fresh r
               → times_due after r + one_if (is_settled_in start cells r) ≡ times_due fresh r + one_if (is_settled_in start (set cells (rank - start) c) r)
-          at f e count = elim (cases_eq r rank) [
+          at count = elim (cases_eq r rank) [
             | inl same ↦
-                let one : one_if (due_rank f == r) ≡ 1 = subst₂ (λ x y. one_if (x == y) ≡ 1) (sym e) (sym same) (ap one_if (eqb_self rank)) in
+                let one : one_if (rank == r) ≡ 1 = subst (λ y. one_if (rank == y) ≡ 1) (sym same) (ap one_if (eqb_self rank)) in
                 let was : one_if (is_settled_in start cells r) ≡ 0 = subst (λ z. one_if (is_settled_in start cells z) ≡ 0) (sym same) (ap one_if (is_settled_in-here start cells rank low ∙ eb)) in
                 let is : one_if (is_settled_in start (set cells (rank - start) c) r) ≡ 1 = subst (λ z. one_if (is_settled_in start (set cells (rank - start) c) z) ≡ 1) (sym same) (ap one_if (here ∙ ea)) in
                 omega (arith, one, was, is, count)
             | inr other ↦
-                let none : one_if (due_rank f == r) ≡ 0 = subst (λ x. one_if (x == r) ≡ 0) (sym e) (ap one_if (eqb_apart rank r (λ same. other (sym same)))) in
+                let none : one_if (rank == r) ≡ 0 = ap one_if (eqb_apart rank r (λ same. other (sym same))) in
                 let same = ap one_if (there other) in
                 omega (arith, none, same, count)
           ]
@@ -288,3 +280,14 @@ put_stays start cells rank c low high keeps r low' = elim (cases_eq r rank) [
       (subst (λ (d : Cell). Keeps (cell_in start cells rank) d) (sym (cell_in-same start cells rank c high)) keeps)
   | inr other ↦ keeps_same (cell_in start cells r) (cell_in start (set cells (rank - start) c) r) (cell_in-other start cells rank r c low low' other)
 ]
+
+-- and what the cells say of the fresh boards
+pub put_keeps : (stake : Stake) (start : ℕ) (cells : List Cell) (fresh : List Due) (rank : ℕ) (c : Cell) → start ≤ rank → rank - start < length cells → IsBlock stake start cells fresh
+    → Keeps (cell_in start cells rank) c → KeepFresh start cells (set cells (rank - start) c) fresh
+put_keeps stake start cells fresh rank c low high sound keeps = record {
+  size = length-set cells (rank - start) c;
+  same = λ k d h.
+      let inside = settled_inside start cells (due_rank (get_or fresh k d)) (All-from_recursion _ fresh (due_settled (is_settled_in start cells) fresh sound.settled) k d h) in
+      let kept = put_stays start cells rank c low high keeps (due_rank (get_or fresh k d)) inside.0 inside.2 in
+      (kept.1, kept.2);
+}

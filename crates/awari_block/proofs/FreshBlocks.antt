@@ -1,8 +1,8 @@
 -- The fresh boards of a block whose cells are put.
-use Rattle.std.proofs.Common.{◌≡◌, ◌≢◌, ℕ, ◌+◌, ◌-◌, ◌<◌, ◌≤◌, ◌==◌, ◌⊎◌, ◌&&◌, not, eqb-true, IsTrue, Option, Some, None, ℤ, ◌↔◌, inl, inr, Bool, true, false, List, [], ◌∷◌, map, filter, length, get_or, set, All, refl, sym, ap, subst, ◌∙◌, arith, get_or-set_same, get_or-set_other, length-set}
+use Rattle.std.proofs.Common.{◌≡◌, ◌≢◌, ℕ, ◌+◌, ◌-◌, ◌<◌, ◌≤◌, ◌==◌, ◌⊎◌, ◌&&◌, not, eqb-true, IsTrue, Option, Some, None, ℤ, ◌↔◌, inl, inr, Bool, true, false, List, [], ◌∷◌, map, filter, length, set, All, refl, sym, ap, subst, ◌∙◌, arith, get_or-set_same, get_or-set_other, length-set}
 use Rattle.std.specs.List.{range_with_len}
 use Rattle.std.specs.List.Sorted.{IsPermutation}
-use Rattle.std.proofs.lemmas.Bool.{cases_eq, cases_lt, false≢true}
+use Rattle.std.proofs.lemmas.Bool.{cases_lt}
 use Rattle.std.proofs.lemmas.Bool.Decides.{nat_tests}
 use Rattle.std.proofs.lemmas.List.{length-map}
 use Rattle.std.specs.List.{Any}
@@ -12,18 +12,18 @@ use Rattle.std.specs.Prelude.{IfSome}
 use Rattle.awari_block.specs.Boards.{IsNextOfWave}
 use Rattle.awari_block.specs.Part.{Part, InBlock, IsLeastDue, part_of, settled_at}
 use Rattle.awari_block.specs.declared.cells.Cell.{Cell}
-use Rattle.awari_block.specs.declared.fresh.Fresh.{Fresh}
+use Rattle.awari_block.specs.declared.fresh.InOrder.{InOrder}
 use Rattle.awari_block.specs.declared.stakes.Stake.{Stake}
-use Rattle.awari_block.specs.Cells.{is_settled, Keeps}
-use Rattle.awari_block.specs.Blocks.{Due, cell_in, due_dist, due_rank, no_cell, IsBlock, IsDueAs}
+use Rattle.awari_block.specs.FreshSets.{CanOpenAt, KeepFresh}
+use Rattle.awari_block.specs.Blocks.{Due, cell_in, due_dist, due_rank, no_cell, times_due, IsBlock, IsDueAs}
 use Rattle.awari_block.specs.Fresh.{dist_at, due_of, fresh_of, is_marked, marked_of, nearest_of, AreMarked, IsFirst, IsFirstFrom, IsFresh, IsNext, MarksOne, UnmarksOne}
-use Rattle.awari_block.proofs.BlockLemmas.{first_due}
+use Rattle.awari_block.proofs.BlockLemmas.{eqb_self, first_due, one_if, times_due-cons, times_due-permuted}
 use Rattle.awari_block.proofs.Freshness.{settled_cell}
 use Rattle.awari_block.proofs.Noting.{noted_idle, noted_still}
 use Rattle.awari_block.proofs.FreshLists.{all_due, filter_joins, filter_none, fresh_joins, fresh_leaves, fresh_same}
 
 -- where the marked boards keep their distances all stays right
-pub still_fresh : (wave : ℕ) (cells after : List Cell) (fresh : Fresh) → length after ≡ length cells → ((k : ℕ) → is_marked fresh.words.items k ≡ true → dist_at after k ≡ dist_at cells k)
+pub still_fresh : (wave : ℕ) (cells after : List Cell) (fresh : InOrder) → length after ≡ length cells → ((k : ℕ) → is_marked fresh.words.items k ≡ true → dist_at after k ≡ dist_at cells k)
     → IsFresh wave cells fresh → IsFresh wave after fresh
 still_fresh wave cells after fresh size same sound = record {
   marked = record {
@@ -66,53 +66,48 @@ fresh_among start cells words b marked inside = (
         apart : (x y : ℕ) → x ≢ y → (x == y) ≡ false
         apart x y h = grind (arith, nat_tests)
 
-module _ (stake : Stake) (start : ℕ) (cells : List Cell) (fresh : Fresh) (sound : IsBlock stake start cells (fresh_of start cells fresh)) (marks : IsFresh stake.wave cells fresh) where
-  -- a marked board is settled
-  pub marked_settled : (k : ℕ) → is_marked fresh.words.items k ≡ true → is_settled (get_or cells k no_cell).mark ≡ true
-  marked_settled k marked =
+-- a board that is not among the fresh ones is not marked
+pub not_marked : (start : ℕ) (cells : List Cell) (words : List ℕ) (index : ℕ) → index < length cells → times_due (due_of start cells words) (start + index) ≡ 0 → is_marked words index ≡ false
+not_marked start cells words index inside none = by (is_marked words index) refl
+  where
+    by : (b : Bool) → is_marked words index ≡ b → is_marked words index ≡ false
+    by false e = e
+    by true e =
+        let among = fresh_among start cells words index e inside in
+        let count = times_due-permuted ((dist_at cells index, start + index) ∷ among.0) (due_of start cells words) (start + index) among.1 in
+        let cons = times_due-cons (dist_at cells index, start + index) among.0 (start + index) in
+        let one = ap one_if (eqb_self (start + index)) in
+        absurd (omega (arith, none, count, cons, one))
+
+-- it joins them as it gets a cell
+module _ (start : ℕ) (cells : List Cell) (fresh : InOrder) (index : ℕ) (cell : Cell) (inside : index < length cells) (none : times_due (fresh_of start cells fresh) (start + index) ≡ 0) where
+  others : (k : ℕ) → k ≢ index → dist_at (set cells index cell) k ≡ dist_at cells k
+  others k other = ap (λ (d : Cell). d.dist) (get_or-set_other cells index k cell no_cell other)
+
+  pub put_permuted : (new : List ℕ) → MarksOne index fresh.words.items new → IsPermutation ((cell.dist, start + index) ∷ fresh_of start cells fresh) (due_of start (set cells index cell) new)
+  put_permuted new one =
+      subst (λ d. IsPermutation ((d, start + index) ∷ fresh_of start cells fresh) (due_of start (set cells index cell) new)) (ap (λ (e : Cell). e.dist) (get_or-set_same cells index cell no_cell inside))
+      (fresh_joins start cells (set cells index cell) fresh.words.items new index (length-set cells index cell) inside others (not_marked start cells fresh.words.items index inside none) one)
+
+-- where other cells say the same of the fresh boards
+module _ (wave start : ℕ) (cells after : List Cell) (fresh : InOrder) (keep : KeepFresh start cells after (fresh_of start cells fresh)) (marks : IsFresh wave cells fresh) where
+  same_dist : (k : ℕ) → is_marked fresh.words.items k ≡ true → dist_at after k ≡ dist_at cells k
+  same_dist k marked =
       let among = fresh_among start cells fresh.words.items k marked (marks.marked.inside k marked) in
-      let settled = (first_due stake start cells (fresh_of start cells fresh) among.0 (dist_at cells k, start + k) sound among.1).4 in
-      let at : start + k - start ≡ k = omega arith in
-      subst (λ n. is_settled (get_or cells n no_cell).mark ≡ true) at settled
+      let all = All-permutation (λ (f : Due). ((cell_in start after (due_rank f)).score ≡ (cell_in start cells (due_rank f)).score) × ((cell_in start after (due_rank f)).dist ≡ (cell_in start cells (due_rank f)).dist))
+      (fresh_of start cells fresh) ((dist_at cells k, start + k) ∷ among.0) (IsPermutation-sym _ _ among.1) keep.same in
+      subst (λ n. dist_at after n ≡ dist_at cells n) (let at : start + k - start ≡ k = omega arith in at) (all 0 (0, 0) (omega arith)).1
 
-  module _ (rank : ℕ) (c : Cell) (low : start ≤ rank) (high : rank - start < length cells) (keeps : Keeps (cell_in start cells rank) c) where
-    -- a marked board keeps its distance
-    same_dist : (k : ℕ) → is_marked fresh.words.items k ≡ true → dist_at (set cells (rank - start) c) k ≡ dist_at cells k
-    same_dist k marked = elim (cases_eq k (rank - start)) [
-      | inl same ↦
-          let was : is_settled (cell_in start cells rank).mark ≡ true = subst (λ n. is_settled (get_or cells n no_cell).mark ≡ true) same (marked_settled k marked) in
-          ap (dist_at (set cells (rank - start) c)) same ∙ ap (λ (d : Cell). d.dist) (get_or-set_same cells (rank - start) c no_cell high) ∙ (keeps was).2 ∙ ap (dist_at cells) (sym same)
-      | inr other ↦ ap (λ (d : Cell). d.dist) (get_or-set_other cells (rank - start) k c no_cell other)
-    ]
+  pub fresh_stays : IsFresh wave after fresh
+  fresh_stays = still_fresh wave cells after fresh keep.size same_dist marks
 
-    pub put_marks : IsFresh stake.wave (set cells (rank - start) c) fresh
-    put_marks = still_fresh stake.wave cells (set cells (rank - start) c) fresh (length-set cells (rank - start) c) same_dist marks
-
-    pub put_same : fresh_of start (set cells (rank - start) c) fresh ≡ fresh_of start cells fresh
-    put_same = fresh_same start cells (set cells (rank - start) c) fresh.words.items (length-set cells (rank - start) c) same_dist
-
-    module _ (open_mark : is_settled (cell_in start cells rank).mark ≡ false) where
-      -- a board that is not settled is not marked
-      pub put_unmarked : is_marked fresh.words.items (rank - start) ≡ false
-      put_unmarked = by (is_marked fresh.words.items (rank - start)) refl
-        where
-          by : (b : Bool) → is_marked fresh.words.items (rank - start) ≡ b → is_marked fresh.words.items (rank - start) ≡ false
-          by false e = e
-          by true e = absurd (false≢true (sym open_mark ∙ marked_settled (rank - start) e))
-
-      -- it joins them
-      pub put_permuted : (new : List ℕ) → MarksOne (rank - start) fresh.words.items new
-          → IsPermutation ((c.dist, start + (rank - start)) ∷ fresh_of start cells fresh) (due_of start (set cells (rank - start) c) new)
-      put_permuted new one =
-          subst (λ d. IsPermutation ((d, start + (rank - start)) ∷ fresh_of start cells fresh) (due_of start (set cells (rank - start) c) new))
-          (ap (λ (e : Cell). e.dist) (get_or-set_same cells (rank - start) c no_cell high))
-          (fresh_joins start cells (set cells (rank - start) c) fresh.words.items new (rank - start) (length-set cells (rank - start) c) high
-          (λ k other. ap (λ (e : Cell). e.dist) (get_or-set_other cells (rank - start) k c no_cell other)) put_unmarked one)
+  pub fresh_keeps : fresh_of start after fresh ≡ fresh_of start cells fresh
+  fresh_keeps = fresh_same start cells after fresh.words.items keep.size same_dist
 
 -- ---- the first
 
 -- how many are fresh
-pub fresh_count : (start : ℕ) (cells : List Cell) (fresh : Fresh) → AreMarked cells fresh → length (fresh_of start cells fresh) ≡ fresh.count
+pub fresh_count : (start : ℕ) (cells : List Cell) (fresh : InOrder) → AreMarked cells fresh → length (fresh_of start cells fresh) ≡ fresh.count
 fresh_count start cells fresh marked = length-map (marked_of cells fresh.words.items) (λ k. (dist_at cells k, start + k)) ∙ sym marked.count
 
 no_items : (xs : List Due) → length xs ≡ 0 → xs ≡ []
@@ -150,7 +145,7 @@ pub record IsDueNow (part : Part) (o : Option ℕ) : Type 0 where
   pub timely : IfSome o (λ dist. part.wave ≤ dist)
   pub settled : IfSome o (λ dist. (rank : ℕ) × (v : ℤ) × InBlock part rank × (settled_at part rank ≡ Some (v, dist)))
 
-module _ (stake : Stake) (start : ℕ) (cells : List Cell) (fresh : Fresh) (sound : IsBlock stake start cells (fresh_of start cells fresh)) (marks : IsFresh stake.wave cells fresh) where
+module _ (stake : Stake) (start : ℕ) (cells : List Cell) (fresh : InOrder) (sound : IsBlock stake start cells (fresh_of start cells fresh)) (marks : IsFresh stake.wave cells fresh) where
   abbrev seen : Part
   seen = part_of stake start cells (fresh_of start cells fresh)
 
@@ -222,30 +217,6 @@ module _ (stake : Stake) (start : ℕ) (cells : List Cell) (fresh : Fresh) (soun
           (first.0, first.1),
         )
 
-  -- where all are farther than the open wave, none is of it
-  pub near_none : (dist : ℕ) → stake.wave < dist → All (λ (f : Due). dist ≤ due_dist f) (fresh_of start cells fresh) → (k : ℕ) → is_marked fresh.near.items k ≡ true → ⊥
-  near_none dist farther all k near =
-      let both = (marks.noted.here k).0 near in
-      let among = fresh_among start cells fresh.words.items k both.0 (marks.marked.inside k both.0) in
-      let far = All-permutation (λ (f : Due). dist ≤ due_dist f) (fresh_of start cells fresh) ((dist_at cells k, start + k) ∷ among.0) (IsPermutation-sym _ _ among.1) all in
-      let here : dist ≤ dist_at cells k = far 0 (dist_at cells k, start + k) (omega arith) in
-      let at = both.1 in
-      omega (arith, farther, here, at)
-
-  -- where there is none, any distance may be the open one
-  pub fresh_idle : (wave : ℕ) → fresh_of start cells fresh ≡ [] → IsFresh wave cells fresh
-  fresh_idle wave none = record {
-    marked = marks.marked;
-    noted = noted_idle cells (λ k. is_marked fresh.words.items k ≡ true) stake.wave wave fresh.near.items fresh.first fresh.next clear marks.noted;
-  }
-    where
-      clear : (k : ℕ) → is_marked fresh.words.items k ≡ true → ⊥
-      clear k marked =
-          let among = fresh_among start cells fresh.words.items k marked (marks.marked.inside k marked) in
-          let same = length_permutation _ _ among.1 in
-          let zero = ap length none in
-          omega (arith, same, zero)
-
   -- the first board is taken
   module _ (b : ℕ) (is : fresh.first ≡ Some b) where
     first_is : IsFirst fresh.near.items (Some b)
@@ -262,7 +233,35 @@ module _ (stake : Stake) (start : ℕ) (cells : List Cell) (fresh : Fresh) (soun
         all_due start cells fresh.words.items (λ (f : Due). (stake.wave ≤ due_dist f) × (due_dist f ≡ stake.wave → start + b ≤ due_rank f))
         (λ k marked. (far_at k marked, λ near. (let low = first_is.1 k ((marks.noted.here k).1 (marked, near)) in omega (arith, low))))
 
-    pub taken_moved : (after : Fresh) → UnmarksOne b fresh.words.items after.words.items → IsPermutation ((stake.wave, start + b) ∷ fresh_of start cells after) (fresh_of start cells fresh)
+    pub taken_moved : (after : InOrder) → UnmarksOne b fresh.words.items after.words.items → IsPermutation ((stake.wave, start + b) ∷ fresh_of start cells after) (fresh_of start cells fresh)
     taken_moved after one =
         subst (λ e. IsPermutation ((e, start + b) ∷ fresh_of start cells after) (fresh_of start cells fresh)) first_at.1
         (fresh_leaves start cells fresh.words.items after.words.items b first_inside first_at.0 one)
+
+-- ---- another wave is opened
+
+-- where all are farther than the open wave, none is of it
+pub near_none : (from wave start : ℕ) (cells : List Cell) (fresh : InOrder) → CanOpenAt fresh_of (λ w s cs f. IsFresh w cs f) from wave start cells fresh → (k : ℕ) → is_marked fresh.near.items k ≡ true → ⊥
+near_none from wave start cells fresh can k near =
+    let marks = can.right in
+    let both = (marks.noted.here k).0 near in
+    let among = fresh_among start cells fresh.words.items k both.0 (marks.marked.inside k both.0) in
+    let far = All-permutation (λ (f : Due). wave ≤ due_dist f) (fresh_of start cells fresh) ((dist_at cells k, start + k) ∷ among.0) (IsPermutation-sym _ _ among.1) can.nearest in
+    let here : wave ≤ dist_at cells k = far 0 (dist_at cells k, start + k) (omega arith) in
+    let at = both.1 in
+    let farther = can.farther in
+    omega (arith, farther, here, at)
+
+-- where there is none, any distance may be the open one
+pub fresh_idle : (from wave start : ℕ) (cells : List Cell) (fresh : InOrder) → fresh_of start cells fresh ≡ [] → IsFresh from cells fresh → IsFresh wave cells fresh
+fresh_idle from wave start cells fresh none marks = record {
+  marked = marks.marked;
+  noted = noted_idle cells (λ k. is_marked fresh.words.items k ≡ true) from wave fresh.near.items fresh.first fresh.next clear marks.noted;
+}
+  where
+    clear : (k : ℕ) → is_marked fresh.words.items k ≡ true → ⊥
+    clear k marked =
+        let among = fresh_among start cells fresh.words.items k marked (marks.marked.inside k marked) in
+        let same = length_permutation _ _ among.1 in
+        let zero = ap length none in
+        omega (arith, same, zero)

@@ -1,5 +1,5 @@
 -- What the fresh boards of a part are.
-use Rattle.std.proofs.Common.{◌≡◌, ℕ, ◌≤◌, Bool, true, false, if◌then◌else◌, List, ℤ, Some, ap, arith}
+use Rattle.std.proofs.Common.{◌≡◌, ℕ, ◌≤◌, Bool, true, false, if◌then◌else◌, List, All, ℤ, Some, ap, arith}
 use Rattle.std.proofs.lemmas.Bool.{false≢true}
 use Rattle.std.proofs.lemmas.List.Elements.{All-from_recursion, recursion_from_All}
 use Rattle.awari_block.specs.Cells.{is_settled, status_by, status_of}
@@ -41,3 +41,11 @@ fresh_of_block stake start cells fresh sound = record {
     at_most : (b : Bool) (n : ℕ) → n ≤ (if b then 1 else 0) → n ≤ 1
     at_most true n h = h
     at_most false n h = omega (arith, h)
+
+-- a wave may be opened that none of them comes before
+pub later_block : (stake : Stake) (start : ℕ) (cells : List Cell) (fresh : List Due) (wave : ℕ) → All (λ f. wave ≤ due_dist f) fresh → IsBlock stake start cells fresh → IsBlock (record stake { wave = wave }) start cells fresh
+later_block stake start cells fresh wave far sound = record {
+  fit = sound.fit;
+  settled = sound.settled;
+  due = λ k d h. let due = sound.due k d h in let near = due.near in let least = far k d h in record { near = near; timely = omega (arith, near, least); valued = due.valued };
+}

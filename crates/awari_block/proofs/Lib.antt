@@ -15,3 +15,4 @@ pub mod ListParts
 pub mod Legality
 pub mod PitSets
 pub mod Knowing
+pub mod Giving

@@ -1,5 +1,5 @@
 -- Lists of notes: which are in them, and what is heard at a pit.
-use Rattle.std.proofs.Common.{◌≡◌, ℕ, ◌⊎◌, inl, inr, Bool, true, false, cond, ◌==◌, ◌||◌, List, [], ◌∷◌, ◌++◌, All, refl, sym, ap, subst, ◌∙◌, eqb-true, arith, ◌≢◌, ◌+◌, ◌≤◌, if◌then◌else◌, max, count_by, ◌-◌}
+use Rattle.std.proofs.Common.{◌≡◌, ℕ, ◌⊎◌, inl, inr, Bool, true, false, cond, ◌==◌, ◌||◌, List, [], ◌∷◌, ◌++◌, All, refl, sym, ap, subst, ◌∙◌, eqb-true, arith, ◌≤◌, if◌then◌else◌, max, count_by}
 use Rattle.std.proofs.lemmas.List.Elements.{All-cons, All-nil, All-tail}
 use Rattle.awari_block.specs.Notes.{Has, is_heard_at, is_won, is_won_at, far_of}
 use Rattle.awari_block.specs.Part.{notes_for}

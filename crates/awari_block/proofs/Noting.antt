@@ -1,10 +1,8 @@
 -- What is kept of the boards of the open wave, and of the others, as boards come and go.
-use Rattle.std.proofs.Common.{◌≡◌, ◌≢◌, ℕ, ◌+◌, ◌<◌, ◌≤◌, ◌⊎◌, inl, inr, min, true, List, get_or, length, Option, Some, None, sym, ap, subst, subst₂, ◌∙◌, arith}
+use Rattle.std.proofs.Common.{◌≡◌, ◌≢◌, ℕ, ◌+◌, ◌<◌, ◌≤◌, ◌⊎◌, inl, inr, min, true, List, length, Option, Some, None, sym, ap, subst, subst₂, ◌∙◌, arith}
 use Rattle.std.proofs.lemmas.Bool.{cases_eq, cases_lt, false≢true}
-use Rattle.std.proofs.lemmas.List.{get_or_default}
 use Rattle.awari_block.specs.declared.cells.Cell.{Cell}
-use Rattle.awari_block.specs.declared.fresh.Fresh.{Fresh}
-use Rattle.awari_block.specs.Blocks.{no_cell}
+use Rattle.awari_block.specs.declared.fresh.InOrder.{InOrder}
 use Rattle.awari_block.specs.Fresh.{dist_at, is_marked, lesser, AreMarked, AreNoted, IsMarkedBelow, IsFirst, IsNext, IsFirstFrom, MarksOne, UnmarksOne}
 
 -- one more index that is marked
@@ -33,11 +31,11 @@ first_of_all words from None low none = λ k marked. none k (low k marked) marke
 first_of_all words from (Some b) low (behind, is, least) = (is, λ k marked. least k (low k marked) marked)
 
 -- one note after others
-pub same_both : (a b c : Fresh) → b ≡ record a { near = b.near; near_count = b.near_count; first = b.first; next = b.next } → c ≡ record b { near = c.near; near_count = c.near_count; first = c.first; next = c.next }
+pub same_both : (a b c : InOrder) → b ≡ record a { near = b.near; near_count = b.near_count; first = b.first; next = b.next } → c ≡ record b { near = c.near; near_count = c.near_count; first = c.first; next = c.next }
     → c ≡ record a { near = c.near; near_count = c.near_count; first = c.first; next = c.next }
-same_both a b c one two = two ∙ ap (λ (f : Fresh). record f { near = c.near; near_count = c.near_count; first = c.first; next = c.next }) one
+same_both a b c one two = two ∙ ap (λ (f : InOrder). record f { near = c.near; near_count = c.near_count; first = c.first; next = c.next }) one
 
-pub marked_still : (cells : List Cell) (old new : Fresh) → new ≡ record old { near = new.near; near_count = new.near_count; first = new.first; next = new.next } → length new.near.items ≡ length old.near.items → AreMarked cells old → AreMarked cells new
+pub marked_still : (cells : List Cell) (old new : InOrder) → new ≡ record old { near = new.near; near_count = new.near_count; first = new.first; next = new.next } → length new.near.items ≡ length old.near.items → AreMarked cells old → AreMarked cells new
 marked_still cells old new same size marked =
     subst (AreMarked cells) (sym same) (record { few = marked.few; room = marked.room; runs = size ∙ marked.runs; inside = marked.inside; count = marked.count; filled = marked.filled })
 
@@ -165,21 +163,18 @@ module _ (cells : List Cell) (P Q : ℕ → Type 0) (wave : ℕ) where
             later j (inr more) = inr (omega (arith, more))
 
     -- one more
-    pub noted_more : (near after : List ℕ) (first first' next next' : Option ℕ) (default : Cell) → index < length cells
-        → ((get_or cells index default).dist ≡ wave → MarksOne index near after × (first' ≡ Some (lesser first index)) × (next' ≡ next))
-        → (((get_or cells index default).dist ≡ wave → ⊥) → (after ≡ near) × (first' ≡ first) × (next' ≡ Some (lesser next (get_or cells index default).dist)))
+    pub noted_more : (near after : List ℕ) (first first' next next' : Option ℕ) (dist : ℕ) → dist_at cells index ≡ dist
+        → (dist ≡ wave → MarksOne index near after × (first' ≡ Some (lesser first index)) × (next' ≡ next))
+        → ((dist ≡ wave → ⊥) → (after ≡ near) × (first' ≡ first) × (next' ≡ Some (lesser next dist)))
         → AreNoted cells P wave near first next → AreNoted cells Q wave after first' next'
-    noted_more near after first first' next next' default inside is_near is_far noted = elim (cases_eq (get_or cells index default).dist wave) [
+    noted_more near after first first' next next' dist at is_near is_far noted = elim (cases_eq dist wave) [
       | inl same ↦
           let is = is_near same in
           subst₂ (λ f n. AreNoted cells Q wave after f n) (sym is.1) (sym is.2) (noted_near near after first next (at ∙ same) is.0 noted)
       | inr other ↦
           let is = is_far other in
-          subst (λ (l : List ℕ). AreNoted cells Q wave l first' next') (sym is.0) (subst₂ (λ f n. AreNoted cells Q wave near f n) (sym is.1) (sym is.2) (noted_far near first next _ at other noted))
+          subst (λ (l : List ℕ). AreNoted cells Q wave l first' next') (sym is.0) (subst₂ (λ f n. AreNoted cells Q wave near f n) (sym is.1) (sym is.2) (noted_far near first next dist at other noted))
     ]
-      where
-        at : dist_at cells index ≡ (get_or cells index default).dist
-        at = ap (λ (c : Cell). c.dist) (get_or_default cells index no_cell default inside)
 
 -- the boards below m are those below n, where none between them is marked
 pub below_same : (cells : List Cell) (words : List ℕ) (n m wave : ℕ) (near : List ℕ) (first next : Option ℕ) → n ≤ m → ((k : ℕ) → n ≤ k → k < m → is_marked words k ≡ true → ⊥)

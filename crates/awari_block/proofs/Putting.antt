@@ -1,90 +1,120 @@
 -- What the boards of a block are once another cell stands in place of one.
-use Rattle.std.proofs.Common.{◌≡◌, ℕ, ◌-◌, true, false, List, get_or, set, sym, ap, subst, ◌∙◌, arith}
+use Rattle.std.proofs.Common.{◌≡◌, ℕ, ◌-◌, ◌≤◌, Bool, if◌then◌else◌, true, false, List, get_or, set, inl, inr, sym, ap, subst, ◌∙◌, arith}
+use Rattle.std.proofs.lemmas.Int.{ints}
+use Rattle.std.proofs.lemmas.Bool.{false≢true}
 use Rattle.std.proofs.lemmas.List.{get_or_default}
 use Rattle.std.specs.Vec.{with_item}
 use Rattle.awari_block.specs.declared.boards.Boards.TheInside.{Inside}
 use Rattle.awari_block.specs.declared.cells.Cell.{Cell}
-use Rattle.awari_block.specs.declared.fresh.Fresh.{Fresh}
-use Rattle.awari_block.specs.Blocks.{cell_in, no_cell, IsBlock}
-use Rattle.awari_block.specs.Boards.{CanPut, Settles}
+use Rattle.awari_block.specs.Blocks.{Due, cell_in, is_settled_in, no_cell, times_due, IsBlock}
+use Rattle.awari_block.specs.Boards.{CanPut, Joins, Settles}
 use Rattle.awari_block.specs.BoardsFields.{IsBoards}
 use Rattle.awari_block.specs.Cells.{is_settled}
-use Rattle.awari_block.specs.Fresh.{fresh_of, is_marked, IsFresh, MarksOne}
-use Rattle.awari_block.specs.Part.{Part, part_of}
+use Rattle.awari_block.specs.FreshSets.{HasJoined, IsNewTo, KeepFresh}
+use Rattle.awari_block.specs.Part.{Part, part_of, stored_at}
 use Rattle.awari_block.proofs.Awaiting.{awaited_put}
-use Rattle.awari_block.proofs.FreshBlocks.{put_marks, put_unmarked}
-use Rattle.awari_block.proofs.Settling.{joined_block, joined_settles, kept_block, kept_settles}
+use Rattle.awari_block.proofs.BlockLemmas.{is_settled_in-here, put_keeps}
+use Rattle.awari_block.proofs.Settling.{joined, joined_block, joined_settles, kept, kept_block, kept_settles}
 
--- what callers see of these boards
-abbrev pub seen : Inside → Part
-seen a = part_of a.stake a.start a.cells.items (fresh_of a.start a.cells.items a.fresh)
+module _ {F : Type 0} (dues : ℕ → List Cell → F → List Due) (right : ℕ → ℕ → List Cell → F → Type 0) where
+  -- what callers see of these boards
+  abbrev pub seen : Inside F → Part
+  seen a = part_of a.stake a.start a.cells.items (dues a.start a.cells.items a.fresh)
 
--- the boards with this cell for that of the board of this rank, and with what is kept of the fresh ones
-abbrev pub with_cell : Inside → ℕ → Cell → Fresh → Inside
-with_cell a rank new fresh = record { start = a.start; stake = a.stake; cells = with_item a.cells (rank - a.start) new; fresh = fresh; awaits = a.awaits; spread = a.spread; index = a.index }
+  -- the boards with this cell for that of the board of this rank, and with what is kept of the fresh ones
+  abbrev pub with_cell : Inside F → ℕ → Cell → F → Inside F
+  with_cell a rank new fresh = record { start = a.start; stake = a.stake; cells = with_item a.cells (rank - a.start) new; fresh = fresh; awaits = a.awaits; spread = a.spread }
 
--- the new cell may take the place of the old one, which is that of the board of this rank
-pub record Replaces (a : Inside) (rank : ℕ) (old new : Cell) : Type 0 where
-  pub can : CanPut (seen a) rank new
-  pub was : cell_in a.start a.cells.items rank ≡ old
+  -- the cell that is read
+  pub cell_read : (a : Inside F) (part : Part) (rank : ℕ) (old new : Cell) → seen a ≡ part → CanPut part rank new → old ≡ get_or a.cells.items (rank - a.start) old → cell_in a.start a.cells.items rank ≡ old
+  cell_read a part rank old new view can read = get_or_default a.cells.items (rank - a.start) no_cell old (subst (λ (o : Part). CanPut o rank new) (sym view) can).held.1 ∙ sym read
 
--- a cell that may be put
-pub put_replaces : (a : Inside) (part : Part) (rank : ℕ) (old new : Cell) → seen a ≡ part → CanPut part rank new → old ≡ get_or a.cells.items (rank - a.start) old → Replaces a rank old new
-put_replaces a part rank old new view can read =
-    let can : CanPut (seen a) rank new = subst (λ (o : Part). CanPut o rank new) (sym view) can in record { can = can; was = get_or_default a.cells.items (rank - a.start) no_cell old can.held.1 ∙ sym read }
+  module _ (a : Inside F) (sound : IsBoards dues right a) (part : Part) (view : seen a ≡ part) (rank : ℕ) (old new : Cell) (can_here : CanPut part rank new) (was : cell_in a.start a.cells.items rank ≡ old) where
+    abbrev fresh : List Due
+    fresh = dues a.start a.cells.items a.fresh
 
-module _ (a : Inside) (sound : IsBoards a) (rank : ℕ) (old new : Cell) (put : Replaces a rank old new) where
-  abbrev after : List Cell
-  after = set a.cells.items (rank - a.start) new
+    abbrev after : List Cell
+    after = set a.cells.items (rank - a.start) new
 
-  -- what is kept of the fresh boards is right of the other cells as well
-  pub still_marks : IsFresh a.stake.wave after a.fresh
-  still_marks = put_marks a.stake a.start a.cells.items a.fresh sound.block sound.marks rank new put.can.held.0 put.can.held.1 put.can.keeps
+    can : CanPut (seen a) rank new
+    can = subst (λ (o : Part). CanPut o rank new) (sym view) can_here
 
-  still_boards : (fresh : Fresh) → IsFresh a.stake.wave after fresh → Settles (seen a) (seen (with_cell a rank new fresh)) → IsBlock a.stake a.start after (fresh_of a.start after fresh) → IsBoards (with_cell a rank new fresh)
-  still_boards fresh marks settles block =
-      record {
-        low = sound.low;
-        opened = sound.opened;
-        inward = sound.inward;
-        fits = sound.fits;
-        within = sound.within;
-        marks = marks;
-        block = block;
-        awaited = awaited_put a.stake.level (rank - a.start) a.cells.items a.awaits.items new put.can.held.1 put.can.awaits sound.awaited;
-        index = sound.index;
-        count = let count = sound.count in let same = settles.unspread in let size = settles.size in omega (arith, count, same, size);
+    keep : KeepFresh a.start a.cells.items after fresh
+    keep = put_keeps a.stake a.start a.cells.items fresh rank new can.held.0 can.held.1 sound.block can.keeps
+
+    still : (rest : F) → right a.stake.wave a.start after rest → Settles (seen a) (seen (with_cell a rank new rest)) → IsBlock a.stake a.start after (dues a.start after rest) → IsBoards dues right (with_cell a rank new rest)
+    still rest is_right settles block = record {
+      low = sound.low;
+      opened = sound.opened;
+      inward = sound.inward;
+      fits = sound.fits;
+      within = sound.within;
+      right = is_right;
+      block = block;
+      awaited = awaited_put a.stake.level (rank - a.start) a.cells.items a.awaits.items new can.held.1 can.awaits sound.awaited;
+      count = let count = sound.count in let same = settles.unspread in let size = settles.size in omega (arith, count, same, size);
+    }
+
+    -- a board that this settles
+    module _ (settled : is_settled new.mark ≡ true) (unset : is_settled old.mark ≡ false) where
+      unset_here : is_settled (cell_in a.start a.cells.items rank).mark ≡ false
+      unset_here = ap (λ (c : Cell). is_settled c.mark) was ∙ unset
+
+      pub put_new : IsNewTo dues right a.stake.wave a.start a.cells.items a.fresh rank (rank - a.start) new
+      put_new = record {
+        inside = can.held.1;
+        at = let low = can.held.0 in omega (arith, low);
+        right = sound.right;
+        new = none (is_settled_in a.start a.cells.items rank) (sound.block.settled rank) (is_settled_in-here a.start a.cells.items rank can.held.0 ∙ unset_here);
+        others = keep;
+        valued = λ zero. let one = sound.opened in elim ((can.timely unset_here settled).0) [
+          | inl won ↦ omega (arith, ints, zero, won, one)
+          | inr lost ↦ omega (arith, ints, zero, lost, one)
+        ];
       }
+        where
+          none : (b : Bool) → times_due fresh rank ≤ (if b then 1 else 0) → b ≡ false → times_due fresh rank ≡ 0
+          none true most unset = absurd (false≢true (sym unset))
+          none false most unset = omega (arith, most)
 
-  module _ (open_mark : is_settled old.mark ≡ false) where
-    open_before : is_settled (cell_in a.start a.cells.items rank).mark ≡ false
-    open_before = ap (λ (c : Cell). is_settled c.mark) put.was ∙ open_mark
+      module _ (rest : F) (has : IsNewTo dues right a.stake.wave a.start a.cells.items a.fresh rank (rank - a.start) new → HasJoined dues right a.stake.wave a.start a.cells.items a.fresh rest rank (rank - a.start) new) where
+        pub joined_boards : IsBoards dues right (with_cell a rank new rest)
+        joined_boards =
+            let joins = (has put_new).joins in
+            still rest (has put_new).right (joined_settles a.stake a.start a.cells.items fresh sound.block rank new can settled unset_here (dues a.start after rest) joins)
+            (joined_block a.stake a.start a.cells.items fresh sound.block rank new can settled unset_here (dues a.start after rest) joins)
 
-    -- a board that was not settled is not among the fresh ones
-    pub joins_unmarked : is_marked a.fresh.words.items (rank - a.start) ≡ false
-    joins_unmarked = put_unmarked a.stake a.start a.cells.items a.fresh sound.block sound.marks rank new put.can.held.0 put.can.held.1 put.can.keeps open_before
+        pub joined_seen : Settles part (seen (with_cell a rank new rest))
+        joined_seen = subst (λ (o : Part). Settles o (seen (with_cell a rank new rest))) view (joined_settles a.stake a.start a.cells.items fresh sound.block rank new can settled unset_here (dues a.start after rest) (has put_new).joins)
 
-    -- it joins them where it is settled now
-    module _ (settled : is_settled new.mark ≡ true) (fresh : Fresh) (one : MarksOne (rank - a.start) a.fresh.words.items fresh.words.items) where
-      joined_at : Settles (seen a) (seen (with_cell a rank new fresh))
-      joined_at = joined_settles a.stake a.start a.cells.items a.fresh sound.block sound.marks rank new put.can settled open_before fresh.words.items one
+        pub joined_fresh : Joins (stored_at part rank) new rank part.fresh (dues a.start after rest)
+        joined_fresh = subst (λ (o : Part). Joins (stored_at o rank) new rank o.fresh (dues a.start after rest)) view (joined a.stake a.start a.cells.items fresh sound.block rank new can settled unset_here (dues a.start after rest) (has put_new).joins)
 
-      pub joined_boards : IsFresh a.stake.wave after fresh → IsBoards (with_cell a rank new fresh)
-      joined_boards marks = still_boards fresh marks joined_at (joined_block a.stake a.start a.cells.items a.fresh sound.block sound.marks rank new put.can settled open_before fresh.words.items one)
+    -- and one that it does not
+    module _ (stays : (wave start : ℕ) (cells after : List Cell) (f : F) → KeepFresh start cells after (dues start cells f) → right wave start cells f → right wave start after f)
+        (keeps : (wave start : ℕ) (cells after : List Cell) (f : F) → KeepFresh start cells after (dues start cells f) → right wave start cells f → dues start after f ≡ dues start cells f)
+        (back : is_settled new.mark ≡ true → is_settled old.mark ≡ true) where
+      back_here : is_settled new.mark ≡ true → is_settled (cell_in a.start a.cells.items rank).mark ≡ true
+      back_here settled = ap (λ (c : Cell). is_settled c.mark) was ∙ back settled
 
-      pub joined_seen : (part : Part) → seen a ≡ part → Settles part (seen (with_cell a rank new fresh))
-      joined_seen part view = subst (λ (o : Part). Settles o (seen (with_cell a rank new fresh))) view joined_at
+      same_fresh : dues a.start after a.fresh ≡ fresh
+      same_fresh = keeps a.stake.wave a.start a.cells.items after a.fresh keep sound.right
 
-  -- and else they stay as they are
-  module _ (back : is_settled new.mark ≡ true → is_settled old.mark ≡ true) where
-    settled_before : is_settled new.mark ≡ true → is_settled (cell_in a.start a.cells.items rank).mark ≡ true
-    settled_before settled = ap (λ (c : Cell). is_settled c.mark) put.was ∙ back settled
+      pub still_fresh : dues a.start after a.fresh ≡ part.fresh
+      still_fresh = same_fresh ∙ ap (λ (o : Part). o.fresh) view
 
-    kept_at : Settles (seen a) (seen (with_cell a rank new a.fresh))
-    kept_at = kept_settles a.stake a.start a.cells.items a.fresh sound.block sound.marks rank new put.can settled_before
+      kept_at : Settles (seen a) (seen (with_cell a rank new a.fresh))
+      kept_at = subst (λ (l : List Due). Settles (seen a) (part_of a.stake a.start after l)) (sym same_fresh) (kept_settles a.stake a.start a.cells.items fresh sound.block rank new can back_here)
 
-    pub kept_boards : IsBoards (with_cell a rank new a.fresh)
-    kept_boards = still_boards a.fresh still_marks kept_at (kept_block a.stake a.start a.cells.items a.fresh sound.block sound.marks rank new put.can settled_before)
+      pub kept_boards : IsBoards dues right (with_cell a rank new a.fresh)
+      kept_boards =
+          still a.fresh (stays a.stake.wave a.start a.cells.items after a.fresh keep sound.right) kept_at
+          (subst (IsBlock a.stake a.start after) (sym same_fresh) (kept_block a.stake a.start a.cells.items fresh sound.block rank new can back_here))
 
-    pub kept_seen : (part : Part) → seen a ≡ part → Settles part (seen (with_cell a rank new a.fresh))
-    kept_seen part view = subst (λ (o : Part). Settles o (seen (with_cell a rank new a.fresh))) view kept_at
+      pub kept_seen : Settles part (seen (with_cell a rank new a.fresh))
+      kept_seen = subst (λ (o : Part). Settles o (seen (with_cell a rank new a.fresh))) view kept_at
+
+      pub kept_fresh : Joins (stored_at part rank) new rank part.fresh (dues a.start after a.fresh)
+      kept_fresh =
+          subst (λ (o : Part). Joins (stored_at o rank) new rank o.fresh (dues a.start after a.fresh)) view
+          (subst (Joins (cell_in a.start a.cells.items rank) new rank fresh) (sym same_fresh) (kept a.stake a.start a.cells.items fresh sound.block rank new can back_here))

@@ -1,5 +1,5 @@
 -- What settles boards and does no more: nothing at all, two such steps, and a cell that is put.
-use Rattle.std.proofs.Common.{◌≡◌, ℕ, ◌+◌, ◌-◌, ◌<◌, ◌≤◌, Bool, true, false, not, ◌&&◌, cond, ℤ, inl, inr, List, [], ◌∷◌, length, All, set, refl, sym, ap, subst, subst₂, ◌∙◌, arith, length-set}
+use Rattle.std.proofs.Common.{◌≡◌, ℕ, ◌+◌, ◌-◌, Bool, true, false, not, ◌&&◌, cond, ℤ, inl, inr, List, [], ◌∷◌, length, All, set, refl, sym, ap, subst, subst₂, ◌∙◌, arith, length-set}
 use Rattle.std.proofs.lemmas.Bool.{false≢true}
 use Rattle.std.proofs.lemmas.Int.{ints}
 use Rattle.std.proofs.lemmas.List.Elements.{All-head, All-tail}
@@ -7,17 +7,14 @@ use Rattle.std.proofs.lemmas.List.Sorted.{length_permutation}
 use Rattle.std.proofs.lemmas.List.Sums.{sum_by-cons}
 use Rattle.std.specs.List.Sorted.{IsPermutation}
 use Rattle.awari_block.specs.declared.cells.Cell.{Cell}
-use Rattle.awari_block.specs.declared.fresh.Fresh.{Fresh}
 use Rattle.awari_block.specs.declared.stakes.Stake.{Stake}
 use Rattle.awari_block.specs.declared.cells.Mark.{Mark}
 use Rattle.awari_block.specs.declared.cells.Mark.TheVariants as mark
 use Rattle.awari_block.specs.Cells.{is_settled, FitsBy, Keeps}
-use Rattle.awari_block.specs.Fresh.{due_of, fresh_of, IsFresh, MarksOne}
 use Rattle.awari_block.specs.Blocks.{Due, cell_in, is_settled_in, unsettled, IsBlock}
 use Rattle.awari_block.specs.Part.{Part, part_of, SameLevel}
-use Rattle.awari_block.specs.Boards.{CanPut, Settles, stake_of}
-use Rattle.awari_block.proofs.BlockLemmas.{JoinsIf, keeps_both, keeps_same, one_if, put_joined, put_joins, put_kept, put_stays, put_unspread}
-use Rattle.awari_block.proofs.FreshBlocks.{put_permuted, put_same}
+use Rattle.awari_block.specs.Boards.{CanPut, Joins, JoinsIf, Settles, stake_of}
+use Rattle.awari_block.proofs.BlockLemmas.{keeps_both, keeps_same, one_if, put_joined, put_joins, put_kept, put_stays, put_unspread}
 use Rattle.awari_block.proofs.Freshness.{fresh_of_block}
 
 -- a part at the stake of another is at its own
@@ -95,71 +92,49 @@ alike old new keeps false was back = by (is_settled new.mark) refl
     by true e = absurd (false≢true (back e))
     by false e = e ∙ sym was
 
-module _ (stake : Stake) (start : ℕ) (cells : List Cell) (fresh : Fresh) (sound : IsBlock stake start cells (fresh_of start cells fresh)) (marks : IsFresh stake.wave cells fresh) (rank : ℕ) (c : Cell)
-    (can : CanPut (part_of stake start cells (fresh_of start cells fresh)) rank c) where
-  abbrev pub was : Cell
+module _ (stake : Stake) (start : ℕ) (cells : List Cell) (fresh : List Due) (sound : IsBlock stake start cells fresh) (rank : ℕ) (c : Cell) (can : CanPut (part_of stake start cells fresh) rank c) where
+  abbrev was : Cell
   was = cell_in start cells rank
 
-  abbrev pub old : List Due
-  old = fresh_of start cells fresh
-
-  abbrev pub after : List Cell
+  abbrev after : List Cell
   after = set cells (rank - start) c
 
-  low : start ≤ rank
-  low = can.held.0
+  put_settles : (rest : List Due) → Joins was c rank fresh rest → IsBlock stake start after rest → length rest + one_if (not (is_settled c.mark)) ≡ length fresh + one_if (not (is_settled was.mark))
+      → Settles (part_of stake start cells fresh) (part_of stake start after rest)
+  put_settles rest joins block step = record {
+    same = record { level = refl; gain = refl; wave = refl; start = refl };
+    size = length-set cells (rank - start) c;
+    stays = put_stays start cells rank c can.held.0 can.held.1 can.keeps;
+    joins = put_joins stake start cells fresh rank c can.held.0 can.held.1 sound rest can.keeps joins;
+    unspread = put_unspread start cells fresh rest rank c can.held.1 step;
+    fresh = λ _. fresh_of_block stake start after rest block;
+  }
 
-  high : rank - start < length cells
-  high = can.held.1
+  -- a newly settled board joins the fresh ones
+  module _ (new : is_settled c.mark ≡ true) (unset : is_settled was.mark ≡ false) (rest : List Due) (moved : IsPermutation ((c.dist, rank) ∷ fresh) rest) where
+    pub joined_block : IsBlock stake start after rest
+    joined_block = put_joined stake start cells fresh rank c can.held.0 can.held.1 sound rest can.fits (can.timely unset new) can.keeps new unset moved
 
-  at : start + (rank - start) ≡ rank
-  at = let h = low in omega (arith, h)
+    pub joined : Joins was c rank fresh rest
+    joined = subst₂ (λ a b. JoinsIf (a && not b) c rank fresh rest) (sym new) (sym unset) moved
 
-  module _ (new : is_settled c.mark ≡ true) (unsettled_before : is_settled was.mark ≡ false) (words : List ℕ) (one : MarksOne (rank - start) fresh.words.items words) where
-    moved : IsPermutation ((c.dist, start + (rank - start)) ∷ old) (due_of start after words)
-    moved = put_permuted stake start cells fresh sound marks rank c low high can.keeps unsettled_before words one
+    pub joined_settles : Settles (part_of stake start cells fresh) (part_of stake start after rest)
+    joined_settles =
+        let longer = length_permutation ((c.dist, rank) ∷ fresh) rest moved in
+        let some : one_if (not (is_settled c.mark)) ≡ 0 = ap (λ b. one_if (not b)) new in
+        let none : one_if (not (is_settled was.mark)) ≡ 1 = ap (λ b. one_if (not b)) unset in
+        put_settles rest joined joined_block (omega (arith, some, none, longer))
 
-    -- a newly settled cell keeps the block right
-    pub joined_block : IsBlock stake start after (due_of start after words)
-    joined_block =
-        put_joined stake start cells old rank c low high sound (c.dist, start + (rank - start)) (due_of start after words) can.fits (can.timely unsettled_before new) can.keeps new unsettled_before at refl moved
-
-    pub joined_settles : Settles (part_of stake start cells old) (part_of stake start after (due_of start after words))
-    joined_settles = record {
-      same = record { level = refl; gain = refl; wave = refl; start = refl };
-      size = length-set cells (rank - start) c;
-      stays = put_stays start cells rank c low high can.keeps;
-      joins = put_joins stake start cells old rank c low high sound (due_of start after words) can.keeps
-          (subst₂ (λ a b. JoinsIf (a && not b) c rank old (due_of start after words)) (sym new) (sym unsettled_before) ((c.dist, start + (rank - start)), at, refl, moved));
-      unspread =
-          let longer = length_permutation ((c.dist, start + (rank - start)) ∷ old) (due_of start after words) moved in
-          let some : one_if (not (is_settled c.mark)) ≡ 0 = ap (λ b. one_if (not b)) new in
-          let none : one_if (not (is_settled was.mark)) ≡ 1 = ap (λ b. one_if (not b)) unsettled_before in
-          put_unspread start cells old (due_of start after words) rank c high (omega (arith, some, none, longer));
-      fresh = λ _. fresh_of_block stake start after (due_of start after words) joined_block;
-    }
-
+  -- and else they stay
   module _ (back : is_settled c.mark ≡ true → is_settled was.mark ≡ true) where
     same_mark : is_settled c.mark ≡ is_settled was.mark
     same_mark = alike was c can.keeps (is_settled was.mark) refl back
 
-    same_fresh : fresh_of start after fresh ≡ old
-    same_fresh = put_same stake start cells fresh sound marks rank c low high can.keeps
+    pub kept_block : IsBlock stake start after fresh
+    kept_block = put_kept stake start cells fresh rank c can.held.0 can.held.1 sound can.fits can.keeps same_mark
 
-    -- and so does one that is not
-    pub kept_block : IsBlock stake start after (fresh_of start after fresh)
-    kept_block = subst (IsBlock stake start after) (sym same_fresh) (put_kept stake start cells old rank c low high sound can.fits can.keeps same_mark)
+    pub kept : Joins was c rank fresh fresh
+    kept = subst (λ b. JoinsIf b c rank fresh fresh) (sym (not_new (is_settled c.mark) (is_settled was.mark) back)) refl
 
-    pub kept_settles : Settles (part_of stake start cells old) (part_of stake start after (fresh_of start after fresh))
-    kept_settles = record {
-      same = record { level = refl; gain = refl; wave = refl; start = refl };
-      size = length-set cells (rank - start) c;
-      stays = put_stays start cells rank c low high can.keeps;
-      joins = put_joins stake start cells old rank c low high sound (fresh_of start after fresh) can.keeps
-          (subst (λ b. JoinsIf b c rank old (fresh_of start after fresh)) (sym (not_new (is_settled c.mark) (is_settled was.mark) back)) same_fresh);
-      unspread =
-          let long = ap length same_fresh in
-          let same = ap (λ b. one_if (not b)) same_mark in
-          put_unspread start cells old (fresh_of start after fresh) rank c high (omega (arith, long, same));
-      fresh = λ _. fresh_of_block stake start after (fresh_of start after fresh) kept_block;
-    }
+    pub kept_settles : Settles (part_of stake start cells fresh) (part_of stake start after fresh)
+    kept_settles = put_settles fresh kept kept_block (let same = ap (λ b. one_if (not b)) same_mark in omega (arith, same))

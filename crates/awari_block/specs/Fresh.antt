@@ -3,7 +3,7 @@ use Rattle.std.specs.Prelude.{◌≡◌, ℕ, ◌+◌, ◌*◌, ◌/◌, ◌%◌
 use Rattle.std.specs.Int.{bit_at}
 use Rattle.std.specs.List.{range_with_len}
 use Rattle.awari_block.specs.declared.cells.Cell.{Cell}
-use Rattle.awari_block.specs.declared.fresh.Fresh.{Fresh}
+use Rattle.awari_block.specs.declared.fresh.InOrder.{InOrder}
 use Rattle.awari_block.specs.Blocks.{Due, no_cell}
 
 abbrev pub dist_at : List Cell → ℕ → ℕ
@@ -21,7 +21,7 @@ marked_of cells words = filter (is_marked words) (range_with_len 0 (length cells
 abbrev pub due_of : ℕ → List Cell → List ℕ → List Due
 due_of start cells words = map (λ k. (dist_at cells k, start + k)) (marked_of cells words)
 
-abbrev pub fresh_of : ℕ → List Cell → Fresh → List Due
+abbrev pub fresh_of : ℕ → List Cell → InOrder → List Due
 fresh_of start cells fresh = due_of start cells fresh.words.items
 
 -- ---- those of the open wave, and the others
@@ -63,7 +63,7 @@ AreFilled words filled = (length words ≤ 64 * length filled) × (length filled
     × ((k : ℕ) → is_marked words k ≡ true → is_marked filled (k / 64) ≡ true)
 
 -- Marks are of boards of the block, and it is known how many there are.
-pub record AreMarked (cells : List Cell) (fresh : Fresh) : Type 0 where
+pub record AreMarked (cells : List Cell) (fresh : InOrder) : Type 0 where
   pub few : length fresh.words.items ≤ 2 ^ 26
   pub room : length cells ≤ 64 * length fresh.words.items
   pub runs : length fresh.near.items ≡ length fresh.words.items
@@ -72,7 +72,7 @@ pub record AreMarked (cells : List Cell) (fresh : Fresh) : Type 0 where
   pub filled : AreFilled fresh.words.items fresh.filled.items
 
 -- What is kept of the fresh boards is right, while this distance is open.
-pub record IsFresh (wave : ℕ) (cells : List Cell) (fresh : Fresh) : Type 0 where
+pub record IsFresh (wave : ℕ) (cells : List Cell) (fresh : InOrder) : Type 0 where
   pub marked : AreMarked cells fresh
   pub noted : AreNoted cells (λ k. is_marked fresh.words.items k ≡ true) wave fresh.near.items fresh.first fresh.next
 

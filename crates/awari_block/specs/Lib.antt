@@ -5,6 +5,7 @@ pub mod Tally
 pub mod Steps
 pub mod Cells
 pub mod Blocks
+pub mod FreshSets
 pub mod Fresh
 pub mod Part
 pub mod Boards

@@ -1,19 +1,18 @@
 //! The boards of a block: what is known of each, which are fresh, and what is open.
 
-ghost use Rattle.std.specs.Prelude.{◌≡◌, ℕ, ℤ, ◌+◌, ◌-◌, ◌^◌, ◌<◌, ◌≤◌, ◌↔◌, IsTrue, sum, IfNone, IfOk, IfSome, All, Some, [], length, vec_len, slice_set, slice_index_or};
+ghost use Rattle.std.specs.Prelude.{◌≡◌, ◌+◌, ◌-◌, ◌^◌, ◌<◌, ◌≤◌, ◌↔◌, ◌++◌, ℕ, List, IsTrue, IfNone, IfOk, IfSome, OnErr, OnOk, All, true, [], length, sum, vec_len, slice_set};
 ghost use Rattle.awari_board.specs.Rules.{IsBoard};
 ghost use Rattle.awari_rank.specs.Rank.{rank_of, size_of};
-ghost use Rattle.awari_block.specs.Cells.{Fits, FitsBy, view_of};
-ghost use Rattle.awari_block.specs.Steps.{cell_after_opening};
-ghost use Rattle.awari_block.specs.Blocks.{due_dist, no_cell};
-ghost use Rattle.awari_block.specs.Part.{Part as PartView, AreFresh, InBlock, IsLeastDue, settled_at, stored_at, IsClosed};
+ghost use Rattle.awari_block.specs.Cells.{Fits, FitsBy, is_settled};
+ghost use Rattle.awari_block.specs.Blocks.{due_dist};
+ghost use Rattle.awari_block.specs.Part.{Part as PartView, AreFresh, InBlock, stored_at, IsClosed};
 ghost use Rattle.awari_block.specs.Counts.{spread_of};
-ghost use Rattle.awari_block.specs.Boards.{CanHear, CanPut, HearsNote, IsNextOfWave, OpensCells, Settles, TakesFirst, stake_of};
+ghost use Rattle.awari_block.specs.Boards.{CanHear, CanPut, GivesFresh, HearsNote, Joins, OpensBoards, OpensCells, Settles, stake_of};
 
 use crate::awaited::{awaited_gains, next_awaiting};
 use crate::cells::Cell;
 use crate::closed::ClosedPart;
-use crate::fresh::Fresh;
+use crate::fresh_sets::{ByKind, FreshSet};
 use crate::notes::{Kind, Note};
 use crate::stakes::Stake;
 use awari_index::Index;
@@ -25,56 +24,50 @@ use std::marker::Model;
 /// settled and not spread yet.
 ///
 /// Stake, cells and fresh boards go together: the fresh boards are ordered by the distances in the
-/// cells, and the open gain limits what a cell may hold. The last three fields save time. One says
-/// which gain each board awaits, and one how many boards were spread. The last finds the board of a
-/// rank.
+/// cells, and the open gain limits what a cell may hold. The last two fields save time. One says
+/// which gain each board awaits, and one how many boards were spread.
 #[derive(Drop)]
-pub struct Boards {
+pub struct Boards<F: FreshSet> {
     /// The rank of the first board.
-    start: u32,
-    stake: Stake,
-    cells: Vec<Cell>,
-    fresh: Fresh,
+    pub(crate) start: u32,
+    pub(crate) stake: Stake,
+    pub(crate) cells: Vec<Cell>,
+    pub(crate) fresh: F,
     awaits: Vec<u8>,
-    spread: usize,
-    index: Index,
+    pub(crate) spread: usize,
 }
 
-impl Model for Boards {
-    ghost use Rattle.awari_block.specs.Fresh.{fresh_of};
+impl<F: FreshSet> Model for Boards<F> {
     ghost use Rattle.awari_block.specs.Part.{Part as PartView, part_of};
 
     ghost Value = { PartView };
 
     ghost use Rattle.awari_block.specs.BoardsFields.{IsBoards};
 
-    ghost view = { λ a. part_of a.stake a.start a.cells.items (fresh_of a.start a.cells.items a.fresh) };
+    ghost view = { λ a. part_of a.stake a.start a.cells.items (F.dues a.start a.cells.items a.fresh) };
 
-    ghost invariant = { IsBoards };
+    ghost invariant = { IsBoards F.dues F.right };
 }
 
-impl Boards {
+impl<F: FreshSet> Boards<F> {
     /// The boards of a block of this level, from rank `start` on, with no gain open and no board
-    /// fresh. It takes all memory that they will ever need, less than two bytes a board, and is refused
-    /// only if that runs out.
+    /// fresh. It takes a byte a board and what their set takes, and is refused only if memory runs out.
     ///
-    /// Conditions: the level has at most 24 stones, the block lies within the level, each cell fits a
-    /// level with no gain open, and the index is that of the level.
+    /// Conditions: the level has at most 24 stones, the block lies within the level, and each cell fits a
+    /// level with no gain open.
     pub fn unopened(
         alloc: Global,
         level: u8,
         start: u32,
         cells: Vec<Cell>,
-        index: Index,
-    ) -> Result<Boards, AllocError>
+    ) -> Result<Boards<F>, AllocError>
         requires low { level ≤ 24 }
         requires short { start + vec_len cells < 2 ^ 32 }
         requires within { start + vec_len cells ≤ size_of level }
         requires fit { All (λ c. FitsBy c.mark level (level + 1) c.score c.dist) cells.items }
-        requires index { index ≡ level }
         ensures { IfOk result (λ boards. boards ≡ record { level = level; gain = level + 1; wave = 0; start = start; cells = cells.items; fresh = [] }) }
     {
-        let fresh = Fresh::new(alloc, cells.len())?;
+        let fresh = F::new(alloc, cells.len())?;
         let awaits = awaited_gains(alloc, level, cells.as_slice())?;
         Ok(Boards {
             start,
@@ -87,7 +80,6 @@ impl Boards {
             fresh,
             awaits,
             spread: 0,
-            index,
         })
     }
 
@@ -136,29 +128,33 @@ impl Boards {
         self.cells[(rank - self.start) as usize]
     }
 
-    /// The board of this rank, which is one of the block.
+    /// The board of this rank, which is one of the block, by the index of its level.
     #[inline(always)]
-    pub fn board(&self, rank: u32) -> PackedBoard
+    pub fn board(&self, index: &Index, rank: u32) -> PackedBoard
         requires held { InBlock self.now rank }
+        requires index { index.now ≡ self.now.level }
         ensures board { IsBoard result }
         ensures stones { sum result ≡ self.now.level }
         ensures rank { rank_of result ≡ rank }
     {
-        self.index.board(rank)
+        let _ = &self.cells;
+        index.board(rank)
     }
 
-    /// Whether none is fresh.
-    pub fn idle(&self) -> bool
-        ensures { IsTrue result ↔ (self.now.fresh ≡ []) }
+    /// The open wave, and no fresh board is nearer.
+    pub fn wave(&self) -> u32
+        ensures wave { result ≡ self.now.wave }
+        ensures from { All (λ f. self.now.wave ≤ due_dist f) self.now.fresh }
     {
-        self.fresh.len() == 0
+        self.stake.wave
     }
 
-    /// How many are fresh.
-    pub fn fresh_boards(&self) -> usize
-        ensures { result ≡ length self.now.fresh }
+    /// The fresh ones, as they are kept.
+    pub fn fresh(&self) -> &F
+        ensures dues { F.dues self.now.start self.now.cells result.now ≡ self.now.fresh }
+        ensures fresh { AreFresh self.now }
     {
-        self.fresh.len()
+        &self.fresh
     }
 
     /// How many are settled and were spread.
@@ -167,48 +163,6 @@ impl Boards {
         ensures few { result < 2 ^ 32 }
     {
         self.spread
-    }
-
-    /// How many fresh boards are of the open wave. It tells whether the wave is worth threads; no clause
-    /// speaks of it.
-    pub fn wave_boards(&self) -> usize {
-        self.fresh.near_len()
-    }
-
-    /// The least distance of a fresh board, none if no board is fresh.
-    pub fn due(&self) -> Option<u32>
-        ensures least { IsLeastDue self.now result }
-        ensures timely { IfSome result (λ dist. self.now.wave ≤ dist) }
-        ensures settled { IfSome result (λ dist. (rank : ℕ) × (v : ℤ) × InBlock self.now rank × (settled_at self.now rank ≡ Some (v, dist))) }
-    {
-        self.fresh.due(self.stake.wave)
-    }
-
-    /// Makes the first fresh board fresh no longer, and gives its rank. Conditions: a board is fresh,
-    /// and the first is of the open wave.
-    pub fn take_first(&mut self) -> u32
-        requires due { IsLeastDue self.old (Some self.old.wave) }
-        ensures first { TakesFirst self.old self.new result }
-        ensures held { InBlock self.new result }
-        ensures fresh { AreFresh self.new }
-    {
-        let Some(index) = self.fresh.take_first() else {
-            unreachable!()
-        };
-        self.spread += 1;
-        self.start + index
-    }
-
-    /// The rank of the first fresh board of the open wave behind the board of this rank, none if there
-    /// is none. Condition: the board of this rank is one of the block.
-    #[inline(always)]
-    pub fn next_of_wave(&self, rank: u32) -> Option<u32>
-        requires held { InBlock self.now rank }
-        ensures next { IsNextOfWave self.now rank result }
-        ensures held { IfSome result (InBlock self.now) }
-    {
-        let index = self.fresh.next_near(rank - self.start + 1)?;
-        Some(self.start + index)
     }
 
     /// A note of the open gain and wave, for the board of this rank in this block or another.
@@ -227,35 +181,56 @@ impl Boards {
     }
 
     /// The board of this rank hears that its quiet move from `pit` leads to a board that is won or
-    /// lost, at the open gain and wave. This may settle it. Conditions: the board is in the
-    /// block, the pit is below 6, a gain is open, and the open wave is not the greatest u32.
+    /// lost, at the open gain and wave. This may settle it, and then it joins the fresh ones. Conditions:
+    /// the board is in the block, the pit is below 6, a gain is open, and the open wave is not the
+    /// greatest u32. Where its set has no room for it nothing changes.
     #[inline(always)]
-    pub fn hear(&mut self, target: u32, pit: u8, kind: Kind)
+    pub fn hear(&mut self, target: u32, pit: u8, kind: Kind) -> Result<(), AllocError>
         requires { CanHear self.old target pit }
-        ensures settles { Settles self.old self.new }
-        ensures hears { HearsNote self.old self.new target pit kind }
+        ensures settles { OnOk result (Settles self.old self.new) }
+        ensures hears { OnOk result (HearsNote self.old self.new target pit kind) }
+        ensures joins { OnOk result (Joins (stored_at self.old target) (stored_at self.new target) target self.old.fresh self.new.fresh) }
+        ensures lacks { OnErr result F.lacks }
+        ensures same { OnErr result (self.new ≡ self.old) }
     {
         let mut cell = self.cell(target);
         cell.hear(self.stake(), pit, kind);
-        self.put(target, cell);
+        self.put(target, cell)?;
+        Ok(())
+    }
+
+    /// The same of a board that is settled: it joins no fresh ones.
+    #[inline(always)]
+    pub fn hear_settled(&mut self, target: u32, pit: u8, kind: Kind)
+        requires can { CanHear self.old target pit }
+        requires settled { is_settled (stored_at self.old target).mark ≡ true }
+        ensures settles { Settles self.old self.new }
+        ensures hears { HearsNote self.old self.new target pit kind }
+        ensures same { self.new.fresh ≡ self.old.fresh }
+    {
+        let mut cell = self.cell(target);
+        cell.hear(self.stake(), pit, kind);
+        self.put_settled(target, cell);
     }
 
     /// Opens the next smaller gain. The boards that an end or a capture settles at that gain are
-    /// settled, and so become fresh. Conditions: the gain is at least 1, and no board is fresh.
-    pub fn open_gain(&mut self, gain: u8)
+    /// settled, and so become fresh. Conditions: the gain is at least 1, and no board is fresh. Where
+    /// their set has no room for one of them the level is lost.
+    pub fn open_gain(&mut self, gain: u8) -> Result<(), AllocError>
         requires idle { self.old.fresh ≡ [] }
         requires next { gain + 1 ≡ self.old.gain }
         requires positive { 1 ≤ gain }
-        ensures settles { Settles (record self.old { gain = gain; wave = 0 }) self.new }
-        ensures cells { (k : ℕ) → k < length self.old.cells → view_of (slice_index_or self.new.cells k no_cell) ≡ cell_after_opening (view_of (slice_index_or self.old.cells k no_cell)) self.old.level gain }
-        ensures fresh { AreFresh self.new }
+        ensures opens { OnOk result (OpensBoards gain self.old self.new) }
+        ensures fresh { OnOk result (AreFresh self.new) }
+        ensures lacks { OnErr result F.lacks }
     {
+        F::depend_on_their_cells();
         self.stake = Stake {
             gain,
             wave: 0,
             ..self.stake
         };
-        self.open_cells();
+        self.open_cells()
     }
 
     /// Opens the wave of a greater distance. Condition: no fresh board has a smaller one.
@@ -286,11 +261,12 @@ impl Boards {
 
     /// Opens the gain of the stake in each cell, in order of rank. Most boards do not await it, and
     /// their cells are not read.
-    fn open_cells(&mut self)
+    fn open_cells(&mut self) -> Result<(), AllocError>
         requires gain { self.old.gain ≤ self.old.level }
         requires opened { self.old.wave ≡ 0 }
-        ensures settles { Settles self.old self.new }
-        ensures opens { OpensCells self.old self.new 0 (length self.old.cells) }
+        ensures settles { OnOk result (Settles self.old self.new) }
+        ensures opens { OnOk result (OpensCells self.old self.new 0 (length self.old.cells)) }
+        ensures lacks { OnErr result F.lacks }
     {
         let start = self.start;
         let stake = self.stake();
@@ -298,9 +274,10 @@ impl Boards {
         while let Some(index) = self.next_awaiting(from) {
             let rank = start + index as u32;
             let cell = self.cell(rank);
-            self.put(rank, cell.with_gain(stake));
+            self.put(rank, cell.with_gain(stake))?;
             from = index + 1;
         }
+        Ok(())
     }
 
     /// The index of the first board from this one on that awaits the gain of the stake.
@@ -312,19 +289,55 @@ impl Boards {
         next_awaiting(self.stake.gain, self.awaits.as_slice(), from)
     }
 
-    /// Replaces the cell of the board of this rank. A board that this settles becomes fresh.
+    /// Replaces the cell of the board of this rank, which is settled.
     #[inline(always)]
-    fn put(&mut self, rank: u32, cell: Cell)
-        requires { CanPut self.old rank cell }
+    fn put_settled(&mut self, rank: u32, cell: Cell)
+        requires can { CanPut self.old rank cell }
+        requires settled { is_settled (stored_at self.old rank).mark ≡ true }
         ensures settles { Settles self.old self.new }
         ensures cells { self.new.cells ≡ slice_set self.old.cells (rank - self.old.start) cell }
+        ensures same { self.new.fresh ≡ self.old.fresh }
+    {
+        F::depend_on_their_cells();
+        let index = rank - self.start;
+        self.cells[index as usize] = cell;
+    }
+
+    /// Replaces the cell of the board of this rank. A board that this settles becomes fresh. Where its set
+    /// has no room for it nothing changes.
+    #[inline(always)]
+    fn put(&mut self, rank: u32, cell: Cell) -> Result<(), AllocError>
+        requires { CanPut self.old rank cell }
+        ensures settles { OnOk result (Settles self.old self.new) }
+        ensures cells { OnOk result (self.new.cells ≡ slice_set self.old.cells (rank - self.old.start) cell) }
+        ensures joins { OnOk result (Joins (stored_at self.old rank) cell rank self.old.fresh self.new.fresh) }
+        ensures lacks { OnErr result F.lacks }
+        ensures same { OnErr result (self.new ≡ self.old) }
     {
         let index = rank - self.start;
         let was_settled = self.cells[index as usize].is_settled();
-        self.cells[index as usize] = cell;
-        if cell.is_settled() && !was_settled {
-            self.fresh
-                .insert(self.stake.wave, self.cells.as_slice(), index);
+        if !cell.is_settled() || was_settled {
+            F::depend_on_their_cells();
+            self.cells[index as usize] = cell;
+            return Ok(());
         }
+        self.fresh.insert(self.stake.wave, rank, index, cell)?;
+        self.cells[index as usize] = cell;
+        Ok(())
+    }
+}
+
+impl<F: ByKind> Boards<F> {
+    /// Moves the fresh boards of the open wave that are lost, or those that are won, behind others: those
+    /// whose notes are of this kind. Refused where there is no room for them there, and then nothing changes.
+    pub fn give(&mut self, kind: Kind, to: &mut Vec<u32>) -> Result<(), AllocError>
+        ensures given { OnOk result ((given : List ℕ) × (to.new.items ≡ to.old.items ++ given) × GivesFresh kind self.old self.new given) }
+        ensures fresh { AreFresh self.old }
+        ensures opened { 1 ≤ self.old.gain }
+    {
+        let wave = self.stake.wave;
+        let count = self.fresh.give(kind, wave, to)?;
+        self.spread += count;
+        Ok(())
     }
 }

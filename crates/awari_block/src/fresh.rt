@@ -11,13 +11,14 @@ ghost use Rattle.awari_block.specs.declared.cells.Cell.{Cell as CellView};
 ghost use Rattle.awari_block.specs.Fresh.{AreMarked, AreNoted, IsMarkedBelow, IsFirstFrom, IsFresh, MarksOne, UnmarksOne, is_marked, lesser, nearest_of};
 
 use crate::cells::Cell;
+use crate::fresh_sets::FreshSet;
 use crate::words::{next_bit, with_bit, without_bit};
 use std::alloc::{AllocError, Global};
 
 /// Which boards of a block are fresh, by their places in it, and which of them come first: those of
 /// the open wave, in order of rank. Their distances stand in the cells.
 #[derive(Drop)]
-pub struct Fresh {
+pub struct InOrder {
     /// A bit for each board, 64 in a word: whether it is fresh.
     words: Vec<u64>,
     /// A bit for each board: whether it is fresh and of the open wave.
@@ -34,19 +35,22 @@ pub struct Fresh {
     next: Option<u32>,
 }
 
-impl Fresh {
-    /// No fresh boards, with room for so many. It takes a little more than two bits a
-    /// board, and is refused only if memory runs out.
-    pub fn new(alloc: Global, boards: usize) -> Result<Fresh, AllocError>
-        requires { boards < 2 ^ 32 }
-        ensures sound { IfOk result (λ fresh. (wave : ℕ) (cells : List CellView) → length cells ≡ boards → IsFresh wave cells fresh) }
-        ensures none { IfOk result (λ fresh. (k : ℕ) → is_marked fresh.words.items k ≡ false) }
-    {
+impl FreshSet for InOrder {
+    ghost use Rattle.awari_block.specs.Fresh.{IsFresh, fresh_of};
+
+    ghost dues = { fresh_of };
+
+    ghost right = { λ wave start cells fresh. IsFresh wave cells fresh };
+
+    ghost lacks = { ⊥ };
+
+    /// It takes a little more than two bits a board.
+    fn new(alloc: Global, boards: usize) -> Result<InOrder, AllocError> {
         let runs = boards / 64 + 1;
         let words = vec![in alloc; 0; runs]?;
         let near = vec![in alloc; 0; runs]?;
         let filled = vec![in alloc; 0; runs / 64 + 1]?;
-        Ok(Fresh {
+        Ok(InOrder {
             words,
             near,
             filled,
@@ -57,6 +61,28 @@ impl Fresh {
         })
     }
 
+    #[inline(always)]
+    fn insert(&mut self, wave: u32, _rank: u32, index: u32, cell: Cell) -> Result<(), AllocError> {
+        mark(&mut self.words, index);
+        mark(&mut self.filled, index / 64);
+        self.count += 1;
+        self.note(wave, cell.dist, index);
+        Ok(())
+    }
+
+    fn open_wave(&mut self, wave: u32, cells: &[Cell]) {
+        self.near_count = 0;
+        self.first = None;
+        self.next = None;
+        for part in 0..self.filled.len() {
+            self.note_part(wave, cells, part);
+        }
+    }
+
+    fn depend_on_their_cells() {}
+}
+
+impl InOrder {
     /// How many boards are fresh.
     pub fn len(&self) -> usize
         ensures { result ≡ self.now.count }
@@ -77,21 +103,6 @@ impl Fresh {
             Some(_index) => Some(wave),
             None => self.next,
         }
-    }
-
-    /// The board at this index is fresh from now on.
-    #[inline(always)]
-    pub fn insert(&mut self, wave: u32, cells: &[Cell], index: u32)
-        requires index { index < length cells.now }
-        requires new { is_marked self.old.words.items index ≡ false }
-        requires sound { IsFresh wave cells.now self.old }
-        ensures marks { MarksOne index self.old.words.items self.new.words.items }
-        ensures sound { IsFresh wave cells.now self.new }
-    {
-        mark(&mut self.words, index);
-        mark(&mut self.filled, index / 64);
-        self.count += 1;
-        self.note(wave, cells[index as usize].dist, index);
     }
 
     /// Makes the first board of the open wave fresh no longer, and gives its index. None if there
@@ -121,21 +132,6 @@ impl Fresh {
         ensures { IsFirstFrom self.now.near.items from result }
     {
         first_from(self.near.as_slice(), from)
-    }
-
-    /// Opens this distance. Condition: no fresh board is of the one that was open.
-    pub fn open_wave(&mut self, wave: u32, cells: &[Cell])
-        requires marked { AreMarked cells.now self.old }
-        requires none { (k : ℕ) → is_marked self.old.near.items k ≡ true → ⊥ }
-        ensures words { self.new.words ≡ self.old.words }
-        ensures sound { IsFresh wave cells.now self.new }
-    {
-        self.near_count = 0;
-        self.first = None;
-        self.next = None;
-        for part in 0..self.filled.len() {
-            self.note_part(wave, cells, part);
-        }
     }
 
     /// Notes the fresh boards of these 64 words. A word that has none is not read.

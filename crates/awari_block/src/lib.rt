@@ -2,9 +2,9 @@
 //!
 //! A [`Block`] is the boards of a level from one rank up to, not including, another. Its [`Boards`]
 //! keep a [`Cell`] for each of them, with what is known of the board. A board is *settled* once its
-//! value and distance are known, and *fresh* until it is also spread. A [`Note`] says that a quiet move
-//! leads to a settled board. `specs/Tally.antt` defines what a cell knows of the notes that its board
-//! heard. `Boards::unopened` takes all memory that the boards ever need.
+//! value and distance are known, and *fresh* until it is also spread. A [`FreshSet`] keeps which boards are
+//! fresh, and how is its own affair. A [`Note`] says that a quiet move leads to a settled board.
+//! `specs/Tally.antt` defines what a cell knows of the notes that its board heard.
 //!
 //! The nearer of two distances, in `crates/awari_block/src/dues.rt`:
 //!
@@ -26,6 +26,8 @@ mod cells;
 mod closed;
 mod dues;
 mod fresh;
+mod fresh_sets;
+mod in_order;
 mod laws;
 mod notes;
 mod pits;
@@ -38,6 +40,8 @@ pub use boards::Boards;
 pub use cells::{Cell, Mark};
 pub use closed::ClosedPart;
 pub use dues::nearer;
+pub use fresh::InOrder;
+pub use fresh_sets::{ByKind, FreshSet};
 pub use laws::worked_examples;
 pub use notes::{Kind, Note};
 pub use pits::Pits;

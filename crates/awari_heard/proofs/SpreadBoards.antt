@@ -11,6 +11,7 @@ use Rattle.awari_block.specs.declared.cells.Mark.TheVariants.{Ended, Quiet, Capt
 use Rattle.std.proofs.lemmas.Bool.{false≢true}
 use Rattle.awari_block.specs.Blocks.{is_settled_in, times_due, cell_in, KeepSettled}
 use Rattle.awari_heard.specs.Heard.{IsSpread}
+use Rattle.awari_block.proofs.Freshness.{settled_cell}
 
 -- two boards of the level with one rank are one
 abbrev pub IsInjective : Type 0
@@ -31,14 +32,7 @@ some_settled c v d e = at c.mark refl
 
 -- value and distance of a settled cell
 pub settled_value : (c : Cell) → is_settled c.mark ≡ true → settled_by (status_of c) ≡ Some (c.score, c.dist)
-settled_value c h = by c.mark h
-  where
-    by : (k : Mark) → is_settled k ≡ true → settled_by (status_by k c.score c.plans c.dist) ≡ Some (c.score, c.dist)
-    by Settled h = refl
-    by Quiet h = absurd (false≢true h)
-    by Capturing h = absurd (false≢true h)
-    by Noted h = absurd (false≢true h)
-    by Ended h = absurd (false≢true h)
+settled_value c h = settled_cell c c.dist h refl
 
 pub kept_status : (a b : Cell) → Keeps a b → is_settled a.mark ≡ true → settled_by (status_of b) ≡ settled_by (status_of a)
 kept_status a b keeps e =

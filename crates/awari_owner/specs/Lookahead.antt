@@ -17,6 +17,7 @@ pub record ArePredecessors (level : ℕ) (p : Predecessors) : Type 0 where
 pub record IsAhead (level : ℕ) (ahead : Lookahead) : Type 0 where
   pub room : 0 < length ahead.boards.items
   pub found : All (ArePredecessors level) ahead.boards.items
+  pub index : ahead.index ≡ level
 
 -- the board of this number has this rank
 abbrev pub IsRankAt : ℕ → Lookahead → ℕ → Type 0

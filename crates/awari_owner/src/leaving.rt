@@ -9,8 +9,9 @@ ghost use Rattle.awari_rank.specs.Rank.{rank_of};
 ghost use Rattle.awari_block.specs.Part.{InBlock, Leaves};
 ghost use Rattle.awari_owner.specs.Leaving.{AreLeaving, AreLeavingBelow};
 
-use awari_block::{Boards, Pits};
+use awari_block::{Boards, InOrder, Pits};
 use awari_board::moves_keep_boards;
+use awari_index::Index;
 use awari_packed::PackedBoard;
 use awari_rank::{ranks_tell_boards_apart, size};
 use rayon::prelude::*;
@@ -19,7 +20,12 @@ use std::thread::Threads;
 
 /// For each of these boards the pits whose quiet moves lead to a board of another block. It takes a
 /// byte a board, and is refused only if memory runs out.
-pub fn leaving_pits(alloc: Global, boards: &Boards) -> Result<Vec<Pits>, AllocError>
+pub fn leaving_pits(
+    alloc: Global,
+    boards: &Boards<InOrder>,
+    index: &Index,
+) -> Result<Vec<Pits>, AllocError>
+    requires { index.now ≡ boards.now.level }
     ensures { IfOk result (λ leaving. AreLeaving boards.now leaving.items) }
 {
     let mut leaving = vec![in alloc; Pits::NONE; boards.cells().len()]?;
@@ -27,7 +33,7 @@ pub fn leaving_pits(alloc: Global, boards: &Boards) -> Result<Vec<Pits>, AllocEr
         return Ok(leaving);
     }
     for place in 0..leaving.len() {
-        leaving[place] = pits_at(boards, place);
+        leaving[place] = pits_at(boards, index, place);
     }
     Ok(leaving)
 }
@@ -36,8 +42,10 @@ pub fn leaving_pits(alloc: Global, boards: &Boards) -> Result<Vec<Pits>, AllocEr
 pub fn leaving_pits_parallel<R: Threads + Sync>(
     rt: &R,
     alloc: Global,
-    boards: &Boards,
+    boards: &Boards<InOrder>,
+    index: &Index,
 ) -> Result<Vec<Pits>, AllocError>
+    requires { index.now ≡ boards.now.level }
     ensures { IfOk result (λ leaving. AreLeaving boards.now leaving.items) }
 {
     let mut leaving = vec![in alloc; Pits::NONE; boards.cells().len()]?;
@@ -48,15 +56,16 @@ pub fn leaving_pits_parallel<R: Threads + Sync>(
         rt,
         leaving.as_mut_slice(),
         |place: usize, pits: &mut Pits|
-            requires { place < length boards.now.cells }
+            requires place { place < length boards.now.cells }
+            requires index { index.now ≡ boards.now.level }
             ensures { AreLeavingBelow boards.entry.now (boards.entry.now.start + place) 6 pits.new }
-        { *pits = pits_at(boards, place) },
+        { *pits = pits_at(boards, index, place) },
     );
     Ok(leaving)
 }
 
 /// Whether these are all boards of the level, so that no move leads to another block.
-fn are_all(boards: &Boards) -> bool
+fn are_all(boards: &Boards<InOrder>) -> bool
     ensures { IsTrue result → (rank pit : ℕ) → InBlock boards.now rank → Leaves boards.now rank pit → ⊥ }
 {
     moves_keep_boards();
@@ -68,12 +77,13 @@ fn are_all(boards: &Boards) -> bool
 /// The pits of the board at this place whose moves lead to a board of another block.
 ///
 /// The six pits are written out as plain numbers, so that the shifts of each move are constants.
-fn pits_at(boards: &Boards, place: usize) -> Pits
-    requires { place < length boards.now.cells }
+fn pits_at(boards: &Boards<InOrder>, index: &Index, place: usize) -> Pits
+    requires place { place < length boards.now.cells }
+    requires index { index.now ≡ boards.now.level }
     ensures { AreLeavingBelow boards.now (boards.now.start + place) 6 result }
 {
     let (start, _) = boards.block();
-    let board = boards.board(start + place as u32);
+    let board = boards.board(index, start + place as u32);
     let pits = with_leaving(Pits::NONE, boards, &board, 0);
     let pits = with_leaving(pits, boards, &board, 1);
     let pits = with_leaving(pits, boards, &board, 2);
@@ -84,7 +94,7 @@ fn pits_at(boards: &Boards, place: usize) -> Pits
 
 /// These pits, and `pit` if its move leads from this board to one of another block.
 #[inline(always)]
-fn with_leaving(pits: Pits, boards: &Boards, board: &PackedBoard, pit: u8) -> Pits
+fn with_leaving(pits: Pits, boards: &Boards<InOrder>, board: &PackedBoard, pit: u8) -> Pits
     requires board { IsBoard board.now }
     requires stones { sum board.now ≡ boards.now.level }
     requires own { pit < 6 }
@@ -99,7 +109,7 @@ fn with_leaving(pits: Pits, boards: &Boards, board: &PackedBoard, pit: u8) -> Pi
 
 /// Whether the move from `pit` of this board is quiet and leads to a board of another block.
 #[inline(always)]
-fn leaves(boards: &Boards, board: &PackedBoard, pit: u8) -> bool
+fn leaves(boards: &Boards<InOrder>, board: &PackedBoard, pit: u8) -> bool
     requires board { IsBoard board.now }
     requires stones { sum board.now ≡ boards.now.level }
     ensures { IsTrue result ↔ Leaves boards.now (rank_of board.now) pit }

@@ -9,7 +9,8 @@ ghost use Rattle.awari_board.specs.Rules.{IsBoard};
 ghost use Rattle.awari_block.specs.Part.{InBlock};
 ghost use Rattle.awari_owner.specs.Lookahead.{ArePredecessors, IsAhead, IsRankAt};
 
-use awari_block::{Boards, Note, Pits};
+use awari_block::{Boards, InOrder, Note, Pits};
+use awari_index::Index;
 use awari_packed::PackedBoard;
 use awari_scan::{MOST_PREDECESSORS, find_all};
 use std::alloc::{AllocError, Global};
@@ -36,6 +37,8 @@ pub struct Lookahead {
     pub boards: Vec<Predecessors>,
     /// The number among them of the board that is expected next.
     pub next: usize,
+    /// It finds the board of a rank.
+    index: Index,
     /// What was read of the cells. It is of no use, but while it is kept, no compiler leaves the reads
     /// out.
     read: u32,
@@ -60,21 +63,22 @@ impl Predecessors {
 
     /// Finds those of the board of this rank, in place.
     #[inline(always)]
-    fn find(&mut self, boards: &Boards, rank: u32)
+    fn find(&mut self, boards: &Boards<InOrder>, index: &Index, rank: u32)
         requires held { InBlock boards.now rank }
         requires low { boards.now.level ≤ 24 }
+        requires index { index.now ≡ boards.now.level }
         ensures found { ArePredecessors boards.now.level self.new }
         ensures rank { self.new.rank ≡ rank }
     {
         self.rank = rank;
-        self.board = boards.board(rank);
+        self.board = boards.board(index, rank);
         self.count = find_all(&self.board, &mut self.targets[..]);
     }
 
     /// Reads the cells of the board and of its predecessors. There is no branch on what is read, so the
     /// next cell is asked for while the last is still on its way.
     #[inline(always)]
-    fn read_cells(&self, boards: &Boards) -> u32 {
+    fn read_cells(&self, boards: &Boards<InOrder>) -> u32 {
         let mut read = dist_in(boards, self.rank);
         for target in self.targets.iter().take(self.count) {
             read ^= dist_in(boards, *target / 8);
@@ -84,10 +88,11 @@ impl Predecessors {
 }
 
 impl Lookahead {
-    /// Room for the boards that are spread next in a level of so many stones, at most 24. It takes 38
-    /// kilobytes, and is refused only if memory runs out.
-    pub fn new(alloc: Global, level: u8) -> Result<Lookahead, AllocError>
-        requires { level ≤ 24 }
+    /// Room for the boards that are spread next in a level of so many stones, at most 24, which has this
+    /// index. It takes 38 kilobytes, and is refused only if memory runs out.
+    pub fn new(alloc: Global, level: u8, index: Index) -> Result<Lookahead, AllocError>
+        requires low { level ≤ 24 }
+        requires index { index ≡ level }
         ensures { IfOk result (IsAhead level) }
     {
         let first = Predecessors::of(PackedBoard::unrank(level, 0));
@@ -95,6 +100,7 @@ impl Lookahead {
         Ok(Lookahead {
             boards,
             next: 0,
+            index,
             read: 0,
         })
     }
@@ -102,7 +108,7 @@ impl Lookahead {
     /// The number of the board of this rank among those that are spread next. If it is not the one that
     /// is expected, its predecessors are found now, and those of the boards of the open wave behind it.
     #[inline(always)]
-    pub fn place_of(&mut self, boards: &Boards, rank: u32) -> usize
+    pub fn place_of(&mut self, boards: &Boards<InOrder>, rank: u32) -> usize
         requires held { InBlock boards.now rank }
         requires low { boards.now.level ≤ 24 }
         requires ahead { IsAhead boards.now.level self.old }
@@ -119,7 +125,7 @@ impl Lookahead {
 
     /// Reads the cells of the boards that these notes are for, and their sets of `leaving`, which has one
     /// for each board.
-    pub fn look_at(&mut self, boards: &Boards, leaving: &[Pits], notes: &[Note])
+    pub fn look_at(&mut self, boards: &Boards<InOrder>, leaving: &[Pits], notes: &[Note])
         ensures { self.new ≡ record self.old { read = self.new.read } }
     {
         let (start, _) = boards.block();
@@ -141,7 +147,7 @@ impl Lookahead {
     }
 
     /// Finds the predecessors of this board and of those behind it, and reads their cells.
-    fn look(&mut self, boards: &Boards, rank: u32)
+    fn look(&mut self, boards: &Boards<InOrder>, rank: u32)
         requires held { InBlock boards.now rank }
         requires low { boards.now.level ≤ 24 }
         requires ahead { IsAhead boards.now.level self.old }
@@ -149,14 +155,14 @@ impl Lookahead {
         ensures place { IsRankAt rank self.new self.new.next }
     {
         let count = self.look_behind(boards, rank);
-        self.boards[0].find(boards, rank);
+        self.boards[0].find(boards, &self.index, rank);
         self.next = 0;
         self.read = self.read_cells(boards, count);
     }
 
     /// Finds the predecessors of the boards of the open wave behind this one, as far as there is room
     /// beside this one. Answers how many boards these are together with this one.
-    fn look_behind(&mut self, boards: &Boards, rank: u32) -> usize
+    fn look_behind(&mut self, boards: &Boards<InOrder>, rank: u32) -> usize
         requires held { InBlock boards.now rank }
         requires low { boards.now.level ≤ 24 }
         requires ahead { IsAhead boards.now.level self.old }
@@ -167,14 +173,14 @@ impl Lookahead {
             let Some(next) = boards.next_of_wave(last) else {
                 return place;
             };
-            self.boards[place].find(boards, next);
+            self.boards[place].find(boards, &self.index, next);
             last = next;
         }
         self.boards.len()
     }
 
     /// Reads the cells of the first boards and of their predecessors.
-    fn read_cells(&self, boards: &Boards, count: usize) -> u32 {
+    fn read_cells(&self, boards: &Boards<InOrder>, count: usize) -> u32 {
         let mut read = 0;
         for predecessors in self.boards.iter().take(count) {
             read ^= predecessors.read_cells(boards);
@@ -185,7 +191,7 @@ impl Lookahead {
 
 /// The distance in the cell of the board of this rank, 0 if the board is not in the block.
 #[inline(always)]
-fn dist_in(boards: &Boards, rank: u32) -> u32 {
+fn dist_in(boards: &Boards<InOrder>, rank: u32) -> u32 {
     if boards.holds(rank) {
         boards.cell(rank).dist
     } else {

@@ -23,7 +23,7 @@ use crate::lookahead::Lookahead;
 use crate::outboxes::Outboxes;
 use crate::queues::reserve_others;
 use crate::spreads::tell_all;
-use awari_block::{Block, Boards, Cell, ClosedPart, Note, Pits, block_length};
+use awari_block::{Block, Boards, Cell, ClosedPart, InOrder, Note, Pits, block_length};
 use awari_board::{SIDE, moves_keep_boards};
 use awari_index::Index;
 use awari_rank::{ranks_tell_boards_apart, size};
@@ -39,7 +39,7 @@ use std::thread::Threads;
 /// block.
 #[derive(Drop)]
 pub struct Part {
-    boards: Boards,
+    boards: Boards<InOrder>,
     lookahead: Lookahead,
     leaving: Vec<Pits>,
 }
@@ -75,9 +75,9 @@ impl Part {
         let block = Block::of(level, owners, owner);
         let index = Index::of(alloc, level)?;
         let cells = scanned_cells(alloc, shelf, &index, block.start, block.end)?;
-        let boards = scanned_boards(alloc, shelf, block.start, cells, index)?;
-        let leaving = leaving_pits(alloc, &boards)?;
-        Part::from_boards(alloc, boards, leaving)
+        let boards = scanned_boards(alloc, shelf, block.start, cells)?;
+        let leaving = leaving_pits(alloc, &boards, &index)?;
+        Part::from_boards(alloc, boards, index, leaving)
     }
 
     /// Answers what [`Part::scan`] does, with the block shared among as many threads as there are
@@ -101,9 +101,9 @@ impl Part {
         let block = Block::of(level, owners, owner);
         let index = Index::of(alloc, level)?;
         let cells = scanned_cells_parallel(rt, alloc, shelf, &index, block)?;
-        let boards = scanned_boards(alloc, shelf, block.start, cells, index)?;
-        let leaving = leaving_pits_parallel(rt, alloc, &boards)?;
-        Part::from_boards(alloc, boards, leaving)
+        let boards = scanned_boards(alloc, shelf, block.start, cells)?;
+        let leaving = leaving_pits_parallel(rt, alloc, &boards, &index)?;
+        Part::from_boards(alloc, boards, index, leaving)
     }
 
     /// Value in stones and distance in plies of the board of this rank, none if it is not settled.
@@ -204,7 +204,9 @@ impl Part {
         ensures own { KeepsOwn self.old self.new }
         ensures fresh { AreFresh self.new }
     {
-        self.boards.open_gain(gain);
+        let Ok(()) = self.boards.open_gain(gain) else {
+            unreachable!()
+        };
     }
 
     /// Opens the wave of a greater distance. Condition: no fresh board has a smaller one. It takes no memory.
@@ -238,7 +240,9 @@ impl Part {
         if note.dist == u32::MAX {
             return Err(OwnerFault::Far);
         }
-        self.boards.hear(note.target, note.pit, note.kind);
+        let Ok(()) = self.boards.hear(note.target, note.pit, note.kind) else {
+            unreachable!()
+        };
         Ok(())
     }
 
@@ -308,13 +312,19 @@ impl Part {
     }
 
     /// The part of these boards, with the pits of the moves that leave them.
-    fn from_boards(alloc: Global, boards: Boards, leaving: Vec<Pits>) -> Result<Part, OwnerFault>
+    fn from_boards(
+        alloc: Global,
+        boards: Boards<InOrder>,
+        index: Index,
+        leaving: Vec<Pits>,
+    ) -> Result<Part, OwnerFault>
+        requires index { index ≡ boards.level }
         requires fresh { AreFresh boards }
         requires leaving { AreLeaving boards leaving.items }
         ensures same { IfOk result (λ part. part ≡ boards) }
         ensures memory { IfErr result (λ fault. fault ≡ OwnerFault.Memory) }
     {
-        let lookahead = Lookahead::new(alloc, boards.stake().level)?;
+        let lookahead = Lookahead::new(alloc, boards.stake().level, index)?;
         Ok(Part {
             boards,
             lookahead,
@@ -354,15 +364,13 @@ fn scanned_boards(
     shelf: &Shelf,
     start: u32,
     cells: Vec<Cell>,
-    index: Index,
-) -> Result<Boards, AllocError>
+) -> Result<Boards<InOrder>, AllocError>
     requires low { length shelf.now ≤ HIGHEST_LEVEL }
-    requires level { index ≡ length shelf.now }
     requires short { start + vec_len cells < 2 ^ 32 }
     requires within { start + vec_len cells ≤ size_of (length shelf.now) }
     requires scanned { AreScanned (table_of shelf.now).value (length shelf.now) start (start + vec_len cells) cells.items }
     ensures scanned { IfOk result (IsScannedPart (table_of shelf.now).value (length shelf.now) start (start + vec_len cells)) }
     ensures fresh { IfOk result AreFresh }
 {
-    Boards::unopened(alloc, shelf.levels(), start, cells, index)
+    Boards::unopened(alloc, shelf.levels(), start, cells)
 }

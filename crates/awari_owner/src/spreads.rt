@@ -13,13 +13,13 @@ ghost use Rattle.awari_owner.specs.Spread.{is_held, own_notes, PutsAll, with_sen
 
 use crate::lookahead::Predecessors;
 use crate::queues::Queue;
-use awari_block::{Boards, Kind};
+use awari_block::{Boards, InOrder, Kind};
 use awari_board::moves_keep_boards;
 use awari_rank::ranks_tell_boards_apart;
 
 /// Tells the predecessors of a board that it is won or lost. A block has `span` boards.
 pub fn tell_all(
-    boards: &mut Boards,
+    boards: &mut Boards<InOrder>,
     queues: &mut Vec<Queue>,
     predecessors: &Predecessors,
     span: u32,
@@ -45,7 +45,7 @@ pub fn tell_all(
 
 /// Tells a predecessor, of which this is the code, that its quiet move leads to a won or a lost board.
 #[inline(always)]
-fn tell_one(boards: &mut Boards, queues: &mut Vec<Queue>, span: u32, kind: Kind, code: u32)
+fn tell_one(boards: &mut Boards<InOrder>, queues: &mut Vec<Queue>, span: u32, kind: Kind, code: u32)
     requires low { boards.old.level ≤ 24 }
     requires gain { (1 ≤ boards.old.gain) × (boards.old.gain ≤ boards.old.level) }
     requires near { boards.old.wave < 2 ^ 32 - 1 }
@@ -68,5 +68,7 @@ fn tell_one(boards: &mut Boards, queues: &mut Vec<Queue>, span: u32, kind: Kind,
         queues[(rank / span) as usize].put(note);
         return;
     }
-    boards.hear(rank, pit, kind);
+    let Ok(()) = boards.hear(rank, pit, kind) else {
+        unreachable!()
+    };
 }

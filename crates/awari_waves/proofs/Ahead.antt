@@ -2,45 +2,18 @@
 use Rattle.std.proofs.Common.{◌≡◌, ◌≢◌, ℕ, ◌+◌, ◌-◌, ◌/◌, ◌<◌, ◌≤◌, ◌==◌, Bool, true, false, inl, inr, All, List, drop, length, slice_range, get_or, set, refl, sym, ap, subst, ◌∙◌, arith, eqb-true, get_or-set_same, get_or-set_other}
 use Rattle.std.proofs.lemmas.Bool.{cases_eq}
 use Rattle.std.proofs.lemmas.Bool.Decides.{nat_tests}
-use Rattle.std.proofs.lemmas.List.{get_or_default}
 use Rattle.std.proofs.lemmas.List.Elements.{All-drop}
 use Rattle.std.proofs.lemmas.List.Folds.{drop_split}
 use Rattle.awari_block.specs.Blocks.{no_cell}
-use Rattle.awari_block.specs.Boards.{CanPut, Settles, stake_of}
+use Rattle.awari_block.specs.Boards.{Settles, stake_of}
 use Rattle.awari_block.specs.Cells.{is_settled}
 use Rattle.awari_block.specs.Part.{InBlock, Part, stored_at}
-use Rattle.awari_block.specs.declared.cells.Cell.{Cell}
 use Rattle.awari_block.specs.declared.notes.Kind.{Kind}
 use Rattle.awari_waves.specs.Ahead.{IsBoardOf, TellSettled}
-use Rattle.awari_waves.specs.declared.segments.Segment.TheInside.{Inside}
 use Rattle.awari_waves.specs.Waves.{IsCodeFor, notes_by}
-use Rattle.awari_waves.proofs.Heard.{stored}
 use Rattle.awari_block.proofs.ListParts.{All-append_first}
-use Rattle.awari_waves.proofs.Joining.{seen}
 use Rattle.awari_waves.proofs.Telling.{code_still, row_tells, tells_append}
 use Rattle.awari_heard.specs.Heard.{HearsNotes}
-
--- the cell at an index is that of a board
-pub stored_read : (a : Inside) (part : Part) (index : ℕ) (new : Cell) → seen a ≡ part → CanPut part (part.start + index) new
-    → stored_at part (part.start + index) ≡ get_or a.cells.items index (stored_at part (part.start + index))
-stored_read a part index new view can =
-    ap (λ (o : Part). stored_at o (part.start + index)) (sym view)
-    ∙ ap (λ i. get_or a.cells.items i no_cell) at
-    ∙ get_or_default a.cells.items index no_cell (stored_at part (part.start + index)) high
-  where
-    start : a.start ≡ part.start
-    start = ap (λ (o : Part). o.start) view
-
-    at : part.start + index - a.start ≡ index
-    at = omega (arith, start)
-
-    high : index < length a.cells.items
-    high = let inside = can.held.1 in let size = ap (λ (o : Part). length o.cells) view in omega (arith, inside, size)
-
--- the cell that is read says whether the board is settled
-pub settled_read : (a : Inside) (part : Part) (rank : ℕ) (old : Cell) (b : Bool) → seen a ≡ part → InBlock part rank → old ≡ get_or a.cells.items (rank - a.start) old → b ≡ is_settled old.mark
-    → b ≡ true → is_settled (stored_at part rank).mark ≡ true
-settled_read a part rank old b view held read is told = ap (λ (c : Cell). is_settled c.mark) (stored a part rank old old view held read) ∙ sym is ∙ told
 
 -- a board that was settled is settled still
 pub settled_still : (old now : Part) (rank : ℕ) → Settles old now → InBlock old rank → is_settled (stored_at old rank).mark ≡ true → is_settled (stored_at now rank).mark ≡ true

@@ -9,7 +9,7 @@ use Rattle.awari_rank.proofs.Ranking.{rank_of-below}
 use Rattle.awari_block.specs.Notes.{IsQuietMove, Has, IsNoteOf, gain_by, is_heard_at}
 use Rattle.awari_block.specs.Blocks.{Due, times_due}
 use Rattle.awari_block.specs.Part.{Part, InBlock, IsTallied, notes_for, settled_at}
-use Rattle.awari_block.specs.Boards.{stake_of}
+use Rattle.awari_block.specs.Boards.{stake_of, value_of_kind}
 use Rattle.awari_block.specs.declared.notes.Kind.{Kind}
 use Rattle.awari_block.specs.declared.notes.Kind.TheVariants.{Won, Lost}
 use Rattle.awari_block.specs.declared.notes.Note.{Note}
@@ -20,7 +20,7 @@ use Rattle.awari_scan.specs.Found.{Source, code_by, code_of}
 use Rattle.awari_heard.specs.Level.{AreHeard, no_part, part_at}
 use Rattle.awari_heard.proofs.SpreadBoards.{IsInjective, spread_before, spread_stays}
 use Rattle.awari_waves.specs.Lists.{AreDistinct}
-use Rattle.awari_waves.specs.Waves.{AreSourcesOf, CanAllHear, HearsFrom, IsCodeFor, AreSegments, AwaitsSpread, SettlesAll, codes_to, note_by, value_of_kind, with_pending, both_by, notes_by}
+use Rattle.awari_waves.specs.Waves.{AreSourcesOf, CanAllHear, HearsFrom, IsCodeFor, AreSegments, AwaitsSpread, SettlesAll, codes_to, note_by, with_pending, both_by, notes_by}
 use Rattle.awari_waves.proofs.Sources.{IsFrom, Keeps, codes_distinct, codes_in, distinct_apart, distinct_first, distinct_second, in_codes, in_map, in_or_not, source_all, source_from, sources_distinct}
 use Rattle.awari_waves.proofs.Laying.{sources_both}
 use Rattle.awari_block.proofs.NoteLists.{heard_note, Has-append_cases, Has-append_left, Has-append_right, all_has}

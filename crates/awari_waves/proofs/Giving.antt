@@ -1,26 +1,25 @@
--- What a segment is once it gave fresh boards away.
-use Rattle.std.proofs.Common.{◌≡◌, ◌≢◌, ℕ, zero, suc, ◌+◌, ◌<◌, List, [], ◌∷◌, ◌++◌, length, get_or, map, ℤ, pos, neg_ℤ, Some, refl, sym, ap, subst, subst₂, ◌∙◌, arith, true, inl, inr, append_assoc, length-append}
+-- What lists by distance have once the boards of a wave and a kind left them.
+use Rattle.std.proofs.Common.{◌≡◌, ◌≢◌, ℕ, zero, suc, ◌+◌, ◌<◌, List, [], ◌∷◌, ◌++◌, length, map, ℤ, pos, neg_ℤ, Some, refl, sym, subst, ◌∙◌, arith, true, inl, inr, append_assoc}
 use Rattle.std.proofs.lemmas.Int.{ints}
 use Rattle.std.proofs.lemmas.List.{get_or-map, length-map}
 use Rattle.std.proofs.lemmas.List.Elements.{All-from_recursion, All-cons, All-tail}
-use Rattle.std.proofs.lemmas.List.Sorted.{IsPermutation-refl, IsPermutation-sym, IsPermutation-trans, IsPermutation-append_comm, IsPermutation-append_left, IsPermutation-append_right, All-permutation, length_permutation}
+use Rattle.std.proofs.lemmas.List.Sorted.{IsPermutation-refl, IsPermutation-sym, IsPermutation-trans, IsPermutation-append_comm, IsPermutation-append_left, IsPermutation-append_right, All-permutation}
 use Rattle.std.specs.List.{All, AllByRecursion}
 use Rattle.std.specs.List.Sorted.{IsPermutation}
+use Rattle.awari_block.specs.Blocks.{Due, cell_in, due_dist, due_rank, is_settled_in, IsBlock, IsDueAs}
+use Rattle.awari_block.specs.Boards.{GivesFresh, other, value_of_kind}
+use Rattle.awari_waves.specs.ByDistance.{AreOfScore, AreSigned, IsAboveZero, IsBelowZero, listed_of}
 use Rattle.awari_block.specs.Cells.{IsEither}
-use Rattle.awari_block.specs.Blocks.{Due, cell_in, due_dist, due_rank, is_settled_in, times_due, unsettled, IsBlock, IsDueAs}
-use Rattle.awari_block.specs.Part.{Part, InBlock, settled_at}
+use Rattle.awari_waves.specs.Lists.{dues_from, dues_of, list_at, without}
+use Rattle.awari_block.specs.Part.{Part, InBlock, part_of, settled_at}
+use Rattle.awari_waves.specs.declared.by_distance.ByDistance.{ByDistance}
 use Rattle.awari_block.specs.declared.cells.Cell.{Cell}
 use Rattle.awari_block.specs.declared.notes.Kind.{Kind}
 use Rattle.awari_block.specs.declared.notes.Kind.TheVariants.{Won, Lost}
 use Rattle.awari_block.specs.declared.stakes.Stake.{Stake}
-use Rattle.awari_block.proofs.BlockLemmas.{due_settled, popped, settled_inside, times_due-permuted}
-use Rattle.awari_heard.proofs.SpreadBoards.{settled_value}
-use Rattle.awari_waves.specs.Lists.{dues_from, dues_of, list_at, without}
-use Rattle.awari_waves.specs.SegmentFields.{IsAboveZero, IsBelowZero, IsSegment}
-use Rattle.awari_waves.specs.Waves.{GivesFresh, value_of_kind}
-use Rattle.awari_waves.specs.declared.segments.Segment.TheInside.{Inside}
+use Rattle.awari_block.proofs.BlockLemmas.{due_settled, settled_inside}
+use Rattle.awari_block.proofs.Freshness.{settled_cell}
 use Rattle.awari_block.proofs.ListParts.{All-append_first, All-append_second}
-use Rattle.awari_waves.proofs.Joining.{seen}
 
 -- ---- lists
 
@@ -37,18 +36,6 @@ dues_without n d (l ∷ ls) zero is =
 dues_without n d (l ∷ ls) (suc k) is =
     IsPermutation-trans _ _ _ (front_swap (map (λ r. (n, r)) (list_at ls k)) (map (λ r. (d, r)) l) (dues_from (suc d) (without ls k)))
     (IsPermutation-append_right (map (λ r. (d, r)) l) _ _ (dues_without n (suc d) ls k (omega (arith, is))))
-
-block_less : (stake : Stake) (start : ℕ) (cells : List Cell) (given rest fresh : List Due) → IsPermutation (given ++ rest) fresh → IsBlock stake start cells fresh → IsBlock stake start cells rest
-block_less stake start cells [] rest fresh moved sound = record {
-  fit = sound.fit;
-  settled = λ r. let e = same r in let h = sound.settled r in omega (arith, e, h);
-  due = All-permutation (λ (f : Due). IsDueAs stake f (cell_in start cells (due_rank f))) fresh rest (IsPermutation-sym rest fresh moved) sound.due;
-}
-  where
-    same : (r : ℕ) → times_due rest r ≡ times_due fresh r
-    same r = sym (times_due-permuted rest fresh r moved)
-block_less stake start cells (f ∷ given) rest fresh moved sound =
-    block_less stake start cells given rest (given ++ rest) (IsPermutation-refl (given ++ rest)) (popped stake start cells fresh (given ++ rest) f sound moved)
 
 abbrev due_at : ℕ → ℕ → Due
 due_at w r = (w, r)
@@ -88,153 +75,115 @@ either_of : (Q : Due → Type 0) (xs ys : List Due) → All Q xs → All Q ys �
 either_of Q [] ys a b = b
 either_of Q (x ∷ xs) ys a b = All-cons Q x (xs ++ ys) (a 0 x (omega arith)) (either_of Q xs ys (All-tail Q x xs a) b)
 
--- what is given away is spread
-given_count : (w : ℕ) (given : List ℕ) (rest fresh : List Due) (spread n : ℕ) (cells : List Cell) → n ≡ length given → IsPermutation (map (λ r. (w, r)) given ++ rest) fresh
-    → spread + (length fresh + unsettled cells) ≡ length cells → spread + n + (length rest + unsettled cells) ≡ length cells
-given_count w given rest fresh spread n cells many moved count =
-    let longer = length_permutation (map (due_at w) given ++ rest) fresh moved in
-    let both = length-append (map (due_at w) given) rest in
-    let long : length (map (due_at w) given) ≡ length given = length-map given (due_at w) in
-    omega (arith, longer, both, long, count, many)
+-- ---- the boards of a block
 
--- ---- a segment
+-- these boards are given away, and what is left is right
+pub record IsGiven (kind : Kind) (P : ℤ → Type 0) (start : ℕ) (cells : List Cell) (stake : Stake) (fresh rest : List Due) (given : List ℕ) (stay : List Due) : Type 0 where
+  pub gives : GivesFresh kind (part_of stake start cells fresh) (part_of stake start cells rest) given
+  pub scores : AreOfScore P start cells stay
 
--- a fresh board of this sign
-abbrev IsMine : Stake → ℕ → List Cell → (ℤ → Type 0) → Due → Type 0
-IsMine stake start cells P f =
-    (is_settled_in start cells (due_rank f) ≡ true) × IsDueAs stake f (cell_in start cells (due_rank f)) × P (cell_in start cells (due_rank f)).score
+-- the boards that some lists have, of which this holds
+module _ (stake : Stake) (start : ℕ) (cells : List Cell) (fresh : List Due) (sound : IsBlock stake start cells fresh) where
+  -- if the board of this is of the open wave, it has this value
+  abbrev IsValued : ℤ → Due → Type 0
+  IsValued v f = due_dist f ≡ stake.wave → InBlock (part_of stake start cells fresh) (due_rank f) × (settled_at (part_of stake start cells fresh) (due_rank f) ≡ Some (v, stake.wave))
 
-module _ (a : Inside) (sound : IsSegment a) where
-  abbrev fresh : List Due
-  fresh = dues_of a.lost ++ dues_of a.won
+  value_at : (P : ℤ → Type 0) (v : ℤ) (f : Due) → ((s : ℤ) → IsEither stake.gain s → P s → s ≡ v) → is_settled_in start cells (due_rank f) ≡ true → IsDueAs stake f (cell_in start cells (due_rank f))
+      → P (cell_in start cells (due_rank f)).score → IsValued v f
+  value_at P v f sign settled due score e =
+      let inside = settled_inside start cells (due_rank f) settled in
+      let cell = cell_in start cells (due_rank f) in
+      ((inside.0, inside.1), settled_cell cell stake.wave inside.2 (due.near ∙ e) ∙ (λ i. Some (sign cell.score due.valued score i, stake.wave)))
 
-  all_settled : All (λ (f : Due). is_settled_in a.start a.cells.items (due_rank f) ≡ true) fresh
-  all_settled = All-from_recursion _ fresh (due_settled (is_settled_in a.start a.cells.items) fresh sound.block.settled)
+  -- boards of the open wave leave the lists of a kind
+  module _ (kind : Kind) (P Q : ℤ → Type 0) (sign : (s : ℤ) → IsEither stake.gain s → P s → s ≡ value_of_kind kind stake.gain) (opposite : (s : ℤ) → IsEither stake.gain s → Q s → s ≡ value_of_kind (other kind) stake.gain)
+      (mine others : List (List ℕ)) (rest : List Due) (whole : IsPermutation (dues_of mine ++ dues_of others) fresh) (left : IsPermutation (dues_of (without mine stake.wave) ++ dues_of others) rest)
+      (of_mine : AreOfScore P start cells (dues_of mine)) (of_others : AreOfScore Q start cells (dues_of others)) where
+    abbrev given : List ℕ
+    given = list_at mine stake.wave
 
-  lost_mine : All (IsMine a.stake a.start a.cells.items IsBelowZero) (dues_of a.lost)
-  lost_mine k d h = (
-    All-append_first (λ (f : Due). is_settled_in a.start a.cells.items (due_rank f) ≡ true) (dues_of a.lost) (dues_of a.won) all_settled k d h,
-    All-append_first (λ (f : Due). IsDueAs a.stake f (cell_in a.start a.cells.items (due_rank f))) (dues_of a.lost) (dues_of a.won) sound.block.due k d h,
-    sound.lost k d h,
-  )
+    abbrev gone : List Due
+    gone = map (due_at stake.wave) given
 
-  won_mine : All (IsMine a.stake a.start a.cells.items IsAboveZero) (dues_of a.won)
-  won_mine k d h = (
-    All-append_second (λ (f : Due). is_settled_in a.start a.cells.items (due_rank f) ≡ true) (dues_of a.lost) (dues_of a.won) all_settled k d h,
-    All-append_second (λ (f : Due). IsDueAs a.stake f (cell_in a.start a.cells.items (due_rank f))) (dues_of a.lost) (dues_of a.won) sound.block.due k d h,
-    sound.won k d h,
-  )
+    abbrev stay : List Due
+    stay = dues_of (without mine stake.wave)
 
-  -- such a board of the open wave
-  mine_is : (P : ℤ → Type 0) (v : ℤ) (r : ℕ) → ((s : ℤ) → IsEither a.stake.gain s → P s → s ≡ v) → IsMine a.stake a.start a.cells.items P (a.stake.wave, r) → InBlock (seen a) r × (settled_at (seen a) r ≡ Some (v, a.stake.wave))
-  mine_is P v r sign (settled, due, score) =
-      let inside = settled_inside a.start a.cells.items r settled in
-      let cell = cell_in a.start a.cells.items r in
-      ((inside.0, inside.1), settled_value cell inside.2 ∙ (λ i. Some (sign cell.score due.valued score i, due.near i)))
+    gone_first : IsPermutation (gone ++ stay) (dues_of mine)
+    gone_first = dues_without stake.wave 0 mine stake.wave (omega arith)
 
-  below_is : (s : ℤ) → IsEither a.stake.gain s → IsBelowZero s → s ≡ neg_ℤ (pos a.stake.gain)
-  below_is s (inl up) low = absurd (omega (arith, ints, up, low))
-  below_is s (inr down) low = down
-
-  above_is : (s : ℤ) → IsEither a.stake.gain s → IsAboveZero s → s ≡ pos a.stake.gain
-  above_is s (inl up) high = up
-  above_is s (inr down) high = absurd (omega (arith, ints, down, high))
-
-  -- a fresh board of the open wave, if it is one, has this value
-  abbrev IsLeft : Kind → Due → Type 0
-  IsLeft kind f = due_dist f ≡ a.stake.wave → settled_at (seen a) (due_rank f) ≡ Some (value_of_kind kind a.stake.gain, a.stake.wave)
-
-  mine_at : (P : ℤ → Type 0) (v : ℤ) (f : Due) → ((s : ℤ) → IsEither a.stake.gain s → P s → s ≡ v) → IsMine a.stake a.start a.cells.items P f → due_dist f ≡ a.stake.wave
-      → settled_at (seen a) (due_rank f) ≡ Some (v, a.stake.wave)
-  mine_at P v f sign (settled, due, score) e =
-      let inside = settled_inside a.start a.cells.items (due_rank f) settled in
-      let cell = cell_in a.start a.cells.items (due_rank f) in
-      settled_value cell inside.2 ∙ (λ i. Some (sign cell.score due.valued score i, (due.near ∙ e) i))
-
-  module _ (lost : List (List ℕ)) (is : lost ≡ without a.lost a.stake.wave) (n : ℕ) (many : n ≡ length (list_at a.lost a.stake.wave)) where
-    abbrev lost_given : List ℕ
-    lost_given = list_at a.lost a.stake.wave
-
-    mine_moved : IsPermutation {X = Due} (map (λ r. (a.stake.wave, r)) lost_given ++ dues_of lost) (dues_of a.lost)
-    mine_moved = subst (λ (ls : List (List ℕ)). IsPermutation {X = Due} (map (λ r. (a.stake.wave, r)) lost_given ++ dues_of ls) (dues_of a.lost)) (sym is) (dues_without a.stake.wave 0 a.lost a.stake.wave (omega arith))
-
-    moved : IsPermutation {X = Due} (map (λ r. (a.stake.wave, r)) lost_given ++ (dues_of lost ++ dues_of a.won)) fresh
+    moved : IsPermutation (gone ++ rest) fresh
     moved =
-        subst (λ (l : List Due). IsPermutation l fresh) (append_assoc (map (λ r. (a.stake.wave, r)) lost_given) (dues_of lost) (dues_of a.won))
-        (IsPermutation-append_left (dues_of a.won) (map (λ r. (a.stake.wave, r)) lost_given ++ dues_of lost) (dues_of a.lost) mine_moved)
+        IsPermutation-trans _ _ _ (IsPermutation-append_right gone _ _ (IsPermutation-sym _ _ left))
+        (IsPermutation-trans _ _ _ (subst (λ (l : List Due). IsPermutation l (dues_of mine ++ dues_of others)) (append_assoc gone stay (dues_of others)) (IsPermutation-append_left (dues_of others) (gone ++ stay) (dues_of mine) gone_first)) whole)
 
-    mine_kept : All (IsMine a.stake a.start a.cells.items IsBelowZero) (map (λ r. (a.stake.wave, r)) lost_given ++ dues_of lost)
-    mine_kept = All-permutation (IsMine a.stake a.start a.cells.items IsBelowZero) (dues_of a.lost) _ (IsPermutation-sym _ _ mine_moved) lost_mine
+    settled : All (λ (f : Due). is_settled_in start cells (due_rank f) ≡ true) (dues_of mine ++ dues_of others)
+    settled = All-permutation (λ (f : Due). is_settled_in start cells (due_rank f) ≡ true) fresh _ (IsPermutation-sym _ _ whole) (All-from_recursion (λ (f : Due). is_settled_in start cells (due_rank f) ≡ true) fresh (due_settled (is_settled_in start cells) fresh sound.settled))
 
-    pub lost_given_segment : IsSegment (record { start = a.start; stake = a.stake; cells = a.cells; awaits = a.awaits; lost = lost; won = a.won; spread = a.spread + n })
-    lost_given_segment = record {
-      low = sound.low;
-      opened = sound.opened;
-      inward = sound.inward;
-      fits = sound.fits;
-      within = sound.within;
-      awaited = sound.awaited;
-      block = block_less a.stake a.start a.cells.items (map (λ r. (a.stake.wave, r)) lost_given) (dues_of lost ++ dues_of a.won) fresh moved sound.block;
-      lost = λ k d h. (All-append_second (IsMine a.stake a.start a.cells.items IsBelowZero) (map (λ r. (a.stake.wave, r)) lost_given) (dues_of lost) mine_kept k d h).2;
-      won = sound.won;
-      count = given_count a.stake.wave lost_given (dues_of lost ++ dues_of a.won) fresh a.spread n a.cells.items many moved sound.count;
+    due : All (λ (f : Due). IsDueAs stake f (cell_in start cells (due_rank f))) (dues_of mine ++ dues_of others)
+    due = All-permutation (λ (f : Due). IsDueAs stake f (cell_in start cells (due_rank f))) fresh _ (IsPermutation-sym _ _ whole) sound.due
+
+    mine_valued : All (IsValued (value_of_kind kind stake.gain)) (gone ++ stay)
+    mine_valued = All-permutation (IsValued (value_of_kind kind stake.gain)) (dues_of mine) _ (IsPermutation-sym _ _ gone_first) (λ k d h. value_at P _ _ sign
+        (All-append_first (λ (f : Due). is_settled_in start cells (due_rank f) ≡ true) (dues_of mine) (dues_of others) settled k d h)
+        (All-append_first (λ (f : Due). IsDueAs stake f (cell_in start cells (due_rank f))) (dues_of mine) (dues_of others) due k d h) (of_mine k d h))
+
+    others_valued : All (IsValued (value_of_kind (other kind) stake.gain)) (dues_of others)
+    others_valued k d h = value_at Q _ _ opposite
+        (All-append_second (λ (f : Due). is_settled_in start cells (due_rank f) ≡ true) (dues_of mine) (dues_of others) settled k d h)
+        (All-append_second (λ (f : Due). IsDueAs stake f (cell_in start cells (due_rank f))) (dues_of mine) (dues_of others) due k d h) (of_others k d h)
+
+    pub given_away : IsGiven kind P start cells stake fresh rest given stay
+    given_away = record {
+      gives = record {
+        rest = refl;
+        moved = moved;
+        valued = λ k d h. unmapped (IsValued (value_of_kind kind stake.gain)) stake.wave given (All-append_first (IsValued (value_of_kind kind stake.gain)) gone stay mine_valued) k d h refl;
+        left = λ k d h e. (All-permutation (IsValued (value_of_kind (other kind) stake.gain)) (stay ++ dues_of others) rest left
+            (either_of (IsValued (value_of_kind (other kind) stake.gain)) stay (dues_of others)
+            (λ j c less at. absurd (All-from_recursion _ stay (none_at stake.wave 0 mine stake.wave (omega arith)) j c less at)) others_valued) k d h e).1;
+      };
+      scores = All-append_second (λ (f : Due). P (cell_in start cells (due_rank f)).score) gone stay (All-permutation (λ (f : Due). P (cell_in start cells (due_rank f)).score) (dues_of mine) _ (IsPermutation-sym _ _ gone_first) of_mine);
     }
 
-    pub lost_gives : GivesFresh Lost (seen a) (seen (record { start = a.start; stake = a.stake; cells = a.cells; awaits = a.awaits; lost = lost; won = a.won; spread = a.spread + n })) lost_given
-    lost_gives = record {
-      rest = refl;
-      moved = moved;
-      valued = λ k d h.
-          mine_is IsBelowZero (neg_ℤ (pos a.stake.gain)) (get_or lost_given k d) below_is
-          (unmapped (IsMine a.stake a.start a.cells.items IsBelowZero) a.stake.wave lost_given (All-append_first (IsMine a.stake a.start a.cells.items IsBelowZero) (map (λ r. (a.stake.wave, r)) lost_given) (dues_of lost) mine_kept) k d h);
-      left = either_of (IsLeft Won) (dues_of lost) (dues_of a.won)
-          (λ k d h e. absurd (All-from_recursion _ (dues_of (without a.lost a.stake.wave)) (none_at a.stake.wave 0 a.lost a.stake.wave (omega arith)) k d (let long = ap (λ ls. length (dues_of ls)) is in omega (arith, h, long))
-          (ap (λ ls. due_dist (get_or (dues_of ls) k d)) (sym is) ∙ e)))
-          (λ k d h e. mine_at IsAboveZero (pos a.stake.gain) (get_or (dues_of a.won) k d) above_is (won_mine k d h) e);
-    }
+below_is : (gain : ℕ) (s : ℤ) → IsEither gain s → IsBelowZero s → s ≡ neg_ℤ (pos gain)
+below_is gain s (inl up) low = absurd (omega (arith, ints, up, low))
+below_is gain s (inr down) low = down
 
-  module _ (won : List (List ℕ)) (is : won ≡ without a.won a.stake.wave) (n : ℕ) (many : n ≡ length (list_at a.won a.stake.wave)) where
-    abbrev won_given : List ℕ
-    won_given = list_at a.won a.stake.wave
+above_is : (gain : ℕ) (s : ℤ) → IsEither gain s → IsAboveZero s → s ≡ pos gain
+above_is gain s (inl up) high = up
+above_is gain s (inr down) high = absurd (omega (arith, ints, down, high))
 
-    mine_moved_won : IsPermutation {X = Due} (map (λ r. (a.stake.wave, r)) won_given ++ dues_of won) (dues_of a.won)
-    mine_moved_won = subst (λ (ls : List (List ℕ)). IsPermutation {X = Due} (map (λ r. (a.stake.wave, r)) won_given ++ dues_of ls) (dues_of a.won)) (sym is) (dues_without a.stake.wave 0 a.won a.stake.wave (omega arith))
+-- ---- the lists of a kind are given away
 
-    moved_won : IsPermutation {X = Due} (map (λ r. (a.stake.wave, r)) won_given ++ (dues_of a.lost ++ dues_of won)) fresh
-    moved_won =
-        IsPermutation-trans _ _ _ (front_swap (map (λ r. (a.stake.wave, r)) won_given) (dues_of a.lost) (dues_of won))
-        (IsPermutation-append_right (dues_of a.lost) (map (λ r. (a.stake.wave, r)) won_given ++ dues_of won) (dues_of a.won) mine_moved_won)
+module _ (wave : ℕ) (fresh : ByDistance) (stake : Stake) (start : ℕ) (cells : List Cell) (at : stake.wave ≡ wave) (sound : IsBlock stake start cells (listed_of start cells fresh)) (signed : AreSigned start cells fresh) where
+  pub lost_given : (lost : List (List ℕ)) → lost ≡ without fresh.lost wave
+      → GivesFresh Lost (part_of stake start cells (listed_of start cells fresh)) (part_of stake start cells (dues_of lost ++ dues_of fresh.won)) (list_at fresh.lost wave) × AreSigned start cells (record { lost = lost; won = fresh.won })
+  lost_given lost is =
+      subst (λ (ls : List (List ℕ)). GivesFresh Lost (part_of stake start cells (listed_of start cells fresh)) (part_of stake start cells (dues_of ls ++ dues_of fresh.won)) (list_at fresh.lost wave) × AreSigned start cells (record { lost = ls; won = fresh.won })) (sym is)
+      (subst (λ w. GivesFresh Lost (part_of stake start cells (listed_of start cells fresh)) (part_of stake start cells (dues_of (without fresh.lost w) ++ dues_of fresh.won)) (list_at fresh.lost w) × AreSigned start cells (record { lost = without fresh.lost w; won = fresh.won })) at
+      (away.gives, record { lost = away.scores; won = signed.won }))
+    where
+      stay : List Due
+      stay = dues_of (without fresh.lost stake.wave)
 
-    mine_kept_won : All (IsMine a.stake a.start a.cells.items IsAboveZero) (map (λ r. (a.stake.wave, r)) won_given ++ dues_of won)
-    mine_kept_won = All-permutation (IsMine a.stake a.start a.cells.items IsAboveZero) (dues_of a.won) _ (IsPermutation-sym _ _ mine_moved_won) won_mine
+      away : IsGiven Lost IsBelowZero start cells stake (listed_of start cells fresh) (stay ++ dues_of fresh.won) (list_at fresh.lost stake.wave) stay
+      away = given_away stake start cells (listed_of start cells fresh) sound Lost IsBelowZero IsAboveZero (below_is stake.gain) (above_is stake.gain) fresh.lost fresh.won (stay ++ dues_of fresh.won)
+          (IsPermutation-refl (listed_of start cells fresh)) (IsPermutation-refl (stay ++ dues_of fresh.won)) signed.lost signed.won
 
-    pub won_given_segment : IsSegment (record { start = a.start; stake = a.stake; cells = a.cells; awaits = a.awaits; lost = a.lost; won = won; spread = a.spread + n })
-    won_given_segment = record {
-      low = sound.low;
-      opened = sound.opened;
-      inward = sound.inward;
-      fits = sound.fits;
-      within = sound.within;
-      awaited = sound.awaited;
-      block = block_less a.stake a.start a.cells.items (map (λ r. (a.stake.wave, r)) won_given) (dues_of a.lost ++ dues_of won) fresh moved_won sound.block;
-      lost = sound.lost;
-      won = λ k d h. (All-append_second (IsMine a.stake a.start a.cells.items IsAboveZero) (map (λ r. (a.stake.wave, r)) won_given) (dues_of won) mine_kept_won k d h).2;
-      count = given_count a.stake.wave won_given (dues_of a.lost ++ dues_of won) fresh a.spread n a.cells.items many moved_won sound.count;
-    }
+  pub won_given : (won : List (List ℕ)) → won ≡ without fresh.won wave
+      → GivesFresh Won (part_of stake start cells (listed_of start cells fresh)) (part_of stake start cells (dues_of fresh.lost ++ dues_of won)) (list_at fresh.won wave) × AreSigned start cells (record { lost = fresh.lost; won = won })
+  won_given won is =
+      subst (λ (ls : List (List ℕ)). GivesFresh Won (part_of stake start cells (listed_of start cells fresh)) (part_of stake start cells (dues_of fresh.lost ++ dues_of ls)) (list_at fresh.won wave) × AreSigned start cells (record { lost = fresh.lost; won = ls })) (sym is)
+      (subst (λ w. GivesFresh Won (part_of stake start cells (listed_of start cells fresh)) (part_of stake start cells (dues_of fresh.lost ++ dues_of (without fresh.won w))) (list_at fresh.won w) × AreSigned start cells (record { lost = fresh.lost; won = without fresh.won w })) at
+      (away.gives, record { lost = signed.lost; won = away.scores }))
+    where
+      stay : List Due
+      stay = dues_of (without fresh.won stake.wave)
 
-    pub won_gives : GivesFresh Won (seen a) (seen (record { start = a.start; stake = a.stake; cells = a.cells; awaits = a.awaits; lost = a.lost; won = won; spread = a.spread + n })) won_given
-    won_gives = record {
-      rest = refl;
-      moved = moved_won;
-      valued = λ k d h.
-          mine_is IsAboveZero (pos a.stake.gain) (get_or won_given k d) above_is
-          (unmapped (IsMine a.stake a.start a.cells.items IsAboveZero) a.stake.wave won_given (All-append_first (IsMine a.stake a.start a.cells.items IsAboveZero) (map (λ r. (a.stake.wave, r)) won_given) (dues_of won) mine_kept_won) k d h);
-      left = either_of (IsLeft Lost) (dues_of a.lost) (dues_of won)
-          (λ k d h e. mine_at IsBelowZero (neg_ℤ (pos a.stake.gain)) (get_or (dues_of a.lost) k d) below_is (lost_mine k d h) e)
-          (λ k d h e. absurd (All-from_recursion _ (dues_of (without a.won a.stake.wave)) (none_at a.stake.wave 0 a.won a.stake.wave (omega arith)) k d (let long = ap (λ ls. length (dues_of ls)) is in omega (arith, h, long))
-          (ap (λ ls. due_dist (get_or (dues_of ls) k d)) (sym is) ∙ e)));
-    }
+      away : IsGiven Won IsAboveZero start cells stake (listed_of start cells fresh) (dues_of fresh.lost ++ stay) (list_at fresh.won stake.wave) stay
+      away = given_away stake start cells (listed_of start cells fresh) sound Won IsAboveZero IsBelowZero (above_is stake.gain) (below_is stake.gain) fresh.won fresh.lost (dues_of fresh.lost ++ stay)
+          (IsPermutation-append_comm (dues_of fresh.won) (dues_of fresh.lost)) (IsPermutation-append_comm stay (dues_of fresh.lost)) signed.won signed.lost
 
 -- what is said of a kind
-pub gives_as : (kind k : Kind) (part old new : Part) (given : List ℕ) → kind ≡ k → old ≡ part → GivesFresh k old new given → GivesFresh kind part new given
-gives_as kind k part old new given is view gives = subst₂ (λ (j : Kind) (p : Part). GivesFresh j p new given) (sym is) view gives
+pub gives_as : (kind k : Kind) (part new : Part) (given : List ℕ) → kind ≡ k → GivesFresh k part new given → GivesFresh kind part new given
+gives_as kind k part new given is gives = subst (λ (j : Kind). GivesFresh j part new given) (sym is) gives

@@ -1,24 +1,22 @@
 -- How far a board is that a note settles.
-use Rattle.std.proofs.Common.{◌≡◌, ℕ, ◌+◌, ◌-◌, ◌<◌, refl, subst, get_or, Bool, true, false, cond, max, ℤ, pos, Some, sym, ap, ◌∙◌, arith}
+use Rattle.std.proofs.Common.{◌≡◌, ℕ, ◌+◌, ◌<◌, ◌&&◌, ◌∷◌, not, refl, subst, subst₂, All, Bool, true, false, List, cond, max, ℤ, pos, Some, sym, ap, ◌∙◌, arith}
 use Rattle.std.proofs.lemmas.Bool.{false≢true}
+use Rattle.std.proofs.lemmas.List.Elements.{All-cons}
+use Rattle.std.proofs.lemmas.List.Sorted.{All-permutation}
+use Rattle.awari_block.specs.Blocks.{Due, due_dist}
+use Rattle.awari_block.specs.Boards.{HearsNote, Joins, JoinsIf}
 use Rattle.awari_block.specs.Tally as tally
 use Rattle.awari_block.specs.Tally.{Best}
 use Rattle.awari_block.specs.Steps.{after_note, cell_after_note}
-use Rattle.awari_block.specs.Cells.{is_settled, status_by, view_of, Fits, Keeps, SettlesAtStake}
-use Rattle.awari_block.specs.Part.{settled_by, Part, InBlock, stored_at}
+use Rattle.awari_block.specs.Cells.{is_settled, status_by, view_of}
+use Rattle.awari_block.specs.Part.{settled_by, Part, SameLevel, stored_at}
 use Rattle.awari_block.specs.declared.cells.Cell.{Cell}
 use Rattle.awari_block.specs.declared.cells.Mark.{Mark}
 use Rattle.awari_block.specs.declared.cells.Mark.TheVariants as mark
 use Rattle.awari_block.specs.declared.notes.Kind.{Kind}
 use Rattle.awari_block.specs.declared.notes.Kind.TheVariants.{Won, Lost}
-use Rattle.std.proofs.lemmas.List.{get_or_default}
-use Rattle.awari_block.specs.Awaited.{AwaitsNoMore}
-use Rattle.awari_block.specs.Blocks.{no_cell}
-use Rattle.awari_block.specs.Boards.{CanPut, stake_of}
 use Rattle.awari_heard.proofs.SpreadBoards.{settled_value}
-use Rattle.awari_waves.specs.Each.{IsFarther}
-use Rattle.awari_waves.specs.declared.segments.Segment.TheInside.{Inside}
-use Rattle.awari_waves.proofs.Joining.{seen}
+use Rattle.awari_waves.specs.Waves.{StaysPassed}
 
 far_pair : (a b : ℤ × ℕ) → Some a ≡ Some b → a.1 ≡ b.1
 far_pair a b same = let both : a ≡ b = cc in ap (λ (c : ℤ × ℕ). c.1) both
@@ -43,29 +41,21 @@ heard_far old new kind x t d view unset settled =
     note_far old.mark _ old.score old.plans old.dist kind x t d new.score new.dist unset
     (ap settled_by (sym (ap (λ (c : tally.Cell). c.status) view)) ∙ settled_value new settled)
 
--- ---- the cell that was read at this rank, and the one that takes its place
+-- the fresh boards stay farther than the open wave
+pub joins_passed : (old new : Part) (target pit : ℕ) (kind : Kind) → SameLevel old new → HearsNote old new target pit kind → Joins (stored_at old target) (stored_at new target) target old.fresh new.fresh → StaysPassed old new
+joins_passed old new target pit kind same hears joins passed =
+    subst (λ w. All (λ (f : Due). w < due_dist f) new.fresh) (sym same.wave) (by (is_settled (stored_at new target).mark) (is_settled (stored_at old target).mark) refl refl)
+  where
+    stay : new.fresh ≡ old.fresh → All (λ (f : Due). old.wave < due_dist f) new.fresh
+    stay is = subst (All (λ (f : Due). old.wave < due_dist f)) (sym is) passed
 
-module _ (a : Inside) (part : Part) (rank : ℕ) (old new : Cell) (view : seen a ≡ part) (held : InBlock part rank) (read : old ≡ get_or a.cells.items (rank - a.start) old) where
-  pub at : part.start + (rank - a.start) ≡ rank
-  at = let start = ap (λ (o : Part). o.start) view in let low = held.0 in omega (arith, start, low)
+    by : (a b : Bool) → is_settled (stored_at new target).mark ≡ a → is_settled (stored_at old target).mark ≡ b → All (λ (f : Due). old.wave < due_dist f) new.fresh
+    by true false ea eb =
+        All-permutation (λ (f : Due). old.wave < due_dist f) (((stored_at new target).dist, target) ∷ old.fresh) new.fresh (subst₂ (λ x y. JoinsIf (x && not y) (stored_at new target) target old.fresh new.fresh) ea eb joins)
+        (All-cons (λ (f : Due). old.wave < due_dist f) ((stored_at new target).dist, target) old.fresh (heard_far (stored_at old target) (stored_at new target) kind pit old.gain old.wave hears.cell eb ea) passed)
+    by true true ea eb = stay (subst₂ (λ x y. JoinsIf (x && not y) (stored_at new target) target old.fresh new.fresh) ea eb joins)
+    by false true ea eb = stay (subst₂ (λ x y. JoinsIf (x && not y) (stored_at new target) target old.fresh new.fresh) ea eb joins)
+    by false false ea eb = stay (subst₂ (λ x y. JoinsIf (x && not y) (stored_at new target) target old.fresh new.fresh) ea eb joins)
 
-  pub stored : stored_at part rank ≡ old
-  stored =
-      let here : InBlock (seen a) rank = subst (λ (o : Part). InBlock o rank) (sym view) held in
-      subst (λ (o : Part). stored_at o rank ≡ old) view (get_or_default a.cells.items (rank - a.start) no_cell old here.1 ∙ sym read)
-
-  pub can_put : Fits a.stake new → Keeps old new → SettlesAtStake a.stake old new → AwaitsNoMore old new → CanPut part (part.start + (rank - a.start)) new
-  can_put fits keeps timely awaits = subst (λ r. CanPut part r new) (sym at) (record {
-    held = held;
-    fits = subst (λ (o : Part). Fits (stake_of o) new) view fits;
-    keeps = subst (λ (c : Cell). Keeps c new) (sym stored) keeps;
-    timely = subst (λ (o : Part). SettlesAtStake (stake_of o) (stored_at part rank) new) view
-        (subst (λ (c : Cell). SettlesAtStake a.stake c new) (sym stored) timely);
-    awaits = subst (λ (c : Cell). AwaitsNoMore c new) (sym stored) awaits;
-  })
-
-  pub farther : (kind : Kind) (x : ℕ) → view_of new ≡ cell_after_note (view_of old) kind x a.stake.gain a.stake.wave → IsFarther part (part.start + (rank - a.start)) new
-  farther kind x heard = subst (λ r. IsFarther part r new) (sym at) (λ unset settled.
-      let far = heard_far old new kind x a.stake.gain a.stake.wave heard (sym (ap (λ (c : Cell). is_settled c.mark) stored) ∙ unset) settled in
-      let wave = ap (λ (o : Part). o.wave) view in
-      omega (arith, far, wave))
+pub same_passed : (old new : Part) → SameLevel old new → new.fresh ≡ old.fresh → StaysPassed old new
+same_passed old new same is passed = subst₂ (λ w (fs : List Due). All (λ (f : Due). w < due_dist f) fs) (sym same.wave) (sym is) passed

@@ -1,12 +1,12 @@
 -- The same boards, of which those that were settled keep value and distance.
 use Rattle.std.proofs.Common.{◌≡◌, ℕ, List, refl, sym, subst, ◌∙◌, arith, get_or}
 use Rattle.awari_block.specs.Blocks.{cell_in}
-use Rattle.awari_block.specs.Boards.{Settles}
+use Rattle.awari_block.specs.Boards.{Settles, OpensBoards}
 use Rattle.awari_block.specs.Cells.{Keeps}
 use Rattle.awari_block.specs.Part.{Part}
 use Rattle.awari_block.proofs.BlockLemmas.{keeps_both, keeps_same}
 use Rattle.awari_heard.specs.Heard.{SameBlock}
-use Rattle.awari_waves.specs.Each.{KeepsBoards, IsAtWave, OpensSegment}
+use Rattle.awari_waves.specs.Each.{KeepsBoards, IsAtWave}
 use Rattle.awari_block.specs.Each.{EachTo}
 
 pub keeps_none : (part : Part) → KeepsBoards part part
@@ -57,7 +57,7 @@ keeps_waved dist old new all = record {
   });
 }
 
-pub keeps_opened : (gain : ℕ) (old new : List Part) → EachTo (OpensSegment gain) old new → EachTo KeepsBoards old new
+pub keeps_opened : (gain : ℕ) (old new : List Part) → EachTo (OpensBoards gain) old new → EachTo KeepsBoards old new
 keeps_opened gain old new all = record {
   many = all.many;
   each = λ i d few. let settles = (all.each i d few).settles in record {

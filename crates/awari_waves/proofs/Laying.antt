@@ -11,7 +11,7 @@ use Rattle.awari_scan.proofs.Finding.{IsNext, next_source, none_left}
 use Rattle.awari_block.specs.declared.notes.Kind.{Kind}
 use Rattle.awari_waves.specs.Lists.{list_at, with_put}
 use Rattle.awari_waves.specs.Rows.{lists_by, notes_at}
-use Rattle.awari_waves.specs.declared.lists.Row.{Row}
+use Rattle.awari_waves.specs.declared.rows.Row.{Row}
 use Rattle.awari_waves.specs.Waves.{AreSourcesOf, CanFind, Finds, FindsFor, Puts, codes_to}
 use Rattle.awari_waves.proofs.ListLemmas.{with_put-at, with_put-other}
 use Rattle.awari_block.proofs.NoteLists.{Has-append_left, Has-append_right, all_has, has_all}

@@ -12,9 +12,10 @@ use Rattle.awari_heard.specs.Heard.{Hears, SameBlock}
 use Rattle.awari_heard.proofs.Gains.{opened}
 use Rattle.awari_heard.proofs.SpreadBoards.{spread_before, spread_stays}
 use Rattle.awari_heard.proofs.PlannedTallies.{wave_tally}
-use Rattle.awari_waves.specs.Each.{CanOpen, CanOpenWave, OpensSegment, IsAtWave, at_gain}
+use Rattle.awari_waves.specs.Each.{CanOpen, CanOpenWave, IsAtWave}
 use Rattle.awari_block.specs.Each.{EachTo}
 use Rattle.awari_waves.specs.Waves.{AreSegments}
+use Rattle.awari_block.specs.Boards.{OpensBoards, at_gain}
 
 -- The block is the same. Settled boards keep value and distance, and those that are newly settled join the fresh ones.
 pub record StaysSpread (old new : Part) : Type 0 where
@@ -93,29 +94,29 @@ whole_still level old new all are = blocks_still level 0 (size_of level) old new
 
 -- ---- a gain is opened
 
-gain_spread : (gain : ℕ) (old new : Part) → OpensSegment gain old new → StaysSpread old new
+gain_spread : (gain : ℕ) (old new : Part) → OpensBoards gain old new → StaysSpread old new
 gain_spread gain old new opens = let settles = opens.settles in record {
   block = record { level = settles.same.level; start = settles.same.start; size = settles.size };
   stays = settles.stays;
   joins = settles.joins;
 }
 
-gain_told : (value : List ℕ → ℤ) (gain : ℕ) (old new : Part) → 1 ≤ gain → old.gain ≡ gain + 1 → OpensSegment gain old new → (notes : List Note) → IsTallied value old notes → IsTallied value new notes
+gain_told : (value : List ℕ → ℤ) (gain : ℕ) (old new : Part) → 1 ≤ gain → old.gain ≡ gain + 1 → OpensBoards gain old new → (notes : List Note) → IsTallied value old notes → IsTallied value new notes
 gain_told value gain old new one next opens notes tallied =
     subst (λ (p : Part). IsTallied value p notes) (same_stake (at_gain gain old) new opens.settles.same)
     (opened value notes old new.cells new.fresh gain one (sym next) opens.settles.size (λ k h. opens.cells.inside k h (omega arith) h) tallied)
 
-opened_spread : (gain : ℕ) (old new : List Part) → EachTo (OpensSegment gain) old new → EachTo StaysSpread old new
+opened_spread : (gain : ℕ) (old new : List Part) → EachTo (OpensBoards gain) old new → EachTo StaysSpread old new
 opened_spread gain old new all = record { many = all.many; each = λ i d few. gain_spread gain (get_or old i d) (get_or new i d) (all.each i d few) }
 
-pub opened_same : (gain : ℕ) (old new : List Part) → EachTo (OpensSegment gain) old new → EachTo SameBlock old new
+pub opened_same : (gain : ℕ) (old new : List Part) → EachTo (OpensBoards gain) old new → EachTo SameBlock old new
 opened_same gain old new all = record { many = all.many; each = λ i d few. (gain_spread gain (get_or old i d) (get_or new i d) (all.each i d few)).block }
 
-pub opened_heard : (value : List ℕ → ℤ) (gain : ℕ) (old new : List Part) → CanOpen gain old → EachTo (OpensSegment gain) old new → AreHeard value old → AreHeard value new
+pub opened_heard : (value : List ℕ → ℤ) (gain : ℕ) (old new : List Part) → CanOpen gain old → EachTo (OpensBoards gain) old new → AreHeard value old → AreHeard value new
 opened_heard value gain old new can all heard =
     heard_still value old new (opened_spread gain old new all) (λ i few. gain_told value gain (part_at old i) (part_at new i) can.positive (can.next i few) (all.each i no_part few)) heard
 
-pub opened_grid : (stake : Stake) (span gain : ℕ) (old new : List Part) → AreSegments stake span old → EachTo (OpensSegment gain) old new → AreSegments (record stake { gain = gain; wave = 0 }) span new
+pub opened_grid : (stake : Stake) (span gain : ℕ) (old new : List Part) → AreSegments stake span old → EachTo (OpensBoards gain) old new → AreSegments (record stake { gain = gain; wave = 0 }) span new
 opened_grid stake span gain old new grid all =
     grid_moved stake span gain 0 old new grid (opened_same gain old new all) (λ i few. (all.each i no_part few).settles.same.gain) (λ i few. (all.each i no_part few).settles.same.wave)
 

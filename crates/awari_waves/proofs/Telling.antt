@@ -1,5 +1,5 @@
 -- The notes of a list of codes are heard, one after the other.
-use Rattle.std.proofs.Common.{◌≡◌, ℕ, ◌/◌, ◌%◌, ◌<◌, ◌≤◌, List, [], ◌∷◌, ◌++◌, length, get_or, All, zero, suc, sym, subst, subst₂, arith, map}
+use Rattle.std.proofs.Common.{◌≡◌, ℕ, ◌/◌, ◌%◌, ◌<◌, ◌≤◌, List, [], ◌∷◌, ◌++◌, length, get_or, All, zero, suc, sym, subst, subst₂, arith}
 use Rattle.awari_block.specs.Part.{Part, SameLevel}
 use Rattle.awari_block.specs.Boards.{HearsNote, Settles, stake_of}
 use Rattle.awari_block.specs.declared.notes.Kind.{Kind}
@@ -9,7 +9,7 @@ use Rattle.awari_block.specs.declared.stakes.Stake.{Stake}
 use Rattle.awari_heard.proofs.SpreadBoards.{IsInjective}
 use Rattle.awari_waves.specs.Lists.{list_at}
 use Rattle.awari_waves.specs.Rows.{lists_by, notes_at}
-use Rattle.awari_waves.specs.declared.lists.Row.{Row}
+use Rattle.awari_waves.specs.declared.rows.Row.{Row}
 use Rattle.awari_waves.specs.Waves.{IsCodeFor, note_by, notes_by, both_by}
 use Rattle.awari_heard.specs.Heard.{HearsNotes}
 use Rattle.awari_heard.proofs.Coming.{hears_one, hears_then}

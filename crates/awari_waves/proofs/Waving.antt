@@ -19,12 +19,13 @@ use Rattle.awari_waves.specs.Lists.{AreDistinct}
 use Rattle.awari_waves.specs.Each.{PassesFirst}
 use Rattle.awari_waves.specs.Fronts.{AreAtFront}
 use Rattle.awari_waves.specs.declared.chunks.Front.{Front}
-use Rattle.awari_waves.specs.Waves.{GivesFresh, AreSegments, IsPassed, AwaitsSpread, IsPartlySpread, SettlesAll, SpreadsChunk, value_of_kind, with_pending}
+use Rattle.awari_waves.specs.Waves.{AreSegments, IsPassed, AwaitsSpread, IsPartlySpread, SettlesAll, SpreadsChunk, with_pending}
 use Rattle.awari_waves.proofs.Sources.{distinct_apart, distinct_both, distinct_first, distinct_second}
 use Rattle.awari_waves.proofs.Chunked.{part_of_map, pend_none, pend_zero}
 use Rattle.awari_waves.proofs.Keeping.{keeps_but, keeps_none, keeps_settled, keeps_then}
 use Rattle.awari_block.specs.Notes.{Has}
 use Rattle.awari_block.proofs.NoteLists.{Has-append_left, Has-append_right, Has-append_cases, all_has, has_all}
+use Rattle.awari_block.specs.Boards.{GivesFresh, value_of_kind}
 
 -- ---- what was heard stays so, where the same boards are spread
 

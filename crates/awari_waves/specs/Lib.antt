@@ -1,10 +1,10 @@
-pub mod Lists
 pub mod Rows
 pub mod Waves
-pub mod SegmentFields
 pub mod Each
 pub mod Scanned
 pub mod Analyses
 pub mod AnalysisFields
 pub mod Fronts
 pub mod Ahead
+pub mod Lists
+pub mod ByDistance

@@ -3,7 +3,7 @@ use Rattle.std.specs.Prelude.{ℕ, List, [], ◌∷◌, ◌++◌}
 use Rattle.awari_block.specs.declared.notes.Kind.{Kind}
 use Rattle.awari_block.specs.declared.notes.Kind.TheVariants.{Won, Lost}
 use Rattle.awari_waves.specs.Lists.{list_at}
-use Rattle.awari_waves.specs.declared.lists.Row.{Row}
+use Rattle.awari_waves.specs.declared.rows.Row.{Row}
 
 -- the notes of the row that are of this kind, by block
 abbrev pub lists_by : Kind → Row → List (List ℕ)

@@ -7,14 +7,13 @@
 -- (FindsFor). Then each segment hears its codes of all rows, those of lost boards before those of won ones
 -- (HearsFrom). Each of these notes is new, since no board of the chunk was spread before and a board has
 -- each predecessor once. So SpreadsChunk follows: AreHeard holds again, with the chunk's boards spread.
-use Rattle.std.specs.Prelude.{◌≡◌, ℕ, ◌+◌, ◌/◌, ◌%◌, ◌==◌, ◌-◌, ◌^◌, ◌<◌, ◌≤◌, List, [], ◌∷◌, ◌++◌, length, map, filter, sum, ℤ, pos, neg_ℤ, Some, All}
-use Rattle.std.specs.List.Sorted.{IsPermutation}
+use Rattle.std.specs.Prelude.{◌≡◌, ℕ, ◌+◌, ◌/◌, ◌%◌, ◌==◌, ◌-◌, ◌^◌, ◌<◌, ◌≤◌, List, [], ◌∷◌, ◌++◌, length, map, filter, sum, ℤ, Some, All}
 use Rattle.awari_board.specs.Rules.{IsBoard}
 use Rattle.awari_rank.specs.Rank.{rank_of, size_of}
 use Rattle.awari_unmove.specs.Predecessors.{IsPredecessors}
-use Rattle.awari_block.specs.Blocks.{due_dist, due_rank, times_due}
+use Rattle.awari_block.specs.Blocks.{due_dist, times_due}
 use Rattle.awari_block.specs.Part.{Part, InBlock, settled_at}
-use Rattle.awari_block.specs.Boards.{Settles, stake_of}
+use Rattle.awari_block.specs.Boards.{Settles, stake_of, value_of_kind}
 use Rattle.awari_block.specs.declared.notes.Kind.{Kind}
 use Rattle.awari_block.specs.declared.notes.Kind.TheVariants.{Won, Lost}
 use Rattle.awari_block.specs.declared.notes.Note.{Note}
@@ -102,11 +101,6 @@ pub record HearsFrom (first : ℕ) (lost won : ℕ → List ℕ) (old new : List
 
 -- ---- a chunk
 
--- the value of a board whose notes are of this kind
-abbrev pub value_of_kind : Kind → ℕ → ℤ
-value_of_kind Won gain = pos gain
-value_of_kind Lost gain = neg_ℤ (pos gain)
-
 -- Blocks of `span` boards: the board of each rank is in the block that its rank tells, and in no other.
 pub record AreSegments (stake : Stake) (span : ℕ) (parts : List Part) : Type 0 where
   pub level : (i : ℕ) → i < length parts → (part_at parts i).level ≡ stake.level
@@ -133,18 +127,6 @@ SpreadsChunk lost won old new =
     → AreHeard value (map (with_pending ((lost ++ won) ++ rest)) old) → AreHeard value (map (with_pending rest) new)
 
 -- ---- a wave
-
--- the other kind
-abbrev pub other : Kind → Kind
-other Won = Lost
-other Lost = Won
-
--- The part gives these fresh boards away, all of the open wave and of this kind, and is else as it was.
-pub record GivesFresh (kind : Kind) (old new : Part) (given : List ℕ) : Type 0 where
-  pub rest : new ≡ record old { fresh = new.fresh }
-  pub moved : IsPermutation (map (λ rank. (old.wave, rank)) given ++ new.fresh) old.fresh
-  pub valued : All (λ rank. InBlock old rank × (settled_at old rank ≡ Some (value_of_kind kind old.gain, old.wave))) given
-  pub left : All (λ f. due_dist f ≡ old.wave → settled_at old (due_rank f) ≡ Some (value_of_kind (other kind) old.gain, old.wave)) new.fresh
 
 -- each part is settled further
 pub record SettlesAll (old new : List Part) : Type 0 where

@@ -13,8 +13,8 @@ ghost use Rattle.awari_waves.specs.declared.chunks.Front.{Front as FrontView};
 
 use crate::chunks::{Chunk, Front, Room};
 use crate::dues::{are_from_wave, due_of};
-use crate::lists::Row;
 use crate::openings::open_waves;
+use crate::rows::Row;
 use crate::scanning::scanned_segments;
 use crate::segments::Segment;
 use crate::waves::{spread_some, spread_wave};

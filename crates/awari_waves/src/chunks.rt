@@ -9,8 +9,9 @@ ghost use Rattle.awari_waves.specs.Fronts.{AwaitSpread, AreAtFront, IsRoomFor};
 ghost use Rattle.awari_waves.specs.Waves.{CanFind, CanAllHear, FindsFor, HearsFrom, SettlesAll, SpreadsChunk};
 
 use crate::finding::find;
-use crate::lists::{Lists, Row};
-use crate::segments::Segment;
+use crate::lists::Lists;
+use crate::rows::Row;
+use crate::segments::{Segment, hear_rows};
 use crate::workers::Workers;
 use awari_block::Stake;
 use awari_board::moves_keep_boards;
@@ -258,7 +259,7 @@ pub fn hear_all(first: usize, rows: &[Row], segments: &mut [Segment]) -> Result<
     ensures heard { OnOk result (HearsFrom first (notes_at Lost rows.now) (notes_at Won rows.now) segments.old segments.new) }
 {
     for k in 0..segments.len() {
-        segments[k].hear_rows(first + k, rows)?;
+        hear_rows(&mut segments[k], first + k, rows)?;
     }
     Ok(())
 }

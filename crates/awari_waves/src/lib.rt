@@ -25,11 +25,13 @@
 #![tactic(auto)]
 
 mod analyses;
+mod by_distance;
 mod chunks;
 mod dues;
 mod finding;
 mod lists;
 mod openings;
+mod rows;
 mod scanning;
 mod segments;
 mod waves;

@@ -3,9 +3,7 @@
 ghost use Rattle.std.specs.Prelude.{◌≡◌, ℕ, ◌+◌, ◌++◌, ◌^◌, ◌<◌, ◌≤◌, [], ◌∷◌, All, IfNone, IfOk, IfSome, List, OnOk, OnErr, length};
 ghost use Rattle.awari_block.specs.Blocks.{due_dist};
 ghost use Rattle.awari_waves.specs.Lists.{dues_of, list_at, with_put, without};
-ghost use Rattle.awari_waves.specs.Rows.{lists_by};
 
-use awari_block::Kind;
 use std::alloc::{AllocError, Global};
 use std::marker::Model;
 
@@ -129,32 +127,5 @@ fn empty(alloc: Global, list: &mut Vec<u32>)
         *list = Vec::new(alloc);
     } else {
         list.clear();
-    }
-}
-
-/// The notes that one thread found, of lost and of won boards, with a list for each segment.
-#[derive(Drop)]
-pub struct Row {
-    pub lost: Lists,
-    pub won: Lists,
-}
-
-impl Row {
-    /// No note yet.
-    pub fn new(alloc: Global) -> Row {
-        Row {
-            lost: Lists::new(alloc),
-            won: Lists::new(alloc),
-        }
-    }
-
-    /// The notes of this kind for the segment of this number.
-    pub fn list(&self, kind: Kind, number: usize) -> &[u32]
-        ensures { result.now ≡ list_at (lists_by kind self.now) number }
-    {
-        match kind {
-            Kind::Lost => self.lost.list(number),
-            Kind::Won => self.won.list(number),
-        }
     }
 }

@@ -2,7 +2,8 @@
 
 ghost use Rattle.std.specs.Prelude.{OnOk};
 ghost use Rattle.std.specs.Thread.{IsSync};
-ghost use Rattle.awari_waves.specs.Each.{CanOpen, CanOpenWave, OpensSegment, IsAtWave};
+ghost use Rattle.awari_waves.specs.Each.{CanOpen, CanOpenWave, IsAtWave};
+ghost use Rattle.awari_block.specs.Boards.{OpensBoards};
 ghost use Rattle.awari_block.specs.Each.{EachTo};
 
 use crate::segments::Segment;
@@ -20,7 +21,7 @@ pub fn open_in_threads<R: Threads + Sync>(
     segments: &mut [Segment],
 ) -> Result<(), AllocError>
     requires can { CanOpen gain segments.old }
-    ensures opened { OnOk result (EachTo (OpensSegment gain) segments.old segments.new) }
+    ensures opened { OnOk result (EachTo (OpensBoards gain) segments.old segments.new) }
 {
     if threads < 2 {
         return open_all(gain, segments);
@@ -32,11 +33,11 @@ pub fn open_in_threads<R: Threads + Sync>(
         rt,
         &mut ||
             requires { IsSync R.row × CanOpen gain low.now }
-            ensures { OnOk result (EachTo (OpensSegment gain) low.entry.now low.exit.now) }
+            ensures { OnOk result (EachTo (OpensBoards gain) low.entry.now low.exit.now) }
         { open_in_threads(rt, 1, gain, low) },
         &mut ||
             requires { IsSync R.row × CanOpen gain high.now }
-            ensures { OnOk result (EachTo (OpensSegment gain) high.entry.now high.exit.now) }
+            ensures { OnOk result (EachTo (OpensBoards gain) high.entry.now high.exit.now) }
         { open_in_threads(rt, fewer, gain, high) },
     );
     low_done?;
@@ -47,7 +48,7 @@ pub fn open_in_threads<R: Threads + Sync>(
 /// Opens the next smaller gain in one segment after the other.
 pub fn open_all(gain: u8, segments: &mut [Segment]) -> Result<(), AllocError>
     requires can { CanOpen gain segments.old }
-    ensures opened { OnOk result (EachTo (OpensSegment gain) segments.old segments.new) }
+    ensures opened { OnOk result (EachTo (OpensBoards gain) segments.old segments.new) }
 {
     for k in 0..segments.len() {
         segments[k].open_gain(gain)?;

@@ -7,7 +7,8 @@ ghost use Rattle.awari_table.specs.Images.{table_of};
 ghost use Rattle.awari_table.specs.declared.TheConstants.{HIGHEST_LEVEL};
 ghost use Rattle.awari_heard.specs.Kept.{IsKept};
 ghost use Rattle.awari_heard.specs.Level.{AreWhole};
-ghost use Rattle.awari_waves.specs.Each.{CanOpen, OpensSegment};
+ghost use Rattle.awari_block.specs.Boards.{OpensBoards};
+ghost use Rattle.awari_waves.specs.Each.{CanOpen};
 ghost use Rattle.awari_block.specs.Each.{EachTo};
 ghost use Rattle.awari_waves.specs.Rows.{notes_at};
 ghost use Rattle.awari_waves.specs.Scanned.{AreScannedFrom, CanScanFrom};
@@ -16,8 +17,8 @@ ghost use Rattle.awari_waves.specs.Waves.{CanFind, CanAllHear, FindsFor, HearsFr
 use crate::chunks::{
     Chunk, Finder, find_first, find_in_threads, hear_all, hear_in_threads, threads_for,
 };
-use crate::lists::Row;
 use crate::openings::{open_all, open_in_threads};
+use crate::rows::Row;
 use crate::scanning::{Stretch, scan_all, scan_in_threads};
 use crate::segments::Segment;
 use awari_block::ClosedPart;
@@ -62,7 +63,7 @@ pub trait Workers {
     fn open_gains(&self, gain: u8, segments: &mut [Segment]) -> Result<(), AllocError>
         requires ready { ready }
         requires can { CanOpen gain segments.old }
-        ensures opened { OnOk result (EachTo (OpensSegment gain) segments.old segments.new) };
+        ensures opened { OnOk result (EachTo (OpensBoards gain) segments.old segments.new) };
 
     /// Finds the notes of the chunk, each row by one thread. The result is how many rows have them:
     /// the first ones. Refused if memory runs out; then the level is lost.

@@ -30,7 +30,7 @@ hear_rows-requires-clause-ready c =
 pub loop-k-preserved : goal.loop-k-preserved
 loop-k-preserved c =
     let inside : c.loop-k.k < length c.loop-k.segments = search rules in
-    HearsBelow-next _ _ _ _ _ _ c.index-segments-k.result c.hear_rows.new.self c.loop-k.invariant inside c.in_ok-hear_rows.ensures.settles c.in_ok-hear_rows.ensures.passed c.in_ok-hear_rows.ensures.tells
+    HearsBelow-next _ _ _ _ _ _ c.index-segments-k.result c.hear_rows.new.segment c.loop-k.invariant inside c.in_ok-hear_rows.ensures.settles c.in_ok-hear_rows.ensures.passed c.in_ok-hear_rows.ensures.tells
 
 pub returns : goal.returns
 returns c = let end : length c.loop-k.segments ≤ c.loop-k.k = search rules in record { heard = HearsBelow-end _ _ _ _ _ _ c.loop-k.invariant end }

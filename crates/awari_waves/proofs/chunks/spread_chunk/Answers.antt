@@ -3,7 +3,7 @@ use Rattle.std.proofs.lemmas.List.{with_items_is}
 use Rattle.awari_block.specs.declared.notes.Kind.TheVariants.{Lost, Won}
 use Rattle.awari_waves.specs.Rows.{notes_at}
 use Rattle.awari_waves.specs.Waves.{FindsFor, AwaitsSpread}
-use Rattle.awari_waves.specs.declared.lists.Row.{Row}
+use Rattle.awari_waves.specs.declared.rows.Row.{Row}
 use Rattle.awari_waves.proofs.Chunked.{can_hear, chunk_heard, grid_still, settles_all}
 use Rattle.awari_waves.proofs.chunks.spread_chunk.Goals as goal
 use Rattle.awari_block.proofs.NoteLists.{has_all}

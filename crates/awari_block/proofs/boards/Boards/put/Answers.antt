@@ -1,46 +1,46 @@
-use Rattle.std.proofs.Common.{List, sym, subst, ◌∙◌}
+use Rattle.std.proofs.Common.{◌≡◌, ◌∙◌, true, false, sym, inl, inr, rules}
 use Rattle.std.proofs.lemmas.Bool.{false≢true}
-use Rattle.awari_block.specs.declared.cells.Cell.{Cell}
-use Rattle.awari_block.specs.Boards.{Settles}
-use Rattle.awari_block.specs.Fresh.{IsFresh}
-use Rattle.awari_block.proofs.Putting.{joined_boards, joined_seen, joins_unmarked, kept_boards, kept_seen, put_replaces, still_marks}
+use Rattle.awari_block.specs.Cells.{is_settled}
+use Rattle.awari_block.proofs.Putting.{cell_read, joined_boards, joined_fresh, joined_seen, kept_boards, kept_fresh, kept_seen, put_new}
+use Rattle.awari_block.proofs.boards.Boards.put.Given.{Over}
 use Rattle.awari_block.proofs.boards.Boards.put.Goals as goal
-use Rattle.awari_block.proofs.boards.Boards.put.Goals.{else-is_settled-via-then-is_settled+else-not-was_settled, else-is_settled-via-else-is_settled}
 
-pub insert-requires-clause-new : goal.insert-requires-clause-new
-insert-requires-clause-new c =
-    let put = put_replaces c.self.inside c.args.self.now c.args.rank c.index.result.now c.args.cell c.self.view_is c.requires c.index.ensures in
-    joins_unmarked c.self.inside c.self.invariant c.args.rank c.index.result.now c.args.cell put (sym c.if-not-was_settled.ensures)
-
-pub insert-requires-clause-sound : goal.insert-requires-clause-sound
-insert-requires-clause-sound c =
-    let put = put_replaces c.self.inside c.args.self.now c.args.rank c.index.result.now c.args.cell c.self.view_is c.requires c.index.ensures in
-    subst (λ (cs : List Cell). IsFresh c.self.inside.stake.wave cs c.self.inside.fresh) (sym c.as_slice.ensures.value) (still_marks c.self.inside c.self.invariant c.args.rank c.index.result.now c.args.cell put)
+-- a board that this does not settle
+back : (g : Over) (c : goal.After-self-1 g) → is_settled c.args.cell.mark ≡ true → is_settled c.index.result.now.mark ≡ true
+back g c settled = elim c.then-not-is_settled.either [
+  | inl not ↦ absurd (false≢true (sym not ∙ c.is_settled.ensures ∙ settled))
+  | inr was ↦ sym c.is_settled-was_settled.ensures ∙ was.1
+]
 
 pub invariant_of-self : goal.invariant_of-self
-invariant_of-self c =
-    let put = put_replaces c.self.inside c.args.self.now c.args.rank c.index.result.now c.args.cell c.self.view_is c.requires c.index.ensures in
-    joined_boards c.self.inside c.self.invariant c.args.rank c.index.result.now c.args.cell put (sym c.if-not-was_settled.ensures) (sym c.if-is_settled.ensures) c.insert.new.self c.insert.ensures.marks (subst (λ (cs : List Cell). IsFresh c.self.inside.stake.wave cs c.insert.new.self) c.as_slice.ensures.value c.insert.ensures.sound)
+invariant_of-self g c = kept_boards g.F.FreshSet.dues g.F.FreshSet.right c.self.inside c.self.invariant c.args.self.now c.self.view_is c.args.rank c.index.result.now c.args.cell c.requires (cell_read g.F.FreshSet.dues g.F.FreshSet.right c.self.inside c.args.self.now c.args.rank c.index.result.now c.args.cell c.self.view_is c.requires c.index.ensures) c.depend_on_their_cells.ensures.right c.depend_on_their_cells.ensures.same (back g c)
 
-pub invariant_of-self-else-not-was_settled : goal.invariant_of-self-else-not-was_settled
-invariant_of-self-else-not-was_settled c =
-    let put = put_replaces c.self.inside c.args.self.now c.args.rank c.index.result.now c.args.cell c.self.view_is c.requires c.index.ensures in
-    kept_boards c.self.inside c.self.invariant c.args.rank c.index.result.now c.args.cell put (λ _. sym c.if-not-was_settled.ensures)
+pub returns-then-not-is_settled-clause-settles : goal.returns-then-not-is_settled-clause-settles
+returns-then-not-is_settled-clause-settles g c = kept_seen g.F.FreshSet.dues g.F.FreshSet.right c.self.inside c.self.invariant c.args.self.now c.self.view_is c.args.rank c.index.result.now c.args.cell c.requires (cell_read g.F.FreshSet.dues g.F.FreshSet.right c.self.inside c.args.self.now c.args.rank c.index.result.now c.args.cell c.self.view_is c.requires c.index.ensures) c.depend_on_their_cells.ensures.right c.depend_on_their_cells.ensures.same (back g c)
 
-pub invariant_of-self-else-is_settled : goal.invariant_of-self-else-is_settled
-invariant_of-self-else-is_settled c =
-    let put = put_replaces c.self.inside c.args.self.now c.args.rank c.index.result.now c.args.cell c.self.view_is c.requires c.index.ensures in
-    kept_boards c.self.inside c.self.invariant c.args.rank c.index.result.now c.args.cell put (λ new. absurd (false≢true (c.if-is_settled.ensures ∙ new)))
+pub returns-then-not-is_settled-clause-joins : goal.returns-then-not-is_settled-clause-joins
+returns-then-not-is_settled-clause-joins g c = kept_fresh g.F.FreshSet.dues g.F.FreshSet.right c.self.inside c.self.invariant c.args.self.now c.self.view_is c.args.rank c.index.result.now c.args.cell c.requires (cell_read g.F.FreshSet.dues g.F.FreshSet.right c.self.inside c.args.self.now c.args.rank c.index.result.now c.args.cell c.self.view_is c.requires c.index.ensures) c.depend_on_their_cells.ensures.right c.depend_on_their_cells.ensures.same (back g c)
 
-pub returns-then-not-was_settled-clause-settles : goal.returns-then-not-was_settled-clause-settles
-returns-then-not-was_settled-clause-settles c =
-    let put = put_replaces c.self.inside c.args.self.now c.args.rank c.index.result.now c.args.cell c.self.view_is c.requires c.index.ensures in
-    joined_seen c.self.inside c.self.invariant c.args.rank c.index.result.now c.args.cell put (sym c.if-not-was_settled.ensures) (sym c.if-is_settled.ensures) c.insert.new.self c.insert.ensures.marks c.args.self.now c.self.view_is
+pub insert-requires : goal.insert-requires
+insert-requires g c =
+    let settled : is_settled c.args.cell.mark ≡ true = search rules in
+    let unset : is_settled c.index.result.now.mark ≡ false = search rules in
+    record { new = (c.self.inside.start, c.self.inside.cells.items, put_new g.F.FreshSet.dues g.F.FreshSet.right c.self.inside c.self.invariant c.args.self.now c.self.view_is c.args.rank c.index.result.now c.args.cell c.requires (cell_read g.F.FreshSet.dues g.F.FreshSet.right c.self.inside c.args.self.now c.args.rank c.index.result.now c.args.cell c.self.view_is c.requires c.index.ensures) settled unset) }
 
-pub returns-else-is_settled-clause-settles : goal.returns-else-is_settled-clause-settles
-returns-else-is_settled-clause-settles c =
-    let put = put_replaces c.self.inside c.args.self.now c.args.rank c.index.result.now c.args.cell c.self.view_is c.requires c.index.ensures in
-    elim c.else-is_settled.branch [
-      | else-is_settled-via-then-is_settled+else-not-was_settled w ↦ subst (Settles c.args.self.now) (sym w.self-is) (kept_seen c.self.inside c.self.invariant c.args.rank c.index.result.now c.args.cell put (λ _. sym w.if-not-was_settled.ensures) c.args.self.now c.self.view_is)
-      | else-is_settled-via-else-is_settled w ↦ subst (Settles c.args.self.now) (sym w.self-is) (kept_seen c.self.inside c.self.invariant c.args.rank c.index.result.now c.args.cell put (λ new. absurd (false≢true (w.if-is_settled.ensures ∙ new))) c.args.self.now c.self.view_is)
-    ]
+pub invariant_of-self-2 : goal.invariant_of-self-2
+invariant_of-self-2 g c =
+    let settled : is_settled c.args.cell.mark ≡ true = search rules in
+    let unset : is_settled c.index.result.now.mark ≡ false = search rules in
+    joined_boards g.F.FreshSet.dues g.F.FreshSet.right c.self.inside c.self.invariant c.args.self.now c.self.view_is c.args.rank c.index.result.now c.args.cell c.requires (cell_read g.F.FreshSet.dues g.F.FreshSet.right c.self.inside c.args.self.now c.args.rank c.index.result.now c.args.cell c.self.view_is c.requires c.index.ensures) settled unset c.insert.new.self (c.in_ok-insert.ensures.joined c.self.inside.start c.self.inside.cells.items)
+
+pub returns-clause-settles : goal.returns-clause-settles
+returns-clause-settles g c =
+    let settled : is_settled c.args.cell.mark ≡ true = search rules in
+    let unset : is_settled c.index.result.now.mark ≡ false = search rules in
+    joined_seen g.F.FreshSet.dues g.F.FreshSet.right c.self.inside c.self.invariant c.args.self.now c.self.view_is c.args.rank c.index.result.now c.args.cell c.requires (cell_read g.F.FreshSet.dues g.F.FreshSet.right c.self.inside c.args.self.now c.args.rank c.index.result.now c.args.cell c.self.view_is c.requires c.index.ensures) settled unset c.insert.new.self (c.in_ok-insert.ensures.joined c.self.inside.start c.self.inside.cells.items)
+
+pub returns-clause-joins : goal.returns-clause-joins
+returns-clause-joins g c =
+    let settled : is_settled c.args.cell.mark ≡ true = search rules in
+    let unset : is_settled c.index.result.now.mark ≡ false = search rules in
+    joined_fresh g.F.FreshSet.dues g.F.FreshSet.right c.self.inside c.self.invariant c.args.self.now c.self.view_is c.args.rank c.index.result.now c.args.cell c.requires (cell_read g.F.FreshSet.dues g.F.FreshSet.right c.self.inside c.args.self.now c.args.rank c.index.result.now c.args.cell c.self.view_is c.requires c.index.ensures) settled unset c.insert.new.self (c.in_ok-insert.ensures.joined c.self.inside.start c.self.inside.cells.items)

@@ -8,6 +8,6 @@ invariant_of-self c =
     record {
       opened = c.self.invariant.opened;
       fresh = c.self.invariant.fresh;
-      ahead = subst (IsAhead c.self.inside.boards.level) (sym c.look_at.ensures) (record { room = ahead.room; found = ahead.found });
+      ahead = subst (IsAhead c.self.inside.boards.level) (sym c.look_at.ensures) (record { room = ahead.room; found = ahead.found; index = ahead.index });
       leaving = c.self.invariant.leaving;
     }

@@ -11,10 +11,10 @@ use Rattle.awari_owner.proofs.parts.Part.open_gain.Goals as goal
 
 pub invariant_of-self : goal.invariant_of-self
 invariant_of-self c =
-    let settles : Settles (record c.self.inside.boards { gain = c.args.gain; wave = 0 }) c.open_gain.new.self = c.open_gain.ensures.settles in
+    let settles : Settles (record c.self.inside.boards { gain = c.args.gain; wave = 0 }) c.open_gain.new.self = c.in-Ok.ensures.opens.settles in
     record {
       opened = (let now = settles.same.gain in omega (arith, now, c.requires.positive));
-      fresh = c.open_gain.ensures.fresh;
+      fresh = c.in-Ok.ensures.fresh;
       ahead = subst (λ n. IsAhead n c.self.inside.lookahead) (sym settles.same.level) c.self.invariant.ahead;
       leaving = leaving_still c.self.inside.boards c.open_gain.new.self c.self.inside.leaving.items settles.same.level settles.same.start settles.size c.self.invariant.leaving;
     }
@@ -24,18 +24,18 @@ returns-clause-tallied c = λ value notes.
     let old : Part = c.self.inside.boards in
     let new : Part = c.open_gain.new.self in
     let next : c.args.gain + 1 ≡ old.gain = c.requires.next ∙ sym (ap (λ (v : Part). v.gain) c.self.view_is) in
-    let settles : Settles (record old { gain = c.args.gain; wave = 0 }) new = c.open_gain.ensures.settles in
+    let settles : Settles (record old { gain = c.args.gain; wave = 0 }) new = c.in-Ok.ensures.opens.settles in
     subst (λ (o : Part). IsTallied value o notes → IsTallied value new notes) c.self.view_is
     (λ tallied. subst (λ (n : Part). IsTallied value n notes) (same_stake (record old { gain = c.args.gain; wave = 0 }) new settles.same)
-    (opened value notes old new.cells new.fresh c.args.gain c.requires.positive next settles.size c.open_gain.ensures.cells tallied))
+    (opened value notes old new.cells new.fresh c.args.gain c.requires.positive next settles.size (λ k high. c.in-Ok.ensures.opens.cells.inside k high (omega arith) high) tallied))
 
 pub returns-clause-own : goal.returns-clause-own
 returns-clause-own c = λ notes.
     let old : Part = c.self.inside.boards in
     let new : Part = c.open_gain.new.self in
-    let settles : Settles (record old { gain = c.args.gain; wave = 0 }) new = c.open_gain.ensures.settles in
+    let settles : Settles (record old { gain = c.args.gain; wave = 0 }) new = c.in-Ok.ensures.opens.settles in
     subst (λ (o : Part). HearsOwn o notes → HearsOwn new notes) c.self.view_is
     (λ own. hears_still old new notes own settles.same.level settles.same.start settles.size settles.stays settles.joins)
 
 pub returns-clause-settles : goal.returns-clause-settles
-returns-clause-settles c = subst (λ (o : Part). Settles (record o { gain = c.args.gain; wave = 0 }) c.open_gain.new.self) c.self.view_is c.open_gain.ensures.settles
+returns-clause-settles c = subst (λ (o : Part). Settles (record o { gain = c.args.gain; wave = 0 }) c.open_gain.new.self) c.self.view_is c.in-Ok.ensures.opens.settles
