@@ -1,5 +1,5 @@
 -- The predecessors of a board are found one after the other, and listed.
-use Rattle.std.proofs.Common.{◌≡◌, ℕ, ◌+◌, ◌<◌, ◌≤◌, List, [], ◌∷◌, ◌++◌, length, get_or, set, map, refl, sym, ap, subst, ◌∙◌, arith, length-set, append_assoc, append-nil, suc, length-append, inl, inr, slice_index, All, sum, ◌^◌, ◌/◌, ◌%◌}
+use Rattle.std.proofs.Common.{◌≡◌, ℕ, ◌+◌, ◌<◌, ◌≤◌, List, [], ◌∷◌, ◌++◌, length, get_or, set, map, refl, sym, ap, subst, ◌∙◌, arith, length-set, append_assoc, append-nil, suc, length-append, inl, inr, slice_index, All, sum, ◌^◌}
 use Rattle.std.proofs.lemmas.List.{length_push, take_more_set, get_or-take, get_or-map, map-append, get_or_default}
 use Rattle.std.proofs.Math.Seq.{get_or-append_seam}
 use Rattle.awari_scan.specs.Found.{code_of, Lists, Source, IsSource, IsCodable, IsCodeOf}

@@ -41,27 +41,34 @@ pub fn scanned_cells_parallel<R: Threads + Sync>(
 
     // Two pieces a processor, since some boards take longer than others.
     let pieces = current_num_threads(rt).min(MOST_PIECES / 2) * 2;
-    scan_pieces(rt, shelf, index, block.start, pieces, cells.as_mut_slice());
+    let scan = Scan { shelf, index };
+    scan_pieces(rt, scan, block.start, pieces, cells.as_mut_slice());
     Ok(cells)
+}
+
+/// What a scan goes by.
+#[derive(Clone, Copy)]
+struct Scan<'a> {
+    shelf: &'a Shelf,
+    index: &'a Index,
 }
 
 /// Scans the boards from rank `first` on, one for each cell, in at most so many pieces, side by side.
 #[cycle(halves)]
 fn scan_pieces<R: Threads + Sync>(
     rt: &R,
-    shelf: &Shelf,
-    index: &Index,
+    scan: Scan<'_>,
     first: u32,
     pieces: usize,
     cells: &mut [Cell],
 )
-    requires ranged { IsRanged (table_of shelf.now).value (length shelf.now) }
-    requires can { CanScan (length shelf.now) index.now first (length cells.old) }
+    requires ranged { IsRanged (table_of scan.shelf.now).value (length scan.shelf.now) }
+    requires can { CanScan (length scan.shelf.now) scan.index.now first (length cells.old) }
     ensures size { length cells.new ≡ length cells.old }
-    ensures scanned { AreScanned (table_of shelf.now).value (length shelf.now) first (first + length cells.old) cells.new }
+    ensures scanned { AreScanned (table_of scan.entry.shelf.now).value (length scan.entry.shelf.now) first (first + length cells.old) cells.new }
 {
     if pieces < 2 || cells.len() < LEAST_PIECE {
-        scan_cells(shelf, index, first, cells);
+        scan_cells(scan.shelf, scan.index, first, cells);
         return;
     }
     let pieces = pieces / 2;
@@ -71,14 +78,14 @@ fn scan_pieces<R: Threads + Sync>(
     join_mut(
         rt,
         &mut ||
-            requires { IsSync R.row × IsRanged (table_of shelf.now).value (length shelf.now) × CanScan (length shelf.now) index.now first (length low.now) }
+            requires { IsSync R.row × IsRanged (table_of scan.shelf.now).value (length scan.shelf.now) × CanScan (length scan.shelf.now) scan.index.now first (length low.now) }
             ensures size { length low.exit.now ≡ length low.entry.now }
-            ensures scanned { AreScanned (table_of shelf.entry.now).value (length shelf.entry.now) first (first + length low.entry.now) low.exit.now }
-        { scan_pieces(rt, shelf, index, first, pieces, low) },
+            ensures scanned { AreScanned (table_of scan.entry.shelf.now).value (length scan.entry.shelf.now) first (first + length low.entry.now) low.exit.now }
+        { scan_pieces(rt, scan, first, pieces, low) },
         &mut ||
-            requires { IsSync R.row × IsRanged (table_of shelf.now).value (length shelf.now) × CanScan (length shelf.now) index.now middle (length high.now) }
+            requires { IsSync R.row × IsRanged (table_of scan.shelf.now).value (length scan.shelf.now) × CanScan (length scan.shelf.now) scan.index.now middle (length high.now) }
             ensures size { length high.exit.now ≡ length high.entry.now }
-            ensures scanned { AreScanned (table_of shelf.entry.now).value (length shelf.entry.now) middle (middle + length high.entry.now) high.exit.now }
-        { scan_pieces(rt, shelf, index, middle, pieces, high) },
+            ensures scanned { AreScanned (table_of scan.entry.shelf.now).value (length scan.entry.shelf.now) middle (middle + length high.entry.now) high.exit.now }
+        { scan_pieces(rt, scan, middle, pieces, high) },
     );
 }

@@ -89,11 +89,11 @@ fn scan_run(shelf: &Shelf, index: &Index, start: u32, rank: u32, cells: &mut [Ce
     ranks_tell_boards_apart();
     let place = (rank - start) as usize;
     let stretch = index.stretch(rank, start + cells.len() as u32);
-    let RunMoves { near, far } = moves_of(&stretch.head);
+    let moves = moves_of(&stretch.head);
     for k in 0..stretch.tails.len() {
         let tail = stretch.tails[k];
         let board = stretch.head.joined(&tail);
-        cells[place + k] = scanned(shelf, near, far, &board);
+        cells[place + k] = scanned(shelf, &moves, &board);
     }
     rank + stretch.tails.len() as u32
 }
@@ -138,12 +138,12 @@ fn with_move(moves: RunMoves, head: &PackedBoard, pit: u8) -> RunMoves
 /// The six pits are written out as plain numbers. So the processor predicts the tests of each pit
 /// apart, and the shifts of its move are constants. This works only if what they call is inlined into
 /// each of them.
-fn scanned(shelf: &Shelf, near: Pits, far: Pits, board: &PackedBoard) -> Cell
+fn scanned(shelf: &Shelf, moves: &RunMoves, board: &PackedBoard) -> Cell
     requires board { IsBoard board.now }
     requires stones { sum board.now ≡ length shelf.now }
     requires low { length shelf.now ≤ HIGHEST_LEVEL }
     requires ranged { IsRanged (table_of shelf.now).value (length shelf.now) }
-    requires moves { AreMovesBelow board.now 6 near far }
+    requires moves { AreMovesBelow board.now 6 moves.now.near moves.now.far }
     ensures { IsScannedCell (table_of shelf.now).value board.now result }
 {
     let mut seen = Outlook {
@@ -151,32 +151,32 @@ fn scanned(shelf: &Shelf, near: Pits, far: Pits, board: &PackedBoard) -> Cell
         plans: Pits::NONE,
         best: None,
     };
-    see_pit(&mut seen, shelf, near, far, board, 0);
-    see_pit(&mut seen, shelf, near, far, board, 1);
-    see_pit(&mut seen, shelf, near, far, board, 2);
-    see_pit(&mut seen, shelf, near, far, board, 3);
-    see_pit(&mut seen, shelf, near, far, board, 4);
-    see_pit(&mut seen, shelf, near, far, board, 5);
+    see_pit(&mut seen, shelf, moves, board, 0);
+    see_pit(&mut seen, shelf, moves, board, 1);
+    see_pit(&mut seen, shelf, moves, board, 2);
+    see_pit(&mut seen, shelf, moves, board, 3);
+    see_pit(&mut seen, shelf, moves, board, 4);
+    see_pit(&mut seen, shelf, moves, board, 5);
     cell_of(board, seen)
 }
 
 /// Adds one pit to the outlook, in place. If the outlook were handed on by value from pit to pit, it
 /// would be written anew each time.
 #[inline(always)]
-fn see_pit(seen: &mut Outlook, shelf: &Shelf, near: Pits, far: Pits, board: &PackedBoard, pit: u8)
+fn see_pit(seen: &mut Outlook, shelf: &Shelf, moves: &RunMoves, board: &PackedBoard, pit: u8)
     requires stones { sum board.now ≡ length shelf.now }
     requires low { length shelf.now ≤ HIGHEST_LEVEL }
     requires ranged { IsRanged (table_of shelf.now).value (length shelf.now) }
-    requires moves { AreMovesBelow board.now 6 near far }
+    requires moves { AreMovesBelow board.now 6 moves.now.near moves.now.far }
     requires own { pit < 6 }
     requires seen { IsOutlook (table_of shelf.now).value board.now pit seen.old.quiet seen.old.best seen.old.plans }
     ensures { IsOutlook (table_of shelf.now).value board.now (pit + 1) seen.new.quiet seen.new.best seen.new.plans }
 {
-    if near.has(pit) {
+    if moves.near.has(pit) {
         see_quiet(seen, pit);
         return;
     }
-    if !far.has(pit) {
+    if !moves.far.has(pit) {
         return;
     }
     let moved = board.play(pit);

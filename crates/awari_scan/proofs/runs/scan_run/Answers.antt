@@ -15,7 +15,7 @@ scanned-requires-clause-moves c =
     let found =
     of_stretch (length c.args.shelf.now) c.args.index.now c.args.rank c.loop-k.k c.stretch-stretch.result.head c.joined-board.result c.index-stretch-k.result c.stretch-stretch.result.tails.now
     c.requires.can.level c.stretch-stretch.ensures.boards c.loop-k-test.true c.joined-board.ensures.joined in
-    c.moves_of-near.ensures c.joined-board.result found.own found.stones
+    c.moves_of-moves.ensures c.joined-board.result found.own found.stones
 
 pub loop-k-preserved : goal.loop-k-preserved
 loop-k-preserved c =
