@@ -8,7 +8,7 @@ use Rattle.awari_block.specs.declared.cells.Cell.{Cell}
 use Rattle.awari_block.specs.declared.stakes.Stake.{Stake}
 use Rattle.awari_block.proofs.BlockLemmas.{popped, times_due-permuted}
 
-abbrev due_at : ℕ → ℕ → Due
+abbrev pub due_at : ℕ → ℕ → Due
 due_at w r = (w, r)
 
 pub block_less : (stake : Stake) (start : ℕ) (cells : List Cell) (given rest fresh : List Due) → IsPermutation (given ++ rest) fresh → IsBlock stake start cells fresh → IsBlock stake start cells rest
@@ -27,7 +27,7 @@ block_less stake start cells (f ∷ given) rest fresh moved sound =
 pub given_count : (w : ℕ) (given : List ℕ) (rest fresh : List Due) (spread n : ℕ) (cells : List Cell) → n ≡ length given → IsPermutation (map (λ r. (w, r)) given ++ rest) fresh
     → spread + (length fresh + unsettled cells) ≡ length cells → spread + n + (length rest + unsettled cells) ≡ length cells
 given_count w given rest fresh spread n cells many moved count =
-    let longer = length_permutation (map ((due_at w)) given ++ rest) fresh moved in
-    let both = length-append (map ((due_at w)) given) rest in
-    let long : length (map ((due_at w)) given) ≡ length given = length-map given ((due_at w)) in
+    let longer = length_permutation (map (due_at w) given ++ rest) fresh moved in
+    let both = length-append (map (due_at w) given) rest in
+    let long : length (map (due_at w) given) ≡ length given = length-map given (due_at w) in
     omega (arith, longer, both, long, count, many)

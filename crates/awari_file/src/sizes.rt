@@ -24,7 +24,7 @@ pub(crate) const BUFFERED: u32 = 680;
 /// The bytes of that many entries, which lie on the stack.
 pub(crate) const BUFFER_LEN: usize = 4080;
 
-/// The bytes of the file of this level.
+/// The bytes of the file of this level, which has at most 24 stones.
 pub fn file_len(level: u8) -> u64
     requires { level ≤ HIGHEST_LEVEL }
     ensures bytes { result ≡ file_len level }

@@ -11,14 +11,12 @@ use Rattle.awari_block.specs.declared.cells.Mark.TheVariants.{Ended, Quiet, Capt
 use Rattle.std.proofs.lemmas.Bool.{false≢true}
 use Rattle.awari_block.specs.Blocks.{is_settled_in, times_due, cell_in, KeepSettled}
 use Rattle.awari_heard.specs.Heard.{IsSpread}
+use Rattle.awari_block.proofs.BlockLemmas.{one_if}
 use Rattle.awari_block.proofs.Freshness.{settled_cell}
 
 -- two boards of the level with one rank are one
 abbrev pub IsInjective : Type 0
 IsInjective = (b c : List ℕ) → IsBoard b → IsBoard c → sum b ≡ sum c → rank_of b ≡ rank_of c → b ≡ c
-
-abbrev pub one_if : Bool → ℕ
-one_if b = cond b 1 0
 
 pub some_settled : (c : Cell) (v : ℤ) (d : ℕ) → settled_by (status_of c) ≡ Some (v, d) → is_settled c.mark ≡ true
 some_settled c v d e = at c.mark refl

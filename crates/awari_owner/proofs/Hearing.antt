@@ -14,7 +14,8 @@ use Rattle.awari_scan.specs.Found.{Source}
 use Rattle.awari_heard.specs.Heard.{HearsOwn, IsSpread, with_heard}
 use Rattle.awari_owner.specs.Spread.{LeavesFresh, is_held, note_to, SpreadsOne, own_notes, AreNotesOf}
 use Rattle.awari_block.specs.declared.notes.Kind.{Kind}
-use Rattle.awari_heard.proofs.SpreadBoards.{IsInjective, one_if, kept_status, is_settled_at, spread_stays, spread_before, settled_still}
+use Rattle.awari_block.proofs.BlockLemmas.{one_if}
+use Rattle.awari_heard.proofs.SpreadBoards.{IsInjective, kept_status, is_settled_at, spread_stays, spread_before, settled_still}
 use Rattle.awari_owner.proofs.Spreading.{AreSources, held_is}
 use Rattle.awari_block.specs.declared.notes.Note.{Note}
 use Rattle.awari_block.proofs.NoteLists.{has_more, had_before}

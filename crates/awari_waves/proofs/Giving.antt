@@ -2,7 +2,7 @@
 use Rattle.std.proofs.Common.{◌≡◌, ◌≢◌, ℕ, zero, suc, ◌+◌, ◌<◌, List, [], ◌∷◌, ◌++◌, length, map, ℤ, pos, neg_ℤ, Some, refl, sym, subst, ◌∙◌, arith, true, inl, inr, append_assoc}
 use Rattle.std.proofs.lemmas.Int.{ints}
 use Rattle.std.proofs.lemmas.List.{get_or-map, length-map}
-use Rattle.std.proofs.lemmas.List.Elements.{All-from_recursion, All-cons, All-tail}
+use Rattle.std.proofs.lemmas.List.Elements.{All-append, All-from_recursion, All-cons, All-tail}
 use Rattle.std.proofs.lemmas.List.Sorted.{IsPermutation-refl, IsPermutation-sym, IsPermutation-trans, IsPermutation-append_comm, IsPermutation-append_left, IsPermutation-append_right, All-permutation}
 use Rattle.std.specs.List.{All, AllByRecursion}
 use Rattle.std.specs.List.Sorted.{IsPermutation}
@@ -19,6 +19,7 @@ use Rattle.awari_block.specs.declared.notes.Kind.TheVariants.{Won, Lost}
 use Rattle.awari_block.specs.declared.stakes.Stake.{Stake}
 use Rattle.awari_block.proofs.BlockLemmas.{due_settled, settled_inside}
 use Rattle.awari_block.proofs.Freshness.{settled_cell}
+use Rattle.awari_block.proofs.Giving.{due_at}
 use Rattle.awari_block.proofs.ListParts.{All-append_first, All-append_second}
 
 -- ---- lists
@@ -37,44 +38,30 @@ dues_without n d (l ∷ ls) (suc k) is =
     IsPermutation-trans _ _ _ (front_swap (map (λ r. (n, r)) (list_at ls k)) (map (λ r. (d, r)) l) (dues_from (suc d) (without ls k)))
     (IsPermutation-append_right (map (λ r. (d, r)) l) _ _ (dues_without n (suc d) ls k (omega (arith, is))))
 
-abbrev due_at : ℕ → ℕ → Due
-due_at w r = (w, r)
-
 unmapped : (Q : Due → Type 0) (w : ℕ) (xs : List ℕ) → All Q (map (λ r. (w, r)) xs) → All (λ r. Q (w, r)) xs
 unmapped Q w xs all k d h = subst Q (get_or-map (due_at w) xs k d (w, d) h) (all k (w, d) (let long : length (map (due_at w) xs) ≡ length xs = length-map xs (due_at w) in omega (arith, h, long)))
 
 -- ---- nothing is left of a distance
 
+of_both : (P : Due → Type 0) (xs ys : List Due) → AllByRecursion P xs → AllByRecursion P ys → AllByRecursion P (xs ++ ys)
+of_both P [] ys a b = b
+of_both P (x ∷ xs) ys a b = (a.0, of_both P xs ys a.1 b)
+
+apart : (n d : ℕ) (l : List ℕ) → d ≢ n → AllByRecursion (λ (f : Due). due_dist f ≢ n) (map (due_at d) l)
+apart n d [] ne = tt
+apart n d (r ∷ l) ne = (ne, apart n d l ne)
+
+above : (n d : ℕ) (ls : List (List ℕ)) → n < d → AllByRecursion (λ (f : Due). due_dist f ≢ n) (dues_from d ls)
+above n d [] h = tt
+above n d (l ∷ ls) h = of_both (λ (f : Due). due_dist f ≢ n) (map (due_at d) l) (dues_from (suc d) ls) (apart n d l (omega arith)) (above n (suc d) ls (omega arith))
+
 none_at : (n d : ℕ) (ls : List (List ℕ)) (k : ℕ) → n ≡ d + k → AllByRecursion (λ (f : Due). due_dist f ≢ n) (dues_from d (without ls k))
 none_at n d [] k is = tt
 none_at n d (l ∷ ls) zero is = above n (suc d) ls (omega (arith, is))
-  where
-    both : (P : Due → Type 0) (xs ys : List Due) → AllByRecursion P xs → AllByRecursion P ys → AllByRecursion P (xs ++ ys)
-    both P [] ys a b = b
-    both P (x ∷ xs) ys a b = (a.0, both P xs ys a.1 b)
-
-    row : (n d : ℕ) (l : List ℕ) → d ≢ n → AllByRecursion (λ (f : Due). due_dist f ≢ n) (map (λ r. (d, r)) l)
-    row n d [] ne = tt
-    row n d (r ∷ l) ne = (ne, row n d l ne)
-
-    above : (n d : ℕ) (ls : List (List ℕ)) → n < d → AllByRecursion (λ (f : Due). due_dist f ≢ n) (dues_from d ls)
-    above n d [] h = tt
-    above n d (l ∷ ls) h = both (λ (f : Due). due_dist f ≢ n) (map (λ r. (d, r)) l) (dues_from (suc d) ls) (row n d l (omega arith)) (above n (suc d) ls (omega arith))
-none_at n d (l ∷ ls) (suc k) is = both (λ (f : Due). due_dist f ≢ n) (map (λ r. (d, r)) l) (dues_from (suc d) (without ls k)) (row n d l (omega (arith, is))) (none_at n (suc d) ls k (omega (arith, is)))
-  where
-    both : (P : Due → Type 0) (xs ys : List Due) → AllByRecursion P xs → AllByRecursion P ys → AllByRecursion P (xs ++ ys)
-    both P [] ys a b = b
-    both P (x ∷ xs) ys a b = (a.0, both P xs ys a.1 b)
-
-    row : (n d : ℕ) (l : List ℕ) → d ≢ n → AllByRecursion (λ (f : Due). due_dist f ≢ n) (map (λ r. (d, r)) l)
-    row n d [] ne = tt
-    row n d (r ∷ l) ne = (ne, row n d l ne)
+none_at n d (l ∷ ls) (suc k) is =
+    of_both (λ (f : Due). due_dist f ≢ n) (map (due_at d) l) (dues_from (suc d) (without ls k)) (apart n d l (omega (arith, is))) (none_at n (suc d) ls k (omega (arith, is)))
 
 -- of two lists of fresh boards
-either_of : (Q : Due → Type 0) (xs ys : List Due) → All Q xs → All Q ys → All Q (xs ++ ys)
-either_of Q [] ys a b = b
-either_of Q (x ∷ xs) ys a b = All-cons Q x (xs ++ ys) (a 0 x (omega arith)) (either_of Q xs ys (All-tail Q x xs a) b)
-
 -- ---- the boards of a block
 
 -- these boards are given away, and what is left is right
@@ -139,7 +126,7 @@ module _ (stake : Stake) (start : ℕ) (cells : List Cell) (fresh : List Due) (s
         moved = moved;
         valued = λ k d h. unmapped (IsValued (value_of_kind kind stake.gain)) stake.wave given (All-append_first (IsValued (value_of_kind kind stake.gain)) gone stay mine_valued) k d h refl;
         left = λ k d h e. (All-permutation (IsValued (value_of_kind (other kind) stake.gain)) (stay ++ dues_of others) rest left
-            (either_of (IsValued (value_of_kind (other kind) stake.gain)) stay (dues_of others)
+            (All-append (IsValued (value_of_kind (other kind) stake.gain)) stay (dues_of others)
             (λ j c less at. absurd (All-from_recursion _ stay (none_at stake.wave 0 mine stake.wave (omega arith)) j c less at)) others_valued) k d h e).1;
       };
       scores = All-append_second (λ (f : Due). P (cell_in start cells (due_rank f)).score) gone stay (All-permutation (λ (f : Due). P (cell_in start cells (due_rank f)).score) (dues_of mine) _ (IsPermutation-sym _ _ gone_first) of_mine);
