@@ -2,27 +2,26 @@
 
 ghost use Rattle.std.specs.Prelude.{◌≤◌, vec_len};
 
-use awari_owner::Batch;
 use rtrb::{Consumer, Producer, PushError, RingBuffer};
 use std::alloc::{AllocError, Global};
 
 /// The two rings between an owner and another one: the end that sends to it, and the end that
 /// receives from it.
 #[derive(Drop)]
-pub struct RingPair {
-    pub(crate) producer: Producer<Batch>,
-    pub(crate) consumer: Consumer<Batch>,
+pub struct RingPair<T> {
+    pub(crate) producer: Producer<T>,
+    pub(crate) consumer: Consumer<T>,
 }
 
 /// One owner's ends of its rings to the other owners, in the order of their numbers.
 #[derive(Drop)]
-pub struct Ends {
+pub struct Ends<T> {
     pub(crate) owner: u8,
-    pub(crate) pairs: Vec<RingPair>,
+    pub(crate) pairs: Vec<RingPair<T>>,
     ghost numbered: { owner ≤ vec_len pairs },
 }
 
-impl Ends {
+impl<T> Ends<T> {
     ghost use Rattle.std.specs.Prelude.{◌≡◌, ◌+◌, ◌<◌, ◌≤◌, ◌++◌, ◌∷◌, [], length, IfOk, IfErr, OnOk, IfSome, IfNone, IsOk, IsSome, IsTrue, ◌↔◌};
     ghost use mathlib.Core.List.{IsPrefix};
     ghost use Rattle.awari_lines.specs.Rings.{IsOther, owners_of, sent_to, received_from, waiting_from, free_to, SendsOnly, TakesOnly, Paired, Connected, Looked, IsExact, NothingWaits};
@@ -41,52 +40,54 @@ impl Ends {
         self.pairs.len() + 1
     }
 
-    /// How many batches are known to wait for the owner. It tells whether they are worth threads; no
+    /// How many items are known to wait for the owner. It tells whether they are worth threads; no
     /// clause speaks of it.
     pub fn waiting(&self) -> usize {
         self.pairs.iter().fold(
             0,
-            |sum: usize, pair: &RingPair| sum.saturating_add(pair.consumer.cached_slots()),
+            |sum: usize, pair: &RingPair<T>| sum.saturating_add(pair.consumer.cached_slots()),
         )
     }
 
-    /// Sends a batch to another owner of the grid, or hands it back if no room is known even after a
+    /// Sends an item to another owner of the grid, or hands it back if no room is known even after a
     /// look at the ring. If room was known before, it is sent. It takes no memory.
-    pub fn push(&mut self, to: u8, batch: Batch) -> Result<(), Batch>
+    pub fn push(&mut self, to: u8, item: T) -> Result<(), T>
         requires { IsOther self.old to }
         ensures only { SendsOnly self.old self.new to }
-        ensures ok { OnOk result ((sent_to self.new to ≡ sent_to self.old to ++ batch ∷ []) × (free_to self.old to ≤ free_to self.new to + 1)) }
-        ensures full { IfErr result (λ back. (back ≡ batch) × (sent_to self.new to ≡ sent_to self.old to) × (free_to self.new to ≡ 0)) }
+        ensures ok { OnOk result ((sent_to self.new to ≡ sent_to self.old to ++ item ∷ []) × (free_to self.old to ≤ free_to self.new to + 1)) }
+        ensures full { IfErr result (λ back. (back ≡ item) × (sent_to self.new to ≡ sent_to self.old to) × (free_to self.new to ≡ 0)) }
         ensures succeeds { 0 < free_to self.old to → IsOk result }
     {
         let place = seat(self.owner, to);
         let pair = &mut self.pairs[place];
-        match pair.producer.push(batch) {
+        match pair.producer.push(item) {
             Ok(()) => Ok(()),
             Err(PushError::Full(back)) => Err(back),
         }
     }
 
-    /// The next batch from another owner of the grid, or None if none is known to wait even after a
+    /// The next item from another owner of the grid, or None if none is known to wait even after a
     /// look at the ring. What was known before comes next. It takes no memory.
-    pub fn pop(&mut self, from: u8) -> Option<Batch>
+    pub fn pop(&mut self, from: u8) -> Option<T>
         requires { IsOther self.old from }
         ensures only { TakesOnly self.old self.new from }
-        ensures some { IfSome result (λ batch. (received_from self.new from ≡ received_from self.old from ++ batch ∷ []) × IsPrefix (waiting_from self.old from) (batch ∷ waiting_from self.new from)) }
+        ensures some { IfSome result (λ item. (received_from self.new from ≡ received_from self.old from ++ item ∷ []) × IsPrefix (waiting_from self.old from) (item ∷ waiting_from self.new from)) }
         ensures none { IfNone result ((received_from self.new from ≡ received_from self.old from) × (waiting_from self.new from ≡ [])) }
         ensures succeeds { 0 < length (waiting_from self.old from) → IsSome result }
     {
         let place = seat(self.owner, from);
         let pair = &mut self.pairs[place];
         match pair.consumer.pop() {
-            Ok(batch) => Some(batch),
+            Ok(item) => Some(item),
             Err(_) => None,
         }
     }
 
-    /// Two more rings at the end, to a new owner and from it, with room for `room` batches each. Gives
+    /// Two more rings at the end, to a new owner and from it, with room for `room` items each. Gives
     /// that owner's ends of them. It is refused only if memory runs out.
-    pub(crate) fn connect(&mut self, alloc: Global, room: usize) -> Result<RingPair, AllocError>
+    pub(crate) fn connect(&mut self, alloc: Global, room: usize) -> Result<RingPair<T>, AllocError>
+    where
+        T: Drop,
         ensures { IfOk result (λ theirs. Connected room self.old self.new theirs) }
     {
         let (out, theirs_in) = RingBuffer::new(alloc, room)?;
@@ -103,7 +104,7 @@ impl Ends {
 
     /// Looks at both rings between two owners of one grid. True if nothing waits on them. It takes no
     /// memory.
-    pub fn look_beside(&mut self, other: &mut Ends) -> bool
+    pub fn look_beside(&mut self, other: &mut Ends<T>) -> bool
         requires other { IsOther self.old other.old.owner }
         requires this { IsOther other.old self.old.owner }
         requires paired { Paired self.old other.old }
@@ -119,13 +120,13 @@ impl Ends {
     }
 }
 
-impl RingPair {
+impl<T> RingPair<T> {
     ghost use Rattle.std.specs.Prelude.{◌≡◌, ◌++◌, [], Some, IsTrue, ◌↔◌};
     ghost use Rattle.rtrb.specs.Ring.{sent, received, known_items};
     ghost use Rattle.awari_lines.specs.Rings.{PairedOn, PairLooked};
 
     /// Looks at both rings. True if nothing waits on them.
-    fn look_beside(&mut self, other: &mut RingPair) -> bool
+    fn look_beside(&mut self, other: &mut RingPair<T>) -> bool
         requires { PairedOn (Some self.old) (Some other.old) }
         ensures here { PairLooked self.old self.new }
         ensures there { PairLooked other.old other.new }

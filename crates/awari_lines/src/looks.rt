@@ -10,7 +10,7 @@ use crate::ends::Ends;
 /// Looks at every ring of a grid. All ends are here, in the order of their owners. On each ring, what
 /// was received and then what waits is what was sent. True if nothing waits on any. It takes no
 /// memory.
-pub fn settle(all: &mut [Ends]) -> bool
+pub fn settle<T>(all: &mut [Ends<T>]) -> bool
     requires { IsGrid all.old }
     ensures grid { IsGrid all.new }
     ensures same { EachTo SameHistory all.old all.new }
@@ -28,11 +28,11 @@ pub fn settle(all: &mut [Ends]) -> bool
 }
 
 /// Looks at the two rings between two owners. True if nothing waits on them.
-fn settle_pair(all: &mut [Ends], i: usize, j: usize) -> bool
+fn settle_pair<T>(all: &mut [Ends<T>], i: usize, j: usize) -> bool
     requires grid { IsGrid all.old }
     requires pair { (i < j) × (j < length all.old) }
     ensures looked { LookedAt all.old all.new i j }
-    ensures flag { (d : AnEnds) → IsTrue result ↔ NothingWaits (slice_index_or all.new i d) (slice_index_or all.new j d) }
+    ensures flag { (d : AnEnds T) → IsTrue result ↔ NothingWaits (slice_index_or all.new i d) (slice_index_or all.new j d) }
 {
     let (front, back) = all.split_at_mut(j);
     front[i].look_beside(&mut back[0])

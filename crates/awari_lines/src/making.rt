@@ -7,9 +7,9 @@ use crate::ends::Ends;
 use std::alloc::{AllocError, Global};
 
 /// The ends of all rings among 1 to 16 owners, in the order of their numbers. There is a ring for
-/// each ordered pair of different owners, with room for `room` batches, 1 to 256. It takes all the
+/// each ordered pair of different owners, with room for `room` items, 1 to 256. It takes all the
 /// memory that the rings will ever need, and is refused only if that runs out.
-pub fn grid(alloc: Global, owners: u8, room: u16) -> Result<Vec<Ends>, AllocError>
+pub fn grid<T: Drop>(alloc: Global, owners: u8, room: u16) -> Result<Vec<Ends<T>>, AllocError>
     requires owners { (1 ≤ owners) × (owners ≤ 16) }
     requires room { (1 ≤ room) × (room ≤ 256) }
     ensures owners { IfOk result (λ all. vec_len all ≡ owners) }
@@ -25,7 +25,12 @@ pub fn grid(alloc: Global, owners: u8, room: u16) -> Result<Vec<Ends>, AllocErro
 }
 
 /// One more owner, with rings between it and each of the others.
-fn add_owner(alloc: Global, all: &mut Vec<Ends>, owner: u8, room: usize) -> Result<(), AllocError>
+fn add_owner<T: Drop>(
+    alloc: Global,
+    all: &mut Vec<Ends<T>>,
+    owner: u8,
+    room: usize,
+) -> Result<(), AllocError>
     requires owner { owner ≡ vec_len all.old }
     requires grid { IsGrid all.old.items × AllUnused all.old.items × HaveRoom room all.old.items }
     ensures owners { OnOk result (vec_len all.new ≡ vec_len all.old + 1) }

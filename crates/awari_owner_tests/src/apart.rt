@@ -11,7 +11,7 @@ use crate::expect::{expect, expect_equal};
 use crate::rounds::{after_two_rounds, next_round};
 use crate::shelves::one_level;
 use awari_lines::{Ends, settle};
-use awari_owner::Part;
+use awari_owner::{Batch, Part};
 use awari_phase::Owner;
 use awari_plan::finish;
 use awari_table::{Entry, Image, Shelf};
@@ -66,7 +66,7 @@ fn expect_at_rest(rt: &impl Abort, owners: &[Owner]) {
 #[derive(Drop)]
 struct Apart {
     parts: Vec<Part>,
-    ends: Vec<Ends>,
+    ends: Vec<Ends<Batch>>,
 }
 
 fn taken_apart(alloc: Global, owners: Vec<Owner>) -> Result<Apart, AllocError>

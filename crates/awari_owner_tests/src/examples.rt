@@ -8,7 +8,7 @@ use std::test::Fail;
 
 #[test]
 fn rings_begin_empty(rt: HostRuntime) -> Result<(), Fail> {
-    let mut all = grid(rt.alloc(), 3, 1)?;
+    let mut all = grid::<u32>(rt.alloc(), 3, 1)?;
     expect_equal(&rt, "owners", all.len(), 3);
     expect(&rt, "nothing waits", settle(all.as_mut_slice()));
     Ok(())

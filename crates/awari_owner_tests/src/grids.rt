@@ -8,7 +8,7 @@ use std::process::Abort;
 use std::test::Fail;
 
 /// The ends are those of so many owners, in the order of their numbers.
-fn expect_ends(rt: &impl Abort, all: &[Ends], owners: usize) {
+fn expect_ends(rt: &impl Abort, all: &[Ends<Batch>], owners: usize) {
     expect_equal(rt, "owners", all.len(), owners);
     for (number, ends) in all.iter().enumerate() {
         let found = (usize::from(ends.owner()), ends.owners());
@@ -17,7 +17,7 @@ fn expect_ends(rt: &impl Abort, all: &[Ends], owners: usize) {
 }
 
 /// Nothing comes to the first of three owners from the others.
-fn expect_nothing_comes(rt: &impl Abort, ends: &mut Ends) {
+fn expect_nothing_comes(rt: &impl Abort, ends: &mut Ends<Batch>) {
     assert!(rt; ends.owner() == 0 && ends.owners() == 3);
     expect(rt, "from 1", ends.pop(1).is_none());
     expect(rt, "from 2", ends.pop(2).is_none());
@@ -48,7 +48,7 @@ fn owners_get_their_ends(rt: HostRuntime) -> Result<(), Fail> {
 
 /// What the first of two owners sends is there for the second at once, and then there is room again at
 /// once. For that each has to look at the other's end of the ring.
-fn expect_passed(rt: &impl Abort, one: &mut Ends, other: &mut Ends) {
+fn expect_passed(rt: &impl Abort, one: &mut Ends<Batch>, other: &mut Ends<Batch>) {
     assert!(rt; one.owner() == 0 && one.owners() == 2);
     assert!(rt; other.owner() == 1 && other.owners() == 2);
     expect(rt, "sent", one.push(1, Batch::new()).is_ok());
@@ -65,4 +65,28 @@ fn rings_are_looked_at(rt: HostRuntime) -> Result<(), Fail> {
     expect_passed(&rt, &mut front[0], &mut back[0]);
     expect_passed(&rt, &mut front[0], &mut back[0]);
     Ok(())
+}
+
+/// A list that owns memory comes as it was sent.
+fn expect_list_passed(
+    rt: &impl Abort,
+    alloc: Global,
+    one: &mut Ends<Vec<u32>>,
+    other: &mut Ends<Vec<u32>>,
+) -> Result<(), Fail> {
+    assert!(rt; one.owner() == 0 && one.owners() == 2);
+    assert!(rt; other.owner() == 1 && other.owners() == 2);
+    let sent = one.push(1, vec![in alloc; 7, 8]?);
+    expect(rt, "sent", sent.is_ok());
+    let taken = other.pop(0).unwrap_or(Vec::new(alloc));
+    expect_equal(rt, "taken", taken.as_slice(), [7, 8].as_slice());
+    Ok(())
+}
+
+#[test]
+fn a_list_goes_over_a_ring(rt: HostRuntime) -> Result<(), Fail> {
+    let mut all = grid(rt.alloc(), 2, 1)?;
+    assert!(rt; all.len() == 2);
+    let (front, back) = all.as_mut_slice().split_at_mut(1);
+    expect_list_passed(&rt, rt.alloc(), &mut front[0], &mut back[0])
 }

@@ -11,7 +11,7 @@ use Rattle.awari_block.specs.Each.{EachTo}
 use Rattle.awari_lines.specs.Rings.{IsGrid, IsOther, SamePairs, SameHistory, owners_of, sent_to, received_from}
 use Rattle.awari_lines.specs.declared.ends.Ends.{Ends}
 use Rattle.awari_phase.specs.declared.owners.Owner.{Owner}
-use Rattle.awari_phase.specs.Owners.{Batches, IsSound, notes_boxed, notes_given, notes_taken, Kept, Grown, AllGrown, AreFinished, AreInWave, AreReceived, AreSent, JoinsWave, all_ends, ends_of, rest_of}
+use Rattle.awari_phase.specs.Owners.{Batches, IsSound, Notes, notes_boxed, notes_given, notes_taken, Kept, Grown, AllGrown, AreFinished, AreInWave, AreReceived, AreSent, JoinsWave, all_ends, ends_of, rest_of}
 use Rattle.awari_lines.proofs.Grids.{same_pairs}
 use Rattle.awari_phase.proofs.Keeping.{pairs_then, IsOther-on, prefix_then, same_sound}
 use Rattle.awari_phase.proofs.Grown.{ends_at, grid_after}
@@ -81,16 +81,16 @@ none_boxed a none j o = ap notes_of (none j [] (let many = a.queues in let low =
 -- a greater distance opened, with nothing to be sent
 pub grown_wave : (a b : Owner) (d : ℕ) → b.ends ≡ a.ends → b.outboxes ≡ a.outboxes → part.OpensWave d a.part b.part → All (λ (q : Batches). q ≡ []) a.outboxes.queues → Grown a b
 grown_wave a b d e o opens none = let p = opens.wave in record {
-  pairs = subst (λ (x : Ends). SamePairs a.ends x) (sym e) (same_pairs a.ends);
+  pairs = subst (λ (x : Ends Notes). SamePairs a.ends x) (sym e) (same_pairs a.ends);
   level = ap (λ (x : Part). x.level) p;
   gain = ap (λ (x : Part). x.gain) p;
   start = ap (λ (x : Part). x.start) p;
   long = ap (λ (x : Part). length x.cells) p;
   stays = subst (λ (x : Part). KeepSettled a.part.start a.part.cells x.cells) (sym p) (stake_same a.part).stays;
-  received = λ j q. ([], append-nil (received_from a.ends j) ∙ ap (λ (x : Ends). received_from x j) (sym e));
-  sent = λ j q. ([], append-nil (sent_to a.ends j) ∙ ap (λ (x : Ends). sent_to x j) (sym e));
+  received = λ j q. ([], append-nil (received_from a.ends j) ∙ ap (λ (x : Ends Notes). received_from x j) (sym e));
+  sent = λ j q. ([], append-nil (sent_to a.ends j) ∙ ap (λ (x : Ends Notes). sent_to x j) (sym e));
   sound = λ value s.
-      subst (λ (x : Ends). IsSound value x b.part b.outboxes) (sym e) (subst (λ (x : Outboxes). IsSound value a.ends b.part x) (sym o)
+      subst (λ (x : Ends Notes). IsSound value x b.part b.outboxes) (sym e) (subst (λ (x : Outboxes). IsSound value a.ends b.part x) (sym o)
       (sound_opened value a.ends.owner (owners_of a.ends) a.part b.part (notes_taken a.ends) (notes_given a.ends a.outboxes) (notes_boxed a.outboxes)
       (wave_opened d a.part b.part opens) (none_boxed a none) s));
 }
@@ -134,7 +134,7 @@ all_grown_looked os ps many g rest same = record {
       let new = ends_at ps i d.ends d (omega (arith, h, many)) in
       let seen = same.each i d.ends (omega (arith, h, lo)) in
       grown_looked (get_or os i d) (get_or ps i d)
-      (subst (λ (u : Ends). SameHistory u (get_or ps i d).ends) old (subst (λ (u : Ends). SameHistory (get_or (all_ends os) i d.ends) u) new seen))
+      (subst (λ (u : Ends Notes). SameHistory u (get_or ps i d).ends) old (subst (λ (u : Ends Notes). SameHistory (get_or (all_ends os) i d.ends) u) new seen))
       (same_rest os ps rest i d));
   grid = g;
   wave = λ step. step_then os ps many (λ i d h. ap (λ (r : Part × Outboxes). r.0.wave) (same_rest os ps rest i d)) step;
@@ -150,7 +150,7 @@ pub all_grown_waves : (os ps : List Owner) (dist : ℕ) → length ps ≡ length
 all_grown_waves os ps dist many opens g = record {
   many = many;
   each = λ i d h. (opens i d h).grown;
-  grid = subst (λ (l : List Ends). IsGrid l) (sym (same_ends os ps many (λ i d h. (opens i d h).ends))) g;
+  grid = subst (λ (l : List (Ends Notes)). IsGrid l) (sym (same_ends os ps many (λ i d h. (opens i d h).ends))) g;
   wave = λ step i d h.
       (let low : i < length os = omega (arith, h, many) in
       (opens i d low).wave ∙ (ap (λ w. max w dist) (step i d low) ∙ sym (opens 0 d (omega (arith, low))).wave));

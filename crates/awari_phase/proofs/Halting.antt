@@ -10,26 +10,26 @@ use Rattle.awari_block.specs.Part.{Part, HasFarthest}
 use Rattle.awari_owner.specs.declared.faults.OwnerFault.{OwnerFault}
 use Rattle.awari_owner.specs.declared.faults.OwnerFault.TheVariants.{Far, Memory}
 use Rattle.awari_block.specs.declared.notes.Note.{Note}
-use Rattle.awari_lines.specs.Rings.{Notes, IsOther, SamePairs, owners_of, sent_to, received_from}
+use Rattle.awari_lines.specs.Rings.{IsOther, SamePairs, owners_of, sent_to, received_from}
 use Rattle.awari_lines.specs.declared.ends.Ends.{Ends}
 use Rattle.awari_owner.specs.Sound.{IsCurrentNote, OwnerSound, SameStake, with_taken}
 use Rattle.awari_block.proofs.NoteLists.{Has-append_right}
 use Rattle.awari_owner.proofs.Lists.{notes_of-last}
 use Rattle.awari_owner.proofs.Sounding.{place_both, stake_settled, sound_same}
 use Rattle.awari_phase.specs.declared.owners.Owner.{Owner}
-use Rattle.awari_phase.specs.Owners.{IsOpenBatch, items_of, taken_from, given_to, notes_boxed, notes_given, notes_taken, IsSound, Kept}
+use Rattle.awari_phase.specs.Owners.{IsOpenBatch, Notes, items_of, taken_from, given_to, notes_boxed, notes_given, notes_taken, IsSound, Kept}
 use Rattle.awari_phase.specs.Stops.{HasWorked, StopsAt, StopsTaking, StopsSpreading}
 use Rattle.awari_phase.proofs.Keeping.{pairs_then, moved}
 
 -- what is due where the worker had this fault, and these notes of the last batch were not heard
-abbrev pub Due : Ends → Part → (ℕ → List Note) → OwnerFault → Type 0
+abbrev pub Due : Ends Notes → Part → (ℕ → List Note) → OwnerFault → Type 0
 Due e part left fault =
     (fault ≡ Memory)
     ⊎ (((fault ≡ Far) × HasFarthest part)
     ⊎ ((j : ℕ) × (m : Note) × (after : List Note) × IsOther e j × (left j ≡ m ∷ after) × IsFaultOf part m fault))
 
 -- Since it was this one the owner took and sent batches, and heard what it took but for the notes that are left of the last batch.
-pub record Halts (value : List ℕ → ℤ) (a : Owner) (e : Ends) (part : Part) (o : Outboxes) (told : Option OwnerFault) (taken left : ℕ → List Note) : Type 0 where
+pub record Halts (value : List ℕ → ℤ) (a : Owner) (e : Ends Notes) (part : Part) (o : Outboxes) (told : Option OwnerFault) (taken left : ℕ → List Note) : Type 0 where
   pub sound : OwnerSound value e.owner (owners_of e) part taken (notes_given e o) (notes_boxed o)
   pub whole : (j : ℕ) → IsOther e j → notes_taken e j ≡ taken j ++ left j
   pub came : (j : ℕ) → IsOther e j → (more : List Notes) × (received_from e j ≡ received_from a.ends j ++ more) × ((m : Note) → Has (left j) m → Has (notes_of (map items_of more)) m)
@@ -38,7 +38,7 @@ pub record Halts (value : List ℕ → ℤ) (a : Owner) (e : Ends) (part : Part)
   pub pairs : SamePairs a.ends e
   pub due : (fault : OwnerFault) → told ≡ Some fault → Due e part left fault
 
-pub IsOther-back : (a b : Ends) (j : ℕ) → SamePairs a b → IsOther b j → IsOther a j
+pub IsOther-back : (a b : Ends Notes) (j : ℕ) → SamePairs a b → IsOther b j → IsOther a j
 IsOther-back a b j s o = ((λ e. o.0 (e ∙ sym s.owner)), (let p : vec_len b.pairs ≡ vec_len a.pairs = s.owners in let q : j < vec_len b.pairs + 1 = o.1 in omega arith))
 
 -- without a fault, or with one and nothing that it changed
@@ -55,10 +55,10 @@ halts_kept value a b told kept why s = record {
 }
 
 -- with a fault of a spread
-halts_spreading : (value : List ℕ → ℤ) (a u : Owner) (e : Ends) (part : Part) (o : Outboxes) (fault : OwnerFault) → Kept a u → StopsSpreading u.ends u.part u.outboxes e part o fault
+halts_spreading : (value : List ℕ → ℤ) (a u : Owner) (e : Ends Notes) (part : Part) (o : Outboxes) (fault : OwnerFault) → Kept a u → StopsSpreading u.ends u.part u.outboxes e part o fault
     → IsSound value a.ends a.part a.outboxes → Halts value a e part o (Some fault) (notes_taken e) (λ _. [])
 halts_spreading value a u e part o fault kept t s =
-    subst (λ (x : Ends). Halts value a x part o (Some fault) (notes_taken x) (λ _. [])) (sym t.ends)
+    subst (λ (x : Ends Notes). Halts value a x part o (Some fault) (notes_taken x) (λ _. [])) (sym t.ends)
     (subst (λ (x : Part). Halts value a u.ends x o (Some fault) (notes_taken u.ends) (λ _. [])) (sym t.cells)
     (subst (λ (x : Outboxes). Halts value a u.ends u.part x (Some fault) (notes_taken u.ends) (λ _. [])) (sym t.outboxes)
     (halts_kept value a u (Some fault) kept (λ had is. subst (λ (f : OwnerFault). (f ≡ Memory) ⊎ ((f ≡ Far) × HasFarthest u.part)) (same fault had is) t.refused) s)))
@@ -73,7 +73,7 @@ equal : (x : ℕ) → (x == x) ≡ true
 equal x = grind (arith, nat_tests)
 
 -- with a fault of a note
-module _ (value : List ℕ → ℤ) (a u : Owner) (e : Ends) (part : Part) (o : Outboxes) (fault : OwnerFault) (kept : Kept a u) (t : StopsTaking u.ends u.part u.outboxes e part o fault)
+module _ (value : List ℕ → ℤ) (a u : Owner) (e : Ends Notes) (part : Part) (o : Outboxes) (fault : OwnerFault) (kept : Kept a u) (t : StopsTaking u.ends u.part u.outboxes e part o fault)
     (s : IsSound value a.ends a.part a.outboxes) where
   abbrev before : List Note
   before = t.refuses.before

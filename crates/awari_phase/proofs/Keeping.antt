@@ -15,18 +15,18 @@ use Rattle.awari_block.specs.Part.{Part}
 use Rattle.awari_lines.specs.declared.ends.Ends.{Ends}
 use Rattle.awari_lines.specs.declared.ends.RingPair.{RingPair}
 use Rattle.awari_block.specs.declared.notes.Note.{Note}
-use Rattle.awari_lines.specs.Rings.{Notes, IsOther, SamePairs, SameBut, sent_to, received_from, sent_on, received_on, pair_of, owners_of}
+use Rattle.awari_lines.specs.Rings.{IsOther, SamePairs, SameBut, sent_to, received_from, sent_on, received_on, pair_of, owners_of}
 use Rattle.awari_phase.specs.declared.owners.Owner.{Owner}
-use Rattle.awari_phase.specs.Owners.{Batches, IsOpenBatch, IsSound, KeepsOwner, Kept, given_to, items_of, notes_boxed, notes_given, notes_taken, taken_from}
+use Rattle.awari_phase.specs.Owners.{Batches, IsOpenBatch, IsSound, KeepsOwner, Kept, Notes, given_to, items_of, notes_boxed, notes_given, notes_taken, taken_from}
 use Rattle.awari_lines.proofs.Grids.{same_pairs, rings_then}
 use Rattle.awari_block.proofs.ListParts.{All-append_first, All-append_second}
 
 -- ---- rings
 
-pub pairs_then : (a b c : Ends) → SamePairs a b → SamePairs b c → SamePairs a c
+pub pairs_then : (a b c : Ends Notes) → SamePairs a b → SamePairs b c → SamePairs a c
 pairs_then a b c s t = record { owner = t.owner ∙ s.owner; owners = t.owners ∙ s.owners; rings = λ k. rings_then (slice_get a.pairs.items k) (slice_get b.pairs.items k) (slice_get c.pairs.items k) (s.rings k) (t.rings k) }
 
-pub IsOther-on : (a b : Ends) (k : ℕ) → SamePairs a b → IsOther a k → IsOther b k
+pub IsOther-on : (a b : Ends Notes) (k : ℕ) → SamePairs a b → IsOther a k → IsOther b k
 IsOther-on a b k s o = ((λ e. o.0 (e ∙ s.owner)), (let p : vec_len b.pairs ≡ vec_len a.pairs = s.owners in let q : k < vec_len a.pairs + 1 = o.1 in omega arith))
 
 pub prefix_then : (xs ys zs : List Notes) → IsPrefix xs ys → IsPrefix ys zs → IsPrefix xs zs
@@ -41,14 +41,14 @@ open_back a b s x h = record { whole = h.whole; opened = timely_all b a (sym s.l
 
 -- ---- soundness, on the same rings
 
-pub moved : (value : List ℕ → ℤ) (e e' : Ends) (part : Part) (T G B : ℕ → List Note) → SamePairs e e'
+pub moved : (value : List ℕ → ℤ) (e e' : Ends Notes) (part : Part) (T G B : ℕ → List Note) → SamePairs e e'
     → OwnerSound value e.owner (owners_of e) part T G B → OwnerSound value e'.owner (owners_of e') part T G B
 moved value e e' part T G B s h =
     let many : owners_of e' ≡ owners_of e = ap (λ n. n + 1) s.owners in
     subst (λ n. OwnerSound value e'.owner n part T G B) (sym many) (subst (λ i. OwnerSound value i (owners_of e) part T G B) (sym s.owner) h)
 
 -- the same was taken and given, and the same is to be sent
-pub same_sound : (value : List ℕ → ℤ) (e e' : Ends) (part : Part) (o : Outboxes) → SamePairs e e'
+pub same_sound : (value : List ℕ → ℤ) (e e' : Ends Notes) (part : Part) (o : Outboxes) → SamePairs e e'
     → ((j : ℕ) → IsOther e j → sent_to e' j ≡ sent_to e j) → ((j : ℕ) → IsOther e j → received_from e' j ≡ received_from e j) → IsSound value e part o → IsSound value e' part o
 same_sound value e e' part o pairs s r h = moved value e e' part (notes_taken e') (notes_given e' o) (notes_boxed o) pairs
     (sound_same value e.owner (owners_of e) part (notes_taken e) (notes_taken e') (notes_given e o) (notes_given e' o) (notes_boxed o) (notes_boxed o)
@@ -56,13 +56,13 @@ same_sound value e e' part o pairs s r h = moved value e e' part (notes_taken e'
 
 -- ---- one ring
 
-module _ (e e' : Ends) (j : ℕ) (pairs : SamePairs e e') (others : SameBut e e' j) where
+module _ (e e' : Ends Notes) (j : ℕ) (pairs : SamePairs e e') (others : SameBut e e' j) where
   -- what holds of ring j before and after holds of all, where it holds of a ring that is the same
-  at_each : (P : Option RingPair → Option RingPair → Type 0) → ((l : Option RingPair) → P l l) → P (pair_of e j) (pair_of e' j) → (k : ℕ) → IsOther e k → P (pair_of e k) (pair_of e' k)
+  at_each : (P : Option (RingPair Notes) → Option (RingPair Notes) → Type 0) → ((l : Option (RingPair Notes)) → P l l) → P (pair_of e j) (pair_of e' j) → (k : ℕ) → IsOther e k → P (pair_of e k) (pair_of e' k)
   at_each P same here k o =
       elim (cases_eq k j) [
         | inl q ↦ subst (λ (i : ℕ). P (pair_of e i) (pair_of e' i)) (sym q) here
-        | inr n ↦ subst (λ (l : Option RingPair). P (pair_of e k) l) (sym (others k n o.0)) (same (pair_of e k))
+        | inr n ↦ subst (λ (l : Option (RingPair Notes)). P (pair_of e k) l) (sym (others k n o.0)) (same (pair_of e k))
       ]
 
   pub sent_same : sent_to e' j ≡ sent_to e j → (k : ℕ) → IsOther e k → sent_to e' k ≡ sent_to e k
@@ -101,7 +101,7 @@ module _ (e e' : Ends) (j : ℕ) (pairs : SamePairs e e') (others : SameBut e e'
       by true f =
           let P : ℕ → Type 0 = λ q. notes_taken e' q ≡ notes_taken e q ++ b.items in
           subst P (sym (eqb-true k j f)) (ap (λ (l : List Notes). notes_of (map items_of l)) h ∙ ap notes_of (map-append items_of (received_from e j) (b ∷ [])) ∙ notes_of-last (taken_from e j) b.items)
-      by false f = ap (λ (l : Option RingPair). notes_of (map items_of (received_on l))) (others k (differ k j f) o.0)
+      by false f = ap (λ (l : Option (RingPair Notes)). notes_of (map items_of (received_on l))) (others k (differ k j f) o.0)
 
   pub take_keeps : (part part' : Part) (o : Outboxes) (b : Notes) → sent_to e' j ≡ sent_to e j → received_from e' j ≡ received_from e j ++ b ∷ [] → IsOther e j → TakesNotes b.items part part'
       → KeepsOwner e part o e' part' o
@@ -163,7 +163,7 @@ module _ (e e' : Ends) (j : ℕ) (pairs : SamePairs e e') (others : SameBut e e'
                 ∙ ap (λ (l : Batches). l ++ rest) (map-append items_of (sent_to e j) (b ∷ []))
                 ∙ append_assoc (map items_of (sent_to e j)) (b.items ∷ []) rest
                 ∙ ap (λ (l : Batches). map items_of (sent_to e j) ++ l) (sym first)))
-            | inr n ↦ ap (λ (l : Option RingPair). map items_of (sent_on l) ++ queue_to o' k) (others k n q.0) ∙ ap (λ (l : Batches). map items_of (sent_to e k) ++ l) (same k n)
+            | inr n ↦ ap (λ (l : Option (RingPair Notes)). map items_of (sent_on l) ++ queue_to o' k) (others k n q.0) ∙ ap (λ (l : Batches). map items_of (sent_to e k) ++ l) (same k n)
           ]
 
       boxed_at : (k : ℕ) → IsOther e k → All (IsCurrentNote part) (notes_boxed o k) → All (IsCurrentNote part) (notes_boxed o' k)
@@ -176,7 +176,7 @@ module _ (e e' : Ends) (j : ℕ) (pairs : SamePairs e e') (others : SameBut e e'
             | inr n ↦ subst (λ (bs : Batches). All (IsCurrentNote part) (notes_of bs)) (sym (same k n)) h
           ]
 
-keeps_refl : (e : Ends) (part : Part) (o : Outboxes) → KeepsOwner e part o e part o
+keeps_refl : (e : Ends Notes) (part : Part) (o : Outboxes) → KeepsOwner e part o e part o
 keeps_refl e part o = record {
   pairs = same_pairs e;
   block = stake_same part;
@@ -190,7 +190,7 @@ keeps_refl e part o = record {
 
 -- ---- a spread
 
-module _ (e : Ends) (part part' : Part) (o o' : Outboxes) (many : length o.queues ≡ owners_of e) (number : o.owner ≡ e.owner) where
+module _ (e : Ends Notes) (part part' : Part) (o o' : Outboxes) (many : length o.queues ≡ owners_of e) (number : o.owner ≡ e.owner) where
   spread_sound : (value : List ℕ → ℤ) → SpreadsFirst part part' o o' → IsSound value e part o → IsSound value e part' o'
   spread_sound value spreads h =
       subst (λ (g : ℕ → List Note). OwnerSound value e.owner (owners_of e) part' (notes_taken e) g (notes_boxed o')) (sym (λ u j. apart o' j u))

@@ -13,7 +13,7 @@ use Rattle.awari_lines.specs.declared.ends.Ends.{Ends}
 use Rattle.awari_block.proofs.NoteLists.{Has-append_cases, all_has, has_all}
 use Rattle.awari_owner.proofs.Lists.{notes_of-append}
 use Rattle.awari_phase.specs.declared.owners.Owner.{Owner}
-use Rattle.awari_phase.specs.Owners.{AreLooked, AreTogether, IsOpenBatch, all_ends, coming_notes, ends_of, items_of, notes_boxed, notes_given, notes_taken, parts_of, taken_from, taken_notes}
+use Rattle.awari_phase.specs.Owners.{AreLooked, AreTogether, IsOpenBatch, Notes, all_ends, coming_notes, ends_of, items_of, notes_boxed, notes_given, notes_taken, parts_of, taken_from, taken_notes}
 use Rattle.awari_phase.proofs.Refusing.{open_since}
 use Rattle.awari_phase.proofs.Together.{ends_there, many_at, number_at, sound_together}
 
@@ -25,7 +25,7 @@ module _ (value : List ℕ → ℤ) (n : ℕ) (os : List Owner) (d : Owner) (tog
   on_ring : (i j : ℕ) → i < length os → j < length os → (i ≡ j → ⊥) → received_from (owner j).ends i ++ waiting_from (owner j).ends i ≡ sent_to (owner i).ends j
   on_ring i j low low' apart =
       let in_ends : (k : ℕ) → k < length os → k < length (all_ends os) = λ k h. subst (λ x. k < x) (sym (length-map os ends_of)) h in
-      subst₂ (λ (a b : Ends). received_from a i ++ waiting_from a i ≡ sent_to b j) (ends_there os j d) (ends_there os i d) (looked j i d.ends (in_ends j low') (in_ends i low) (λ e. apart (sym e)))
+      subst₂ (λ (a b : Ends Notes). received_from a i ++ waiting_from a i ≡ sent_to b j) (ends_there os j d) (ends_there os i d) (looked j i d.ends (in_ends j low') (in_ends i low) (λ e. apart (sym e)))
 
   arrived : (i j : ℕ) → i < length os → j < length os → (i ≡ j → ⊥) → notes_given (owner i).ends (owner i).outboxes j ≡ taken_notes os d i j ++ coming_notes os d i j
   arrived i j low low' apart =

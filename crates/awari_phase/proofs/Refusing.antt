@@ -13,7 +13,7 @@ use Rattle.awari_owner.specs.declared.faults.OwnerFault.TheVariants as owner_fau
 use Rattle.awari_block.specs.declared.notes.Note.{Note}
 use Rattle.awari_table.specs.declared.TheConstants.{HIGHEST_LEVEL}
 use Rattle.awari_block.specs.Each.{EachTo}
-use Rattle.awari_lines.specs.Rings.{Notes, IsGrid, IsOther, SameHistory, SamePairs, sent_to, received_from, waiting_from}
+use Rattle.awari_lines.specs.Rings.{IsGrid, IsOther, SameHistory, SamePairs, sent_to, received_from, waiting_from}
 use Rattle.awari_lines.specs.declared.ends.Ends.{Ends}
 use Rattle.awari_lines.proofs.Grids.{grid_kept}
 use Rattle.awari_owner.specs.Outboxes.{notes_of, queue_to}
@@ -22,7 +22,7 @@ use Rattle.awari_owner.proofs.Lists.{notes_of-append}
 use Rattle.awari_owner.proofs.Expecting.{timely_still}
 use Rattle.awari_phase.specs.declared.owners.Owner.{Owner}
 use Rattle.awari_phase.specs.declared.faults.PhaseFault.{PhaseFault}
-use Rattle.awari_phase.specs.Owners.{AreLooked, AreTogether, Batches, IsOpenBatch, OpenBehind, all_ends, ends_of, items_of, notes_boxed, notes_given, parts_of, taken_from}
+use Rattle.awari_phase.specs.Owners.{AreLooked, AreTogether, Batches, IsOpenBatch, Notes, OpenBehind, all_ends, ends_of, items_of, notes_boxed, notes_given, parts_of, taken_from}
 use Rattle.awari_phase.specs.PhaseFault.{IsFirstFault, IsWant, fault_of}
 use Rattle.awari_phase.specs.Stops.{HaveWorked}
 use Rattle.awari_phase.proofs.Grown.{ends_at}
@@ -123,11 +123,11 @@ module _ (value : List ℕ → ℤ) (n : ℕ) (os ps : List Owner) (d : Owner) (
   grid : IsGrid (all_ends ps)
   grid = grid_kept (all_ends os) (all_ends ps) (length-map ps ends_of ∙ long ∙ sym (length-map os ends_of)) at together.grid
     where
-      at : (x : ℕ) (e : Ends) → x < length (all_ends os) → SamePairs (get_or (all_ends os) x e) (get_or (all_ends ps) x e)
+      at : (x : ℕ) (e : Ends Notes) → x < length (all_ends os) → SamePairs (get_or (all_ends os) x e) (get_or (all_ends ps) x e)
       at x e low =
           let inside : x < length os = subst (λ k. x < k) (length-map os ends_of) low in
-          subst (λ (u : Ends). SamePairs u (get_or (all_ends ps) x e)) (sym (ends_at os x e d inside))
-          (subst (λ (u : Ends). SamePairs (was x).ends u) (sym (ends_at ps x e d (low_ps x inside))) (has x inside).pairs)
+          subst (λ (u : Ends Notes). SamePairs u (get_or (all_ends ps) x e)) (sym (ends_at os x e d inside))
+          (subst (λ (u : Ends Notes). SamePairs (was x).ends u) (sym (ends_at ps x e d (low_ps x inside))) (has x inside).pairs)
 
   other : (i j : ℕ) → i < length os → j < length os → (i ≡ j → ⊥) → IsOther (now i).ends j
   other i j low low' apart = (
@@ -249,8 +249,8 @@ sent_before ps qs d grid same exact i j low low' apart =
     let received = here.received j (λ e. apart (sym (e ∙ number i low))) in
     let sent = from.sent i (λ e. apart (e ∙ number j low')) in (
       waiting_from (get_or (all_ends qs) i d.ends) j,
-      ap (λ (e : Ends). received_from e j ++ waiting_from (get_or (all_ends qs) i d.ends) j) (sym (there i)) ∙ ap (λ l. l ++ waiting_from (get_or (all_ends qs) i d.ends) j) (sym received)
-          ∙ exact i j d.ends (there_in i (in_ends i low)) (there_in j (in_ends j low')) apart ∙ sent ∙ ap (λ (e : Ends). sent_to e i) (there j),
+      ap (λ (e : Ends Notes). received_from e j ++ waiting_from (get_or (all_ends qs) i d.ends) j) (sym (there i)) ∙ ap (λ l. l ++ waiting_from (get_or (all_ends qs) i d.ends) j) (sym received)
+          ∙ exact i j d.ends (there_in i (in_ends i low)) (there_in j (in_ends j low')) apart ∙ sent ∙ ap (λ (e : Ends Notes). sent_to e i) (there j),
     )
 
 -- an owner that had a fault stands in the list

@@ -6,15 +6,15 @@ use Rattle.awari_owner.specs.Outboxes.{Outboxes}
 use Rattle.awari_block.specs.Part.{Part}
 use Rattle.awari_owner.specs.declared.faults.OwnerFault.{OwnerFault}
 use Rattle.awari_phase.specs.declared.owners.Owner.{Owner}
-use Rattle.awari_phase.specs.Owners.{Kept}
+use Rattle.awari_phase.specs.Owners.{Kept, Notes}
 use Rattle.awari_phase.specs.Stops.{StopsAt, StopsSpreading, StopsTaking}
 use Rattle.awari_phase.proofs.Keeping.{kept_refl, kept_trans, kept_owners}
 
-pub stops_here : (a : Owner) (e : Ends) (part : Part) (o : Outboxes) (fault : OwnerFault)
+pub stops_here : (a : Owner) (e : Ends Notes) (part : Part) (o : Outboxes) (fault : OwnerFault)
     → StopsTaking a.ends a.part a.outboxes e part o fault ⊎ StopsSpreading a.ends a.part a.outboxes e part o fault → StopsAt a e part o fault
 stops_here a e part o fault stops = record { until = a; kept = kept_refl a; stops = stops }
 
-pub kept_stopped : (a b : Owner) (e : Ends) (part : Part) (o : Outboxes) (fault : OwnerFault) → Kept a b → StopsAt b e part o fault → StopsAt a e part o fault
+pub kept_stopped : (a b : Owner) (e : Ends Notes) (part : Part) (o : Outboxes) (fault : OwnerFault) → Kept a b → StopsAt b e part o fault → StopsAt a e part o fault
 kept_stopped a b e part o fault kept stopped = record { until = stopped.until; kept = kept_trans a b stopped.until kept stopped.kept; stops = stopped.stops }
 
 -- what is known of a worker whose sweeps came to this

@@ -3,11 +3,11 @@ use Rattle.std.proofs.Common.{◌≡◌, ℕ, ◌+◌, ◌<◌, ◌≤◌, List,
 use Rattle.std.proofs.lemmas.Bool.{cases_eq}
 use mathlib.Core.List.{IsPrefix}
 use Rattle.awari_lines.specs.declared.ends.Ends.{Ends}
-use Rattle.awari_lines.specs.Rings.{Notes, IsOther, sent_to, received_from, received_on, waiting_from, waiting_on, free_to}
+use Rattle.awari_lines.specs.Rings.{IsOther, sent_to, received_from, received_on, waiting_from, waiting_on, free_to}
 use Rattle.awari_block.specs.Part.{Part, IsLeastDue, unspread}
 use Rattle.awari_phase.specs.declared.owners.Owner.{Owner}
 use Rattle.awari_owner.specs.Outboxes.{queue_to}
-use Rattle.awari_phase.specs.Owners.{HasSent, HasSpread, HasTaken, Kept, Swept}
+use Rattle.awari_phase.specs.Owners.{HasSent, HasSpread, HasTaken, Kept, Notes, Swept}
 use Rattle.awari_phase.specs.Steps.{SendsAt, TakesAt, TakesNothing}
 use Rattle.awari_phase.proofs.Keeping.{IsOther-on, kept_trans}
 
@@ -93,7 +93,7 @@ pub swept_of : (a b c d : Owner) → Kept a b → ((j : ℕ) → IsOther a.ends 
 swept_of a b c d taking took spreading ends spread part received sent = record {
   took = λ j other.
       (let same = received j (IsOther-on a.ends c.ends j kept.pairs other) in
-      taken_still a c d j same.0 same.1 (taken_still a b c j (ap (λ (e : Ends). received_from e j) ends) (ap (λ (e : Ends). waiting_from e j) ends) (took j other)));
+      taken_still a c d j same.0 same.1 (taken_still a b c j (ap (λ (e : Ends Notes). received_from e j) ends) (ap (λ (e : Ends Notes). waiting_from e j) ends) (took j other)));
   spread = λ due.
       (let more = spread (subst (λ (p : Part). IsLeastDue p (Some p.wave)) part due) in
       let same = ap unspread part in

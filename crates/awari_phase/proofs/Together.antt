@@ -13,7 +13,7 @@ use Rattle.awari_block.specs.declared.notes.Note.{Note}
 use Rattle.awari_lines.specs.Rings.{IsGrid, owners_of, sent_to, received_from}
 use Rattle.awari_lines.specs.declared.ends.Ends.{Ends}
 use Rattle.awari_owner.specs.Outboxes.{notes_of, queue_to}
-use Rattle.awari_phase.specs.Owners.{Batches, items_of, notes_boxed, notes_given, notes_taken, AreFinished, AreIdle, all_ends, ends_of, parts_of, taken_notes}
+use Rattle.awari_phase.specs.Owners.{Batches, Notes, items_of, notes_boxed, notes_given, notes_taken, AreFinished, AreIdle, all_ends, ends_of, parts_of, taken_notes}
 use Rattle.awari_phase.specs.declared.owners.Owner.{Owner}
 
 pub part_there : (os : List Owner) (i : ℕ) (d : Owner) → i < length os → (get_or os i d).part ≡ part_at (parts_of os) i
@@ -41,10 +41,10 @@ pub record AreMet (value : List ℕ → ℤ) (n : ℕ) (os : List Owner) (d : Ow
 
 -- the ends of each have its number, and are of as many owners
 pub number_at : (os : List Owner) (d : Owner) → IsGrid (all_ends os) → (i : ℕ) → i < length os → (get_or os i d).ends.owner ≡ i
-number_at os d grid i low = ap (λ (e : Ends). e.owner) (sym (ends_there os i d)) ∙ grid.owner i d.ends (subst (λ k. i < k) (sym (length-map os ends_of)) low)
+number_at os d grid i low = ap (λ (e : Ends Notes). e.owner) (sym (ends_there os i d)) ∙ grid.owner i d.ends (subst (λ k. i < k) (sym (length-map os ends_of)) low)
 
 pub many_at : (os : List Owner) (d : Owner) → IsGrid (all_ends os) → (i : ℕ) → i < length os → owners_of (get_or os i d).ends ≡ length os
-many_at os d grid i low = ap (λ (e : Ends). owners_of e) (sym (ends_there os i d)) ∙ grid.owners i d.ends (subst (λ k. i < k) (sym (length-map os ends_of)) low) ∙ length-map os ends_of
+many_at os d grid i low = ap (λ (e : Ends Notes). owners_of e) (sym (ends_there os i d)) ∙ grid.owners i d.ends (subst (λ k. i < k) (sym (length-map os ends_of)) low) ∙ length-map os ends_of
 
 module _ (value : List ℕ → ℤ) (n : ℕ) (os : List Owner) (d : Owner) (coming taken : ℕ → ℕ → List Note) (met : AreMet value n os d coming taken) where
   abbrev owner : ℕ → Owner
@@ -107,7 +107,7 @@ module _ (value : List ℕ → ℤ) (n : ℕ) (os : List Owner) (finished : AreF
       let none : queue_to (get_or os i d).outboxes j ≡ [] = finished.sent i d low j [] (omega (arith, queues, low')) in
       let in_ends : (k : ℕ) → k < length os → k < length (all_ends os) = λ k h. subst (λ x. k < x) (sym (length-map os ends_of)) h in
       let came : received_from (get_or os j d).ends i ≡ sent_to (get_or os i d).ends j =
-      subst₂ (λ (a b : Ends). received_from a i ≡ sent_to b j) (ends_there os j d) (ends_there os i d) (finished.received j i d.ends (in_ends j low') (in_ends i low) (λ e. apart (sym e))) in
+      subst₂ (λ (a b : Ends Notes). received_from a i ≡ sent_to b j) (ends_there os j d) (ends_there os i d) (finished.received j i d.ends (in_ends j low') (in_ends i low) (λ e. apart (sym e))) in
       ap (λ (q : Batches). notes_of (map items_of (sent_to (get_or os i d).ends j) ++ q)) none ∙ ap notes_of (append-nil (map items_of (sent_to (get_or os i d).ends j)))
       ∙ ap (λ l. notes_of (map items_of l)) (sym came) ∙ sym (append-nil (taken_notes os d i j))
 

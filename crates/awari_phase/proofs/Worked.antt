@@ -11,7 +11,7 @@ use Rattle.awari_block.specs.Part.{Part}
 use Rattle.awari_owner.specs.declared.faults.OwnerFault.{OwnerFault}
 use Rattle.awari_block.specs.declared.notes.Note.{Note}
 use Rattle.awari_phase.specs.declared.owners.Owner.{Owner}
-use Rattle.awari_phase.specs.Owners.{AllGrown, AreFinished, AreReceived, AreTogether, IsOpenBatch, Kept, OpenBehind, JoinsWave, Swept, all_ends, ends_of, items_of, rest_of}
+use Rattle.awari_phase.specs.Owners.{AllGrown, AreFinished, AreReceived, AreTogether, IsOpenBatch, Kept, Notes, OpenBehind, JoinsWave, Swept, all_ends, ends_of, items_of, rest_of}
 use Rattle.awari_phase.specs.PhaseFault.{AreWell}
 use Rattle.awari_phase.specs.Stops.{HasWorked, HaveWorked}
 use Rattle.awari_phase.proofs.Grown.{grid_after, grid_pairs}
@@ -32,7 +32,7 @@ worked_pairs a b worked = at b.fault refl
         let h = worked.stopped fault is in
         elim h.stops [
           | inl t ↦ pairs_then a.ends h.until.ends b.ends h.kept.pairs t.pairs
-          | inr t ↦ subst (λ (e : Ends). SamePairs a.ends e) (sym t.ends) h.kept.pairs
+          | inr t ↦ subst (λ (e : Ends Notes). SamePairs a.ends e) (sym t.ends) h.kept.pairs
         ]
 
 pub worked_grid : (os ps : List Owner) → HaveWorked os ps → IsGrid (all_ends os) → IsGrid (all_ends ps)
@@ -146,8 +146,8 @@ together_looked value n os ps grown rest same t = together_grown value n os ps g
 
     history : (i : ℕ) (d : Owner) → i < length ps → SameHistory (get_or os i d).ends (get_or ps i d).ends
     history i d h =
-        subst (λ (u : Ends). SameHistory u (get_or ps i d).ends) (ends_there os i d)
-        (subst (λ (u : Ends). SameHistory (get_or (all_ends os) i d.ends) u) (ends_there ps i d) (same.each i d.ends (subst (λ k. i < k) (sym (length-map os ends_of)) (low i h))))
+        subst (λ (u : Ends Notes). SameHistory u (get_or ps i d).ends) (ends_there os i d)
+        (subst (λ (u : Ends Notes). SameHistory (get_or (all_ends os) i d.ends) u) (ends_there ps i d) (same.each i d.ends (subst (λ k. i < k) (sym (length-map os ends_of)) (low i h))))
 
     waits : (i j : ℕ) (d : Owner) → i < length ps → j < length ps → (i ≡ j → ⊥) → OpenBehind (get_or ps j d).part (received_from (get_or ps i d).ends j) (sent_to (get_or ps j d).ends i)
     waits i j d h h' apart =
@@ -168,7 +168,7 @@ none_waits : (ps : List Owner) → AreReceived ps → (i j : ℕ) (d : Owner) �
 none_waits ps received i j d h h' apart =
     let in_ends : (k : ℕ) → k < length ps → k < length (all_ends ps) = λ k low. subst (λ x. k < x) (sym (length-map ps ends_of)) low in
     let all : received_from (get_or ps i d).ends j ≡ sent_to (get_or ps j d).ends i =
-    subst₂ (λ (a b : Ends). received_from a j ≡ sent_to b i) (ends_there ps i d) (ends_there ps j d) (received i j d.ends (in_ends i h) (in_ends j h') apart) in
+    subst₂ (λ (a b : Ends Notes). received_from a j ≡ sent_to b i) (ends_there ps i d) (ends_there ps j d) (received i j d.ends (in_ends i h) (in_ends j h') apart) in
     record {
       before = received_from (get_or ps i d).ends j;
       after = [];
@@ -187,7 +187,7 @@ pub together_waves : (value : List ℕ → ℤ) (n : ℕ) (os ps : List Owner) (
 together_waves value n os ps dist many opens grid received t =
     let same : all_ends ps ≡ all_ends os = same_ends os ps many (λ i d h. (opens i d h).ends) in
     together_received value n os ps (all_grown_waves os ps dist many opens grid)
-    (λ i j d. subst (λ (l : List Ends). i < length l → j < length l → (i ≡ j → ⊥) → received_from (get_or l i d) j ≡ sent_to (get_or l j d) i) (sym same) (received i j d)) t
+    (λ i j d. subst (λ (l : List (Ends Notes)). i < length l → j < length l → (i ≡ j → ⊥) → received_from (get_or l i d) j ≡ sent_to (get_or l j d) i) (sym same) (received i j d)) t
 
 -- as owners are between two gains
 pub together_finished : (value : List ℕ → ℤ) (n : ℕ) (os : List Owner) → AreFinished value n os → AreTogether value n os

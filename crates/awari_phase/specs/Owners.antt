@@ -1,14 +1,19 @@
 -- What a worker keeps of its owner.
 use Rattle.std.specs.Prelude.{◌≡◌, ◌≢◌, ◌⊎◌, ℕ, ◌+◌, ◌<◌, ◌≤◌, max, List, [], ◌++◌, length, map, All, ℤ, Some, slice_index_or}
 use mathlib.Core.List.{IsPrefix}
-use Rattle.awari_lines.specs.Rings.{AreExact, Notes, IsOther, IsGrid, SamePairs, owners_of, sent_to, received_from, waiting_from, free_to}
+use Rattle.awari_lines.specs.Rings.{AreExact, IsOther, IsGrid, SamePairs, owners_of, sent_to, received_from, waiting_from, free_to}
 use Rattle.awari_lines.specs.declared.ends.Ends.{Ends}
 use Rattle.awari_block.specs.declared.notes.Note.{Note}
+use Rattle.arrayvec.specs.ArrayVec.{ArrayVec}
 use Rattle.awari_owner.specs.Outboxes.{IsBatch, Outboxes, queue_to, notes_of}
 use Rattle.awari_block.specs.Blocks.{KeepSettled}
 use Rattle.awari_block.specs.Part.{Part, IsLeastDue, unspread}
 use Rattle.awari_owner.specs.Sound.{IsScannedOwner, IsCurrentNote, OpensGain, OwnerSound, SameStake}
 use Rattle.awari_phase.specs.declared.owners.Owner.{Owner}
+
+-- a batch is the list of its notes
+abbrev pub Notes : Type 0
+Notes = ArrayVec Note
 
 abbrev pub Batches : Type 0
 Batches = List (List Note)
@@ -17,24 +22,24 @@ abbrev pub items_of : Notes → List Note
 items_of b = b.items
 
 -- the batches that were taken from owner j
-abbrev pub taken_from : Ends → ℕ → Batches
+abbrev pub taken_from : Ends Notes → ℕ → Batches
 taken_from e j = map items_of (received_from e j)
 
 -- the batches that are for owner j: those that were sent, and then those that are to be
-abbrev pub given_to : Ends → Outboxes → ℕ → Batches
+abbrev pub given_to : Ends Notes → Outboxes → ℕ → Batches
 given_to e o j = map items_of (sent_to e j) ++ queue_to o j
 
 -- the notes of these, and of what is still to be sent
-abbrev pub notes_taken : Ends → ℕ → List Note
+abbrev pub notes_taken : Ends Notes → ℕ → List Note
 notes_taken e j = notes_of (taken_from e j)
 
-abbrev pub notes_given : Ends → Outboxes → ℕ → List Note
+abbrev pub notes_given : Ends Notes → Outboxes → ℕ → List Note
 notes_given e o j = notes_of (given_to e o j)
 
 abbrev pub notes_boxed : Outboxes → ℕ → List Note
 notes_boxed o j = notes_of (queue_to o j)
 
-abbrev pub IsSound : (List ℕ → ℤ) → Ends → Part → Outboxes → Type 0
+abbrev pub IsSound : (List ℕ → ℤ) → Ends Notes → Part → Outboxes → Type 0
 IsSound value e part o = OwnerSound value e.owner (owners_of e) part (notes_taken e) (notes_given e o) (notes_boxed o)
 
 -- a batch of 1 to 32 notes of the open gain and wave
@@ -44,7 +49,7 @@ pub record IsOpenBatch (part : Part) (b : List Note) : Type 0 where
 
 -- The owner on the same rings, with the same block, gain and distance, is sound where it was; what it took and sent has only
 -- grown, and what it sent is of the open gain and wave where what it had to send was. It has no board more to spread.
-pub record KeepsOwner (e : Ends) (part : Part) (o : Outboxes) (e' : Ends) (part' : Part) (o' : Outboxes) : Type 0 where
+pub record KeepsOwner (e : Ends Notes) (part : Part) (o : Outboxes) (e' : Ends Notes) (part' : Part) (o' : Outboxes) : Type 0 where
   pub pairs : SamePairs e e'
   pub block : SameStake part part'
   pub owner : o'.owner ≡ o.owner
@@ -75,11 +80,11 @@ pub record Swept (a b : Owner) : Type 0 where
   pub spread : HasSpread a b
   pub sent : (j : ℕ) → IsOther a.ends j → HasSent a b j
 
-abbrev pub ends_of : Owner → Ends
+abbrev pub ends_of : Owner → Ends Notes
 ends_of o = o.ends
 
 -- the ends of all owners, in order
-abbrev pub all_ends : List Owner → List Ends
+abbrev pub all_ends : List Owner → List (Ends Notes)
 all_ends os = map ends_of os
 
 -- what a look at the rings leaves as it is
@@ -133,7 +138,7 @@ AreSent os = All (λ (o : Owner). All (λ q. q ≡ []) o.outboxes.queues) os
 
 -- on each ring what was sent was received
 abbrev pub AreReceived : List Owner → Type 0
-AreReceived os = (i j : ℕ) (d : Ends) → i < length (all_ends os) → j < length (all_ends os) → i ≢ j → received_from (slice_index_or (all_ends os) i d) j ≡ sent_to (slice_index_or (all_ends os) j d) i
+AreReceived os = (i j : ℕ) (d : Ends Notes) → i < length (all_ends os) → j < length (all_ends os) → i ≢ j → received_from (slice_index_or (all_ends os) i d) j ≡ sent_to (slice_index_or (all_ends os) j d) i
 
 -- on each ring what was received, and then what is known to wait, is what was sent
 abbrev pub AreLooked : List Owner → Type 0
@@ -153,7 +158,7 @@ parts_of os = map (λ (o : Owner). o.part) os
 
 -- The owner of these ends, with its share of the level of n stones, of which nothing is known but the captures, and with
 -- nothing to send.
-pub record IsScannedWith (value : List ℕ → ℤ) (n owners : ℕ) (e : Ends) (o : Owner) : Type 0 where
+pub record IsScannedWith (value : List ℕ → ℤ) (n owners : ℕ) (e : Ends Notes) (o : Owner) : Type 0 where
   pub ends : o.ends ≡ e
   pub part : IsScannedOwner value n owners e.owner o.part
   pub sent : All (λ q. q ≡ []) o.outboxes.queues

@@ -2,18 +2,18 @@
 -- this.
 use Rattle.std.specs.Prelude.{◌≡◌, ◌≢◌, ◌⊎◌, ℕ, List, [], ◌∷◌, ◌++◌, None, Some}
 use Rattle.awari_block.specs.Each.{EachTo}
-use Rattle.awari_lines.specs.Rings.{Notes, IsOther, SamePairs, sent_to, received_from}
+use Rattle.awari_lines.specs.Rings.{IsOther, SamePairs, sent_to, received_from}
 use Rattle.awari_lines.specs.declared.ends.Ends.{Ends}
 use Rattle.awari_owner.specs.Outboxes.{Outboxes}
 use Rattle.awari_owner.specs.Sound.{RefusesNote}
 use Rattle.awari_block.specs.Part.{Part, HasFarthest}
 use Rattle.awari_owner.specs.declared.faults.OwnerFault.{OwnerFault}
 use Rattle.awari_owner.specs.declared.faults.OwnerFault.TheVariants.{Far, Memory}
-use Rattle.awari_phase.specs.Owners.{Kept, Swept}
+use Rattle.awari_phase.specs.Owners.{Kept, Notes, Swept}
 use Rattle.awari_phase.specs.declared.owners.Owner.{Owner}
 
 -- One batch was taken off a ring, and a note of it was refused; nothing else was done.
-pub record StopsTaking (e : Ends) (part : Part) (o : Outboxes) (e' : Ends) (part' : Part) (o' : Outboxes) (fault : OwnerFault) : Type 0 where
+pub record StopsTaking (e : Ends Notes) (part : Part) (o : Outboxes) (e' : Ends Notes) (part' : Part) (o' : Outboxes) (fault : OwnerFault) : Type 0 where
   pub from : ℕ
   pub batch : Notes
   pub other : IsOther e from
@@ -25,14 +25,14 @@ pub record StopsTaking (e : Ends) (part : Part) (o : Outboxes) (e' : Ends) (part
   pub refuses : RefusesNote batch.items part part' fault
 
 -- Nothing was done: memory is wanting, or the next board to be spread has the greatest distance that can be stored.
-pub record StopsSpreading (e : Ends) (part : Part) (o : Outboxes) (e' : Ends) (part' : Part) (o' : Outboxes) (fault : OwnerFault) : Type 0 where
+pub record StopsSpreading (e : Ends Notes) (part : Part) (o : Outboxes) (e' : Ends Notes) (part' : Part) (o' : Outboxes) (fault : OwnerFault) : Type 0 where
   pub ends : e' ≡ e
   pub cells : part' ≡ part
   pub outboxes : o' ≡ o
   pub refused : (fault ≡ Memory) ⊎ ((fault ≡ Far) × HasFarthest part)
 
 -- The worker kept what a worker keeps, up to a step that was refused for this fault.
-pub record StopsAt (a : Owner) (e : Ends) (part : Part) (o : Outboxes) (fault : OwnerFault) : Type 0 where
+pub record StopsAt (a : Owner) (e : Ends Notes) (part : Part) (o : Outboxes) (fault : OwnerFault) : Type 0 where
   pub until : Owner
   pub kept : Kept a until
   pub stops : StopsTaking until.ends until.part until.outboxes e part o fault ⊎ StopsSpreading until.ends until.part until.outboxes e part o fault

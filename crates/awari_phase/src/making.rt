@@ -11,7 +11,7 @@ ghost use Rattle.awari_phase.specs.declared.owners.Owner.{Owner as AnOwner};
 use crate::owners::Owner;
 use awari_block::ClosedPart;
 use awari_lines::{Ends, grid};
-use awari_owner::{Outboxes, Part};
+use awari_owner::{Batch, Outboxes, Part};
 use awari_table::Shelf;
 use std::alloc::{AllocError, Global};
 use std::thread::Threads;
@@ -52,7 +52,7 @@ fn scanned_owner<R: Threads + Sync>(
     alloc: Global,
     shelf: &Shelf,
     owners: u8,
-    ends: Ends,
+    ends: Ends<Batch>,
 ) -> Result<Owner, AllocError>
     requires owners { (1 ≤ owners) × (owners ≤ 16) }
     requires low { length shelf.now ≤ HIGHEST_LEVEL }

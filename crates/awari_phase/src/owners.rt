@@ -18,7 +18,7 @@ ghost use Rattle.awari_owner.specs.Spread.{IsPartOf};
 
 use crate::gates::Gate;
 use awari_lines::Ends;
-use awari_owner::{Outboxes, OwnerFault, Part, take_batch};
+use awari_owner::{Batch, Outboxes, OwnerFault, Part, take_batch};
 
 /// The most boards that a sweep spreads.
 pub const MOST_SPREADS: u32 = 64;
@@ -32,7 +32,7 @@ pub struct Owner {
     /// Its block of the level's boards, and what is known of them.
     pub part: Part,
     /// Its ends of the rings to the other owners.
-    pub ends: Ends,
+    pub ends: Ends<Batch>,
     /// The notes that it has still to send.
     pub outboxes: Outboxes,
     /// Why its worker stopped in the last round, if a step was refused.
@@ -53,7 +53,7 @@ impl Owner {
 
     /// The owner of this part of a level, with these ends of its rings to the others and these
     /// outboxes. Condition: all three are those of one owner, one of as many.
-    pub fn new(part: Part, ends: Ends, outboxes: Outboxes) -> Owner
+    pub fn new(part: Part, ends: Ends<Batch>, outboxes: Outboxes) -> Owner
         requires queues { length outboxes.queues ≡ owners_of ends }
         requires numbered { outboxes.owner ≡ ends.owner }
         requires part_of { IsPartOf part outboxes }

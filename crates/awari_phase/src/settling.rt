@@ -4,7 +4,7 @@ ghost use Rattle.std.specs.Prelude.{◌≡◌, ◌<◌, ◌↔◌, length, map, 
 ghost use Rattle.awari_block.specs.Each.{EachTo};
 ghost use Rattle.awari_lines.specs.Rings.{IsGrid, LookedAt, NoneWait, NothingWaits, SameHistory};
 ghost use Rattle.awari_lines.specs.declared.ends.Ends.{Ends as AnEnds};
-ghost use Rattle.awari_phase.specs.Owners.{AreLooked, all_ends, rest_of};
+ghost use Rattle.awari_phase.specs.Owners.{AreLooked, Notes, all_ends, rest_of};
 
 use crate::owners::Owner;
 
@@ -35,7 +35,7 @@ fn settle_pair(all: &mut [Owner], i: usize, j: usize) -> bool
     requires pair { (i < j) × (j < length all.old) }
     ensures looked { LookedAt (all_ends all.old) (all_ends all.new) i j }
     ensures rest { map rest_of all.new ≡ map rest_of all.old }
-    ensures flag { (d : AnEnds) → IsTrue result ↔ NothingWaits (slice_index_or (all_ends all.new) i d) (slice_index_or (all_ends all.new) j d) }
+    ensures flag { (d : AnEnds Notes) → IsTrue result ↔ NothingWaits (slice_index_or (all_ends all.new) i d) (slice_index_or (all_ends all.new) j d) }
 {
     let (front, back) = all.split_at_mut(j);
     let one = &mut front[i];

@@ -3,4 +3,4 @@ use Rattle.awari_lines.specs.Rings.{AllUnused, HaveRoom, IsGrid}
 use Rattle.awari_lines.proofs.making.grid.Given as goal
 
 abbrev pub invariant-loop-owner : goal.invariant-loop-owner
-invariant-loop-owner l = (vec_len l.all ≡ l.owner) × IsGrid l.all.items × AllUnused l.all.items × HaveRoom l.fn.room l.all.items
+invariant-loop-owner g l = (vec_len l.all ≡ l.owner) × IsGrid l.all.items × AllUnused l.all.items × HaveRoom l.fn.room l.all.items

@@ -6,6 +6,7 @@ use Rattle.awari_lines.specs.declared.ends.Ends.{Ends}
 use Rattle.awari_phase.specs.declared.owners.Owner.{Owner}
 use Rattle.awari_phase.proofs.Beginning.{ScannedTo, finished_scanned, scanned_more}
 use Rattle.awari_phase.proofs.making.scanned_owners.Goals as goal
+use Rattle.awari_phase.specs.Owners.{Notes}
 
 pub loop-ends-preserved : goal.loop-ends-preserved
 loop-ends-preserved g c = record {
@@ -27,4 +28,4 @@ pub returns-clause-room : goal.returns-clause-room
 returns-clause-room g c =
     let none : c.loop-ends.ends-iterator.rest.items ≡ [] = nil_from_length c.loop-ends.ends-iterator.rest.items (let left = c.loop-ends.ends-iterator.rest.ok.0 in let none = c.in-None.ensures.steps.0 in omega (arith, left, none)) in
     let yielded = sym (append-nil c.loop-ends.yielded) ∙ ap (λ l. c.loop-ends.yielded ++ l) (sym none) ∙ c.loop-ends.invariant.whole ∙ c.into_iter-ends-iterator.ensures.into_iter_gives.0 in
-    subst (λ (l : List Ends). HaveRoom c.args.room l) (sym (c.loop-ends.invariant.scanned.ends ∙ yielded)) c.in_ok-grid.ensures.room
+    subst (λ (l : List (Ends Notes)). HaveRoom c.args.room l) (sym (c.loop-ends.invariant.scanned.ends ∙ yielded)) c.in_ok-grid.ensures.room

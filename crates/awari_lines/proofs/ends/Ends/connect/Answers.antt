@@ -2,7 +2,7 @@ use Rattle.std.proofs.Common.{refl, sym, ◌∙◌}
 use Rattle.awari_lines.proofs.ends.Ends.connect.Goals as goal
 
 pub returns : goal.returns
-returns c =
+returns g c =
     let near = c.in_ok-out.ensures in
     let far = c.in_ok-theirs_out.ensures in
     record {
