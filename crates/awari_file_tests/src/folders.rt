@@ -279,6 +279,51 @@ fn a_file_that_was_cut_is_refused(rt: HostRuntime) -> Result<(), Fail> {
     Ok(())
 }
 
+/// The file of level 0 with another last byte.
+fn file_of_another_digest(alloc: Global) -> Result<Vec<u8>, Fail> {
+    let mut first = right_file(alloc, 0)?;
+    let last = first.last_mut().ok_or("a digest")?;
+    *last ^= 1;
+    Ok(first)
+}
+
+/// The refusal of a folder whose file of level 0 has another digest.
+fn digest_fault() -> Option<FolderFault> {
+    let fault = FileFault::Digest;
+    Some(FolderFault::File { level: 0, fault })
+}
+
+#[test]
+fn the_lower_of_two_files_at_fault_is_told(rt: HostRuntime) -> Result<(), Fail> {
+    let folder = "awari_folder_test_faults";
+    let first = file_of_another_digest(rt.alloc())?;
+    let met = refusal(&rt, folder, &first, b"no level")?;
+    expect_equal(&rt, "above a fault", met, digest_fault());
+    fs::remove_dir_all(&rt, folder)?;
+    Ok(())
+}
+
+#[test]
+fn a_file_that_is_not_opened_above_one_at_fault_is_not_told(rt: HostRuntime) -> Result<(), Fail> {
+    let folder = "awari_folder_test_closed";
+    empty_folder(&rt, folder)?;
+    symlink(&rt, "/dev/zero", "awari_folder_test_closed/level_01.awdb")?;
+    lay(
+        &rt,
+        folder,
+        "level_00.awdb",
+        &file_of_another_digest(rt.alloc())?,
+    )?;
+    expect_equal(
+        &rt,
+        "above a fault",
+        load_refusal(&rt, folder),
+        digest_fault(),
+    );
+    fs::remove_dir_all(&rt, folder)?;
+    Ok(())
+}
+
 #[test]
 fn level_0_is_looked_for_first(rt: HostRuntime) -> Result<(), Fail> {
     let folder = "awari_folder_test_first";

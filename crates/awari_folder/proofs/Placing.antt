@@ -1,5 +1,5 @@
 -- The file that is to be next, and why it is not.
-use Rattle.std.proofs.Common.{◌≡◌, ◌≢◌, ◌∙◌, ◌⊎◌, List, [], ℕ, Option, Some, None, Result, Ok, Err, ap, arith, inl, inr, length, min, subst, sym, take}
+use Rattle.std.proofs.Common.{◌≡◌, ◌≢◌, ◌∙◌, List, [], ℕ, Option, Some, None, Result, Ok, Err, ap, arith, inl, inr, length, min, subst, sym, take}
 use Rattle.std.specs.Prelude.{◌≤◌, ◌-◌, IfErr, IfOk, IfSome, IsSomeAnd, MatchResult, ⊤}
 use Rattle.awari_rank.specs.Rank.{size_of}
 use Rattle.awari_table.specs.Counted.{Grew}

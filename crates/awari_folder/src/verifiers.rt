@@ -9,8 +9,7 @@ ghost use Rattle.awari_folder.specs.Verifying.{IsJudged, IsVerdict};
 
 use awari_file::{FileFault, Unsealed};
 use awari_table::Shelf;
-use awari_verify::{VerifyFault, fault_of, fault_of_parallel};
-use rayon::join;
+use awari_verify::{VerifyFault, fault_beside, fault_of};
 use std::alloc::Global;
 use std::thread::Threads;
 
@@ -56,8 +55,8 @@ impl Verifier for Alone {
     }
 }
 
-/// Verifies by as many threads as there are processors, with the digest compared by another beside
-/// them. It takes memory for a result for each piece of a level.
+/// Verifies by as many threads as there are processors, of which one first compares the digest. It takes
+/// memory for what each thread has looked at.
 #[derive(Drop)]
 pub struct Together<'a, T>(pub &'a T);
 
@@ -76,7 +75,7 @@ impl<T: Threads + Sync> Verifier for Together<'_, T> {
     }
 }
 
-/// Compares the digest in one thread, and verifies the level in the others.
+/// Verifies the level by threads, of which one first compares the digest.
 fn verify_together<T: Threads + Sync>(
     rt: &T,
     alloc: Global,
@@ -86,16 +85,15 @@ fn verify_together<T: Threads + Sync>(
     requires { file.now.loaded.image.level ≤ HIGHEST_LEVEL }
     ensures { IsJudged ⊤ shelf.now file.now result }
 {
-    let (sealed, fault) = join(
+    let (sealed, fault) = fault_beside(
         rt,
+        alloc,
+        shelf,
+        &file.loaded.image,
         || -> Result<(), FileFault>
             requires { file.now.loaded.image.level ≤ HIGHEST_LEVEL }
             ensures { Seals file.entry.now result }
         { file.seal() },
-        || -> Option<VerifyFault>
-            requires { IsSync T.row }
-            ensures { IsVerdict ⊤ shelf.entry.now file.entry.now.loaded.image result }
-        { fault_of_parallel(rt, alloc, shelf, &file.loaded.image) },
     );
     sealed?;
     Ok(fault)

@@ -1,6 +1,7 @@
 pub mod SightLemmas
 pub mod LevelLemmas
 pub mod PieceLemmas
+pub mod ShareLemmas
 pub mod FillingLemmas
 pub mod LookLemmas
 pub mod TileLemmas

@@ -1,6 +1,5 @@
 -- The pieces of a level put together.
-use Rattle.std.proofs.Common.{◌≡◌, ◌⊎◌, ℕ, zero, suc, ◌+◌, ◌-◌, ◌*◌, ◌/◌, ◌%◌, ◌<◌, ◌≤◌, min, List, [], ◌∷◌, ◌++◌, length, sum, drop, get_or, inl, inr, refl, sym, subst, ap, ◌∙◌, arith}
-use Rattle.std.specs.List.{AllZip, range_with_len}
+use Rattle.std.proofs.Common.{◌≡◌, ◌⊎◌, ℕ, ◌+◌, ◌-◌, ◌*◌, ◌/◌, ◌%◌, ◌<◌, ◌≤◌, min, List, ◌++◌, sum, drop, inl, inr, sym, ◌∙◌, arith}
 use Rattle.std.proofs.lemmas.Bool.{cases_lt}
 use Rattle.std.proofs.lemmas.List.Sums.{sum_by-take-drop}
 use Rattle.awari_board.specs.Rules.{IsBoard, own_stones}
@@ -74,21 +73,3 @@ piece_first p level piece start low board stones first here =
     let part = (of_piece p level piece low board stones here.0).part in
     let before = here.1 in
     omega (arith, part, before, first)
-
--- what holds of the numbers from `a` on and of the items of a list, in turn
-module _ {B : Type 0} (R : ℕ → B → Type 0) where
-  pub length-numbered : (a n : ℕ) (ys : List B) → AllZip R (range_with_len a n) ys → length ys ≡ n
-  length-numbered a zero [] z = refl
-  length-numbered a zero (y ∷ ys) z = absurd z
-  length-numbered a (suc n) [] z = absurd z
-  length-numbered a (suc n) (y ∷ ys) z = ap suc (length-numbered (a + 1) n ys z.1)
-
-  numbered-from : (a n : ℕ) (ys : List B) (k : ℕ) (d : B) → AllZip R (range_with_len a n) ys → k < n → R (a + k) (get_or ys k d)
-  numbered-from a zero ys k d z h = absurd (omega (arith, h))
-  numbered-from a (suc n) [] k d z h = absurd z
-  numbered-from a (suc n) (y ∷ ys) zero d z h = let e : a ≡ a + 0 = omega arith in subst (λ j. R j y) e z.0
-  numbered-from a (suc n) (y ∷ ys) (suc k) d z h =
-      let e : (a + 1) + k ≡ a + suc k = omega arith in subst (λ j. R j (get_or ys k d)) e (numbered-from (a + 1) n ys k d z.1 (omega (arith, h)))
-
-  pub numbered-at : (n : ℕ) (ys : List B) (k : ℕ) (d : B) → AllZip R (range_with_len 0 n) ys → k < n → R k (get_or ys k d)
-  numbered-at n ys k d z h = let e : 0 + k ≡ k = omega arith in subst (λ j. R j (get_or ys k d)) e (numbered-from 0 n ys k d z h)

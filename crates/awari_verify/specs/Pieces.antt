@@ -1,14 +1,15 @@
 -- A level in pieces. Private functions alone go by this: no public contract does.
-use Rattle.std.specs.Prelude.{◌≡◌, ℕ, ◌+◌, ◌*◌, ◌/◌, ◌%◌, ◌<◌, ◌≤◌, List, ◌++◌, sum, take, drop, Option, Some, None, MatchOption}
+use Rattle.std.specs.Prelude.{◌≡◌, true, false, slice_index_or, ℕ, ◌+◌, ◌*◌, ◌/◌, ◌%◌, ◌<◌, ◌≤◌, List, ◌++◌, sum, take, drop, Option, Some, None, MatchOption}
 use Rattle.awari_board.specs.Rules.{IsBoard, own_stones}
 use Rattle.awari_rank.specs.Fillings.{none}
-use Rattle.awari_rank.specs.Rank.{rank_of}
+use Rattle.awari_rank.specs.Rank.{rank_of, size_of}
 use Rattle.awari_table.specs.declared.rules.Distances.{Distances}
 use Rattle.awari_table.specs.declared.rules.Distances.TheVariants.{Least}
 use Rattle.awari_table.specs.Certificate.{Table, IsRightBy}
 use Rattle.awari_verify.specs.FirstFailure.{BreaksFirst}
 use Rattle.awari_verify.specs.declared.rules.Rule.{Rule}
 use Rattle.awari_verify.specs.declared.pieces.Nearest.{Nearest}
+use Rattle.awari_verify.specs.declared.shares.Share.{Share}
 use Rattle.awari_verify.specs.declared.search.Refusal.{Refusal}
 
 -- the refusal for the nearest breach, none while none is known
@@ -60,6 +61,6 @@ pub record Looks (asked : Distances) (t : Table) (level : ℕ) (In : List ℕ �
   pub known : (end : ℕ) → IsKnown asked t level end old → IsKnown asked t level end new
   pub right : (p : List ℕ) → IsBoard p → sum p ≡ level → In p → rank_of p < new.rank → IsRightBy asked t p
 
--- what was found in the piece of this number by itself
-abbrev pub IsFound : Table → ℕ → ℕ → ℕ → Nearest → Type 0
-IsFound t level boards piece found = Looks Least t level (λ p. piece_of p ≡ piece) (record { rank = boards; rule = None }) found
+-- those pieces of the level were looked at that the share names, and this is the nearest breach in them
+abbrev pub IsShare : Table → ℕ → Share → Type 0
+IsShare t level share = Looks Least t level (λ p. slice_index_or share.seen (piece_of p) false ≡ true) (record { rank = size_of level; rule = None }) share.nearest

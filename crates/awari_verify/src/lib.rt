@@ -28,10 +28,11 @@ mod parallel;
 mod pieces;
 mod rules;
 mod search;
+mod shares;
 mod sights;
 mod verdicts;
 
 pub use laws::one_fault_is_due;
-pub use parallel::{fault_of_parallel, verify_parallel};
+pub use parallel::{fault_beside, fault_of_parallel, verify_parallel};
 pub use rules::{Rule, Seen, first_broken_rule};
 pub use verdicts::{VerifyFault, fault_of, verify, verify_old};

@@ -98,9 +98,6 @@ pub fn first_refusal(asked: Distances, shelf: &Shelf, image: &Image, boards: u32
 }
 
 /// Looks for a refusal among the boards of this piece. Those behind the nearest one known are left out.
-///
-/// Threads get pieces that lie beside each other. So the parts are mixed: without that, some threads
-/// would have far more boards than others.
 pub fn look_in_piece(
     asked: Distances,
     shelf: &Shelf,
