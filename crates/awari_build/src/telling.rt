@@ -1,6 +1,8 @@
 //! What the builders of a level tell a progress, and ask it.
 
-ghost use Rattle.std.specs.Prelude.{◌≤◌, IfErr};
+ghost use Rattle.std.specs.Prelude.{◌≡◌, ◌≤◌, IfErr};
+ghost use Rattle.awari_phase.specs.declared.faults.PhaseFault.{PhaseFault};
+ghost use Rattle.awari_build.specs.declared.faults.BuildFault.{BuildFault};
 ghost use Rattle.awari_build.specs.BuildFault.{IsStopped};
 ghost use Rattle.awari_rank.specs.Rank.{size_of};
 
@@ -27,7 +29,14 @@ pub(crate) fn expect_wanted<P: Progress>(progress: &mut P) -> Result<(), BuildFa
     if progress.is_wanted() {
         return Ok(());
     }
-    Err(BuildFault::Phase {
+    Err(stopped())
+}
+
+/// The refusal of a level that is not wanted any more.
+pub(crate) fn stopped() -> BuildFault
+    ensures { result ≡ BuildFault.Phase PhaseFault.Stopped }
+{
+    BuildFault::Phase {
         fault: PhaseFault::Stopped,
-    })
+    }
 }

@@ -1,17 +1,29 @@
-//! A level built in segments, which threads scan, open and spread side by side.
+//! A level built by a crew: threads that stay for the level, each with segments of its own.
 
-ghost use Rattle.std.specs.Prelude.{◌≡◌, ◌<◌, ◌⊎◌, ◌↔◌, length, IfOk, IfErr, Err};
+ghost use Rattle.std.specs.Prelude.{◌≡◌, ◌<◌, ◌≤◌, ◌⊎◌, ◌↔◌, length, IfOk, IfErr, Err};
 ghost use Rattle.awari_build.specs.BuildFault.{IsStopped};
 ghost use Rattle.awari_build.specs.NextLevel.{IsNextLevel};
+ghost use Rattle.awari_build.specs.Settled.{AreSettled};
 ghost use Rattle.awari_table.specs.declared.TheConstants.{HIGHEST_LEVEL};
 
 use crate::faults::BuildFault;
-use crate::waves::build_by_waves;
-use awari_heard::{Progress, Silent};
+use crate::levels::{begin_next, level_of};
+use crate::telling::{expect_wanted, stopped};
+use crate::waves::settled_parts;
+use awari_block::ClosedPart;
+use awari_crew::{Crew, Halt, closed_by_crew};
+use awari_heard::{Progress, Silent, Told, finish_parallel};
 use awari_table::{Level, Shelf};
-use awari_waves::Together;
+use awari_waves::Alone;
 use std::alloc::Global;
 use std::thread::Threads;
+
+/// The most threads that share the work.
+const MOST_MEMBERS: usize = 16;
+
+/// A member that looked so often for a letter leaves. It gives its processor away in between, so that is
+/// some minutes, and no member is away so long.
+const PATIENCE: u64 = 1073741824;
 
 /// The shelf's next level, built by so many threads at most. It always returns. Refused as 51
 /// `TooHigh` if the shelf has all levels, and as 53 `Memory` if memory runs out. It takes memory for
@@ -48,5 +60,42 @@ pub fn build_together_with_progress<R: Threads + Sync, P: Progress>(
     ensures too_high { (result ≡ Err BuildFault.TooHigh) ↔ (HIGHEST_LEVEL < length shelf.now) }
     ensures fault { IfErr result (λ fault. (fault ≡ BuildFault.TooHigh) ⊎ ((fault ≡ BuildFault.Memory) ⊎ IsStopped P.stops fault)) }
 {
-    build_by_waves(&Together { rt, threads }, alloc, shelf, progress)
+    begin_next(shelf, progress)?;
+    let parts = settled_together(rt, alloc, shelf, threads, progress)?;
+    progress.hear(Told::Planned);
+    let image = finish_parallel(rt, alloc, shelf, parts, threads.max(1))?;
+    Ok(level_of(shelf, image))
+}
+
+/// The segments of the shelf's next level, with all gains closed. One thread needs no crew. And if a crew
+/// gives up, this thread builds the level alone, from the beginning.
+fn settled_together<R: Threads + Sync, P: Progress>(
+    rt: &R,
+    alloc: Global,
+    shelf: &Shelf,
+    threads: usize,
+    progress: &mut P,
+) -> Result<Vec<ClosedPart>, BuildFault>
+    requires low { length shelf.now ≤ HIGHEST_LEVEL }
+    ensures settled { IfOk result (λ parts. AreSettled shelf.now parts.items) }
+    ensures refused { IfErr result (λ fault. (fault ≡ BuildFault.Memory) ⊎ IsStopped P.stops fault) }
+{
+    if threads < 2 {
+        return settled_parts(&Alone, alloc, shelf, progress);
+    }
+    let crew = Crew {
+        members: threads.min(MOST_MEMBERS) as u8,
+        patience: PATIENCE,
+    };
+    match closed_by_crew(rt, alloc, shelf, crew, progress) {
+        Ok(built) => match built {
+            Some(parts) => {
+                expect_wanted(progress)?;
+                Ok(parts)
+            }
+            None => Err(stopped()),
+        },
+        Err(Halt::Memory) => Err(BuildFault::Memory),
+        Err(Halt::Unfit) => settled_parts(&Alone, alloc, shelf, progress),
+    }
 }

@@ -38,7 +38,7 @@ pub(crate) fn build_by_waves<W: Workers, P: Progress>(
 }
 
 /// The segments of the shelf's next level, with all gains closed.
-fn settled_parts<W: Workers, P: Progress>(
+pub(crate) fn settled_parts<W: Workers, P: Progress>(
     workers: &W,
     alloc: Global,
     shelf: &Shelf,

@@ -24,7 +24,7 @@ pub struct Ends<T> {
 impl<T> Ends<T> {
     ghost use Rattle.std.specs.Prelude.{◌≡◌, ◌+◌, ◌<◌, ◌≤◌, ◌++◌, ◌∷◌, [], length, IfOk, IfErr, OnOk, IfSome, IfNone, IsOk, IsSome, IsTrue, ◌↔◌};
     ghost use mathlib.Core.List.{IsPrefix};
-    ghost use Rattle.awari_lines.specs.Rings.{IsOther, owners_of, sent_to, received_from, waiting_from, free_to, SendsOnly, TakesOnly, Paired, Connected, Looked, IsExact, NothingWaits};
+    ghost use Rattle.awari_lines.specs.Rings.{IsOther, owners_of, sent_to, received_from, waiting_from, free_to, SendsOnly, TakesOnly, Paired, Connected, Looked, IsExact, NothingWaits, SameHistory};
 
     /// The owner's number.
     pub fn owner(&self) -> u8
@@ -81,6 +81,15 @@ impl<T> Ends<T> {
             Ok(item) => Some(item),
             Err(_) => None,
         }
+    }
+
+    /// Whether another owner of the grid dropped its ends. What it sent before may still wait.
+    pub fn is_left(&mut self, by: u8) -> bool
+        requires { IsOther self.old by }
+        ensures same { SameHistory self.old self.new }
+    {
+        let place = seat(self.owner, by);
+        self.pairs[place].consumer.is_abandoned()
     }
 
     /// Two more rings at the end, to a new owner and from it, with room for `room` items each. Gives

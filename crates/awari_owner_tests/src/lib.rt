@@ -14,6 +14,8 @@ mod cores;
 #[cfg(test)]
 mod counts;
 #[cfg(test)]
+mod crews;
+#[cfg(test)]
 mod drawing;
 #[cfg(test)]
 mod examples;

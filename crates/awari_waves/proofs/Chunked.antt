@@ -56,7 +56,7 @@ pend_none w (x ∷ ranks) fresh r apart none =
 
 -- ---- the note of a code
 
-note_is : (stake at : Stake) (kind : Kind) (p q : List ℕ) (x c : ℕ) → at.level ≡ stake.level → at.gain ≡ stake.gain → at.wave ≡ stake.wave → 1 ≤ stake.gain → sum p ≡ stake.level
+pub note_is : (stake at : Stake) (kind : Kind) (p q : List ℕ) (x c : ℕ) → at.level ≡ stake.level → at.gain ≡ stake.gain → at.wave ≡ stake.wave → 1 ≤ stake.gain → sum p ≡ stake.level
     → c / 8 ≡ rank_of p → c % 8 ≡ x → IsQuietMove p x q → IsNoteOf q (value_of_kind kind stake.gain) stake.wave p x (note_by at kind c)
 note_is stake at kind p q x c level gain wave one stones rank pit quiet = record {
   quiet = quiet;

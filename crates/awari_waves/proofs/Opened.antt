@@ -94,14 +94,14 @@ whole_still level old new all are = blocks_still level 0 (size_of level) old new
 
 -- ---- a gain is opened
 
-gain_spread : (gain : ℕ) (old new : Part) → OpensBoards gain old new → StaysSpread old new
+pub gain_spread : (gain : ℕ) (old new : Part) → OpensBoards gain old new → StaysSpread old new
 gain_spread gain old new opens = let settles = opens.settles in record {
   block = record { level = settles.same.level; start = settles.same.start; size = settles.size };
   stays = settles.stays;
   joins = settles.joins;
 }
 
-gain_told : (value : List ℕ → ℤ) (gain : ℕ) (old new : Part) → 1 ≤ gain → old.gain ≡ gain + 1 → OpensBoards gain old new → (notes : List Note) → IsTallied value old notes → IsTallied value new notes
+pub gain_told : (value : List ℕ → ℤ) (gain : ℕ) (old new : Part) → 1 ≤ gain → old.gain ≡ gain + 1 → OpensBoards gain old new → (notes : List Note) → IsTallied value old notes → IsTallied value new notes
 gain_told value gain old new one next opens notes tallied =
     subst (λ (p : Part). IsTallied value p notes) (same_stake (at_gain gain old) new opens.settles.same)
     (opened value notes old new.cells new.fresh gain one (sym next) opens.settles.size (λ k h. opens.cells.inside k h (omega arith) h) tallied)
@@ -122,14 +122,14 @@ opened_grid stake span gain old new grid all =
 
 -- ---- a distance is opened
 
-wave_spread : (dist : ℕ) (old : Part) → StaysSpread old (record old { wave = dist })
+pub wave_spread : (dist : ℕ) (old : Part) → StaysSpread old (record old { wave = dist })
 wave_spread dist old = let none = settles_none old in record {
   block = record { level = refl; start = refl; size = refl };
   stays = none.stays;
   joins = λ r. refl;
 }
 
-wave_told : (value : List ℕ → ℤ) (dist : ℕ) (old : Part) → old.wave < dist → (notes : List Note) → IsTallied value old notes → IsTallied value (record old { wave = dist }) notes
+pub wave_told : (value : List ℕ → ℤ) (dist : ℕ) (old : Part) → old.wave < dist → (notes : List Note) → IsTallied value old notes → IsTallied value (record old { wave = dist }) notes
 wave_told value dist old farther notes tallied p is stones inside =
     wave_tally value (cell_at old (rank_of p)) p (notes_for (rank_of p) notes) old.gain old.wave dist (omega (arith, farther)) (tallied p is stones inside)
 

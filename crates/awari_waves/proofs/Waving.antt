@@ -67,7 +67,7 @@ reheard value P P' old new many same forth back told j d h =
 
 -- ---- counts
 
-given_once : (w : ℕ) (given : List ℕ) (F : List Due) (r : ℕ) → Has given r → 1 + times_due F r ≤ times_due (map (λ x. (w, x)) given ++ F) r
+pub given_once : (w : ℕ) (given : List ℕ) (F : List Due) (r : ℕ) → Has given r → 1 + times_due F r ≤ times_due (map (λ x. (w, x)) given ++ F) r
 given_once w [] F r h = elim h [ ]
 given_once w (x ∷ given) F r (inl same) =
     let cons = times_due-cons (w, x) (map (λ y. (w, y)) given ++ F) r in

@@ -322,7 +322,7 @@ impl Analysis {
 }
 
 /// These segments, each closed.
-fn closed_all(alloc: Global, segments: Vec<Segment>) -> Result<Vec<ClosedPart>, AllocError>
+pub fn closed_all(alloc: Global, segments: Vec<Segment>) -> Result<Vec<ClosedPart>, AllocError>
     requires { All IsClosed segments.items }
     ensures { IfOk result (λ parts. parts.items ≡ segments.items) }
 {
@@ -339,7 +339,7 @@ fn closed_all(alloc: Global, segments: Vec<Segment>) -> Result<Vec<ClosedPart>, 
 ///
 /// A large level has segments of 32 MB of cells. The C library gives so large a piece back to the
 /// system once it is dropped, so entries need no more memory than cells did.
-fn log_of(boards: u32) -> u32
+pub fn log_of(boards: u32) -> u32
     ensures { result < 32 }
 {
     if boards >= LARGE {

@@ -153,7 +153,12 @@ pub fn find_in_threads<R: Threads + Sync>(
 }
 
 /// Finds the notes of these boards for one row.
-fn find_row(finder: Finder<'_>, lost: &[u32], won: &[u32], row: &mut Row) -> Result<(), AllocError>
+pub fn find_row(
+    finder: Finder<'_>,
+    lost: &[u32],
+    won: &[u32],
+    row: &mut Row,
+) -> Result<(), AllocError>
     requires lost { CanFind finder.index.now (2 ^ finder.log) lost.now 1 }
     requires won { CanFind finder.index.now (2 ^ finder.log) won.now 1 }
     requires log { finder.log < 32 }

@@ -11,7 +11,7 @@ use awari_block::nearer;
 
 /// The least distance of a fresh board of the segment, none if no board is fresh. Condition: no fresh
 /// board is nearer than `from`.
-fn due_from(segment: &Segment, from: u32) -> Option<u32>
+pub fn due_from(segment: &Segment, from: u32) -> Option<u32>
     requires far { All (λ f. from ≤ due_dist f) segment.now.fresh }
     ensures none { IfNone result (segment.now.fresh ≡ []) }
     ensures least { IfSome result (λ dist. All (λ f. dist ≤ due_dist f) segment.now.fresh) }

@@ -37,5 +37,10 @@ mod segments;
 mod waves;
 mod workers;
 
-pub use analyses::Analysis;
+pub use analyses::{Analysis, closed_all, log_of};
+pub use chunks::{Chunk, Finder, find_row};
+pub use dues::due_from;
+pub use rows::Row;
+pub use scanning::{numbered_segment, segments_in};
+pub use segments::{HEARD_AT_ONCE, Segment, hear_next, settled_among};
 pub use workers::{Alone, Together, Workers};

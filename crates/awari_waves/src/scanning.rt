@@ -71,7 +71,7 @@ fn at_once<W: Workers>(workers: &W, segments: u32) -> u32
 }
 
 /// How many segments of so many boards have all these boards.
-fn segments_in(boards: u32, span: u32) -> u32
+pub fn segments_in(boards: u32, span: u32) -> u32
     requires { 0 < span }
     ensures begun { (k : ℕ) → k < result → k * span < boards }
     ensures all { boards ≤ result * span }
@@ -142,7 +142,7 @@ pub fn scan_all(
 }
 
 /// The segment of this number, if each has `span` boards.
-fn numbered_segment(
+pub fn numbered_segment(
     alloc: Global,
     shelf: &Shelf,
     index: &Index,

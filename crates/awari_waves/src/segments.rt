@@ -18,7 +18,7 @@ use std::alloc::AllocError;
 
 /// How many notes are heard at a time, their cells being read ahead. Processors wait for fewer reads
 /// than this at a time.
-const AHEAD: usize = 64;
+pub const HEARD_AT_ONCE: usize = 64;
 
 /// The boards of a level from one rank up to, not including, another, and which of them are fresh, in
 /// lists by distance.
@@ -72,7 +72,7 @@ fn hear(segment: &mut Segment, kind: Kind, codes: &[u32]) -> Result<(), AllocErr
 {
     let mut start: usize = 0;
     while start < codes.len() {
-        let end = codes.len().min(start + AHEAD);
+        let end = codes.len().min(start + HEARD_AT_ONCE);
         hear_batch(segment, kind, &codes[start..end])?;
         start = end;
     }
@@ -82,7 +82,7 @@ fn hear(segment: &mut Segment, kind: Kind, codes: &[u32]) -> Result<(), AllocErr
 /// It hears a few of them. The cells of all their boards are read before the first is heard: a cell is
 /// seldom in the cache, and so the waits for memory overlap.
 fn hear_batch(segment: &mut Segment, kind: Kind, codes: &[u32]) -> Result<(), AllocError>
-    requires few { length codes.now ≤ AHEAD }
+    requires few { length codes.now ≤ HEARD_AT_ONCE }
     requires codes { All (IsCodeFor segment.old) codes.now }
     requires opened { segment.old.gain ≤ segment.old.level }
     requires near { segment.old.wave < 2 ^ 32 - 1 }
@@ -101,12 +101,12 @@ fn hear_batch(segment: &mut Segment, kind: Kind, codes: &[u32]) -> Result<(), Al
 /// For each of these notes whether its board is settled. It only reads and has no branch, so the
 /// next cell is asked for while the last is still on its way.
 #[inline(always)]
-fn settled_among(segment: &Segment, codes: &[u32]) -> [bool; AHEAD]
-    requires few { length codes.now ≤ AHEAD }
+pub fn settled_among(segment: &Segment, codes: &[u32]) -> [bool; HEARD_AT_ONCE]
+    requires few { length codes.now ≤ HEARD_AT_ONCE }
     requires codes { All (IsCodeFor segment.now) codes.now }
     ensures { TellSettled segment.now codes.now result }
 {
-    let mut settled = [false; AHEAD];
+    let mut settled = [false; HEARD_AT_ONCE];
     for k in 0..codes.len() {
         settled[k] = segment.cell(codes[k] / 8).is_settled();
     }
@@ -115,7 +115,12 @@ fn settled_among(segment: &Segment, codes: &[u32]) -> [bool; AHEAD]
 
 /// It hears the note of this code, of a board that may be known to be settled.
 #[inline(always)]
-fn hear_next(segment: &mut Segment, kind: Kind, code: u32, settled: bool) -> Result<(), AllocError>
+pub fn hear_next(
+    segment: &mut Segment,
+    kind: Kind,
+    code: u32,
+    settled: bool,
+) -> Result<(), AllocError>
     requires code { IsCodeFor segment.old code }
     requires settled { IsTrue settled → is_settled (stored_at segment.old (code / 8)).mark ≡ true }
     requires opened { segment.old.gain ≤ segment.old.level }

@@ -1,0 +1,11 @@
+pub mod Surely
+pub mod Takes
+pub mod Steps
+pub mod Tells
+pub mod Posts
+pub mod Sounds
+pub mod Keeping
+pub mod Beginning
+pub mod Gathered
+pub mod Homing
+pub mod Parts

@@ -1,0 +1,7 @@
+pub mod Tellings
+pub mod Taken
+pub mod Members
+pub mod Posting
+pub mod Homes
+pub mod Begun
+pub mod Gathered

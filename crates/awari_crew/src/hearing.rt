@@ -1,0 +1,116 @@
+//! How a segment hears what members told.
+
+ghost use Rattle.std.specs.Prelude.{◌≡◌, ◌/◌, ◌%◌, ◌^◌, ◌-◌, ◌<◌, ◌≤◌, ◌∷◌, [], IsTrue, true, All, OnOk, length};
+ghost use Rattle.awari_block.specs.Boards.{Settles, stake_of};
+ghost use Rattle.awari_block.specs.Cells.{is_settled};
+ghost use Rattle.awari_block.specs.Part.{stored_at};
+ghost use Rattle.awari_block.specs.Each.{EachTo};
+ghost use Rattle.awari_crew.specs.Tellings.{HearsSurely, HearsTelling, telling_of};
+ghost use Rattle.awari_waves.specs.Waves.{IsCodeFor, notes_by};
+
+use crate::halts::Halt;
+use crate::taking::is_same;
+use awari_block::{Kind, Stake};
+use awari_waves::{HEARD_AT_ONCE, Row, Segment, hear_next, settled_among};
+
+/// The segments hear what a member told, each what the row has for it by its number: the rank of its
+/// first board over 2 to the power `log`. Refused as `Unfit` if a segment has other than this stake, or may
+/// not hear a note of it, and as `Memory`; then the level is lost.
+pub fn hear_rows(log: u32, stake: Stake, row: &Row, segments: &mut [Segment]) -> Result<(), Halt>
+    requires { log < 32 }
+    ensures { OnOk result (EachTo (HearsTelling (2 ^ log) (telling_of stake row.now)) segments.old segments.new) }
+{
+    for k in 0..segments.len() {
+        hear_row(log, stake, row, &mut segments[k])?;
+    }
+    Ok(())
+}
+
+/// One of them hears what the row has for it.
+fn hear_row(log: u32, stake: Stake, row: &Row, segment: &mut Segment) -> Result<(), Halt>
+    requires { log < 32 }
+    ensures { OnOk result (HearsTelling (2 ^ log) (telling_of stake row.now) segment.old segment.new) }
+{
+    if !is_same(segment.stake(), stake) {
+        return Err(Halt::Unfit);
+    }
+    let (start, _end) = segment.block();
+    let number = (start >> log) as usize;
+    hear_list(segment, Kind::Lost, row.list(Kind::Lost, number))?;
+    hear_list(segment, Kind::Won, row.list(Kind::Won, number))?;
+    Ok(())
+}
+
+/// The segment hears the notes of these codes, of one kind, and of the open gain and wave. Boards that
+/// they settle join the fresh ones. It looks at each note first. Refused as `Unfit` if one is not for the
+/// segment or is of a move that was heard, and as `Memory` if there was no room for a board that is
+/// settled; then the level is lost.
+pub fn hear_list(segment: &mut Segment, kind: Kind, codes: &[u32]) -> Result<(), Halt>
+    ensures settles { OnOk result (Settles segment.old segment.new) }
+    ensures hears { OnOk result (HearsSurely (notes_by (stake_of segment.old) kind codes.now) segment.old segment.new) }
+{
+    let mut start: usize = 0;
+    while start < codes.len() {
+        let end = codes.len().min(start + HEARD_AT_ONCE);
+        hear_batch(segment, kind, &codes[start..end])?;
+        start = end;
+    }
+    Ok(())
+}
+
+/// It hears a few of them. Their cells are read before the first is heard, so the waits for memory
+/// overlap.
+fn hear_batch(segment: &mut Segment, kind: Kind, codes: &[u32]) -> Result<(), Halt>
+    requires few { length codes.now ≤ HEARD_AT_ONCE }
+    ensures settles { OnOk result (Settles segment.old segment.new) }
+    ensures hears { OnOk result (HearsSurely (notes_by (stake_of segment.old) kind codes.now) segment.old segment.new) }
+{
+    if !can_hear(segment, codes) {
+        return Err(Halt::Unfit);
+    }
+    let settled = settled_among(segment, codes);
+    for k in 0..codes.len() {
+        hear_unheard(segment, kind, codes[k], settled[k])?;
+    }
+    Ok(())
+}
+
+/// Whether a gain is open, the wave is not the greatest u32, and all these notes are for boards of the
+/// segment.
+fn can_hear(segment: &Segment, codes: &[u32]) -> bool
+    ensures opened { IsTrue result → segment.now.gain ≤ segment.now.level }
+    ensures near { IsTrue result → segment.now.wave < 2 ^ 32 - 1 }
+    ensures codes { IsTrue result → All (IsCodeFor segment.now) codes.now }
+{
+    let stake = segment.stake();
+    stake.gain <= stake.level && stake.wave != u32::MAX && are_for(segment, codes)
+}
+
+/// Whether all these notes are for boards of the segment.
+fn are_for(segment: &Segment, codes: &[u32]) -> bool
+    ensures { IsTrue result → All (IsCodeFor segment.now) codes.now }
+{
+    for code in codes {
+        if !segment.holds(*code / 8) || *code % 8 >= 6 {
+            return false;
+        }
+    }
+    true
+}
+
+/// It hears the note of this code, unless one of that move was heard.
+#[inline(always)]
+fn hear_unheard(segment: &mut Segment, kind: Kind, code: u32, settled: bool) -> Result<(), Halt>
+    requires code { IsCodeFor segment.old code }
+    requires settled { IsTrue settled → is_settled (stored_at segment.old (code / 8)).mark ≡ true }
+    requires opened { segment.old.gain ≤ segment.old.level }
+    requires near { segment.old.wave < 2 ^ 32 - 1 }
+    ensures settles { OnOk result (Settles segment.old segment.new) }
+    ensures hears { OnOk result (HearsSurely (notes_by (stake_of segment.old) kind (code ∷ [])) segment.old segment.new) }
+{
+    if !segment.cell(code / 8).has_left((code % 8) as u8) {
+        return Err(Halt::Unfit);
+    }
+    hear_next(segment, kind, code, settled)?;
+    Ok(())
+}

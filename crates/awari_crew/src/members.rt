@@ -1,0 +1,257 @@
+//! A member of a crew: its segments of a level, and its ends of the rings to the others.
+
+ghost use Rattle.std.specs.Prelude.{◌≡◌, ◌<◌, ◌≤◌, false, length};
+ghost use Rattle.std.specs.Arc.{arc_value};
+
+use crate::halts::Halt;
+use crate::hearing::hear_rows;
+use crate::letters::{Head, Letter};
+use crate::opening::{nearest, open_gain, open_wave};
+use crate::posting::{await_letter, send_all};
+use crate::taking::{are_below, take_boards};
+use awari_block::Stake;
+use awari_board::moves_keep_boards;
+use awari_heard::{Progress, Told};
+use awari_index::Index;
+use awari_lines::Ends;
+use awari_rank::{ranks_tell_boards_apart, size};
+use awari_table::Shelf;
+use awari_waves::{Chunk, Finder, Row, Segment, find_row};
+use std::alloc::Global;
+use std::sync::Arc;
+
+/// A member spreads so many boards in a turn, or a few more: those of a segment are spread together.
+const BOARDS_A_TURN: usize = 65536;
+
+/// No level takes as many turns.
+const MOST_TURNS: u32 = 4294967295;
+
+/// A member of a crew. It alone has its segments, and it is the only one that reads and writes their
+/// cells.
+#[derive(Drop)]
+pub struct Member {
+    pub(crate) ends: Ends<Letter>,
+    /// The levels below, of which it asks what captures gain.
+    pub(crate) shelf: Shelf,
+    pub(crate) index: Arc<Index>,
+    pub(crate) level: u8,
+    /// A segment has 2 to this power of boards, the last one fewer.
+    pub(crate) log: u32,
+    /// What is open in each of its segments.
+    pub(crate) stake: Stake,
+    pub(crate) segments: Vec<Segment>,
+    pub(crate) chunk: Chunk,
+    /// The row of its last letters, and the one before. Once all members answered its last letters, they
+    /// have heard the one before, and it is filled again.
+    pub(crate) last: Option<Arc<Row>>,
+    pub(crate) spare: Option<Arc<Row>>,
+    /// How often it looks for a letter.
+    pub(crate) patience: u64,
+    pub(crate) alloc: Global,
+    ghost indexed: { arc_value index ≡ level },
+    ghost next: { length shelf ≡ level },
+    ghost low: { level ≤ 24 },
+    ghost short: { log < 32 },
+}
+
+impl Member {
+    ghost use Rattle.std.specs.Prelude.{◌≡◌, ◌<◌, ◌^◌, Ok, OnOk, false};
+    ghost use Rattle.awari_lines.specs.Rings.{IsOther, owners_of};
+    ghost use Rattle.awari_crew.specs.Members.{Kept, SameTask, Speaks, parts_of};
+    ghost use Rattle.awari_crew.specs.Tellings.{telling_of};
+
+    /// Takes turns until all gains are closed, or the level is not wanted any more. In a turn it tells the
+    /// others what it spreads, and hears what they spread. As a gain is opened, and in the first turn of a
+    /// farther wave that has boards, `progress` is told how many boards were spread before. Refused as
+    /// `Unfit` if what comes does not fit or nothing comes, and as `Memory`; then the level is lost.
+    pub(crate) fn work<P: Progress>(&mut self, progress: &mut P) -> Result<bool, Halt>
+        ensures kept { OnOk result (Kept self.old self.new) }
+        ensures unwanted { result ≡ Ok false → P.stops }
+    {
+        let mut told = self.stake;
+        let mut boards: usize = 0;
+        for _turn in 0..MOST_TURNS {
+            let own = self.tell()?;
+            let heads = self.listen(own)?;
+            if heads.spread && told.wave < self.stake.wave {
+                told = self.stake;
+                if !is_wanted_at(told, boards, progress) {
+                    return Ok(false);
+                }
+            }
+            boards = heads.boards;
+            if !self.go_on(heads)? {
+                return Ok(true);
+            }
+            if self.stake.gain != told.gain {
+                told = self.stake;
+                if !is_wanted_at(told, boards, progress) {
+                    return Ok(false);
+                }
+            }
+        }
+        Err(Halt::Unfit)
+    }
+
+    /// Takes boards of the open wave, tells the others their notes, and hears what is for its own
+    /// segments.
+    fn tell(&mut self) -> Result<Head, Halt>
+        ensures { OnOk result (Kept self.old self.new) }
+    {
+        let mut row = self.spare_row();
+        let left = self.speak(&mut row)?;
+        let head = self.head(left);
+        let row = Arc::new(self.alloc, row)?;
+        send_all(&mut self.ends, head, self.stake, &row)?;
+        hear_rows(self.log, self.stake, &row, self.segments.as_mut_slice())?;
+        self.spare = self.last.replace(row);
+        Ok(head)
+    }
+
+    /// Takes boards of the open wave, and finds their notes for the row. True if boards of the wave may be
+    /// left.
+    fn speak(&mut self, row: &mut Row) -> Result<bool, Halt>
+        ensures rest { OnOk result (SameTask self.old self.new) }
+        ensures speaks { OnOk result (Speaks self.old.level (2 ^ self.old.log) (telling_of self.old.stake row.new) (parts_of self.old) (parts_of self.new)) }
+    {
+        moves_keep_boards();
+        ranks_tell_boards_apart();
+        if self.stake.level != self.level || self.stake.gain == 0 {
+            return Err(Halt::Unfit);
+        }
+        let segments = self.segments.as_mut_slice();
+        let left = take_boards(self.stake, BOARDS_A_TURN, segments, &mut self.chunk)?;
+        let (lost, won) = (self.chunk.lost.as_slice(), self.chunk.won.as_slice());
+        let boards = size(self.level);
+        if !are_below(lost, boards) || !are_below(won, boards) {
+            return Err(Halt::Unfit);
+        }
+        let finder = Finder {
+            index: &*self.index,
+            log: self.log,
+        };
+        find_row(finder, lost, won, row)?;
+        Ok(left)
+    }
+
+    /// A row to be filled: one that was heard, or a new one.
+    fn spare_row(&mut self) -> Row
+        ensures { SameTask self.old self.new × (parts_of self.new ≡ parts_of self.old) }
+    {
+        match self.spare.take() {
+            Some(row) => match Arc::try_unwrap(row) {
+                Ok(row) => row,
+                Err(_) => Row::new(self.alloc),
+            },
+            None => Row::new(self.alloc),
+        }
+    }
+
+    /// How it stands, once it took its boards.
+    fn head(&self, left: bool) -> Head {
+        let mut boards: usize = 0;
+        for segment in &self.segments {
+            boards = boards.saturating_add(segment.boards_spread());
+        }
+        Head {
+            spread: !self.chunk.lost.is_empty() || !self.chunk.won.is_empty(),
+            left,
+            least: nearest(self.segments.as_slice()),
+            boards,
+        }
+    }
+
+    /// Hears a letter of each other member, and gives how all stand together.
+    fn listen(&mut self, own: Head) -> Result<Head, Halt>
+        ensures { OnOk result (Kept self.old self.new) }
+    {
+        let members = self.ends.owners();
+        let mut heads = own;
+        for place in 0..members {
+            heads = self.listen_at(place, heads)?;
+        }
+        Ok(heads)
+    }
+
+    /// Hears a letter of the member of this number, if it is another.
+    fn listen_at(&mut self, place: usize, heads: Head) -> Result<Head, Halt>
+        requires { place < owners_of self.old.ends }
+        ensures { OnOk result (Kept self.old self.new) }
+    {
+        match u8::try_from(place) {
+            Ok(other) if other != self.ends.owner() => {
+                let head = self.listen_to(other)?;
+                Ok(heads.beside(head))
+            }
+            _ => Ok(heads),
+        }
+    }
+
+    /// Hears a letter of another member.
+    fn listen_to(&mut self, from: u8) -> Result<Head, Halt>
+        requires { IsOther self.old.ends from }
+        ensures { OnOk result (Kept self.old self.new) }
+    {
+        let letter = await_letter(&mut self.ends, from, self.patience)?;
+        let segments = self.segments.as_mut_slice();
+        hear_rows(self.log, letter.stake, &*letter.row, segments)?;
+        Ok(letter.head)
+    }
+
+    /// Takes the next step, to which all members come: the same wave again, the next one, the least
+    /// distance of a fresh board, or the next gain. False if the last gain is closed.
+    fn go_on(&mut self, heads: Head) -> Result<bool, Halt>
+        ensures { OnOk result (Kept self.old self.new) }
+    {
+        if heads.left {
+            return Ok(true);
+        }
+        if heads.spread {
+            self.open_wave(self.stake.wave.saturating_add(1))?;
+            return Ok(true);
+        }
+        match heads.least {
+            Some(dist) => self.open_wave(dist)?,
+            None if self.stake.gain > 1 => self.open_gain()?,
+            None => return Ok(false),
+        }
+        Ok(true)
+    }
+
+    /// Opens the wave of this distance.
+    fn open_wave(&mut self, dist: u32) -> Result<(), Halt>
+        ensures { OnOk result (Kept self.old self.new) }
+    {
+        open_wave(dist, self.segments.as_mut_slice())?;
+        self.stake = Stake {
+            wave: dist,
+            ..self.stake
+        };
+        Ok(())
+    }
+
+    /// Opens the next smaller gain.
+    fn open_gain(&mut self) -> Result<(), Halt>
+        ensures { OnOk result (Kept self.old self.new) }
+    {
+        let gain = self.stake.gain.saturating_sub(1);
+        open_gain(gain, self.segments.as_mut_slice())?;
+        self.stake = Stake {
+            gain,
+            wave: 0,
+            ..self.stake
+        };
+        Ok(())
+    }
+}
+
+/// Tells that so many boards were spread as this is opened, and asks whether the level is still wanted.
+fn is_wanted_at<P: Progress>(stake: Stake, boards: usize, progress: &mut P) -> bool
+    ensures { result ≡ false → P.stops }
+{
+    progress.hear(Told::Settled {
+        gain: usize::from(stake.gain),
+        boards,
+    });
+    progress.is_wanted()
+}

@@ -1,0 +1,82 @@
+//! Letters are sent to all other members, and awaited from each.
+
+ghost use Rattle.std.specs.Prelude.{◌<◌, IfOk, OnOk};
+ghost use Rattle.std.specs.Arc.{arc_value};
+ghost use Rattle.awari_crew.specs.Members.{Receives, SendsAll};
+ghost use Rattle.awari_crew.specs.Posting.{SendsTo};
+ghost use Rattle.awari_crew.specs.Tellings.{telling_of};
+ghost use Rattle.awari_lines.specs.Rings.{IsOther, owners_of};
+
+use crate::halts::Halt;
+use crate::letters::{Head, Letter};
+use awari_block::Stake;
+use awari_lines::Ends;
+use awari_waves::Row;
+use std::hint::spin_loop;
+use std::sync::Arc;
+use std::thread::yield_now;
+
+/// How often a member looks for a letter before it gives its processor away.
+const SPINS: u64 = 64;
+
+/// Sends a letter with this head and row to each other member. Refused as `Unfit` if a ring is full, and
+/// as `Memory`; then the level is lost.
+pub fn send_all(
+    ends: &mut Ends<Letter>,
+    head: Head,
+    stake: Stake,
+    row: &Arc<Row>,
+) -> Result<(), Halt>
+    ensures { OnOk result (SendsAll (telling_of stake (arc_value row.now)) ends.old ends.new) }
+{
+    for place in 0..ends.owners() {
+        send_at(ends, place, head, stake, row)?;
+    }
+    Ok(())
+}
+
+/// Sends it to the member of this number, if it is another.
+fn send_at(
+    ends: &mut Ends<Letter>,
+    place: usize,
+    head: Head,
+    stake: Stake,
+    row: &Arc<Row>,
+) -> Result<(), Halt>
+    requires { place < owners_of ends.old }
+    ensures { OnOk result (SendsTo place (telling_of stake (arc_value row.now)) ends.old ends.new) }
+{
+    match u8::try_from(place) {
+        Ok(other) if other == ends.owner() => Ok(()),
+        Ok(other) => {
+            let row = Arc::try_clone(row)?;
+            match ends.push(other, Letter { head, stake, row }) {
+                Ok(()) => Ok(()),
+                Err(_) => Err(Halt::Unfit),
+            }
+        }
+        Err(_) => Err(Halt::Unfit),
+    }
+}
+
+/// The next letter of another member. It looks so many times at most, and gives its processor away in
+/// between. Refused as `Unfit` if none came, or the other member left.
+pub fn await_letter(ends: &mut Ends<Letter>, from: u8, patience: u64) -> Result<Letter, Halt>
+    requires { IsOther ends.old from }
+    ensures { IfOk result (λ letter. Receives from letter ends.old ends.new) }
+{
+    for tried in 0..patience {
+        if let Some(letter) = ends.pop(from) {
+            return Ok(letter);
+        }
+        if tried < SPINS {
+            spin_loop();
+            continue;
+        }
+        if ends.is_left(from) {
+            return Err(Halt::Unfit);
+        }
+        yield_now();
+    }
+    Err(Halt::Unfit)
+}
