@@ -1,22 +1,20 @@
 -- The entries of blocks put one after another.
-use Rattle.std.proofs.Common.{◌≡◌, ℕ, ◌+◌, ◌-◌, ◌<◌, ◌≤◌, List, [], ◌∷◌, ◌++◌, inl, inr, length, get_or, Result, Ok, refl, sym, ap, ◌∙◌, subst, arith, sum, take, zero, suc, append_assoc, length-append}
+use Rattle.std.proofs.Common.{◌≡◌, ℕ, ◌+◌, ◌-◌, ◌<◌, ◌≤◌, List, [], ◌∷◌, ◌++◌, inl, inr, length, get_or, refl, sym, ap, ◌∙◌, subst, subst₂, arith, sum, take, drop, take-append-drop, zero, suc, append_assoc, length-append}
 use Rattle.std.proofs.lemmas.Bool.{cases_lt}
-use Rattle.std.specs.Prelude.{IfOk}
-use Rattle.std.specs.declared.alloc.AllocError.{AllocError}
-use Rattle.std.proofs.lemmas.List.{take_more, take_all, append-nil, get_or_append_left, get_or-append-add, get_or_push, get_or_default}
+use Rattle.std.proofs.lemmas.List.{take_more, take_all, append-nil, get_or_append_left, get_or-append-add, get_or_push}
 use Rattle.awari_block.specs.Part.{Part, InBlock, cell_at}
 use Rattle.awari_table.specs.declared.images.Entry.{Entry}
 use Rattle.awari_table.specs.Images.{no_entry}
 use Rattle.awari_board.specs.Rules.{IsBoard}
 use Rattle.awari_rank.specs.Rank.{rank_of, size_of}
-use Rattle.awari_heard.specs.Level.{AreBlocks, AreWhole, known_at, no_part, part_at}
+use Rattle.awari_heard.specs.Level.{AreBlocks, AreWhole, known_at, part_at}
 use Rattle.awari_block.specs.Blocks.{no_cell}
 use Rattle.awari_block.specs.Cells.{view_of}
 use Rattle.awari_block.specs.Tally as tally
 use Rattle.awari_block.specs.declared.cells.Cell.{Cell}
 use Rattle.awari_heard.proofs.Levels.{holds, known_there}
 use Rattle.awari_heard.specs.Kept.{HasKept, HaveAll}
-use Rattle.awari_heard.specs.Filling.{AreMade, PushesBlock, PutsBlocks}
+use Rattle.awari_heard.specs.Filling.{PushesBlock, PutsBlocks}
 
 -- each of these blocks ends at a rank that is not above this
 abbrev pub AllBelow : List Part → ℕ → Type 0
@@ -83,28 +81,37 @@ puts_more parts i part old mid new inside is before pushed =
 pub puts_all : (parts : List Part) (i : ℕ) (old new : List Entry) → length parts ≤ i → PutsBlocks (take i parts) old new → PutsBlocks parts old new
 puts_all parts i old new past puts = subst (λ ps. PutsBlocks ps old new) (take_all i parts past) puts
 
--- entries that were made apart, and are put behind others
-pub pushed_behind : (cells : List Cell) (old block new : List Entry) (count : ℕ) → PushesBlock cells [] block count → new ≡ old ++ block → PushesBlock cells old new count
-pushed_behind cells old block new count made is =
-    let empty : List Entry = [] in
-    let long : length block ≡ count = made.size ∙ omega arith in
+-- a block that is put somewhere is also put there behind others
+block_behind : (cells : List Cell) (others old new : List Entry) (count : ℕ) → PushesBlock cells old new count → PushesBlock cells (others ++ old) (others ++ new) count
+block_behind cells others old new count pushed =
+    let size = pushed.size in
+    let before = length-append others old in
+    let after = length-append others new in
     record {
-      size = ap (λ (es : List Entry). length es) is ∙ length-append old block ∙ ap (λ n. length old + n) long;
-      before = λ k below. ap (λ (es : List Entry). get_or es k no_entry) is ∙ get_or_append_left old block no_entry k below;
+      size = omega (arith, size, before, after);
+      before = λ k below. elim (cases_lt k (length others)) [
+        | inl lt ↦ get_or_append_left others new no_entry k lt ∙ sym (get_or_append_left others old no_entry k lt)
+        | inr ge ↦
+            let at : length others + (k - length others) ≡ k = omega (arith, ge) in
+            let same = pushed.before (k - length others) (omega (arith, below, before, ge)) in
+            subst (λ n. get_or (others ++ new) n no_entry ≡ get_or (others ++ old) n no_entry) at
+            (get_or-append-add others new (k - length others) no_entry ∙ same ∙ sym (get_or-append-add others old (k - length others) no_entry))
+      ];
       kept = λ k below.
-          let same : length empty + k ≡ k = omega arith in
-          subst (HasKept (view_of (get_or cells k no_cell))) (sym (ap (λ (es : List Entry). get_or es (length old + k) no_entry) is ∙ get_or-append-add old block k no_entry))
-          (subst (λ n. HasKept (view_of (get_or cells k no_cell)) (get_or block n no_entry)) same (made.kept k below));
+          let at : length others + (length old + k) ≡ length (others ++ old) + k = omega (arith, before) in
+          subst (HasKept (view_of (get_or cells k no_cell))) (sym (get_or-append-add others new (length old + k) no_entry) ∙ ap (λ n. get_or (others ++ new) n no_entry) at) (pushed.kept k below);
     }
 
-pub joined_more : (parts : List Part) (made : List (Result (List Entry) AllocError)) (i : ℕ) (item : Result (List Entry) AllocError) (block old mid new : List Entry) → AreMade parts made → i < length made
-    → item ≡ get_or made i item → item ≡ Ok block → PutsBlocks (take i parts) old mid → new ≡ mid ++ block → PutsBlocks (take (i + 1) parts) old new
-joined_more parts made i item block old mid new (size, each) inside is right before joined =
-    let within : i < length parts = omega (arith, size, inside) in
-    let part = get_or parts i no_part in
-    let P : Result (List Entry) AllocError → Type 0 = λ r. IfOk r (λ es. PushesBlock part.cells [] es (length part.cells)) in
-    let pushed : PushesBlock part.cells [] block (length part.cells) = subst P (sym is ∙ right) (each i no_part item within) in
-    puts_more parts i part old mid new within (get_or_default parts i no_part part within) before (pushed_behind part.cells mid block new (length part.cells) pushed joined)
+puts_behind : (parts : List Part) (others old new : List Entry) → PutsBlocks parts old new → PutsBlocks parts (others ++ old) (others ++ new)
+puts_behind [] others old new puts = ap (λ (es : List Entry). others ++ es) puts
+puts_behind (part ∷ parts) others old new (next, pushed, rest) = (others ++ next, block_behind part.cells others old next (length part.cells) pushed, puts_behind parts others next new rest)
+
+-- the entries of the first n blocks, and behind them those of the others, which were made apart
+pub puts_joined : (parts front back : List Part) (n : ℕ) (first last new : List Entry) → front ≡ take n parts → back ≡ drop n parts → PutsBlocks front [] first → PutsBlocks back [] last → new ≡ first ++ last → PutsBlocks parts [] new
+puts_joined parts front back n first last new is_front is_back puts more joined =
+    let all : front ++ back ≡ parts = rw (is_front, is_back) (take-append-drop n parts) in
+    let behind = subst₂ (λ (old new : List Entry). PutsBlocks back old new) (append-nil first) (sym joined) (puts_behind back first [] last more) in
+    subst (λ (ps : List Part). PutsBlocks ps [] new) all (puts_then front back [] first new puts behind)
 
 -- the blocks of a level that are put one after another have all that their cells keep
 put_from : (level low high : ℕ) (done parts : List Part) (old new : List Entry) → low ≡ length old → AllBelow done low → HaveAll HasKept done old → AreBlocks level low high parts → PutsBlocks parts old new

@@ -1,6 +1,5 @@
 -- Entries put block by block. Private functions alone go by this: no public contract does.
-use Rattle.std.specs.Prelude.{◌≡◌, ℕ, ◌+◌, ◌<◌, List, [], ◌∷◌, length, slice_index_or, Result, IfOk}
-use Rattle.std.specs.declared.alloc.AllocError.{AllocError}
+use Rattle.std.specs.Prelude.{◌≡◌, ℕ, ◌+◌, ◌<◌, List, [], ◌∷◌, length, slice_index_or}
 use Rattle.awari_table.specs.declared.images.Entry.{Entry}
 use Rattle.awari_table.specs.Images.{no_entry}
 use Rattle.awari_block.specs.Blocks.{no_cell}
@@ -19,9 +18,3 @@ pub record PushesBlock (cells : List Cell) (old new : List Entry) (count : ℕ) 
 abbrev pub PutsBlocks : List Part → List Entry → List Entry → Type 0
 PutsBlocks [] old new = new ≡ old
 PutsBlocks (part ∷ parts) old new = (next : List Entry) × PushesBlock part.cells old next (length part.cells) × PutsBlocks parts next new
-
--- what was made of each of these blocks are its entries, unless memory ran out
-abbrev pub AreMade : List Part → List (Result (List Entry) AllocError) → Type 0
-AreMade parts made =
-    (length made ≡ length parts)
-    × ((i : ℕ) (part : Part) (block : Result (List Entry) AllocError) → i < length parts → IfOk (slice_index_or made i block) (λ entries. PushesBlock (slice_index_or parts i part).cells [] entries (length (slice_index_or parts i part).cells)))

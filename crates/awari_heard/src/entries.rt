@@ -31,7 +31,8 @@ pub fn finish_closed(
     requires whole { AreWhole (length shelf.now) parts.items }
     ensures kept { IfOk result (IsKept shelf.now parts.items) }
 {
-    let entries = closed_entries(alloc, shelf.levels(), parts)?;
+    let boards = size(shelf.levels()) as usize;
+    let entries = closed_entries(alloc, boards, parts)?;
     let image = kept_image(shelf, entries);
     Ok(image)
 }
@@ -48,12 +49,16 @@ pub fn kept_image(shelf: &Shelf, entries: Entries) -> Image
     }
 }
 
-/// The entries of the level, of closed parts, each of which is dropped before the next is begun.
-fn closed_entries(alloc: Global, level: u8, parts: Vec<ClosedPart>) -> Result<Entries, AllocError>
-    requires low { level ≤ 24 }
+/// The entries of closed parts, with room for so many boards. Each part is dropped before the next is
+/// begun.
+pub(crate) fn closed_entries(
+    alloc: Global,
+    room: usize,
+    parts: Vec<ClosedPart>,
+) -> Result<Entries, AllocError>
     ensures { IfOk result (PutsBlocks parts.items []) }
 {
-    let mut entries = Entries::with_capacity(alloc, size(level) as usize)?;
+    let mut entries = Entries::with_capacity(alloc, room)?;
     for closed in parts {
         push_block(alloc, &mut entries, closed.cells())?;
     }

@@ -1,23 +1,23 @@
 //! The image of a level, made by many threads.
 
-ghost use Rattle.std.specs.Prelude.{◌≤◌, [], IfOk, List, OnOk, length};
+ghost use Rattle.std.specs.Prelude.{◌≤◌, [], IfOk, length};
+ghost use Rattle.std.specs.Thread.{IsSync};
 ghost use Rattle.awari_heard.specs.Level.{AreWhole};
-ghost use Rattle.awari_block.specs.Part.{Part};
 ghost use Rattle.awari_heard.specs.Kept.{IsKept};
-ghost use Rattle.awari_heard.specs.Filling.{PushesBlock, PutsBlocks, AreMade};
+ghost use Rattle.awari_heard.specs.Filling.{PutsBlocks};
 ghost use Rattle.awari_table.specs.declared.TheConstants.{HIGHEST_LEVEL};
 
-use crate::entries::{kept_image, push_block};
+use crate::entries::{closed_entries, kept_image};
 use awari_block::ClosedPart;
 use awari_rank::size;
 use awari_table::{Entries, Image, Shelf};
+use rayon::join;
 use std::alloc::{AllocError, Global};
-use std::thread;
 use std::thread::Threads;
 
 /// Answers what [`finish_closed`](crate::finish_closed) does. So many threads at most, but at least
-/// one, make the entries of as many parts at once, and these parts are dropped before the next are
-/// begun. It also takes memory for three bytes a board of those parts.
+/// one, each make the entries of a share of the parts, and start once. It also takes memory for three
+/// bytes a board of all shares but the first.
 pub fn finish_parallel<R: Threads + Sync>(
     rt: &R,
     alloc: Global,
@@ -29,80 +29,52 @@ pub fn finish_parallel<R: Threads + Sync>(
     requires whole { AreWhole (length shelf.now) parts.items }
     ensures kept { IfOk result (IsKept shelf.now parts.items) }
 {
-    let entries = entries_in_batches(rt, alloc, shelf.levels(), parts, threads.max(1))?;
+    let boards = size(shelf.levels()) as usize;
+    let entries = entries_in_shares(rt, alloc, boards, parts, threads)?;
     let image = kept_image(shelf, entries);
     Ok(image)
 }
 
-/// The entries of the level, made of so many parts at once.
-fn entries_in_batches<R: Threads + Sync>(
+/// The entries of these parts, with room for so many boards. A thread makes those of the last share, and
+/// one fewer those of the shares before it.
+#[cycle(shares)]
+fn entries_in_shares<R: Threads + Sync>(
     rt: &R,
     alloc: Global,
-    level: u8,
+    room: usize,
     parts: Vec<ClosedPart>,
-    batch: usize,
+    threads: usize,
 ) -> Result<Entries, AllocError>
-    requires low { level ≤ 24 }
-    requires some { 1 ≤ batch }
     ensures { IfOk result (PutsBlocks parts.items []) }
 {
-    let mut entries = Entries::with_capacity(alloc, size(level) as usize)?;
-    let mut rest = parts;
-    while !rest.is_empty() {
-        let after = rest.split_off(batch.min(rest.len()))?;
-        push_batch(rt, alloc, &mut entries, rest)?;
-        rest = after;
+    if threads < 2 {
+        return closed_entries(alloc, room, parts);
     }
+    let fewer = threads - 1;
+    let share = parts.len() / threads;
+    let mut first = parts;
+    let last = first.split_off(first.len() - share)?;
+    let boards = boards_of(last.as_slice());
+    let (first_done, last_done) = join(
+        rt,
+        || -> Result<Entries, AllocError>
+            requires { IsSync R.row }
+            ensures { IfOk result (PutsBlocks first.items []) }
+        { entries_in_shares(rt, alloc, room, first, fewer) },
+        || -> Result<Entries, AllocError>
+            ensures { IfOk result (PutsBlocks last.items []) }
+        { closed_entries(alloc, boards, last) },
+    );
+    let mut entries = first_done?;
+    entries.join(alloc, &last_done?)?;
     Ok(entries)
 }
 
-/// Puts the entries of these blocks behind those that are there, and drops the blocks. Each block is
-/// in a thread of its own.
-fn push_batch<R: Threads + Sync>(
-    rt: &R,
-    alloc: Global,
-    entries: &mut Entries,
-    parts: Vec<ClosedPart>,
-) -> Result<(), AllocError>
-    ensures { OnOk result (PutsBlocks parts.items entries.old entries.new) }
-{
-    let blocks = entries_of_each(rt, alloc, parts)?;
-    join_blocks(alloc, entries, blocks.as_slice())
-}
-
-/// The entries of each of these blocks, as far as there is memory for them.
-fn entries_of_each<R: Threads + Sync>(
-    rt: &R,
-    alloc: Global,
-    parts: Vec<ClosedPart>,
-) -> Result<Vec<Result<Entries, AllocError>>, AllocError>
-    ensures { IfOk result (λ blocks. AreMade parts.items blocks.items) }
-{
-    thread::map_vec(rt, parts, &|part| entries_of(alloc, part))
-}
-
-/// The entries of a closed block.
-fn entries_of(alloc: Global, part: ClosedPart) -> Result<Entries, AllocError>
-    ensures { IfOk result (λ entries. PushesBlock part.cells [] entries (length part.cells)) }
-{
-    let mut entries = Entries::with_capacity(alloc, part.cells().len())?;
-    push_block(alloc, &mut entries, part.cells())?;
-    Ok(entries)
-}
-
-/// Puts the entries of blocks behind those that are there, in order.
-fn join_blocks(
-    alloc: Global,
-    entries: &mut Entries,
-    blocks: &[Result<Entries, AllocError>],
-) -> Result<(), AllocError>
-    ensures { (parts : List Part) → AreMade parts blocks.now → OnOk result (PutsBlocks parts entries.old entries.new) }
-{
-    for block in blocks {
-        match block {
-            Ok(block) => entries.join(alloc, block)?,
-            Err(_) => return Err(AllocError),
-        }
+/// How many boards these parts have.
+fn boards_of(parts: &[ClosedPart]) -> usize {
+    let mut boards = 0usize;
+    for part in parts {
+        boards = boards.saturating_add(part.cells().len());
     }
-    Ok(())
+    boards
 }

@@ -5,7 +5,7 @@ use Rattle.std.proofs.lemmas.Nat.{div-mul-add, mod-mul-add}
 use Rattle.std.proofs.lemmas.List.{length-append}
 use Rattle.std.proofs.lemmas.Option.{get_or_from_slice_get}
 use Rattle.awari_table.specs.declared.images.Entry.{Entry}
-use Rattle.awari_table.specs.Columns.{FitsColumns, plan_of_code, row, rows}
+use Rattle.awari_table.specs.Columns.{plan_of_code, row, rows}
 use Rattle.awari_table.specs.Images.{greatest_dist}
 
 -- an entry of the same three parts

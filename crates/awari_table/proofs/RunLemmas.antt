@@ -1,5 +1,5 @@
 -- Runs of entries, gone over one by one.
-use Rattle.std.proofs.Common.{◌≡◌, ℕ, ◌+◌, ◌<◌, ◌∙◌, List, [], ◌∷◌, ◌++◌, length, take, drop, get_or, slice_set as set, max, Some, slice_get, ap, sym, arith, length-drop}
+use Rattle.std.proofs.Common.{◌≡◌, ℕ, ◌+◌, ◌<◌, ◌∙◌, List, [], ◌∷◌, ◌++◌, length, take, drop, slice_set as set, Some, slice_get, ap, sym, arith, length-drop}
 use Rattle.std.proofs.lemmas.List.{take_more_set, get_or-drop}
 use Rattle.std.proofs.lemmas.Option.{get_or_from_slice_get, slice_get-get_or, slice_get_within}
 use Rattle.awari_table.proofs.ShelfLemmas.{take-read}

@@ -1,5 +1,5 @@
 -- Entries that are spelled one after another.
-use Rattle.std.proofs.Common.{◌≡◌, ◌<◌, ◌+◌, ◌^◌, refl, All, ℕ, List, [], ◌∷◌, ◌++◌, length, get_or, Option, Some, slice_get, arith, suc, sym, ap, subst, ◌∙◌, append_assoc, append-nil, take, drop, take-append-drop}
+use Rattle.std.proofs.Common.{◌≡◌, ◌<◌, ◌+◌, ◌^◌, refl, All, ℕ, List, [], ◌∷◌, ◌++◌, length, get_or, Option, Some, slice_get, arith, suc, sym, ap, subst, ◌∙◌, append-nil, take, drop}
 use Rattle.std.specs.Io.KnownBytes.{Appends}
 use Rattle.std.specs.List.{flat_map, AllByRecursion}
 use Rattle.std.proofs.lemmas.Int.{ints}

@@ -96,19 +96,15 @@ impl Level {
         ensures even { result.even ≡ even_boards self.now.entries }
         ensures lost { result.lost ≡ lost_boards self.now.entries }
     {
+        let boards = size(self.number());
         let mut won = 0u32;
-        let mut even = 0u32;
         let mut lost = 0u32;
-        for rank in 0..size(self.number()) {
+        for rank in 0..boards {
             let value = self.value_at(rank);
-            if value > 0 {
-                won += 1;
-            } else if value == 0 {
-                even += 1;
-            } else {
-                lost += 1;
-            }
+            won += u32::from(value > 0);
+            lost += u32::from(value < 0);
         }
+        let even = boards - won - lost;
         Counts { won, even, lost }
     }
 }

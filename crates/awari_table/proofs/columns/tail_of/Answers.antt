@@ -1,4 +1,4 @@
-use Rattle.std.proofs.Common.{◌<◌, ◌≡◌, arith}
+use Rattle.std.proofs.Common.{◌<◌, ◌≡◌}
 use Rattle.awari_table.specs.Columns.{plan_of_code}
 use Rattle.awari_table.proofs.ColumnLemmas.{row_of_tail, code_some, code_none}
 use Rattle.awari_table.proofs.columns.tail_of.Goals as goal

@@ -1,7 +1,6 @@
-use Rattle.std.proofs.Common.{◌≡◌, ◌+◌, ◌++◌, All, List, subst, sym, take, drop, arith}
+use Rattle.std.proofs.Common.{All, subst, sym, take, arith}
 use Rattle.std.proofs.Math.Seq.{take-add}
 use Rattle.std.proofs.lemmas.List.Elements.{All-append}
-use Rattle.awari_table.specs.declared.images.Entry.{Entry}
 use Rattle.awari_table.specs.Spelling.{FitsNumbers}
 use Rattle.awari_table.proofs.Spelled.{more_run}
 use Rattle.awari_table.proofs.spelling.write_entries.Goals as goal

@@ -1,4 +1,4 @@
-use Rattle.std.proofs.Common.{◌≡◌, ◌++◌, length, take, drop}
+use Rattle.std.proofs.Common.{◌≡◌, length, take, drop}
 use Rattle.awari_table.proofs.columns.Columns.copy_run.Given as goal
 
 abbrev pub invariant-loop-k : goal.invariant-loop-k

@@ -1,4 +1,4 @@
-use Rattle.std.proofs.Common.{◌≡◌, ◌++◌, ◌∙◌, List, ℕ, ℤ, ap}
+use Rattle.std.proofs.Common.{◌++◌, ◌∙◌, List, ℕ, ℤ, ap}
 use Rattle.awari_table.proofs.ColumnLemmas.{join_seen}
 use Rattle.awari_table.proofs.columns.Columns.join.Goals as goal
 

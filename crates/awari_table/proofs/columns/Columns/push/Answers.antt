@@ -1,4 +1,4 @@
-use Rattle.std.proofs.Common.{◌≡◌, ◌∙◌, ℤ, ap, rules, FitsSigned, w8}
+use Rattle.std.proofs.Common.{◌∙◌, ℤ, ap, rules, FitsSigned, w8}
 use Rattle.std.proofs.lemmas.Int.{to_z-of_z}
 use Rattle.awari_table.specs.Columns.{row}
 use Rattle.awari_table.proofs.ColumnLemmas.{push_seen}
