@@ -2,7 +2,7 @@
 use Rattle.std.proofs.Common.{◌≡◌, ℕ, ℤ, ◌^◌, ◌∙◌, [], List, refl, sym, subst, subst₂}
 use Rattle.awari_block.specs.Each.{EachTo}
 use Rattle.awari_block.specs.Part.{Part}
-use Rattle.awari_lines.specs.Rings.{IsOther, SamePairs}
+use Rattle.awari_lines.specs.Rings.{IsOther, SameHistory, SamePairs}
 use Rattle.awari_lines.specs.declared.ends.Ends.{Ends}
 use Rattle.awari_lines.proofs.Grids.{same_pairs}
 use Rattle.awari_crew.specs.Members.{IsSound, Kept, Receives, SameTask, SendsAll, Speaks, parts_of, told_by}
@@ -11,7 +11,7 @@ use Rattle.awari_waves.specs.declared.rows.Row.{Row}
 use Rattle.awari_crew.specs.declared.letters.Letter.{Letter}
 use Rattle.awari_crew.specs.declared.members.Member.{Member}
 use Rattle.awari_crew.proofs.Posts.{pairs_then}
-use Rattle.awari_crew.proofs.Sounds.{sound_heard, sound_opened, sound_told}
+use Rattle.awari_crew.proofs.Sounds.{sound_heard, sound_looked, sound_opened, sound_told}
 
 pub kept_none : (a : Member) → Kept a a
 kept_none a = record { shelf = refl; level = refl; log = refl; pairs = same_pairs a.ends; sound = λ value sound. sound }
@@ -45,6 +45,16 @@ kept_opened a b new shelf level log ends parts each = record {
   log = log;
   pairs = subst (SamePairs a.ends) (sym ends) (same_pairs a.ends);
   sound = λ value sound. moved value a b a.ends new level log ends parts (sound_opened value a.level (2 ^ a.log) a.ends (parts_of a) new each sound);
+}
+
+-- the rings are looked at
+pub kept_looked : (a b : Member) → b.shelf ≡ a.shelf → b.level ≡ a.level → b.log ≡ a.log → SameHistory a.ends b.ends → parts_of b ≡ parts_of a → Kept a b
+kept_looked a b shelf level log same parts = record {
+  shelf = shelf;
+  level = level;
+  log = log;
+  pairs = same.pairs;
+  sound = λ value sound. moved value a b b.ends (parts_of a) level log refl parts (sound_looked value a.level (2 ^ a.log) a.ends b.ends (parts_of a) same sound);
 }
 
 -- a letter is heard

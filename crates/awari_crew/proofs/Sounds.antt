@@ -1,5 +1,5 @@
 -- A member that is sound stays so in each step.
-use Rattle.std.proofs.Common.{◌≡◌, ◌≢◌, ◌⊎◌, ℕ, ◌+◌, ◌/◌, ◌<◌, cond, inl, inr, List, [], ◌∷◌, ◌++◌, length, map, ℤ, sym, ap, subst, ◌∙◌, arith}
+use Rattle.std.proofs.Common.{◌≡◌, ◌≢◌, ◌⊎◌, ℕ, ◌+◌, ◌/◌, ◌<◌, cond, inl, inr, List, [], ◌∷◌, ◌++◌, length, map, ℤ, sym, ap, subst, subst₂, ◌∙◌, arith}
 use Rattle.std.proofs.lemmas.Bool.{cases_eq}
 use Rattle.std.proofs.lemmas.List.{map-append}
 use Rattle.awari_block.specs.Each.{EachTo}
@@ -9,7 +9,7 @@ use Rattle.awari_block.specs.declared.notes.Note.{Note}
 use Rattle.awari_block.proofs.BlockLemmas.{eqb_apart, eqb_self}
 use Rattle.awari_heard.specs.Heard.{IsSeenAs}
 use Rattle.awari_heard.specs.Level.{no_part, part_at}
-use Rattle.awari_lines.specs.Rings.{IsOther, owners_of, received_from}
+use Rattle.awari_lines.specs.Rings.{IsOther, SameHistory, owners_of, received_from}
 use Rattle.awari_lines.specs.declared.ends.Ends.{Ends}
 use Rattle.awari_crew.specs.Members.{IsSound, Receives, SendsAll, Speaks, ears, heard_of, told_by}
 use Rattle.awari_crew.specs.Tellings.{HearsAll, HearsMore, HearsTelling, Tell, Telling, notes_to}
@@ -41,6 +41,28 @@ sound_opened value level span e old new each sound = record {
       let few : i < length old = omega (arith, h, many) in
       all_more value span (owners_of e) (ears e sound.tellings) (ears e sound.tellings) [] (part_at old i) (part_at new i) (each.each i no_part few) (λ j m low tell. tell) (λ m has. elim has [ ]) (λ j m low tell. inl tell) (sound.hears i few);
 }
+
+-- ---- rings are looked at
+
+pub sound_looked : (value : List ℕ → ℤ) (level span : ℕ) (a b : Ends Letter) (parts : List Part) → SameHistory a b → IsSound value level span a parts → IsSound value level span b parts
+sound_looked value level span a b parts same sound = record {
+  tellings = sound.tellings;
+  sent = λ k is. let was = other_before a b k same.pairs is in ap (map told_by) (same.sent k was.0) ∙ sound.sent k was;
+  spread = sound.spread;
+  hears = λ i h. subst₂ (λ (members : ℕ) (of : ℕ → List Telling). HearsAll value span members of (part_at parts i)) (sym owners) (sym (λ d k. ear k d)) (sound.hears i h);
+}
+  where
+    owners : owners_of b ≡ owners_of a
+    owners = ap (λ n. n + 1) same.pairs.owners
+
+    own : ears b sound.tellings a.owner ≡ ears a sound.tellings a.owner
+    own = subst (λ n. ears b sound.tellings n ≡ sound.tellings) same.pairs.owner (ears_own b sound.tellings) ∙ sym (ears_own a sound.tellings)
+
+    ear : (k : ℕ) → ears b sound.tellings k ≡ ears a sound.tellings k
+    ear k = elim (cases_eq k a.owner) [
+      | inl at ↦ subst (λ n. ears b sound.tellings n ≡ ears a sound.tellings n) (sym at) own
+      | inr other ↦ ears_other b sound.tellings k (λ e. other (e ∙ same.pairs.owner)) ∙ ap (map told_by) (same.received k other) ∙ sym (ears_other a sound.tellings k other)
+    ]
 
 -- ---- a letter is heard
 

@@ -33,6 +33,7 @@ mod halts;
 mod hearing;
 mod homes;
 mod letters;
+mod listening;
 mod making;
 mod members;
 mod opening;

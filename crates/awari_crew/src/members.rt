@@ -7,7 +7,7 @@ use crate::halts::Halt;
 use crate::hearing::hear_rows;
 use crate::letters::{Head, Letter};
 use crate::opening::{nearest, open_gain, open_wave};
-use crate::posting::{await_letter, send_all};
+use crate::posting::send_all;
 use crate::taking::{are_below, take_boards};
 use awari_block::Stake;
 use awari_board::moves_keep_boards;
@@ -56,7 +56,6 @@ pub struct Member {
 
 impl Member {
     ghost use Rattle.std.specs.Prelude.{◌≡◌, ◌<◌, ◌^◌, Ok, OnOk, false};
-    ghost use Rattle.awari_lines.specs.Rings.{IsOther, owners_of};
     ghost use Rattle.awari_crew.specs.Members.{Kept, SameTask, Speaks, parts_of};
     ghost use Rattle.awari_crew.specs.Tellings.{telling_of};
 
@@ -159,43 +158,6 @@ impl Member {
             least: nearest(self.segments.as_slice()),
             boards,
         }
-    }
-
-    /// Hears a letter of each other member, and gives how all stand together.
-    fn listen(&mut self, own: Head) -> Result<Head, Halt>
-        ensures { OnOk result (Kept self.old self.new) }
-    {
-        let members = self.ends.owners();
-        let mut heads = own;
-        for place in 0..members {
-            heads = self.listen_at(place, heads)?;
-        }
-        Ok(heads)
-    }
-
-    /// Hears a letter of the member of this number, if it is another.
-    fn listen_at(&mut self, place: usize, heads: Head) -> Result<Head, Halt>
-        requires { place < owners_of self.old.ends }
-        ensures { OnOk result (Kept self.old self.new) }
-    {
-        match u8::try_from(place) {
-            Ok(other) if other != self.ends.owner() => {
-                let head = self.listen_to(other)?;
-                Ok(heads.beside(head))
-            }
-            _ => Ok(heads),
-        }
-    }
-
-    /// Hears a letter of another member.
-    fn listen_to(&mut self, from: u8) -> Result<Head, Halt>
-        requires { IsOther self.old.ends from }
-        ensures { OnOk result (Kept self.old self.new) }
-    {
-        let letter = await_letter(&mut self.ends, from, self.patience)?;
-        let segments = self.segments.as_mut_slice();
-        hear_rows(self.log, letter.stake, &*letter.row, segments)?;
-        Ok(letter.head)
     }
 
     /// Takes the next step, to which all members come: the same wave again, the next one, the least

@@ -1,23 +1,18 @@
-//! Letters are sent to all other members, and awaited from each.
+//! Letters are sent to all other members, and looked for from each.
 
-ghost use Rattle.std.specs.Prelude.{◌<◌, IfOk, OnOk};
+ghost use Rattle.std.specs.Prelude.{◌≡◌, ◌<◌, IfOk, IfSome, None, Ok, OnOk};
 ghost use Rattle.std.specs.Arc.{arc_value};
 ghost use Rattle.awari_crew.specs.Members.{Receives, SendsAll};
 ghost use Rattle.awari_crew.specs.Posting.{SendsTo};
 ghost use Rattle.awari_crew.specs.Tellings.{telling_of};
-ghost use Rattle.awari_lines.specs.Rings.{IsOther, owners_of};
+ghost use Rattle.awari_lines.specs.Rings.{IsOther, SameHistory, owners_of};
 
 use crate::halts::Halt;
 use crate::letters::{Head, Letter};
 use awari_block::Stake;
 use awari_lines::Ends;
 use awari_waves::Row;
-use std::hint::spin_loop;
 use std::sync::Arc;
-use std::thread::yield_now;
-
-/// How often a member looks for a letter before it gives its processor away.
-const SPINS: u64 = 64;
 
 /// Sends a letter with this head and row to each other member. Refused as `Unfit` if a ring is full, and
 /// as `Memory`; then the level is lost.
@@ -59,24 +54,17 @@ fn send_at(
     }
 }
 
-/// The next letter of another member. It looks so many times at most, and gives its processor away in
-/// between. Refused as `Unfit` if none came, or the other member left.
-pub fn await_letter(ends: &mut Ends<Letter>, from: u8, patience: u64) -> Result<Letter, Halt>
+/// Looks for the next letter of another member. Refused as `Unfit` if none waits and that member left.
+pub fn look_for_letter(ends: &mut Ends<Letter>, from: u8) -> Result<Option<Letter>, Halt>
     requires { IsOther ends.old from }
-    ensures { IfOk result (λ letter. Receives from letter ends.old ends.new) }
+    ensures some { IfOk result (λ found. IfSome found (λ letter. Receives from letter ends.old ends.new)) }
+    ensures none { result ≡ Ok None → SameHistory ends.old ends.new }
 {
-    for tried in 0..patience {
-        if let Some(letter) = ends.pop(from) {
-            return Ok(letter);
-        }
-        if tried < SPINS {
-            spin_loop();
-            continue;
-        }
-        if ends.is_left(from) {
-            return Err(Halt::Unfit);
-        }
-        yield_now();
+    if let Some(letter) = ends.pop(from) {
+        return Ok(Some(letter));
     }
-    Err(Halt::Unfit)
+    if ends.is_left(from) {
+        return Err(Halt::Unfit);
+    }
+    Ok(None)
 }
