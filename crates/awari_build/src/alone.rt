@@ -6,10 +6,10 @@ ghost use Rattle.awari_build.specs.NextLevel.{IsNextLevel};
 ghost use Rattle.awari_table.specs.declared.TheConstants.{HIGHEST_LEVEL};
 
 use crate::faults::BuildFault;
-use crate::waves::build_by_waves;
-use awari_heard::{Progress, Silent};
+use crate::levels::{begin_next, level_of};
+use crate::waves::settled_parts;
+use awari_heard::{Progress, Silent, Told, finish_closed};
 use awari_table::{Level, Shelf};
-use awari_waves::Alone;
 use std::alloc::Global;
 
 /// The shelf's next level, built by this thread alone. It always returns. Refused as 51 `TooHigh` if
@@ -39,5 +39,9 @@ pub fn build_alone_with_progress<P: Progress>(
     ensures too_high { (result ≡ Err BuildFault.TooHigh) ↔ (HIGHEST_LEVEL < length shelf.now) }
     ensures fault { IfErr result (λ fault. (fault ≡ BuildFault.TooHigh) ⊎ ((fault ≡ BuildFault.Memory) ⊎ IsStopped P.stops fault)) }
 {
-    build_by_waves(&Alone, alloc, shelf, progress)
+    begin_next(shelf, progress)?;
+    let parts = settled_parts(alloc, shelf, progress)?;
+    progress.hear(Told::Planned);
+    let image = finish_closed(alloc, shelf, parts)?;
+    Ok(level_of(shelf, image))
 }

@@ -1,5 +1,5 @@
-//! The next level of a shelf, built whole: in segments, by one thread or by several that share them, or
-//! by several owners in threads.
+//! The next level of a shelf, built whole: in segments, by one thread or by a crew, or by several owners
+//! in threads.
 //!
 //! The level is proved right, and to be the one with the lowest plans, so nothing verifies it when the
 //! program runs. [`build_alone`] and [`build_together`] always return. Nothing proves that

@@ -14,7 +14,6 @@ use awari_block::ClosedPart;
 use awari_crew::{Crew, Halt, closed_by_crew};
 use awari_heard::{Progress, Silent, Told, finish_parallel};
 use awari_table::{Level, Shelf};
-use awari_waves::Alone;
 use std::alloc::Global;
 use std::thread::Threads;
 
@@ -81,7 +80,7 @@ fn settled_together<R: Threads + Sync, P: Progress>(
     ensures refused { IfErr result (λ fault. (fault ≡ BuildFault.Memory) ⊎ IsStopped P.stops fault) }
 {
     if threads < 2 {
-        return settled_parts(&Alone, alloc, shelf, progress);
+        return settled_parts(alloc, shelf, progress);
     }
     let crew = Crew {
         members: threads.min(MOST_MEMBERS) as u8,
@@ -96,6 +95,6 @@ fn settled_together<R: Threads + Sync, P: Progress>(
             None => Err(stopped()),
         },
         Err(Halt::Memory) => Err(BuildFault::Memory),
-        Err(Halt::Unfit) => settled_parts(&Alone, alloc, shelf, progress),
+        Err(Halt::Unfit) => settled_parts(alloc, shelf, progress),
     }
 }

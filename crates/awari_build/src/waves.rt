@@ -1,60 +1,37 @@
-//! A level built in segments, wave by wave, by one thread or by several.
+//! A level settled in segments, wave by wave, by one thread.
 
-ghost use Rattle.std.specs.Prelude.{◌≡◌, ◌≤◌, ◌<◌, ◌+◌, ◌-◌, ◌^◌, ◌⊎◌, ◌↔◌, ℕ, ℤ, List, length, IfOk, IfErr, Err};
+ghost use Rattle.std.specs.Prelude.{◌≡◌, ◌≤◌, ◌<◌, ◌+◌, ◌-◌, ◌^◌, ◌⊎◌, ℕ, ℤ, List, length, IfOk, IfErr};
 ghost use Rattle.awari_block.specs.Counts.{spread_in};
 ghost use Rattle.awari_build.specs.BuildFault.{IsStopped};
-ghost use Rattle.awari_build.specs.NextLevel.{IsNextLevel};
 ghost use Rattle.awari_build.specs.Settled.{AreSettled};
 ghost use Rattle.awari_heard.specs.Level.{AreHeard, AreWhole};
 ghost use Rattle.awari_table.specs.declared.TheConstants.{HIGHEST_LEVEL};
 ghost use Rattle.awari_waves.specs.Each.{AreFrom, NoneAreFresh, HasDue};
 
 use crate::faults::BuildFault;
-use crate::levels::{begin_next, level_of};
 use crate::telling::expect_wanted;
 use awari_block::ClosedPart;
 use awari_heard::{Progress, Told, distances_fit, one_part_hears_all};
-use awari_table::{Level, Shelf};
-use awari_waves::{Analysis, Workers};
+use awari_table::Shelf;
+use awari_waves::Analysis;
 use std::alloc::{AllocError, Global};
 
-/// The shelf's next level, built by these workers. Refused as `build_alone_with_progress` is.
-pub(crate) fn build_by_waves<W: Workers, P: Progress>(
-    workers: &W,
-    alloc: Global,
-    shelf: &Shelf,
-    progress: &mut P,
-) -> Result<Level, BuildFault>
-    requires ready { W.ready }
-    ensures next { IfOk result (IsNextLevel shelf.now) }
-    ensures too_high { (result ≡ Err BuildFault.TooHigh) ↔ (HIGHEST_LEVEL < length shelf.now) }
-    ensures fault { IfErr result (λ fault. (fault ≡ BuildFault.TooHigh) ⊎ ((fault ≡ BuildFault.Memory) ⊎ IsStopped P.stops fault)) }
-{
-    begin_next(shelf, progress)?;
-    let parts = settled_parts(workers, alloc, shelf, progress)?;
-    progress.hear(Told::Planned);
-    let image = workers.finish(alloc, shelf, parts)?;
-    Ok(level_of(shelf, image))
-}
-
 /// The segments of the shelf's next level, with all gains closed.
-pub(crate) fn settled_parts<W: Workers, P: Progress>(
-    workers: &W,
+pub(crate) fn settled_parts<P: Progress>(
     alloc: Global,
     shelf: &Shelf,
     progress: &mut P,
 ) -> Result<Vec<ClosedPart>, BuildFault>
-    requires ready { W.ready }
     requires low { length shelf.now ≤ HIGHEST_LEVEL }
     ensures settled { IfOk result (λ parts. AreSettled shelf.now parts.items) }
     ensures refused { IfErr result (λ fault. (fault ≡ BuildFault.Memory) ⊎ IsStopped P.stops fault) }
 {
-    let mut analysis = Analysis::scan(workers, alloc, shelf)?;
+    let mut analysis = Analysis::scan(alloc, shelf)?;
     while analysis.gain() > 1 {
-        let opened = analysis.open_gain(workers)?;
+        let opened = analysis.open_gain()?;
         tell(&opened, progress);
         expect_wanted(progress)?;
-        analysis = spread_all(workers, opened, progress)?;
+        analysis = spread_all(opened, progress)?;
     }
     expect_wanted(progress)?;
     let parts = analysis.close(alloc)?;
@@ -73,12 +50,7 @@ fn tell<P: Progress>(analysis: &Analysis, progress: &mut P)
 
 /// Spreads all boards that are settled at the open gain, the nearest first. `progress` hears of each
 /// greater distance, and may stop there.
-fn spread_all<W: Workers, P: Progress>(
-    workers: &W,
-    mut analysis: Analysis,
-    progress: &mut P,
-) -> Result<Analysis, BuildFault>
-    requires ready { W.ready }
+fn spread_all<P: Progress>(mut analysis: Analysis, progress: &mut P) -> Result<Analysis, BuildFault>
     requires opened { analysis.gain ≤ analysis.level }
     requires begun { analysis.wave ≡ 0 }
     requires heard { (value : List ℕ → ℤ) × AreHeard value analysis.parts }
@@ -93,19 +65,14 @@ fn spread_all<W: Workers, P: Progress>(
             tell(&analysis, progress);
             expect_wanted(progress)?;
         }
-        analysis = spread_nearest(workers, analysis, dist)?;
+        analysis = spread_nearest(analysis, dist)?;
         from = dist + 1;
     }
     Ok(analysis)
 }
 
 /// Spreads the boards of this distance, the least of a fresh board.
-fn spread_nearest<W: Workers>(
-    workers: &W,
-    analysis: Analysis,
-    dist: u32,
-) -> Result<Analysis, AllocError>
-    requires ready { W.ready }
+fn spread_nearest(analysis: Analysis, dist: u32) -> Result<Analysis, AllocError>
     requires opened { analysis.gain ≤ analysis.level }
     requires timely { analysis.wave ≤ dist }
     requires far { AreFrom dist analysis.parts }
@@ -121,6 +88,6 @@ fn spread_nearest<W: Workers>(
     // Ghost: these bound dist + 1.
     distances_fit();
     one_part_hears_all();
-    let after = analysis.spread(workers, dist)?;
+    let after = analysis.spread(dist)?;
     Ok(after)
 }

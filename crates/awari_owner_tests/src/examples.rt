@@ -3,7 +3,7 @@
 use crate::expect::{expect, expect_equal};
 use awari_lines::{grid, settle};
 use awari_table::Shelf;
-use awari_waves::{Alone, Analysis};
+use awari_waves::Analysis;
 use std::test::Fail;
 
 #[test]
@@ -16,7 +16,7 @@ fn rings_begin_empty(rt: HostRuntime) -> Result<(), Fail> {
 
 #[test]
 fn level_0_needs_no_gain(rt: HostRuntime) -> Result<(), Fail> {
-    let analysis = Analysis::scan(&Alone, rt.alloc(), &Shelf::empty())?;
+    let analysis = Analysis::scan(rt.alloc(), &Shelf::empty())?;
     let standing = (analysis.gain(), analysis.due(0));
     expect_equal(&rt, "gain and due", standing, (1, None));
     let parts = analysis.close(rt.alloc())?;

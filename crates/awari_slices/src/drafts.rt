@@ -10,9 +10,9 @@ ghost use Rattle.awari_table.specs.declared.TheConstants.{HIGHEST_LEVEL};
 ghost use Rattle.awari_slices.specs.Drafts.{AreSlices, SpreadsNearest};
 ghost use Rattle.awari_waves.specs.Each.{AreFrom, NoneAreFresh, HasDue};
 
-use awari_heard::{distances_fit, one_part_hears_all};
+use awari_heard::{distances_fit, finish_closed, one_part_hears_all};
 use awari_table::{Image, Shelf};
-use awari_waves::{Alone, Analysis, Workers};
+use awari_waves::Analysis;
 use std::alloc::{AllocError, Global};
 use std::marker::Model;
 
@@ -42,7 +42,7 @@ impl Draft {
         ensures level { IfOk result (λ draft. draft.level ≡ length shelf.now) }
         ensures heard { IfOk result (λ draft. AreHeard (table_of shelf.now).value draft.parts) }
     {
-        let analysis = Analysis::scan(&Alone, alloc, shelf)?;
+        let analysis = Analysis::scan(alloc, shelf)?;
         Ok(Draft { analysis })
     }
 
@@ -105,7 +105,7 @@ impl Draft {
     {
         let Draft { analysis } = self;
         let parts = analysis.close(alloc)?;
-        let image = Alone.finish(alloc, shelf, parts)?;
+        let image = finish_closed(alloc, shelf, parts)?;
         Ok(image)
     }
 }
@@ -139,7 +139,7 @@ fn spread_due(analysis: Analysis, dist: u32, boards: usize) -> Result<Draft, All
     // Ghost: these bound dist + 1.
     distances_fit();
     one_part_hears_all();
-    let analysis = analysis.spread_some(&Alone, dist, boards)?;
+    let analysis = analysis.spread_some(dist, boards)?;
     Ok(Draft { analysis })
 }
 
@@ -153,6 +153,6 @@ fn opened(analysis: Analysis) -> Result<Draft, AllocError>
     if analysis.gain() < 2 {
         return Ok(Draft { analysis });
     }
-    let analysis = analysis.open_gain(&Alone)?;
+    let analysis = analysis.open_gain()?;
     Ok(Draft { analysis })
 }

@@ -12,7 +12,7 @@ use Rattle.awari_block.specs.declared.notes.Kind.{Kind}
 use Rattle.awari_waves.specs.Ahead.{IsBoardOf, TellSettled}
 use Rattle.awari_waves.specs.Waves.{IsCodeFor, notes_by}
 use Rattle.awari_block.proofs.ListParts.{All-append_first}
-use Rattle.awari_waves.proofs.Telling.{code_still, row_tells, tells_append}
+use Rattle.awari_waves.proofs.Telling.{code_still, tells_append, tells_still}
 use Rattle.awari_heard.specs.Heard.{HearsNotes}
 
 -- a board that was settled is settled still
@@ -63,7 +63,7 @@ pub batch_tells : (old now next new : Part) (kind : Kind) (codes : List ℕ) (st
 batch_tells old now next new kind codes start end settles level order one rest =
     subst (λ (cs : List ℕ). HearsNotes (notes_by (stake_of old) kind cs) now new) (sym (drop_split codes start end order))
     (tells_append (stake_of old) kind (slice_range codes start end) (drop end codes) now next new level
-    (row_tells old now next kind (slice_range codes start end) (slice_range codes start end) settles.same refl one) rest)
+    (tells_still old now next kind (slice_range codes start end) settles.same one) rest)
 
 -- ---- boards are looked up ahead
 

@@ -1,5 +1,5 @@
 -- A chunk of fresh boards is spread.
-use Rattle.std.proofs.Common.{◌^◌, ◌≡◌, ℕ, ◌+◌, ◌-◌, ◌/◌, ◌%◌, ◌<◌, ◌≤◌, ◌==◌, ◌⊎◌, inl, inr, Bool, true, false, List, [], ◌∷◌, ◌++◌, length, get_or, map, sum, All, ℤ, pos, neg_ℤ, ◌<ℤ◌, Some, refl, sym, ap, subst, subst₂, ◌∙◌, arith, eqb-true}
+use Rattle.std.proofs.Common.{◌^◌, ◌≡◌, ℕ, ◌-◌, ◌/◌, ◌%◌, ◌<◌, ◌≤◌, ◌==◌, ◌⊎◌, inl, inr, Bool, true, false, List, [], ◌∷◌, ◌++◌, length, get_or, map, sum, All, ℤ, pos, neg_ℤ, ◌<ℤ◌, Some, refl, sym, ap, subst, subst₂, ◌∙◌, arith, eqb-true}
 use Rattle.std.proofs.lemmas.Int.{ints}
 use Rattle.std.proofs.lemmas.List.{get_or-map, length-map, map-append}
 use Rattle.std.proofs.lemmas.Bool.Decides.{nat_tests}
@@ -20,7 +20,7 @@ use Rattle.awari_scan.specs.Found.{Source, code_by, code_of}
 use Rattle.awari_heard.specs.Level.{AreHeard, no_part, part_at}
 use Rattle.awari_heard.proofs.SpreadBoards.{IsInjective, spread_before, spread_stays}
 use Rattle.awari_waves.specs.Lists.{AreDistinct}
-use Rattle.awari_waves.specs.Waves.{AreSourcesOf, CanAllHear, HearsFrom, IsCodeFor, AreSegments, AwaitsSpread, SettlesAll, codes_to, note_by, with_pending, both_by, notes_by}
+use Rattle.awari_waves.specs.Waves.{AllHear, AreSourcesOf, CanAllHear, IsCodeFor, AreSegments, AwaitsSpread, SettlesAll, codes_to, note_by, with_pending, notes_by}
 use Rattle.awari_waves.proofs.Sources.{IsFrom, Keeps, codes_distinct, codes_in, distinct_apart, distinct_first, distinct_second, in_codes, in_map, in_or_not, source_all, source_from, sources_distinct}
 use Rattle.awari_waves.proofs.Laying.{sources_both}
 use Rattle.awari_block.proofs.NoteLists.{heard_note, Has-append_cases, Has-append_left, Has-append_right, all_has}
@@ -166,27 +166,23 @@ module _ (stake : Stake) (span : ℕ) (old : List Part) (injective : IsInjective
   -- the blocks can hear what was found of both kinds
   pub can_hear : (lost won : List ℕ) (xs ys : List Source) (lost_notes won_notes : ℕ → List ℕ) → ((r : ℕ) → Has lost r → AwaitsSpread stake span old Lost r) → ((r : ℕ) → Has won r → AwaitsSpread stake span old Won r)
       → AreSourcesOf stake.level lost xs → AreSourcesOf stake.level won ys → ((j : ℕ) → lost_notes j ≡ codes_to span j xs) → ((j : ℕ) → won_notes j ≡ codes_to span j ys)
-      → stake.gain ≤ stake.level → stake.wave < 2 ^ 32 - 1 → length old < 2 ^ 64 → CanAllHear 0 lost_notes won_notes old
-  can_hear lost won xs ys lost_notes won_notes pend_lost pend_won found_lost found_won at_lost at_won inward near few = record {
-    numbers = omega (arith, few);
-    of_lost = λ i h. codes_fit Lost lost xs pend_lost found_lost i (lost_notes (0 + i)) (at_lost (0 + i) ∙ ap (λ n. codes_to span n xs) (start i));
-    of_won = λ i h. codes_fit Won won ys pend_won found_won i (won_notes (0 + i)) (at_won (0 + i) ∙ ap (λ n. codes_to span n ys) (start i));
+      → stake.gain ≤ stake.level → stake.wave < 2 ^ 32 - 1 → CanAllHear lost_notes won_notes old
+  can_hear lost won xs ys lost_notes won_notes pend_lost pend_won found_lost found_won at_lost at_won inward near = record {
+    of_lost = λ i h. codes_fit Lost lost xs pend_lost found_lost i (lost_notes i) (at_lost i);
+    of_won = λ i h. codes_fit Won won ys pend_won found_won i (won_notes i) (at_won i);
     ready = λ i h.
         let level = grid.level i h in
         let gain = grid.gain i h in
         let wave = grid.wave i h in
         (omega (arith, level, gain, inward), omega (arith, wave, near));
   }
-    where
-      start : (i : ℕ) → 0 + i ≡ i
-      start i = omega arith
 
   -- the lost boards of a chunk and the won ones, whose notes each block heard
   module _ (lost won rest : List ℕ) (xs ys : List Source) (lost_notes won_notes : ℕ → List ℕ) (new : List Part)
       (pend_lost : (r : ℕ) → Has lost r → AwaitsSpread stake span old Lost r) (pend_won : (r : ℕ) → Has won r → AwaitsSpread stake span old Won r)
       (found_lost : AreSourcesOf stake.level lost xs) (found_won : AreSourcesOf stake.level won ys)
       (at_lost : (j : ℕ) → lost_notes j ≡ codes_to span j xs) (at_won : (j : ℕ) → won_notes j ≡ codes_to span j ys)
-      (hears : HearsFrom 0 lost_notes won_notes old new) (distinct : AreDistinct ((lost ++ won) ++ rest)) where
+      (hears : AllHear lost_notes won_notes old new) (distinct : AreDistinct ((lost ++ won) ++ rest)) where
     abbrev everyone : List ℕ
     everyone = (lost ++ won) ++ rest
 
@@ -251,9 +247,7 @@ module _ (stake : Stake) (span : ℕ) (old : List Part) (injective : IsInjective
 
     told_block : (value : List ℕ → ℤ) (j : ℕ) (notes : List Note) → j < length old → IsTrueTo j notes → IsTallied value (part_at old j) notes → IsTallied value (part_at new j) (with_both j notes)
     told_block value j notes few truth tallied =
-        let start : 0 + j ≡ j = omega arith in
-        let tells : HearsNotes (lost_by j ++ won_by j) (part_at old j) (part_at new j) =
-        subst (λ n. HearsNotes (both_by (stake_of (part_at old j)) (lost_notes n) (won_notes n)) (part_at old j) (part_at new j)) start (hears.tells j few) in
+        let tells : HearsNotes (lost_by j ++ won_by j) (part_at old j) (part_at new j) = hears.tells j few in
         tells value notes (both_new j notes few truth) tallied
 
     -- ---- what is spread now
@@ -395,7 +389,7 @@ module _ (stake : Stake) (span : ℕ) (old : List Part) (injective : IsInjective
         )
 
 -- the blocks are the same
-pub settles_all : (lost won : ℕ → List ℕ) (old new : List Part) → HearsFrom 0 lost won old new → SettlesAll old new
+pub settles_all : (lost won : ℕ → List ℕ) (old new : List Part) → AllHear lost won old new → SettlesAll old new
 settles_all lost won old new hears = record { blocks = hears.blocks; settles = hears.settles; passed = hears.passed }
 
 pub grid_still : (stake : Stake) (span : ℕ) (old new : List Part) → AreSegments stake span old → SettlesAll old new → AreSegments stake span new

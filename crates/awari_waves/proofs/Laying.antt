@@ -1,20 +1,16 @@
 -- What is laid for the blocks.
-use Rattle.std.proofs.Common.{◌≡◌, ◌≢◌, ℕ, zero, suc, ◌+◌, ◌/◌, ◌<◌, ◌≤◌, ◌==◌, Bool, true, false, cond, List, [], ◌∷◌, ◌++◌, length, get_or, take, drop, map, filter, sum, refl, sym, ap, subst, ◌∙◌, arith, append_assoc, append-nil, eqb-true, set}
+use Rattle.std.proofs.Common.{◌≡◌, ◌≢◌, ℕ, ◌+◌, ◌/◌, ◌<◌, ◌≤◌, ◌==◌, Bool, true, false, cond, List, [], ◌∷◌, ◌++◌, length, get_or, map, filter, sum, refl, sym, ap, subst, ◌∙◌, arith, append_assoc, append-nil, eqb-true}
 use Rattle.std.proofs.lemmas.Bool.Decides.{nat_tests}
-use Rattle.std.proofs.lemmas.List.{length_push, take-append-drop}
+use Rattle.std.proofs.lemmas.List.{length_push}
 use Rattle.awari_board.specs.Rules.{IsBoard}
-use Rattle.awari_rank.specs.Rank.{rank_of, size_of}
-use Rattle.awari_block.specs.Notes.{IsQuietMove, Has}
+use Rattle.awari_rank.specs.Rank.{rank_of}
+use Rattle.awari_block.specs.Notes.{IsQuietMove}
 use Rattle.awari_unmove.specs.Predecessors.{IsPredecessors}
 use Rattle.awari_scan.specs.Found.{Lists, Source, code_of}
 use Rattle.awari_scan.proofs.Finding.{IsNext, next_source, none_left}
-use Rattle.awari_block.specs.declared.notes.Kind.{Kind}
 use Rattle.awari_waves.specs.Lists.{list_at, with_put}
-use Rattle.awari_waves.specs.Rows.{lists_by, notes_at}
-use Rattle.awari_waves.specs.declared.rows.Row.{Row}
-use Rattle.awari_waves.specs.Waves.{AreSourcesOf, CanFind, Finds, FindsFor, Puts, codes_to}
+use Rattle.awari_waves.specs.Waves.{AreSourcesOf, Finds, Puts, codes_to}
 use Rattle.awari_waves.proofs.ListLemmas.{with_put-at, with_put-other}
-use Rattle.awari_block.proofs.NoteLists.{Has-append_left, Has-append_right, all_has, has_all}
 
 pub codes_to-append : (span to : ℕ) (xs ys : List Source) → codes_to span to (xs ++ ys) ≡ codes_to span to xs ++ codes_to span to ys
 codes_to-append span to [] ys = refl
@@ -108,60 +104,3 @@ pub IsLaying-end : (span level rank : ℕ) (old now : List (List ℕ)) (q : List
 IsLaying-end span level rank old now q targets n k board stones at laying end =
     let all = none_left targets n k laying.seen laying.left laying.many laying.listed end in
     (laying.seen, (q, laying.seen, [], board, stones, at, subst (IsPredecessors q) all laying.predecessors, refl, sym (append-nil laying.seen)), laying.laid)
-
--- ---- several rows
-
-notes_append : (kind : Kind) (a b : List Row) (to : ℕ) → notes_at kind (a ++ b) to ≡ notes_at kind a to ++ notes_at kind b to
-notes_append kind [] b to = refl
-notes_append kind (row ∷ a) b to = ap (λ l. list_at (lists_by kind row) to ++ l) (notes_append kind a b to) ∙ sym (append_assoc (list_at (lists_by kind row) to) (notes_at kind a to) (notes_at kind b to))
-
--- what one row has, as that of several
-pub finds_one : (level span : ℕ) (ranks : List ℕ) (kind : Kind) (row : Row) → FindsFor level span ranks (list_at (lists_by kind row)) → FindsFor level span ranks (notes_at kind (row ∷ []))
-finds_one level span ranks kind row one = (one.0, one.1, λ to. append-nil (list_at (lists_by kind row) to) ∙ one.2 to)
-
-pub finds_pieces : (level span : ℕ) (ranks low high : List ℕ) (kind : Kind) (a b : List Row) → ranks ≡ low ++ high → FindsFor level span low (notes_at kind a) → FindsFor level span high (notes_at kind b)
-    → FindsFor level span ranks (notes_at kind (a ++ b))
-finds_pieces level span ranks low high kind a b is one two = (
-  one.0 ++ two.0,
-  subst (λ (rs : List ℕ). AreSourcesOf level rs (one.0 ++ two.0)) (sym is) (sources_both level low high one.0 two.0 one.1 two.1),
-  λ to. notes_append kind a b to ∙ ap (λ l. l ++ notes_at kind b to) (one.2 to) ∙ ap (λ l. codes_to span to one.0 ++ l) (two.2 to) ∙ sym (codes_to-append span to one.0 two.0),
-)
-
-pub can_find : (level span : ℕ) (ranks part : List ℕ) (rows few : ℕ) → ((x : ℕ) → Has part x → Has ranks x) → 1 ≤ few → CanFind level span ranks rows → CanFind level span part few
-can_find level span ranks part rows few among some can = record {
-  low = can.low;
-  inside = all_has (λ rank. rank < size_of level) part (λ x h. has_all (λ rank. rank < size_of level) ranks can.inside x (among x h));
-  blocks = can.blocks;
-  some = some;
-}
-
-halves : (ranks low high : List ℕ) (half : ℕ) → low ≡ take half ranks → high ≡ drop half ranks → ranks ≡ low ++ high
-halves ranks low high half front back = sym (ap (λ l. l ++ high) front ∙ ap (λ l. take half ranks ++ l) back ∙ take-append-drop half ranks)
-
-pub can_first : (level span : ℕ) (ranks low : List ℕ) (half rows few : ℕ) → low ≡ take half ranks → 1 ≤ few → CanFind level span ranks rows → CanFind level span low few
-can_first level span ranks low half rows few is =
-    can_find level span ranks low rows few (λ x h. subst (λ (l : List ℕ). Has l x) (sym (halves ranks low (drop half ranks) half is refl)) (Has-append_left low (drop half ranks) x h))
-
-pub can_second : (level span : ℕ) (ranks high : List ℕ) (half rows few : ℕ) → high ≡ drop half ranks → 1 ≤ few → CanFind level span ranks rows → CanFind level span high few
-can_second level span ranks high half rows few is =
-    can_find level span ranks high rows few (λ x h. subst (λ (l : List ℕ). Has l x) (sym (halves ranks (take half ranks) high half refl is)) (Has-append_right (take half ranks) high x h))
-
-pub finds_split : (level span : ℕ) (ranks low high : List ℕ) (half : ℕ) (kind : Kind) (a b : List Row) → low ≡ take half ranks → high ≡ drop half ranks → FindsFor level span low (notes_at kind a)
-    → FindsFor level span high (notes_at kind b) → FindsFor level span ranks (notes_at kind (a ++ b))
-finds_split level span ranks low high half kind a b front back = finds_pieces level span ranks low high kind a b (halves ranks low high half front back)
-
--- and those that found are the first of all rows
-pub finds_taken : (level span n : ℕ) (ranks : List ℕ) (kind : Kind) (found idle : List Row) → length found ≡ n → FindsFor level span ranks (notes_at kind found) → FindsFor level span ranks (notes_at kind (take n (found ++ idle)))
-finds_taken level span n ranks kind found idle long finds = subst (λ (rows : List Row). FindsFor level span ranks (notes_at kind rows)) (sym (taken found n long)) finds
-  where
-    taken : (rows : List Row) (n : ℕ) → length rows ≡ n → take n (rows ++ idle) ≡ rows
-    taken [] zero is = refl
-    taken [] (suc n) is = absurd (omega (arith, is))
-    taken (row ∷ rows) zero is = absurd (omega (arith, is))
-    taken (row ∷ rows) (suc n) is = ap (λ l. row ∷ l) (taken rows n (omega (arith, is)))
-
--- the first row alone found them
-pub finds_first : (level span : ℕ) (ranks : List ℕ) (kind : Kind) (found idle : List Row) (row : Row) → length found ≡ 1 → FindsFor level span ranks (λ to. list_at (lists_by kind row) to)
-    → FindsFor level span ranks (notes_at kind (take 1 (set found 0 row ++ idle)))
-finds_first level span ranks kind [] idle row long finds = absurd (omega (arith, long))
-finds_first level span ranks kind (old ∷ found) idle row long finds = (finds.0, finds.1, λ to. append-nil _ ∙ finds.2 to)

@@ -10,7 +10,6 @@ pub mod Opened
 pub mod EachPart
 pub mod Nearest
 pub mod Cutting
-pub mod Stretches
 pub mod Stages
 pub mod Ahead
 pub mod Heard

@@ -1,8 +1,8 @@
 -- A level that is cut into blocks of one length.
-use Rattle.std.proofs.Common.{◌≡◌, ℕ, suc, ◌+◌, ◌*◌, ◌/◌, ◌<◌, ◌≤◌, inl, inr, List, length, ap, ◌∙◌, arith, min}
+use Rattle.std.proofs.Common.{◌≡◌, ℕ, suc, ◌+◌, ◌*◌, ◌/◌, ◌%◌, ◌<◌, ◌≤◌, inl, inr, List, length, ap, ◌∙◌, arith, min}
 use Rattle.std.proofs.lemmas.Bool.{cases_lt, cases_eq}
-use Rattle.std.proofs.lemmas.Nat.{div_below, mul-le}
-use Rattle.std.proofs.Math.Nat.{suc-mul, div-mul-le_self, lt-div-mul-add}
+use Rattle.std.proofs.lemmas.Nat.{div-add-mod', div_below, mod_below, mul-le}
+use Rattle.std.proofs.Math.Nat.{add-mul, div-mul-le_self, lt-div-mul-add, mul-le-mul_right, one-mul, suc-mul}
 use Rattle.awari_block.specs.Part.{Part}
 use Rattle.awari_block.specs.declared.stakes.Stake.{Stake}
 use Rattle.awari_waves.specs.Waves.{AreSegments}
@@ -52,3 +52,24 @@ grid_of stake span parts some are = record {
       let b = inside.1 in
       div_at rank i span some (omega (arith, start, a)) (omega (arith, start, end, a, b, e));
 }
+
+-- ---- how many blocks have all boards
+
+pub spans_all : (count len size : ℕ) → 0 < size → count ≡ len / size + min 1 (len % size) → len ≤ count * size
+spans_all count len size p is =
+    let q = len / size in let r = len % size in
+    let a : q * size + r ≡ len = div-add-mod' len size in
+    let b : r < size = mod_below len size p in
+    elim (cases_lt 0 r) [
+      | inl h ↦ let e : count ≡ q + 1 = omega arith in let w = ap (λ n. n * size) e ∙ add-mul q 1 size in let o = one-mul size in omega (arith, a, b, w, o)
+      | inr h ↦ let e : count ≡ q = omega arith in let w = ap (λ n. n * size) e in omega (arith, a, w, h)
+    ]
+
+pub begun_all : (count len size k : ℕ) → 0 < size → count ≡ len / size + min 1 (len % size) → k < count → k * size < len
+begun_all count len size k p is less =
+    let q = len / size in let r = len % size in
+    let a : q * size + r ≡ len = div-add-mod' len size in
+    elim (cases_lt 0 r) [
+      | inl h ↦ let up = mul-le-mul_right size (let e : k ≤ q = omega arith in e) in omega (arith, a, up, h)
+      | inr h ↦ let up = mul-le-mul_right size (let e : k + 1 ≤ q = omega arith in e) in let w = add-mul k 1 size in let o = one-mul size in omega (arith, a, up, w, o, p)
+    ]

@@ -17,10 +17,9 @@ pub record AreAtFront (front : Front) (parts : List Part) : Type 0 where
   pub numbers : length parts < 2 ^ 32
   pub grid : AreSegments front.stake (2 ^ front.log) parts
 
--- the index is that of the level, and there is a row
-pub record IsRoomFor (front : Front) (room : Room) : Type 0 where
-  pub index : room.index ≡ front.stake.level
-  pub some : 1 ≤ length room.rows.items
+-- the index is that of the level
+abbrev pub IsRoomFor : Front → Room → Type 0
+IsRoomFor front room = room.index ≡ front.stake.level
 
 -- the boards of the chunk were taken from the fresh ones and are not spread yet
 pub record AwaitSpread (front : Front) (parts : List Part) (chunk : Chunk) : Type 0 where

@@ -1,7 +1,6 @@
 pub mod Rows
 pub mod Waves
 pub mod Each
-pub mod Scanned
 pub mod Analyses
 pub mod AnalysisFields
 pub mod Fronts

@@ -3,10 +3,10 @@
 -- How to think of it. A wave is spread chunk by chunk. The boards of a chunk are taken from the fresh
 -- ones of their segments, so they await spread: settled, not fresh, and not heard of. While they do, they
 -- count as fresh (with_pending); then AreHeard holds as if they had not been taken. First their notes are
--- found: each row has for each segment the codes of the predecessors of its share of the boards, each once
--- (FindsFor). Then each segment hears its codes of all rows, those of lost boards before those of won ones
--- (HearsFrom). Each of these notes is new, since no board of the chunk was spread before and a board has
--- each predecessor once. So SpreadsChunk follows: AreHeard holds again, with the chunk's boards spread.
+-- found: a row has for each segment the codes of their predecessors, each once (FindsFor). Then each segment
+-- hears its codes, those of lost boards before those of won ones (AllHear). Each of these notes is new, since
+-- no board of the chunk was spread before and a board has each predecessor once. So SpreadsChunk follows:
+-- AreHeard holds again, with the chunk's boards spread.
 use Rattle.std.specs.Prelude.{◌≡◌, ℕ, ◌+◌, ◌/◌, ◌%◌, ◌==◌, ◌-◌, ◌^◌, ◌<◌, ◌≤◌, List, [], ◌∷◌, ◌++◌, length, map, filter, sum, ℤ, Some, All}
 use Rattle.awari_board.specs.Rules.{IsBoard}
 use Rattle.awari_rank.specs.Rank.{rank_of, size_of}
@@ -76,28 +76,26 @@ Puts span sources old new = (to : ℕ) → list_at new to ≡ list_at old to ++ 
 abbrev pub Finds : ℕ → ℕ → List ℕ → List (List ℕ) → List (List ℕ) → Type 0
 Finds level span ranks old new = (sources : List Source) × AreSourcesOf level ranks sources × Puts span sources old new
 
--- what a search needs, for so many rows
-pub record CanFind (level span : ℕ) (ranks : List ℕ) (rows : ℕ) : Type 0 where
+-- what a search needs
+pub record CanFind (level span : ℕ) (ranks : List ℕ) : Type 0 where
   pub low : level ≤ 24
   pub inside : All (λ rank. rank < size_of level) ranks
   pub blocks : 0 < span
-  pub some : 1 ≤ rows
 
 -- ---- what is heard
 
--- what blocks need to hear theirs, the first of them being block `first`
-pub record CanAllHear (first : ℕ) (lost won : ℕ → List ℕ) (parts : List Part) : Type 0 where
-  pub numbers : first + length parts < 2 ^ 64
-  pub of_lost : (i : ℕ) → i < length parts → All (IsCodeFor (part_at parts i)) (lost (first + i))
-  pub of_won : (i : ℕ) → i < length parts → All (IsCodeFor (part_at parts i)) (won (first + i))
+-- what blocks need to hear theirs
+pub record CanAllHear (lost won : ℕ → List ℕ) (parts : List Part) : Type 0 where
+  pub of_lost : (i : ℕ) → i < length parts → All (IsCodeFor (part_at parts i)) (lost i)
+  pub of_won : (i : ℕ) → i < length parts → All (IsCodeFor (part_at parts i)) (won i)
   pub ready : (i : ℕ) → i < length parts → IsReady (part_at parts i)
 
--- and so did each block, the first of them being block `first`
-pub record HearsFrom (first : ℕ) (lost won : ℕ → List ℕ) (old new : List Part) : Type 0 where
+-- and so did each block
+pub record AllHear (lost won : ℕ → List ℕ) (old new : List Part) : Type 0 where
   pub blocks : length new ≡ length old
   pub settles : (i : ℕ) → i < length old → Settles (part_at old i) (part_at new i)
   pub passed : (i : ℕ) → i < length old → StaysPassed (part_at old i) (part_at new i)
-  pub tells : (i : ℕ) → i < length old → HearsNotes (both_by (stake_of (part_at old i)) (lost (first + i)) (won (first + i))) (part_at old i) (part_at new i)
+  pub tells : (i : ℕ) → i < length old → HearsNotes (both_by (stake_of (part_at old i)) (lost i) (won i)) (part_at old i) (part_at new i)
 
 -- ---- a chunk
 

@@ -1,6 +1,6 @@
 //! The analysis of a level as one value.
 
-ghost use Rattle.std.specs.Prelude.{◌≡◌, ℕ, ℤ, ◌+◌, ◌-◌, ◌^◌, ◌<◌, ◌≤◌, List, All, IfNone, IfOk, IfSome, length, vec_len};
+ghost use Rattle.std.specs.Prelude.{◌≡◌, ℕ, ℤ, ◌+◌, ◌-◌, ◌^◌, ◌<◌, ◌≤◌, List, All, IfNone, IfOk, IfSome, length};
 ghost use Rattle.awari_block.specs.Counts.{spread_in};
 ghost use Rattle.awari_block.specs.Part.{IsClosed};
 ghost use Rattle.awari_table.specs.Images.{table_of};
@@ -8,17 +8,13 @@ ghost use Rattle.awari_table.specs.declared.TheConstants.{HIGHEST_LEVEL};
 ghost use Rattle.awari_heard.specs.Level.{AreHeard, AreWhole};
 ghost use Rattle.awari_waves.specs.Each.{AreFrom, KeepsBoards, NoneAreFresh, HasDue, PassesFirst, SameFresh};
 ghost use Rattle.awari_block.specs.Each.{EachTo};
-ghost use Rattle.awari_waves.specs.Fronts.{IsRoomFor};
-ghost use Rattle.awari_waves.specs.declared.chunks.Front.{Front as FrontView};
 
-use crate::chunks::{Chunk, Front, Room};
+use crate::chunks::{Front, Room};
 use crate::dues::{are_from_wave, due_of};
-use crate::openings::open_waves;
-use crate::rows::Row;
+use crate::openings::{open_all, open_waves};
 use crate::scanning::scanned_segments;
 use crate::segments::Segment;
 use crate::waves::{spread_some, spread_wave};
-use crate::workers::Workers;
 use awari_block::{ClosedPart, Stake};
 use awari_index::Index;
 use awari_rank::size;
@@ -50,14 +46,9 @@ impl Model for Analysis {
 }
 
 impl Analysis {
-    /// The shelf's next level with no gain open, to be built by these workers. Condition: the shelf
-    /// has at most `HIGHEST_LEVEL` levels. Refused only if memory runs out.
-    pub fn scan<W: Workers>(
-        workers: &W,
-        alloc: Global,
-        shelf: &Shelf,
-    ) -> Result<Analysis, AllocError>
-        requires ready { W.ready }
+    /// The shelf's next level with no gain open. Condition: the shelf has at most `HIGHEST_LEVEL` levels.
+    /// Refused only if memory runs out.
+    pub fn scan(alloc: Global, shelf: &Shelf) -> Result<Analysis, AllocError>
         requires low { length shelf.now ≤ HIGHEST_LEVEL }
         ensures level { IfOk result (λ all. all.level ≡ length shelf.now) }
         ensures gain { IfOk result (λ all. all.gain ≡ length shelf.now + 1) }
@@ -67,8 +58,8 @@ impl Analysis {
         let level = shelf.levels();
         let log = log_of(size(level));
         let index = Index::of(alloc, level)?;
-        let segments = scanned_segments(workers, alloc, shelf, &index, 1 << log)?;
-        let room = room_for(alloc, index, workers.threads())?;
+        let segments = scanned_segments(alloc, shelf, &index, 1 << log)?;
+        let room = Room::new(alloc, index);
         let stake = Stake {
             level,
             gain: level + 1,
@@ -132,8 +123,7 @@ impl Analysis {
     /// settled, and so become fresh; settled ones keep value and distance. Conditions: a greater gain
     /// than 1 is open, or none, and no board is fresh. Refused if memory for the fresh boards runs out;
     /// then the level is lost.
-    pub fn open_gain<W: Workers>(self, workers: &W) -> Result<Analysis, AllocError>
-        requires ready { W.ready }
+    pub fn open_gain(self) -> Result<Analysis, AllocError>
         requires more { 2 ≤ self.gain }
         requires idle { NoneAreFresh self.parts }
         ensures level { IfOk result (λ after. after.level ≡ self.level) }
@@ -148,7 +138,7 @@ impl Analysis {
             room,
         } = self;
         let gain = front.stake.gain - 1;
-        workers.open_gains(gain, segments.as_mut_slice())?;
+        open_all(gain, segments.as_mut_slice())?;
         let stake = Stake {
             gain,
             wave: 0,
@@ -166,8 +156,7 @@ impl Analysis {
     /// Settled boards keep value and distance. Conditions: a gain is open, the open wave is not
     /// greater, no fresh board is nearer, and the distance is below the greatest u32. Refused if
     /// memory runs out; then the level is lost.
-    pub fn spread<W: Workers>(self, workers: &W, dist: u32) -> Result<Analysis, AllocError>
-        requires ready { W.ready }
+    pub fn spread(self, dist: u32) -> Result<Analysis, AllocError>
         requires opened { self.gain ≤ self.level }
         requires timely { self.wave ≤ dist }
         requires near { dist < 2 ^ 32 - 1 }
@@ -180,7 +169,7 @@ impl Analysis {
         ensures farther { IfOk result (λ after. AreFrom (dist + 1) after.parts) }
     {
         let opened = self.at_distance(dist);
-        let after = opened.spread_open(workers)?;
+        let after = opened.spread_open()?;
         Ok(after)
     }
 
@@ -188,13 +177,7 @@ impl Analysis {
     /// on until so many that are lost are spread, or so many that are won, or all. Those of a segment are
     /// spread together. Settled boards keep value and distance. Conditions: as for `spread`. Refused if
     /// memory runs out; then the level is lost.
-    pub fn spread_some<W: Workers>(
-        self,
-        workers: &W,
-        dist: u32,
-        boards: usize,
-    ) -> Result<Analysis, AllocError>
-        requires ready { W.ready }
+    pub fn spread_some(self, dist: u32, boards: usize) -> Result<Analysis, AllocError>
         requires opened { self.gain ≤ self.level }
         requires timely { self.wave ≤ dist }
         requires near { dist < 2 ^ 32 - 1 }
@@ -210,17 +193,12 @@ impl Analysis {
         ensures first { IfOk result (λ after. PassesFirst dist self.parts after.parts) }
     {
         let opened = self.at_distance(dist);
-        let after = opened.spread_some_open(workers, boards)?;
+        let after = opened.spread_some_open(boards)?;
         Ok(after)
     }
 
     /// Spreads so many fresh boards of the open wave.
-    fn spread_some_open<W: Workers>(
-        self,
-        workers: &W,
-        boards: usize,
-    ) -> Result<Analysis, AllocError>
-        requires ready { W.ready }
+    fn spread_some_open(self, boards: usize) -> Result<Analysis, AllocError>
         requires opened { self.gain ≤ self.level }
         requires near { self.wave < 2 ^ 32 - 1 }
         ensures level { IfOk result (λ after. after.level ≡ self.level) }
@@ -236,7 +214,7 @@ impl Analysis {
             mut segments,
             mut room,
         } = self;
-        spread_some(workers, front, boards, &mut room, segments.as_mut_slice())?;
+        spread_some(front, boards, &mut room, segments.as_mut_slice())?;
         are_from_wave(front.stake.wave, segments.as_slice());
         Ok(Analysis {
             front,
@@ -246,8 +224,7 @@ impl Analysis {
     }
 
     /// Spreads all fresh boards of the open wave.
-    fn spread_open<W: Workers>(self, workers: &W) -> Result<Analysis, AllocError>
-        requires ready { W.ready }
+    fn spread_open(self) -> Result<Analysis, AllocError>
         requires opened { self.gain ≤ self.level }
         requires near { self.wave < 2 ^ 32 - 1 }
         ensures level { IfOk result (λ after. after.level ≡ self.level) }
@@ -262,7 +239,7 @@ impl Analysis {
             mut segments,
             mut room,
         } = self;
-        spread_wave(workers, front, &mut room, segments.as_mut_slice())?;
+        spread_wave(front, &mut room, segments.as_mut_slice())?;
         Ok(Analysis {
             front,
             segments,
@@ -346,28 +323,4 @@ pub fn log_of(boards: u32) -> u32
         return 22;
     }
     (boards / 48).max(1).ilog2().clamp(12, 18)
-}
-
-/// Room to spread the boards of the index's level, for so many threads.
-fn room_for(alloc: Global, index: Index, threads: usize) -> Result<Room, AllocError>
-    requires { 1 ≤ threads }
-    ensures { IfOk result (λ room. (front : FrontView) → front.stake.level ≡ index → IsRoomFor front room) }
-{
-    let rows = rows(alloc, threads)?;
-    let chunk = Chunk {
-        lost: Vec::new(alloc),
-        won: Vec::new(alloc),
-    };
-    Ok(Room { index, chunk, rows })
-}
-
-/// So many rows with no note yet.
-fn rows(alloc: Global, count: usize) -> Result<Vec<Row>, AllocError>
-    ensures { IfOk result (λ rows. vec_len rows ≡ count) }
-{
-    let mut rows = Vec::with_capacity(alloc, count)?;
-    for _row in 0..count {
-        rows.push(Row::new(alloc))?;
-    }
-    Ok(rows)
 }

@@ -1,21 +1,18 @@
-//! A level that is built in segments, by one thread or by several that scan, open and spread them side
-//! by side.
+//! A level that is built in segments by one thread.
 //!
 //! An [`Analysis`] is a level in work. Its boards are cut into segments of one length, and the fresh
-//! boards of a distance are spread a chunk after the other. The notes of a chunk are found first: each
-//! thread lays those of some boards into a row of its own, a list for each segment. Then they are
-//! heard, each segment by one thread. `specs/Waves.antt` says what the segments are told of a chunk;
-//! nothing is on its way before it or after it. The calls take memory for the segments, nine bytes a
-//! board, for fresh boards and for notes. They are refused only if that runs out; then the level is
-//! lost.
+//! boards of a distance are spread a chunk after the other. The notes of a chunk are found first, and
+//! laid into a [`Row`], a list for each segment. Then they are heard, segment by segment.
+//! `specs/Waves.antt` says what the segments are told of a chunk; nothing is on its way before it or
+//! after it. The calls take memory for the segments, nine bytes a board, for fresh boards and for
+//! notes. They are refused only if that runs out; then the level is lost. None needs a handle.
 //!
-//! [`Workers`] says who works: [`Alone`] needs no handle and starts no thread, and [`Together`] has a
-//! handle and starts some. The clauses are the same for both.
+//! The threads of `awari_crew` build a level of the same segments and rows.
 //!
 //! Level 0, of which no gain is opened, in `crates/awari_owner_tests/src/examples.rt`:
 //!
 //!     fn level_0_needs_no_gain(rt: HostRuntime) -> Result<(), Fail> {
-//!         let analysis = Analysis::scan(&Alone, rt.alloc(), &Shelf::empty())?;
+//!         let analysis = Analysis::scan(rt.alloc(), &Shelf::empty())?;
 //!         let standing = (analysis.gain(), analysis.due(0));
 //!         expect_equal(&rt, "gain and due", standing, (1, None));
 //!         let parts = analysis.close(rt.alloc())?;
@@ -35,7 +32,6 @@ mod rows;
 mod scanning;
 mod segments;
 mod waves;
-mod workers;
 
 pub use analyses::{Analysis, closed_all, log_of};
 pub use chunks::{Chunk, Finder, find_row};
@@ -43,4 +39,3 @@ pub use dues::due_from;
 pub use rows::Row;
 pub use scanning::{numbered_segment, segments_in};
 pub use segments::{HEARD_AT_ONCE, Segment, hear_next, settled_among};
-pub use workers::{Alone, Together, Workers};

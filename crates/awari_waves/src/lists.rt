@@ -1,4 +1,4 @@
-//! Numbers in lists by a number: the fresh boards of a block by distance, the notes of a task by block.
+//! Numbers in lists by a number: the fresh boards of a block by distance, the notes of a row by block.
 
 ghost use Rattle.std.specs.Prelude.{◌≡◌, ℕ, ◌+◌, ◌++◌, ◌^◌, ◌<◌, ◌≤◌, [], ◌∷◌, All, IfNone, IfOk, IfSome, List, OnOk, OnErr, length};
 ghost use Rattle.awari_block.specs.Blocks.{due_dist};

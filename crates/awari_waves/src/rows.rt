@@ -1,4 +1,4 @@
-//! The notes that threads found, a row each.
+//! The notes that were found, by segment.
 
 ghost use Rattle.std.specs.Prelude.{◌≡◌};
 ghost use Rattle.awari_waves.specs.Lists.{list_at};
@@ -8,7 +8,7 @@ use crate::lists::Lists;
 use awari_block::Kind;
 use std::alloc::Global;
 
-/// The notes that one thread found, of lost and of won boards, with a list for each segment.
+/// The notes that were found, of lost and of won boards, with a list for each segment.
 #[derive(Drop)]
 pub struct Row {
     pub lost: Lists,

@@ -1,12 +1,11 @@
 //! A segment: a block of the boards of a level, with the fresh ones in lists by distance.
 
 ghost use Rattle.std.specs.Prelude.{◌≡◌, ◌/◌, ◌%◌, ◌^◌, ◌-◌, ◌<◌, ◌≤◌, IsTrue, true, All, OnOk, length};
-ghost use Rattle.awari_block.specs.declared.notes.Kind.TheVariants.{Lost, Won};
 ghost use Rattle.awari_block.specs.Part.{stored_at};
 ghost use Rattle.awari_block.specs.Cells.{is_settled};
 ghost use Rattle.awari_block.specs.Boards.{HearsNote, Settles, stake_of};
 ghost use Rattle.awari_waves.specs.Ahead.{TellSettled};
-ghost use Rattle.awari_waves.specs.Rows.{notes_at};
+ghost use Rattle.awari_waves.specs.Lists.{list_at};
 ghost use Rattle.awari_waves.specs.Waves.{IsCodeFor, IsReady, StaysPassed, both_by, notes_by};
 ghost use Rattle.awari_heard.specs.Heard.{HearsNotes};
 
@@ -24,38 +23,19 @@ pub const HEARD_AT_ONCE: usize = 64;
 /// lists by distance.
 pub type Segment = Boards<ByDistance>;
 
-/// The segment hears the notes that these rows have for it, by its number among the segments: those of
-/// lost boards, and then those of won ones. Refused if memory for the boards that they settle runs out;
-/// then the level is lost.
-pub fn hear_rows(segment: &mut Segment, number: usize, rows: &[Row]) -> Result<(), AllocError>
-    requires lost { All (IsCodeFor segment.old) (notes_at Lost rows.now number) }
-    requires won { All (IsCodeFor segment.old) (notes_at Won rows.now number) }
+/// The segment hears the notes that the row has for it, by its number among the segments: those of lost
+/// boards, and then those of won ones. Refused if memory for the boards that they settle runs out; then
+/// the level is lost.
+pub fn hear_row(segment: &mut Segment, number: usize, row: &Row) -> Result<(), AllocError>
+    requires lost { All (IsCodeFor segment.old) (list_at row.now.lost number) }
+    requires won { All (IsCodeFor segment.old) (list_at row.now.won number) }
     requires ready { IsReady segment.old }
     ensures settles { OnOk result (Settles segment.old segment.new) }
     ensures passed { OnOk result (StaysPassed segment.old segment.new) }
-    ensures tells { OnOk result (HearsNotes (both_by (stake_of segment.old) (notes_at Lost rows.now number) (notes_at Won rows.now number)) segment.old segment.new) }
+    ensures tells { OnOk result (HearsNotes (both_by (stake_of segment.old) (list_at row.now.lost number) (list_at row.now.won number)) segment.old segment.new) }
 {
-    hear_kind(segment, number, Kind::Lost, rows)?;
-    hear_kind(segment, number, Kind::Won, rows)?;
-    Ok(())
-}
-
-/// It hears those of one kind.
-fn hear_kind(
-    segment: &mut Segment,
-    number: usize,
-    kind: Kind,
-    rows: &[Row],
-) -> Result<(), AllocError>
-    requires codes { All (IsCodeFor segment.old) (notes_at kind rows.now number) }
-    requires ready { IsReady segment.old }
-    ensures settles { OnOk result (Settles segment.old segment.new) }
-    ensures passed { OnOk result (StaysPassed segment.old segment.new) }
-    ensures tells { OnOk result (HearsNotes (notes_by (stake_of segment.old) kind (notes_at kind rows.now number)) segment.old segment.new) }
-{
-    for row in rows {
-        hear(segment, kind, row.list(kind, number))?;
-    }
+    hear(segment, Kind::Lost, row.list(Kind::Lost, number))?;
+    hear(segment, Kind::Won, row.list(Kind::Won, number))?;
     Ok(())
 }
 

@@ -11,7 +11,6 @@ ghost use Rattle.awari_waves.specs.Waves.{IsPassed, IsPartlySpread};
 
 use crate::chunks::{Chunk, Front, Room, spread_chunk};
 use crate::segments::Segment;
-use crate::workers::Workers;
 use awari_block::Kind;
 use std::alloc::AllocError;
 
@@ -20,13 +19,11 @@ const CHUNK: usize = 262144;
 
 /// Spreads the fresh boards of the open wave, of all segments. Those of a chunk are moved into
 /// the room. Refused if memory runs out; then the level is lost.
-pub fn spread_wave<W: Workers>(
-    workers: &W,
+pub fn spread_wave(
     front: Front,
     room: &mut Room,
     segments: &mut [Segment],
 ) -> Result<(), AllocError>
-    requires ready { W.ready }
     requires front { AreAtFront front segments.old }
     requires room { IsRoomFor front room.old }
     ensures heard { OnOk result ((value : List ℕ → ℤ) → AreHeard value segments.old → AreHeard value segments.new) }
@@ -40,21 +37,19 @@ pub fn spread_wave<W: Workers>(
     let mut from: usize = 0;
     while from < segments.len() {
         from = gather(from, CHUNK, &mut room.chunk, segments)?;
-        spread(workers, front, room, segments)?;
+        spread(front, room, segments)?;
     }
     Ok(())
 }
 
 /// Spreads fresh boards of the open wave, until so many of a kind are, or all. Those of a segment that
 /// are of a kind are spread together. Refused if memory runs out; then the level is lost.
-pub fn spread_some<W: Workers>(
-    workers: &W,
+pub fn spread_some(
     front: Front,
     boards: usize,
     room: &mut Room,
     segments: &mut [Segment],
 ) -> Result<(), AllocError>
-    requires ready { W.ready }
     requires front { AreAtFront front segments.old }
     requires room { IsRoomFor front room.old }
     ensures heard { OnOk result ((value : List ℕ → ℤ) → AreHeard value segments.old → AreHeard value segments.new) }
@@ -66,7 +61,7 @@ pub fn spread_some<W: Workers>(
     room.chunk.lost.clear();
     room.chunk.won.clear();
     gather(0, boards.max(1), &mut room.chunk, segments)?;
-    spread(workers, front, room, segments)?;
+    spread(front, room, segments)?;
     Ok(())
 }
 
@@ -117,13 +112,7 @@ fn give(k: usize, chunk: &mut Chunk, segments: &mut [Segment]) -> Result<(), All
 }
 
 /// Spreads the chunk, which is empty then.
-fn spread<W: Workers>(
-    workers: &W,
-    front: Front,
-    room: &mut Room,
-    segments: &mut [Segment],
-) -> Result<(), AllocError>
-    requires ready { W.ready }
+fn spread(front: Front, room: &mut Room, segments: &mut [Segment]) -> Result<(), AllocError>
     requires front { AreAtFront front segments.old }
     requires room { IsRoomFor front room.old }
     requires pending { AwaitSpread front segments.old room.old.chunk }
@@ -132,7 +121,7 @@ fn spread<W: Workers>(
     ensures empty { OnOk result ((room.new.chunk.lost.items ≡ []) × (room.new.chunk.won.items ≡ [])) }
     ensures room { OnOk result (IsRoomFor front room.new) }
 {
-    spread_chunk(workers, front, room, segments)?;
+    spread_chunk(front, room, segments)?;
     room.chunk.lost.clear();
     room.chunk.won.clear();
     Ok(())

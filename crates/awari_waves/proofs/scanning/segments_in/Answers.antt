@@ -1,4 +1,4 @@
-use Rattle.awari_waves.proofs.Stretches.{begun_all, spans_all}
+use Rattle.awari_waves.proofs.Spans.{begun_all, spans_all}
 use Rattle.awari_waves.proofs.scanning.segments_in.Goals as goal
 
 pub returns : goal.returns

@@ -6,39 +6,39 @@ use Rattle.awari_waves.specs.Each.{KeepsBoards}
 use Rattle.awari_heard.specs.Level.{no_part}
 
 pub loop-from-init : goal.loop-from-init
-loop-from-init g c = record {
+loop-from-init c = record {
   waving = waving_none c.args.front.stake (2 ^ c.args.front.log) c.args.segments.now _ _ c.clear.ensures.items c.clear-2.ensures.items c.requires.front.grid;
   empty = (c.clear.ensures.items, c.clear-2.ensures.items);
-  room = record { index = c.requires.room.index; some = c.requires.room.some };
+  room = c.requires.room;
 }
 
 pub spread-requires-clause-front : goal.spread-requires-clause-front
-spread-requires-clause-front g c =
+spread-requires-clause-front c =
     front_still c.args.front c.args.segments.now c.gather.new.segments _ _ _ c.requires.front (c.in_ok-from.ensures.waving c.args.front.stake (2 ^ c.args.front.log) c.args.segments.now c.loop-from.invariant.waving)
 
 pub spread-requires-clause-pending : goal.spread-requires-clause-pending
-spread-requires-clause-pending g c =
+spread-requires-clause-pending c =
     let waving = c.in_ok-from.ensures.waving c.args.front.stake (2 ^ c.args.front.log) c.args.segments.now c.loop-from.invariant.waving in
     record { lost = waving.of_lost; won = waving.of_won }
 
 pub loop-from-preserved : goal.loop-from-preserved
-loop-from-preserved g c = record {
+loop-from-preserved c = record {
   waving = c.in_ok-spread.ensures.waving c.args.segments.now _ (c.in_ok-from.ensures.waving c.args.front.stake (2 ^ c.args.front.log) c.args.segments.now c.loop-from.invariant.waving);
   empty = c.in_ok-spread.ensures.empty;
   room = c.in_ok-spread.ensures.room;
 }
 
 pub returns-clause-heard : goal.returns-clause-heard
-returns-clause-heard g c =
+returns-clause-heard c =
     waving_end c.args.front.stake (2 ^ c.args.front.log) _ c.args.segments.now c.loop-from.segments _ _ c.loop-from.invariant.empty.0 c.loop-from.invariant.empty.1 c.loop-from.invariant.waving
 
 pub returns-clause-passed : goal.returns-clause-passed
-returns-clause-passed g c =
+returns-clause-passed c =
     let end : length c.loop-from.segments ≤ c.loop-from.from = (let t = c.loop-from-test.false in omega (arith, t)) in
     all_passed c.args.front.stake (2 ^ c.args.front.log) c.loop-from.from c.args.segments.now c.loop-from.segments _ _ end c.loop-from.invariant.waving
 
 pub returns-clause-front : goal.returns-clause-front
-returns-clause-front g c = front_still c.args.front c.args.segments.now c.loop-from.segments _ _ _ c.requires.front c.loop-from.invariant.waving
+returns-clause-front c = front_still c.args.front c.args.segments.now c.loop-from.segments _ _ _ c.requires.front c.loop-from.invariant.waving
 
 pub returns-clause-same : goal.returns-clause-same
-returns-clause-same g c = each_at KeepsBoards no_part _ _ c.loop-from.invariant.waving.blocks c.loop-from.invariant.waving.same
+returns-clause-same c = each_at KeepsBoards no_part _ _ c.loop-from.invariant.waving.blocks c.loop-from.invariant.waving.same

@@ -29,7 +29,7 @@ invariant_of-result-2 c =
       numbers = before.numbers;
       grid = subst (AreSegments (record a.front.stake { wave = c.args.dist }) (2 ^ a.front.log)) (sym items) (waved_grid a.front.stake (2 ^ a.front.log) c.args.dist a.segments.items new before.grid opened);
       whole = subst (AreWhole a.front.stake.level) (sym items) (whole_still a.front.stake.level a.segments.items new (waved_same c.args.dist a.segments.items new opened) before.whole);
-      room = record { index = before.room.index; some = before.room.some };
+      room = before.room;
     }
 
 pub returns-clause-heard : goal.returns-clause-heard

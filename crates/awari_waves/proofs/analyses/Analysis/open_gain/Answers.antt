@@ -12,12 +12,12 @@ use Rattle.awari_waves.proofs.analyses.Analysis.open_gain.Goals as goal
 use Rattle.awari_block.specs.Boards.{OpensBoards}
 
 pub invariant_of-result : goal.invariant_of-result
-invariant_of-result g c =
+invariant_of-result c =
     let a = c.self.inside in
     let before = c.self.invariant in
-    let new = c.open_gains.new.segments in
+    let new = c.open_all.new.segments in
     let more : 2 ≤ a.front.stake.gain = search rules in
-    let opened : EachTo (OpensBoards (a.front.stake.gain - 1)) a.segments.items new = subst (λ l. EachTo (OpensBoards (a.front.stake.gain - 1)) l new) c.as_mut_slice.ensures.value c.in_ok-open_gains.ensures.opened in
+    let opened : EachTo (OpensBoards (a.front.stake.gain - 1)) a.segments.items new = subst (λ l. EachTo (OpensBoards (a.front.stake.gain - 1)) l new) c.as_mut_slice.ensures.value c.in_ok-open_all.ensures.opened in
     let items : (with_items a.segments new).items ≡ new = kept_items (OpensBoards (a.front.stake.gain - 1)) a.segments new opened in
     record {
       low = before.low;
@@ -27,23 +27,23 @@ invariant_of-result g c =
       numbers = before.numbers;
       grid = subst (AreSegments (record a.front.stake { gain = a.front.stake.gain - 1; wave = 0 }) (2 ^ a.front.log)) (sym items) (opened_grid a.front.stake (2 ^ a.front.log) (a.front.stake.gain - 1) a.segments.items new before.grid opened);
       whole = subst (AreWhole a.front.stake.level) (sym items) (whole_still a.front.stake.level a.segments.items new (opened_same (a.front.stake.gain - 1) a.segments.items new opened) before.whole);
-      room = record { index = before.room.index; some = before.room.some };
+      room = before.room;
     }
 
 pub returns-clause-heard : goal.returns-clause-heard
-returns-clause-heard g c value heard =
+returns-clause-heard c value heard =
     let a = c.self.inside in
-    let new = c.open_gains.new.segments in
+    let new = c.open_all.new.segments in
     let more : 2 ≤ a.front.stake.gain = search rules in
-    let opened : EachTo (OpensBoards (a.front.stake.gain - 1)) a.segments.items new = subst (λ l. EachTo (OpensBoards (a.front.stake.gain - 1)) l new) c.as_mut_slice.ensures.value c.in_ok-open_gains.ensures.opened in
+    let opened : EachTo (OpensBoards (a.front.stake.gain - 1)) a.segments.items new = subst (λ l. EachTo (OpensBoards (a.front.stake.gain - 1)) l new) c.as_mut_slice.ensures.value c.in_ok-open_all.ensures.opened in
     let items : (with_items a.segments new).items ≡ new = kept_items (OpensBoards (a.front.stake.gain - 1)) a.segments new opened in
     let can = can_open a.front.stake (2 ^ a.front.log) a.segments.items c.self.invariant.grid (a.front.stake.gain - 1) (omega (arith, more)) (omega (arith, more)) (subst (λ (v : AnalysisView). NoneAreFresh v.parts) (sym c.self.view_is) c.requires.idle) in
     subst (AreHeard value) (sym items) (opened_heard value (a.front.stake.gain - 1) a.segments.items new can opened (subst (λ (v : AnalysisView). AreHeard value v.parts) (sym c.self.view_is) heard))
 
 pub returns-clause-stays : goal.returns-clause-stays
-returns-clause-stays g c =
+returns-clause-stays c =
     let a = c.self.inside in
-    let new = c.open_gains.new.segments in
-    let opened : EachTo (OpensBoards (a.front.stake.gain - 1)) a.segments.items new = subst (λ l. EachTo (OpensBoards (a.front.stake.gain - 1)) l new) c.as_mut_slice.ensures.value c.in_ok-open_gains.ensures.opened in
+    let new = c.open_all.new.segments in
+    let opened : EachTo (OpensBoards (a.front.stake.gain - 1)) a.segments.items new = subst (λ l. EachTo (OpensBoards (a.front.stake.gain - 1)) l new) c.as_mut_slice.ensures.value c.in_ok-open_all.ensures.opened in
     let items : (with_items a.segments new).items ≡ new = kept_items (OpensBoards (a.front.stake.gain - 1)) a.segments new opened in
     subst (λ (v : AnalysisView). EachTo KeepsBoards v.parts (with_items a.segments new).items) c.self.view_is (subst (EachTo KeepsBoards a.segments.items) (sym items) (keeps_opened (a.front.stake.gain - 1) a.segments.items new opened))

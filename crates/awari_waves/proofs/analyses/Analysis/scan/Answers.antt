@@ -1,11 +1,11 @@
-use Rattle.std.proofs.Common.{◌*◌, ◌%◌, ◌^◌, ◌≡◌, ◌+◌, ◌≤◌, length, sym, subst, arith}
+use Rattle.std.proofs.Common.{◌*◌, ◌%◌, ◌^◌, ◌≡◌, ◌+◌, ◌≤◌, length, sym, subst, ◌∙◌, arith}
 use Rattle.std.proofs.lemmas.Nat.{pow_below}
 use Rattle.awari_heard.specs.Level.{AreWhole}
 use Rattle.awari_waves.specs.Waves.{AreSegments}
 use Rattle.awari_waves.proofs.analyses.Analysis.scan.Goals as goal
 
 pub invariant_of-result : goal.invariant_of-result
-invariant_of-result g c =
+invariant_of-result c =
     let number = c.levels-level.ensures.levels in
     let low : c.levels-level.result ≤ 24 = omega (arith, number, c.requires.low) in
     let numbers = c.in_ok-segments.ensures.numbers.1 in
@@ -20,5 +20,5 @@ invariant_of-result g c =
       grid = subst (λ n. AreSegments (record { level = n; gain = n + 1; wave = 0 }) (2 ^ c.log_of-log.result) c.in_ok-segments.segments.items) (sym number)
           (subst (λ s. AreSegments (record { level = length c.args.shelf.now; gain = length c.args.shelf.now + 1; wave = 0 }) s c.in_ok-segments.segments.items) span c.in_ok-segments.ensures.grid);
       whole = subst (λ n. AreWhole n c.in_ok-segments.segments.items) (sym number) c.in_ok-segments.ensures.whole;
-      room = c.in_ok-room.ensures _ (sym c.in_ok-index.ensures);
+      room = c.new-room.ensures ∙ c.in_ok-index.ensures;
     }

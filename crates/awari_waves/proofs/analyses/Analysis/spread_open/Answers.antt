@@ -12,7 +12,7 @@ use Rattle.awari_waves.proofs.Stages.{from_passed, kept_items}
 use Rattle.awari_waves.proofs.analyses.Analysis.spread_open.Goals as goal
 
 pub invariant_of-result : goal.invariant_of-result
-invariant_of-result g c =
+invariant_of-result c =
     let a = c.self.inside in
     let before = c.self.invariant in
     let new = c.spread_wave.new.segments in
@@ -30,7 +30,7 @@ invariant_of-result g c =
     }
 
 pub returns-clause-heard : goal.returns-clause-heard
-returns-clause-heard g c value heard =
+returns-clause-heard c value heard =
     let a = c.self.inside in
     let new = c.spread_wave.new.segments in
     let same : EachTo SameBlock a.segments.items new = same_each a.segments.items new (subst (λ l. EachTo KeepsBoards l new) c.as_mut_slice.ensures.value c.in_ok-spread_wave.ensures.same) in
@@ -39,7 +39,7 @@ returns-clause-heard g c value heard =
     subst (AreHeard value) (sym items) (c.in_ok-spread_wave.ensures.heard value (subst (AreHeard value) (sym c.as_mut_slice.ensures.value) opened))
 
 pub returns-clause-farther : goal.returns-clause-farther
-returns-clause-farther g c =
+returns-clause-farther c =
     let a = c.self.inside in
     let new = c.spread_wave.new.segments in
     let same : EachTo SameBlock a.segments.items new = same_each a.segments.items new (subst (λ l. EachTo KeepsBoards l new) c.as_mut_slice.ensures.value c.in_ok-spread_wave.ensures.same) in
@@ -48,7 +48,7 @@ returns-clause-farther g c =
     subst (AreFrom (c.args.self.wave + 1)) (sym items) (from_passed a.front.stake (2 ^ a.front.log) new c.in_ok-spread_wave.ensures.front.grid c.args.self.wave at c.in_ok-spread_wave.ensures.passed)
 
 pub returns-clause-stays : goal.returns-clause-stays
-returns-clause-stays g c =
+returns-clause-stays c =
     let a = c.self.inside in
     let new = c.spread_wave.new.segments in
     let same : EachTo KeepsBoards a.segments.items new = subst (λ l. EachTo KeepsBoards l new) c.as_mut_slice.ensures.value c.in_ok-spread_wave.ensures.same in

@@ -5,10 +5,10 @@ use Rattle.awari_waves.proofs.analyses.Analysis.spread_some.Goals as goal
 use Rattle.awari_waves.proofs.Keeping.{keeps_each}
 
 pub returns-clause-first : goal.returns-clause-first
-returns-clause-first g c =
+returns-clause-first c =
     let mid = c.at_distance-opened.result.parts in
     let new = c.in_ok-after.after.parts in
     passes_before c.args.dist c.args.self.parts mid new c.at_distance-opened.ensures.fresh (subst (λ w. PassesFirst w mid new) c.at_distance-opened.ensures.wave c.in_ok-after.ensures.first)
 
 pub returns-clause-stays : goal.returns-clause-stays
-returns-clause-stays g c = keeps_each _ _ _ c.at_distance-opened.ensures.stays c.in_ok-after.ensures.stays
+returns-clause-stays c = keeps_each _ _ _ c.at_distance-opened.ensures.stays c.in_ok-after.ensures.stays

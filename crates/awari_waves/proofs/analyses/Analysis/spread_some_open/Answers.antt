@@ -12,7 +12,7 @@ use Rattle.awari_waves.proofs.Stages.{kept_items}
 use Rattle.awari_waves.proofs.analyses.Analysis.spread_some_open.Goals as goal
 
 pub invariant_of-result : goal.invariant_of-result
-invariant_of-result g c =
+invariant_of-result c =
     let a = c.self.inside in
     let before = c.self.invariant in
     let new = c.spread_some.new.segments in
@@ -30,7 +30,7 @@ invariant_of-result g c =
     }
 
 pub returns-clause-heard : goal.returns-clause-heard
-returns-clause-heard g c value heard =
+returns-clause-heard c value heard =
     let a = c.self.inside in
     let new = c.spread_some.new.segments in
     let same : EachTo SameBlock a.segments.items new = same_each a.segments.items new (subst (λ l. EachTo KeepsBoards l new) c.as_mut_slice.ensures.value c.in_ok-spread_some.ensures.same) in
@@ -39,7 +39,7 @@ returns-clause-heard g c value heard =
     subst (AreHeard value) (sym items) (c.in_ok-spread_some.ensures.heard value (subst (AreHeard value) (sym c.as_mut_slice.ensures.value) opened))
 
 pub returns-clause-stays : goal.returns-clause-stays
-returns-clause-stays g c =
+returns-clause-stays c =
     let a = c.self.inside in
     let new = c.spread_some.new.segments in
     let same : EachTo KeepsBoards a.segments.items new = subst (λ l. EachTo KeepsBoards l new) c.as_mut_slice.ensures.value c.in_ok-spread_some.ensures.same in
@@ -47,7 +47,7 @@ returns-clause-stays g c =
     subst (λ (v : AnalysisView). EachTo KeepsBoards v.parts (with_items a.segments new).items) c.self.view_is (subst (EachTo KeepsBoards a.segments.items) (sym items) same)
 
 pub returns-clause-first : goal.returns-clause-first
-returns-clause-first g c =
+returns-clause-first c =
     let a = c.self.inside in
     let new = c.spread_some.new.segments in
     let same : EachTo KeepsBoards a.segments.items new = subst (λ l. EachTo KeepsBoards l new) c.as_mut_slice.ensures.value c.in_ok-spread_some.ensures.same in
