@@ -30,4 +30,4 @@ pub use alone::{build_alone, build_alone_with_progress};
 pub use awari_pace::{MOST_OWNERS, MOST_ROOM, MOST_SWEEPS, Pace};
 pub use faults::BuildFault;
 pub use owned::{Watch, build_level, build_level_with_progress};
-pub use together::{build_together, build_together_with_progress};
+pub use together::{build_by_crew, build_together, build_together_with_progress};

@@ -18,7 +18,7 @@ use std::alloc::Global;
 use std::thread::Threads;
 
 /// The most threads that share the work.
-const MOST_MEMBERS: usize = 16;
+const MOST_MEMBERS: u8 = 16;
 
 /// A member that looked so often for a letter leaves. It gives its processor away in between, so that is
 /// some minutes, and no member is away so long.
@@ -59,32 +59,53 @@ pub fn build_together_with_progress<R: Threads + Sync, P: Progress>(
     ensures too_high { (result ≡ Err BuildFault.TooHigh) ↔ (HIGHEST_LEVEL < length shelf.now) }
     ensures fault { IfErr result (λ fault. (fault ≡ BuildFault.TooHigh) ⊎ ((fault ≡ BuildFault.Memory) ⊎ IsStopped P.stops fault)) }
 {
+    let crew = Crew {
+        members: threads.min(usize::from(MOST_MEMBERS)) as u8,
+        patience: PATIENCE,
+    };
+    build_by_crew(rt, alloc, shelf, crew, progress)
+}
+
+/// Does what `build_together_with_progress` does, by this crew; a crew of more than 16 members is one of
+/// 16. One that gives up, since a member waited in vain or a thread could not be started, costs no more than
+/// time: this thread then builds the level alone, from the beginning.
+pub fn build_by_crew<R: Threads + Sync, P: Progress>(
+    rt: &R,
+    alloc: Global,
+    shelf: &Shelf,
+    crew: Crew,
+    progress: &mut P,
+) -> Result<Level, BuildFault>
+    ensures next { IfOk result (IsNextLevel shelf.now) }
+    ensures too_high { (result ≡ Err BuildFault.TooHigh) ↔ (HIGHEST_LEVEL < length shelf.now) }
+    ensures fault { IfErr result (λ fault. (fault ≡ BuildFault.TooHigh) ⊎ ((fault ≡ BuildFault.Memory) ⊎ IsStopped P.stops fault)) }
+{
     begin_next(shelf, progress)?;
-    let parts = settled_together(rt, alloc, shelf, threads, progress)?;
+    let parts = settled_together(rt, alloc, shelf, crew, progress)?;
     progress.hear(Told::Planned);
-    let image = finish_parallel(rt, alloc, shelf, parts, threads.max(1))?;
+    let threads = usize::from(crew.members.min(MOST_MEMBERS));
+    let image = finish_parallel(rt, alloc, shelf, parts, threads)?;
     Ok(level_of(shelf, image))
 }
 
-/// The segments of the shelf's next level, with all gains closed. One thread needs no crew. And if a crew
-/// gives up, this thread builds the level alone, from the beginning.
+/// The segments of the shelf's next level, with all gains closed. One member needs no crew.
 fn settled_together<R: Threads + Sync, P: Progress>(
     rt: &R,
     alloc: Global,
     shelf: &Shelf,
-    threads: usize,
+    crew: Crew,
     progress: &mut P,
 ) -> Result<Vec<ClosedPart>, BuildFault>
     requires low { length shelf.now ≤ HIGHEST_LEVEL }
     ensures settled { IfOk result (λ parts. AreSettled shelf.now parts.items) }
     ensures refused { IfErr result (λ fault. (fault ≡ BuildFault.Memory) ⊎ IsStopped P.stops fault) }
 {
-    if threads < 2 {
+    if crew.members < 2 {
         return settled_parts(alloc, shelf, progress);
     }
     let crew = Crew {
-        members: threads.min(MOST_MEMBERS) as u8,
-        patience: PATIENCE,
+        members: crew.members.min(MOST_MEMBERS),
+        ..crew
     };
     match closed_by_crew(rt, alloc, shelf, crew, progress) {
         Ok(built) => match built {

@@ -1,7 +1,8 @@
 //! A crew builds a level, or leaves it.
 
-use crate::expect::expect;
+use crate::expect::{expect, expect_equal};
 use crate::shelves::levels_below;
+use awari_build::build_by_crew;
 use awari_crew::{Crew, closed_by_crew};
 use awari_heard::Silent;
 use awari_table::{HIGHEST_LEVEL, Shelf};
@@ -50,8 +51,14 @@ fn crews_of_any_size_close_level_6(rt: HostRuntime) -> Result<(), Fail> {
 }
 
 #[test]
-fn members_that_never_look_leave(rt: HostRuntime) -> Result<(), Fail> {
+fn members_that_never_look_leave_and_the_level_is_built(rt: HostRuntime) -> Result<(), Fail> {
     let shelf = levels_below(rt.alloc(), 3)?;
     expect(&rt, "left", !is_closed_by(&rt, rt.alloc(), &shelf, 2, 0));
+    let crew = Crew {
+        members: 2,
+        patience: 0,
+    };
+    let built = build_by_crew(&rt, rt.alloc(), &shelf, crew, &mut Silent)?;
+    expect_equal(&rt, "lost", built.counts().lost, 179);
     Ok(())
 }
