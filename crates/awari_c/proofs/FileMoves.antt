@@ -9,8 +9,8 @@ use Rattle.awari_table.specs.Images.{entry_of, no_image, table_of}
 use Rattle.awari_table.specs.declared.images.Entry.{Entry}
 use Rattle.awari_table.specs.declared.images.Image.{Image}
 use Rattle.awari_c.specs.Files.{AreFilesOf, TellsEntry, entry_in}
-use Rattle.awari_c.specs.Told.{told_entry}
-use Rattle.awari_c.specs.declared.answers.PlainEntry.{PlainEntry}
+use Rattle.awari_plain.specs.Told.{told_entry}
+use Rattle.awari_plain.specs.declared.answers.PlainEntry.{PlainEntry}
 
 -- what all levels say of a board is what the image of its stones says
 of_image : (levels : List Image) (board : List ℕ) → entry_of levels board ≡ entry_in (slice_index_or levels (sum board) no_image) board

@@ -1,6 +1,5 @@
 pub mod FileMoves
+pub mod Handling
 pub mod Mapping
 pub mod Numbers
 pub mod Runs
-pub mod Sixes
-pub mod Values

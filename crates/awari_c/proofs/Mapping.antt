@@ -4,8 +4,8 @@ use Rattle.std.specs.List.{flat_map, AllByRecursion}
 use Rattle.std.specs.Int.{w8, w32, cast_signed, from_be_bytes}
 use Rattle.std.proofs.lemmas.Int.{to_z-of_z, ints}
 use Rattle.std.proofs.lemmas.Nat.{from_be_bytes-to_be_bytes_4}
-use Rattle.awari_c.specs.declared.answers.PlainEntry.{PlainEntry}
-use Rattle.awari_c.specs.Told.{told_entry}
+use Rattle.awari_plain.specs.declared.answers.PlainEntry.{PlainEntry}
+use Rattle.awari_plain.specs.Told.{told_entry}
 use Rattle.std.proofs.lemmas.List.{take_at, length-append}
 use Rattle.std.proofs.lemmas.List.Concat.{flat_map-cons}
 use Rattle.std.proofs.Math.Seq.{drop-append-add}

@@ -10,8 +10,8 @@ use Rattle.awari_file.specs.Reading.{file_in}
 use Rattle.awari_file.specs.declared.contents.Loaded.{Loaded}
 use Rattle.awari_file.specs.declared.faults.FileFault.{FileFault}
 use Rattle.awari_folder.specs.NextFile.{IsOld, IsOverAnother}
-use Rattle.awari_c.specs.Told.{told_entry}
-use Rattle.awari_c.specs.declared.answers.PlainEntry.{PlainEntry}
+use Rattle.awari_plain.specs.Told.{told_entry}
+use Rattle.awari_plain.specs.declared.answers.PlainEntry.{PlainEntry}
 
 -- what an image says of a board of its level
 abbrev pub entry_in : Image → List ℕ → Entry

@@ -1,4 +1,2 @@
-pub mod Boards
 pub mod Files
 pub mod Owned
-pub mod Told

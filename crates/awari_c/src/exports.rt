@@ -4,20 +4,20 @@ ghost use Rattle.std.specs.Prelude.{◌≡◌, ◌≢◌, ◌<◌, ◌≤◌, �
 ghost use Rattle.awari_table.specs.Images.{entry_of, table_of};
 ghost use Rattle.awari_theory.specs.Truth.{TellsTruth};
 ghost use Rattle.awari_folder.specs.NextFile.{IsNextFile};
-ghost use Rattle.awari_c.specs.Boards.{IsAnswer, IsAnswerWithRoom};
-ghost use Rattle.awari_c.specs.Owned.{stored_in, levels_in, digest_in};
-ghost use Rattle.awari_c.specs.Told.{told_entry, IsRefusal, TellsLine, TellsMove};
-ghost use Rattle.awari_c.specs.declared.answers.PlainMove.{PlainMove as AMove};
+ghost use Rattle.awari_plain.specs.Boards.{IsAnswer, IsAnswerWithRoom};
+ghost use Rattle.awari_plain.specs.Owned.{stored_in, levels_in, digest_in};
+ghost use Rattle.awari_plain.specs.Told.{told_entry, IsRefusal, TellsLine, TellsMove};
+ghost use Rattle.awari_plain.specs.declared.answers.PlainMove.{PlainMove as AMove};
 
-use crate::answers::{
-    NOT_YET, PlainEntry, PlainFault, PlainMove, told_entry, told_fault, told_moves,
-};
 use crate::handles::{Handle, put, take};
-use crate::lines::{copy_to, line_of};
 use crate::storing::{add_first, add_to, shared_levels};
 use awari_board::{Board, BoardFault};
 use awari_folder::FolderFault;
 use awari_packed::PackedBoard;
+use awari_plain::{
+    NOT_YET, PlainEntry, PlainFault, PlainMove, copy_to, line_of, told_entry, told_fault,
+    told_moves,
+};
 use awari_play::LineFault;
 use awari_theory::shelves_tell_the_truth;
 use std::alloc::Global;

@@ -2,10 +2,10 @@
 
 ghost use Rattle.std.specs.Prelude.{◌≡◌, true, false, Some, None, option_map};
 ghost use Rattle.awari_folder.specs.declared.loading.Stored.{Stored};
-ghost use Rattle.awari_c.specs.Owned.{stored_in};
+ghost use Rattle.awari_plain.specs.Owned.{stored_in};
 
-use crate::loose::Loose;
 use awari_folder::Stored;
+use awari_plain::Loose;
 use std::alloc::Global;
 use std::marker::Model;
 use std::mem::replace;
@@ -32,7 +32,7 @@ impl Model for Handle {
 unsafe impl Send for Handle {}
 
 impl Handle {
-    ghost use Rattle.awari_c.specs.Owned.{stored_in};
+    ghost use Rattle.awari_plain.specs.Owned.{stored_in};
 
     /// The handle that holds no levels.
     pub(crate) fn closed() -> Handle

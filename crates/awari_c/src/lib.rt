@@ -10,20 +10,17 @@
 //! handle and puts them back, and threads share levels by a handle each.
 #![tactic(auto)]
 
-mod answers;
 mod boards;
 mod exports;
 mod files;
 mod handles;
-mod lines;
-mod loose;
 mod many;
 mod storing;
 #[cfg(test)]
 mod tests;
 mod texts;
 
-pub use answers::{PlainEntry, PlainFault, PlainMove};
+pub use awari_plain::{PlainEntry, PlainFault, PlainMove};
 pub use boards::{awari_board, awari_legal, awari_parse, awari_play, awari_rank, awari_size};
 pub use exports::{
     awari_add_level, awari_close, awari_levels, awari_line, awari_probe, awari_probe_moves,

@@ -3,13 +3,13 @@
 ghost use Rattle.std.specs.Prelude.{◌≡◌, ◌≢◌, ◌≤◌, ◌<◌, ◌++◌, List, ℕ, IfErr, IfOk, Some, drop, length, map, min, slice_get, sum, take, [], ⊤};
 ghost use Rattle.awari_table.specs.Images.{entry_of};
 ghost use Rattle.awari_theory.specs.Truth.{TellsTruth};
-ghost use Rattle.awari_c.specs.Boards.{IsAnswer};
-ghost use Rattle.awari_c.specs.Owned.{stored_in, levels_in};
-ghost use Rattle.awari_c.specs.Told.{told_entries, told_entry, IsTold};
+ghost use Rattle.awari_plain.specs.Boards.{IsAnswer};
+ghost use Rattle.awari_plain.specs.Owned.{stored_in, levels_in};
+ghost use Rattle.awari_plain.specs.Told.{told_entries, told_entry, IsTold};
 
-use crate::answers::{PlainEntry, told_entry};
 use crate::handles::{Handle, put, take};
 use awari_board::Board;
+use awari_plain::{PlainEntry, told_entry};
 use awari_table::Shelf;
 use awari_theory::shelves_tell_the_truth;
 use std::alloc::Global;

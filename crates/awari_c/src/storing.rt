@@ -3,7 +3,7 @@
 ghost use Rattle.std.specs.Prelude.{◌≡◌, IfErr, IfSome, OnErr, OnOk, None, Some, [], false, replicate};
 ghost use Rattle.awari_theory.specs.Truth.{TellsTruth};
 ghost use Rattle.awari_folder.specs.NextFile.{IsNextFile, IsFileFault};
-ghost use Rattle.awari_c.specs.Owned.{stored_in, levels_in, digest_in};
+ghost use Rattle.awari_plain.specs.Owned.{stored_in, levels_in, digest_in};
 
 use crate::handles::{Handle, put};
 use awari_folder::{FolderFault, Stored};

@@ -1,6 +1,5 @@
 //! Each export on its happy path: what no clause says, since a clause may speak of a refusal too.
 
-use crate::answers::{PlainEntry, PlainFault, PlainMove};
 use crate::boards::{awari_board, awari_legal, awari_parse, awari_play, awari_rank, awari_size};
 use crate::exports::{
     awari_add_level, awari_close, awari_levels, awari_line, awari_probe, awari_probe_moves,
@@ -10,6 +9,7 @@ use crate::files::{awari_check_file, awari_probe_file, awari_probe_moves_files};
 use crate::handles::Handle;
 use crate::many::awari_probe_many;
 use crate::texts::{awari_text_of, awari_version};
+use awari_plain::{PlainEntry, PlainFault, PlainMove};
 use std::alloc::Global;
 use std::process::Abort;
 

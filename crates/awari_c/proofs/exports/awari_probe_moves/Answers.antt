@@ -3,8 +3,8 @@ use Rattle.std.specs.Prelude.{slice_index_or}
 use Rattle.awari_table.specs.Images.{table_of}
 use Rattle.awari_table.specs.declared.images.Image.{Image}
 use Rattle.awari_folder.specs.declared.loading.Stored.{Stored}
-use Rattle.awari_c.specs.Told.{TellsMove}
-use Rattle.awari_c.proofs.Sixes.{levels-of_stored}
+use Rattle.awari_plain.specs.Told.{TellsMove}
+use Rattle.awari_plain.proofs.Sixes.{levels-of_stored}
 use Rattle.awari_c.proofs.exports.awari_probe_moves.Goals as goal
 
 pub returns-clause-moves : goal.returns-clause-moves

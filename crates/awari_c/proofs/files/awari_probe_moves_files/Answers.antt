@@ -1,7 +1,7 @@
 use Rattle.std.proofs.Common.{ℕ, List, subst}
 use Rattle.std.specs.Prelude.{slice_index_or}
 use Rattle.awari_table.specs.Images.{table_of}
-use Rattle.awari_c.specs.Told.{TellsMove}
+use Rattle.awari_plain.specs.Told.{TellsMove}
 use Rattle.awari_c.proofs.files.awari_probe_moves_files.Goals as goal
 
 pub returns-clause-moves : goal.returns-clause-moves

@@ -2,7 +2,7 @@ use Rattle.std.proofs.Common.{ℕ, ◌<◌, take, drop, sym, ap, ◌∙◌, subs
 use Rattle.std.specs.Prelude.{slice_index_or}
 use Rattle.awari_rank.specs.Rank.{size_of}
 use Rattle.awari_table.specs.Images.{no_entry}
-use Rattle.awari_c.specs.Told.{told_entry}
+use Rattle.awari_plain.specs.Told.{told_entry}
 use Rattle.awari_c.proofs.Mapping.{told_in_file}
 use Rattle.awari_c.proofs.files.entry_at.Goals as goal
 

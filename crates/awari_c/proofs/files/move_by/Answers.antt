@@ -1,7 +1,7 @@
 use Rattle.std.proofs.Common.{rules, ◌≡◌, ◌<◌, List, ℕ, ap, arith, Bor, map, sum, sym, true≢false, ◌∙◌, []}
 use Rattle.std.specs.Prelude.{length, slice_index_or}
 use Rattle.std.proofs.lemmas.List.{length-map}
-use Rattle.awari_c.specs.declared.answers.PlainMove.{PlainMove}
+use Rattle.awari_plain.specs.declared.answers.PlainMove.{PlainMove}
 use Rattle.awari_c.proofs.FileMoves.{told_by_levels, worth_is}
 use Rattle.awari_c.proofs.files.move_by.Goals as goal
 

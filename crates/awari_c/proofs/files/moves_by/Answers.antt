@@ -1,6 +1,6 @@
 use Rattle.awari_table.specs.Images.{table_of}
-use Rattle.awari_c.specs.Told.{TellsMove}
-use Rattle.awari_c.proofs.Sixes.{six}
+use Rattle.awari_plain.specs.Told.{TellsMove}
+use Rattle.awari_plain.proofs.Sixes.{six}
 use Rattle.awari_c.proofs.files.moves_by.Goals as goal
 
 pub returns : goal.returns

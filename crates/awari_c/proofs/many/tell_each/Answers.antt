@@ -1,8 +1,8 @@
 use Rattle.std.proofs.Common.{rules, ◌<◌, ◌++◌, ◌∙◌, ap, drop, length, List, map, ℕ, [], set, sum, take}
 use Rattle.std.specs.Prelude.{slice_index_or}
 use Rattle.awari_table.specs.Images.{entry_of}
-use Rattle.awari_c.specs.Told.{told_entry}
-use Rattle.awari_c.specs.declared.answers.PlainEntry.{PlainEntry}
+use Rattle.awari_plain.specs.Told.{told_entry}
+use Rattle.awari_plain.specs.declared.answers.PlainEntry.{PlainEntry}
 use Rattle.awari_c.proofs.Runs.{one_more, put_next}
 use Rattle.awari_c.proofs.many.tell_each.Goals as goal
 

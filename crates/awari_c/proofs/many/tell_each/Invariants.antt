@@ -1,6 +1,6 @@
 use Rattle.std.proofs.Common.{◌≡◌, ◌<◌, ◌++◌, [], ℕ, drop, length, min, sum, take}
 use Rattle.std.specs.Prelude.{slice_index_or}
-use Rattle.awari_c.specs.Told.{told_entries}
+use Rattle.awari_plain.specs.Told.{told_entries}
 use Rattle.awari_c.proofs.many.tell_each.Given as goal
 
 abbrev pub invariant-loop-place : goal.invariant-loop-place

@@ -10,7 +10,8 @@ use Rattle.std.proofs.Crossing.{frees}
 use Rattle.awari_folder.specs.declared.loading.Stored.{Stored}
 use Rattle.awari_folder.specs.contracts.loading.Stored as stored
 use Rattle.awari_folder.proofs.loading.Stored.TheSendSync.{the_send}
-use Rattle.awari_c.specs.Owned.{heap, owned}
+use Rattle.awari_plain.specs.Owned.{heap}
+use Rattle.awari_c.specs.Owned.{owned}
 use Rattle.awari_c.specs.contracts.handles.Handle.{the_row, the_type}
 
 owned_keyless : (is_open : Bool) (at : Ptr) (x : Stored) → Keyless (owned is_open at x)

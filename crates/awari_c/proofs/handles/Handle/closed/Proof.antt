@@ -15,7 +15,8 @@ use denote.Steps.{nothing}
 use denote.Triple.Entry.{alive}
 use denote.Triple.Walked.{walk_of}
 use Rattle.std.proofs.raw_atomic.Walks.{proved, leaves}
-use Rattle.awari_c.proofs.Values.{both, handle_in}
+use Rattle.awari_plain.proofs.Values.{both}
+use Rattle.awari_c.proofs.Handling.{handle_in}
 use Rattle.awari_c.specs.contracts.handles.Handle.closed.{ended, clauses}
 use Rattle.awari_c.specs.contracts.handles.Handle.closed.Key.{name as #self}
 use Rattle.awari_c.proofs.handles.Handle.closed.Statement.{statement}

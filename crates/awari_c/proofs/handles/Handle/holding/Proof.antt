@@ -23,7 +23,8 @@ use Rattle.std.proofs.alloc.Global.TheLaws as heap_laws
 use Rattle.std.specs.contracts.impls.GlobalAllocator.TheImpl.{ghosts}
 use Rattle.std.proofs.raw_atomic.Walks.{proved_at, leaves}
 use Rattle.awari_folder.specs.contracts.loading.Stored as stored
-use Rattle.awari_c.proofs.Values.{both, Loose, loose_good, loose_out, handle_in}
+use Rattle.awari_plain.proofs.Values.{both, Loose, loose_good, loose_out}
+use Rattle.awari_c.proofs.Handling.{handle_in}
 use Rattle.awari_c.specs.contracts.handles.Handle.holding.{ended, clauses}
 use Rattle.awari_c.specs.contracts.handles.Handle.holding.Key.{name as #self}
 use Rattle.awari_c.proofs.handles.Handle.holding.Statement.{statement}

@@ -36,8 +36,10 @@ use Rattle.std.proofs.raw_atomic.Walks.{proved_at, leaves}
 use Rattle.std_alloc.proofs.ResultValues.{and_tt}
 use Rattle.awari_folder.specs.contracts.loading.Stored as stored
 use Rattle.std_alloc.specs.Box.Ownership.{box_owns}
-use Rattle.awari_c.specs.Owned.{block, owned, stored_in}
-use Rattle.awari_c.proofs.Values.{both, both_tt, Held, Loose, loose_in, handle_out}
+use Rattle.awari_plain.specs.Owned.{block, stored_in}
+use Rattle.awari_c.specs.Owned.{owned}
+use Rattle.awari_plain.proofs.Values.{both, both_tt, Loose, loose_in}
+use Rattle.awari_c.proofs.Handling.{Held, handle_out}
 use Rattle.awari_c.specs.contracts.handles.Handle.into_loose.{ended, clauses}
 use Rattle.awari_c.specs.contracts.handles.Handle.into_loose.Key.{name as #self}
 use Rattle.awari_c.proofs.handles.Handle.into_loose.Statement.{statement}

@@ -8,8 +8,8 @@ use std::marker::Model;
 
 /// What a box holds, with the pointer in sight.
 pub struct Loose<T, A: Allocator> {
-    pub(crate) at: *mut T,
-    pub(crate) alloc: A,
+    pub at: *mut T,
+    pub alloc: A,
     pub ghost value: { T },
 }
 
@@ -19,7 +19,7 @@ impl<T, A: Allocator> Model for Loose<T, A> {
 
 impl<T: Drop, A: Allocator> Loose<T, A> {
     /// The box taken apart.
-    pub(crate) fn of(value: Box<T, A>) -> Loose<T, A>
+    pub fn of(value: Box<T, A>) -> Loose<T, A>
         ensures { result.value ≡ value.value }
     {
         let (at, alloc) = Box::into_raw_with_allocator(value);
@@ -27,7 +27,7 @@ impl<T: Drop, A: Allocator> Loose<T, A> {
     }
 
     /// The box again.
-    pub(crate) fn into_box(self) -> Box<T, A>
+    pub fn into_box(self) -> Box<T, A>
         ensures { result.value ≡ self.value }
     {
         let Loose { at, alloc } = self;

@@ -32,13 +32,13 @@ use Rattle.std_alloc.specs.Box.Ownership.{box_owns}
 use Rattle.std_alloc.proofs.BoxSteps.Form as box
 use Rattle.std_alloc.proofs.BoxSteps.Steps.{box_out, box_in}
 use Rattle.std.proofs.raw_atomic.Walks.{proved_at, leaves}
-use Rattle.awari_c.proofs.Values.{both, loose_good, loose_in}
+use Rattle.awari_plain.proofs.Values.{both, loose_good, loose_in}
 use Rattle.std_alloc.specs.contracts.boxed.Box.into_raw_with_allocator as callee
 use Rattle.std_alloc.proofs.boxed.Box.into_raw_with_allocator.Met.{met}
-use Rattle.awari_c.specs.contracts.loose.Loose.of.{ended, clauses}
-use Rattle.awari_c.specs.contracts.loose.Loose.of.Key.{name as #self}
-use Rattle.awari_c.proofs.loose.Loose.of.Statement.{statement}
-use Rattle.awari_c.proofs.loose.Loose.of.Code as code
+use Rattle.awari_plain.specs.contracts.loose.Loose.of.{ended, clauses}
+use Rattle.awari_plain.specs.contracts.loose.Loose.of.Key.{name as #self}
+use Rattle.awari_plain.proofs.loose.Loose.of.Statement.{statement}
+use Rattle.awari_plain.proofs.loose.Loose.of.Code as code
 
 pub of_spec : {M : Type 1} → statement M
 of_spec 𝓤 𝓛 𝓜 𝓡 wired T A L LA g d dx dd allocator glue glued =

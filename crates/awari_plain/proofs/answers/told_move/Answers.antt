@@ -1,6 +1,6 @@
 use Rattle.std.proofs.Common.{ap, rules, sym, true≢false, ◌∙◌}
-use Rattle.awari_c.specs.declared.answers.PlainMove.{PlainMove}
-use Rattle.awari_c.proofs.answers.told_move.Goals as goal
+use Rattle.awari_plain.specs.declared.answers.PlainMove.{PlainMove}
+use Rattle.awari_plain.proofs.answers.told_move.Goals as goal
 
 pub returns : goal.returns
 returns c = record {

@@ -1,11 +1,11 @@
-//! What is told to a program in C, as numbers.
+//! What is told to a program in another language, as numbers.
 
 ghost use Rattle.std.specs.Prelude.{◌≡◌, ◌<◌, ℕ, length, min, slice_index_or, sum};
-ghost use Rattle.awari_c.specs.declared.answers.PlainMove.{PlainMove as AMove};
+ghost use Rattle.awari_plain.specs.declared.answers.PlainMove.{PlainMove as AMove};
 ghost use Rattle.awari_table.specs.Images.{table_of};
 ghost use Rattle.awari_file.specs.FileText.{plan_byte};
 ghost use Rattle.awari_folder.specs.declared.faults.FolderFault.TheVariants.{Verify};
-ghost use Rattle.awari_c.specs.Told.{rule_number, told_entry, told_fault, told_worth, no_move, TellsMove};
+ghost use Rattle.awari_plain.specs.Told.{rule_number, told_entry, told_fault, told_worth, no_move, TellsMove};
 
 use awari_board::Board;
 use awari_folder::FolderFault;
@@ -14,10 +14,10 @@ use awari_table::{Entry, Shelf};
 use awari_verify::{Rule, VerifyFault};
 
 /// The board's level is not there: the number of `NotYet`.
-pub(crate) const NOT_YET: u8 = 59;
+pub const NOT_YET: u8 = 59;
 
 /// The level has fewer boards: the number of `NoRank`.
-pub(crate) const NO_RANK: u8 = 93;
+pub const NO_RANK: u8 = 93;
 
 /// What the levels say of a board.
 #[repr(C)]
@@ -68,7 +68,7 @@ const _: () = prove!(size_of::<PlainMove>() == 8);
 const _: () = prove!(size_of::<PlainFault>() == 8);
 
 /// The entry as numbers.
-pub(crate) fn told_entry(entry: Entry) -> PlainEntry
+pub fn told_entry(entry: Entry) -> PlainEntry
     ensures { result ≡ told_entry entry }
 {
     PlainEntry {
@@ -104,7 +104,7 @@ fn rule_number(rule: Rule) -> u8
 }
 
 /// The fault as numbers.
-pub(crate) fn told_fault(fault: FolderFault) -> PlainFault
+pub fn told_fault(fault: FolderFault) -> PlainFault
     ensures { result ≡ told_fault fault }
 {
     match fault {
@@ -155,7 +155,7 @@ fn told_refusal(level: u8, fault: VerifyFault) -> PlainFault
 }
 
 /// What the six pits of a board are worth. Condition: the board's level is on the shelf.
-pub(crate) fn told_moves(shelf: &Shelf, board: &Board) -> [PlainMove; 6]
+pub fn told_moves(shelf: &Shelf, board: &Board) -> [PlainMove; 6]
     requires known { sum board.now < length shelf.now }
     ensures { (pit : ℕ) (d : AMove) → pit < 6 → TellsMove (table_of shelf.now) board.now pit (slice_index_or result pit d) }
 {
@@ -181,7 +181,7 @@ fn told_move(shelf: &Shelf, board: &Board, pit: u8) -> PlainMove
 }
 
 /// What is told of a pit that can't be played.
-pub(crate) fn no_move() -> PlainMove
+pub fn no_move() -> PlainMove
     ensures { result ≡ no_move }
 {
     PlainMove {
@@ -193,7 +193,7 @@ pub(crate) fn no_move() -> PlainMove
 }
 
 /// The worth of a legal pit as numbers.
-pub(crate) fn told_worth(worth: MoveWorth) -> PlainMove
+pub fn told_worth(worth: MoveWorth) -> PlainMove
     ensures { result ≡ told_worth worth }
 {
     PlainMove {

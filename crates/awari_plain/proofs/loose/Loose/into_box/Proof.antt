@@ -31,13 +31,13 @@ use Rattle.core.proofs.cell.Inside.{Good}
 use Rattle.std_alloc.proofs.BoxSteps.Form as box
 use Rattle.std_alloc.proofs.BoxSteps.Steps.{box_out, box_in}
 use Rattle.std.proofs.raw_atomic.Walks.{proved_at, leaves}
-use Rattle.awari_c.proofs.Values.{both, Loose, loose_good, loose_out}
+use Rattle.awari_plain.proofs.Values.{both, Loose, loose_good, loose_out}
 use Rattle.std_alloc.specs.contracts.boxed.Box.from_raw as callee
 use Rattle.std_alloc.proofs.boxed.Box.from_raw.Met.{met}
-use Rattle.awari_c.specs.contracts.loose.Loose.into_box.{ended, clauses}
-use Rattle.awari_c.specs.contracts.loose.Loose.into_box.Key.{name as #self}
-use Rattle.awari_c.proofs.loose.Loose.into_box.Statement.{statement}
-use Rattle.awari_c.proofs.loose.Loose.into_box.Code as code
+use Rattle.awari_plain.specs.contracts.loose.Loose.into_box.{ended, clauses}
+use Rattle.awari_plain.specs.contracts.loose.Loose.into_box.Key.{name as #self}
+use Rattle.awari_plain.proofs.loose.Loose.into_box.Statement.{statement}
+use Rattle.awari_plain.proofs.loose.Loose.into_box.Code as code
 
 pub into_box_spec : {M : Type 1} → statement M
 into_box_spec 𝓤 𝓛 𝓜 𝓡 wired T A L LA g d dx dd allocator glue glued =

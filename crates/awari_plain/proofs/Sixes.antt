@@ -3,7 +3,7 @@ use Rattle.std.proofs.Common.{◌≡◌, ℕ, zero, suc, ◌<◌, List, [], ◌�
 use Rattle.std.specs.Prelude.{Bool, true, false, Option, Some, None, slice_index_or}
 use Rattle.awari_table.specs.declared.images.Image.{Image}
 use Rattle.awari_folder.specs.declared.loading.Stored.{Stored}
-use Rattle.awari_c.specs.Owned.{stored_in, levels_in}
+use Rattle.awari_plain.specs.Owned.{stored_in, levels_in}
 
 pub six : {X : Type 0} (P : ℕ → X → Type 0) (a b c d e f : X) → P 0 a → P 1 b → P 2 c → P 3 d → P 4 e → P 5 f
     → (i : ℕ) (x : X) → i < 6 → P i (slice_index_or (a ∷ b ∷ c ∷ d ∷ e ∷ f ∷ []) i x)

@@ -12,7 +12,7 @@ use std::alloc::Global;
 
 /// The line of play from the board by the plans of both sides. It ends by the limit of the levels up to
 /// the board's, so levels above do not change it.
-pub(crate) fn line_of(alloc: Global, shelf: &Shelf, board: Board) -> Result<Line, LineFault>
+pub fn line_of(alloc: Global, shelf: &Shelf, board: Board) -> Result<Line, LineFault>
     ensures line { IfOk result (λ line. IsBestLine (table_of shelf.now) (greatest_limit (take (sum board + 1) shelf.now)) board line.moves.items line.outcome) }
     ensures value { IfOk result (λ line. line.outcome ≡ (entry_of shelf.now board).value) }
     ensures not_yet { (result ≡ Err (LineFault.NotYet (length shelf.now))) ↔ (length shelf.now ≤ sum board) }
@@ -40,7 +40,7 @@ fn limit_below(shelf: &Shelf, levels: u8) -> u32
 }
 
 /// Writes the bytes from the start on, as far as there is room.
-pub(crate) fn copy_to(room: &mut [u8], bytes: &[u8])
+pub fn copy_to(room: &mut [u8], bytes: &[u8])
     ensures { room.new ≡ take (length room.old) bytes.now ++ drop (length bytes.now) room.old }
 {
     let count = room.len().min(bytes.len());

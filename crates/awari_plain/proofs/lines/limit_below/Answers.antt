@@ -1,6 +1,6 @@
 use Rattle.std.proofs.Common.{arith}
 use Rattle.awari_table.proofs.ShelfLemmas.{greatest_limit-read}
-use Rattle.awari_c.proofs.lines.limit_below.Goals as goal
+use Rattle.awari_plain.proofs.lines.limit_below.Goals as goal
 
 pub loop-number-preserved : goal.loop-number-preserved
 loop-number-preserved c =

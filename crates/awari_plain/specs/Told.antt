@@ -20,10 +20,10 @@ use Rattle.awari_folder.specs.FolderFault.{number_of}
 use Rattle.awari_folder.specs.NextFile.{IsFileFault}
 use Rattle.awari_folder.specs.declared.faults.FolderFault.{FolderFault}
 use Rattle.awari_folder.specs.declared.faults.FolderFault.TheVariants.{Below, File, Open, Verify, Memory, Occupied, Old}
-use Rattle.awari_c.specs.Boards.{IsAnswer}
-use Rattle.awari_c.specs.declared.answers.PlainEntry.{PlainEntry}
-use Rattle.awari_c.specs.declared.answers.PlainFault.{PlainFault}
-use Rattle.awari_c.specs.declared.answers.PlainMove.{PlainMove}
+use Rattle.awari_plain.specs.Boards.{IsAnswer}
+use Rattle.awari_plain.specs.declared.answers.PlainEntry.{PlainEntry}
+use Rattle.awari_plain.specs.declared.answers.PlainFault.{PlainFault}
+use Rattle.awari_plain.specs.declared.answers.PlainMove.{PlainMove}
 
 abbrev pub told_entry : Entry → PlainEntry
 told_entry e = record { value = e.value; plan = plan_byte e.plan; distance = e.dist }
