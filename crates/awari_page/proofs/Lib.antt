@@ -1,0 +1,4 @@
+pub mod Built
+pub mod Handling
+pub mod Sides
+pub mod Slices

@@ -1,0 +1,189 @@
+//! What a page calls with a handle. A parameter of type `Global` takes no bytes: nothing is passed for it.
+
+ghost use Rattle.std.specs.Prelude.{◌≡◌, ◌≢◌, ◌<◌, ℕ, false, length, sum, slice_index_or};
+ghost use Rattle.awari_table.specs.Images.{entry_of, table_of};
+ghost use Rattle.awari_theory.specs.Truth.{TellsTruth};
+ghost use Rattle.awari_folder.specs.NextFile.{IsNextFile};
+ghost use Rattle.awari_plain.specs.Boards.{IsAnswer, IsAnswerWithRoom};
+ghost use Rattle.awari_plain.specs.Told.{told_entry, IsRefusal, TellsLine, TellsMove};
+ghost use Rattle.awari_plain.specs.declared.answers.PlainMove.{PlainMove as AMove};
+ghost use Rattle.awari_page.specs.Owned.{held_in, levels_in, digest_in};
+
+use crate::handles::{Handle, put, take};
+use crate::held::Held;
+use crate::storing::{add_first, add_to};
+use awari_board::{Board, BoardFault};
+use awari_folder::FolderFault;
+use awari_plain::{
+    NOT_YET, PlainEntry, PlainFault, PlainMove, copy_to, line_of, told_entry, told_fault,
+    told_moves,
+};
+use awari_play::LineFault;
+use awari_theory::shelves_tell_the_truth;
+use std::alloc::Global;
+
+/// Puts the next level on the levels behind the handle, if these bytes are its file, and answers 0.
+/// A level that was begun is given up then. Otherwise the handle stays as it is, closed if it was, and the
+/// number of the refusal is answered, 80, 81, 83, 84 or 86, with more of it in `fault`.
+#[unsafe(no_mangle)]
+pub extern "C" fn awari_add_level(
+    handle: &mut Handle,
+    alloc: Global,
+    bytes: &[u8],
+    fault: &mut PlainFault,
+) -> u8
+    ensures ok { result ≡ 0 → IsNextFile (levels_in handle.old.is_open handle.old.held) (digest_in handle.old.is_open handle.old.held) bytes.now (levels_in handle.new.is_open handle.new.held) (digest_in handle.new.is_open handle.new.held) }
+    // What the levels say of each of their boards is the truth: following their plans secures the
+    // value, soon, the value is what the board is worth, and the distance is the least.
+    ensures meaning { result ≡ 0 → TellsTruth (levels_in handle.new.is_open handle.new.held) }
+    ensures refused { result ≢ 0 → IsRefusal (levels_in handle.old.is_open handle.old.held) (digest_in handle.old.is_open handle.old.held) bytes.now result fault.new }
+    ensures kept { result ≢ 0 → held_in handle.new.is_open handle.new.held ≡ held_in handle.old.is_open handle.old.held }
+{
+    let added = match take(handle, alloc) {
+        Some(held) => add_to(handle, alloc, held, bytes),
+        None => add_first(handle, alloc, bytes),
+    };
+    match added {
+        Ok(()) => 0,
+        Err(refusal) => {
+            *fault = told_fault(refusal);
+            refusal.number()
+        }
+    }
+}
+
+/// How many levels there are behind the handle.
+#[unsafe(no_mangle)]
+pub extern "C" fn awari_levels(handle: &mut Handle, alloc: Global) -> u8
+    ensures levels { result ≡ length (levels_in handle.old.is_open handle.old.held) }
+    ensures kept { held_in handle.new.is_open handle.new.held ≡ held_in handle.old.is_open handle.old.held }
+{
+    let Some(held) = take(handle, alloc) else {
+        return 0;
+    };
+    let levels = held.shelf().levels();
+    put(handle, held);
+    levels
+}
+
+/// What the levels say of a board, and 0; or 3 if it has more than 48 stones, or 59 if it has as many as
+/// there are levels or more. It takes no memory.
+#[unsafe(no_mangle)]
+pub extern "C" fn awari_probe(
+    handle: &mut Handle,
+    alloc: Global,
+    pits: &[u8; 12],
+    out: &mut PlainEntry,
+) -> u8
+    ensures answer { IsAnswer (sum pits.now) (length (levels_in handle.old.is_open handle.old.held)) result }
+    ensures entry { result ≡ 0 → out.new ≡ told_entry (entry_of (levels_in handle.old.is_open handle.old.held) pits.now) }
+    // What the levels say of each of their boards is the truth.
+    ensures meaning { result ≡ 0 → TellsTruth (levels_in handle.old.is_open handle.old.held) }
+    ensures untouched { result ≢ 0 → out.new ≡ out.old }
+    ensures kept { held_in handle.new.is_open handle.new.held ≡ held_in handle.old.is_open handle.old.held }
+{
+    let Ok(board) = Board::of(*pits) else {
+        return BoardFault::TooMany.number();
+    };
+    let Some(held) = take(handle, alloc) else {
+        return NOT_YET;
+    };
+    shelves_tell_the_truth();
+    let _levels = held.shelf().levels();
+    let found = held.shelf().entry(&board);
+    put(handle, held);
+    match found {
+        Ok(entry) => {
+            *out = told_entry(entry);
+            0
+        }
+        Err(fault) => fault.number(),
+    }
+}
+
+/// What each pit of a board is worth, and 0; or 3 or 59 as `awari_probe` answers. It takes no memory.
+#[unsafe(no_mangle)]
+pub extern "C" fn awari_probe_moves(
+    handle: &mut Handle,
+    alloc: Global,
+    pits: &[u8; 12],
+    out: &mut [PlainMove; 6],
+) -> u8
+    ensures answer { IsAnswer (sum pits.now) (length (levels_in handle.old.is_open handle.old.held)) result }
+    // What the levels say of each of their boards is the truth.
+    ensures meaning { result ≡ 0 → TellsTruth (levels_in handle.old.is_open handle.old.held) }
+    ensures moves { result ≡ 0 → (pit : ℕ) (d : AMove) → pit < 6 → TellsMove (table_of (levels_in handle.old.is_open handle.old.held)) pits.now pit (slice_index_or out.new pit d) }
+    ensures untouched { result ≢ 0 → out.new ≡ out.old }
+    ensures kept { held_in handle.new.is_open handle.new.held ≡ held_in handle.old.is_open handle.old.held }
+{
+    let Ok(board) = Board::of(*pits) else {
+        return BoardFault::TooMany.number();
+    };
+    let Some(held) = take(handle, alloc) else {
+        return NOT_YET;
+    };
+    if board.stones() >= held.shelf().levels() {
+        put(handle, held);
+        return NOT_YET;
+    }
+    shelves_tell_the_truth();
+    let moves = moves_in(&held, &board);
+    put(handle, held);
+    *out = moves;
+    0
+}
+
+/// The line of play by the plans of both sides, up to its first outcome, and 0; or 3 or 59 as
+/// `awari_probe` answers, or 84 if memory runs out. As much of the line is written as there is room for;
+/// `moves` is how many it has. It takes a byte a move, and gives it back.
+#[unsafe(no_mangle)]
+pub extern "C" fn awari_line(
+    handle: &mut Handle,
+    alloc: Global,
+    pits: &[u8; 12],
+    out: &mut [u8],
+    moves: &mut usize,
+) -> u8
+    ensures answer { IsAnswerWithRoom (sum pits.now) (length (levels_in handle.old.is_open handle.old.held)) result }
+    ensures line { result ≡ 0 → TellsLine (levels_in handle.old.is_open handle.old.held) pits.now out.old out.new moves.new }
+    // What the levels say of each of their boards is the truth.
+    ensures meaning { result ≡ 0 → TellsTruth (levels_in handle.old.is_open handle.old.held) }
+    ensures untouched { result ≢ 0 → (out.new ≡ out.old) × (moves.new ≡ moves.old) }
+    ensures kept { held_in handle.new.is_open handle.new.held ≡ held_in handle.old.is_open handle.old.held }
+{
+    let Ok(board) = Board::of(*pits) else {
+        return BoardFault::TooMany.number();
+    };
+    let Some(held) = take(handle, alloc) else {
+        return NOT_YET;
+    };
+    shelves_tell_the_truth();
+    let _levels = held.shelf().levels();
+    let found = line_of(alloc, held.shelf(), board);
+    put(handle, held);
+    match found {
+        Ok(line) => {
+            *moves = line.moves.len();
+            copy_to(out, line.moves.as_slice());
+            0
+        }
+        Err(LineFault::NotYet { .. }) => NOT_YET,
+        Err(LineFault::Memory) => FolderFault::Memory.number(),
+    }
+}
+
+/// What the pits of a board are worth. Condition: the board's level is there.
+fn moves_in(held: &Held, board: &Board) -> [PlainMove; 6]
+    requires known { sum board.now < length held.now.stored.shelf }
+    ensures { (pit : ℕ) (d : AMove) → pit < 6 → TellsMove (table_of held.now.stored.shelf) board.now pit (slice_index_or result pit d) }
+{
+    told_moves(held.shelf(), board)
+}
+
+/// Gives back what the handle holds, if it is open. It is closed then.
+#[unsafe(no_mangle)]
+pub extern "C" fn awari_close(handle: &mut Handle, alloc: Global)
+    ensures { handle.new.is_open ≡ false }
+{
+    let _ = take(handle, alloc);
+}
