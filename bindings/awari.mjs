@@ -1,0 +1,280 @@
+/**
+ * Awari's endgame levels for node and for pages, by the module that `release/page/make` makes of proved code.
+ *
+ *     import { Levels } from "./awari.mjs";
+ *     const levels = await Levels.start();
+ *     while (levels.length < 9) levels.build();
+ *     console.log(levels.entry("1,0,0,0,0,1/1,0,1,0,0,0"));
+ *
+ * A board is its word, or the twelve numbers of its pits. Levels are built here, or verified when they are put
+ * on, so what is said of a board is right as far as the module is what the proof is of: docs/GUARANTEES.md says
+ * what stands between. A refusal is a `Refused`, with the number and the name of docs/FORMATS.md. Nothing is
+ * read but the module, and nothing is sent.
+ *
+ * @typedef {string | ArrayLike<number>} Board
+ * @typedef {{ value: number, plan: number | null, distance: number }} Entry
+ * @typedef {{ pit: number, captures: number, value: number, distance: number }} Move
+ */
+
+const PITS = 12;
+const HIGHEST_LEVEL = 24;
+const NO_PLAN = 255;
+const HANDLE_BYTES = 16;
+const MOVE_BYTES = 8;
+/** Room for what a call writes, six moves or less. */
+const OUT_BYTES = 64;
+/** A slice of so many boards takes some 50 milliseconds. */
+const SLICE = 100_000;
+
+const NAMES = {
+  1: "Shape", 2: "Number", 3: "TooMany", 4: "NoPit", 5: "EmptyPit", 6: "MustFeed", 7: "Ended", 20: "WrongLevel",
+  21: "WrongSize", 22: "Refused", 51: "TooHigh", 53: "Memory", 59: "NotYet", 60: "Truncated", 61: "Magic",
+  62: "Version", 63: "LevelOutOfRange", 64: "Count", 65: "EntryForm", 66: "Digest", 67: "Trailing", 70: "Write",
+  80: "Below", 81: "File", 83: "Verify", 84: "Memory", 86: "Old", 93: "NoRank",
+};
+
+/** A refusal: its `number` and `kind`, and what is told beside it, as the level and the rank of a wrong board. */
+export class Refused extends Error {
+  constructor(number, { level, inner, rule, rank } = {}) {
+    const words = [number, NAMES[number]];
+    if (level !== undefined) words.push("level", level);
+    if (inner) words.push(":", inner, NAMES[inner]);
+    if (rule) words.push("rank", rank, "rule", `V${rule}`);
+    super(words.join(" ").replace(" :", ":"));
+    this.number = number;
+    this.name = "Refused";
+    this.kind = NAMES[number];
+    this.level = level;
+    this.inner = inner || undefined;
+    this.rule = rule ? `V${rule}` : undefined;
+    this.rank = rule ? rank : undefined;
+  }
+}
+
+function expect(answer) {
+  if (answer !== 0) throw new Refused(answer);
+}
+
+/** The module that lies beside this file. */
+async function shipped() {
+  const place = new URL("awari.wasm", import.meta.url);
+  if (place.protocol !== "file:") return (await fetch(place)).arrayBuffer();
+  const { readFile } = await import("node:fs/promises");
+  return readFile(place);
+}
+
+/** Levels from 0 on, in a memory of their own. */
+export class Levels {
+  #calls;
+  #handle;
+  #pits;
+  #out;
+
+  /** No level yet, by the module of these bytes, or by the one beside this file. */
+  static async start(module) {
+    const { instance } = await WebAssembly.instantiate(module ?? (await shipped()), {});
+    return new Levels(instance);
+  }
+
+  /** By an instance of the module; `start` makes one. */
+  constructor(instance) {
+    this.#calls = instance.exports;
+    this.#handle = this.#room(HANDLE_BYTES);
+    this.#pits = this.#room(PITS);
+    this.#out = this.#room(OUT_BYTES);
+    this.#bytes(this.#handle, HANDLE_BYTES).fill(0);
+  }
+
+  /** How many levels there are. Boards with fewer stones can be looked up. */
+  get length() {
+    return this.#calls.awari_levels(this.#handle);
+  }
+
+  /** How many bytes of memory the module has taken. It gives none back to the system. */
+  get bytes() {
+    return this.#calls.memory.buffer.byteLength;
+  }
+
+  /**
+   * Verifies the bytes of a file, and puts its level on. It is refused as 80, 81, 83, 84 or 86.
+   * @param {Uint8Array} file
+   */
+  add(file) {
+    const answer = this.#lend(file, (place, length) =>
+      this.#calls.awari_add_level(this.#handle, place, length, this.#out));
+    if (answer === 0) return;
+    const told = this.#view(8);
+    throw new Refused(answer, answer === 84 ? {} : {
+      level: told.getUint8(0), inner: told.getUint8(1), rule: told.getUint8(2), rank: told.getUint32(4, true),
+    });
+  }
+
+  /** Begins the next level, in place of one that was begun. It is refused as 51 or 53. */
+  begin() {
+    expect(this.#calls.awari_begin(this.#handle));
+  }
+
+  /**
+   * Builds a slice of the level that was begun: spreads boards of one distance, about so many, or opens a gain.
+   * It is refused as 59 if no level was begun, and as 53, and then the level is lost.
+   * @returns {{ boards: number, gain: number, settled: boolean }} how many boards were spread, the gain that is
+   * open, and whether all gains are closed
+   */
+  spread(boards = SLICE) {
+    expect(this.#calls.awari_spread(this.#handle, BigInt(boards), this.#out));
+    const told = this.#view(16);
+    return { boards: Number(told.getBigUint64(0, true)), gain: told.getUint8(8), settled: told.getUint8(9) === 1 };
+  }
+
+  /**
+   * Puts the level on that was begun and whose gains are all closed. It is refused as 59 or 53.
+   * @returns {Uint8Array} the bytes of its file
+   */
+  finish() {
+    const level = this.length;
+    const length = 84 + 6 * this.size(Math.min(level, HIGHEST_LEVEL));
+    const place = this.#room(length);
+    try {
+      expect(this.#calls.awari_finish(this.#handle, place, BigInt(length)));
+      return this.#bytes(place, length).slice();
+    } finally {
+      this.#calls.page_free(place);
+    }
+  }
+
+  /**
+   * Builds the next level and puts it on. It is refused as 51 or 53.
+   * @returns {Uint8Array} the bytes of its file
+   */
+  build() {
+    this.begin();
+    while (!this.spread().settled);
+    return this.finish();
+  }
+
+  /**
+   * What the levels say of a board. It is refused as 1 to 3 or 59.
+   * @param {Board} board
+   * @returns {Entry}
+   */
+  entry(board) {
+    expect(this.#calls.awari_probe(this.#handle, this.#board(board), this.#out));
+    const told = this.#view(8), plan = told.getUint8(1);
+    return { value: told.getInt8(0), plan: plan === NO_PLAN ? null : plan, distance: told.getUint32(4, true) };
+  }
+
+  /**
+   * What each legal pit is worth. It is refused as `entry` is.
+   * @param {Board} board
+   * @returns {Move[]}
+   */
+  moves(board) {
+    expect(this.#calls.awari_probe_moves(this.#handle, this.#board(board), this.#out));
+    const told = this.#view(6 * MOVE_BYTES);
+    return [0, 1, 2, 3, 4, 5].map(pit => ({ pit, at: MOVE_BYTES * pit })).filter(({ at }) => told.getUint8(at))
+      .map(({ pit, at }) => ({
+        pit, captures: told.getUint8(at + 1), value: told.getInt16(at + 2, true), distance: told.getUint32(at + 4, true),
+      }));
+  }
+
+  /**
+   * The play by the plans of both sides, up to its first outcome. It is refused as `entry` is, or as 84.
+   * @param {Board} board
+   * @returns {{ moves: number[], outcome: number }}
+   */
+  line(board) {
+    const outcome = this.entry(board).value;
+    for (let room = 1024; ; ) {
+      const place = this.#room(room);
+      try {
+        expect(this.#calls.awari_line(this.#handle, this.#board(board), place, BigInt(room), this.#out));
+        const count = Number(this.#view(8).getBigUint64(0, true));
+        if (count <= room) return { moves: [...this.#bytes(place, count)], outcome };
+        room = count;
+      } finally {
+        this.#calls.page_free(place);
+      }
+    }
+  }
+
+  /**
+   * The board that a move leaves, as the other player sees it, and what it captures. It is refused as 1 to 7.
+   * @param {Board} board
+   */
+  play(board, pit) {
+    if (!Number.isInteger(pit) || pit < 0 || pit > 255) throw new Refused(4);
+    expect(this.#calls.awari_play(this.#board(board), pit, this.#out, this.#out + BigInt(PITS)));
+    const told = this.#bytes(this.#out, PITS + 1);
+    return { board: [...told.slice(0, PITS)], captures: told[PITS] };
+  }
+
+  /**
+   * The level and the rank of a board. It is refused as 1 to 3 or 59.
+   * @param {Board} board
+   */
+  rank(board) {
+    expect(this.#calls.awari_rank(this.#board(board), this.#out, this.#out + 4n));
+    const told = this.#view(8);
+    return { level: told.getUint8(0), rank: told.getUint32(4, true) };
+  }
+
+  /** The board of a rank, twelve numbers. It is refused as 59 or 93. */
+  board(level, rank) {
+    if (!Number.isInteger(level) || level < 0 || level > HIGHEST_LEVEL) throw new Refused(59);
+    if (!Number.isInteger(rank) || rank < 0 || rank >= this.size(level)) throw new Refused(93);
+    expect(this.#calls.awari_board(level, rank, this.#out));
+    return [...this.#bytes(this.#out, PITS)];
+  }
+
+  /** How many boards a level has, 0 if there is no such level. */
+  size(level) {
+    if (!Number.isInteger(level) || level < 0 || level > HIGHEST_LEVEL) return 0;
+    return this.#calls.awari_size(level) >>> 0;
+  }
+
+  /** Forgets all levels, and one that was begun. */
+  close() {
+    this.#calls.awari_close(this.#handle);
+  }
+
+  /** Lays a board where the module reads it, and says where. */
+  #board(board) {
+    if (typeof board === "string") {
+      const answer = this.#lend(new TextEncoder().encode(board), (place, length) =>
+        this.#calls.awari_parse(place, length, this.#pits));
+      expect(answer);
+    } else {
+      const pits = Array.from(board);
+      if (pits.length !== PITS) throw new Refused(1);
+      if (!pits.every(stones => Number.isInteger(stones) && stones >= 0 && stones < 256)) throw new Refused(2);
+      this.#bytes(this.#pits, PITS).set(pits);
+    }
+    return this.#pits;
+  }
+
+  /** Calls with bytes that lie in the module's memory meanwhile. */
+  #lend(bytes, call) {
+    const place = this.#room(bytes.length);
+    try {
+      this.#bytes(place, bytes.length).set(bytes);
+      return call(place, BigInt(bytes.length));
+    } finally {
+      this.#calls.page_free(place);
+    }
+  }
+
+  #room(bytes) {
+    const place = this.#calls.page_alloc(BigInt(bytes));
+    if (place === 0n) throw new Refused(84);
+    return place;
+  }
+
+  /** The bytes of a place. They move when the memory grows, so nobody keeps them. */
+  #bytes(place, length) {
+    return new Uint8Array(this.#calls.memory.buffer, Number(place), length);
+  }
+
+  #view(length) {
+    return new DataView(this.#calls.memory.buffer, Number(this.#out), length);
+  }
+}

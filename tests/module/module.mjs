@@ -1,0 +1,181 @@
+// Tests bindings/awari.mjs and its module beside the program.
+//
+//     node tests/module/module.mjs MODULE PROGRAM FOLDER TOP
+//
+// FOLDER has levels 0 to TOP, 5 or more, that the program built. Each level is built in the module, at once and in slices,
+// and its file is to be the program's, byte for byte. The program's files are verified in a second module, and
+// what that says of boards is what the program says. It prints a line for each of the first faults.
+import { execFileSync } from "node:child_process";
+import { readFileSync } from "node:fs";
+import { join } from "node:path";
+import { Levels, Refused } from "../../bindings/awari.mjs";
+
+const [modulePlace, program, folder, top] = process.argv.slice(2);
+const TOP = Number(top), FAULTS_SHOWN = 20, RANDOM_BOARDS = 20_000;
+const module = readFileSync(modulePlace);
+const fileOf = level => readFileSync(join(folder, `level_${String(level).padStart(2, "0")}.awdb`));
+const word = board => `${board.slice(0, 6)}/${board.slice(6)}`;
+const isSame = (bytes, level) => Buffer.compare(Buffer.from(bytes), fileOf(level)) === 0;
+const ask = (...words) => execFileSync(program, words, { encoding: "utf8", maxBuffer: 1 << 28 });
+
+let faults = 0;
+function expect(what, isRight) {
+  if (isRight) return;
+  faults += 1;
+  if (faults <= FAULTS_SHOWN) console.log(what);
+}
+
+/** The call is refused by this number. */
+function expectRefused(number, call, what = call.toString()) {
+  try {
+    call();
+    expect(`${what}: not refused as ${number}`, false);
+  } catch (refusal) {
+    expect(`${what}: ${refusal}, and not ${number}`, refusal instanceof Refused && refusal.number === number);
+  }
+}
+
+function buildAtOnce(levels) {
+  for (let level = 0; level <= TOP; level++) expect(`level ${level} is another file`, isSame(levels.build(), level));
+  expect(`${levels.length} levels`, levels.length === TOP + 1);
+}
+
+/** One slice after the other, with a question after each. */
+function buildInSlices(levels) {
+  for (let level = 0; level <= TOP; level++) {
+    levels.begin();
+    for (let gain = level + 1, settled = false; !settled; ) {
+      const told = levels.spread(1000);
+      expect(`level ${level}: gain ${told.gain} after ${gain}`, told.gain <= gain && levels.length === level);
+      if (level > 0) levels.entry(levels.board(level - 1, 0));
+      ({ gain, settled } = told);
+    }
+    expect(`level ${level} in slices is another file`, isSame(levels.finish(), level));
+  }
+}
+
+function refuseSlicesOutOfTurn(levels) {
+  expectRefused(59, () => levels.spread());
+  expectRefused(59, () => levels.finish());
+  levels.begin();
+  levels.spread(1);
+  expectRefused(59, () => levels.finish());
+  expect("the levels stay", levels.length === TOP + 1);
+  while (!levels.spread().settled);
+  levels.finish();
+  expect("a level that was begun is finished", levels.length === TOP + 2);
+}
+
+function refuseWrongFiles(levels) {
+  for (let level = 0; level < 4; level++) levels.add(fileOf(level));
+  const right = fileOf(4), changed = Uint8Array.from(right, (byte, at) => (at === 60 ? byte ^ 1 : byte));
+  expectRefused(81, () => levels.add(right.subarray(0, -1)));
+  expectRefused(81, () => levels.add(changed), "a changed byte");
+  expectRefused(81, () => levels.add(new Uint8Array(0)));
+  expectRefused(80, () => levels.add(fileOf(5)));
+  expect("refused files change nothing", levels.length === 4);
+  levels.add(right);
+  expectRefused(59, () => levels.entry(levels.board(5, 0)));
+}
+
+function refuseWrongBoards(levels) {
+  expectRefused(1, () => levels.entry("0,0,0,0,0,1"));
+  expectRefused(2, () => levels.entry("00,0,0,0,0,1/0,0,0,0,0,0"));
+  expectRefused(3, () => levels.entry(Array(12).fill(5)));
+  expectRefused(1, () => levels.entry([1, 2]));
+  expectRefused(2, () => levels.entry(Array(12).fill(256)));
+  expectRefused(59, () => levels.entry(Array(12).fill(4)));
+  expectRefused(59, () => levels.board(25, 0));
+  expectRefused(93, () => levels.board(1, 12));
+  expectRefused(4, () => levels.play(Array(12).fill(4), 6));
+  expectRefused(5, () => levels.play("0,0,0,0,0,1/0,0,0,0,0,0", 0));
+  expect("sizes", levels.size(1) === 12 && levels.size(24) === 417225900 && levels.size(25) === 0);
+}
+
+/** Entry and rank of each board, beside `text`. */
+function compareEntries(levels, level) {
+  const lines = [];
+  for (let rank = 0; rank < levels.size(level); rank++) {
+    const board = levels.board(level, rank), { value, plan, distance } = levels.entry(board);
+    const told = levels.rank(word(board));
+    expect(`${word(board)}: level ${told.level}, rank ${told.rank}`, told.level === level && told.rank === rank);
+    lines.push(`${value} ${plan ?? "-"} ${distance}`);
+  }
+  const text = ask("text", folder, String(level)).trimEnd().split("\n").slice(1).join("\n");
+  expect(`level ${level}: entries are others`, text === lines.join("\n"));
+}
+
+/** The boards of random ranks of higher levels, whose ranks are told again and by the program. */
+function compareRanks(levels) {
+  const ranks = Array.from({ length: RANDOM_BOARDS }, () => {
+    const level = 10 + Math.floor(Math.random() * 15);
+    return { level, rank: Math.floor(Math.random() * levels.size(level)) };
+  });
+  for (const { level, rank } of ranks) {
+    const told = levels.rank(levels.board(level, rank));
+    expect(`level ${level}: rank ${rank} is told as ${told.rank}`, told.level === level && told.rank === rank);
+  }
+  for (const { level, rank } of ranks.slice(0, 50))
+    expect(`level ${level}: rank ${rank} is of another board`,
+      ask("board", String(level), String(rank)).includes(word(levels.board(level, rank))));
+}
+
+/** Worths, and the plays of all pits, beside `serve`. */
+function compareMoves(levels, boards) {
+  const input = boards.map(board => `moves ${word(board)}\n`).join("");
+  const answers = execFileSync(program, ["serve", folder, "0", "0"], { input, encoding: "utf8", maxBuffer: 1 << 28 }).split("\n\n");
+  boards.forEach((board, at) => {
+    const moves = levels.moves(board), { plan, value } = levels.entry(board);
+    const lines = moves.map(it =>
+      `pit ${it.pit} captures ${it.captures} value ${it.value} distance ${it.distance}${it.pit === plan ? " plan" : ""}`);
+    const text = lines.length ? lines.join("\n") : `ended ${value}`;
+    expect(`${word(board)}: ${text}, and not ${answers[at]}`, text === answers[at]);
+    for (const { pit, captures, value } of moves) {
+      const after = levels.play(board, pit);
+      const left = levels.entry(after.board).value;
+      expect(`${word(board)} ${pit}: played otherwise`, after.captures === captures && captures - left === value);
+    }
+  });
+}
+
+function compareLines(levels, boards) {
+  for (const board of boards) {
+    const { moves, outcome } = levels.line(board);
+    const told = ask("line", folder, word(board)).trimEnd().split("\n");
+    const wanted = [`value ${outcome}`, ["moves", ...moves].join(" "), `outcome ${outcome}`];
+    expect(`${word(board)}: ${wanted}, and not ${told}`, told.join("\n") === wanted.join("\n"));
+  }
+}
+
+function allBoards(levels, highest) {
+  const boards = [];
+  for (let level = 0; level <= highest; level++)
+    for (let rank = 0; rank < levels.size(level); rank++) boards.push(levels.board(level, rank));
+  return boards;
+}
+
+function randomBoards(levels, count) {
+  return Array.from({ length: count }, () => {
+    const level = Math.floor(Math.random() * (TOP + 1));
+    return levels.board(level, Math.floor(Math.random() * levels.size(level)));
+  });
+}
+
+expect("the module imports something", WebAssembly.Module.imports(new WebAssembly.Module(module)).length === 0);
+const start = () => Levels.start(module);
+const built = await start();
+buildAtOnce(built);
+refuseSlicesOutOfTurn(built);
+buildInSlices(await start());
+refuseWrongFiles(await start());
+const levels = await start();
+for (let level = 0; level <= TOP; level++) levels.add(fileOf(level));
+refuseWrongBoards(levels);
+for (let level = 0; level <= Math.min(TOP, 6); level++) compareEntries(levels, level);
+compareRanks(levels);
+compareMoves(levels, [...allBoards(levels, Math.min(TOP, 6)), ...randomBoards(levels, RANDOM_BOARDS)]);
+compareLines(levels, randomBoards(levels, 50));
+levels.close();
+expect("closed, it has levels", levels.length === 0);
+if (faults > FAULTS_SHOWN) console.log(`${faults} faults`);
+process.exit(faults ? 1 : 0);
