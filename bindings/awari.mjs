@@ -184,17 +184,30 @@ export class Levels {
    */
   line(board) {
     const outcome = this.entry(board).value;
-    for (let room = 1024; ; ) {
-      const place = this.#room(room);
-      try {
-        expect(this.#calls.awari_line(this.#handle, this.#board(board), place, BigInt(room), this.#out));
-        const count = Number(this.#view(8).getBigUint64(0, true));
-        if (count <= room) return { moves: [...this.#bytes(place, count)], outcome };
-        room = count;
-      } finally {
-        this.#calls.page_free(place);
-      }
-    }
+    return { moves: this.#moves(board, this.#calls.awari_line), outcome };
+  }
+
+  /**
+   * The play in which the side that gains follows its plans, and the other holds out as long as it can. It is
+   * refused as `line` is.
+   * @param {Board} board
+   * @returns {number[]}
+   */
+  longestLine(board) {
+    return this.#moves(board, this.#calls.awari_longest_line);
+  }
+
+  /**
+   * How many boards of a level are won, even and lost for the mover, and the greatest distance of its boards.
+   * It is refused as 59.
+   * @returns {{ won: number, even: number, lost: number, limit: number }}
+   */
+  counts(level) {
+    if (!Number.isInteger(level) || level < 0 || level > HIGHEST_LEVEL) throw new Refused(59);
+    expect(this.#calls.awari_counts(this.#handle, level, this.#out));
+    const told = this.#view(16);
+    const [won, even, lost, limit] = [0, 4, 8, 12].map(at => told.getUint32(at, true));
+    return { won, even, lost, limit };
   }
 
   /**
@@ -235,6 +248,21 @@ export class Levels {
   /** Forgets all levels, and one that was begun. */
   close() {
     this.#calls.awari_close(this.#handle);
+  }
+
+  /** The pits of a line. It is asked for again where it has more moves than there was room for. */
+  #moves(board, lineOf) {
+    for (let room = 1024; ; ) {
+      const place = this.#room(room);
+      try {
+        expect(lineOf(this.#handle, this.#board(board), place, BigInt(room), this.#out));
+        const count = Number(this.#view(8).getBigUint64(0, true));
+        if (count <= room) return [...this.#bytes(place, count)];
+        room = count;
+      } finally {
+        this.#calls.page_free(place);
+      }
+    }
   }
 
   /** Lays a board where the module reads it, and says where. */

@@ -46,7 +46,8 @@ changed_sources() {
   } 2>/dev/null | grep -E '^(crates\.txt|crates/[^/]+/(src|specs|proofs)/.*)$' | head -n 3
 }
 
-# what the manifest says under this word: `program`, `library`, `archive`, `sources`, `toolchain`, `linker`
+# what the manifest says under this word: `program`, `library`, `archive`, `module`, `sources`, `toolchain`,
+# `linker`, `optimizer`
 manifest() { sed -n "s/^$1 //p" "$top/release/MANIFEST"; }
 
 # says it, but only to a person who looks on
@@ -119,6 +120,9 @@ build_library_in() {
 
 # what links the shared library
 linker() { "${CC:-cc}" -Wl,--version 2>/dev/null | head -n 1; }
+
+# what makes the module's memory one of 32 bits
+optimizer() { wasm-opt --version 2>/dev/null; }
 
 # makes libawari.a and libawari.so.0 in a folder of what the toolchain built of `awari_c`, and of the part
 # of the C library that the toolchain brings

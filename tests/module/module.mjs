@@ -147,6 +147,26 @@ function compareLines(levels, boards) {
   }
 }
 
+function compareLongestLines(levels, boards) {
+  for (const board of boards) {
+    const { value, distance } = levels.entry(board);
+    const told = ask("line", "--longest", folder, word(board)).trimEnd();
+    const wanted = [`value ${value}`, `distance ${distance}`, ["moves", ...levels.longestLine(board)].join(" ")].join("\n");
+    expect(`${word(board)}: ${wanted}, and not ${told}`, told === wanted);
+  }
+}
+
+/** What the levels count, beside the lines that the program prints when it builds them. */
+function compareCounts(levels) {
+  const told = ask("build", String(TOP)).trimEnd().split("\n");
+  told.forEach((line, level) => {
+    const { won, even, lost, limit } = levels.counts(level);
+    const wanted = `level ${level} boards ${levels.size(level)} won ${won} even ${even} lost ${lost} limit ${limit}`;
+    expect(`${wanted}, and not ${line}`, line === wanted);
+  });
+  expectRefused(59, () => levels.counts(TOP + 1));
+}
+
 function allBoards(levels, highest) {
   const boards = [];
   for (let level = 0; level <= highest; level++)
@@ -175,6 +195,8 @@ for (let level = 0; level <= Math.min(TOP, 6); level++) compareEntries(levels, l
 compareRanks(levels);
 compareMoves(levels, [...allBoards(levels, Math.min(TOP, 6)), ...randomBoards(levels, RANDOM_BOARDS)]);
 compareLines(levels, randomBoards(levels, 50));
+compareLongestLines(levels, randomBoards(levels, 50));
+compareCounts(levels);
 levels.close();
 expect("closed, it has levels", levels.length === 0);
 if (faults > FAULTS_SHOWN) console.log(`${faults} faults`);

@@ -1,2 +1,3 @@
 pub mod Held
 pub mod Owned
+pub mod Told

@@ -1,6 +1,6 @@
 //! What a page calls with a handle. A parameter of type `Global` takes no bytes: nothing is passed for it.
 
-ghost use Rattle.std.specs.Prelude.{◌≡◌, ◌≢◌, ◌<◌, ℕ, false, length, sum, slice_index_or};
+ghost use Rattle.std.specs.Prelude.{◌≡◌, ◌≢◌, ◌<◌, ◌≤◌, ℕ, false, length, sum, slice_index_or};
 ghost use Rattle.awari_table.specs.Images.{entry_of, table_of};
 ghost use Rattle.awari_theory.specs.Truth.{TellsTruth};
 ghost use Rattle.awari_folder.specs.NextFile.{IsNextFile};
@@ -8,17 +8,19 @@ ghost use Rattle.awari_plain.specs.Boards.{IsAnswer, IsAnswerWithRoom};
 ghost use Rattle.awari_plain.specs.Told.{told_entry, IsRefusal, TellsLine, TellsMove};
 ghost use Rattle.awari_plain.specs.declared.answers.PlainMove.{PlainMove as AMove};
 ghost use Rattle.awari_page.specs.Owned.{held_in, levels_in, digest_in};
+ghost use Rattle.awari_page.specs.Told.{TellsCounts, TellsLongestLine};
 
 use crate::handles::{Handle, put, take};
 use crate::held::Held;
 use crate::storing::{add_first, add_to};
+use crate::telling::{PlainCounts, told_counts};
 use awari_board::{Board, BoardFault};
 use awari_folder::FolderFault;
 use awari_plain::{
     NOT_YET, PlainEntry, PlainFault, PlainMove, copy_to, line_of, told_entry, told_fault,
     told_moves,
 };
-use awari_play::LineFault;
+use awari_play::{LineFault, longest_line};
 use awari_theory::shelves_tell_the_truth;
 use std::alloc::Global;
 
@@ -170,6 +172,73 @@ pub extern "C" fn awari_line(
         Err(LineFault::NotYet { .. }) => NOT_YET,
         Err(LineFault::Memory) => FolderFault::Memory.number(),
     }
+}
+
+/// The line in which the side that the board favours plays by the plans, and the other holds out as long as
+/// it can. It answers, writes and takes memory as `awari_line` does.
+#[unsafe(no_mangle)]
+pub extern "C" fn awari_longest_line(
+    handle: &mut Handle,
+    alloc: Global,
+    pits: &[u8; 12],
+    out: &mut [u8],
+    moves: &mut usize,
+) -> u8
+    ensures answer { IsAnswerWithRoom (sum pits.now) (length (levels_in handle.old.is_open handle.old.held)) result }
+    ensures line { result ≡ 0 → TellsLongestLine (levels_in handle.old.is_open handle.old.held) pits.now out.old out.new moves.new }
+    // What the levels say of each of their boards is the truth.
+    ensures meaning { result ≡ 0 → TellsTruth (levels_in handle.old.is_open handle.old.held) }
+    ensures untouched { result ≢ 0 → (out.new ≡ out.old) × (moves.new ≡ moves.old) }
+    ensures kept { held_in handle.new.is_open handle.new.held ≡ held_in handle.old.is_open handle.old.held }
+{
+    let Ok(board) = Board::of(*pits) else {
+        return BoardFault::TooMany.number();
+    };
+    let Some(held) = take(handle, alloc) else {
+        return NOT_YET;
+    };
+    shelves_tell_the_truth();
+    let _levels = held.shelf().levels();
+    let found = longest_line(alloc, held.shelf(), board);
+    put(handle, held);
+    match found {
+        Ok(line) => {
+            *moves = line.len();
+            copy_to(out, line.as_slice());
+            0
+        }
+        Err(LineFault::NotYet { .. }) => NOT_YET,
+        Err(LineFault::Memory) => FolderFault::Memory.number(),
+    }
+}
+
+/// How many boards of a level are won, even and lost for the mover, and the greatest distance of its
+/// boards, and 0; or 59 if it is not behind the handle. It takes no memory.
+#[unsafe(no_mangle)]
+pub extern "C" fn awari_counts(
+    handle: &mut Handle,
+    alloc: Global,
+    level: u8,
+    out: &mut PlainCounts,
+) -> u8
+    ensures counts { level < length (levels_in handle.old.is_open handle.old.held)
+        → (result ≡ 0) × TellsCounts (levels_in handle.old.is_open handle.old.held) level out.new }
+    ensures none { length (levels_in handle.old.is_open handle.old.held) ≤ level → (result ≡ 59) × (out.new ≡ out.old) }
+    // What the levels say of each of their boards is the truth.
+    ensures meaning { result ≡ 0 → TellsTruth (levels_in handle.old.is_open handle.old.held) }
+    ensures kept { held_in handle.new.is_open handle.new.held ≡ held_in handle.old.is_open handle.old.held }
+{
+    let Some(held) = take(handle, alloc) else {
+        return NOT_YET;
+    };
+    if level >= held.shelf().levels() {
+        put(handle, held);
+        return NOT_YET;
+    }
+    shelves_tell_the_truth();
+    *out = told_counts(held.shelf(), level);
+    put(handle, held);
+    0
 }
 
 /// What the pits of a board are worth. Condition: the board's level is there.

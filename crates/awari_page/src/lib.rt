@@ -18,8 +18,9 @@ pub use awari_plain::{PlainEntry, PlainFault, PlainMove};
 pub use boards::{awari_board, awari_legal, awari_parse, awari_play, awari_rank, awari_size};
 pub use building::{awari_begin, awari_finish, awari_spread};
 pub use exports::{
-    awari_add_level, awari_close, awari_levels, awari_line, awari_probe, awari_probe_moves,
+    awari_add_level, awari_close, awari_counts, awari_levels, awari_line, awari_longest_line,
+    awari_probe, awari_probe_moves,
 };
 pub use handles::Handle;
 pub use held::Held;
-pub use telling::PlainDraft;
+pub use telling::{PlainCounts, PlainDraft};
