@@ -144,7 +144,7 @@ fn run_request<
         } => run_judge(board, limit, moves, &mut streams.output),
         Request::Rank { board } => run_rank(board, &mut streams.output),
         Request::Board { level, rank } => run_board(level, rank, &mut streams.output),
-        Request::Plays { board, plies } => run_plays(board, plies, &mut streams.output),
+        Request::Plays { board, plies } => run_plays(alloc, board, plies, &mut streams.output),
         Request::Build {
             top,
             folder,

@@ -23,6 +23,8 @@ use std::test::Fail;
 
 const START: &str = "4,4,4,4,4,4/4,4,4,4,4,4";
 
+const SIX_STONES: &str = "1,0,1,0,1,0/1,0,1,0,1,0";
+
 /// Boards of docs/RULES.md, and a pit that is played there. The pictures show the boards before they
 /// are turned.
 const PLAYED: [Line; 6] = [
@@ -158,9 +160,9 @@ fn the_readme_is_right_of_its_board(rt: HostRuntime) -> io::Result<()> {
     expect_in_folder(&rt, FOLDER, &README)
 }
 
-/// How many plays there are from the board at the start, of which a program that shares nothing with
-/// this one says the same.
-const COUNTED: [Line; 9] = [
+/// How many plays there are from the board at the start, and from one of six stones, of which a program
+/// that shares nothing with this one says the same.
+const COUNTED: [Line; 11] = [
     (
         &["awari", "plays", START, "0"],
         "plays 1 captures 0 ends 0\n",
@@ -205,6 +207,16 @@ const COUNTED: [Line; 9] = [
         &["awari", "plays", START, "8"],
         "plays 711414 captures 134359 ends 0\n",
         0,
+    ),
+    (
+        &["awari", "plays", SIX_STONES, "40"],
+        "plays 8305209601161108 captures 377770088152798 ends 23057462218459\n",
+        0,
+    ),
+    (
+        &["awari", "plays", SIX_STONES, "60"],
+        "refused 94 Overflow\n",
+        1,
     ),
 ];
 

@@ -202,7 +202,7 @@ const LISTED: &str = "awari_cli_test_boards";
 
 /// Boards of a level: all, those of some values and distances, some of these, and how many; verified or
 /// not.
-const BOARDS: [Line; 21] = [
+const BOARDS: [Line; 22] = [
     (
         &["awari", "build", "2", "--folder", LISTED],
         LEVELS_0_TO_2,
@@ -218,6 +218,19 @@ const BOARDS: [Line; 21] = [
     (
         &["awari", "boards", LISTED, "2", "--farthest"],
         "0,0,1,0,0,1/0,0,0,0,0,0 -2 5 9\n0,1,0,0,0,0/1,0,0,0,0,0 -2 1 9\n",
+        0,
+    ),
+    (
+        &[
+            "awari",
+            "boards",
+            LISTED,
+            "2",
+            "--farthest",
+            "--value",
+            "1..",
+        ],
+        "1,0,0,0,0,0/0,0,1,0,0,0 2 0 8\n",
         0,
     ),
     (

@@ -1,18 +1,19 @@
 -- The boards of a level, taken one by one in order of rank.
-use Rattle.std.proofs.Common.{◌≡◌, ℕ, ◌+◌, ◌%◌, ◌==◌, ◌<◌, ◌≤◌, Bool, true, false, cond, ◌&&◌, List, [], ◌∷◌, ◌++◌, length, take, filter, sum, Some, None, slice_get, refl, sym, ◌∙◌, ap, subst, arith}
+use Rattle.std.proofs.Common.{◌≡◌, ℕ, ◌+◌, ◌%◌, ◌==◌, ◌<◌, ◌≤◌, Bool, true, false, cond, ◌&&◌, List, [], ◌∷◌, ◌++◌, length, take, filter, map, max, sum, Some, None, slice_get, refl, sym, ◌∙◌, ap, subst, arith}
 use Rattle.std.proofs.lemmas.Bool.Decides.{nat_tests}
-use Rattle.std.proofs.lemmas.List.{append-nil, length-append, take_all}
+use Rattle.std.proofs.lemmas.List.{append-nil, length-append, map-append, take_all}
 use Rattle.std.proofs.lemmas.List.Elements.{filter-append}
+use Rattle.std.proofs.lemmas.List.Sums.{fold-append}
 use Rattle.awari_board.specs.Rules.{IsBoard}
 use Rattle.awari_rank.proofs.Ranking.{listed_board}
 use Rattle.awari_rank.proofs.Reaching.{board_reached}
 use Rattle.awari_rank.specs.Rank.{rank_of, size_of}
 use Rattle.awari_rank.specs.Tuples.{tuples}
 use Rattle.awari_table.proofs.ShelfLemmas.{entry_of-read, take-read}
-use Rattle.awari_table.specs.Images.{entry_of}
+use Rattle.awari_table.specs.Images.{entry_of, greatest_dist}
 use Rattle.awari_table.specs.declared.images.Entry.{Entry}
 use Rattle.awari_table.specs.declared.images.Image.{Image}
-use Rattle.awari_questions.specs.Listing.{each, limit_of, passes, passing, wanted_boards}
+use Rattle.awari_questions.specs.Listing.{each, farthest_among, farthest_of, is_within, passes, passing, wanted_boards}
 use Rattle.awari_questions.specs.declared.listing.Wanted.{Wanted}
 
 -- one more at the end of a list
@@ -52,6 +53,40 @@ some_at images level rank image e found read low inside =
     let (board, whole, stones, ranked) = board_reached level rank low inside in
     (board, is_at images level rank image board e found read whole stones ranked)
 
+-- ---- the farthest
+
+-- what is found of the boards up to a rank
+abbrev pub IsFarthestTo : Wanted → List Image → ℕ → ℕ → ℕ → Type 0
+IsFarthestTo wanted images level rank farthest = farthest ≡ farthest_among wanted images (take rank (tuples 12 level))
+
+pub farthest-none : (wanted : Wanted) (images : List Image) (level : ℕ) → IsFarthestTo wanted images level 0 0
+farthest-none wanted images level = refl
+
+farther : (most : ℕ) (front : List Entry) (e : Entry) (within : Bool) → most ≡ greatest_dist front → cond within (max most e.dist) most ≡ greatest_dist (front ++ cond within (e ∷ []) [])
+farther most front e true is = ap (λ m. max m e.dist) is ∙ sym (fold-append (λ m (x : Entry). max m x.dist) 0 front (e ∷ []))
+farther most front e false is = is ∙ ap greatest_dist (sym (append-nil front))
+
+pub farthest-more : (wanted : Wanted) (images : List Image) (level rank most : ℕ) (board : List ℕ) (e : Entry) → IsFarthestTo wanted images level rank most → IsAt images level rank board e
+    → IsFarthestTo wanted images level (rank + 1) (cond (is_within wanted e) (max most e.dist) most)
+farthest-more wanted images level rank most board e so_far at =
+    farther most (filter (is_within wanted) (map (entry_of images) (take rank (tuples 12 level)))) e (is_within wanted e) so_far
+    ∙ ap (λ x. greatest_dist (filter (is_within wanted) (map (entry_of images) (take rank (tuples 12 level))) ++ cond (is_within wanted x) (x ∷ []) [])) at.entry
+    ∙ ap greatest_dist (sym (ap (λ bs. filter (is_within wanted) (map (entry_of images) bs)) (take-read (tuples 12 level) rank board at.listed)
+    ∙ ap (filter (is_within wanted)) (map-append (entry_of images) (take rank (tuples 12 level)) (board ∷ []))
+    ∙ filter-append (is_within wanted) (map (entry_of images) (take rank (tuples 12 level))) (entry_of images board ∷ [])))
+
+pub farthest-all : (wanted : Wanted) (images : List Image) (level rank most : ℕ) → IsFarthestTo wanted images level rank most → rank ≡ size_of level → wanted.farthest ≡ true → most ≡ farthest_of wanted images level
+unfolding size_of farthest_of
+farthest-all wanted images level rank most all is asked =
+    all ∙ ap (farthest_among wanted images) (take_all rank (tuples 12 level) (omega (arith, is)))
+    ∙ sym (ap (λ b. cond b (farthest_among wanted images (tuples 12 level)) 0) asked)
+
+pub farthest-unasked : (wanted : Wanted) (images : List Image) (level : ℕ) → wanted.farthest ≡ false → 0 ≡ farthest_of wanted images level
+unfolding farthest_of
+farthest-unasked wanted images level none = sym (ap (λ b. cond b (farthest_among wanted images (tuples 12 level)) 0) none)
+
+-- ---- those that pass
+
 -- how many of the boards up to a rank pass, and which of these are due
 pub record Chosen (wanted : Wanted) (images : List Image) (level rank passed : ℕ) (boards : List (List ℕ)) : Type 0 where
   pub count : passed ≡ length (passing wanted images level (take rank (tuples 12 level)))
@@ -74,14 +109,14 @@ pick k passed next front x true due before count is =
 
 -- what is known of the board of a rank: whether it passes is counted, and whether it is due
 pub record Weighs (wanted : Wanted) (images : List Image) (level passed next : ℕ) (e : Entry) (due : Bool) : Type 0 where
-  pub count : next ≡ passed + cond (passes wanted (limit_of images level) e) 1 0
-  pub is : due ≡ (passes wanted (limit_of images level) e && (next % wanted.every == 0))
+  pub count : next ≡ passed + cond (passes wanted (farthest_of wanted images level) e) 1 0
+  pub is : due ≡ (passes wanted (farthest_of wanted images level) e && (next % wanted.every == 0))
 
-pub weighs : (wanted : Wanted) (images : List Image) (level passed next limit : ℕ) (e : Entry) (due : Bool) → limit ≡ limit_of images level → next ≡ passed + cond (passes wanted limit e) 1 0
-    → due ≡ (passes wanted limit e && (next % wanted.every == 0)) → Weighs wanted images level passed next e due
-weighs wanted images level passed next limit e due limited count is = record {
-  count = count ∙ ap (λ l. passed + cond (passes wanted l e) 1 0) limited;
-  is = is ∙ ap (λ l. passes wanted l e && (next % wanted.every == 0)) limited;
+pub weighs : (wanted : Wanted) (images : List Image) (level passed next farthest : ℕ) (e : Entry) (due : Bool) → farthest ≡ farthest_of wanted images level → next ≡ passed + cond (passes wanted farthest e) 1 0
+    → due ≡ (passes wanted farthest e && (next % wanted.every == 0)) → Weighs wanted images level passed next e due
+weighs wanted images level passed next farthest e due found count is = record {
+  count = count ∙ ap (λ l. passed + cond (passes wanted l e) 1 0) found;
+  is = is ∙ ap (λ l. passes wanted l e && (next % wanted.every == 0)) found;
 }
 
 -- no more pass than there are
@@ -98,18 +133,18 @@ chosen-more wanted images level rank passed next boards board e due so_far at we
 }
   where
     test : List ℕ → Bool
-    test b = passes wanted (limit_of images level) (entry_of images b)
+    test b = passes wanted (farthest_of wanted images level) (entry_of images b)
 
-    picked : (next ≡ length (passing wanted images level (take rank (tuples 12 level)) ++ cond (passes wanted (limit_of images level) e) (board ∷ []) []))
+    picked : (next ≡ length (passing wanted images level (take rank (tuples 12 level)) ++ cond (passes wanted (farthest_of wanted images level) e) (board ∷ []) []))
         × (each wanted.every 0 (passing wanted images level (take rank (tuples 12 level))) ++ cond due (board ∷ []) []
-        ≡ each wanted.every 0 (passing wanted images level (take rank (tuples 12 level)) ++ cond (passes wanted (limit_of images level) e) (board ∷ []) []))
-    picked = pick wanted.every passed next (passing wanted images level (take rank (tuples 12 level))) board (passes wanted (limit_of images level) e) due so_far.count weighed.count weighed.is
+        ≡ each wanted.every 0 (passing wanted images level (take rank (tuples 12 level)) ++ cond (passes wanted (farthest_of wanted images level) e) (board ∷ []) []))
+    picked = pick wanted.every passed next (passing wanted images level (take rank (tuples 12 level))) board (passes wanted (farthest_of wanted images level) e) due so_far.count weighed.count weighed.is
 
-    front : passing wanted images level (take (rank + 1) (tuples 12 level)) ≡ passing wanted images level (take rank (tuples 12 level)) ++ cond (passes wanted (limit_of images level) e) (board ∷ []) []
+    front : passing wanted images level (take (rank + 1) (tuples 12 level)) ≡ passing wanted images level (take rank (tuples 12 level)) ++ cond (passes wanted (farthest_of wanted images level) e) (board ∷ []) []
     front =
         ap (passing wanted images level) (take-read (tuples 12 level) rank board at.listed)
         ∙ filter-append test (take rank (tuples 12 level)) (board ∷ [])
-        ∙ ap (λ x. passing wanted images level (take rank (tuples 12 level)) ++ cond (passes wanted (limit_of images level) x) (board ∷ []) []) (sym at.entry)
+        ∙ ap (λ x. passing wanted images level (take rank (tuples 12 level)) ++ cond (passes wanted (farthest_of wanted images level) x) (board ∷ []) []) (sym at.entry)
 
 pub chosen-all : (wanted : Wanted) (images : List Image) (level rank passed : ℕ) (boards : List (List ℕ)) → Chosen wanted images level rank passed boards → rank ≡ size_of level
     → boards ≡ wanted_boards wanted images level
@@ -162,10 +197,10 @@ each-one before (x ∷ xs) =
     let due : ((before + 1) % 1 == 0) ≡ true = grind (arith, nat_tests) in
     ap (λ b. cond b (x ∷ each 1 (before + 1) xs) (each 1 (before + 1) xs)) due ∙ ap (λ t. x ∷ t) (each-one (before + 1) xs)
 
-all_pass : (limit : ℕ) (e : Entry) → passes (record { values = None; distances = None; farthest = false; every = 1 }) limit e ≡ true
-unfolding passes
-all_pass limit e = refl
+all_pass : (farthest : ℕ) (e : Entry) → passes (record { values = None; distances = None; farthest = false; every = 1 }) farthest e ≡ true
+unfolding passes is_within
+all_pass farthest e = refl
 
 pub all_wanted : (images : List Image) (level : ℕ) → wanted_boards (record { values = None; distances = None; farthest = false; every = 1 }) images level ≡ tuples 12 level
 unfolding wanted_boards
-all_wanted images level = each-one 0 _ ∙ filter-all _ (λ b. all_pass (limit_of images level) (entry_of images b)) (tuples 12 level)
+all_wanted images level = each-one 0 _ ∙ filter-all _ (λ b. all_pass (farthest_of (record { values = None; distances = None; farthest = false; every = 1 }) images level) (entry_of images b)) (tuples 12 level)

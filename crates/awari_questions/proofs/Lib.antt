@@ -1,4 +1,5 @@
 pub mod PlayLaws
+pub mod MemoLaws
 pub mod ChoiceLaws
 pub mod ListingLaws
 pub mod ShareLaws

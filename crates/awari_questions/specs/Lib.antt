@@ -3,6 +3,7 @@ pub mod Boards
 pub mod Counts
 pub mod Listing
 pub mod Loads
+pub mod Memo
 pub mod Numbers
 pub mod Places
 pub mod Plays

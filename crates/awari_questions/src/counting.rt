@@ -1,12 +1,14 @@
 //! The command `plays`: how many plays of a length there are from a board.
 
-ghost use Rattle.std.specs.Prelude.{◌≡◌, ◌≤◌, ◌^◌, IfSome, IsNone, IfOk, IfErr};
-ghost use Rattle.awari_questions.specs.Plays.{AreCounts, IsCounted, IsNotCounted, PrintsPlays, one, over_plays};
+ghost use Rattle.std.specs.Prelude.{◌≡◌, ◌≤◌, IfOk, IfErr};
+ghost use Rattle.awari_questions.specs.Plays.{AreCounts, IsCounted, IsNotCounted, IsUncounted, PrintsPlays};
 ghost use Rattle.awari_questions.specs.declared.counting.PlaysFault.TheVariants as plays_fault;
 
+use crate::memo::Memo;
 use crate::sums::PlayCounts;
 use awari_answers::{Replies, print, refuse, status_of};
 use awari_board::{Board, BoardFault};
+use std::alloc::{AllocError, Global};
 use std::fmt;
 
 /// Why plays are not counted. It is printed as the fault inside it, or as its number and its name.
@@ -16,6 +18,8 @@ pub enum PlaysFault {
     Board { fault: BoardFault },
     /// 94: there are 2^64 plays or more.
     Overflow,
+    /// 84: there is no memory for what was counted.
+    Memory,
 }
 
 impl From<BoardFault> for PlaysFault {
@@ -23,6 +27,14 @@ impl From<BoardFault> for PlaysFault {
 
     fn from(fault: BoardFault) -> Self {
         PlaysFault::Board { fault }
+    }
+}
+
+impl From<AllocError> for PlaysFault {
+    ghost from_gives = { λ _ e. e ≡ plays_fault.Memory };
+
+    fn from(_error: AllocError) -> Self {
+        PlaysFault::Memory
     }
 }
 
@@ -36,6 +48,7 @@ impl fmt::Display for PlaysFault {
         match *self {
             PlaysFault::Board { fault } => write!(f, "{fault}"),
             PlaysFault::Overflow => write!(f, "94 Overflow"),
+            PlaysFault::Memory => write!(f, "84 Memory"),
         }
     }
 }
@@ -51,44 +64,60 @@ fn last_of(captured: u8, board: &Board) -> PlayCounts
     }
 }
 
-/// The plays of so many plies from the board, if they fit. The ply before captured so many stones.
-fn counts_after(captured: u8, board: &Board, plies: u8) -> Option<PlayCounts>
-    ensures some { IfSome result (AreCounts plies captured board.now) }
-    ensures none { IsNone result → 2 ^ 64 ≤ over_plays one plies captured board.now }
+/// The plays of so many plies from the board. The ply before captured so many stones.
+fn counts_after(
+    memo: &mut Memo,
+    captured: u8,
+    board: &Board,
+    plies: u8,
+) -> Result<PlayCounts, PlaysFault>
+    ensures counted { IfOk result (AreCounts plies captured board.now) }
+    ensures fault { IfErr result (IsUncounted plies captured board.now) }
 {
     if plies == 0 {
-        return Some(last_of(captured, board));
+        return Ok(last_of(captured, board));
+    }
+    if let Some(counts) = memo.known(board, plies) {
+        return Ok(counts);
     }
     let mut counts = PlayCounts::NONE;
     for pit in 0..6u8 {
         let Ok(moved) = board.play(pit) else {
             continue;
         };
-        let after = counts_after(moved.captured, &moved.board, plies - 1)?;
-        counts = counts.plus(after)?;
+        let after = match counts_after(memo, moved.captured, &moved.board, plies - 1) {
+            Ok(after) => after,
+            Err(fault) => return Err(fault),
+        };
+        let Some(sum) = counts.plus(after) else {
+            return Err(PlaysFault::Overflow);
+        };
+        counts = sum;
     }
-    Some(counts)
+    // Before the last ply there are the most boards, and each is soon counted again.
+    if plies > 1 {
+        memo.keep(board, plies, counts)?;
+    }
+    Ok(counts)
 }
 
 /// How many plays of so many plies there are from the board that `text` spells. A text that is not a
-/// board is refused as [`Board::parse`] refuses it, and 2^64 plays or more as 94. It takes no memory.
-pub fn plays_from(text: &[u8], plies: u8) -> Result<PlayCounts, PlaysFault>
+/// board is refused as [`Board::parse`] refuses it, 2^64 plays or more as 94, and want of memory as 84. It takes
+/// memory for each board that plays reach before their last two plies.
+pub fn plays_from(alloc: Global, text: &[u8], plies: u8) -> Result<PlayCounts, PlaysFault>
     ensures counted { IfOk result (IsCounted text.now plies) }
     ensures fault { IfErr result (IsNotCounted text.now plies) }
 {
     let board = Board::parse(text)?;
-    match counts_after(0, &board, plies) {
-        Some(counts) => Ok(counts),
-        None => Err(PlaysFault::Overflow),
-    }
+    counts_after(&mut Memo::new(alloc), 0, &board, plies)
 }
 
 /// Prints how many plays of so many plies there are from a board, or the refusal.
-pub fn run_plays<W: Replies>(board: &str, plies: u8, writer: &mut W) -> u8
+pub fn run_plays<W: Replies>(alloc: Global, board: &str, plies: u8, writer: &mut W) -> u8
     ensures status { result ≤ 1 }
     ensures counted { result ≡ 0 → PrintsPlays board.now plies (W.contents writer.old) (W.contents writer.new) }
 {
-    match plays_from(board.as_bytes(), plies) {
+    match plays_from(alloc, board.as_bytes(), plies) {
         Ok(counts) => status_of(print(writer, &counts)),
         Err(fault) => refuse(writer, fault),
     }

@@ -23,6 +23,7 @@ mod counts;
 mod laws;
 mod listing;
 mod loads;
+mod memo;
 mod places;
 mod shown;
 mod sources;

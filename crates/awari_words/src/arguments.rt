@@ -274,7 +274,7 @@ pub(crate) fn farthest<'a>(alloc: Global) -> Arg<'a>
     Arg::new(alloc, "farthest")
         .long("farthest")
         .action(ArgAction::SetTrue)
-        .help("Boards of the level's greatest distance")
+        .help("Of these, boards of the greatest distance")
 }
 
 pub(crate) fn every<'a>(alloc: Global) -> Arg<'a>

@@ -21,13 +21,13 @@ loop-rank-preserved-then-not-is_due g c =
     let low : c.args.level ≤ 24 = omega (arith, c.requires.low) in
     let inside : c.loop-rank.rank < size_of c.args.level = omega (arith, c.loop-rank-test.true, c.size-rank-end.ensures.boards) in
     record {
-      few = few-more c.loop-rank.passed c.is_due.new.passed c.loop-rank.rank (passes c.args.wanted.now c.in-Ok.limit c.in-Ok-read_entry.entry) c.is_due.ensures.passed i.few;
+      few = few-more c.loop-rank.passed c.is_due.new.passed c.loop-rank.rank (passes c.args.wanted.now c.in-Ok.farthest c.in-Ok-read_entry.entry) c.is_due.ensures.passed i.few;
       fewer = omega (arith, i.fewer);
       unchanged = unchanged_then _ _ _ i.unchanged c.in-Ok-read_entry.ensures.same;
       numbered = λ images says.
           let before = i.numbered images says in
           let still = says_still c.args.source _ _ images i.unchanged.stands says in
-          let weighed = weighs c.args.wanted.now images c.args.level c.loop-rank.passed c.is_due.new.passed c.in-Ok.limit c.in-Ok-read_entry.entry c.is_due.result (c.in-Ok.ensures.limit images says) c.is_due.ensures.passed c.is_due.ensures.due in
+          let weighed = weighs c.args.wanted.now images c.args.level c.loop-rank.passed c.is_due.new.passed c.in-Ok.farthest c.in-Ok-read_entry.entry c.is_due.result (c.in-Ok.ensures.farthest images says) c.is_due.ensures.passed c.is_due.ensures.due in
           let (board, at) = some_entry images c.args.level c.loop-rank.rank c.in-Ok-read_entry.entry (c.in-Ok-read_entry.ensures.entry images still before.0) low inside in
           (c.in-Ok-read_entry.ensures.run images still before.0, numbered-skip _ _ _ _ _ _ _ board _ _ before.1 at weighed c.if-not-is_due.true);
     }
@@ -38,13 +38,13 @@ loop-rank-preserved g c =
     let low : c.args.level ≤ 24 = omega (arith, c.requires.low) in
     let inside : c.loop-rank.rank < size_of c.args.level = omega (arith, c.loop-rank-test.true, c.size-rank-end.ensures.boards) in
     record {
-      few = few-more c.loop-rank.passed c.is_due.new.passed c.loop-rank.rank (passes c.args.wanted.now c.in-Ok.limit c.in-Ok-read_entry.entry) c.is_due.ensures.passed i.few;
+      few = few-more c.loop-rank.passed c.is_due.new.passed c.loop-rank.rank (passes c.args.wanted.now c.in-Ok.farthest c.in-Ok-read_entry.entry) c.is_due.ensures.passed i.few;
       fewer = omega (arith, i.fewer);
       unchanged = unchanged_then _ _ _ i.unchanged c.in-Ok-read_entry.ensures.same;
       numbered = λ images says.
           let before = i.numbered images says in
           let still = says_still c.args.source _ _ images i.unchanged.stands says in
-          let weighed = weighs c.args.wanted.now images c.args.level c.loop-rank.passed c.is_due.new.passed c.in-Ok.limit c.in-Ok-read_entry.entry c.is_due.result (c.in-Ok.ensures.limit images says) c.is_due.ensures.passed c.is_due.ensures.due in
+          let weighed = weighs c.args.wanted.now images c.args.level c.loop-rank.passed c.is_due.new.passed c.in-Ok.farthest c.in-Ok-read_entry.entry c.is_due.result (c.in-Ok.ensures.farthest images says) c.is_due.ensures.passed c.is_due.ensures.due in
           let (board, at) = some_entry images c.args.level c.loop-rank.rank c.in-Ok-read_entry.entry (c.in-Ok-read_entry.ensures.entry images still before.0) low inside in
           (c.in-Ok-read_entry.ensures.run images still before.0, numbered-more _ _ _ _ _ _ _ board _ _ before.1 at weighed c.if-not-is_due.false);
     }
