@@ -140,7 +140,7 @@ def lies(page, awari, folder, made):
     path.write_bytes(rehashed(patched(ENTRIES + ENTRY * 4000, b"\x02")(path.read_bytes(), folder)))
     rank, rule = re.search(r"rank (\d+) rule (V\d)", run(awari, "verify", there)).groups()
     page.open(there)
-    page.show(page.js("return Rules.print(Rules.boardAt(5, arguments[0]))", int(rank)))
+    page.show(run(awari, "board", 5, rank))
     check("the rules tell it", f"breaks rule {rule}" in page.text("#worth"))
     path = there / "level_04.awdb"
     path.write_bytes(rehashed(patched(16, b"\0\0\0\x63")(path.read_bytes(), folder)))

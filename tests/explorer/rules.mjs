@@ -8,21 +8,18 @@ import { execFileSync, spawnSync } from "node:child_process";
 import { createHash } from "node:crypto";
 import { copyFileSync, mkdirSync, mkdtempSync, readFileSync, readdirSync, rmSync, writeFileSync } from "node:fs";
 import { tmpdir } from "node:os";
-import { dirname, join } from "node:path";
-import { fileURLToPath } from "node:url";
+import { join } from "node:path";
+import * as Levels from "../../explorer/src/levels.mjs";
+import { Record } from "../../explorer/src/record.mjs";
+import * as Rules from "../../explorer/src/rules.mjs";
+import * as Scans from "../../explorer/src/scans.mjs";
+import { Sha256 } from "../../explorer/src/sha256.mjs";
 
 const [awari, folder] = process.argv.slice(2);
 if (!folder) {
   console.error("node tests/explorer/rules.mjs AWARI FOLDER");
   process.exit(2);
 }
-
-// The scripts are those of a page, which share one scope. So they are joined here.
-const HERE = dirname(fileURLToPath(import.meta.url));
-const sourceOf = name => readFileSync(join(HERE, "../../explorer", `${name}.js`), "utf8").replace('"use strict";', "");
-const sources = ["words", "rules", "levels", "sha256", "scans", "record"].map(sourceOf).join("\n");
-const { Rules, Levels, Scans, Sha256, Record } =
-  new Function(`"use strict";${sources}\nreturn { Rules, Levels, Scans, Sha256, Record };`)();
 
 const MOST_FAULTS_TOLD = 20;
 let passed = 0, failed = 0;
@@ -201,7 +198,7 @@ await section("200 endless lines beside `awari line`, below a level of the great
 await section("counts beside `awari build`, and the first boards of each value and distance", async () => {
   const built = run("build", String(HIGHEST)).split("\n");
   for (const level of shelf.levels) {
-    const counts = await Scans.count(level), { won, even, lost, greatest } = counts, view = await viewOf(level);
+    const counts = await Scans.countBoards(level), { won, even, lost, greatest } = counts, view = await viewOf(level);
     const line = `level ${level.number} boards ${level.boards} won ${won} even ${even} lost ${lost} limit ${greatest}`;
     expect(`level ${level.number}`, line, built[level.number]);
     const sum = columns => columns.reduce((all, { boards }) => all + boards, 0);
@@ -229,7 +226,7 @@ await section("digests, by the browser's SHA-256 and piece by piece", async () =
 });
 
 await section("work that is stopped", async () => {
-  for (const scan of [Scans.count, Scans.checkDigest]) {
+  for (const scan of [Scans.countBoards, Scans.checkDigest]) {
     const control = new AbortController(), parts = [];
     const told = part => {
       parts.push(part);

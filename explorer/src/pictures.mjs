@@ -1,9 +1,12 @@
-"use strict";
+// @ts-check
 // Numbers as pictures: columns of which one is chosen, by a finger, a mouse or the arrow keys.
 //
 // A picture is a slider for those who do not see it: its value is the chosen column, in words.
 
-class Picture {
+import { button, drawing, element } from "./elements.mjs";
+import { grouped, kindOf, percent, plies, plural, signed } from "./words.mjs";
+
+export class Picture {
   /**
    * A column is { boards, first, kind, text }: how many boards, the rank of the first of them, its colour, and
    * what they have in common. `isLogarithmic` is for numbers of which some are a thousand times as large as
@@ -16,14 +19,14 @@ class Picture {
     this.chosen = Math.max(0, columns.findIndex(column => column.boards === this.most));
     this.bars = columns.map((column, index) => this.makeBar(column, index));
     this.plot = this.makePlot(title);
-    this.readout = Elements.element("span", { class: "readout-text" });
-    this.showButton = Elements.button({ class: "button small-button" }, () => this.showChosen(), "Show one");
-    const endTexts = ends.map(end => Elements.element("span", {}, end));
-    this.figure = Elements.element("figure", { class: "picture", id },
-      Elements.element("figcaption", {}, title),
+    this.readout = element("span", { class: "readout-text" });
+    this.showButton = button({ class: "button small-button" }, () => this.showChosen(), "Show one");
+    const endTexts = ends.map(end => element("span", {}, end));
+    this.figure = element("figure", { class: "picture", id },
+      element("figcaption", {}, title),
       this.plot,
-      Elements.element("div", { class: "ends", "aria-hidden": "true" }, ...endTexts),
-      Elements.element("p", { class: "readout" }, this.readout, this.showButton));
+      element("div", { class: "ends", "aria-hidden": "true" }, ...endTexts),
+      element("p", { class: "readout" }, this.readout, this.showButton));
     this.figure.style.setProperty("--gutter", `${this.gutterWidth()}rem`);
     this.tell(this.chosen);
   }
@@ -36,20 +39,20 @@ class Picture {
   makeBar({ boards, kind }, index) {
     const width = 1000 / this.columns.length, gap = width > 8 ? 2 : 0;
     const height = boards === 0 ? 0 : Math.max(2, 100 * this.heightOf(boards));
-    return Elements.drawing("rect", {
+    return drawing("rect", {
       class: kind, x: index * width + gap / 2, y: 100 - height, width: width - gap, height,
     });
   }
 
   makePlot(title) {
-    const plot = Elements.element("div", {
+    const plot = element("div", {
       class: "plot", role: "slider", tabindex: "0", "aria-label": title, "aria-valuemin": "0",
       "aria-valuemax": String(this.columns.length - 1),
     });
     const drawn = { viewBox: "0 0 1000 100", preserveAspectRatio: "none", "aria-hidden": "true" };
     plot.append(
       ...this.gridNumbers().map(number => this.makeGridLine(number)),
-      Elements.drawing("svg", drawn, ...this.bars));
+      drawing("svg", drawn, ...this.bars));
     plot.addEventListener("keydown", event => this.onKey(event));
     plot.addEventListener("pointerdown", event => this.choose(this.columnAt(event)));
     plot.addEventListener("pointermove", event => {
@@ -79,13 +82,13 @@ class Picture {
 
   /** Room for the widest number of a line. A digit of that size is some .45rem wide. */
   gutterWidth() {
-    const widest = Math.max(0, ...this.gridNumbers().map(number => Words.grouped(number).length));
+    const widest = Math.max(0, ...this.gridNumbers().map(number => grouped(number).length));
     return 0.45 * widest + 0.5;
   }
 
   makeGridLine(number) {
-    const line = Elements.element("div", { class: "grid-line", "aria-hidden": "true" },
-      Elements.element("span", {}, Words.grouped(number)));
+    const line = element("div", { class: "grid-line", "aria-hidden": "true" },
+      element("span", {}, grouped(number)));
     line.style.bottom = `${100 * this.heightOf(number)}%`;
     return line;
   }
@@ -117,7 +120,7 @@ class Picture {
   /** Says what a column is, without choosing it. */
   tell(index) {
     const { boards, text } = this.columns[index];
-    const told = `${text}: ${Words.plural(boards, "board")} (${Words.percent(boards, this.total)})`;
+    const told = `${text}: ${plural(boards, "board")} (${percent(boards, this.total)})`;
     this.readout.textContent = told;
     this.bars.forEach((bar, each) => bar.classList.toggle("chosen", each === index));
     this.plot.setAttribute("aria-valuenow", String(index));
@@ -136,8 +139,8 @@ class Picture {
   static ofValues(counts, show) {
     const { number, boards } = counts.level;
     const columns = counts.values.map(({ value, boards, first }) =>
-      ({ boards, first, kind: Words.kindOf(value), text: `Value ${Words.signed(value)}` }));
-    const ends = number === 0 ? ["", "0", ""] : [Words.signed(-number), "0", Words.signed(number)];
+      ({ boards, first, kind: kindOf(value), text: `Value ${signed(value)}` }));
+    const ends = number === 0 ? ["", "0", ""] : [signed(-number), "0", signed(number)];
     return new Picture({ id: "picture-values", title: "Boards by value", columns, ends, total: boards, show });
   }
 
@@ -147,7 +150,7 @@ class Picture {
     const together = Math.max(1, Math.ceil(last / MOST_COLUMNS)), columns = [Picture.joinedColumn([all[0]])];
     for (let from = 1; from <= last; from += together)
       columns.push(Picture.joinedColumn(all.slice(from, from + together)));
-    const ends = last === 0 ? ["", "0", ""] : ["0", "", Words.plies(last)];
+    const ends = last === 0 ? ["", "0", ""] : ["0", "", plies(last)];
     return new Picture({
       id: "picture-distances", title: "Boards by distance", columns, ends, isLogarithmic: true,
       total: counts.level.boards, show,

@@ -1,14 +1,21 @@
-"use strict";
+// @ts-check
 // The levels of the folder, a button each, and a summary of one of them: its numbers, two pictures, its digest.
+
+import { button, byId, element } from "./elements.mjs";
+import { fileSizeOf, HIGHEST, nameOf, Shelf } from "./levels.mjs";
+import { Picture } from "./pictures.mjs";
+import { boardAt, sizeOf } from "./rules.mjs";
+import { checkDigest, countBoards } from "./scans.mjs";
+import { grouped, percent, plies, plural, sizeText } from "./words.mjs";
 
 /** Levels up to this size are counted unasked, which takes less than half a second. */
 const COUNTED_UNASKED_BYTES = 32e6;
 
-class LevelsView {
+export class LevelsView {
   /** `hands` has showBoard(board) and say(text). */
   constructor({ card, buttons, summary }, hands) {
     Object.assign(this, { card, buttons, summary, hands });
-    this.open(new Levels.Shelf());
+    this.open(new Shelf());
   }
 
   /** Takes another folder. What was begun on the one before is stopped. */
@@ -36,7 +43,7 @@ class LevelsView {
   /** A new board leads back to its own level. */
   forget() { this.chosen = null; }
 
-  get number() { return this.chosen ?? Math.min(this.stones ?? 0, Levels.HIGHEST); }
+  get number() { return this.chosen ?? Math.min(this.stones ?? 0, HIGHEST); }
 
   redraw() {
     const held = this.card.contains(document.activeElement) ? document.activeElement : null;
@@ -50,7 +57,7 @@ class LevelsView {
   /** To what had it before: to itself if it is still there, or to what was made anew in its place. */
   giveFocusBack(held) {
     if (held?.isConnected) held.focus();
-    else if (held?.id) Elements.byId(held.id)?.focus();
+    else if (held?.id) byId(held.id)?.focus();
   }
 
   redrawIfShown(number) { if (number === this.drawn) this.redraw(); }
@@ -68,20 +75,20 @@ class LevelsView {
       this.chosen = number;
       this.redraw();
     };
-    return Elements.button(attributes, choose, String(number));
+    return button(attributes, choose, String(number));
   }
 
   // ---- the summary ----
 
   makeSummary(number) {
-    const { element } = Elements, level = this.shelf.level(number), fault = this.shelf.fault(number);
+    const level = this.shelf.level(number), fault = this.shelf.fault(number);
     if (fault) return [element("p", { class: "status wrong" }, `${fault.message}.`)];
     if (!level) return [this.makeMissing(number)];
     const counts = this.counts.get(number);
     return [
       element("div", { class: "head" },
         element("b", {}, `Level ${number}`),
-        element("span", { class: "soft small" }, `${level.file.name}, ${Words.bytes(level.file.size)}`)),
+        element("span", { class: "soft small" }, `${level.file.name}, ${sizeText(level.file.size)}`)),
       ...(counts?.level ? [this.makeBar(counts)] : []),
       this.makeNumbers(level, counts),
       ...this.makePictures(number, counts),
@@ -91,26 +98,25 @@ class LevelsView {
   }
 
   makeMissing(number) {
-    const { element } = Elements, boards = Words.grouped(Rules.sizeOf(number));
+    const boards = grouped(sizeOf(number));
     return element("p", { class: "status" },
-      element("b", {}, Levels.nameOf(number)), " is not in the folder. ",
+      element("b", {}, nameOf(number)), " is not in the folder. ",
       element("code", {}, `awari build ${number} --folder FOLDER`),
-      ` makes it: ${boards} ${number === 0 ? "board" : "boards"}, ${Words.bytes(Levels.fileSizeOf(number))}.`);
+      ` makes it: ${boards} ${number === 0 ? "board" : "boards"}, ${sizeText(fileSizeOf(number))}.`);
   }
 
   makeBar(counts) {
     const parts = ["won", "even", "lost"];
-    const text = parts.map(part => `${Words.percent(counts[part], counts.level.boards)} ${part}`).join(", ");
-    return Elements.element("div", { class: "bar", role: "img", "aria-label": text },
+    const text = parts.map(part => `${percent(counts[part], counts.level.boards)} ${part}`).join(", ");
+    return element("div", { class: "bar", role: "img", "aria-label": text },
       ...parts.filter(part => counts[part] > 0).map(part => {
-        const piece = Elements.element("span", { class: part });
+        const piece = element("span", { class: part });
         piece.style.flexGrow = counts[part];
         return piece;
       }));
   }
 
   makeNumbers(level, counts) {
-    const { element } = Elements, { grouped, percent, plies, plural } = Words;
     const row = (id, name, ...value) => [element("dt", {}, ...name), element("dd", { id: `level-${id}` }, ...value)];
     const part = (kind, name) => row(kind, [element("span", { class: `key ${kind}` }), `${name} for the mover`],
       grouped(counts[kind]), " ", element("span", { class: "soft" }, `(${percent(counts[kind], level.boards)})`));
@@ -126,28 +132,28 @@ class LevelsView {
   makePictures(number, counts) {
     if (!counts?.level) return [];
     if (!this.pictures.has(number)) {
-      const show = rank => this.hands.showBoard(Rules.boardAt(number, rank));
+      const show = rank => this.hands.showBoard(boardAt(number, rank));
       this.pictures.set(number, [Picture.ofValues(counts, show), Picture.ofDistances(counts, show)]);
     }
     const figures = this.pictures.get(number).map(picture => picture.figure);
-    return [Elements.element("div", { class: "pictures" }, ...figures)];
+    return [element("div", { class: "pictures" }, ...figures)];
   }
 
   makeActions(level, counts) {
-    const { button, element } = Elements, { number } = level, isSingle = this.shelf.levels.length === 1;
+    const { number } = level, isSingle = this.shelf.levels.length === 1;
     const isBusy = what => [...this.jobs].some(job => job.number === number && job.what === what);
-    const show = () => this.hands.showBoard(Rules.boardAt(number, counts.firstOfGreatest));
+    const show = () => this.hands.showBoard(boardAt(number, counts.firstOfGreatest));
     const action = (id, act, text) => button({ id, class: "button" }, act, text);
-    const countText = `Count the boards (${Words.bytes(level.file.size)})`;
+    const countText = `Count the boards (${sizeText(level.file.size)})`;
     return element("div", { class: "row actions" },
       !counts && !isBusy("Counting") && action("count", () => this.count(number), countText),
-      counts?.level && action("farthest", show, `Show a board of ${Words.plies(counts.greatest)}`),
+      counts?.level && action("farthest", show, `Show a board of ${plies(counts.greatest)}`),
       !isBusy("Hashing") && action("check", () => this.checkDigest(number), "Check SHA-256"),
       !isSingle && this.jobs.size === 0 && action("check-all", () => this.checkAll(), "Check all levels"));
   }
 
   makeRemarks(level, counts) {
-    const { element } = Elements, digest = this.digests.get(level.number), remarks = [];
+    const digest = this.digests.get(level.number), remarks = [];
     if (counts?.fault) remarks.push(element("p", { class: "status wrong" }, `${counts.fault.message}.`));
     if (counts?.level && counts.greatest !== level.limit)
       remarks.push(element("p", { class: "status wrong" },
@@ -158,7 +164,7 @@ class LevelsView {
   }
 
   makeDigestRemark(level, { isRight, found, written, fault }) {
-    const { element } = Elements, start = digest => `${digest.slice(0, 16)}…`;
+    const start = digest => `${digest.slice(0, 16)}…`;
     const say = (kind, title, text) =>
       element("p", { id: "checked", class: `status ${kind}` }, element("b", {}, title), text);
     if (fault) return say("wrong", "SHA-256 is not known. ", `${fault.message}.`);
@@ -170,7 +176,7 @@ class LevelsView {
 
   belowText(number) {
     if (number === 0) return "";
-    const below = Levels.nameOf(number - 1);
+    const below = nameOf(number - 1);
     return this.shelf.level(number - 1)
       ? ` It was built over the ${below} that is here.`
       : ` ${below}, over which it was built, is not here.`;
@@ -179,7 +185,7 @@ class LevelsView {
   // ---- work on whole files ----
 
   makeProgress(job) {
-    const { element, button } = Elements, text = `${job.what} ${Levels.nameOf(job.number)}`;
+    const text = `${job.what} ${nameOf(job.number)}`;
     job.bar = element("progress", { max: "1", value: job.part, "aria-label": text });
     const stop = () => {
       job.control.abort();
@@ -212,7 +218,7 @@ class LevelsView {
 
   async count(number) {
     const { shelf } = this;
-    const counts = await this.run("Counting", number, new AbortController(), Scans.count);
+    const counts = await this.run("Counting", number, new AbortController(), countBoards);
     if (shelf !== this.shelf) return;
     if (counts) this.counts.set(number, counts);
     else this.stopped.add(number);
@@ -222,7 +228,7 @@ class LevelsView {
   async checkDigest(number, control = new AbortController()) {
     const { shelf } = this;
     this.digests.delete(number);
-    const digest = await this.run("Hashing", number, control, Scans.checkDigest);
+    const digest = await this.run("Hashing", number, control, checkDigest);
     if (shelf !== this.shelf) return;
     if (digest) {
       const told = digest.isRight ? "SHA-256 is right" : "SHA-256 is wrong";

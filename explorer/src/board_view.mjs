@@ -1,35 +1,28 @@
-"use strict";
+// @ts-check
 // The board: twelve pits in two rows, each of them a button, and a line for each player.
-//
-// `shown` is what the page shows: { state, weighed, below, isEditing, isTaking }. `weighed` is null while the
-// entries are being read, and `below` is the side whose pits lie in the lower row.
 
-/** A grand slam and a capture, a value and a distance of a move, in words for a voice. */
-function wordsOfMove(move) {
-  const worth = move.fault || move.value === undefined ? "its worth is not known" : `worth ${Words.spoken(move.value)}`;
-  return [
-    move.captured ? `captures ${move.captured}` : move.isSlam ? "a grand slam, captures nothing" : "captures nothing",
-    worth,
-    ...(move.distance ? [`within ${Words.plies(move.distance)}`] : []),
-    ...(move.isPlan ? ["the plan"] : []),
-  ].join(", ");
-}
+import { drawing, element } from "./elements.mjs";
+import { isEnded, isLegal, play, refusalOf } from "./rules.mjs";
+import { wordsOfMove } from "./verdict.mjs";
+import { kindOf, plural, SIDES, signed } from "./words.mjs";
 
-class BoardView {
+export class BoardView {
   /** `hands` has what a hand does: press(pit), add(pit, stones) and set(pit, stones). */
   constructor(box, players, hands) {
     Object.assign(this, { players, hands });
     this.shown = null;
+    /** What the stones were laid for. */
+    this.laid = { state: null, below: 0 };
     /** The place to which the tabulator leads: the lower left one at first. */
     this.focused = 6;
     this.places = Array.from({ length: 12 }, (_, place) => this.makePit(place));
-    box.append(...this.places.slice(0, 6), Elements.element("div", { class: "middle" }), ...this.places.slice(6));
+    box.append(...this.places.slice(0, 6), element("div", { class: "middle" }), ...this.places.slice(6));
     box.addEventListener("keydown", event => this.onKey(event));
   }
 
   makePit(place) {
-    const pit = Elements.element("button", { type: "button", class: `pit ${place < 6 ? "upper" : "lower"}` },
-      ...["number", "tag", "bowl", "count"].map(part => Elements.element("span", { class: part })));
+    const pit = element("button", { type: "button", class: `pit ${place < 6 ? "upper" : "lower"}` },
+      ...["number", "tag", "bowl", "count"].map(part => element("span", { class: part })));
     pit.addEventListener("click", () => this.hands.press(this.pitAt(place)));
     pit.addEventListener("contextmenu", event => this.onRightClick(event, place));
     pit.addEventListener("focus", () => this.onFocus(place));
@@ -47,12 +40,17 @@ class BoardView {
 
   // ---- drawing ----
 
-  /** Draws the board. Stones are laid anew, and those that fell are marked, only if the state is a new one. */
-  draw(shown, isNewState) {
+  /**
+   * Draws the board. Stones are laid anew, and those that fell are marked, only if the state is another one or
+   * the board was turned.
+   */
+  draw(shown) {
+    const isLaid = this.laid.state === shown.state && this.laid.below === shown.below;
     this.shown = shown;
+    this.laid = { state: shown.state, below: shown.below };
     this.places.forEach((element, place) => {
       this.drawPit(element, this.pitAt(place));
-      if (isNewState) this.layStones(element, this.pitAt(place));
+      if (!isLaid) this.layStones(element, this.pitAt(place));
     });
     this.drawPlayers();
     this.leadTabulator();
@@ -60,7 +58,7 @@ class BoardView {
 
   drawPit(element, pit) {
     const { state: { board }, weighed, isEditing } = this.shown;
-    const canPlay = !isEditing && Rules.isLegal(board, pit);
+    const canPlay = !isEditing && isLegal(board, pit);
     const [number, tag, , count] = element.children;
     number.textContent = pit;
     count.textContent = board[pit];
@@ -81,30 +79,30 @@ class BoardView {
     if (!move) return [];
     const takes = move.captured ? `takes ${move.captured}` : "";
     if (move.fault) return takes ? [this.makeTag("even", "?", takes)] : [];
-    const kind = `${Words.kindOf(move.value)}${move.isPlan ? " plan" : ""}`;
-    return [this.makeTag(kind, Words.signed(move.value), takes || this.withinOf(move) || "even")];
+    const kind = `${kindOf(move.value)}${move.isPlan ? " plan" : ""}`;
+    return [this.makeTag(kind, signed(move.value), takes || this.withinOf(move) || "even")];
   }
 
   makeTag(kind, value, ...below) {
-    return Elements.element("span", { class: kind },
-      Elements.element("b", {}, value),
-      Elements.element("small", {}, ...below));
+    return element("span", { class: kind },
+      element("b", {}, value),
+      element("small", {}, ...below));
   }
 
   /** The distance. A narrow board has no room for the word behind it. */
   withinOf({ distance }) {
     if (!distance) return "";
-    const unit = Elements.element("span", { class: "wide" }, distance === 1 ? " ply" : " plies");
-    return Elements.element("span", {}, `in ${distance}`, unit);
+    const unit = element("span", { class: "wide" }, distance === 1 ? " ply" : " plies");
+    return element("span", {}, `in ${distance}`, unit);
   }
 
   labelOf(pit) {
     const { state: { board, mover }, weighed, isEditing, isTaking } = this.shown;
-    const side = Words.SIDES[pit < 6 ? mover : 1 - mover];
-    const held = `${side}, pit ${pit}, ${Words.plural(board[pit], "stone")}`;
+    const side = SIDES[pit < 6 ? mover : 1 - mover];
+    const held = `${side}, pit ${pit}, ${plural(board[pit], "stone")}`;
     if (isEditing) return `${held}. ${isTaking ? "Take" : "Add"} a stone`;
     if (pit > 5) return held;
-    const refused = Rules.refusalOf(board, pit);
+    const refused = refusalOf(board, pit);
     if (refused) return `${held}. ${refused.message}`;
     const move = weighed?.moves.find(each => each.pit === pit);
     return `${held}. Play${move ? `: ${wordsOfMove(move)}` : ""}`;
@@ -140,32 +138,32 @@ class BoardView {
     const stones = Array.from({ length: count }, (_, index) => {
       const angle = index * GOLDEN_ANGLE + pit * 1.7;
       const far = reach * Math.sqrt((index + (count < 4 ? 0.9 : 0.5)) / count);
-      return Elements.drawing("circle", {
+      return drawing("circle", {
         cx: (50 + far * Math.cos(angle)).toFixed(1), cy: (51 + far * Math.sin(angle)).toFixed(1), r: radius,
         fill: `url(#stone-${(index * 7 + pit) % 3})`, stroke: "#0005", "stroke-width": 0.8,
       });
     });
-    return Elements.drawing("svg", { viewBox: "0 0 100 100", "aria-hidden": "true" }, ...stones);
+    return drawing("svg", { viewBox: "0 0 100 100", "aria-hidden": "true" }, ...stones);
   }
 
   drawPlayers() {
-    const { state: { board, mover, captured }, below } = this.shown, isEnded = Rules.isEnded(board);
+    const { state: { board, mover, captured }, below } = this.shown, hasEnded = isEnded(board);
     [1 - below, below].forEach((side, row) => {
-      const isMover = side === mover, stones = Elements.element("b", {}, String(captured[side]));
-      this.players[row].classList.toggle("moves", isMover && !isEnded);
+      const isMover = side === mover, stones = element("b", {}, String(captured[side]));
+      this.players[row].classList.toggle("moves", isMover && !hasEnded);
       this.players[row].replaceChildren(
-        Elements.element("span", { class: "dot" }),
-        Elements.element("span", { class: "name" }, Words.SIDES[side]),
-        Elements.element("span", { class: "turn" }, isMover && (isEnded ? "has no move" : "to move")),
-        Elements.element("span", { class: "captured" }, "captured ", stones));
+        element("span", { class: "dot" }),
+        element("span", { class: "name" }, SIDES[side]),
+        element("span", { class: "turn" }, isMover && (hasEnded ? "has no move" : "to move")),
+        element("span", { class: "captured" }, "captured ", stones));
     });
   }
 
   /** Shows where the stones of a pit would fall and what they would capture; of null, nothing. */
   preview(pit) {
     const { state: { board }, isEditing } = this.shown;
-    const canPlay = pit !== null && !isEditing && Rules.isLegal(board, pit);
-    const move = canPlay ? Rules.play(board, pit) : { pit: null, falls: [], taken: [] };
+    const canPlay = pit !== null && !isEditing && isLegal(board, pit);
+    const move = canPlay ? play(board, pit) : { pit: null, falls: [], taken: [] };
     this.places.forEach((element, place) => {
       const here = this.pitAt(place), times = move.falls.filter(fall => fall === here).length;
       element.classList.toggle("taken", move.taken.includes(here));
@@ -175,7 +173,7 @@ class BoardView {
     });
   }
 
-  makePlus(times) { return Elements.element("span", { class: "plus", "aria-hidden": "true" }, `+${times}`); }
+  makePlus(times) { return element("span", { class: "plus", "aria-hidden": "true" }, `+${times}`); }
 
   // ---- hands ----
 

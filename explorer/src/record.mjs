@@ -1,10 +1,20 @@
-"use strict";
+// @ts-check
 // What was set up and played: a list of states, one of which is shown. Nothing here knows of the page.
-//
-// A state is a board as its mover sees it, whose move it is (0 South, 1 North), what each side has captured,
-// and the move that led here. That is null if the board was set up.
 
-class Record {
+import { areSame, play } from "./rules.mjs";
+
+/**
+ * @typedef {import("./rules.mjs").Board} Board
+ *
+ * @typedef {object} State
+ * @property {Board} board as its mover sees it
+ * @property {number} mover whose move it is: 0 South, 1 North
+ * @property {number[]} captured what each side has captured
+ * @property {import("./rules.mjs").Move | null} move the move that led here, null if the board was set up
+ */
+
+export class Record {
+  /** @param {Board} board */
   constructor(board) { this.startAt(board); }
 
   startAt(board) {
@@ -12,10 +22,12 @@ class Record {
     this.at = 0;
   }
 
+  /** @returns {State} */
   static stateOf(board, mover) { return { board, mover, captured: [0, 0], move: null }; }
 
+  /** @param {State} state @param {number} pit @returns {State} */
   static stateAfter(state, pit) {
-    const move = Rules.play(state.board, pit), captured = [...state.captured];
+    const move = play(state.board, pit), captured = [...state.captured];
     captured[state.mover] += move.captured;
     return { board: move.next, mover: 1 - state.mover, captured, move };
   }
@@ -35,7 +47,7 @@ class Record {
   play(pit) { this.add(Record.stateAfter(this.now, pit)); }
 
   setUp(board, mover) {
-    const isShown = Rules.areSame(board, this.now.board) && mover === this.now.mover && !this.now.move;
+    const isShown = areSame(board, this.now.board) && mover === this.now.mover && !this.now.move;
     if (!isShown) this.add(Record.stateOf(board, mover));
   }
 
@@ -58,7 +70,7 @@ class Record {
     const { board, mover } = this.now;
     for (let index = this.at; this.states[index].move?.captured === 0; index--) {
       const before = this.states[index - 1];
-      if (before.mover === mover && Rules.areSame(before.board, board)) return true;
+      if (before.mover === mover && areSame(before.board, board)) return true;
     }
     return false;
   }

@@ -1,0 +1,126 @@
+// @ts-check
+// What hands and keys do: buttons, fields, what is pasted or dropped, and the address.
+
+import { readAddress } from "./address.mjs";
+import { byId } from "./elements.mjs";
+import { filesOfDrop, filesOfInput } from "./files.mjs";
+
+/**
+ * @typedef {import("./session.mjs").Session} Session
+ * @typedef {import("./views.mjs").Views} Views
+ */
+
+const KEYS = { b: "best", p: "auto", u: "undo", r: "redo", t: "turn", s: "swap", e: "edit" };
+
+const isField = target => /^(INPUT|TEXTAREA|SELECT)$/.test(target.tagName) && target.type !== "checkbox";
+
+/** @param {Session} session @param {Views} views */
+export function bindHands(session, views) {
+  const actions = actionsOf(session, views);
+  for (const [id, action] of Object.entries(actions)) byId(id).addEventListener("click", action);
+  byId("keep-low").addEventListener("change", ({ target }) => session.keepMoverBelow(target.checked));
+  bindWords(session, views);
+  bindKeys(session, actions);
+  bindFiles(session, views);
+}
+
+/** What each button does, by its name. */
+function actionsOf(session, views) {
+  return {
+    undo: () => session.undo(),
+    redo: () => session.redo(),
+    start: () => session.goToStart(),
+    best: () => session.play(session.plan),
+    auto: () => session.togglePlaying(),
+    turn: () => session.turnBoard(),
+    swap: () => session.swapMover(),
+    edit: () => session.setEditing(!session.shown.isEditing),
+    adds: () => session.setTaking(false),
+    takes: () => session.setTaking(true),
+    clear: () => session.clear(),
+    random: () => session.setRandomBoard(Number(byId("random-stones").value)),
+    copy: () => copyWord(session, views),
+  };
+}
+
+function bindKeys(session, actions) {
+  addEventListener("keydown", event => {
+    if (event.defaultPrevented || event.ctrlKey || event.metaKey || event.altKey) return;
+    if (!byId("keys-on").checked || isField(event.target)) return;
+    if (event.key === "Escape" && session.shown.isEditing) session.setEditing(false);
+    else if (/^[0-5]$/.test(event.key) && !session.shown.isEditing) session.play(Number(event.key));
+    else if (event.key in KEYS && !byId(KEYS[event.key]).disabled) actions[KEYS[event.key]]();
+  });
+}
+
+// ---- words ----
+
+/** Shows the board that a word spells: null, or what is wrong with the word. */
+function showWord(session, views, text) {
+  try {
+    session.setWord(text);
+    return null;
+  } catch (fault) {
+    views.refuseWord(fault);
+    return fault;
+  }
+}
+
+function bindWords(session, views) {
+  const showOrHint = text => {
+    const fault = showWord(session, views, text);
+    if (fault) views.hint(fault.message);
+  };
+  byId("word-form").addEventListener("submit", event => {
+    event.preventDefault();
+    showWord(session, views, byId("word").value);
+  });
+  addEventListener("paste", event => {
+    const text = event.clipboardData?.getData("text") ?? "";
+    if (!isField(event.target) && text.includes("/")) showOrHint(text);
+  });
+  addEventListener("hashchange", () => {
+    const word = readAddress();
+    if (word && word !== session.word) showOrHint(word);
+  });
+}
+
+async function copyWord(session, views) {
+  try {
+    await navigator.clipboard.writeText(session.word);
+  } catch {
+    byId("word").select();
+    document.execCommand("copy"); // the older way, for pages to which the newer one is closed
+  }
+  views.hint("Copied");
+  views.say("Copied");
+}
+
+// ---- files ----
+
+function bindFiles(session, views) {
+  for (const id of ["pick", "pick-files"])
+    byId(id).addEventListener("change", ({ target }) => {
+      openFiles(session, filesOfInput(target));
+      target.value = ""; // so that the same folder can be chosen again
+    });
+  const mark = isDragging => document.body.classList.toggle("dragging", isDragging);
+  addEventListener("dragover", event => {
+    event.preventDefault();
+    mark(true);
+  });
+  addEventListener("dragleave", event => { if (!event.relatedTarget) mark(false); });
+  addEventListener("drop", event => {
+    event.preventDefault();
+    mark(false);
+    filesOfDrop(event.dataTransfer)
+      .then(chosen => chosen.files.length || chosen.name ? openFiles(session, chosen) : null)
+      .catch(fault => views.hint(`What was dropped can’t be read: ${fault.message}`));
+  });
+}
+
+async function openFiles(session, chosen) {
+  await session.open(chosen);
+  // how many choices were answered, for scripts that wait for one
+  document.body.dataset.opened = String(Number(document.body.dataset.opened ?? 0) + 1);
+}

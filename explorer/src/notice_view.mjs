@@ -1,0 +1,37 @@
+// @ts-check
+// What is wrong with the folder that was chosen, above everything else.
+
+import { element } from "./elements.mjs";
+import { nameOf } from "./levels.mjs";
+
+const strongLine = (strong, text = "") => element("p", {}, element("b", {}, strong), text);
+
+/** Faults of one number are told once, with the other files that have it. */
+function faultLines({ faults }) {
+  if (faults.length === 0) return [];
+  const kinds = new Map();
+  for (const each of faults) kinds.set(each.fault.number, [...kinds.get(each.fault.number) ?? [], each]);
+  const title = faults.length === 1 ? "A file is refused." : `${faults.length} files are refused.`;
+  return [strongLine(title), element("ul", {}, ...[...kinds.values()].map(faultLine))];
+}
+
+function faultLine([first, ...others]) {
+  const names = others.map(({ number }) => nameOf(number)).join(", ");
+  return element("li", {}, `${first.fault.message}${names ? `. So is ${names}` : ""}.`);
+}
+
+function gapLines({ gaps }) {
+  if (gaps.length === 0) return [];
+  const names = gaps.map(nameOf).join(", ");
+  const meaning = "Boards with so many stones have no worth here, and the program goes by none of the levels above.";
+  return [strongLine("Missing: ", `${names}. ${meaning}`)];
+}
+
+/** `refused` says why the choice was not opened at all, and is null if it was. */
+export function drawNotice(box, shelf, refused) {
+  const lines = refused
+    ? [strongLine("No levels were opened. ", refused)]
+    : [...faultLines(shelf), ...gapLines(shelf)];
+  box.hidden = lines.length === 0;
+  box.replaceChildren(...lines);
+}

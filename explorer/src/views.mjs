@@ -1,0 +1,127 @@
+// @ts-check
+// All that is seen of a session, and what is told to those who listen.
+
+import { writeAddress } from "./address.mjs";
+import { BoardView } from "./board_view.mjs";
+import { byId, element, icon } from "./elements.mjs";
+import { LevelsView } from "./levels_view.mjs";
+import { drawNotice } from "./notice_view.mjs";
+import { print, stonesOf } from "./rules.mjs";
+import { drawLine, drawPlayed, drawWorth } from "./worth_view.mjs";
+
+/** @typedef {import("./session.mjs").Shown} Shown */
+
+const MILLISECONDS_OF_A_HINT = 3500;
+
+/** The listener of a session. */
+export class Views {
+  #hintTimer;
+
+  /** @param {import("./session.mjs").Session} session what hands in the views act on */
+  constructor(session) {
+    this.board = new BoardView(byId("board"), [byId("player-upper"), byId("player-lower")], {
+      press: pit => session.press(pit),
+      add: (pit, stones) => session.addStones(pit, stones),
+      set: (pit, stones) => session.setStones(pit, stones),
+    });
+    this.levels = new LevelsView({ card: byId("levels-card"), buttons: byId("levels"), summary: byId("summary") }, {
+      showBoard: board => {
+        session.setBoard(board, 0).then(() => session.sayVerdict());
+        byId("board").scrollIntoView({ block: "nearest" });
+      },
+      say: text => this.say(text),
+    });
+    this.moveHands = { play: pit => session.play(pit), preview: pit => this.board.preview(pit) };
+    this.lineHands = { follow: plies => session.follow(plies) };
+    this.playedHands = { go: index => session.go(index) };
+  }
+
+  // ---- telling ----
+
+  say(text) { byId("say").textContent = text; }
+
+  hint(text) {
+    clearTimeout(this.#hintTimer);
+    byId("toast").hidden = false;
+    byId("toast").textContent = text;
+    this.#hintTimer = setTimeout(() => { byId("toast").hidden = true; }, MILLISECONDS_OF_A_HINT);
+  }
+
+  /** Says what is wrong with the word in the field. */
+  refuseWord(fault) {
+    byId("word-fault").textContent = `${fault.message}.`;
+    byId("word-fault").hidden = false;
+    byId("word").setAttribute("aria-invalid", "true");
+  }
+
+  // ---- drawing ----
+
+  /** @param {Shown} shown */
+  drawState(shown) {
+    const word = print(shown.state.board);
+    this.levels.forget();
+    this.board.draw(shown);
+    this.#drawWorthAndLine(shown);
+    drawPlayed(byId("played-card"), byId("played"), byId("score"), shown, this.playedHands);
+    this.#drawLevelsCard(shown);
+    this.#drawWord(word);
+    writeAddress(word);
+  }
+
+  /** @param {Shown} shown */
+  drawWorth(shown) {
+    this.board.draw(shown);
+    this.#drawWorthAndLine(shown);
+  }
+
+  #drawWorthAndLine(shown) {
+    this.#drawControls(shown);
+    drawWorth(byId("worth"), shown, this.moveHands);
+    drawLine(byId("line"), shown, this.lineHands);
+  }
+
+  /** @param {Shown} shown */
+  drawBoard(shown) {
+    this.board.draw(shown);
+    this.#drawControls(shown);
+    byId("keep-low").checked = shown.keepsMoverBelow;
+    byId("setup").hidden = !shown.isEditing;
+    for (const [id, isPressed] of [["edit", shown.isEditing], ["adds", !shown.isTaking], ["takes", shown.isTaking]])
+      byId(id).setAttribute("aria-pressed", String(isPressed));
+  }
+
+  #drawControls({ record, weighed }) {
+    byId("undo").disabled = byId("start").disabled = record.isFirst;
+    byId("redo").disabled = record.isLast;
+    byId("best").disabled = byId("auto").disabled = typeof weighed?.entry?.plan !== "number";
+  }
+
+  #drawWord(word) {
+    byId("word").value = word;
+    byId("word").removeAttribute("aria-invalid");
+    byId("word-fault").hidden = true;
+  }
+
+  /** @param {Shown} shown */
+  drawLevels(shown) {
+    this.levels.open(shown.shelf);
+    drawNotice(byId("notice"), shown.shelf, shown.refused);
+    byId("folder-name").textContent = shown.title;
+    if (!shown.hasLevels) return;
+    byId("pick-label").textContent = "Choose another";
+    byId("pick-label").classList.remove("main-button");
+  }
+
+  #drawLevelsCard({ hasLevels, state }) {
+    byId("levels-card").hidden = !hasLevels;
+    byId("drop").hidden = hasLevels;
+    if (hasLevels) this.levels.draw(stonesOf(state.board));
+  }
+
+  /** @param {Shown} shown */
+  drawPlaying({ isPlaying }) {
+    byId("auto").setAttribute("aria-pressed", String(isPlaying));
+    const [name, text] = isPlaying ? ["pause", "Pause"] : ["play", "Play line"];
+    byId("auto").replaceChildren(icon(name), element("span", {}, text));
+  }
+}
