@@ -1,5 +1,381 @@
 "use strict";
-// Made by explorer/make of the modules in explorer/src: change those.
+// Made by explorer/make of the modules in explorer/src and of bindings/awari.mjs: change those.
+
+globalThis.awariThread = () => {
+"use strict";
+const module_awari = (() => {
+/**
+ * Awari's endgame levels for node and for pages, by the module that `release/page/make` makes of proved code.
+ *
+ *     import { Levels } from "./awari.mjs";
+ *     const levels = await Levels.start();
+ *     while (levels.length < 9) levels.build();
+ *     console.log(levels.entry("1,0,0,0,0,1/1,0,1,0,0,0"));
+ *
+ * A board is its word, or the twelve numbers of its pits. Levels are built here, or verified when they are put
+ * on, so what is said of a board is right as far as the module is what the proof is of: docs/GUARANTEES.md says
+ * what stands between. A refusal is a `Refused`, with the number and the name of docs/FORMATS.md. Nothing is
+ * read but the module, and nothing is sent.
+ *
+ * @typedef {string | ArrayLike<number>} Board
+ * @typedef {{ value: number, plan: number | null, distance: number }} Entry
+ * @typedef {{ pit: number, captures: number, value: number, distance: number }} Move
+ */
+
+const PITS = 12;
+const HIGHEST_LEVEL = 24;
+const NO_PLAN = 255;
+const HANDLE_BYTES = 16;
+const MOVE_BYTES = 8;
+/** Room for what a call writes, six moves or less. */
+const OUT_BYTES = 64;
+/** A slice of so many boards takes some 50 milliseconds. */
+const SLICE = 100_000;
+
+const NAMES = {
+  1: "Shape", 2: "Number", 3: "TooMany", 4: "NoPit", 5: "EmptyPit", 6: "MustFeed", 7: "Ended", 20: "WrongLevel",
+  21: "WrongSize", 22: "Refused", 51: "TooHigh", 53: "Memory", 59: "NotYet", 60: "Truncated", 61: "Magic",
+  62: "Version", 63: "LevelOutOfRange", 64: "Count", 65: "EntryForm", 66: "Digest", 67: "Trailing", 70: "Write",
+  80: "Below", 81: "File", 83: "Verify", 84: "Memory", 86: "Old", 93: "NoRank",
+};
+
+/** A refusal: its `number` and `kind`, and what is told beside it, as the level and the rank of a wrong board. */
+class Refused extends Error {
+  constructor(number, { level, inner, rule, rank } = {}) {
+    const words = [number, NAMES[number]];
+    if (level !== undefined) words.push("level", level);
+    if (inner) words.push(":", inner, NAMES[inner]);
+    if (rule) words.push("rank", rank, "rule", `V${rule}`);
+    super(words.join(" ").replace(" :", ":"));
+    this.number = number;
+    this.name = "Refused";
+    this.kind = NAMES[number];
+    this.level = level;
+    this.inner = inner || undefined;
+    this.rule = rule ? `V${rule}` : undefined;
+    this.rank = rule ? rank : undefined;
+  }
+}
+
+function expect(answer) {
+  if (answer !== 0) throw new Refused(answer);
+}
+
+/** The module that lies beside this file. */
+async function shipped() {
+  const place = new URL("awari.wasm", location.href);
+  if (place.protocol !== "file:") return (await fetch(place)).arrayBuffer();
+  const { readFile } = await import("node:fs/promises");
+  return readFile(place);
+}
+
+/** Levels from 0 on, in a memory of their own. */
+class Levels {
+  #calls;
+  #handle;
+  #pits;
+  #out;
+
+  /** No level yet, by the module of these bytes, or by the one beside this file. */
+  static async start(module) {
+    const { instance } = await WebAssembly.instantiate(module ?? (await shipped()), {});
+    return new Levels(instance);
+  }
+
+  /** By an instance of the module; `start` makes one. */
+  constructor(instance) {
+    this.#calls = instance.exports;
+    this.#handle = this.#room(HANDLE_BYTES);
+    this.#pits = this.#room(PITS);
+    this.#out = this.#room(OUT_BYTES);
+    this.#bytes(this.#handle, HANDLE_BYTES).fill(0);
+  }
+
+  /** How many levels there are. Boards with fewer stones can be looked up. */
+  get length() {
+    return this.#calls.awari_levels(this.#handle);
+  }
+
+  /** How many bytes of memory the module has taken. It gives none back to the system. */
+  get bytes() {
+    return this.#calls.memory.buffer.byteLength;
+  }
+
+  /**
+   * Verifies the bytes of a file, and puts its level on. It is refused as 80, 81, 83, 84 or 86.
+   * @param {Uint8Array} file
+   */
+  add(file) {
+    const answer = this.#lend(file, (place, length) =>
+      this.#calls.awari_add_level(this.#handle, place, length, this.#out));
+    if (answer === 0) return;
+    const told = this.#view(8);
+    throw new Refused(answer, answer === 84 ? {} : {
+      level: told.getUint8(0), inner: told.getUint8(1), rule: told.getUint8(2), rank: told.getUint32(4, true),
+    });
+  }
+
+  /** Begins the next level, in place of one that was begun. It is refused as 51 or 53. */
+  begin() {
+    expect(this.#calls.awari_begin(this.#handle));
+  }
+
+  /**
+   * Builds a slice of the level that was begun: spreads boards of one distance, about so many, or opens a gain.
+   * It is refused as 59 if no level was begun, and as 53, and then the level is lost.
+   * @returns {{ boards: number, gain: number, settled: boolean }} how many boards were spread, the gain that is
+   * open, and whether all gains are closed
+   */
+  spread(boards = SLICE) {
+    expect(this.#calls.awari_spread(this.#handle, BigInt(boards), this.#out));
+    const told = this.#view(16);
+    return { boards: Number(told.getBigUint64(0, true)), gain: told.getUint8(8), settled: told.getUint8(9) === 1 };
+  }
+
+  /**
+   * Puts the level on that was begun and whose gains are all closed. It is refused as 59 or 53.
+   * @returns {Uint8Array} the bytes of its file
+   */
+  finish() {
+    const level = this.length;
+    const length = 84 + 6 * this.size(Math.min(level, HIGHEST_LEVEL));
+    const place = this.#room(length);
+    try {
+      expect(this.#calls.awari_finish(this.#handle, place, BigInt(length)));
+      return this.#bytes(place, length).slice();
+    } finally {
+      this.#calls.page_free(place);
+    }
+  }
+
+  /**
+   * Builds the next level and puts it on. It is refused as 51 or 53.
+   * @returns {Uint8Array} the bytes of its file
+   */
+  build() {
+    this.begin();
+    while (!this.spread().settled);
+    return this.finish();
+  }
+
+  /**
+   * What the levels say of a board. It is refused as 1 to 3 or 59.
+   * @param {Board} board
+   * @returns {Entry}
+   */
+  entry(board) {
+    expect(this.#calls.awari_probe(this.#handle, this.#board(board), this.#out));
+    const told = this.#view(8), plan = told.getUint8(1);
+    return { value: told.getInt8(0), plan: plan === NO_PLAN ? null : plan, distance: told.getUint32(4, true) };
+  }
+
+  /**
+   * What each legal pit is worth. It is refused as `entry` is.
+   * @param {Board} board
+   * @returns {Move[]}
+   */
+  moves(board) {
+    expect(this.#calls.awari_probe_moves(this.#handle, this.#board(board), this.#out));
+    const told = this.#view(6 * MOVE_BYTES);
+    return [0, 1, 2, 3, 4, 5].map(pit => ({ pit, at: MOVE_BYTES * pit })).filter(({ at }) => told.getUint8(at))
+      .map(({ pit, at }) => ({
+        pit, captures: told.getUint8(at + 1), value: told.getInt16(at + 2, true), distance: told.getUint32(at + 4, true),
+      }));
+  }
+
+  /**
+   * The play by the plans of both sides, up to its first outcome. It is refused as `entry` is, or as 84.
+   * @param {Board} board
+   * @returns {{ moves: number[], outcome: number }}
+   */
+  line(board) {
+    const outcome = this.entry(board).value;
+    for (let room = 1024; ; ) {
+      const place = this.#room(room);
+      try {
+        expect(this.#calls.awari_line(this.#handle, this.#board(board), place, BigInt(room), this.#out));
+        const count = Number(this.#view(8).getBigUint64(0, true));
+        if (count <= room) return { moves: [...this.#bytes(place, count)], outcome };
+        room = count;
+      } finally {
+        this.#calls.page_free(place);
+      }
+    }
+  }
+
+  /**
+   * The board that a move leaves, as the other player sees it, and what it captures. It is refused as 1 to 7.
+   * @param {Board} board
+   */
+  play(board, pit) {
+    if (!Number.isInteger(pit) || pit < 0 || pit > 255) throw new Refused(4);
+    expect(this.#calls.awari_play(this.#board(board), pit, this.#out, this.#out + BigInt(PITS)));
+    const told = this.#bytes(this.#out, PITS + 1);
+    return { board: [...told.slice(0, PITS)], captures: told[PITS] };
+  }
+
+  /**
+   * The level and the rank of a board. It is refused as 1 to 3 or 59.
+   * @param {Board} board
+   */
+  rank(board) {
+    expect(this.#calls.awari_rank(this.#board(board), this.#out, this.#out + 4n));
+    const told = this.#view(8);
+    return { level: told.getUint8(0), rank: told.getUint32(4, true) };
+  }
+
+  /** The board of a rank, twelve numbers. It is refused as 59 or 93. */
+  board(level, rank) {
+    if (!Number.isInteger(level) || level < 0 || level > HIGHEST_LEVEL) throw new Refused(59);
+    if (!Number.isInteger(rank) || rank < 0 || rank >= this.size(level)) throw new Refused(93);
+    expect(this.#calls.awari_board(level, rank, this.#out));
+    return [...this.#bytes(this.#out, PITS)];
+  }
+
+  /** How many boards a level has, 0 if there is no such level. */
+  size(level) {
+    if (!Number.isInteger(level) || level < 0 || level > HIGHEST_LEVEL) return 0;
+    return this.#calls.awari_size(level) >>> 0;
+  }
+
+  /** Forgets all levels, and one that was begun. */
+  close() {
+    this.#calls.awari_close(this.#handle);
+  }
+
+  /** Lays a board where the module reads it, and says where. */
+  #board(board) {
+    if (typeof board === "string") {
+      const answer = this.#lend(new TextEncoder().encode(board), (place, length) =>
+        this.#calls.awari_parse(place, length, this.#pits));
+      expect(answer);
+    } else {
+      const pits = Array.from(board);
+      if (pits.length !== PITS) throw new Refused(1);
+      if (!pits.every(stones => Number.isInteger(stones) && stones >= 0 && stones < 256)) throw new Refused(2);
+      this.#bytes(this.#pits, PITS).set(pits);
+    }
+    return this.#pits;
+  }
+
+  /** Calls with bytes that lie in the module's memory meanwhile. */
+  #lend(bytes, call) {
+    const place = this.#room(bytes.length);
+    try {
+      this.#bytes(place, bytes.length).set(bytes);
+      return call(place, BigInt(bytes.length));
+    } finally {
+      this.#calls.page_free(place);
+    }
+  }
+
+  #room(bytes) {
+    const place = this.#calls.page_alloc(BigInt(bytes));
+    if (place === 0n) throw new Refused(84);
+    return place;
+  }
+
+  /** The bytes of a place. They move when the memory grows, so nobody keeps them. */
+  #bytes(place, length) {
+    return new Uint8Array(this.#calls.memory.buffer, Number(place), length);
+  }
+
+  #view(length) {
+    return new DataView(this.#calls.memory.buffer, Number(this.#out), length);
+  }
+}
+return { Refused, Levels };
+})();
+
+const module_desk = (() => {
+// What is asked of the proved code, in its thread. Nothing here knows of threads or of the page.
+
+const { Levels } = module_awari;
+
+/** @typedef {import("../../bindings/awari.mjs").Board} Board */
+
+const bytesOfText = text => Uint8Array.from(atob(text), character => character.charCodeAt(0));
+
+class Desk {
+  /** @type {Levels} */
+  #levels;
+  #isStopped = false;
+
+  /** Starts the module, given in base64, and builds so many levels at once: their files. */
+  async start(text, count) {
+    this.#levels = await Levels.start(bytesOfText(text));
+    return Array.from({ length: count }, () => this.#levels.build());
+  }
+
+  /** How many levels there are. */
+  get length() { return this.#levels?.length ?? 0; }
+
+  /**
+   * Builds the next level in slices, and gives way after each, so that boards are answered meanwhile.
+   * @param {(boards: number) => void} told hears how many boards are done
+   * @returns {Promise<Uint8Array | null>} its file, or null if it was stopped
+   */
+  async build(told) {
+    this.#isStopped = false;
+    this.#levels.begin();
+    for (let done = 0, isSettled = false; !isSettled; ) {
+      const { boards, settled } = this.#levels.spread();
+      done += boards;
+      isSettled = settled;
+      told(done);
+      await new Promise(next => setTimeout(next));
+      if (this.#isStopped) return null;
+    }
+    return this.#levels.finish();
+  }
+
+  stop() { this.#isStopped = true; }
+
+  /** Verifies a file, and puts its level on. @param {Blob} file */
+  async add(file) { this.#levels.add(new Uint8Array(await file.arrayBuffer())); }
+
+  /** @param {Board} board */
+  weigh(board) { return { entry: this.#levels.entry(board), moves: this.#levels.moves(board) }; }
+
+  /** @param {Board} board */
+  entry(board) { return this.#levels.entry(board); }
+
+  /** @param {Board} board */
+  line(board) { return this.#levels.line(board); }
+
+  /** @param {Board} board */
+  rank(board) { return this.#levels.rank(board); }
+
+  /** @param {number} level @param {number} rank */
+  board(level, rank) { return this.#levels.board(level, rank); }
+}
+return { Desk };
+})();
+
+const module_thread = (() => {
+// The thread of the proved code: each message asks the desk, and is answered by its turn.
+
+const { Desk } = module_desk;
+
+const desk = new Desk();
+
+/** A refusal as plain fields, since a message carries no class. */
+const plain = ({ number, kind, message, level, inner, rule, rank }) =>
+  ({ number, kind, message, level, inner, rule, rank });
+
+globalThis.onmessage = async ({ data: [turn, name, ...words] }) => {
+  const told = done => postMessage({ turn, done });
+  try {
+    const answer = await desk[name](...words, told);
+    postMessage({ turn, answer, length: desk.length });
+  } catch (refusal) {
+    postMessage({ turn, refusal: plain(refusal), length: desk.length });
+  }
+};
+return {  };
+})();
+
+};
 
 const module_address = (() => {
 // The address of the page, which has a board behind its #.
@@ -103,7 +479,7 @@ const module_hands = (() => {
 // What hands and keys do: buttons, fields, what is pasted or dropped, and the address.
 
 const { readAddress } = module_address;
-const { byId } = module_elements;
+const { byId, element } = module_elements;
 const { filesOfDrop, filesOfInput } = module_files;
 
 /**
@@ -111,6 +487,9 @@ const { filesOfDrop, filesOfInput } = module_files;
  * @typedef {import("./views.mjs").Views} Views
  */
 
+/** The address of a file that is saved stays so long. */
+const MILLISECONDS_OF_A_DOWNLOAD = 60_000;
+const MILLISECONDS_BETWEEN_DOWNLOADS = 200;
 const KEYS = { b: "best", p: "auto", u: "undo", r: "redo", t: "turn", s: "swap", e: "edit" };
 
 const isField = target => /^(INPUT|TEXTAREA|SELECT)$/.test(target.tagName) && target.type !== "checkbox";
@@ -123,6 +502,7 @@ function bindHands(session, views) {
   bindWords(session, views);
   bindKeys(session, actions);
   bindFiles(session, views);
+  bindBuilding(session, views);
 }
 
 /** What each button does, by its name. */
@@ -197,9 +577,38 @@ async function copyWord(session, views) {
   views.say("Copied");
 }
 
+// ---- levels ----
+
+function bindBuilding({ library }, views) {
+  byId("build-form").addEventListener("submit", event => {
+    event.preventDefault();
+    if (library.work) library.stop();
+    else library.build(views.more.top).then(() => views.say(library.notice ?? library.title));
+  });
+  byId("build-top").addEventListener("input", () => views.more.draw(library));
+  byId("close").addEventListener("click", () => library.close());
+  byId("save").addEventListener("click", () => saveFiles(library.files));
+  byId("clear-kept").addEventListener("click", async () => {
+    await library.clear();
+    views.hint("This browser keeps no levels any more");
+    views.say("This browser keeps no levels any more");
+  });
+}
+
+/** Each file comes as a download of its own. Chromium drops those that come too fast. */
+async function saveFiles(files) {
+  for (const file of files) {
+    const link = element("a", { download: file.name, href: URL.createObjectURL(file) });
+    link.click();
+    setTimeout(() => URL.revokeObjectURL(link.href), MILLISECONDS_OF_A_DOWNLOAD);
+    await new Promise(next => setTimeout(next, MILLISECONDS_BETWEEN_DOWNLOADS));
+  }
+}
+
 // ---- files ----
 
 function bindFiles(session, views) {
+  byId("pick-whole").hidden = !("webkitdirectory" in byId("pick"));
   for (const id of ["pick", "pick-files"])
     byId(id).addEventListener("change", ({ target }) => {
       openFiles(session, filesOfInput(target));
@@ -222,14 +631,18 @@ function bindFiles(session, views) {
 
 async function openFiles(session, chosen) {
   await session.open(chosen);
-  // how many choices were answered, for scripts that wait for one
+  await session.library.settled;
+  // how many choices were answered and verified, for scripts that wait for one
   document.body.dataset.opened = String(Number(document.body.dataset.opened ?? 0) + 1);
 }
 return { bindHands };
 })();
 
 const module_rules = (() => {
-// The game by docs/RULES.md, and the numbering of its boards. Nothing here knows of files or of the page.
+// The game by docs/RULES.md. Nothing here knows of files or of the page.
+//
+// The proved code answers from a thread of its own, and what a pointer passes over is drawn at once: where the
+// stones of a pit fall, and whether it can be played. So the rules are here too, and tested beside the program.
 
 /**
  * @typedef {number[]} Board the stones of twelve pits, as the mover sees them: pits 0 to 5 are the mover's own,
@@ -334,43 +747,11 @@ function play(board, pit) {
   return { pit, falls, taken, isSlam, captured: isSlam ? 0 : stones, next: turned(sown) };
 }
 
-// ---- the numbering ----
-
-/** WAYS[pits][stones]: in how many ways so many stones lie in so many pits. */
-const WAYS = [[1, ...Array(MOST_STONES).fill(0)]];
-for (let pits = 1; pits <= 12; pits++) {
-  WAYS.push([1]);
-  for (let stones = 1; stones <= MOST_STONES; stones++)
-    WAYS[pits].push(WAYS[pits][stones - 1] + WAYS[pits - 1][stones]);
-}
-
-/** How many boards have so many stones. */
-const sizeOf = stones => WAYS[12][stones];
-
-/** How many boards of as many stones come before this one, pit 0 first. */
-function rankOf(board) {
-  let before = 0, left = stonesOf(board);
-  for (let pit = 0; pit < 11; pit++) {
-    for (let fewer = 0; fewer < board[pit]; fewer++) before += WAYS[11 - pit][left - fewer];
-    left -= board[pit];
-  }
-  return before;
-}
-
-/** The board of so many stones that has this rank. @returns {Board} */
-function boardAt(stones, rank) {
-  const board = Array(12).fill(0);
-  let left = stones;
-  for (let pit = 0; pit < 11; pit++) {
-    const waysBehind = () => WAYS[11 - pit][left - board[pit]];
-    while (rank >= waysBehind()) {
-      rank -= waysBehind();
-      board[pit] += 1;
-    }
-    left -= board[pit];
-  }
-  board[11] = left;
-  return board;
+/** How many boards have so many stones: in how many ways they lie in twelve pits. */
+function sizeOf(stones) {
+  let ways = 1;
+  for (let bars = 1; bars <= 11; bars++) ways = ways * (stones + bars) / bars;
+  return ways;
 }
 
 /** Any board of so many stones, each as likely: eleven bars among the stones part the pits. @returns {Board} */
@@ -380,7 +761,7 @@ function randomBoard(stones) {
   const ends = [-1, ...[...bars].sort((one, other) => one - other), stones + 11];
   return Array.from({ length: 12 }, (_, pit) => ends[pit + 1] - ends[pit] - 1);
 }
-return { Fault, MOST_STONES, stonesOf, turned, print, areSame, parse, isLegal, legalPits, isEnded, endGain, refusalOf, play, sizeOf, rankOf, boardAt, randomBoard };
+return { Fault, MOST_STONES, stonesOf, turned, print, areSame, parse, isLegal, legalPits, isEnded, endGain, refusalOf, play, sizeOf, randomBoard };
 })();
 
 const module_words = (() => {
@@ -414,51 +795,34 @@ const kindOf = value => value > 0 ? "won" : value < 0 ? "lost" : "even";
 return { SIDES, grouped, plural, plies, signed, spoken, percent, sizeText, kindOf };
 })();
 
-const module_levels = (() => {
-// Files and folders by docs/FORMATS.md, and what they say boards are worth. Nothing here knows of the page.
+const module_level_file = (() => {
+// The file of a level by docs/FORMATS.md. Nothing here knows of the page.
 //
-// A level's file may have 2.5 GB. So nothing reads a file whole: its header and its digest are read when a
-// folder is opened, and then the six bytes of each entry that is asked for.
+// A file may have 2.5 GB. So its header and its digest are read when it is opened, and then the six bytes of each
+// entry that is asked for.
 
-const { endGain, Fault, isEnded, legalPits, play, print, rankOf, sizeOf, stonesOf } = module_rules;
-const { grouped, plural } = module_words;
+const { Fault, sizeOf } = module_rules;
+const { grouped } = module_words;
 
 /**
- * @typedef {import("./rules.mjs").Board} Board
+ * @typedef {object} Source where the bytes of a level's file are: a file of the disk, or one of a server
+ * @property {string} name
+ * @property {number} size
+ * @property {(from?: number, to?: number) => { arrayBuffer: () => Promise<ArrayBuffer> }} slice
+ * @property {boolean} [isHosted] whether each slice is a request to a server
+ *
+ * @typedef {object} Level
+ * @property {number} number
+ * @property {Source} file
+ * @property {number} boards
+ * @property {number} limit
+ * @property {string} below the digest of the file below
+ * @property {string} digest
  *
  * @typedef {object} Entry what a level's file says of a board
  * @property {number} value
  * @property {number | null} plan
  * @property {number} distance
- *
- * @typedef {object} Worth what a move gains
- * @property {number} value
- * @property {number} plies to a capture or the end, if the favoured side keeps the value
- * @property {number} distance
- * @property {boolean} isPlan
- * @property {Error} [fault] why that is not known
- *
- * @typedef {object} Weighed
- * @property {Board} board
- * @property {Entry | null} entry
- * @property {Error | null} fault why there is no entry
- * @property {(import("./rules.mjs").Move & Worth)[]} moves
- * @property {string | null} broken the first rule that the entry breaks beside its moves
- *
- * @typedef {object} Line the play by the plans of both sides
- * @property {number} value of the board from which it starts
- * @property {{ pit: number, captured: number }[]} plies
- * @property {boolean} ended whether play ends with it
- * @property {number | null} repeats the ply after which the same pits come for ever
- * @property {number} outcome what the mover gains by it
- *
- * @typedef {object} Level
- * @property {number} number
- * @property {File} file
- * @property {number} boards
- * @property {number} limit
- * @property {string} below the digest of the file below
- * @property {string} digest
  */
 
 const HIGHEST = 24;
@@ -468,9 +832,8 @@ const ENTRY_BYTES = 6;
 const DIGEST_BYTES = 32;
 const MAGIC = "41574442";
 const NO_DIGEST = "0".repeat(2 * DIGEST_BYTES);
-const NO_PLAN = 255, LAST_PIT = 5;
-/** How many entries are kept that were read. */
-const KEPT_ENTRIES = 20000;
+const NO_PLAN = 255;
+const LAST_PIT = 5;
 
 const nameOf = number => `level_${String(number).padStart(2, "0")}.awdb`;
 const fileSizeOf = number => HEADER_BYTES + ENTRY_BYTES * sizeOf(number) + DIGEST_BYTES;
@@ -533,7 +896,7 @@ function lengthFaultOf(file, number) {
 
 /**
  * Reads the header and the digest of a level's file, and refuses it for the first field that is wrong.
- * @param {File} file @returns {Promise<Level>}
+ * @param {Source} file @returns {Promise<Level>}
  */
 async function openLevel(file) {
   const head = await bytesOf(file, 0, HEADER_BYTES);
@@ -583,20 +946,234 @@ const entryAt = (view, place) => {
   const plan = view.getUint8(place + 1);
   return { value: view.getInt8(place), plan: plan === NO_PLAN ? null : plan, distance: view.getUint32(place + 2) };
 };
+return { HIGHEST, HEADER_BYTES, ENTRY_BYTES, DIGEST_BYTES, LAST_PIT, nameOf, fileSizeOf, placeOf, hex, bytesOf, openLevel, belowFaultOf, namedLevels, entryAt };
+})();
 
-/** The levels of a folder. A slot has a level or a fault; that of a missing file is null. */
-class Shelf {
-  constructor() {
-    this.slots = Array(HIGHEST + 1).fill(null);
-    this.kept = new Map();
+const module_hosted = (() => {
+// Levels in a folder of the page's own server. Six bytes of a file are asked for where the server knows Range.
+
+const { HEADER_BYTES, HIGHEST, nameOf } = module_level_file;
+const { Fault } = module_rules;
+
+/** If a server ignores Range, files up to this level are fetched whole. */
+const HIGHEST_WHOLE = 12;
+
+/** @typedef {{ folder: URL, isAsked: boolean }} Hosted a folder of a server, and whether the address names it */
+
+/**
+ * Where the address says that levels are: `?levels=URL`, or the folder beside the page. Null from the disk.
+ * @returns {Hosted | null}
+ */
+function hostedFolder({ protocol, search, href }) {
+  if (!/^https?:$/.test(protocol)) return null;
+  const asked = new URLSearchParams(search).get("levels");
+  return { folder: new URL((asked ?? "levels").replace(/\/?$/, "/"), href), isAsked: asked !== null };
+}
+
+/** A file of a server that knows Range: each slice is a request. */
+class HostedFile {
+  isHosted = true;
+
+  /** @param {URL} place @param {number} size @param {ArrayBuffer} head its first bytes, which were asked for already */
+  constructor(place, size, head) {
+    Object.assign(this, { place, size, head });
+    this.name = place.pathname.split("/").at(-1);
   }
 
-  static async of(files) {
-    const shelf = new Shelf();
-    await Promise.all([...namedLevels(files)].map(async ([number, file]) => {
-      shelf.slots[number] = await openLevel(file).then(level => ({ level }), fault => ({ fault }));
+  slice(from = 0, to = this.size) {
+    if (to <= this.head.byteLength) return { arrayBuffer: async () => this.head.slice(from, to) };
+    return { arrayBuffer: async () => (await rangeOf(this.place, from, to)).arrayBuffer() };
+  }
+}
+
+/** The bytes of a file, or all of it if the server ignores Range. */
+async function rangeOf(place, from, to) {
+  const answer = await fetch(place, { headers: { Range: `bytes=${from}-${to - 1}` }, redirect: "error" });
+  if (answer.status === 206 || answer.status === 200) return answer;
+  throw new Fault(68, "Read", `The server answers ${answer.status} for ${place.pathname}`);
+}
+
+/**
+ * The levels of a folder from this number up, to the first that is not there: as sources, or as whole files if the
+ * server ignores Range. `told` is what is to be said of it, null if nothing is.
+ * @param {URL} folder @param {number} first
+ */
+async function hostedLevels(folder, first) {
+  const found = { sources: [], files: [], told: null };
+  if (folder.origin !== location.origin)
+    return { ...found, told: `Levels are read from this server alone, and not from ${folder.origin}.` };
+  for (let number = first; number <= HIGHEST; number++) {
+    const place = new URL(nameOf(number), folder);
+    const answer = await rangeOf(place, 0, HEADER_BYTES).catch(() => null);
+    if (!answer) break;
+    const size = /\/(\d+)$/.exec(answer.headers.get("Content-Range") ?? "")?.[1];
+    if (answer.status === 206 && size) {
+      found.sources.push(new HostedFile(place, Number(size), await answer.arrayBuffer()));
+    } else if (number <= HIGHEST_WHOLE) {
+      found.files.push(new File([await answer.blob()], nameOf(number)));
+    } else {
+      answer.body?.cancel();
+      break;
+    }
+  }
+  if (found.files.length) found.told = `This server ignores Range requests: levels to ${HIGHEST_WHOLE} are fetched whole, and none above.`;
+  return found;
+}
+return { hostedFolder, hostedLevels };
+})();
+
+const module_proved = (() => {
+// The proved code in a thread of its own, so that the page answers hands while it works.
+//
+// A page that was opened from the disk may start no thread from a file. So explorer/make puts the text of the
+// thread and the bytes of the module into scripts, and the page makes a file of its own of the text.
+
+const { Fault } = module_rules;
+
+/** @typedef {{ awariThread: () => void, awariModule: string }} Made what explorer/make puts beside the modules */
+
+class Proved {
+  /** How many levels it has: of boards with fewer stones it knows the truth. */
+  length = 0;
+  #turn = 0;
+  #waiting = new Map();
+  #thread;
+
+  /** Starts the thread, which builds so many levels at once; `ready` has their files. */
+  constructor(count = 0) {
+    const { awariThread, awariModule } = /** @type {Made} */ (/** @type {unknown} */ (globalThis));
+    const text = new Blob([`(${awariThread})();`], { type: "text/javascript" });
+    const place = URL.createObjectURL(text);
+    this.#thread = new Worker(place);
+    this.#thread.onmessage = ({ data }) => this.#hear(data);
+    this.#thread.onerror = event => this.#fail(event.message);
+    /** @type {Promise<Uint8Array[]>} */
+    this.ready = this.ask("start", awariModule, count).finally(() => URL.revokeObjectURL(place));
+  }
+
+  /** Asks the desk in the thread. A refusal is thrown as a fault. @returns {Promise<any>} */
+  ask(name, ...words) { return this.askTelling(null, name, ...words); }
+
+  /** The same of work that tells how far it is. @param {((done: number) => void) | null} told */
+  askTelling(told, name, ...words) {
+    const turn = this.#turn++;
+    return new Promise((answered, refused) => {
+      this.#waiting.set(turn, { answered, refused, told });
+      this.#thread.postMessage([turn, name, ...words]);
+    });
+  }
+
+  #hear({ turn, done, answer, refusal, length }) {
+    const waiting = this.#waiting.get(turn);
+    if (!waiting) return;
+    if (done !== undefined) return waiting.told?.(done);
+    this.#waiting.delete(turn);
+    this.length = length;
+    if (refusal) waiting.refused(Object.assign(new Fault(refusal.number, refusal.kind, refusal.message), refusal));
+    else waiting.answered(answer);
+  }
+
+  #fail(text) {
+    for (const { refused } of this.#waiting.values()) refused(new Error(`The proved code does not run here: ${text}`));
+    this.#waiting.clear();
+  }
+
+  /** Ends the thread, whatever it does, and gives its memory back. What was asked is not answered any more. */
+  end() {
+    this.#thread.terminate();
+    this.#fail("it was ended");
+  }
+}
+return { Proved };
+})();
+
+const module_kept = (() => {
+// The files of levels that the browser keeps until they are cleared. A browser may refuse: then it keeps none.
+
+const STORE = "levels";
+
+const asked = request => new Promise((done, failed) => {
+  request.onsuccess = () => done(request.result);
+  request.onerror = () => failed(request.error);
+});
+
+function openStore() {
+  const opening = indexedDB.open("awari", 1);
+  opening.onupgradeneeded = () => opening.result.createObjectStore(STORE);
+  return asked(opening);
+}
+
+/** Does something to the store: what comes of it, or `otherwise` if the browser refuses. */
+async function withStore(mode, otherwise, action) {
+  try {
+    const base = await openStore();
+    return await asked(action(base.transaction(STORE, mode).objectStore(STORE))).finally(() => base.close());
+  } catch {
+    return otherwise;
+  }
+}
+
+/** The numbers of the levels that are kept. @returns {Promise<number[]>} */
+const keptNumbers = () => withStore("readonly", [], store => store.getAllKeys());
+
+/** The file of a level that is kept. @returns {Promise<Blob | null>} */
+const keptFile = number => withStore("readonly", null, store => store.get(number));
+
+/** Keeps the file of a level: whether the browser does. @param {number} number @param {Blob} file */
+const keepFile = async (number, file) =>
+  await withStore("readwrite", null, store => store.put(file, number)) === number;
+
+const clearKept = () => withStore("readwrite", undefined, store => store.clear());
+return { keptNumbers, keptFile, keepFile, clearKept };
+})();
+
+const module_shelf = (() => {
+// The levels that are there, each of them built or verified by the proved code, or only read.
+
+const {
+  belowFaultOf, bytesOf, ENTRY_BYTES, entryAt, HIGHEST, LAST_PIT, namedLevels, nameOf, openLevel, placeOf,
+} = module_level_file;
+const { Fault, print, stonesOf } = module_rules;
+const { plural } = module_words;
+
+/**
+ * @typedef {import("./rules.mjs").Board} Board
+ * @typedef {import("./level_file.mjs").Entry} Entry
+ * @typedef {import("./level_file.mjs").Level} Level
+ * @typedef {import("./proved.mjs").Proved} Proved
+ *
+ * @typedef {"built" | "verified" | "unverified"} Standing how it is known what a level says
+ * @typedef {{ level?: Level, standing?: Standing, fault?: Error }} Slot a level, or why it is refused
+ */
+
+/** How many entries are kept that were read. */
+const KEPT_ENTRIES = 20000;
+
+class Shelf {
+  #kept = new Map();
+
+  /**
+   * @param {Proved | null} proved the proved code, which knows the levels that were built or verified
+   * @param {Slot[]} slots from level 0 up
+   */
+  constructor(proved, slots = []) {
+    this.proved = proved;
+    /** @type {(Slot | null)[]} */
+    this.slots = Array.from({ length: HIGHEST + 1 }, (_, number) => slots[number] ?? null);
+  }
+
+  /**
+   * The levels of these files. Those that are not among them are taken from `known`.
+   * @param {import("./level_file.mjs").Source[]} files @param {Proved | null} proved @param {Slot[]} known
+   */
+  static async of(files, proved = null, known = []) {
+    const shelf = new Shelf(proved, known);
+    const named = namedLevels(files);
+    await Promise.all([...named].map(async ([number, file]) => {
+      shelf.slots[number] = await openLevel(file).then(
+        level => ({ level, standing: "unverified" }), fault => ({ fault }));
     }));
-    for (let number = 0; number <= HIGHEST; number++) {
+    for (const number of [...named.keys()].sort((one, other) => one - other)) {
       const level = shelf.level(number);
       const fault = level && belowFaultOf(level, number, shelf.level(number - 1));
       if (fault) shelf.slots[number] = { fault };
@@ -606,6 +1183,7 @@ class Shelf {
 
   level(number) { return this.slots[number]?.level ?? null; }
   fault(number) { return this.slots[number]?.fault ?? null; }
+  standing(number) { return this.slots[number]?.standing ?? null; }
   get isEmpty() { return this.slots.every(slot => !slot); }
   get levels() { return this.slots.flatMap(slot => slot?.level ?? []); }
   get faults() { return this.slots.flatMap((slot, number) => slot?.fault ? [{ number, fault: slot.fault }] : []); }
@@ -621,19 +1199,26 @@ class Shelf {
     return Math.max(0, ...this.levels.filter(({ number }) => number <= stones).map(({ limit }) => limit));
   }
 
-  /** The entry of a board. Its six bytes are read, and no others. */
-  async entry(board) {
-    const word = print(board);
-    if (!this.kept.has(word)) {
-      const entry = await this.read(board);
-      if (this.kept.size >= KEPT_ENTRIES) this.kept.clear();
-      this.kept.set(word, entry);
-    }
-    return this.kept.get(word);
+  /** Whether the proved code knows what a board is worth. @param {Board} board */
+  knows(board) {
+    const stones = stonesOf(board), standing = this.standing(stones);
+    return (standing === "built" || standing === "verified") && stones < (this.proved?.length ?? 0);
   }
 
-  async read(board) {
-    const level = this.levelOf(stonesOf(board)), rank = rankOf(board);
+  /** The entry of a board. Of a level that is not verified its six bytes are read. @returns {Promise<Entry>} */
+  async entry(board) {
+    if (this.knows(board)) return this.proved.ask("entry", board);
+    const level = this.#levelOf(stonesOf(board)), word = print(board);
+    if (!this.#kept.has(word)) {
+      const entry = await this.#read(level, board);
+      if (this.#kept.size >= KEPT_ENTRIES) this.#kept.clear();
+      this.#kept.set(word, entry);
+    }
+    return this.#kept.get(word);
+  }
+
+  async #read(level, board) {
+    const { rank } = await this.proved.ask("rank", board);
     const bytes = await bytesOf(level.file, placeOf(rank), placeOf(rank + 1));
     if (bytes.length < ENTRY_BYTES)
       throw new Fault(60, "Truncated", `${level.file.name} ends before the entry of ${print(board)}`);
@@ -644,89 +1229,315 @@ class Shelf {
   }
 
   /** The level of the boards with so many stones, or why it is not there. */
-  levelOf(stones) {
+  #levelOf(stones) {
     if (stones > HIGHEST)
       throw new Fault(59, "NotYet", `There are levels up to ${HIGHEST} stones, and this board has ${stones}`);
-    if (this.fault(stones)) throw this.fault(stones);
-    if (!this.level(stones))
-      throw new Fault(59, "NotYet",
-        `${nameOf(stones)}, the level of the boards with ${plural(stones, "stone")}, is not there`);
-    return this.level(stones);
+    const fault = this.fault(stones), level = this.level(stones);
+    if (fault) throw fault;
+    if (level) return level;
+    throw new Fault(59, "NotYet",
+      `${nameOf(stones)}, the level of the boards with ${plural(stones, "stone")}, is not there`);
+  }
+}
+return { Shelf };
+})();
+
+const module_library = (() => {
+// The levels that are there: built, kept, opened or hosted; and the work that builds and verifies them.
+
+const { hostedLevels } = module_hosted;
+const { clearKept, keepFile, keptFile, keptNumbers } = module_kept;
+const { namedLevels, nameOf, openLevel } = module_level_file;
+const { sizeOf } = module_rules;
+const { Shelf } = module_shelf;
+const { plural } = module_words;
+
+/**
+ * @typedef {import("./level_file.mjs").Source} Source
+ * @typedef {import("./proved.mjs").Proved} Proved
+ * @typedef {import("./shelf.mjs").Slot} Slot
+ *
+ * @typedef {object} Work what is being built or verified
+ * @property {"build" | "verify"} kind
+ * @property {string} text
+ * @property {number} share from 0 to 1
+ * @property {number | null} secondsLeft how long it still takes, null while that is not known
+ */
+
+/** So many levels are built while the page opens. */
+const FIRST_LEVELS = 7;
+/** Above this a module's memory does not suffice. */
+const HIGHEST_BUILT = 18;
+/** Above this a level is not verified: the module would need all of its file, and seconds. */
+const HIGHEST_VERIFIED = 16;
+/** Refusals that are no fault of a file: there is no memory. */
+const NO_MEMORY = [53, 84];
+const MILLISECONDS_TO_GUESS = 300;
+
+/** The boards of some levels, of each of which one is about as much work. */
+function boardsIn(from, to) {
+  let boards = 0;
+  for (let number = from; number <= to; number++) boards += sizeOf(number);
+  return boards;
+}
+
+class Library {
+  /** Levels 0 up that are right: built here, or verified here. @type {Slot[]} */
+  #right = [];
+  /** The proved code that verifies what was opened, until that is done. @type {Proved | null} */
+  #trial = null;
+  /** Whether a hand has stopped the build, which may be between two levels. */
+  #isStopped = false;
+  /** Files are kept one after the other, and nobody waits for it. */
+  #keeping = Promise.resolve();
+  /** @type {Work | null} */
+  work = null;
+  /** Why files were not taken, or levels not built. @type {string | null} */
+  notice = null;
+  /** What was opened, null if nothing was. @type {string | null} */
+  opened = null;
+  /** Comes once what was opened is verified as far as it can be. @type {Promise<void>} */
+  settled = Promise.resolve();
+  /** Until the first levels are there. */
+  isStarting = true;
+  /** Whether more was built, now or earlier, than the page builds by itself. */
+  hasBuilt = false;
+  /** Whether the browser keeps it. */
+  isKept = true;
+
+  /**
+   * @param {(count: number) => Proved} startProved starts the proved code with so many levels
+   * @param {() => void} changed hears that other levels are there
+   * @param {() => void} worked hears that work has gone on
+   */
+  constructor(startProved, changed, worked) {
+    Object.assign(this, { startProved, changed, worked });
+    this.proved = startProved(FIRST_LEVELS);
+    this.shelf = new Shelf(this.proved);
+  }
+
+  /** Takes the first levels, and then those that the browser has kept. */
+  async begin() {
+    try {
+      const files = await this.proved.ready;
+      for (const file of files) await this.#addRight(new File([file], nameOf(this.#right.length)), "built");
+    } catch (fault) {
+      this.notice = `${fault.message}.`;
+    }
+    this.isStarting = false;
+    this.#showRight();
+    await this.#takeKept();
+  }
+
+  async #takeKept() {
+    const numbers = await keptNumbers();
+    for (let number = this.#right.length; numbers.includes(number); number++) {
+      const file = await keptFile(number);
+      const isRight = await this.proved.ask("add", file).then(() => true, () => false);
+      if (!isRight || this.#right.length !== number) break;
+      await this.#addRight(new File([file], nameOf(number)), "verified");
+      this.hasBuilt = true;
+    }
+    if (this.hasBuilt && !this.opened) this.#showRight();
+  }
+
+  async #addRight(file, standing) { this.#right.push({ level: await openLevel(file), standing }); }
+
+  #showRight() {
+    this.shelf = new Shelf(this.proved, this.#right);
+    this.changed();
+  }
+
+  // ---- what is told ----
+
+  /** How many levels are right, from level 0 up. */
+  get length() { return this.#right.length; }
+
+  get title() {
+    if (this.opened) return this.opened;
+    return this.length === 0 ? "No levels" : `Levels 0 to ${this.length - 1}, by the proved code`;
+  }
+
+  /** The files of the right levels. @returns {File[]} */
+  get files() { return this.#right.map(({ level }) => /** @type {File} */ (level?.file)); }
+
+  #workOn(work) {
+    this.work = work;
+    this.worked();
+  }
+
+  /** Tells how many boards of which level are done, and guesses by that when the last of them will be. */
+  #teller(kind, verb, first, top) {
+    const all = boardsIn(first, top), begun = performance.now();
+    return (number, done = 0) => {
+      const share = (boardsIn(first, number - 1) + done) / all, passed = performance.now() - begun;
+      const secondsLeft = passed < MILLISECONDS_TO_GUESS ? null : passed * (1 - share) / share / 1000;
+      this.#workOn({ kind, text: `${verb} level ${number} of ${top}`, share, secondsLeft });
+    };
+  }
+
+  // ---- building ----
+
+  /** Builds the levels that are missing up to this one, in slices, and keeps their files. */
+  async build(top) {
+    const { proved } = this, first = this.length, tell = this.#teller("build", "Building", first, top);
+    this.notice = null;
+    this.#isStopped = false;
+    try {
+      for (let number = first; number <= top && !this.#isStopped; number++) {
+        tell(number);
+        const file = await proved.askTelling(done => tell(number, done), "build");
+        if (!file || proved !== this.proved) break;
+        await this.#takeBuilt(number, new File([file], nameOf(number)));
+      }
+    } catch (fault) {
+      if (proved !== this.proved) return; // what was verified meanwhile has taken its place
+      this.notice = NO_MEMORY.includes(fault.number) ? `There is no memory for level ${this.length} here.` : `${fault.message}.`;
+    }
+    this.#workOn(null);
+    this.changed();
+  }
+
+  async #takeBuilt(number, file) {
+    await this.#addRight(file, "built");
+    this.hasBuilt = true;
+    if (!this.shelf.slots[number]) this.shelf.slots[number] = this.#right[number];
+    this.changed();
+    this.#keeping = this.#keeping.then(() => this.#keep());
+  }
+
+  /** Keeps what the page does not build by itself, as far as it is not kept yet. */
+  async #keep() {
+    const numbers = await keptNumbers();
+    for (let number = FIRST_LEVELS; number < this.length; number++)
+      if (!numbers.includes(number)) this.isKept = await keepFile(number, await wholeOf(this.files[number]));
+  }
+
+  stop() {
+    this.#isStopped = true;
+    if (this.work?.kind === "build") this.proved.ask("stop");
+    else this.#endTrial();
+  }
+
+  /** Clears what the browser has kept. What is there stays, until the page is closed. */
+  async clear() {
+    await this.#keeping;
+    await clearKept();
+    this.isKept = false;
+    this.changed();
+  }
+
+  // ---- files ----
+
+  /** @param {{ files: Source[], name: string }} chosen the files, and the name of their folder if it has one */
+  async open({ files, name }) {
+    const opened = await Shelf.of(files, this.proved, this.#right).catch(fault => fault);
+    this.notice = whyNotOpened(opened, files, name);
+    if (!this.notice) this.#take(opened, titleOf(opened, files, name));
+    this.changed();
+    if (!this.notice) this.settled = this.#verify(opened);
+  }
+
+  #take(shelf, title) {
+    this.stop();
+    this.shelf = shelf;
+    this.opened = title;
+  }
+
+  /** Leaves the folder. What was verified of it stays. */
+  close() {
+    this.#endTrial();
+    Object.assign(this, { opened: null, notice: null });
+    this.#showRight();
+  }
+
+  /** Has the levels of a shelf verified, from level 0 up, as far as they fit and are right. */
+  async #verify(shelf) {
+    const all = shelf.levels.filter(canBeVerified);
+    if (all.every(({ number }) => shelf.standing(number) !== "unverified")) return;
+    const trial = this.#trial = this.startProved(0);
+    const tell = this.#teller("verify", "Verifying", 0, all.at(-1)?.number ?? 0);
+    try {
+      await trial.ready;
+      for (const level of all) {
+        if (level.number !== trial.length) break;
+        tell(level.number);
+        await trial.ask("add", level.file);
+        if (trial !== this.#trial) return;
+        if (shelf.standing(level.number) === "unverified") shelf.slots[level.number] = { level, standing: "verified" };
+      }
+    } catch (fault) {
+      if (trial !== this.#trial) return;
+      const refused = faultOf(fault, shelf.level(trial.length));
+      if (refused) shelf.slots[trial.length] = { fault: refused };
+    }
+    this.#settle(shelf, trial);
+  }
+
+  /** What was verified is the truth, and answers if it goes higher than what was there. */
+  #settle(shelf, trial) {
+    this.#trial = null;
+    if (trial.length > this.length) {
+      this.proved.end();
+      this.proved = shelf.proved = trial;
+      this.#right = shelf.slots.slice(0, trial.length);
+    } else {
+      trial.end();
+    }
+    this.#workOn(null);
+    this.changed();
+  }
+
+  #endTrial() {
+    const trial = this.#trial;
+    this.#trial = null;
+    trial?.end();
+    this.#workOn(null);
+  }
+
+  // ---- a folder of a server ----
+
+  /** Takes the levels of a folder of the page's own server, above those that are there. @param {import("./hosted.mjs").Hosted} hosted */
+  async host({ folder, isAsked }) {
+    const { sources, files, told } = await hostedLevels(folder, this.length);
+    if (files.length) await this.open({ files, name: folder.pathname });
+    if (sources.length) {
+      const shelf = await Shelf.of(sources, this.proved, this.#right);
+      this.#take(shelf, `Levels to ${sources.length + this.length - 1} of this server`);
+    }
+    const isMissing = isAsked && sources.length + files.length === 0;
+    this.notice ??= told ?? (isMissing ? `${folder.pathname} has no ${nameOf(this.length)}.` : null);
+    this.changed();
   }
 }
 
-// ---- what boards are worth ----
+const canBeVerified = ({ number, file }) => number <= HIGHEST_VERIFIED && !file.isHosted;
 
-/** A move with what it gains, by the entry of the board that it leaves. */
-function worthOf(move, entry) {
-  const value = move.captured - entry.value;
-  const plies = move.captured > 0 ? 1 : 1 + entry.distance;
-  return { ...move, value, plies, distance: value === 0 ? 0 : plies };
+const wholeOf = async file => new Blob([await file.arrayBuffer()]);
+
+function titleOf(shelf, files, name) {
+  const own = shelf.levels.filter(({ file }) => files.includes(file)), top = own.at(-1);
+  const upTo = top ? `, up to ${plural(top.number, "stone")}` : "";
+  return `${name ? `${name}: ` : ""}${plural(own.length, "level")}${upTo}`;
 }
 
-const withWorth = (shelf, move) =>
-  shelf.entry(move.next).then(entry => worthOf(move, entry), fault => ({ ...move, fault }));
-
-/**
- * The entry of a board, and its moves with their worths. A fault stands in the place of what can't be read.
- * @param {Shelf} shelf @param {Board} board @returns {Promise<Weighed>}
- */
-async function weigh(shelf, board) {
-  const [{ entry = null, fault = null }, ...moves] = await Promise.all([
-    shelf.entry(board).then(entry => ({ entry }), fault => ({ fault })),
-    ...legalPits(board).map(pit => withWorth(shelf, play(board, pit))),
-  ]);
-  for (const move of moves) move.isPlan = entry?.plan === move.pit;
-  const canJudge = entry && !moves.some(move => move.fault);
-  return { board, entry, fault, moves, broken: canJudge ? brokenRule(board, entry, moves) : null };
+/** What is wrong with a file that the proved code refuses; null if there was no memory for it. */
+function faultOf({ number, inner, rule, rank, message }, level) {
+  if (NO_MEMORY.includes(number) || !level) return null;
+  const { name } = level.file;
+  if (inner === 66) return new Error(`${name} is damaged: its SHA-256 is not that of its bytes (66 Digest)`);
+  if (rule) return new Error(`${name} is not right: the board of rank ${rank} breaks rule ${rule} (83 Verify)`);
+  return new Error(`${name} is refused: ${message}`);
 }
 
-/** The first of the rules V1 to V6 of docs/FORMATS.md that an entry breaks beside its board's moves, or null. */
-function brokenRule(board, { value, plan, distance }, moves) {
-  if (Math.abs(value) > stonesOf(board) || (plan !== null && plan > LAST_PIT)) return "V1";
-  if (moves.length === 0) return value === endGain(board) && plan === null && distance === 0 ? null : "V2";
-  const planned = moves.find(move => move.pit === plan);
-  if (!planned) return "V3";
-  if (moves.some(move => move.value > value)) return "V4";
-  if (planned.value !== value) return "V5";
-  return isDistance(distance, value, planned, moves) ? null : "V6";
+function whyNotOpened(opened, files, name) {
+  if (opened instanceof Error) return `No levels were opened. ${opened.message}.`;
+  if (namedLevels(files).size > 0) return null;
+  const all = `Of ${plural(files.length, "file")} in ${name || "the choice"} none`;
+  const none = files.length ? all : "The folder is empty: no file";
+  return `No levels were opened. ${none} is named level_00.awdb, level_01.awdb and so on.`;
 }
-
-function isDistance(distance, value, planned, moves) {
-  if (value === 0) return distance === 0;
-  if (value < 0) return distance === Math.max(...moves.map(move => move.plies));
-  const gaining = moves.filter(move => move.value === value);
-  const planComesNearer = planned.captured > 0 || planned.plies - 1 < distance;
-  return distance === Math.min(...gaining.map(move => move.plies)) && planComesNearer;
-}
-
-/**
- * The play from a board in which both sides follow the plans, as `awari line` prints it. It ends at the first
- * board that its mover has seen before, since from there on the same pits come for ever. `repeats` is the ply
- * after which that stood, as `awari line --plies` tells it.
- * @param {Shelf} shelf @param {Board} board @returns {Promise<Line>}
- */
-async function bestLine(shelf, board) {
-  const { value } = await shelf.entry(board), limit = shelf.limitTo(stonesOf(board));
-  const plies = [], met = new Map();
-  let running = 0, side = 1, quiet = 0, repeats = null;
-  while (!isEnded(board) && quiet <= limit && repeats === null) {
-    met.set(print(board), plies.length);
-    const { plan } = await shelf.entry(board);
-    if (plan === null)
-      throw new Fault(83, "Verify", `The entry of ${print(board)} names no plan, and play has not ended`);
-    const { captured, next } = play(board, plan);
-    plies.push({ pit: plan, captured });
-    running += side * captured;
-    quiet = captured > 0 ? 0 : quiet + 1;
-    board = next;
-    side = -side;
-    repeats = met.get(print(board)) ?? null;
-  }
-  const outcome = running + (isEnded(board) ? side * endGain(board) : 0);
-  return { value, plies, ended: isEnded(board), repeats, outcome };
-}
-return { HIGHEST, ENTRY_BYTES, DIGEST_BYTES, nameOf, fileSizeOf, placeOf, hex, bytesOf, openLevel, entryAt, Shelf, worthOf, weigh, brokenRule, bestLine };
+return { HIGHEST_BUILT, HIGHEST_VERIFIED, Library };
 })();
 
 const module_record = (() => {
@@ -858,19 +1669,153 @@ function wordsOfMove(move) {
 return { verdictOf, spokenVerdict, wordsOfMove };
 })();
 
-const module_session = (() => {
-// What the page shows, and what is done to it: boards, play, set-up and levels. Nothing here knows of elements.
+const module_worths = (() => {
+// What boards are worth, and how play goes on: by the proved code where it knows a level, and else by its file.
 
-const { bestLine, Shelf, weigh } = module_levels;
-const { Record } = module_record;
-const { MOST_STONES, parse, print, randomBoard, refusalOf, stonesOf, turned } = module_rules;
-const { plural, SIDES } = module_words;
-const { spokenVerdict } = module_verdict;
+const { endGain, Fault, isEnded, legalPits, play, print, stonesOf } = module_rules;
+const { LAST_PIT } = module_level_file;
 
 /**
  * @typedef {import("./rules.mjs").Board} Board
- * @typedef {import("./levels.mjs").Weighed} Weighed
- * @typedef {import("./levels.mjs").Line} Line
+ * @typedef {import("./level_file.mjs").Entry} Entry
+ * @typedef {import("./shelf.mjs").Shelf} Shelf
+ *
+ * @typedef {object} Worth what a move gains
+ * @property {number} value
+ * @property {number} distance
+ * @property {boolean} isPlan
+ * @property {Error} [fault] why that is not known
+ *
+ * @typedef {object} Weighed
+ * @property {Board} board
+ * @property {Entry | null} entry
+ * @property {Error | null} fault why there is no entry
+ * @property {(import("./rules.mjs").Move & Worth)[]} moves
+ * @property {string | null} broken the first rule that the entry breaks beside its moves
+ * @property {boolean} isProved whether the proved code says all this
+ *
+ * @typedef {object} Line the play by the plans of both sides
+ * @property {number} value of the board from which it starts
+ * @property {{ pit: number, captured: number }[]} plies
+ * @property {boolean} ended whether play ends with it
+ * @property {number | null} repeats the ply after which the same pits come for ever
+ * @property {number} outcome what the mover gains by it
+ */
+
+/**
+ * The entry of a board, and its moves with their worths. A fault stands in the place of what can't be read.
+ * @param {Shelf} shelf @param {Board} board @returns {Promise<Weighed>}
+ */
+const weigh = (shelf, board) => shelf.knows(board) ? told(shelf, board) : read(shelf, board);
+
+async function told({ proved }, board) {
+  const { entry, moves } = await proved.ask("weigh", board);
+  const withWorths = moves.map(({ pit, value, distance }) =>
+    ({ ...play(board, pit), value, distance, isPlan: entry.plan === pit }));
+  return { board, entry, fault: null, moves: withWorths, broken: null, isProved: true };
+}
+
+// ---- levels that are not verified ----
+
+async function read(shelf, board) {
+  const [{ entry = null, fault = null }, ...moves] = await Promise.all([
+    shelf.entry(board).then(entry => ({ entry }), fault => ({ fault })),
+    ...legalPits(board).map(pit => withWorth(shelf, play(board, pit))),
+  ]);
+  for (const move of moves) move.isPlan = entry?.plan === move.pit;
+  const canJudge = entry && !moves.some(move => move.fault);
+  return { board, entry, fault, moves, broken: canJudge ? brokenRule(board, entry, moves) : null, isProved: false };
+}
+
+const withWorth = (shelf, move) =>
+  shelf.entry(move.next).then(entry => worthOf(move, entry), fault => ({ ...move, fault }));
+
+/** A move with what it gains, by the entry of the board that it leaves. */
+function worthOf(move, entry) {
+  const value = move.captured - entry.value;
+  const plies = move.captured > 0 ? 1 : 1 + entry.distance;
+  return { ...move, value, plies, distance: value === 0 ? 0 : plies };
+}
+
+/** The first of the rules V1 to V6 of docs/FORMATS.md that an entry breaks beside its board's moves, or null. */
+function brokenRule(board, { value, plan, distance }, moves) {
+  if (Math.abs(value) > stonesOf(board) || (plan !== null && plan > LAST_PIT)) return "V1";
+  if (moves.length === 0) return value === endGain(board) && plan === null && distance === 0 ? null : "V2";
+  const planned = moves.find(move => move.pit === plan);
+  if (!planned) return "V3";
+  if (moves.some(move => move.value > value)) return "V4";
+  if (planned.value !== value) return "V5";
+  return isDistance(distance, value, planned, moves) ? null : "V6";
+}
+
+function isDistance(distance, value, planned, moves) {
+  if (value === 0) return distance === 0;
+  if (value < 0) return distance === Math.max(...moves.map(move => move.plies));
+  const gaining = moves.filter(move => move.value === value);
+  const planComesNearer = planned.captured > 0 || planned.plies - 1 < distance;
+  return distance === Math.min(...gaining.map(move => move.plies)) && planComesNearer;
+}
+
+// ---- lines ----
+
+/**
+ * The play from a board in which both sides follow the plans, as `awari line` prints it. It ends at the first
+ * board that its mover has seen before, since from there on the same pits come for ever. `repeats` is the ply
+ * after which that stood, as `awari line --plies` tells it.
+ * @param {Shelf} shelf @param {Board} board @returns {Promise<Line>}
+ */
+async function bestLine(shelf, board) {
+  if (shelf.knows(board)) {
+    const { moves, outcome } = await shelf.proved.ask("line", board);
+    return { ...await walk(board, async (_, ply) => moves[ply] ?? null), value: outcome, outcome };
+  }
+  const { value } = await shelf.entry(board), limit = shelf.limitTo(stonesOf(board));
+  return { ...await walk(board, (at, _, quiet) => quiet > limit ? null : planOf(shelf, at)), value };
+}
+
+async function planOf(shelf, board) {
+  const { plan } = await shelf.entry(board);
+  if (plan === null)
+    throw new Fault(83, "Verify", `The entry of ${print(board)} names no plan, and play has not ended`);
+  return plan;
+}
+
+/** Plays what `pitAt` gives for a board, a ply and how many plies captured nothing, up to null. */
+async function walk(board, pitAt) {
+  const plies = [], met = new Map();
+  let running = 0, side = 1, quiet = 0, repeats = null;
+  while (!isEnded(board) && repeats === null) {
+    const pit = await pitAt(board, plies.length, quiet);
+    if (pit === null) break;
+    met.set(print(board), plies.length);
+    const { captured, next } = play(board, pit);
+    plies.push({ pit, captured });
+    running += side * captured;
+    quiet = captured > 0 ? 0 : quiet + 1;
+    board = next;
+    side = -side;
+    repeats = met.get(print(board)) ?? null;
+  }
+  const outcome = running + (isEnded(board) ? side * endGain(board) : 0);
+  return { plies, ended: isEnded(board), repeats, outcome };
+}
+return { weigh, worthOf, brokenRule, bestLine };
+})();
+
+const module_session = (() => {
+// What the page shows, and what is done to it: boards, play, set-up and levels. Nothing here knows of elements.
+
+const { Library } = module_library;
+const { Record } = module_record;
+const { MOST_STONES, parse, print, randomBoard, refusalOf, stonesOf, turned } = module_rules;
+const { spokenVerdict } = module_verdict;
+const { plural, SIDES } = module_words;
+const { bestLine, weigh } = module_worths;
+
+/**
+ * @typedef {import("./rules.mjs").Board} Board
+ * @typedef {import("./worths.mjs").Weighed} Weighed
+ * @typedef {import("./worths.mjs").Line} Line
  *
  * @typedef {object} Shown what the views draw
  * @property {Record} record what was set up and played
@@ -879,10 +1824,8 @@ const { spokenVerdict } = module_verdict;
  * @property {Line | { fault: Error } | null} line the best line, null while that is being asked
  * @property {number} below the side whose pits lie in the lower row
  * @property {boolean} keepsMoverBelow whether that is always the mover's
- * @property {Shelf} shelf the levels that are there
- * @property {string | null} refused why files were not taken at all
- * @property {string} title what the levels are
- * @property {boolean} hasLevels whether files were opened
+ * @property {import("./shelf.mjs").Shelf} shelf the levels that are there
+ * @property {Library} library what builds, verifies and opens them
  * @property {boolean} isEditing whether a click changes a pit
  * @property {boolean} isTaking whether it takes a stone, and does not add one
  * @property {boolean} isPlaying whether the line plays itself
@@ -892,6 +1835,7 @@ const { spokenVerdict } = module_verdict;
  * @property {(shown: Shown) => void} drawWorth its worth or its line has come
  * @property {(shown: Shown) => void} drawBoard the board lies otherwise, or is being edited
  * @property {(shown: Shown) => void} drawLevels other levels are there
+ * @property {(shown: Shown) => void} drawWork levels are being built or verified, or are not any more
  * @property {(shown: Shown) => void} drawPlaying the line plays itself, or has stopped
  * @property {(text: string) => void} say to those who listen
  * @property {(text: string) => void} hint to those who look, for a while
@@ -910,14 +1854,17 @@ class Session {
   #turn = 0;
   #playTimer;
 
-  /** @param {string} word the first board, if it is one */
-  constructor(word = FIRST_BOARD) {
+  /**
+   * @param {(count: number) => import("./proved.mjs").Proved} startProved starts the proved code with so many levels
+   * @param {string} word the first board, if it is one
+   */
+  constructor(startProved, word = FIRST_BOARD) {
     this.record = new Record(parse(word));
+    this.library = new Library(startProved, () => this.#takeLevels(), () => this.listener.drawWork(this.shown));
     /** @type {Shown} */
     this.shown = {
       record: this.record, state: this.record.now, weighed: null, line: null, below: 0, keepsMoverBelow: false,
-      shelf: new Shelf(), refused: null, title: "No levels opened", hasLevels: false,
-      isEditing: false, isTaking: false, isPlaying: false,
+      shelf: this.library.shelf, library: this.library, isEditing: false, isTaking: false, isPlaying: false,
     };
   }
 
@@ -925,12 +1872,17 @@ class Session {
 
   /** Shows the state of the record, at first without its worth, and then with it. */
   async show() {
-    const mine = ++this.#turn, { shown } = this;
-    Object.assign(shown, { state: this.record.now, weighed: null, line: null });
+    Object.assign(this.shown, { state: this.record.now, weighed: null, line: null });
     this.#laySides();
-    this.listener.drawState(shown);
-    const weighed = await weigh(shown.shelf, shown.state.board);
-    if (mine !== this.#turn) return;
+    this.listener.drawState(this.shown);
+    await this.#weigh();
+  }
+
+  async #weigh() {
+    const mine = ++this.#turn, { shown } = this;
+    if (this.library.isStarting) return; // it is told once there are levels
+    const weighed = await weigh(shown.shelf, shown.state.board).catch(() => null);
+    if (mine !== this.#turn || !weighed) return;
     shown.weighed = weighed;
     this.listener.drawWorth(shown);
     this.#showLine(mine);
@@ -1089,31 +2041,28 @@ class Session {
   /** The word of the board that is shown. */
   get word() { return print(this.shown.state.board); }
 
-  // ---- files ----
+  // ---- levels ----
+
+  /** Other levels are there, so the board that is shown may be worth something else, or be known at last. */
+  #takeLevels() {
+    this.shown.shelf = this.library.shelf;
+    this.listener.drawLevels(this.shown);
+    this.#weigh();
+  }
 
   /** @param {{ files: File[], name: string }} chosen the files, and the name of their folder if it has one */
-  async open({ files, name }) {
+  async open(chosen) {
     this.stopPlaying();
-    const opened = await Shelf.of(files).catch(fault => fault);
-    this.shown.refused = whyNotOpened(opened, files, name);
-    if (!this.shown.refused) this.#take(opened, name);
-    this.listener.drawLevels(this.shown);
+    await this.library.open(chosen);
     await this.show();
-    this.listener.say(this.shown.refused ?? `${this.shown.title}. ${spokenVerdict(this.shown)}`);
+    this.listener.say(this.library.notice ?? `${this.library.title}. ${spokenVerdict(this.shown)}`);
   }
 
-  #take(shelf, name) {
-    const top = shelf.levels.at(-1), upTo = top ? `, up to ${plural(top.number, "stone")}` : "";
-    const title = `${name ? `${name}: ` : ""}${plural(shelf.levels.length, "level")}${upTo}`;
-    Object.assign(this.shown, { shelf, title, hasLevels: true });
+  /** Shows the board of a level that has this rank. */
+  async showRank(level, rank) {
+    await this.setBoard(await this.library.proved.ask("board", level, rank), 0);
+    this.sayVerdict();
   }
-}
-
-function whyNotOpened(opened, files, name) {
-  if (opened instanceof Error) return `${opened.message}.`;
-  if (!opened.isEmpty) return null;
-  const all = `Of ${plural(files.length, "file")} in ${name || "the choice"} none`;
-  return `${files.length ? all : "The folder is empty: no file"} is named level_00.awdb, level_01.awdb and so on.`;
 }
 return { Session };
 })();
@@ -1516,106 +2465,16 @@ class Picture {
 return { Picture };
 })();
 
-const module_sha256 = (() => {
-// SHA-256 of bytes that come piece by piece. The browser's own wants all bytes at once, and a level's file
-// may be larger than its memory. The names are those of FIPS 180-4.
-
-const BLOCK_BYTES = 64;
-
-function firstPrimes(count) {
-  const primes = [];
-  for (let number = 2; primes.length < count; number++)
-    if (primes.every(prime => number % prime !== 0)) primes.push(number);
-  return primes;
-}
-
-/** The first 32 bits behind the point. */
-const fraction = number => ((number - Math.floor(number)) * 2 ** 32) | 0;
-
-const PRIMES = firstPrimes(64);
-const K = Int32Array.from(PRIMES, prime => fraction(Math.cbrt(prime)));
-const START = Int32Array.from(PRIMES.slice(0, 8), prime => fraction(Math.sqrt(prime)));
-
-class Sha256 {
-  constructor() {
-    this.hash = START.slice();
-    this.schedule = new Int32Array(64);
-    /** Bytes that do not fill a block yet. */
-    this.rest = new Uint8Array(0);
-    this.length = 0;
-  }
-
-  update(bytes) {
-    this.length += bytes.length;
-    const given = this.rest.length === 0 ? bytes : joined(this.rest, bytes);
-    const whole = given.length - given.length % BLOCK_BYTES;
-    const view = new DataView(given.buffer, given.byteOffset);
-    for (let place = 0; place < whole; place += BLOCK_BYTES) {
-      this.fillSchedule(view, place);
-      this.mixSchedule();
-    }
-    this.rest = given.slice(whole);
-  }
-
-  fillSchedule(view, place) {
-    const w = this.schedule;
-    for (let t = 0; t < 16; t++) w[t] = view.getInt32(place + 4 * t);
-    for (let t = 16; t < 64; t++) {
-      const x = w[t - 15], y = w[t - 2];
-      const sigma0 = (x >>> 7 | x << 25) ^ (x >>> 18 | x << 14) ^ x >>> 3;
-      const sigma1 = (y >>> 17 | y << 15) ^ (y >>> 19 | y << 13) ^ y >>> 10;
-      w[t] = w[t - 16] + sigma0 + w[t - 7] + sigma1;
-    }
-  }
-
-  mixSchedule() {
-    const { hash, schedule } = this;
-    let a = hash[0], b = hash[1], c = hash[2], d = hash[3], e = hash[4], f = hash[5], g = hash[6], h = hash[7];
-    for (let t = 0; t < 64; t++) {
-      const sum1 = (e >>> 6 | e << 26) ^ (e >>> 11 | e << 21) ^ (e >>> 25 | e << 7);
-      const sum0 = (a >>> 2 | a << 30) ^ (a >>> 13 | a << 19) ^ (a >>> 22 | a << 10);
-      const first = (h + sum1 + (e & f ^ ~e & g) + K[t] + schedule[t]) | 0;
-      const second = (sum0 + (a & b ^ a & c ^ b & c)) | 0;
-      h = g; g = f; f = e; e = (d + first) | 0;
-      d = c; c = b; b = a; a = (first + second) | 0;
-    }
-    hash[0] += a; hash[1] += b; hash[2] += c; hash[3] += d;
-    hash[4] += e; hash[5] += f; hash[6] += g; hash[7] += h;
-  }
-
-  /** The digest in hexadecimal. Nothing can be given after this. */
-  digest() {
-    const lengthInBits = 8n * BigInt(this.length);
-    const end = new Uint8Array((this.rest.length < BLOCK_BYTES - 8 ? 1 : 2) * BLOCK_BYTES - this.rest.length);
-    end[0] = 0x80;
-    new DataView(end.buffer).setBigUint64(end.length - 8, lengthInBits);
-    this.update(end);
-    return Array.from(this.hash, word => (word >>> 0).toString(16).padStart(8, "0")).join("");
-  }
-}
-
-function joined(first, second) {
-  const all = new Uint8Array(first.length + second.length);
-  all.set(first);
-  all.set(second, first.length);
-  return all;
-}
-return { Sha256 };
-})();
-
 const module_scans = (() => {
-// What is found by going over a whole file: how many boards have which value and distance, and the digest.
+// What is found by going over a whole file: how many boards have which value and distance.
 //
 // A file is read in pieces, each of which takes a few milliseconds. Between two of them the page answers
 // hands, so no thread of its own is needed. A scan says how far it is, and stops if its signal says so.
 
-const { bytesOf, DIGEST_BYTES, ENTRY_BYTES, hex, placeOf } = module_levels;
-const { Sha256 } = module_sha256;
+const { bytesOf, ENTRY_BYTES, placeOf } = module_level_file;
 
-/** The bytes of a piece: whole entries of a level, and whole blocks of its digest. */
+/** The bytes of a piece: whole entries of a level. */
 const PIECE_BYTES = ENTRY_BYTES * 64 * 1024;
-/** Up to this size the browser's SHA-256 takes a file. It is the fastest, and wants all of it in memory. */
-const AT_ONCE_BYTES = 256e6;
 /** A wrong file may have any distance. Those above this are counted together. */
 const MOST_DISTANCE = 65535;
 const LEAST_VALUE = -128, VALUES = 256;
@@ -1694,49 +2553,41 @@ async function countBoards(level, told = () => {}, signal = null) {
   }
   return counts;
 }
-
-async function digestInPieces(file, end, told, signal) {
-  const hash = new Sha256();
-  for await (const { place, bytes } of pieces(file, 0, end, signal)) {
-    hash.update(bytes);
-    told((place + bytes.length) / end);
-  }
-  return hash.digest();
-}
-
-const digestAtOnce = async (file, end) =>
-  hex(new Uint8Array(await crypto.subtle.digest("SHA-256", await bytesOf(file, 0, end))));
-
-/** Hashes a level's file, and says whether the digest is the one in which the file ends. */
-async function checkDigest(level, told = () => {}, signal = null, atOnceBytes = AT_ONCE_BYTES) {
-  const { file } = level, end = file.size - DIGEST_BYTES;
-  const isAtOnce = Boolean(globalThis.crypto?.subtle) && end <= atOnceBytes;
-  const found = await (isAtOnce ? digestAtOnce(file, end) : digestInPieces(file, end, told, signal));
-  signal?.throwIfAborted();
-  const written = hex(await bytesOf(file, end));
-  return { found, written, isRight: found === written && written === level.digest };
-}
-return { PIECE_BYTES, countBoards, checkDigest };
+return { PIECE_BYTES, countBoards };
 })();
 
 const module_levels_view = (() => {
-// The levels of the folder, a button each, and a summary of one of them: its numbers, two pictures, its digest.
+// The levels that are there, a button each, and a summary of one of them: its numbers, and two pictures.
 
 const { button, byId, element } = module_elements;
-const { fileSizeOf, HIGHEST, nameOf, Shelf } = module_levels;
+const { fileSizeOf, HIGHEST, nameOf } = module_level_file;
 const { Picture } = module_pictures;
-const { boardAt, sizeOf } = module_rules;
-const { checkDigest, countBoards } = module_scans;
+const { sizeOf } = module_rules;
+const { countBoards } = module_scans;
+const { Shelf } = module_shelf;
 const { grouped, percent, plies, plural, sizeText } = module_words;
 
 /** Levels up to this size are counted unasked, which takes less than half a second. */
 const COUNTED_UNASKED_BYTES = 32e6;
 
+/** What is said of a level by its standing. */
+const STANDINGS = {
+  built: ["Built here", " by the proved code: it is right for every board."],
+  verified: ["Verified here", " by the proved code: it is right for every board."],
+  unverified: ["Not verified.", " This page shows what the file says, right or wrong."],
+};
+
 class LevelsView {
-  /** `hands` has showBoard(board) and say(text). */
+  /** `hands` has showRank(level, rank) and say(text). */
   constructor({ card, buttons, summary }, hands) {
     Object.assign(this, { card, buttons, summary, hands });
-    this.open(new Shelf());
+    this.open(new Shelf(null));
+  }
+
+  /** Draws the levels anew, since some came or were verified. */
+  update(shelf) {
+    if (shelf !== this.shelf) this.open(shelf);
+    this.redraw();
   }
 
   /** Takes another folder. What was begun on the one before is stopped. */
@@ -1746,7 +2597,6 @@ class LevelsView {
     this.jobs = new Set();
     this.counts = new Map();
     this.pictures = new Map();
-    this.digests = new Map();
     /** Levels whose count was stopped. They are counted again only if a hand asks for it. */
     this.stopped = new Set();
     this.chosen = null;
@@ -1784,12 +2634,11 @@ class LevelsView {
   redrawIfShown(number) { if (number === this.drawn) this.redraw(); }
 
   makeLevelButton(slot, number) {
-    const isHashed = Boolean(this.digests.get(number)?.isRight);
-    const kind = slot?.level ? "here" : slot ? "wrong" : "missing";
-    const there = `there${isHashed ? ", its SHA-256 is right" : ""}`;
-    const text = slot?.level ? there : slot ? slot.fault.message : "missing";
+    const kind = slot?.level ? `here ${slot.standing}` : slot ? "wrong" : "missing";
+    const standing = slot?.level && STANDINGS[slot.standing][0].replace(".", "").toLowerCase();
+    const text = standing ?? slot?.fault?.message ?? "missing";
     const attributes = {
-      id: `level-${number}`, class: `${kind}${isHashed ? " hashed" : ""}`, title: text,
+      id: `level-${number}`, class: kind, title: text,
       "aria-pressed": String(number === this.number), "aria-label": `Level ${number}: ${text}`,
     };
     const choose = () => {
@@ -1810,6 +2659,7 @@ class LevelsView {
       element("div", { class: "head" },
         element("b", {}, `Level ${number}`),
         element("span", { class: "soft small" }, `${level.file.name}, ${sizeText(level.file.size)}`)),
+      this.makeStanding(this.shelf.standing(number)),
       ...(counts?.level ? [this.makeBar(counts)] : []),
       this.makeNumbers(level, counts),
       ...this.makePictures(number, counts),
@@ -1818,10 +2668,15 @@ class LevelsView {
     ];
   }
 
+  makeStanding(standing) {
+    const [title, text] = STANDINGS[standing];
+    return element("p", { id: "standing", class: `status ${standing}` }, element("b", {}, title), text);
+  }
+
   makeMissing(number) {
     const boards = grouped(sizeOf(number));
     return element("p", { class: "status" },
-      element("b", {}, nameOf(number)), " is not in the folder. ",
+      element("b", {}, nameOf(number)), " is not here. ",
       element("code", {}, `awari build ${number} --folder FOLDER`),
       ` makes it: ${boards} ${number === 0 ? "board" : "boards"}, ${sizeText(fileSizeOf(number))}.`);
   }
@@ -1853,7 +2708,7 @@ class LevelsView {
   makePictures(number, counts) {
     if (!counts?.level) return [];
     if (!this.pictures.has(number)) {
-      const show = rank => this.hands.showBoard(boardAt(number, rank));
+      const show = rank => this.hands.showRank(number, rank);
       this.pictures.set(number, [Picture.ofValues(counts, show), Picture.ofDistances(counts, show)]);
     }
     const figures = this.pictures.get(number).map(picture => picture.figure);
@@ -1861,46 +2716,24 @@ class LevelsView {
   }
 
   makeActions(level, counts) {
-    const { number } = level, isSingle = this.shelf.levels.length === 1;
-    const isBusy = what => [...this.jobs].some(job => job.number === number && job.what === what);
-    const show = () => this.hands.showBoard(boardAt(number, counts.firstOfGreatest));
+    const { number } = level;
+    const isBusy = [...this.jobs].some(job => job.number === number);
+    const show = () => this.hands.showRank(number, counts.firstOfGreatest);
     const action = (id, act, text) => button({ id, class: "button" }, act, text);
     const countText = `Count the boards (${sizeText(level.file.size)})`;
     return element("div", { class: "row actions" },
-      !counts && !isBusy("Counting") && action("count", () => this.count(number), countText),
-      counts?.level && action("farthest", show, `Show a board of ${plies(counts.greatest)}`),
-      !isBusy("Hashing") && action("check", () => this.checkDigest(number), "Check SHA-256"),
-      !isSingle && this.jobs.size === 0 && action("check-all", () => this.checkAll(), "Check all levels"));
+      !counts && !isBusy && action("count", () => this.count(number), countText),
+      counts?.level && action("farthest", show, `Show a board of ${plies(counts.greatest)}`));
   }
 
   makeRemarks(level, counts) {
-    const digest = this.digests.get(level.number), remarks = [];
+    const remarks = [];
     if (counts?.fault) remarks.push(element("p", { class: "status wrong" }, `${counts.fault.message}.`));
     if (counts?.level && counts.greatest !== level.limit)
       remarks.push(element("p", { class: "status wrong" },
         `The file gives ${level.limit} as its greatest distance, and an entry has ${counts.greatest} (rule V7).`));
     for (const job of this.jobs) if (job.number === level.number) remarks.push(this.makeProgress(job));
-    if (digest) remarks.push(this.makeDigestRemark(level, digest));
     return remarks;
-  }
-
-  makeDigestRemark(level, { isRight, found, written, fault }) {
-    const start = digest => `${digest.slice(0, 16)}…`;
-    const say = (kind, title, text) =>
-      element("p", { id: "checked", class: `status ${kind}` }, element("b", {}, title), text);
-    if (fault) return say("wrong", "SHA-256 is not known. ", `${fault.message}.`);
-    if (isRight)
-      return say("good", "SHA-256 is right. ", `The file is whole, and no byte is damaged.${this.belowText(level.number)}`);
-    return say("wrong", "SHA-256 is wrong (66 Digest). ",
-      `The bytes have ${start(found)}, and the file says ${start(written)}: the file is damaged.`);
-  }
-
-  belowText(number) {
-    if (number === 0) return "";
-    const below = nameOf(number - 1);
-    return this.shelf.level(number - 1)
-      ? ` It was built over the ${below} that is here.`
-      : ` ${below}, over which it was built, is not here.`;
   }
 
   // ---- work on whole files ----
@@ -1934,7 +2767,7 @@ class LevelsView {
   countUnasked(number) {
     const level = this.shelf.level(number), isBusy = [...this.jobs].some(job => job.number === number);
     const isWanted = level && !this.counts.has(number) && !this.stopped.has(number);
-    if (isWanted && !isBusy && level.file.size <= COUNTED_UNASKED_BYTES) this.count(number);
+    if (isWanted && !isBusy && !level.file.isHosted && level.file.size <= COUNTED_UNASKED_BYTES) this.count(number);
   }
 
   async count(number) {
@@ -1945,36 +2778,101 @@ class LevelsView {
     else this.stopped.add(number);
     this.redrawIfShown(number);
   }
-
-  async checkDigest(number, control = new AbortController()) {
-    const { shelf } = this;
-    this.digests.delete(number);
-    const digest = await this.run("Hashing", number, control, checkDigest);
-    if (shelf !== this.shelf) return;
-    if (digest) {
-      const told = digest.isRight ? "SHA-256 is right" : "SHA-256 is wrong";
-      this.digests.set(number, digest);
-      this.hands.say(`Level ${number}: ${digest.fault?.message ?? told}`);
-    }
-    this.redraw();
-  }
-
-  async checkAll() {
-    const { shelf } = this, control = new AbortController();
-    for (const { number } of shelf.levels) {
-      if (shelf !== this.shelf || control.signal.aborted) return;
-      await this.checkDigest(number, control);
-    }
-  }
 }
 return { LevelsView };
 })();
 
+const module_more_view = (() => {
+// The card by which more levels come: how many are to be built, how far the work is, and what is kept and saved.
+
+const { byId, element } = module_elements;
+const { fileSizeOf } = module_level_file;
+const { HIGHEST_BUILT } = module_library;
+const { sizeOf } = module_rules;
+const { plural, sizeText } = module_words;
+
+/** @typedef {import("./library.mjs").Library} Library */
+
+/** Building a level takes about so many bytes of memory for each of its boards, its file among them. */
+const BYTES_A_BOARD = 26;
+/** Up to these a click builds, in turn. */
+const STEPS = [8, 10, 12];
+
+const sum = (from, to, of) => {
+  let all = 0;
+  for (let number = from; number <= to; number++) all += of(number);
+  return all;
+};
+
+/** What building these levels costs, in words. */
+function costOf(first, top) {
+  if (first > HIGHEST_BUILT) return "This page builds no more levels: the program does.";
+  if (top < first) return `Levels to ${first - 1} are here.`;
+  const files = sum(first, top, fileSizeOf), memory = BYTES_A_BOARD * sizeOf(top);
+  const boards = plural(sum(first, top, sizeOf), "board");
+  return `${boards}, ${sizeText(files)} of files, some ${sizeText(memory)} of memory.`;
+}
+
+function timeText(seconds) {
+  if (seconds === null) return "";
+  if (seconds < 90) return `, some ${Math.max(1, Math.round(seconds))} s left`;
+  return `, some ${Math.round(seconds / 60)} minutes left`;
+}
+
+class MoreView {
+  #suggested = 0;
+
+  /** How many stones the field asks for. */
+  get top() {
+    const asked = Math.floor(Number(byId("build-top").value)) || 0;
+    return Math.max(0, Math.min(HIGHEST_BUILT, asked));
+  }
+
+  /** Draws what there is. @param {Library} library */
+  draw(library) {
+    const { length, isKept, opened } = library;
+    this.#suggest(STEPS.find(step => step >= length) ?? Math.min(length, HIGHEST_BUILT));
+    byId("close").hidden = opened === null;
+    byId("save").hidden = byId("kept-told").hidden = byId("clear-kept").hidden = !library.hasBuilt;
+    byId("clear-kept").disabled = !isKept;
+    byId("kept-told").textContent = isKept
+      ? "This browser keeps what was built here, until you clear it."
+      : "This browser keeps nothing: save the levels as files.";
+    this.drawCost(library);
+    this.drawWork(library);
+  }
+
+  /** The field has the next step, unless a hand wrote something else. */
+  #suggest(step) {
+    if (this.#suggested === step) return;
+    this.#suggested = step;
+    byId("build-top").value = String(step);
+  }
+
+  /** @param {Library} library */
+  drawCost({ length }) { byId("build-cost").textContent = costOf(length, this.top); }
+
+  /** @param {Library} library */
+  drawWork({ work, length }) {
+    byId("build").textContent = work ? "Stop" : "Build";
+    byId("build").disabled = !work && this.top < length;
+    byId("build-top").disabled = Boolean(work);
+    byId("work").hidden = !work;
+    if (!work) return byId("work").replaceChildren();
+    const text = `${work.text}${timeText(work.secondsLeft)}`, bar = byId("work").querySelector("progress");
+    if (!bar) byId("work").append(element("span", {}), element("progress", { max: "1", "aria-label": "Levels" }));
+    byId("work").firstChild.textContent = text;
+    byId("work").querySelector("progress").value = work.share;
+  }
+}
+return { MoreView };
+})();
+
 const module_notice_view = (() => {
-// What is wrong with the folder that was chosen, above everything else.
+// What is wrong with the levels, above everything else.
 
 const { element } = module_elements;
-const { nameOf } = module_levels;
+const { nameOf } = module_level_file;
 
 const strongLine = (strong, text = "") => element("p", {}, element("b", {}, strong), text);
 
@@ -1999,11 +2897,9 @@ function gapLines({ gaps }) {
   return [strongLine("Missing: ", `${names}. ${meaning}`)];
 }
 
-/** `refused` says why the choice was not opened at all, and is null if it was. */
-function drawNotice(box, shelf, refused) {
-  const lines = refused
-    ? [strongLine("No levels were opened. ", refused)]
-    : [...faultLines(shelf), ...gapLines(shelf)];
+/** @param {HTMLElement} box @param {import("./library.mjs").Library} library */
+function drawNotice(box, { shelf, notice }) {
+  const lines = [...(notice ? [strongLine(notice)] : []), ...faultLines(shelf), ...gapLines(shelf)];
   box.hidden = lines.length === 0;
   box.replaceChildren(...lines);
 }
@@ -2022,18 +2918,17 @@ const { kindOf, plies, SIDES, signed } = module_words;
 const MOST_PLIES_SHOWN = 400;
 
 function makeVerdict(shown) {
-  const { state, weighed, hasLevels } = shown, hasEnded = isEnded(state.board);
+  const { state, weighed } = shown, hasEnded = isEnded(state.board);
   const [title, text] = verdictOf(shown);
   const value = hasEnded ? endGain(state.board) : weighed?.entry?.value;
   const kind = value === undefined ? "open" : kindOf(value);
-  const invitation = "Open a folder of levels to see what each move is worth.";
   return element("div", { class: "verdict" },
     element("div", { class: `value-box ${kind}` },
       element("span", { id: "value" }, value === undefined ? "?" : signed(value)),
       element("small", {}, `for ${SIDES[state.mover]}`)),
     element("div", {},
       element("b", {}, title),
-      element("p", {}, hasLevels || hasEnded ? text && `${text}.` : invitation)));
+      element("p", {}, text && `${text}.`)));
 }
 
 // ---- the table of moves ----
@@ -2098,12 +2993,19 @@ function makeRemarks({ weighed, record }) {
 
 /** While the entries are being read, what was there before stays, but faint: nothing flickers. */
 function drawWorth(box, shown, hands) {
-  const isWaiting = !shown.weighed && !isEnded(shown.state.board) && shown.hasLevels;
+  const isWaiting = !shown.weighed && !isEnded(shown.state.board) ;
   box.setAttribute("aria-busy", String(!shown.weighed));
   box.classList.toggle("waiting", isWaiting && box.childElementCount > 0);
   if (isWaiting && box.childElementCount > 0) return;
   const hasMoves = !isEnded(shown.state.board);
   box.replaceChildren(makeVerdict(shown), ...(hasMoves ? [makeMovesTable(shown, hands)] : []), ...makeRemarks(shown));
+}
+
+/** Whether the proved code says what is shown. */
+function drawStanding(box, { weighed }) {
+  if (!weighed) return; // what was there before stays, as the worth does
+  box.className = `standing ${weighed.isProved ? "proved" : ""}`;
+  box.textContent = weighed.isProved ? "by the proved code" : weighed.entry ? "not verified" : "";
 }
 
 // ---- plies ----
@@ -2119,11 +3021,11 @@ function makePly({ pit, captured }, mover, label, action, attributes = {}) {
 }
 
 function drawLine(box, shown, hands) {
-  const { line, hasLevels } = shown;
+  const { line } = shown;
   box.setAttribute("aria-busy", String(!line));
-  box.classList.toggle("waiting", !line && hasLevels);
-  if (!line && hasLevels) return;
-  if (!line || line.fault) return box.replaceChildren(element("p", { class: "small soft" }, whyNoLine(shown)));
+  box.classList.toggle("waiting", !line);
+  if (!line) return;
+  if (line.fault) return box.replaceChildren(element("p", { class: "small soft" }, whyNoLine(shown)));
   const plyList = line.plies.slice(0, MOST_PLIES_SHOWN);
   const items = plyList.map((ply, index) => makePly(
     ply, (shown.state.mover + index) % 2, `Go to ply ${index + 1} of the line`,
@@ -2134,8 +3036,7 @@ function drawLine(box, shown, hands) {
     ...makeLineRemarks(line));
 }
 
-function whyNoLine({ line, weighed, hasLevels }) {
-  if (!hasLevels) return "The play in which both sides follow the plans comes here.";
+function whyNoLine({ line, weighed }) {
   return weighed?.fault ? "There is no line without the entry of this board." : `${line.fault.message}.`;
 }
 
@@ -2165,7 +3066,7 @@ function drawPlayed(card, list, score, { record, state }, hands) {
   }));
   score.textContent = `South ${state.captured[0]} : ${state.captured[1]} North`;
 }
-return { drawWorth, drawLine, drawPlayed };
+return { drawWorth, drawStanding, drawLine, drawPlayed };
 })();
 
 const module_views = (() => {
@@ -2175,9 +3076,10 @@ const { writeAddress } = module_address;
 const { BoardView } = module_board_view;
 const { byId, element, icon } = module_elements;
 const { LevelsView } = module_levels_view;
+const { MoreView } = module_more_view;
 const { drawNotice } = module_notice_view;
 const { print, stonesOf } = module_rules;
-const { drawLine, drawPlayed, drawWorth } = module_worth_view;
+const { drawLine, drawPlayed, drawStanding, drawWorth } = module_worth_view;
 
 /** @typedef {import("./session.mjs").Shown} Shown */
 
@@ -2195,12 +3097,13 @@ class Views {
       set: (pit, stones) => session.setStones(pit, stones),
     });
     this.levels = new LevelsView({ card: byId("levels-card"), buttons: byId("levels"), summary: byId("summary") }, {
-      showBoard: board => {
-        session.setBoard(board, 0).then(() => session.sayVerdict());
+      showRank: (level, rank) => {
+        session.showRank(level, rank);
         byId("board").scrollIntoView({ block: "nearest" });
       },
       say: text => this.say(text),
     });
+    this.more = new MoreView();
     this.moveHands = { play: pit => session.play(pit), preview: pit => this.board.preview(pit) };
     this.lineHands = { follow: plies => session.follow(plies) };
     this.playedHands = { go: index => session.go(index) };
@@ -2233,7 +3136,7 @@ class Views {
     this.board.draw(shown);
     this.#drawWorthAndLine(shown);
     drawPlayed(byId("played-card"), byId("played"), byId("score"), shown, this.playedHands);
-    this.#drawLevelsCard(shown);
+    this.levels.draw(stonesOf(shown.state.board));
     this.#drawWord(word);
     writeAddress(word);
   }
@@ -2247,6 +3150,7 @@ class Views {
   #drawWorthAndLine(shown) {
     this.#drawControls(shown);
     drawWorth(byId("worth"), shown, this.moveHands);
+    drawStanding(byId("worth-standing"), shown);
     drawLine(byId("line"), shown, this.lineHands);
   }
 
@@ -2274,19 +3178,14 @@ class Views {
 
   /** @param {Shown} shown */
   drawLevels(shown) {
-    this.levels.open(shown.shelf);
-    drawNotice(byId("notice"), shown.shelf, shown.refused);
-    byId("folder-name").textContent = shown.title;
-    if (!shown.hasLevels) return;
-    byId("pick-label").textContent = "Choose another";
-    byId("pick-label").classList.remove("main-button");
+    this.levels.update(shown.shelf);
+    this.more.draw(shown.library);
+    drawNotice(byId("notice"), shown.library);
+    byId("folder-name").textContent = shown.library.title;
   }
 
-  #drawLevelsCard({ hasLevels, state }) {
-    byId("levels-card").hidden = !hasLevels;
-    byId("drop").hidden = hasLevels;
-    if (hasLevels) this.levels.draw(stonesOf(state.board));
-  }
+  /** @param {Shown} shown */
+  drawWork({ library }) { this.more.drawWork(library); }
 
   /** @param {Shown} shown */
   drawPlaying({ isPlaying }) {
@@ -2303,15 +3202,19 @@ const module_page = (() => {
 
 const { readAddress } = module_address;
 const { bindHands } = module_hands;
+const { hostedFolder } = module_hosted;
+const { Proved } = module_proved;
 const { Session } = module_session;
 const { Views } = module_views;
+
+const startProved = count => new Proved(count);
 
 /** The session of the address. A word in it that is no board is told, and the first board is shown. */
 function begin() {
   try {
-    return { session: new Session(readAddress() || undefined), fault: null };
+    return { session: new Session(startProved, readAddress() || undefined), fault: null };
   } catch (fault) {
-    return { session: new Session(), fault };
+    return { session: new Session(startProved), fault };
   }
 }
 
@@ -2322,5 +3225,9 @@ bindHands(session, views);
 session.stopPlaying();
 session.show();
 if (fault) views.hint(fault.message);
+
+const hosted = hostedFolder(location);
+session.library.begin().then(() => hosted && session.library.host(hosted));
 return {  };
 })();
+

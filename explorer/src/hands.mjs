@@ -2,7 +2,7 @@
 // What hands and keys do: buttons, fields, what is pasted or dropped, and the address.
 
 import { readAddress } from "./address.mjs";
-import { byId } from "./elements.mjs";
+import { byId, element } from "./elements.mjs";
 import { filesOfDrop, filesOfInput } from "./files.mjs";
 
 /**
@@ -10,6 +10,9 @@ import { filesOfDrop, filesOfInput } from "./files.mjs";
  * @typedef {import("./views.mjs").Views} Views
  */
 
+/** The address of a file that is saved stays so long. */
+const MILLISECONDS_OF_A_DOWNLOAD = 60_000;
+const MILLISECONDS_BETWEEN_DOWNLOADS = 200;
 const KEYS = { b: "best", p: "auto", u: "undo", r: "redo", t: "turn", s: "swap", e: "edit" };
 
 const isField = target => /^(INPUT|TEXTAREA|SELECT)$/.test(target.tagName) && target.type !== "checkbox";
@@ -22,6 +25,7 @@ export function bindHands(session, views) {
   bindWords(session, views);
   bindKeys(session, actions);
   bindFiles(session, views);
+  bindBuilding(session, views);
 }
 
 /** What each button does, by its name. */
@@ -96,9 +100,38 @@ async function copyWord(session, views) {
   views.say("Copied");
 }
 
+// ---- levels ----
+
+function bindBuilding({ library }, views) {
+  byId("build-form").addEventListener("submit", event => {
+    event.preventDefault();
+    if (library.work) library.stop();
+    else library.build(views.more.top).then(() => views.say(library.notice ?? library.title));
+  });
+  byId("build-top").addEventListener("input", () => views.more.draw(library));
+  byId("close").addEventListener("click", () => library.close());
+  byId("save").addEventListener("click", () => saveFiles(library.files));
+  byId("clear-kept").addEventListener("click", async () => {
+    await library.clear();
+    views.hint("This browser keeps no levels any more");
+    views.say("This browser keeps no levels any more");
+  });
+}
+
+/** Each file comes as a download of its own. Chromium drops those that come too fast. */
+async function saveFiles(files) {
+  for (const file of files) {
+    const link = element("a", { download: file.name, href: URL.createObjectURL(file) });
+    link.click();
+    setTimeout(() => URL.revokeObjectURL(link.href), MILLISECONDS_OF_A_DOWNLOAD);
+    await new Promise(next => setTimeout(next, MILLISECONDS_BETWEEN_DOWNLOADS));
+  }
+}
+
 // ---- files ----
 
 function bindFiles(session, views) {
+  byId("pick-whole").hidden = !("webkitdirectory" in byId("pick"));
   for (const id of ["pick", "pick-files"])
     byId(id).addEventListener("change", ({ target }) => {
       openFiles(session, filesOfInput(target));
@@ -121,6 +154,7 @@ function bindFiles(session, views) {
 
 async function openFiles(session, chosen) {
   await session.open(chosen);
-  // how many choices were answered, for scripts that wait for one
+  await session.library.settled;
+  // how many choices were answered and verified, for scripts that wait for one
   document.body.dataset.opened = String(Number(document.body.dataset.opened ?? 0) + 1);
 }

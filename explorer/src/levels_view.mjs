@@ -1,21 +1,35 @@
 // @ts-check
-// The levels of the folder, a button each, and a summary of one of them: its numbers, two pictures, its digest.
+// The levels that are there, a button each, and a summary of one of them: its numbers, and two pictures.
 
 import { button, byId, element } from "./elements.mjs";
-import { fileSizeOf, HIGHEST, nameOf, Shelf } from "./levels.mjs";
+import { fileSizeOf, HIGHEST, nameOf } from "./level_file.mjs";
 import { Picture } from "./pictures.mjs";
-import { boardAt, sizeOf } from "./rules.mjs";
-import { checkDigest, countBoards } from "./scans.mjs";
+import { sizeOf } from "./rules.mjs";
+import { countBoards } from "./scans.mjs";
+import { Shelf } from "./shelf.mjs";
 import { grouped, percent, plies, plural, sizeText } from "./words.mjs";
 
 /** Levels up to this size are counted unasked, which takes less than half a second. */
 const COUNTED_UNASKED_BYTES = 32e6;
 
+/** What is said of a level by its standing. */
+const STANDINGS = {
+  built: ["Built here", " by the proved code: it is right for every board."],
+  verified: ["Verified here", " by the proved code: it is right for every board."],
+  unverified: ["Not verified.", " This page shows what the file says, right or wrong."],
+};
+
 export class LevelsView {
-  /** `hands` has showBoard(board) and say(text). */
+  /** `hands` has showRank(level, rank) and say(text). */
   constructor({ card, buttons, summary }, hands) {
     Object.assign(this, { card, buttons, summary, hands });
-    this.open(new Shelf());
+    this.open(new Shelf(null));
+  }
+
+  /** Draws the levels anew, since some came or were verified. */
+  update(shelf) {
+    if (shelf !== this.shelf) this.open(shelf);
+    this.redraw();
   }
 
   /** Takes another folder. What was begun on the one before is stopped. */
@@ -25,7 +39,6 @@ export class LevelsView {
     this.jobs = new Set();
     this.counts = new Map();
     this.pictures = new Map();
-    this.digests = new Map();
     /** Levels whose count was stopped. They are counted again only if a hand asks for it. */
     this.stopped = new Set();
     this.chosen = null;
@@ -63,12 +76,11 @@ export class LevelsView {
   redrawIfShown(number) { if (number === this.drawn) this.redraw(); }
 
   makeLevelButton(slot, number) {
-    const isHashed = Boolean(this.digests.get(number)?.isRight);
-    const kind = slot?.level ? "here" : slot ? "wrong" : "missing";
-    const there = `there${isHashed ? ", its SHA-256 is right" : ""}`;
-    const text = slot?.level ? there : slot ? slot.fault.message : "missing";
+    const kind = slot?.level ? `here ${slot.standing}` : slot ? "wrong" : "missing";
+    const standing = slot?.level && STANDINGS[slot.standing][0].replace(".", "").toLowerCase();
+    const text = standing ?? slot?.fault?.message ?? "missing";
     const attributes = {
-      id: `level-${number}`, class: `${kind}${isHashed ? " hashed" : ""}`, title: text,
+      id: `level-${number}`, class: kind, title: text,
       "aria-pressed": String(number === this.number), "aria-label": `Level ${number}: ${text}`,
     };
     const choose = () => {
@@ -89,6 +101,7 @@ export class LevelsView {
       element("div", { class: "head" },
         element("b", {}, `Level ${number}`),
         element("span", { class: "soft small" }, `${level.file.name}, ${sizeText(level.file.size)}`)),
+      this.makeStanding(this.shelf.standing(number)),
       ...(counts?.level ? [this.makeBar(counts)] : []),
       this.makeNumbers(level, counts),
       ...this.makePictures(number, counts),
@@ -97,10 +110,15 @@ export class LevelsView {
     ];
   }
 
+  makeStanding(standing) {
+    const [title, text] = STANDINGS[standing];
+    return element("p", { id: "standing", class: `status ${standing}` }, element("b", {}, title), text);
+  }
+
   makeMissing(number) {
     const boards = grouped(sizeOf(number));
     return element("p", { class: "status" },
-      element("b", {}, nameOf(number)), " is not in the folder. ",
+      element("b", {}, nameOf(number)), " is not here. ",
       element("code", {}, `awari build ${number} --folder FOLDER`),
       ` makes it: ${boards} ${number === 0 ? "board" : "boards"}, ${sizeText(fileSizeOf(number))}.`);
   }
@@ -132,7 +150,7 @@ export class LevelsView {
   makePictures(number, counts) {
     if (!counts?.level) return [];
     if (!this.pictures.has(number)) {
-      const show = rank => this.hands.showBoard(boardAt(number, rank));
+      const show = rank => this.hands.showRank(number, rank);
       this.pictures.set(number, [Picture.ofValues(counts, show), Picture.ofDistances(counts, show)]);
     }
     const figures = this.pictures.get(number).map(picture => picture.figure);
@@ -140,46 +158,24 @@ export class LevelsView {
   }
 
   makeActions(level, counts) {
-    const { number } = level, isSingle = this.shelf.levels.length === 1;
-    const isBusy = what => [...this.jobs].some(job => job.number === number && job.what === what);
-    const show = () => this.hands.showBoard(boardAt(number, counts.firstOfGreatest));
+    const { number } = level;
+    const isBusy = [...this.jobs].some(job => job.number === number);
+    const show = () => this.hands.showRank(number, counts.firstOfGreatest);
     const action = (id, act, text) => button({ id, class: "button" }, act, text);
     const countText = `Count the boards (${sizeText(level.file.size)})`;
     return element("div", { class: "row actions" },
-      !counts && !isBusy("Counting") && action("count", () => this.count(number), countText),
-      counts?.level && action("farthest", show, `Show a board of ${plies(counts.greatest)}`),
-      !isBusy("Hashing") && action("check", () => this.checkDigest(number), "Check SHA-256"),
-      !isSingle && this.jobs.size === 0 && action("check-all", () => this.checkAll(), "Check all levels"));
+      !counts && !isBusy && action("count", () => this.count(number), countText),
+      counts?.level && action("farthest", show, `Show a board of ${plies(counts.greatest)}`));
   }
 
   makeRemarks(level, counts) {
-    const digest = this.digests.get(level.number), remarks = [];
+    const remarks = [];
     if (counts?.fault) remarks.push(element("p", { class: "status wrong" }, `${counts.fault.message}.`));
     if (counts?.level && counts.greatest !== level.limit)
       remarks.push(element("p", { class: "status wrong" },
         `The file gives ${level.limit} as its greatest distance, and an entry has ${counts.greatest} (rule V7).`));
     for (const job of this.jobs) if (job.number === level.number) remarks.push(this.makeProgress(job));
-    if (digest) remarks.push(this.makeDigestRemark(level, digest));
     return remarks;
-  }
-
-  makeDigestRemark(level, { isRight, found, written, fault }) {
-    const start = digest => `${digest.slice(0, 16)}…`;
-    const say = (kind, title, text) =>
-      element("p", { id: "checked", class: `status ${kind}` }, element("b", {}, title), text);
-    if (fault) return say("wrong", "SHA-256 is not known. ", `${fault.message}.`);
-    if (isRight)
-      return say("good", "SHA-256 is right. ", `The file is whole, and no byte is damaged.${this.belowText(level.number)}`);
-    return say("wrong", "SHA-256 is wrong (66 Digest). ",
-      `The bytes have ${start(found)}, and the file says ${start(written)}: the file is damaged.`);
-  }
-
-  belowText(number) {
-    if (number === 0) return "";
-    const below = nameOf(number - 1);
-    return this.shelf.level(number - 1)
-      ? ` It was built over the ${below} that is here.`
-      : ` ${below}, over which it was built, is not here.`;
   }
 
   // ---- work on whole files ----
@@ -213,7 +209,7 @@ export class LevelsView {
   countUnasked(number) {
     const level = this.shelf.level(number), isBusy = [...this.jobs].some(job => job.number === number);
     const isWanted = level && !this.counts.has(number) && !this.stopped.has(number);
-    if (isWanted && !isBusy && level.file.size <= COUNTED_UNASKED_BYTES) this.count(number);
+    if (isWanted && !isBusy && !level.file.isHosted && level.file.size <= COUNTED_UNASKED_BYTES) this.count(number);
   }
 
   async count(number) {
@@ -223,26 +219,5 @@ export class LevelsView {
     if (counts) this.counts.set(number, counts);
     else this.stopped.add(number);
     this.redrawIfShown(number);
-  }
-
-  async checkDigest(number, control = new AbortController()) {
-    const { shelf } = this;
-    this.digests.delete(number);
-    const digest = await this.run("Hashing", number, control, checkDigest);
-    if (shelf !== this.shelf) return;
-    if (digest) {
-      const told = digest.isRight ? "SHA-256 is right" : "SHA-256 is wrong";
-      this.digests.set(number, digest);
-      this.hands.say(`Level ${number}: ${digest.fault?.message ?? told}`);
-    }
-    this.redraw();
-  }
-
-  async checkAll() {
-    const { shelf } = this, control = new AbortController();
-    for (const { number } of shelf.levels) {
-      if (shelf !== this.shelf || control.signal.aborted) return;
-      await this.checkDigest(number, control);
-    }
   }
 }

@@ -1,8 +1,8 @@
 // @ts-check
-// What is wrong with the folder that was chosen, above everything else.
+// What is wrong with the levels, above everything else.
 
 import { element } from "./elements.mjs";
-import { nameOf } from "./levels.mjs";
+import { nameOf } from "./level_file.mjs";
 
 const strongLine = (strong, text = "") => element("p", {}, element("b", {}, strong), text);
 
@@ -27,11 +27,9 @@ function gapLines({ gaps }) {
   return [strongLine("Missing: ", `${names}. ${meaning}`)];
 }
 
-/** `refused` says why the choice was not opened at all, and is null if it was. */
-export function drawNotice(box, shelf, refused) {
-  const lines = refused
-    ? [strongLine("No levels were opened. ", refused)]
-    : [...faultLines(shelf), ...gapLines(shelf)];
+/** @param {HTMLElement} box @param {import("./library.mjs").Library} library */
+export function drawNotice(box, { shelf, notice }) {
+  const lines = [...(notice ? [strongLine(notice)] : []), ...faultLines(shelf), ...gapLines(shelf)];
   box.hidden = lines.length === 0;
   box.replaceChildren(...lines);
 }

@@ -3,15 +3,19 @@
 
 import { readAddress } from "./address.mjs";
 import { bindHands } from "./hands.mjs";
+import { hostedFolder } from "./hosted.mjs";
+import { Proved } from "./proved.mjs";
 import { Session } from "./session.mjs";
 import { Views } from "./views.mjs";
+
+const startProved = count => new Proved(count);
 
 /** The session of the address. A word in it that is no board is told, and the first board is shown. */
 function begin() {
   try {
-    return { session: new Session(readAddress() || undefined), fault: null };
+    return { session: new Session(startProved, readAddress() || undefined), fault: null };
   } catch (fault) {
-    return { session: new Session(), fault };
+    return { session: new Session(startProved), fault };
   }
 }
 
@@ -22,3 +26,6 @@ bindHands(session, views);
 session.stopPlaying();
 session.show();
 if (fault) views.hint(fault.message);
+
+const hosted = hostedFolder(location);
+session.library.begin().then(() => hosted && session.library.host(hosted));

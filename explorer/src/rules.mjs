@@ -1,5 +1,8 @@
 // @ts-check
-// The game by docs/RULES.md, and the numbering of its boards. Nothing here knows of files or of the page.
+// The game by docs/RULES.md. Nothing here knows of files or of the page.
+//
+// The proved code answers from a thread of its own, and what a pointer passes over is drawn at once: where the
+// stones of a pit fall, and whether it can be played. So the rules are here too, and tested beside the program.
 
 /**
  * @typedef {number[]} Board the stones of twelve pits, as the mover sees them: pits 0 to 5 are the mover's own,
@@ -104,43 +107,11 @@ export function play(board, pit) {
   return { pit, falls, taken, isSlam, captured: isSlam ? 0 : stones, next: turned(sown) };
 }
 
-// ---- the numbering ----
-
-/** WAYS[pits][stones]: in how many ways so many stones lie in so many pits. */
-const WAYS = [[1, ...Array(MOST_STONES).fill(0)]];
-for (let pits = 1; pits <= 12; pits++) {
-  WAYS.push([1]);
-  for (let stones = 1; stones <= MOST_STONES; stones++)
-    WAYS[pits].push(WAYS[pits][stones - 1] + WAYS[pits - 1][stones]);
-}
-
-/** How many boards have so many stones. */
-export const sizeOf = stones => WAYS[12][stones];
-
-/** How many boards of as many stones come before this one, pit 0 first. */
-export function rankOf(board) {
-  let before = 0, left = stonesOf(board);
-  for (let pit = 0; pit < 11; pit++) {
-    for (let fewer = 0; fewer < board[pit]; fewer++) before += WAYS[11 - pit][left - fewer];
-    left -= board[pit];
-  }
-  return before;
-}
-
-/** The board of so many stones that has this rank. @returns {Board} */
-export function boardAt(stones, rank) {
-  const board = Array(12).fill(0);
-  let left = stones;
-  for (let pit = 0; pit < 11; pit++) {
-    const waysBehind = () => WAYS[11 - pit][left - board[pit]];
-    while (rank >= waysBehind()) {
-      rank -= waysBehind();
-      board[pit] += 1;
-    }
-    left -= board[pit];
-  }
-  board[11] = left;
-  return board;
+/** How many boards have so many stones: in how many ways they lie in twelve pits. */
+export function sizeOf(stones) {
+  let ways = 1;
+  for (let bars = 1; bars <= 11; bars++) ways = ways * (stones + bars) / bars;
+  return ways;
 }
 
 /** Any board of so many stones, each as likely: eleven bars among the stones part the pits. @returns {Board} */

@@ -1,16 +1,13 @@
 // @ts-check
-// What is found by going over a whole file: how many boards have which value and distance, and the digest.
+// What is found by going over a whole file: how many boards have which value and distance.
 //
 // A file is read in pieces, each of which takes a few milliseconds. Between two of them the page answers
 // hands, so no thread of its own is needed. A scan says how far it is, and stops if its signal says so.
 
-import { bytesOf, DIGEST_BYTES, ENTRY_BYTES, hex, placeOf } from "./levels.mjs";
-import { Sha256 } from "./sha256.mjs";
+import { bytesOf, ENTRY_BYTES, placeOf } from "./level_file.mjs";
 
-/** The bytes of a piece: whole entries of a level, and whole blocks of its digest. */
+/** The bytes of a piece: whole entries of a level. */
 export const PIECE_BYTES = ENTRY_BYTES * 64 * 1024;
-/** Up to this size the browser's SHA-256 takes a file. It is the fastest, and wants all of it in memory. */
-const AT_ONCE_BYTES = 256e6;
 /** A wrong file may have any distance. Those above this are counted together. */
 const MOST_DISTANCE = 65535;
 const LEAST_VALUE = -128, VALUES = 256;
@@ -88,26 +85,4 @@ export async function countBoards(level, told = () => {}, signal = null) {
     told((place + bytes.length - from) / (to - from));
   }
   return counts;
-}
-
-async function digestInPieces(file, end, told, signal) {
-  const hash = new Sha256();
-  for await (const { place, bytes } of pieces(file, 0, end, signal)) {
-    hash.update(bytes);
-    told((place + bytes.length) / end);
-  }
-  return hash.digest();
-}
-
-const digestAtOnce = async (file, end) =>
-  hex(new Uint8Array(await crypto.subtle.digest("SHA-256", await bytesOf(file, 0, end))));
-
-/** Hashes a level's file, and says whether the digest is the one in which the file ends. */
-export async function checkDigest(level, told = () => {}, signal = null, atOnceBytes = AT_ONCE_BYTES) {
-  const { file } = level, end = file.size - DIGEST_BYTES;
-  const isAtOnce = Boolean(globalThis.crypto?.subtle) && end <= atOnceBytes;
-  const found = await (isAtOnce ? digestAtOnce(file, end) : digestInPieces(file, end, told, signal));
-  signal?.throwIfAborted();
-  const written = hex(await bytesOf(file, end));
-  return { found, written, isRight: found === written && written === level.digest };
 }

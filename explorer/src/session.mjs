@@ -1,16 +1,17 @@
 // @ts-check
 // What the page shows, and what is done to it: boards, play, set-up and levels. Nothing here knows of elements.
 
-import { bestLine, Shelf, weigh } from "./levels.mjs";
+import { Library } from "./library.mjs";
 import { Record } from "./record.mjs";
 import { MOST_STONES, parse, print, randomBoard, refusalOf, stonesOf, turned } from "./rules.mjs";
-import { plural, SIDES } from "./words.mjs";
 import { spokenVerdict } from "./verdict.mjs";
+import { plural, SIDES } from "./words.mjs";
+import { bestLine, weigh } from "./worths.mjs";
 
 /**
  * @typedef {import("./rules.mjs").Board} Board
- * @typedef {import("./levels.mjs").Weighed} Weighed
- * @typedef {import("./levels.mjs").Line} Line
+ * @typedef {import("./worths.mjs").Weighed} Weighed
+ * @typedef {import("./worths.mjs").Line} Line
  *
  * @typedef {object} Shown what the views draw
  * @property {Record} record what was set up and played
@@ -19,10 +20,8 @@ import { spokenVerdict } from "./verdict.mjs";
  * @property {Line | { fault: Error } | null} line the best line, null while that is being asked
  * @property {number} below the side whose pits lie in the lower row
  * @property {boolean} keepsMoverBelow whether that is always the mover's
- * @property {Shelf} shelf the levels that are there
- * @property {string | null} refused why files were not taken at all
- * @property {string} title what the levels are
- * @property {boolean} hasLevels whether files were opened
+ * @property {import("./shelf.mjs").Shelf} shelf the levels that are there
+ * @property {Library} library what builds, verifies and opens them
  * @property {boolean} isEditing whether a click changes a pit
  * @property {boolean} isTaking whether it takes a stone, and does not add one
  * @property {boolean} isPlaying whether the line plays itself
@@ -32,6 +31,7 @@ import { spokenVerdict } from "./verdict.mjs";
  * @property {(shown: Shown) => void} drawWorth its worth or its line has come
  * @property {(shown: Shown) => void} drawBoard the board lies otherwise, or is being edited
  * @property {(shown: Shown) => void} drawLevels other levels are there
+ * @property {(shown: Shown) => void} drawWork levels are being built or verified, or are not any more
  * @property {(shown: Shown) => void} drawPlaying the line plays itself, or has stopped
  * @property {(text: string) => void} say to those who listen
  * @property {(text: string) => void} hint to those who look, for a while
@@ -50,14 +50,17 @@ export class Session {
   #turn = 0;
   #playTimer;
 
-  /** @param {string} word the first board, if it is one */
-  constructor(word = FIRST_BOARD) {
+  /**
+   * @param {(count: number) => import("./proved.mjs").Proved} startProved starts the proved code with so many levels
+   * @param {string} word the first board, if it is one
+   */
+  constructor(startProved, word = FIRST_BOARD) {
     this.record = new Record(parse(word));
+    this.library = new Library(startProved, () => this.#takeLevels(), () => this.listener.drawWork(this.shown));
     /** @type {Shown} */
     this.shown = {
       record: this.record, state: this.record.now, weighed: null, line: null, below: 0, keepsMoverBelow: false,
-      shelf: new Shelf(), refused: null, title: "No levels opened", hasLevels: false,
-      isEditing: false, isTaking: false, isPlaying: false,
+      shelf: this.library.shelf, library: this.library, isEditing: false, isTaking: false, isPlaying: false,
     };
   }
 
@@ -65,12 +68,17 @@ export class Session {
 
   /** Shows the state of the record, at first without its worth, and then with it. */
   async show() {
-    const mine = ++this.#turn, { shown } = this;
-    Object.assign(shown, { state: this.record.now, weighed: null, line: null });
+    Object.assign(this.shown, { state: this.record.now, weighed: null, line: null });
     this.#laySides();
-    this.listener.drawState(shown);
-    const weighed = await weigh(shown.shelf, shown.state.board);
-    if (mine !== this.#turn) return;
+    this.listener.drawState(this.shown);
+    await this.#weigh();
+  }
+
+  async #weigh() {
+    const mine = ++this.#turn, { shown } = this;
+    if (this.library.isStarting) return; // it is told once there are levels
+    const weighed = await weigh(shown.shelf, shown.state.board).catch(() => null);
+    if (mine !== this.#turn || !weighed) return;
     shown.weighed = weighed;
     this.listener.drawWorth(shown);
     this.#showLine(mine);
@@ -229,29 +237,26 @@ export class Session {
   /** The word of the board that is shown. */
   get word() { return print(this.shown.state.board); }
 
-  // ---- files ----
+  // ---- levels ----
+
+  /** Other levels are there, so the board that is shown may be worth something else, or be known at last. */
+  #takeLevels() {
+    this.shown.shelf = this.library.shelf;
+    this.listener.drawLevels(this.shown);
+    this.#weigh();
+  }
 
   /** @param {{ files: File[], name: string }} chosen the files, and the name of their folder if it has one */
-  async open({ files, name }) {
+  async open(chosen) {
     this.stopPlaying();
-    const opened = await Shelf.of(files).catch(fault => fault);
-    this.shown.refused = whyNotOpened(opened, files, name);
-    if (!this.shown.refused) this.#take(opened, name);
-    this.listener.drawLevels(this.shown);
+    await this.library.open(chosen);
     await this.show();
-    this.listener.say(this.shown.refused ?? `${this.shown.title}. ${spokenVerdict(this.shown)}`);
+    this.listener.say(this.library.notice ?? `${this.library.title}. ${spokenVerdict(this.shown)}`);
   }
 
-  #take(shelf, name) {
-    const top = shelf.levels.at(-1), upTo = top ? `, up to ${plural(top.number, "stone")}` : "";
-    const title = `${name ? `${name}: ` : ""}${plural(shelf.levels.length, "level")}${upTo}`;
-    Object.assign(this.shown, { shelf, title, hasLevels: true });
+  /** Shows the board of a level that has this rank. */
+  async showRank(level, rank) {
+    await this.setBoard(await this.library.proved.ask("board", level, rank), 0);
+    this.sayVerdict();
   }
-}
-
-function whyNotOpened(opened, files, name) {
-  if (opened instanceof Error) return `${opened.message}.`;
-  if (!opened.isEmpty) return null;
-  const all = `Of ${plural(files.length, "file")} in ${name || "the choice"} none`;
-  return `${files.length ? all : "The folder is empty: no file"} is named level_00.awdb, level_01.awdb and so on.`;
 }

@@ -5,9 +5,10 @@ import { writeAddress } from "./address.mjs";
 import { BoardView } from "./board_view.mjs";
 import { byId, element, icon } from "./elements.mjs";
 import { LevelsView } from "./levels_view.mjs";
+import { MoreView } from "./more_view.mjs";
 import { drawNotice } from "./notice_view.mjs";
 import { print, stonesOf } from "./rules.mjs";
-import { drawLine, drawPlayed, drawWorth } from "./worth_view.mjs";
+import { drawLine, drawPlayed, drawStanding, drawWorth } from "./worth_view.mjs";
 
 /** @typedef {import("./session.mjs").Shown} Shown */
 
@@ -25,12 +26,13 @@ export class Views {
       set: (pit, stones) => session.setStones(pit, stones),
     });
     this.levels = new LevelsView({ card: byId("levels-card"), buttons: byId("levels"), summary: byId("summary") }, {
-      showBoard: board => {
-        session.setBoard(board, 0).then(() => session.sayVerdict());
+      showRank: (level, rank) => {
+        session.showRank(level, rank);
         byId("board").scrollIntoView({ block: "nearest" });
       },
       say: text => this.say(text),
     });
+    this.more = new MoreView();
     this.moveHands = { play: pit => session.play(pit), preview: pit => this.board.preview(pit) };
     this.lineHands = { follow: plies => session.follow(plies) };
     this.playedHands = { go: index => session.go(index) };
@@ -63,7 +65,7 @@ export class Views {
     this.board.draw(shown);
     this.#drawWorthAndLine(shown);
     drawPlayed(byId("played-card"), byId("played"), byId("score"), shown, this.playedHands);
-    this.#drawLevelsCard(shown);
+    this.levels.draw(stonesOf(shown.state.board));
     this.#drawWord(word);
     writeAddress(word);
   }
@@ -77,6 +79,7 @@ export class Views {
   #drawWorthAndLine(shown) {
     this.#drawControls(shown);
     drawWorth(byId("worth"), shown, this.moveHands);
+    drawStanding(byId("worth-standing"), shown);
     drawLine(byId("line"), shown, this.lineHands);
   }
 
@@ -104,19 +107,14 @@ export class Views {
 
   /** @param {Shown} shown */
   drawLevels(shown) {
-    this.levels.open(shown.shelf);
-    drawNotice(byId("notice"), shown.shelf, shown.refused);
-    byId("folder-name").textContent = shown.title;
-    if (!shown.hasLevels) return;
-    byId("pick-label").textContent = "Choose another";
-    byId("pick-label").classList.remove("main-button");
+    this.levels.update(shown.shelf);
+    this.more.draw(shown.library);
+    drawNotice(byId("notice"), shown.library);
+    byId("folder-name").textContent = shown.library.title;
   }
 
-  #drawLevelsCard({ hasLevels, state }) {
-    byId("levels-card").hidden = !hasLevels;
-    byId("drop").hidden = hasLevels;
-    if (hasLevels) this.levels.draw(stonesOf(state.board));
-  }
+  /** @param {Shown} shown */
+  drawWork({ library }) { this.more.drawWork(library); }
 
   /** @param {Shown} shown */
   drawPlaying({ isPlaying }) {

@@ -10,18 +10,17 @@ import { kindOf, plies, SIDES, signed } from "./words.mjs";
 const MOST_PLIES_SHOWN = 400;
 
 function makeVerdict(shown) {
-  const { state, weighed, hasLevels } = shown, hasEnded = isEnded(state.board);
+  const { state, weighed } = shown, hasEnded = isEnded(state.board);
   const [title, text] = verdictOf(shown);
   const value = hasEnded ? endGain(state.board) : weighed?.entry?.value;
   const kind = value === undefined ? "open" : kindOf(value);
-  const invitation = "Open a folder of levels to see what each move is worth.";
   return element("div", { class: "verdict" },
     element("div", { class: `value-box ${kind}` },
       element("span", { id: "value" }, value === undefined ? "?" : signed(value)),
       element("small", {}, `for ${SIDES[state.mover]}`)),
     element("div", {},
       element("b", {}, title),
-      element("p", {}, hasLevels || hasEnded ? text && `${text}.` : invitation)));
+      element("p", {}, text && `${text}.`)));
 }
 
 // ---- the table of moves ----
@@ -86,12 +85,19 @@ function makeRemarks({ weighed, record }) {
 
 /** While the entries are being read, what was there before stays, but faint: nothing flickers. */
 export function drawWorth(box, shown, hands) {
-  const isWaiting = !shown.weighed && !isEnded(shown.state.board) && shown.hasLevels;
+  const isWaiting = !shown.weighed && !isEnded(shown.state.board) ;
   box.setAttribute("aria-busy", String(!shown.weighed));
   box.classList.toggle("waiting", isWaiting && box.childElementCount > 0);
   if (isWaiting && box.childElementCount > 0) return;
   const hasMoves = !isEnded(shown.state.board);
   box.replaceChildren(makeVerdict(shown), ...(hasMoves ? [makeMovesTable(shown, hands)] : []), ...makeRemarks(shown));
+}
+
+/** Whether the proved code says what is shown. */
+export function drawStanding(box, { weighed }) {
+  if (!weighed) return; // what was there before stays, as the worth does
+  box.className = `standing ${weighed.isProved ? "proved" : ""}`;
+  box.textContent = weighed.isProved ? "by the proved code" : weighed.entry ? "not verified" : "";
 }
 
 // ---- plies ----
@@ -107,11 +113,11 @@ function makePly({ pit, captured }, mover, label, action, attributes = {}) {
 }
 
 export function drawLine(box, shown, hands) {
-  const { line, hasLevels } = shown;
+  const { line } = shown;
   box.setAttribute("aria-busy", String(!line));
-  box.classList.toggle("waiting", !line && hasLevels);
-  if (!line && hasLevels) return;
-  if (!line || line.fault) return box.replaceChildren(element("p", { class: "small soft" }, whyNoLine(shown)));
+  box.classList.toggle("waiting", !line);
+  if (!line) return;
+  if (line.fault) return box.replaceChildren(element("p", { class: "small soft" }, whyNoLine(shown)));
   const plyList = line.plies.slice(0, MOST_PLIES_SHOWN);
   const items = plyList.map((ply, index) => makePly(
     ply, (shown.state.mover + index) % 2, `Go to ply ${index + 1} of the line`,
@@ -122,8 +128,7 @@ export function drawLine(box, shown, hands) {
     ...makeLineRemarks(line));
 }
 
-function whyNoLine({ line, weighed, hasLevels }) {
-  if (!hasLevels) return "The play in which both sides follow the plans comes here.";
+function whyNoLine({ line, weighed }) {
   return weighed?.fault ? "There is no line without the entry of this board." : `${line.fault.message}.`;
 }
 

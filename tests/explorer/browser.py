@@ -13,7 +13,9 @@ import sys
 import tempfile
 from pathlib import Path
 
+import building
 import files
+import hosted
 import looks
 from driven import FIRST, TALLY, Page, check, end_section, pits_of, random_board, run, signed, unsigned, until
 from selenium.webdriver.common.action_chains import ActionChains
@@ -104,20 +106,12 @@ def levels_agree(page, awari):
     end_section("summaries of levels beside `awari build`")
 
 
-def digests_agree(page, awari, folder):
-    page.click("#check-all")
-    count = len(page.all("#levels .here"))
-    until(lambda: len(page.all("#levels .hashed")) == count)
-    check("all levels are hashed", len(page.all("#levels .hashed")), count)
-    check("the level shown is", "SHA-256 is right" in page.text("#checked"))
+def levels_are_verified(page, awari, folder):
+    check("each level of the folder is verified", len(page.all(".levels .verified")), 11)
     page.click("#level-10")
+    check("which is said", "Verified here" in page.text("#standing"))
     check("the digest of all levels", page.text("#level-digest"), run(awari, "verify", folder).split()[-1])
-    until(lambda: page.all("#picture-values"))
-    page.focus("#picture-values .plot")
-    page.js("document.getElementById('check').click()")
-    until(lambda: not page.all("progress") and page.text("#checked"))
-    check("the focus stays where it was", page.js("return document.activeElement.className"), "plot")
-    end_section("digests")
+    end_section("levels that are verified")
 
 
 # ---- numbers as pictures ----
@@ -326,6 +320,8 @@ def parsed_words():
 def test_page(given, made):
     awari, folder = given.awari.resolve(), given.folder.resolve()
     with Page() as page:
+        building.opens_alive(page)
+        building.builds(page, awari, folder, made)
         page.open(folder)
         boards_agree(page, awari, folder, given.boards)
         lines_agree(page, awari, folder, given.lines)
@@ -337,11 +333,11 @@ def test_page(given, made):
         words(page)
         line_plays_itself(page)
         levels_agree(page, awari)
-        digests_agree(page, awari, folder)
+        levels_are_verified(page, awari, folder)
         pictures_agree(page, awari, folder)
         pictures_lead_to_boards(page, awari, folder)
         files.other_ways_in(page, folder)
-        files.reads_little(page)
+        files.reads_little(page, folder, made)
         files.large_level(page, made)
         files.wrong_files(page, awari, folder, made)
         files.lies(page, awari, folder, made)
@@ -351,6 +347,7 @@ def test_page(given, made):
         looks.tabulator(page)
         looks.widths(page)
     end_section("no error in the console, nothing asked of the network")
+    hosted.hosted_levels(awari, folder, made)
 
 
 def main():

@@ -92,7 +92,9 @@ def until(is_so, patience=PATIENCE):
 class Page:
     """The page in a browser of its own."""
 
-    def __init__(self, width=1240, height=900, dark=False, scale=1):
+    def __init__(self, width=1240, height=900, dark=False, scale=1, page=PAGE, told=None):
+        """The page at this address. `told` is what the console may tell, as a regular expression."""
+        self.page, self.told = page, told
         options = Options()
         options.binary_location = shutil.which("chromium")
         for word in ["--headless=new", "--disable-gpu", "--hide-scrollbars"]:
@@ -109,7 +111,8 @@ class Page:
 
     def __exit__(self, *_):
         for entry in self.driver.get_log("browser"):
-            check("the console", entry["message"], "")
+            if not (self.told and re.search(self.told, entry["message"])):
+                check("the console", entry["message"], "")
         self.check_requests()
         self.driver.quit()
 
@@ -117,13 +120,15 @@ class Page:
         sent = [entry["message"] for entry in self.driver.get_log("performance")]
         sent = [message for message in sent if '"Network.requestWillBeSent"' in message]
         addresses = {re.search(r'"url":"([^"]*)"', message)[1][:60] for message in sent}
-        foreign = [it for it in sorted(addresses) if not it.startswith(("file:", "data:"))]
+        own = ("file:", "data:", "blob:", self.page.split("?")[0].rsplit("/", 1)[0])
+        foreign = [it for it in sorted(addresses) if not it.startswith(own)]
         check("what was asked of the network", foreign, [])
 
     def begin(self, board=""):
         """The page as it is when it is opened."""
         self.driver.get("about:blank")
-        self.driver.get(PAGE + (f"#{board}" if board else ""))
+        self.driver.get(self.page + (f"#{board}" if board else ""))
+        until(lambda: self.text("#folder-name"))
         self.settle()
 
     def look(self, width, height, dark=False, scale=1):

@@ -30,8 +30,14 @@ def other_ways_in(page, folder):
     end_section("a folder dropped, files dropped and chosen")
 
 
-def reads_little(page):
+def reads_little(page, folder, made):
+    there = made / "damaged"
+    copy_levels(folder, there, 10)
+    damage(there / "level_05.awdb")
+    page.open(there)
+    check("levels above a damaged one are not verified", len(page.all(".levels .unverified")), 5)
     page.show(random_board(10))
+    check("which is said", page.text("#worth-standing"), "not verified")
     until(lambda: page.text("#level-won"))
     page.js("""window.lengths = []; const slice = Blob.prototype.slice;
       Blob.prototype.slice = function (from, to) {
@@ -40,6 +46,14 @@ def reads_little(page):
       }""")
     page.show("0,1,0,2,0,1/0,3,0,0,2,1")
     check("only entries are read", set(page.js("return window.lengths")), {ENTRY})
+    page.open(folder)
+    page.show("0,1,0,2,0,1/0,3,0,0,2,0")
+    until(lambda: page.text("#level-won"))
+    page.js("window.lengths = []")
+    page.show("0,1,0,2,0,1/0,3,0,0,2,0")
+    page.show("1,1,0,2,0,1/0,3,0,0,1,0")
+    check("of verified levels nothing is read", page.js("return window.lengths"), [])
+    check("which is said too", page.text("#worth-standing"), "by the proved code")
     end_section("lazy reading")
 
 
@@ -63,18 +77,17 @@ def large_level(page, made):
     check("its board is shown", page.text("#value"), "0")
     check("it is not counted unasked", page.all("#picture-values"), [])
     check("it says how much there is to read", page.text("#count"), "Count the boards (2.50 GB)")
-    for what, stop in [("count", "#stop-counting"), ("check", "#stop-hashing")]:
-        page.click(f"#{what}")
-        is_going = until(lambda: 0 < float(page.js("return document.querySelector('progress')?.value ?? 0")) < 1)
-        check(f"{what} says how far it is", is_going)
-        began = time.time()
-        page.show("2,2,2,2,2,2/2,2,2,2,2,1")
-        page.show("2,2,2,2,2,2/2,2,2,2,2,2")
-        check(f"the page answers during {what}, and not in {time.time() - began:.1f} s", time.time() - began < 5)
-        page.click(stop)
-        check(f"{what} can be stopped", until(lambda: not page.all("progress") and page.all(f"#{what}")))
-        check(f"{what}: it is said", page.said().endswith("level_24.awdb: stopped"))
-    end_section("a large level: opened at once, counted and hashed with a way to stop")
+    page.click("#count")
+    is_going = until(lambda: 0 < float(page.js("return document.querySelector('progress')?.value ?? 0")) < 1)
+    check("counting says how far it is", is_going)
+    began = time.time()
+    page.show("2,2,2,2,2,2/2,2,2,2,2,1")
+    page.show("2,2,2,2,2,2/2,2,2,2,2,2")
+    check(f"the page answers meanwhile, and not in {time.time() - began:.1f} s", time.time() - began < 5)
+    page.click("#stop-counting")
+    check("it can be stopped", until(lambda: not page.all("progress") and page.all("#count")))
+    check("which is said", page.said().endswith("level_24.awdb: stopped"))
+    end_section("a large level: opened at once, counted with a way to stop")
 
 
 def wrong_files(page, awari, folder, made):
@@ -87,18 +100,11 @@ def wrong_files(page, awari, folder, made):
         refused = run(awari, "verify", there).splitlines()[-1]
         number, fault = re.findall(r"(\d+) (\w+)", refused.removeprefix("refused 81 File"))[-1 if ":" in refused else 0]
         page.open(there)
-        if number == "66":
-            check(f"{name}: its header is right", page.text("#notice"), "")
-            page.click(f"#level-{level}")
-            page.click("#check")
-            until(lambda: "SHA-256 is" in page.text("#checked"))
-            check(f"{name}: {refused}", "SHA-256 is wrong (66 Digest)" in page.text("#checked"))
-        else:
-            check(f"{name}: {refused}", f"({number} {fault})" in page.text("#notice"))
-            page.click(f"#level-{level}")
-            check(f"{name}: the summary tells it too", f"({number} {fault})" in page.text("#summary"))
-            page.show("1,1,0,0,0,0/0,0,0,0,1,1" if level == 4 else "1,1,1,0,0,0/0,0,0,0,1,1")
-            check(f"{name}: the board tells it too", f"({number} {fault})" in page.text("#worth"))
+        check(f"{name}: {refused}", f"({number} {fault})" in page.text("#notice"))
+        page.click(f"#level-{level}")
+        check(f"{name}: the summary tells it too", f"({number} {fault})" in page.text("#summary"))
+        page.show("1,1,0,0,0,0/0,0,0,0,1,1" if level == 4 else "1,1,1,0,0,0/0,0,0,0,1,1")
+        check(f"{name}: the board tells it too", f"({number} {fault})" in page.text("#worth"))
     end_section("files that are wrong, beside `awari verify`")
 
 
@@ -110,6 +116,11 @@ def copy_levels(folder, there, top):
 
 def patched(place, new):
     return lambda content, _: content[:place] + new + content[place + len(new) :]
+
+
+def damage(path):
+    """Changes one entry of a file, and not its digest."""
+    path.write_bytes(patched(ENTRIES + ENTRY * 40 + 5, b"\x7f")(path.read_bytes(), None))
 
 
 def rehashed(content):
@@ -133,49 +144,55 @@ WRONG_FILES = {
 
 
 def lies(page, awari, folder, made):
-    """A file with a right digest that says something wrong: the board at fault breaks the rule that is due."""
+    """Files with right digests that say something wrong: the proved code names the board and the rule."""
     there = made / "lies"
     copy_levels(folder, there, 5)
     path = there / "level_05.awdb"
     path.write_bytes(rehashed(patched(ENTRIES + ENTRY * 4000, b"\x02")(path.read_bytes(), folder)))
     rank, rule = re.search(r"rank (\d+) rule (V\d)", run(awari, "verify", there)).groups()
     page.open(there)
+    check("it is told unasked", f"the board of rank {rank} breaks rule {rule} (83 Verify)" in page.text("#notice"))
+    damage(there / "level_03.awdb")
+    page.open(there)
     page.show(run(awari, "board", 5, rank))
-    check("the rules tell it", f"breaks rule {rule}" in page.text("#worth"))
+    check("the page looks at what is not verified", f"breaks rule {rule}" in page.text("#worth"))
+    check("which is said", page.text("#worth-standing"), "not verified")
     path = there / "level_04.awdb"
     path.write_bytes(rehashed(patched(16, b"\0\0\0\x63")(path.read_bytes(), folder)))
     page.open(there)
     page.click("#level-4")
     until(lambda: page.text("#level-won"))
     check("a limit that no board has", "(rule V7)" in page.text("#summary"))
-    path = there / "level_00.awdb"
     path.write_bytes(rehashed(patched(ENTRIES, b"\x05")(path.read_bytes(), folder)))
     page.open(there)
-    page.show("0,0,0,0,0,0/0,0,0,0,0,0")
-    until(lambda: page.all("#picture-values"))
+    page.show(run(awari, "board", 4, 0))
     check("a value that no board of the level can have", "breaks rule V1" in page.text("#worth"))
-    check("it has no column", page.text("#picture-values .readout-text"), "Value 0: 0 boards (0.0%)")
     end_section("files that are whole and say something wrong")
 
 
 def missing_files(page, folder, made):
     there = made / "missing"
-    copy_levels(folder, there, 5)
+    copy_levels(folder, there, 9)
+    (there / "level_08.awdb").unlink()
     (there / "level_03.awdb").unlink()
+    page.begin()
     page.open(there)
-    check("a gap is told", "Missing: level_03.awdb" in page.text("#notice"))
-    page.show("1,1,0,0,0,0/1,0,0,0,0,0")
-    missing = "level_03.awdb, the level of the boards with 3 stones, is not there"
+    check("a gap is told", "Missing: level_08.awdb." in page.text("#notice"))
+    check("what the page has built fills one", "built" in page.at("#level-3").get_attribute("class"))
+    page.show("2,2,2,0,0,0/1,1,0,0,0,0")
+    missing = "level_08.awdb, the level of the boards with 8 stones, is not there"
     check("the board tells it too", missing in page.text("#worth"))
-    check("the summary says how to make it", "awari build 3" in page.text("#summary"))
-    (there / "level_05.awdb").write_bytes(b"another")
-    page.show("0,1,1,1,0,0/0,0,0,0,1,1")
+    check("the summary says how to make it", "awari build 8" in page.text("#summary"))
+    (there / "level_09.awdb").write_bytes(b"another")
+    page.show("2,2,2,0,0,0/1,1,0,0,0,1")
     check("a file that changed while the page is open", "(68 Read)" in page.text("#worth"))
     others = made / "others"
     others.mkdir()
     (others / "notes.txt").write_text("no level")
     page.open(others)
     check("a folder without levels", "No levels were opened" in page.text("#notice"))
+    page.click("#close")
+    check("closed", page.text("#folder-name"), "Levels 0 to 7, by the proved code")
     page.open(folder)
     check("all is well again", page.js("return document.getElementById('notice').hidden"))
     end_section("files that are missing or go away")

@@ -80,10 +80,9 @@ def names(page):
 
 def tabulator(page):
     """The board and each picture are one stop, and nothing holds the focus."""
-    page.show(FIRST)
+    page.begin(FIRST)
     until(lambda: page.all("#picture-values"))
     page.js("document.getElementById('help').open = true")
-    page.focus("#pick")
     stops = []
     while len(stops) < 200 and "keep-low" not in stops:
         page.press(Keys.TAB)
@@ -152,8 +151,6 @@ def take_board(page, path, board):
 
 
 def take_played(page, pictures):
-    page.click("#check-all")
-    until(lambda: len(page.all("#levels .hashed")) == len(page.all("#levels .here")))
     for _ in range(9):
         page.click("#best")
     page.focus(".pit.plan")

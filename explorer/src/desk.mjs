@@ -1,0 +1,62 @@
+// @ts-check
+// What is asked of the proved code, in its thread. Nothing here knows of threads or of the page.
+
+import { Levels } from "../../bindings/awari.mjs";
+
+/** @typedef {import("../../bindings/awari.mjs").Board} Board */
+
+const bytesOfText = text => Uint8Array.from(atob(text), character => character.charCodeAt(0));
+
+export class Desk {
+  /** @type {Levels} */
+  #levels;
+  #isStopped = false;
+
+  /** Starts the module, given in base64, and builds so many levels at once: their files. */
+  async start(text, count) {
+    this.#levels = await Levels.start(bytesOfText(text));
+    return Array.from({ length: count }, () => this.#levels.build());
+  }
+
+  /** How many levels there are. */
+  get length() { return this.#levels?.length ?? 0; }
+
+  /**
+   * Builds the next level in slices, and gives way after each, so that boards are answered meanwhile.
+   * @param {(boards: number) => void} told hears how many boards are done
+   * @returns {Promise<Uint8Array | null>} its file, or null if it was stopped
+   */
+  async build(told) {
+    this.#isStopped = false;
+    this.#levels.begin();
+    for (let done = 0, isSettled = false; !isSettled; ) {
+      const { boards, settled } = this.#levels.spread();
+      done += boards;
+      isSettled = settled;
+      told(done);
+      await new Promise(next => setTimeout(next));
+      if (this.#isStopped) return null;
+    }
+    return this.#levels.finish();
+  }
+
+  stop() { this.#isStopped = true; }
+
+  /** Verifies a file, and puts its level on. @param {Blob} file */
+  async add(file) { this.#levels.add(new Uint8Array(await file.arrayBuffer())); }
+
+  /** @param {Board} board */
+  weigh(board) { return { entry: this.#levels.entry(board), moves: this.#levels.moves(board) }; }
+
+  /** @param {Board} board */
+  entry(board) { return this.#levels.entry(board); }
+
+  /** @param {Board} board */
+  line(board) { return this.#levels.line(board); }
+
+  /** @param {Board} board */
+  rank(board) { return this.#levels.rank(board); }
+
+  /** @param {number} level @param {number} rank */
+  board(level, rank) { return this.#levels.board(level, rank); }
+}

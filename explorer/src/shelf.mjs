@@ -1,0 +1,112 @@
+// @ts-check
+// The levels that are there, each of them built or verified by the proved code, or only read.
+
+import {
+  belowFaultOf, bytesOf, ENTRY_BYTES, entryAt, HIGHEST, LAST_PIT, namedLevels, nameOf, openLevel, placeOf,
+} from "./level_file.mjs";
+import { Fault, print, stonesOf } from "./rules.mjs";
+import { plural } from "./words.mjs";
+
+/**
+ * @typedef {import("./rules.mjs").Board} Board
+ * @typedef {import("./level_file.mjs").Entry} Entry
+ * @typedef {import("./level_file.mjs").Level} Level
+ * @typedef {import("./proved.mjs").Proved} Proved
+ *
+ * @typedef {"built" | "verified" | "unverified"} Standing how it is known what a level says
+ * @typedef {{ level?: Level, standing?: Standing, fault?: Error }} Slot a level, or why it is refused
+ */
+
+/** How many entries are kept that were read. */
+const KEPT_ENTRIES = 20000;
+
+export class Shelf {
+  #kept = new Map();
+
+  /**
+   * @param {Proved | null} proved the proved code, which knows the levels that were built or verified
+   * @param {Slot[]} slots from level 0 up
+   */
+  constructor(proved, slots = []) {
+    this.proved = proved;
+    /** @type {(Slot | null)[]} */
+    this.slots = Array.from({ length: HIGHEST + 1 }, (_, number) => slots[number] ?? null);
+  }
+
+  /**
+   * The levels of these files. Those that are not among them are taken from `known`.
+   * @param {import("./level_file.mjs").Source[]} files @param {Proved | null} proved @param {Slot[]} known
+   */
+  static async of(files, proved = null, known = []) {
+    const shelf = new Shelf(proved, known);
+    const named = namedLevels(files);
+    await Promise.all([...named].map(async ([number, file]) => {
+      shelf.slots[number] = await openLevel(file).then(
+        level => ({ level, standing: "unverified" }), fault => ({ fault }));
+    }));
+    for (const number of [...named.keys()].sort((one, other) => one - other)) {
+      const level = shelf.level(number);
+      const fault = level && belowFaultOf(level, number, shelf.level(number - 1));
+      if (fault) shelf.slots[number] = { fault };
+    }
+    return shelf;
+  }
+
+  level(number) { return this.slots[number]?.level ?? null; }
+  fault(number) { return this.slots[number]?.fault ?? null; }
+  standing(number) { return this.slots[number]?.standing ?? null; }
+  get isEmpty() { return this.slots.every(slot => !slot); }
+  get levels() { return this.slots.flatMap(slot => slot?.level ?? []); }
+  get faults() { return this.slots.flatMap((slot, number) => slot?.fault ? [{ number, fault: slot.fault }] : []); }
+
+  /** The levels that are not there and have one above them that is. */
+  get gaps() {
+    const top = this.slots.findLastIndex(slot => slot);
+    return this.slots.flatMap((slot, number) => number < top && !slot ? [number] : []);
+  }
+
+  /** The greatest limit of the levels with at most so many stones. */
+  limitTo(stones) {
+    return Math.max(0, ...this.levels.filter(({ number }) => number <= stones).map(({ limit }) => limit));
+  }
+
+  /** Whether the proved code knows what a board is worth. @param {Board} board */
+  knows(board) {
+    const stones = stonesOf(board), standing = this.standing(stones);
+    return (standing === "built" || standing === "verified") && stones < (this.proved?.length ?? 0);
+  }
+
+  /** The entry of a board. Of a level that is not verified its six bytes are read. @returns {Promise<Entry>} */
+  async entry(board) {
+    if (this.knows(board)) return this.proved.ask("entry", board);
+    const level = this.#levelOf(stonesOf(board)), word = print(board);
+    if (!this.#kept.has(word)) {
+      const entry = await this.#read(level, board);
+      if (this.#kept.size >= KEPT_ENTRIES) this.#kept.clear();
+      this.#kept.set(word, entry);
+    }
+    return this.#kept.get(word);
+  }
+
+  async #read(level, board) {
+    const { rank } = await this.proved.ask("rank", board);
+    const bytes = await bytesOf(level.file, placeOf(rank), placeOf(rank + 1));
+    if (bytes.length < ENTRY_BYTES)
+      throw new Fault(60, "Truncated", `${level.file.name} ends before the entry of ${print(board)}`);
+    const entry = entryAt(new DataView(bytes.buffer), 0);
+    if (entry.plan !== null && entry.plan > LAST_PIT)
+      throw new Fault(65, "EntryForm", `${level.file.name} has a plan ${entry.plan} at rank ${rank}`);
+    return entry;
+  }
+
+  /** The level of the boards with so many stones, or why it is not there. */
+  #levelOf(stones) {
+    if (stones > HIGHEST)
+      throw new Fault(59, "NotYet", `There are levels up to ${HIGHEST} stones, and this board has ${stones}`);
+    const fault = this.fault(stones), level = this.level(stones);
+    if (fault) throw fault;
+    if (level) return level;
+    throw new Fault(59, "NotYet",
+      `${nameOf(stones)}, the level of the boards with ${plural(stones, "stone")}, is not there`);
+  }
+}
