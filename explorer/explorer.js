@@ -331,7 +331,10 @@ class Desk {
 
   stop() { this.#isStopped = true; }
 
-  /** Verifies a file, and puts its level on. @param {Blob} file */
+  /**
+   * Verifies a file, and puts its level on.
+   * @param {Blob} file
+   */
   async add(file) { this.#levels.add(new Uint8Array(await file.arrayBuffer())); }
 
   /** @param {Board} board */
@@ -346,7 +349,10 @@ class Desk {
   /** @param {Board} board */
   rank(board) { return this.#levels.rank(board); }
 
-  /** @param {number} level @param {number} rank */
+  /**
+   * @param {number} level
+   * @param {number} rank
+   */
   board(level, rank) { return this.#levels.board(level, rank); }
 }
 return { Desk };
@@ -402,6 +408,10 @@ const module_elements = (() => {
 
 const SVG = "http://www.w3.org/2000/svg";
 
+/**
+ * The element of this name, a field or any other.
+ * @returns {any}
+ */
 const byId = id => document.getElementById(id);
 
 /** An attribute that is false, null or undefined is left out, and so is such a child. */
@@ -494,11 +504,14 @@ const KEYS = { b: "best", p: "auto", u: "undo", r: "redo", t: "turn", s: "swap",
 
 const isField = target => /^(INPUT|TEXTAREA|SELECT)$/.test(target.tagName) && target.type !== "checkbox";
 
-/** @param {Session} session @param {Views} views */
+/**
+ * @param {Session} session
+ * @param {Views} views
+ */
 function bindHands(session, views) {
   const actions = actionsOf(session, views);
   for (const [id, action] of Object.entries(actions)) byId(id).addEventListener("click", action);
-  byId("keep-low").addEventListener("change", ({ target }) => session.keepMoverBelow(target.checked));
+  byId("keep-low").addEventListener("change", () => session.keepMoverBelow(byId("keep-low").checked));
   bindWords(session, views);
   bindKeys(session, actions);
   bindFiles(session, views);
@@ -556,7 +569,7 @@ function bindWords(session, views) {
     event.preventDefault();
     showWord(session, views, byId("word").value);
   });
-  addEventListener("paste", event => {
+  document.addEventListener("paste", event => {
     const text = event.clipboardData?.getData("text") ?? "";
     if (!isField(event.target) && text.includes("/")) showOrHint(text);
   });
@@ -609,10 +622,10 @@ async function saveFiles(files) {
 
 function bindFiles(session, views) {
   byId("pick-whole").hidden = !("webkitdirectory" in byId("pick"));
-  for (const id of ["pick", "pick-files"])
-    byId(id).addEventListener("change", ({ target }) => {
-      openFiles(session, filesOfInput(target));
-      target.value = ""; // so that the same folder can be chosen again
+  for (const input of [byId("pick"), byId("pick-files")])
+    input.addEventListener("change", () => {
+      openFiles(session, filesOfInput(input));
+      input.value = ""; // so that the same folder can be chosen again
     });
   const mark = isDragging => document.body.classList.toggle("dragging", isDragging);
   addEventListener("dragover", event => {
@@ -674,14 +687,22 @@ const OWN_PITS = [0, 1, 2, 3, 4, 5];
 /** @param {Board} board */
 const stonesOf = board => board.reduce((sum, stones) => sum + stones, 0);
 
-/** The board as the other player sees it. @param {Board} board @returns {Board} */
+/**
+ * The board as the other player sees it.
+ * @param {Board} board
+ * @returns {Board}
+ */
 const turned = board => [...board.slice(6), ...board.slice(0, 6)];
 
 const print = board => `${board.slice(0, 6)}/${board.slice(6)}`;
 
 const areSame = (board, other) => print(board) === print(other);
 
-/** The board that a word spells. @param {string} text @returns {Board} */
+/**
+ * The board that a word spells.
+ * @param {string} text
+ * @returns {Board}
+ */
 function parse(text) {
   const sides = text.split("/").map(side => side.split(","));
   if (sides.length !== 2 || sides.some(side => side.length !== 6))
@@ -714,7 +735,11 @@ const isEnded = board => legalPits(board).length === 0;
 /** What the mover gains if play has ended: each player takes the stones on their own side. */
 const endGain = board => stonesOf(board.slice(0, 6)) === 0 ? -stonesOf(board) : stonesOf(board);
 
-/** Why a pit can't be played, or null. @param {Board} board @param {number} pit */
+/**
+ * Why a pit can't be played, or null.
+ * @param {Board} board
+ * @param {number} pit
+ */
 function refusalOf(board, pit) {
   if (!OWN_PITS.includes(pit)) return new Fault(4, "NoPit", `The mover has no pit ${pit}`);
   if (isEnded(board)) return new Fault(7, "Ended", "The play has ended");
@@ -731,7 +756,12 @@ function capturedPits(sown, lastFall) {
   return taken;
 }
 
-/** The move from a pit. It throws its refusal. @param {Board} board @param {number} pit @returns {Move} */
+/**
+ * The move from a pit. It throws its refusal.
+ * @param {Board} board
+ * @param {number} pit
+ * @returns {Move}
+ */
 function play(board, pit) {
   const refused = refusalOf(board, pit);
   if (refused) throw refused;
@@ -754,7 +784,10 @@ function sizeOf(stones) {
   return ways;
 }
 
-/** Any board of so many stones, each as likely: eleven bars among the stones part the pits. @returns {Board} */
+/**
+ * Any board of so many stones, each as likely: eleven bars among the stones part the pits.
+ * @returns {Board}
+ */
 function randomBoard(stones) {
   const bars = new Set();
   while (bars.size < 11) bars.add(Math.floor(Math.random() * (stones + 11)));
@@ -855,7 +888,10 @@ const versionOf = head => head[4] << 8 | head[5];
 const highestOf = head => HIGHEST_OF_VERSION[versionOf(head)];
 const countOf = head => new DataView(head.buffer).getBigUint64(8);
 
-/** The fields of a header in their order: its name, where it ends, and what is wrong with it, if anything. */
+/**
+ * The fields of a header in their order: its name, where it ends, and what is wrong with it, if anything.
+ * @type {[string, number, (name: string, head: Uint8Array) => Fault | false | null][]}
+ */
 const FIELDS = [
   ["magic", 4, (name, head) => hex(head.slice(0, 4)) !== MAGIC &&
     new Fault(61, "Magic",
@@ -896,7 +932,8 @@ function lengthFaultOf(file, number) {
 
 /**
  * Reads the header and the digest of a level's file, and refuses it for the first field that is wrong.
- * @param {Source} file @returns {Promise<Level>}
+ * @param {Source} file
+ * @returns {Promise<Level>}
  */
 async function openLevel(file) {
   const head = await bytesOf(file, 0, HEADER_BYTES);
@@ -974,9 +1011,15 @@ function hostedFolder({ protocol, search, href }) {
 class HostedFile {
   isHosted = true;
 
-  /** @param {URL} place @param {number} size @param {ArrayBuffer} head its first bytes, which were asked for already */
+  /**
+   * @param {URL} place
+   * @param {number} size
+   * @param {ArrayBuffer} head its first bytes, which were asked for already
+   */
   constructor(place, size, head) {
-    Object.assign(this, { place, size, head });
+    this.place = place;
+    this.size = size;
+    this.head = head;
     this.name = place.pathname.split("/").at(-1);
   }
 
@@ -996,7 +1039,8 @@ async function rangeOf(place, from, to) {
 /**
  * The levels of a folder from this number up, to the first that is not there: as sources, or as whole files if the
  * server ignores Range. `told` is what is to be said of it, null if nothing is.
- * @param {URL} folder @param {number} first
+ * @param {URL} folder
+ * @param {number} first
  */
 async function hostedLevels(folder, first) {
   const found = { sources: [], files: [], told: null };
@@ -1016,7 +1060,8 @@ async function hostedLevels(folder, first) {
       break;
     }
   }
-  if (found.files.length) found.told = `This server ignores Range requests: levels to ${HIGHEST_WHOLE} are fetched whole, and none above.`;
+  if (found.files.length)
+    found.told = `This server ignores Range requests: levels to ${HIGHEST_WHOLE} are fetched whole, and none above.`;
   return found;
 }
 return { hostedFolder, hostedLevels };
@@ -1051,10 +1096,16 @@ class Proved {
     this.ready = this.ask("start", awariModule, count).finally(() => URL.revokeObjectURL(place));
   }
 
-  /** Asks the desk in the thread. A refusal is thrown as a fault. @returns {Promise<any>} */
+  /**
+   * Asks the desk in the thread. A refusal is thrown as a fault.
+   * @returns {Promise<any>}
+   */
   ask(name, ...words) { return this.askTelling(null, name, ...words); }
 
-  /** The same of work that tells how far it is. @param {((done: number) => void) | null} told */
+  /**
+   * The same of work that tells how far it is.
+   * @param {((done: number) => void) | null} told
+   */
   askTelling(told, name, ...words) {
     const turn = this.#turn++;
     return new Promise((answered, refused) => {
@@ -1113,13 +1164,23 @@ async function withStore(mode, otherwise, action) {
   }
 }
 
-/** The numbers of the levels that are kept. @returns {Promise<number[]>} */
+/**
+ * The numbers of the levels that are kept.
+ * @returns {Promise<number[]>}
+ */
 const keptNumbers = () => withStore("readonly", [], store => store.getAllKeys());
 
-/** The file of a level that is kept. @returns {Promise<Blob | null>} */
+/**
+ * The file of a level that is kept.
+ * @returns {Promise<Blob | null>}
+ */
 const keptFile = number => withStore("readonly", null, store => store.get(number));
 
-/** Keeps the file of a level: whether the browser does. @param {number} number @param {Blob} file */
+/**
+ * Keeps the file of a level: whether the browser does.
+ * @param {number} number
+ * @param {Blob} file
+ */
 const keepFile = async (number, file) =>
   await withStore("readwrite", null, store => store.put(file, number)) === number;
 
@@ -1164,7 +1225,9 @@ class Shelf {
 
   /**
    * The levels of these files. Those that are not among them are taken from `known`.
-   * @param {import("./level_file.mjs").Source[]} files @param {Proved | null} proved @param {Slot[]} known
+   * @param {import("./level_file.mjs").Source[]} files
+   * @param {Proved | null} proved
+   * @param {Slot[]} known
    */
   static async of(files, proved = null, known = []) {
     const shelf = new Shelf(proved, known);
@@ -1190,7 +1253,7 @@ class Shelf {
 
   /** The levels that are not there and have one above them that is. */
   get gaps() {
-    const top = this.slots.findLastIndex(slot => slot);
+    const top = this.slots.reduce((top, slot, number) => slot ? number : top, -1);
     return this.slots.flatMap((slot, number) => number < top && !slot ? [number] : []);
   }
 
@@ -1199,13 +1262,19 @@ class Shelf {
     return Math.max(0, ...this.levels.filter(({ number }) => number <= stones).map(({ limit }) => limit));
   }
 
-  /** Whether the proved code knows what a board is worth. @param {Board} board */
+  /**
+   * Whether the proved code knows what a board is worth.
+   * @param {Board} board
+   */
   knows(board) {
     const stones = stonesOf(board), standing = this.standing(stones);
     return (standing === "built" || standing === "verified") && stones < (this.proved?.length ?? 0);
   }
 
-  /** The entry of a board. Of a level that is not verified its six bytes are read. @returns {Promise<Entry>} */
+  /**
+   * The entry of a board. Of a level that is not verified its six bytes are read.
+   * @returns {Promise<Entry>}
+   */
   async entry(board) {
     if (this.knows(board)) return this.proved.ask("entry", board);
     const level = this.#levelOf(stonesOf(board)), word = print(board);
@@ -1282,9 +1351,15 @@ function boardsIn(from, to) {
 }
 
 class Library {
-  /** Levels 0 up that are right: built here, or verified here. @type {Slot[]} */
+  /**
+   * Levels 0 up that are right: built here, or verified here.
+   * @type {Slot[]}
+   */
   #right = [];
-  /** The proved code that verifies what was opened, until that is done. @type {Proved | null} */
+  /**
+   * The proved code that verifies what was opened, until that is done.
+   * @type {Proved | null}
+   */
   #trial = null;
   /** Whether a hand has stopped the build, which may be between two levels. */
   #isStopped = false;
@@ -1292,11 +1367,20 @@ class Library {
   #keeping = Promise.resolve();
   /** @type {Work | null} */
   work = null;
-  /** Why files were not taken, or levels not built. @type {string | null} */
+  /**
+   * Why files were not taken, or levels not built.
+   * @type {string | null}
+   */
   notice = null;
-  /** What was opened, null if nothing was. @type {string | null} */
+  /**
+   * What was opened, null if nothing was.
+   * @type {string | null}
+   */
   opened = null;
-  /** Comes once what was opened is verified as far as it can be. @type {Promise<void>} */
+  /**
+   * Comes once what was opened is verified as far as it can be.
+   * @type {Promise<void>}
+   */
   settled = Promise.resolve();
   /** Until the first levels are there. */
   isStarting = true;
@@ -1311,7 +1395,9 @@ class Library {
    * @param {() => void} worked hears that work has gone on
    */
   constructor(startProved, changed, worked) {
-    Object.assign(this, { startProved, changed, worked });
+    this.startProved = startProved;
+    this.changed = changed;
+    this.worked = worked;
     this.proved = startProved(FIRST_LEVELS);
     this.shelf = new Shelf(this.proved);
   }
@@ -1358,7 +1444,10 @@ class Library {
     return this.length === 0 ? "No levels" : `Levels 0 to ${this.length - 1}, by the proved code`;
   }
 
-  /** The files of the right levels. @returns {File[]} */
+  /**
+   * The files of the right levels.
+   * @returns {File[]}
+   */
   get files() { return this.#right.map(({ level }) => /** @type {File} */ (level?.file)); }
 
   #workOn(work) {
@@ -1392,7 +1481,8 @@ class Library {
       }
     } catch (fault) {
       if (proved !== this.proved) return; // what was verified meanwhile has taken its place
-      this.notice = NO_MEMORY.includes(fault.number) ? `There is no memory for level ${this.length} here.` : `${fault.message}.`;
+      const hasNoMemory = NO_MEMORY.includes(fault.number);
+      this.notice = hasNoMemory ? `There is no memory for level ${this.length} here.` : `${fault.message}.`;
     }
     this.#workOn(null);
     this.changed();
@@ -1415,7 +1505,7 @@ class Library {
 
   stop() {
     this.#isStopped = true;
-    if (this.work?.kind === "build") this.proved.ask("stop");
+    if (this.work?.kind === "build") this.proved.ask("stop").catch(() => {}); // it may have ended
     else this.#endTrial();
   }
 
@@ -1447,7 +1537,8 @@ class Library {
   /** Leaves the folder. What was verified of it stays. */
   close() {
     this.#endTrial();
-    Object.assign(this, { opened: null, notice: null });
+    this.opened = null;
+    this.notice = null;
     this.#showRight();
   }
 
@@ -1497,7 +1588,10 @@ class Library {
 
   // ---- a folder of a server ----
 
-  /** Takes the levels of a folder of the page's own server, above those that are there. @param {import("./hosted.mjs").Hosted} hosted */
+  /**
+   * Takes the levels of a folder of the page's own server, above those that are there.
+   * @param {import("./hosted.mjs").Hosted} hosted
+   */
   async host({ folder, isAsked }) {
     const { sources, files, told } = await hostedLevels(folder, this.length);
     if (files.length) await this.open({ files, name: folder.pathname });
@@ -1567,7 +1661,11 @@ class Record {
   /** @returns {State} */
   static stateOf(board, mover) { return { board, mover, captured: [0, 0], move: null }; }
 
-  /** @param {State} state @param {number} pit @returns {State} */
+  /**
+   * @param {State} state
+   * @param {number} pit
+   * @returns {State}
+   */
   static stateAfter(state, pit) {
     const move = play(state.board, pit), captured = [...state.captured];
     captured[state.mover] += move.captured;
@@ -1704,7 +1802,9 @@ const { LAST_PIT } = module_level_file;
 
 /**
  * The entry of a board, and its moves with their worths. A fault stands in the place of what can't be read.
- * @param {Shelf} shelf @param {Board} board @returns {Promise<Weighed>}
+ * @param {Shelf} shelf
+ * @param {Board} board
+ * @returns {Promise<Weighed>}
  */
 const weigh = (shelf, board) => shelf.knows(board) ? told(shelf, board) : read(shelf, board);
 
@@ -1762,7 +1862,9 @@ function isDistance(distance, value, planned, moves) {
  * The play from a board in which both sides follow the plans, as `awari line` prints it. It ends at the first
  * board that its mover has seen before, since from there on the same pits come for ever. `repeats` is the ply
  * after which that stood, as `awari line --plies` tells it.
- * @param {Shelf} shelf @param {Board} board @returns {Promise<Line>}
+ * @param {Shelf} shelf
+ * @param {Board} board
+ * @returns {Promise<Line>}
  */
 async function bestLine(shelf, board) {
   if (shelf.knows(board)) {
@@ -2078,7 +2180,8 @@ const { kindOf, plural, SIDES, signed } = module_words;
 class BoardView {
   /** `hands` has what a hand does: press(pit), add(pit, stones) and set(pit, stones). */
   constructor(box, players, hands) {
-    Object.assign(this, { players, hands });
+    this.players = players;
+    this.hands = hands;
     this.shown = null;
     /** What the stones were laid for. */
     this.laid = { state: null, below: 0 };
@@ -2306,8 +2409,11 @@ class Picture {
    * what they have in common. `isLogarithmic` is for numbers of which some are a thousand times as large as
    * others. `show` is given the rank of a board that is asked for.
    */
-  constructor({ id, title, columns, ends, isLogarithmic, total, show }) {
-    Object.assign(this, { columns, isLogarithmic, total, show });
+  constructor({ id, title, columns, ends, isLogarithmic = false, total, show }) {
+    this.columns = columns;
+    this.isLogarithmic = isLogarithmic;
+    this.total = total;
+    this.show = show;
     this.most = Math.max(1, ...columns.map(column => column.boards));
     // A wrong file may have none of the values that its level can have.
     this.chosen = Math.max(0, columns.findIndex(column => column.boards === this.most));
@@ -2545,6 +2651,11 @@ class Counts {
   get lost() { return this.sum(value => value < 0); }
 }
 
+/**
+ * @param {import("./level_file.mjs").Level} level
+ * @param {(share: number) => void} told
+ * @param {AbortSignal | null} signal
+ */
 async function countBoards(level, told = () => {}, signal = null) {
   const counts = new Counts(level), from = placeOf(0), to = placeOf(level.boards);
   for await (const { place, bytes } of pieces(level.file, from, to, signal)) {
@@ -2580,7 +2691,10 @@ const STANDINGS = {
 class LevelsView {
   /** `hands` has showRank(level, rank) and say(text). */
   constructor({ card, buttons, summary }, hands) {
-    Object.assign(this, { card, buttons, summary, hands });
+    this.card = card;
+    this.buttons = buttons;
+    this.summary = summary;
+    this.hands = hands;
     this.open(new Shelf(null));
   }
 
@@ -2828,7 +2942,10 @@ class MoreView {
     return Math.max(0, Math.min(HIGHEST_BUILT, asked));
   }
 
-  /** Draws what there is. @param {Library} library */
+  /**
+   * Draws what there is.
+   * @param {Library} library
+   */
   draw(library) {
     const { length, isKept, opened } = library;
     this.#suggest(STEPS.find(step => step >= length) ?? Math.min(length, HIGHEST_BUILT));
@@ -2897,7 +3014,10 @@ function gapLines({ gaps }) {
   return [strongLine("Missing: ", `${names}. ${meaning}`)];
 }
 
-/** @param {HTMLElement} box @param {import("./library.mjs").Library} library */
+/**
+ * @param {HTMLElement} box
+ * @param {import("./library.mjs").Library} library
+ */
 function drawNotice(box, { shelf, notice }) {
   const lines = [...(notice ? [strongLine(notice)] : []), ...faultLines(shelf), ...gapLines(shelf)];
   box.hidden = lines.length === 0;
@@ -2935,7 +3055,7 @@ function makeVerdict(shown) {
 
 /** The best first: known ones, by value; the winner hurries and the loser delays. */
 function compareMoves(one, other) {
-  return Boolean(one.fault) - Boolean(other.fault)
+  return Number(Boolean(one.fault)) - Number(Boolean(other.fault))
     || other.value - one.value
     || (one.value > 0 ? one.distance - other.distance : other.distance - one.distance)
     || other.isPlan - one.isPlan

@@ -9,7 +9,8 @@ import { kindOf, plural, SIDES, signed } from "./words.mjs";
 export class BoardView {
   /** `hands` has what a hand does: press(pit), add(pit, stones) and set(pit, stones). */
   constructor(box, players, hands) {
-    Object.assign(this, { players, hands });
+    this.players = players;
+    this.hands = hands;
     this.shown = null;
     /** What the stones were laid for. */
     this.laid = { state: null, below: 0 };

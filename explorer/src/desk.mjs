@@ -42,7 +42,10 @@ export class Desk {
 
   stop() { this.#isStopped = true; }
 
-  /** Verifies a file, and puts its level on. @param {Blob} file */
+  /**
+   * Verifies a file, and puts its level on.
+   * @param {Blob} file
+   */
   async add(file) { this.#levels.add(new Uint8Array(await file.arrayBuffer())); }
 
   /** @param {Board} board */
@@ -57,6 +60,9 @@ export class Desk {
   /** @param {Board} board */
   rank(board) { return this.#levels.rank(board); }
 
-  /** @param {number} level @param {number} rank */
+  /**
+   * @param {number} level
+   * @param {number} rank
+   */
   board(level, rank) { return this.#levels.board(level, rank); }
 }

@@ -3,6 +3,10 @@
 
 const SVG = "http://www.w3.org/2000/svg";
 
+/**
+ * The element of this name, a field or any other.
+ * @returns {any}
+ */
 export const byId = id => document.getElementById(id);
 
 /** An attribute that is false, null or undefined is left out, and so is such a child. */

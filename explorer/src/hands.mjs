@@ -17,11 +17,14 @@ const KEYS = { b: "best", p: "auto", u: "undo", r: "redo", t: "turn", s: "swap",
 
 const isField = target => /^(INPUT|TEXTAREA|SELECT)$/.test(target.tagName) && target.type !== "checkbox";
 
-/** @param {Session} session @param {Views} views */
+/**
+ * @param {Session} session
+ * @param {Views} views
+ */
 export function bindHands(session, views) {
   const actions = actionsOf(session, views);
   for (const [id, action] of Object.entries(actions)) byId(id).addEventListener("click", action);
-  byId("keep-low").addEventListener("change", ({ target }) => session.keepMoverBelow(target.checked));
+  byId("keep-low").addEventListener("change", () => session.keepMoverBelow(byId("keep-low").checked));
   bindWords(session, views);
   bindKeys(session, actions);
   bindFiles(session, views);
@@ -79,7 +82,7 @@ function bindWords(session, views) {
     event.preventDefault();
     showWord(session, views, byId("word").value);
   });
-  addEventListener("paste", event => {
+  document.addEventListener("paste", event => {
     const text = event.clipboardData?.getData("text") ?? "";
     if (!isField(event.target) && text.includes("/")) showOrHint(text);
   });
@@ -132,10 +135,10 @@ async function saveFiles(files) {
 
 function bindFiles(session, views) {
   byId("pick-whole").hidden = !("webkitdirectory" in byId("pick"));
-  for (const id of ["pick", "pick-files"])
-    byId(id).addEventListener("change", ({ target }) => {
-      openFiles(session, filesOfInput(target));
-      target.value = ""; // so that the same folder can be chosen again
+  for (const input of [byId("pick"), byId("pick-files")])
+    input.addEventListener("change", () => {
+      openFiles(session, filesOfInput(input));
+      input.value = ""; // so that the same folder can be chosen again
     });
   const mark = isDragging => document.body.classList.toggle("dragging", isDragging);
   addEventListener("dragover", event => {

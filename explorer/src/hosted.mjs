@@ -23,9 +23,15 @@ export function hostedFolder({ protocol, search, href }) {
 class HostedFile {
   isHosted = true;
 
-  /** @param {URL} place @param {number} size @param {ArrayBuffer} head its first bytes, which were asked for already */
+  /**
+   * @param {URL} place
+   * @param {number} size
+   * @param {ArrayBuffer} head its first bytes, which were asked for already
+   */
   constructor(place, size, head) {
-    Object.assign(this, { place, size, head });
+    this.place = place;
+    this.size = size;
+    this.head = head;
     this.name = place.pathname.split("/").at(-1);
   }
 
@@ -45,7 +51,8 @@ async function rangeOf(place, from, to) {
 /**
  * The levels of a folder from this number up, to the first that is not there: as sources, or as whole files if the
  * server ignores Range. `told` is what is to be said of it, null if nothing is.
- * @param {URL} folder @param {number} first
+ * @param {URL} folder
+ * @param {number} first
  */
 export async function hostedLevels(folder, first) {
   const found = { sources: [], files: [], told: null };
@@ -65,6 +72,7 @@ export async function hostedLevels(folder, first) {
       break;
     }
   }
-  if (found.files.length) found.told = `This server ignores Range requests: levels to ${HIGHEST_WHOLE} are fetched whole, and none above.`;
+  if (found.files.length)
+    found.told = `This server ignores Range requests: levels to ${HIGHEST_WHOLE} are fetched whole, and none above.`;
   return found;
 }

@@ -24,13 +24,23 @@ async function withStore(mode, otherwise, action) {
   }
 }
 
-/** The numbers of the levels that are kept. @returns {Promise<number[]>} */
+/**
+ * The numbers of the levels that are kept.
+ * @returns {Promise<number[]>}
+ */
 export const keptNumbers = () => withStore("readonly", [], store => store.getAllKeys());
 
-/** The file of a level that is kept. @returns {Promise<Blob | null>} */
+/**
+ * The file of a level that is kept.
+ * @returns {Promise<Blob | null>}
+ */
 export const keptFile = number => withStore("readonly", null, store => store.get(number));
 
-/** Keeps the file of a level: whether the browser does. @param {number} number @param {Blob} file */
+/**
+ * Keeps the file of a level: whether the browser does.
+ * @param {number} number
+ * @param {Blob} file
+ */
 export const keepFile = async (number, file) =>
   await withStore("readwrite", null, store => store.put(file, number)) === number;
 

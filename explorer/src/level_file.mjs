@@ -58,7 +58,10 @@ const versionOf = head => head[4] << 8 | head[5];
 const highestOf = head => HIGHEST_OF_VERSION[versionOf(head)];
 const countOf = head => new DataView(head.buffer).getBigUint64(8);
 
-/** The fields of a header in their order: its name, where it ends, and what is wrong with it, if anything. */
+/**
+ * The fields of a header in their order: its name, where it ends, and what is wrong with it, if anything.
+ * @type {[string, number, (name: string, head: Uint8Array) => Fault | false | null][]}
+ */
 const FIELDS = [
   ["magic", 4, (name, head) => hex(head.slice(0, 4)) !== MAGIC &&
     new Fault(61, "Magic",
@@ -99,7 +102,8 @@ function lengthFaultOf(file, number) {
 
 /**
  * Reads the header and the digest of a level's file, and refuses it for the first field that is wrong.
- * @param {Source} file @returns {Promise<Level>}
+ * @param {Source} file
+ * @returns {Promise<Level>}
  */
 export async function openLevel(file) {
   const head = await bytesOf(file, 0, HEADER_BYTES);

@@ -22,7 +22,10 @@ const STANDINGS = {
 export class LevelsView {
   /** `hands` has showRank(level, rank) and say(text). */
   constructor({ card, buttons, summary }, hands) {
-    Object.assign(this, { card, buttons, summary, hands });
+    this.card = card;
+    this.buttons = buttons;
+    this.summary = summary;
+    this.hands = hands;
     this.open(new Shelf(null));
   }
 

@@ -38,9 +38,15 @@ function boardsIn(from, to) {
 }
 
 export class Library {
-  /** Levels 0 up that are right: built here, or verified here. @type {Slot[]} */
+  /**
+   * Levels 0 up that are right: built here, or verified here.
+   * @type {Slot[]}
+   */
   #right = [];
-  /** The proved code that verifies what was opened, until that is done. @type {Proved | null} */
+  /**
+   * The proved code that verifies what was opened, until that is done.
+   * @type {Proved | null}
+   */
   #trial = null;
   /** Whether a hand has stopped the build, which may be between two levels. */
   #isStopped = false;
@@ -48,11 +54,20 @@ export class Library {
   #keeping = Promise.resolve();
   /** @type {Work | null} */
   work = null;
-  /** Why files were not taken, or levels not built. @type {string | null} */
+  /**
+   * Why files were not taken, or levels not built.
+   * @type {string | null}
+   */
   notice = null;
-  /** What was opened, null if nothing was. @type {string | null} */
+  /**
+   * What was opened, null if nothing was.
+   * @type {string | null}
+   */
   opened = null;
-  /** Comes once what was opened is verified as far as it can be. @type {Promise<void>} */
+  /**
+   * Comes once what was opened is verified as far as it can be.
+   * @type {Promise<void>}
+   */
   settled = Promise.resolve();
   /** Until the first levels are there. */
   isStarting = true;
@@ -67,7 +82,9 @@ export class Library {
    * @param {() => void} worked hears that work has gone on
    */
   constructor(startProved, changed, worked) {
-    Object.assign(this, { startProved, changed, worked });
+    this.startProved = startProved;
+    this.changed = changed;
+    this.worked = worked;
     this.proved = startProved(FIRST_LEVELS);
     this.shelf = new Shelf(this.proved);
   }
@@ -114,7 +131,10 @@ export class Library {
     return this.length === 0 ? "No levels" : `Levels 0 to ${this.length - 1}, by the proved code`;
   }
 
-  /** The files of the right levels. @returns {File[]} */
+  /**
+   * The files of the right levels.
+   * @returns {File[]}
+   */
   get files() { return this.#right.map(({ level }) => /** @type {File} */ (level?.file)); }
 
   #workOn(work) {
@@ -148,7 +168,8 @@ export class Library {
       }
     } catch (fault) {
       if (proved !== this.proved) return; // what was verified meanwhile has taken its place
-      this.notice = NO_MEMORY.includes(fault.number) ? `There is no memory for level ${this.length} here.` : `${fault.message}.`;
+      const hasNoMemory = NO_MEMORY.includes(fault.number);
+      this.notice = hasNoMemory ? `There is no memory for level ${this.length} here.` : `${fault.message}.`;
     }
     this.#workOn(null);
     this.changed();
@@ -171,7 +192,7 @@ export class Library {
 
   stop() {
     this.#isStopped = true;
-    if (this.work?.kind === "build") this.proved.ask("stop");
+    if (this.work?.kind === "build") this.proved.ask("stop").catch(() => {}); // it may have ended
     else this.#endTrial();
   }
 
@@ -203,7 +224,8 @@ export class Library {
   /** Leaves the folder. What was verified of it stays. */
   close() {
     this.#endTrial();
-    Object.assign(this, { opened: null, notice: null });
+    this.opened = null;
+    this.notice = null;
     this.#showRight();
   }
 
@@ -253,7 +275,10 @@ export class Library {
 
   // ---- a folder of a server ----
 
-  /** Takes the levels of a folder of the page's own server, above those that are there. @param {import("./hosted.mjs").Hosted} hosted */
+  /**
+   * Takes the levels of a folder of the page's own server, above those that are there.
+   * @param {import("./hosted.mjs").Hosted} hosted
+   */
   async host({ folder, isAsked }) {
     const { sources, files, told } = await hostedLevels(folder, this.length);
     if (files.length) await this.open({ files, name: folder.pathname });

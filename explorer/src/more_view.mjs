@@ -44,7 +44,10 @@ export class MoreView {
     return Math.max(0, Math.min(HIGHEST_BUILT, asked));
   }
 
-  /** Draws what there is. @param {Library} library */
+  /**
+   * Draws what there is.
+   * @param {Library} library
+   */
   draw(library) {
     const { length, isKept, opened } = library;
     this.#suggest(STEPS.find(step => step >= length) ?? Math.min(length, HIGHEST_BUILT));

@@ -27,7 +27,10 @@ function gapLines({ gaps }) {
   return [strongLine("Missing: ", `${names}. ${meaning}`)];
 }
 
-/** @param {HTMLElement} box @param {import("./library.mjs").Library} library */
+/**
+ * @param {HTMLElement} box
+ * @param {import("./library.mjs").Library} library
+ */
 export function drawNotice(box, { shelf, notice }) {
   const lines = [...(notice ? [strongLine(notice)] : []), ...faultLines(shelf), ...gapLines(shelf)];
   box.hidden = lines.length === 0;

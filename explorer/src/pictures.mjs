@@ -12,8 +12,11 @@ export class Picture {
    * what they have in common. `isLogarithmic` is for numbers of which some are a thousand times as large as
    * others. `show` is given the rank of a board that is asked for.
    */
-  constructor({ id, title, columns, ends, isLogarithmic, total, show }) {
-    Object.assign(this, { columns, isLogarithmic, total, show });
+  constructor({ id, title, columns, ends, isLogarithmic = false, total, show }) {
+    this.columns = columns;
+    this.isLogarithmic = isLogarithmic;
+    this.total = total;
+    this.show = show;
     this.most = Math.max(1, ...columns.map(column => column.boards));
     // A wrong file may have none of the values that its level can have.
     this.chosen = Math.max(0, columns.findIndex(column => column.boards === this.most));

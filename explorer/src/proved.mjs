@@ -27,10 +27,16 @@ export class Proved {
     this.ready = this.ask("start", awariModule, count).finally(() => URL.revokeObjectURL(place));
   }
 
-  /** Asks the desk in the thread. A refusal is thrown as a fault. @returns {Promise<any>} */
+  /**
+   * Asks the desk in the thread. A refusal is thrown as a fault.
+   * @returns {Promise<any>}
+   */
   ask(name, ...words) { return this.askTelling(null, name, ...words); }
 
-  /** The same of work that tells how far it is. @param {((done: number) => void) | null} told */
+  /**
+   * The same of work that tells how far it is.
+   * @param {((done: number) => void) | null} told
+   */
   askTelling(told, name, ...words) {
     const turn = this.#turn++;
     return new Promise((answered, refused) => {

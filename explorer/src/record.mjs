@@ -25,7 +25,11 @@ export class Record {
   /** @returns {State} */
   static stateOf(board, mover) { return { board, mover, captured: [0, 0], move: null }; }
 
-  /** @param {State} state @param {number} pit @returns {State} */
+  /**
+   * @param {State} state
+   * @param {number} pit
+   * @returns {State}
+   */
   static stateAfter(state, pit) {
     const move = play(state.board, pit), captured = [...state.captured];
     captured[state.mover] += move.captured;

@@ -34,14 +34,22 @@ const OWN_PITS = [0, 1, 2, 3, 4, 5];
 /** @param {Board} board */
 export const stonesOf = board => board.reduce((sum, stones) => sum + stones, 0);
 
-/** The board as the other player sees it. @param {Board} board @returns {Board} */
+/**
+ * The board as the other player sees it.
+ * @param {Board} board
+ * @returns {Board}
+ */
 export const turned = board => [...board.slice(6), ...board.slice(0, 6)];
 
 export const print = board => `${board.slice(0, 6)}/${board.slice(6)}`;
 
 export const areSame = (board, other) => print(board) === print(other);
 
-/** The board that a word spells. @param {string} text @returns {Board} */
+/**
+ * The board that a word spells.
+ * @param {string} text
+ * @returns {Board}
+ */
 export function parse(text) {
   const sides = text.split("/").map(side => side.split(","));
   if (sides.length !== 2 || sides.some(side => side.length !== 6))
@@ -74,7 +82,11 @@ export const isEnded = board => legalPits(board).length === 0;
 /** What the mover gains if play has ended: each player takes the stones on their own side. */
 export const endGain = board => stonesOf(board.slice(0, 6)) === 0 ? -stonesOf(board) : stonesOf(board);
 
-/** Why a pit can't be played, or null. @param {Board} board @param {number} pit */
+/**
+ * Why a pit can't be played, or null.
+ * @param {Board} board
+ * @param {number} pit
+ */
 export function refusalOf(board, pit) {
   if (!OWN_PITS.includes(pit)) return new Fault(4, "NoPit", `The mover has no pit ${pit}`);
   if (isEnded(board)) return new Fault(7, "Ended", "The play has ended");
@@ -91,7 +103,12 @@ function capturedPits(sown, lastFall) {
   return taken;
 }
 
-/** The move from a pit. It throws its refusal. @param {Board} board @param {number} pit @returns {Move} */
+/**
+ * The move from a pit. It throws its refusal.
+ * @param {Board} board
+ * @param {number} pit
+ * @returns {Move}
+ */
 export function play(board, pit) {
   const refused = refusalOf(board, pit);
   if (refused) throw refused;
@@ -114,7 +131,10 @@ export function sizeOf(stones) {
   return ways;
 }
 
-/** Any board of so many stones, each as likely: eleven bars among the stones part the pits. @returns {Board} */
+/**
+ * Any board of so many stones, each as likely: eleven bars among the stones part the pits.
+ * @returns {Board}
+ */
 export function randomBoard(stones) {
   const bars = new Set();
   while (bars.size < 11) bars.add(Math.floor(Math.random() * (stones + 11)));

@@ -78,6 +78,11 @@ class Counts {
   get lost() { return this.sum(value => value < 0); }
 }
 
+/**
+ * @param {import("./level_file.mjs").Level} level
+ * @param {(share: number) => void} told
+ * @param {AbortSignal | null} signal
+ */
 export async function countBoards(level, told = () => {}, signal = null) {
   const counts = new Counts(level), from = placeOf(0), to = placeOf(level.boards);
   for await (const { place, bytes } of pieces(level.file, from, to, signal)) {

@@ -35,7 +35,9 @@ export class Shelf {
 
   /**
    * The levels of these files. Those that are not among them are taken from `known`.
-   * @param {import("./level_file.mjs").Source[]} files @param {Proved | null} proved @param {Slot[]} known
+   * @param {import("./level_file.mjs").Source[]} files
+   * @param {Proved | null} proved
+   * @param {Slot[]} known
    */
   static async of(files, proved = null, known = []) {
     const shelf = new Shelf(proved, known);
@@ -61,7 +63,7 @@ export class Shelf {
 
   /** The levels that are not there and have one above them that is. */
   get gaps() {
-    const top = this.slots.findLastIndex(slot => slot);
+    const top = this.slots.reduce((top, slot, number) => slot ? number : top, -1);
     return this.slots.flatMap((slot, number) => number < top && !slot ? [number] : []);
   }
 
@@ -70,13 +72,19 @@ export class Shelf {
     return Math.max(0, ...this.levels.filter(({ number }) => number <= stones).map(({ limit }) => limit));
   }
 
-  /** Whether the proved code knows what a board is worth. @param {Board} board */
+  /**
+   * Whether the proved code knows what a board is worth.
+   * @param {Board} board
+   */
   knows(board) {
     const stones = stonesOf(board), standing = this.standing(stones);
     return (standing === "built" || standing === "verified") && stones < (this.proved?.length ?? 0);
   }
 
-  /** The entry of a board. Of a level that is not verified its six bytes are read. @returns {Promise<Entry>} */
+  /**
+   * The entry of a board. Of a level that is not verified its six bytes are read.
+   * @returns {Promise<Entry>}
+   */
   async entry(board) {
     if (this.knows(board)) return this.proved.ask("entry", board);
     const level = this.#levelOf(stonesOf(board)), word = print(board);

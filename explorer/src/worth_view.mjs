@@ -27,7 +27,7 @@ function makeVerdict(shown) {
 
 /** The best first: known ones, by value; the winner hurries and the loser delays. */
 function compareMoves(one, other) {
-  return Boolean(one.fault) - Boolean(other.fault)
+  return Number(Boolean(one.fault)) - Number(Boolean(other.fault))
     || other.value - one.value
     || (one.value > 0 ? one.distance - other.distance : other.distance - one.distance)
     || other.isPlan - one.isPlan

@@ -33,7 +33,9 @@ import { LAST_PIT } from "./level_file.mjs";
 
 /**
  * The entry of a board, and its moves with their worths. A fault stands in the place of what can't be read.
- * @param {Shelf} shelf @param {Board} board @returns {Promise<Weighed>}
+ * @param {Shelf} shelf
+ * @param {Board} board
+ * @returns {Promise<Weighed>}
  */
 export const weigh = (shelf, board) => shelf.knows(board) ? told(shelf, board) : read(shelf, board);
 
@@ -91,7 +93,9 @@ function isDistance(distance, value, planned, moves) {
  * The play from a board in which both sides follow the plans, as `awari line` prints it. It ends at the first
  * board that its mover has seen before, since from there on the same pits come for ever. `repeats` is the ply
  * after which that stood, as `awari line --plies` tells it.
- * @param {Shelf} shelf @param {Board} board @returns {Promise<Line>}
+ * @param {Shelf} shelf
+ * @param {Board} board
+ * @returns {Promise<Line>}
  */
 export async function bestLine(shelf, board) {
   if (shelf.knows(board)) {

@@ -346,6 +346,7 @@ def test_page(given, made):
         looks.names(page)
         looks.tabulator(page)
         looks.widths(page)
+        looks.touch(page)
     end_section("no error in the console, nothing asked of the network")
     hosted.hosted_levels(awari, folder, made)
 

@@ -8,6 +8,8 @@ from files import copy_levels
 from selenium.webdriver.common.keys import Keys
 
 WIDTHS = [320, 360, 390, 560, 768, 1024, 1240]
+# The buttons that choose a folder and files.
+SHOWN = ["label[for='pick']", "label[for='pick-files']"]
 # Width, height, whether it is dark, and how many points a pixel has.
 LOOKS = {
     "light": (1240, 900, False, 1),
@@ -107,6 +109,17 @@ def widths(page):
         check(f"large enough for fingers, {width}", page.js(SMALL), [])
     page.look(1240, 900)
     end_section(f"widths of {WIDTHS[0]} to {WIDTHS[-1]}")
+
+
+def touch(page):
+    """On a phone files are chosen, and no folders."""
+    page.driver.execute_cdp_cmd("Emulation.setTouchEmulationEnabled", {"enabled": True})
+    page.look(390, 844)
+    check("a phone chooses files", [page.at(it).is_displayed() for it in SHOWN], [False, True])
+    page.driver.execute_cdp_cmd("Emulation.setTouchEmulationEnabled", {"enabled": False})
+    page.look(1240, 900)
+    check("a desk chooses folders too", [page.at(it).is_displayed() for it in SHOWN], [True, True])
+    end_section("files chosen on phones")
 
 
 # ---- pictures of the page ----
