@@ -2948,7 +2948,7 @@ class MoreView {
    */
   draw(library) {
     const { length, isKept, opened } = library;
-    this.#suggest(STEPS.find(step => step >= length) ?? Math.min(length, HIGHEST_BUILT));
+    if (!library.work) this.#suggest(STEPS.find(step => step >= length) ?? Math.min(length, HIGHEST_BUILT));
     byId("close").hidden = opened === null;
     byId("save").hidden = byId("kept-told").hidden = byId("clear-kept").hidden = !library.hasBuilt;
     byId("clear-kept").disabled = !isKept;

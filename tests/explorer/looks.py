@@ -100,12 +100,18 @@ SMALL = """return [...document.querySelectorAll('button, .plot')].filter(it => i
   .filter(it => it.offsetHeight < 32 || it.offsetWidth < 28).map(it => it.outerHTML.slice(0, 60))"""
 
 
+WIDE = """return [...document.querySelectorAll('.card *')].filter(it => it.offsetParent && !it.closest('.unseen, .plot'))
+  .filter(it => it.getBoundingClientRect().right > it.closest('.card').getBoundingClientRect().right)
+  .map(it => it.outerHTML.slice(0, 60))"""
+
+
 def widths(page):
     for width in WIDTHS:
         page.look(width, 800)
         page.show("12,3,0,1,0,1/0,3,0,0,2,1" if width % 20 else "0,2,1,1,3,1/1,0,1,0,0,0")
         until(lambda: page.all("#picture-values") or page.all("#summary .status"))
         check(f"fits into {width}", page.js("return document.documentElement.scrollWidth <= innerWidth"))
+        check(f"fits into its card, {width}", page.js(WIDE), [])
         check(f"large enough for fingers, {width}", page.js(SMALL), [])
     page.look(1240, 900)
     end_section(f"widths of {WIDTHS[0]} to {WIDTHS[-1]}")
