@@ -1341,7 +1341,9 @@ const HIGHEST_BUILT = 18;
 const HIGHEST_VERIFIED = 16;
 /** Refusals that are no fault of a file: there is no memory. */
 const NO_MEMORY = [53, 84];
+/** With less done than this nobody can say how long the work will take. */
 const MILLISECONDS_TO_GUESS = 300;
+const SHARE_TO_GUESS = 0.02;
 
 /** The boards of some levels, of each of which one is about as much work. */
 function boardsIn(from, to) {
@@ -1460,7 +1462,8 @@ class Library {
     const all = boardsIn(first, top), begun = performance.now();
     return (number, done = 0) => {
       const share = (boardsIn(first, number - 1) + done) / all, passed = performance.now() - begun;
-      const secondsLeft = passed < MILLISECONDS_TO_GUESS ? null : passed * (1 - share) / share / 1000;
+      const canGuess = passed > MILLISECONDS_TO_GUESS && share > SHARE_TO_GUESS;
+      const secondsLeft = canGuess ? passed * (1 - share) / share / 1000 : null;
       this.#workOn({ kind, text: `${verb} level ${number} of ${top}`, share, secondsLeft });
     };
   }
