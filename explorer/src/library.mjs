@@ -50,6 +50,9 @@ export class Library {
    * @type {Proved | null}
    */
   #trial = null;
+  /** Come once the first levels are there, and those that the browser has kept. */
+  #first = Promise.resolve();
+  #begun = Promise.resolve();
   /** Whether a hand has stopped the build, which may be between two levels. */
   #isStopped = false;
   /** Files are kept one after the other, and nobody waits for it. */
@@ -93,6 +96,12 @@ export class Library {
 
   /** Takes the first levels, and then those that the browser has kept. */
   async begin() {
+    this.#first = this.#takeFirst();
+    this.#begun = this.#first.then(() => this.#takeKept());
+    await this.#begun;
+  }
+
+  async #takeFirst() {
     try {
       const files = await this.proved.ready;
       for (const file of files) await this.#addRight(new File([file], nameOf(this.#right.length)), "built");
@@ -101,7 +110,6 @@ export class Library {
     }
     this.isStarting = false;
     this.#showRight();
-    await this.#takeKept();
   }
 
   async #takeKept() {
@@ -116,7 +124,11 @@ export class Library {
     if (this.hasBuilt && !this.opened) this.#showRight();
   }
 
-  async #addRight(file, standing) { this.#right.push({ level: await openLevel(file), standing }); }
+  /** Takes the next level, unless what was verified meanwhile has it. */
+  async #addRight(file, standing) {
+    const level = await openLevel(file);
+    if (level.number === this.#right.length) this.#right.push({ level, standing });
+  }
 
   #showRight() {
     this.shelf = new Shelf(this.proved, this.#right);
@@ -159,6 +171,8 @@ export class Library {
 
   /** Builds the levels that are missing up to this one, in slices, and keeps their files. */
   async build(top) {
+    await this.#begun;
+    if (this.work) return;
     const { proved } = this, first = this.length, tell = this.#teller("build", "Building", first, top);
     this.notice = null;
     this.#isStopped = false;
@@ -211,6 +225,7 @@ export class Library {
 
   /** @param {{ files: Source[], name: string }} chosen the files, and the name of their folder if it has one */
   async open({ files, name }) {
+    await this.#first;
     const opened = await Shelf.of(files, this.proved, this.#right).catch(fault => fault);
     this.notice = whyNotOpened(opened, files, name);
     if (!this.notice) this.#take(opened, titleOf(opened, files, name));
@@ -284,6 +299,7 @@ export class Library {
    */
   async host({ folder, isAsked }) {
     const { sources, files, told } = await hostedLevels(folder, this.length);
+    if (this.opened) return; // a hand was quicker
     if (files.length) await this.open({ files, name: folder.pathname });
     if (sources.length) {
       const shelf = await Shelf.of(sources, this.proved, this.#right);
@@ -305,9 +321,9 @@ function titleOf(shelf, files, name) {
   return `${name ? `${name}: ` : ""}${plural(own.length, "level")}${upTo}`;
 }
 
-/** What is wrong with a file that the proved code refuses; null if there was no memory for it. */
+/** What is wrong with a file that the proved code refuses; null if it could not be read, or had no room. */
 function faultOf({ number, inner, rule, rank, message }, level) {
-  if (NO_MEMORY.includes(number) || !level) return null;
+  if (number === undefined || NO_MEMORY.includes(number) || !level) return null;
   const { name } = level.file;
   if (inner === 66) return new Error(`${name} is damaged: its SHA-256 is not that of its bytes (66 Digest)`);
   if (rule) return new Error(`${name} is not right: the board of rank ${rank} breaks rule ${rule} (83 Verify)`);
