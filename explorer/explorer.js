@@ -1075,7 +1075,7 @@ const module_proved = (() => {
 
 const { Fault } = module_rules;
 
-/** @typedef {{ awariThread: () => void, awariModule: string }} Made what explorer/make puts beside the modules */
+/** @typedef {{ awariThread: () => void, awariModule?: string }} Made what explorer/make puts beside the modules */
 
 class Proved {
   /** How many levels it has: of boards with fewer stones it knows the truth. */
@@ -1093,7 +1093,9 @@ class Proved {
     this.#thread.onmessage = ({ data }) => this.#hear(data);
     this.#thread.onerror = event => this.#fail(event.message);
     /** @type {Promise<Uint8Array[]>} */
-    this.ready = this.ask("start", awariModule, count).finally(() => URL.revokeObjectURL(place));
+    this.ready = awariModule === undefined
+      ? Promise.reject(new Error("The module of the proved code is not beside this page"))
+      : this.ask("start", awariModule, count).finally(() => URL.revokeObjectURL(place));
   }
 
   /**
