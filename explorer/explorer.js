@@ -1655,10 +1655,11 @@ function whyNotOpened(opened, files, name) {
 return { HIGHEST_BUILT, HIGHEST_VERIFIED, Library };
 })();
 
-const module_record = (() => {
-// What was set up and played: a list of states, one of which is shown. Nothing here knows of the page.
+const module_game = (() => {
+// A game: what was played from a board, what each move threw away, and its text, as `awari judge` takes it.
+// Nothing here knows of files or of the page.
 
-const { areSame, play } = module_rules;
+const { parse, play, print, refusalOf } = module_rules;
 
 /**
  * @typedef {import("./rules.mjs").Board} Board
@@ -1668,29 +1669,132 @@ const { areSame, play } = module_rules;
  * @property {number} mover whose move it is: 0 South, 1 North
  * @property {number[]} captured what each side has captured
  * @property {import("./rules.mjs").Move | null} move the move that led here, null if the board was set up
+ *
+ * @typedef {object} Game
+ * @property {Board} board the first, as its mover sees it
+ * @property {number} mover who moves first
+ * @property {number[]} pits what was played in turn
+ *
+ * @typedef {object} Toll what a move cost its mover
+ * @property {number} before what the board was worth
+ * @property {number} after what it is worth by this move
+ * @property {number} thrown how much less that is
  */
 
+/** The greatest that `awari judge` takes: by it only the end of play is an outcome. */
+const GREATEST_LIMIT = 4294967295;
+
+/** A move of a game that is refused, and which one that is, from 1 on. */
+class MoveFault extends Error {
+  constructor(refused, at) {
+    super(`Move ${at}: ${refused.message}`);
+    this.number = refused.number;
+    this.fault = refused.fault;
+    this.at = at;
+  }
+}
+
+/**
+ * @param {Board} board
+ * @param {number} mover
+ * @returns {State}
+ */
+const stateOf = (board, mover) => ({ board, mover, captured: [0, 0], move: null });
+
+/**
+ * @param {State} state
+ * @param {number} pit
+ * @returns {State}
+ */
+function stateAfter(state, pit) {
+  const move = play(state.board, pit), captured = [...state.captured];
+  captured[state.mover] += move.captured;
+  return { board: move.next, mover: 1 - state.mover, captured, move };
+}
+
+/**
+ * The states of a game, from its first board on. It is refused for the first move that can't be played.
+ * @param {Game} game
+ */
+function statesOf({ board, mover, pits }) {
+  const states = [stateOf(board, mover)];
+  for (const [index, pit] of pits.entries()) {
+    const refused = refusalOf(states[index].board, pit);
+    if (refused) throw new MoveFault(refused, index + 1);
+    states.push(stateAfter(states[index], pit));
+  }
+  return states;
+}
+
+// ---- what was thrown away ----
+
+/**
+ * What each move of these states cost. Where a worth is not known, it is null.
+ * @param {State[]} states
+ * @param {(board: Board) => Promise<number | null>} valueOf
+ * @returns {Promise<(Toll | null)[]>}
+ */
+async function tollsOf(states, valueOf) {
+  const values = await Promise.all(states.map(({ board }) => valueOf(board)));
+  return states.slice(1).map(({ move }, index) => {
+    const before = values[index], next = values[index + 1];
+    if (before === null || next === null) return null;
+    const after = move.captured - next;
+    return { before, after, thrown: before - after };
+  });
+}
+
+/**
+ * How many stones each side threw away in all.
+ * @param {State[]} states
+ * @param {(Toll | null)[]} tolls
+ */
+function thrownBySides(states, tolls) {
+  const thrown = [0, 0];
+  for (const [index, toll] of tolls.entries()) thrown[states[index].mover] += toll?.thrown ?? 0;
+  return thrown;
+}
+
+// ---- text ----
+
+/**
+ * A game as the words of `awari judge`: its first board, a limit, and the moves. They don't say who is South.
+ * @param {Game} game
+ */
+const printGame = ({ board, pits }, limit = GREATEST_LIMIT) => [print(board), limit, ...pits].join(" ");
+
+/**
+ * Reads such words, with the name of the command or without it. A board alone is a game of no moves. South
+ * moves first.
+ * @returns {Game}
+ */
+function parseGame(text) {
+  const [board, limit, ...moves] = text.trim().replace(/^(\$\s+)?\S*awari\s+judge\s+/, "").split(/\s+/);
+  const game = { board: parse(board), mover: 0, pits: pitsOf(moves.join("")) };
+  if (limit !== undefined && !(/^\d+$/.test(limit) && Number(limit) <= GREATEST_LIMIT))
+    throw new Error(`“${limit}” is no limit. That comes after the board, 0 to ${GREATEST_LIMIT}, and then the moves`);
+  statesOf(game);
+  return game;
+}
+
+/** The pits of moves, a digit each. What is none stays as it is, and is refused in its turn. */
+const pitsOf = moves => [...moves].map(move => /[0-9]/.test(move) ? Number(move) : move);
+return { MoveFault, stateOf, stateAfter, statesOf, tollsOf, thrownBySides, printGame, parseGame, pitsOf };
+})();
+
+const module_record = (() => {
+// What was set up and played: a list of states, one of which is shown. Nothing here knows of the page.
+
+const { stateAfter, stateOf, statesOf } = module_game;
+const { areSame } = module_rules;
+
 class Record {
-  /** @param {Board} board */
+  /** @param {import("./rules.mjs").Board} board */
   constructor(board) { this.startAt(board); }
 
   startAt(board) {
-    this.states = [Record.stateOf(board, 0)];
+    this.states = [stateOf(board, 0)];
     this.at = 0;
-  }
-
-  /** @returns {State} */
-  static stateOf(board, mover) { return { board, mover, captured: [0, 0], move: null }; }
-
-  /**
-   * @param {State} state
-   * @param {number} pit
-   * @returns {State}
-   */
-  static stateAfter(state, pit) {
-    const move = play(state.board, pit), captured = [...state.captured];
-    captured[state.mover] += move.captured;
-    return { board: move.next, mover: 1 - state.mover, captured, move };
   }
 
   get now() { return this.states[this.at]; }
@@ -1705,11 +1809,11 @@ class Record {
     this.at += 1;
   }
 
-  play(pit) { this.add(Record.stateAfter(this.now, pit)); }
+  play(pit) { this.add(stateAfter(this.now, pit)); }
 
   setUp(board, mover) {
     const isShown = areSame(board, this.now.board) && mover === this.now.mover && !this.now.move;
-    if (!isShown) this.add(Record.stateOf(board, mover));
+    if (!isShown) this.add(stateOf(board, mover));
   }
 
   /** The state from which the play that is shown began. */
@@ -1724,6 +1828,33 @@ class Record {
     let index = this.at;
     while (this.states[index + 1]?.move) index++;
     return index;
+  }
+
+  /**
+   * The play that is shown, and how many of its moves led to what is shown.
+   * @returns {import("./game.mjs").Game & { at: number }}
+   */
+  get game() {
+    const { start, at } = this, { board, mover } = this.states[start];
+    const pits = this.states.slice(start + 1, this.end + 1).map(({ move }) => move.pit);
+    return { board, mover, pits, at: at - start };
+  }
+
+  /**
+   * Shows a place of a game: where the record has it, and else in place of all that was there.
+   * @param {import("./game.mjs").Game & { at: number }} game
+   */
+  open(game) {
+    const starts = [this.start, ...this.states.keys()], start = starts.find(index => this.#holds(game, index));
+    if (start === undefined) this.states = statesOf(game);
+    this.at = (start ?? 0) + game.at;
+  }
+
+  /** Whether a game begins at a state, with more moves behind its own or not. */
+  #holds({ board, mover, pits }, index) {
+    const state = this.states[index];
+    return !state.move && state.mover === mover && areSame(state.board, board)
+      && pits.every((pit, ply) => this.states[index + 1 + ply]?.move?.pit === pit);
   }
 
   /** Whether the board was there before, with the same side to move and no capture since. */
@@ -1942,7 +2073,7 @@ const { bestLine, weigh } = module_worths;
  *
  * @typedef {object} Shown what the views draw
  * @property {Record} record what was set up and played
- * @property {import("./record.mjs").State} state that of the record which is shown
+ * @property {import("./game.mjs").State} state that of the record which is shown
  * @property {Weighed | null} weighed what its board is worth, null while that is being asked
  * @property {Line | { fault: Error } | null} line the best line, null while that is being asked
  * @property {number} below the side whose pits lie in the lower row

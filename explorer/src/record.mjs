@@ -1,39 +1,16 @@
 // @ts-check
 // What was set up and played: a list of states, one of which is shown. Nothing here knows of the page.
 
-import { areSame, play } from "./rules.mjs";
-
-/**
- * @typedef {import("./rules.mjs").Board} Board
- *
- * @typedef {object} State
- * @property {Board} board as its mover sees it
- * @property {number} mover whose move it is: 0 South, 1 North
- * @property {number[]} captured what each side has captured
- * @property {import("./rules.mjs").Move | null} move the move that led here, null if the board was set up
- */
+import { stateAfter, stateOf, statesOf } from "./game.mjs";
+import { areSame } from "./rules.mjs";
 
 export class Record {
-  /** @param {Board} board */
+  /** @param {import("./rules.mjs").Board} board */
   constructor(board) { this.startAt(board); }
 
   startAt(board) {
-    this.states = [Record.stateOf(board, 0)];
+    this.states = [stateOf(board, 0)];
     this.at = 0;
-  }
-
-  /** @returns {State} */
-  static stateOf(board, mover) { return { board, mover, captured: [0, 0], move: null }; }
-
-  /**
-   * @param {State} state
-   * @param {number} pit
-   * @returns {State}
-   */
-  static stateAfter(state, pit) {
-    const move = play(state.board, pit), captured = [...state.captured];
-    captured[state.mover] += move.captured;
-    return { board: move.next, mover: 1 - state.mover, captured, move };
   }
 
   get now() { return this.states[this.at]; }
@@ -48,11 +25,11 @@ export class Record {
     this.at += 1;
   }
 
-  play(pit) { this.add(Record.stateAfter(this.now, pit)); }
+  play(pit) { this.add(stateAfter(this.now, pit)); }
 
   setUp(board, mover) {
     const isShown = areSame(board, this.now.board) && mover === this.now.mover && !this.now.move;
-    if (!isShown) this.add(Record.stateOf(board, mover));
+    if (!isShown) this.add(stateOf(board, mover));
   }
 
   /** The state from which the play that is shown began. */
@@ -67,6 +44,33 @@ export class Record {
     let index = this.at;
     while (this.states[index + 1]?.move) index++;
     return index;
+  }
+
+  /**
+   * The play that is shown, and how many of its moves led to what is shown.
+   * @returns {import("./game.mjs").Game & { at: number }}
+   */
+  get game() {
+    const { start, at } = this, { board, mover } = this.states[start];
+    const pits = this.states.slice(start + 1, this.end + 1).map(({ move }) => move.pit);
+    return { board, mover, pits, at: at - start };
+  }
+
+  /**
+   * Shows a place of a game: where the record has it, and else in place of all that was there.
+   * @param {import("./game.mjs").Game & { at: number }} game
+   */
+  open(game) {
+    const starts = [this.start, ...this.states.keys()], start = starts.find(index => this.#holds(game, index));
+    if (start === undefined) this.states = statesOf(game);
+    this.at = (start ?? 0) + game.at;
+  }
+
+  /** Whether a game begins at a state, with more moves behind its own or not. */
+  #holds({ board, mover, pits }, index) {
+    const state = this.states[index];
+    return !state.move && state.mover === mover && areSame(state.board, board)
+      && pits.every((pit, ply) => this.states[index + 1 + ply]?.move?.pit === pit);
   }
 
   /** Whether the board was there before, with the same side to move and no capture since. */

@@ -15,7 +15,7 @@ import { bestLine, weigh } from "./worths.mjs";
  *
  * @typedef {object} Shown what the views draw
  * @property {Record} record what was set up and played
- * @property {import("./record.mjs").State} state that of the record which is shown
+ * @property {import("./game.mjs").State} state that of the record which is shown
  * @property {Weighed | null} weighed what its board is worth, null while that is being asked
  * @property {Line | { fault: Error } | null} line the best line, null while that is being asked
  * @property {number} below the side whose pits lie in the lower row
