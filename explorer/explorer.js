@@ -384,23 +384,64 @@ return {  };
 };
 
 const module_address = (() => {
-// The address of the page, which has a board behind its #.
+// The address of the page, which has a link behind its #.
 
 /** What stands behind the #, empty if nothing does. */
-function readAddress() {
-  try {
-    return decodeURIComponent(location.hash.slice(1));
-  } catch {
-    return location.hash.slice(1);
-  }
-}
+const readAddress = () => location.hash.slice(1);
 
-function writeAddress(word) {
+/** Writes a link there. Back leads from a step to what was shown before it. */
+function writeAddress(link, isStep) {
+  if (!isStep && history.state && readAddress() === link) return;
   try {
-    history.replaceState(null, "", `#${word}`);
+    if (isStep) history.pushState({ isStep }, "", `#${link}`);
+    else history.replaceState({ isStep }, "", `#${link}`);
   } catch { /* a page without an address of its own */ }
 }
-return { readAddress, writeAddress };
+
+/** Tells of Back and Forward among such steps, and of links that are opened. */
+function onAddress({ comeTo, openLink }) {
+  addEventListener("popstate", ({ state }) => {
+    const link = readAddress();
+    if (link) (state ? comeTo : openLink)(link);
+  });
+}
+return { readAddress, writeAddress, onAddress };
+})();
+
+const module_choices = (() => {
+// What was chosen on the page, yes or no, kept by the browser. Nothing here knows of the page.
+
+const PREFIX = "awari-explorer.";
+
+class Choices {
+  /**
+   * A page may be denied its storage; then choices last as long as the page.
+   * @param {() => Storage} storage
+   */
+  constructor(storage) {
+    this.chosen = new Map();
+    try {
+      this.storage = storage();
+    } catch {
+      this.storage = null;
+    }
+  }
+
+  /** What was chosen, and `otherwise` if nothing was. */
+  get(name, otherwise) {
+    const kept = this.chosen.get(name) ?? this.storage?.getItem(PREFIX + name);
+    return kept ? kept === "yes" : otherwise;
+  }
+
+  set(name, isChosen) {
+    const kept = isChosen ? "yes" : "no";
+    this.chosen.set(name, kept);
+    try {
+      this.storage?.setItem(PREFIX + name, kept);
+    } catch { /* the storage is full */ }
+  }
+}
+return { Choices };
 })();
 
 const module_elements = (() => {
@@ -488,7 +529,7 @@ return { filesOfInput, filesOfDrop };
 const module_hands = (() => {
 // What hands and keys do: buttons, fields, what is pasted or dropped, and the address.
 
-const { readAddress } = module_address;
+const { onAddress } = module_address;
 const { byId, element } = module_elements;
 const { filesOfDrop, filesOfInput } = module_files;
 
@@ -500,20 +541,23 @@ const { filesOfDrop, filesOfInput } = module_files;
 /** The address of a file that is saved stays so long. */
 const MILLISECONDS_OF_A_DOWNLOAD = 60_000;
 const MILLISECONDS_BETWEEN_DOWNLOADS = 200;
-const KEYS = { b: "best", p: "auto", u: "undo", r: "redo", t: "turn", s: "swap", e: "edit" };
+const KEYS = {
+  b: "best", p: "auto", u: "undo", r: "redo", t: "turn", s: "swap", e: "edit", h: "hints", l: "letters",
+};
 
 const isField = target => /^(INPUT|TEXTAREA|SELECT)$/.test(target.tagName) && target.type !== "checkbox";
 
 /**
  * @param {Session} session
  * @param {Views} views
+ * @param {import("./choices.mjs").Choices} choices
  */
-function bindHands(session, views) {
+function bindHands(session, views, choices) {
   const actions = actionsOf(session, views);
   for (const [id, action] of Object.entries(actions)) byId(id).addEventListener("click", action);
-  byId("keep-low").addEventListener("change", () => session.keepMoverBelow(byId("keep-low").checked));
+  bindChoices(session, choices);
   bindWords(session, views);
-  bindKeys(session, actions);
+  bindKeys(session);
   bindFiles(session, views);
   bindBuilding(session, views);
 }
@@ -533,61 +577,93 @@ function actionsOf(session, views) {
     takes: () => session.setTaking(true),
     clear: () => session.clear(),
     random: () => session.setRandomBoard(Number(byId("random-stones").value)),
-    copy: () => copyWord(session, views),
+    copy: () => copy(session.word, "The board", views),
+    "copy-game": () => copy(session.gameText, "The game", views),
+    "copy-link": () => copy(location.href, "The link", views),
   };
 }
 
-function bindKeys(session, actions) {
+/** What is chosen by a box, kept by the browser: whether it is at first, and what it changes. */
+const BOXES = [
+  { id: "keep-low", isAtFirst: false, choose: (session, isChosen) => session.keepMoverBelow(isChosen) },
+  { id: "hints", isAtFirst: true, choose: (session, isChosen) => session.setHints(isChosen) },
+  { id: "letters", isAtFirst: false, choose: (session, isChosen) => session.setLetters(isChosen) },
+  { id: "keys-on", isAtFirst: true, choose: () => {} },
+];
+
+function bindChoices(session, choices) {
+  for (const { id, isAtFirst, choose } of BOXES) {
+    const box = byId(id);
+    box.checked = choices.get(id, isAtFirst);
+    if (box.checked !== isAtFirst) choose(session, box.checked);
+    box.addEventListener("change", () => {
+      choices.set(id, box.checked);
+      choose(session, box.checked);
+    });
+  }
+  const sides = [byId("table-south"), byId("table-north")];
+  for (const side of sides) side.addEventListener("change", () => session.setTable(...sides.map(box => box.checked)));
+}
+
+function bindKeys(session) {
   addEventListener("keydown", event => {
     if (event.defaultPrevented || event.ctrlKey || event.metaKey || event.altKey) return;
     if (!byId("keys-on").checked || isField(event.target)) return;
     if (event.key === "Escape" && session.shown.isEditing) session.setEditing(false);
     else if (/^[0-5]$/.test(event.key) && !session.shown.isEditing) session.play(Number(event.key));
-    else if (event.key in KEYS && !byId(KEYS[event.key]).disabled) actions[KEYS[event.key]]();
+    else if (event.key === "o") session.changeTable();
+    else if (event.key in KEYS) byId(KEYS[event.key]).click();
   });
 }
 
 // ---- words ----
 
-/** Shows the board that a word spells: null, or what is wrong with the word. */
-function showWord(session, views, text) {
+/** Does what a text asks for, or tells what is wrong with the text. */
+function attempt(show, tell) {
   try {
-    session.setWord(text);
-    return null;
+    show();
   } catch (fault) {
-    views.refuseWord(fault);
-    return fault;
+    tell(fault);
   }
 }
 
 function bindWords(session, views) {
-  const showOrHint = text => {
-    const fault = showWord(session, views, text);
-    if (fault) views.hint(fault.message);
+  const tell = fault => {
+    views.refuseWord(fault);
+    views.hint(fault.message);
   };
   byId("word-form").addEventListener("submit", event => {
     event.preventDefault();
-    showWord(session, views, byId("word").value);
+    attempt(() => session.showText(byId("word").value), fault => views.refuseWord(fault));
   });
   document.addEventListener("paste", event => {
     const text = event.clipboardData?.getData("text") ?? "";
-    if (!isField(event.target) && text.includes("/")) showOrHint(text);
+    if (!isField(event.target) && text.includes("/")) attempt(() => session.showText(text), tell);
   });
-  addEventListener("hashchange", () => {
-    const word = readAddress();
-    if (word && word !== session.word) showOrHint(word);
+  onAddress({
+    comeTo: link => attempt(() => session.comeTo(link), tell),
+    openLink: link => attempt(() => session.openLink(link), tell),
   });
 }
 
-async function copyWord(session, views) {
+async function copy(text, name, views) {
   try {
-    await navigator.clipboard.writeText(session.word);
+    await navigator.clipboard.writeText(text);
   } catch {
-    byId("word").select();
-    document.execCommand("copy"); // the older way, for pages to which the newer one is closed
+    copyByField(text); // the older way, for pages to which the newer one is closed
   }
-  views.hint("Copied");
-  views.say("Copied");
+  views.hint(`${name} is copied`);
+  views.say(`${name} is copied`);
+}
+
+function copyByField(text) {
+  const field = element("textarea", { class: "unseen" }), activeElement = /** @type {any} */ (document.activeElement);
+  field.value = text;
+  document.body.append(field);
+  field.select();
+  document.execCommand("copy");
+  field.remove();
+  activeElement?.focus();
 }
 
 // ---- levels ----
@@ -1140,6 +1216,148 @@ class Proved {
 return { Proved };
 })();
 
+const module_game = (() => {
+// A game: what was played from a board, what each move threw away, and its text, as `awari judge` takes it.
+// Nothing here knows of files or of the page.
+
+const { parse, play, print, refusalOf } = module_rules;
+
+/**
+ * @typedef {import("./rules.mjs").Board} Board
+ *
+ * @typedef {object} State
+ * @property {Board} board as its mover sees it
+ * @property {number} mover whose move it is: 0 South, 1 North
+ * @property {number[]} captured what each side has captured
+ * @property {import("./rules.mjs").Move | null} move the move that led here, null if the board was set up
+ *
+ * @typedef {object} Game
+ * @property {Board} board the first, as its mover sees it
+ * @property {number} mover who moves first
+ * @property {number[]} pits what was played in turn
+ *
+ * @typedef {object} Toll what a move cost its mover
+ * @property {number} before what the board was worth
+ * @property {number} after what it is worth by this move
+ * @property {number} thrown how much less that is
+ */
+
+/** The greatest that `awari judge` takes: by it only the end of play is an outcome. */
+const GREATEST_LIMIT = 4294967295;
+
+/** A move of a game that is refused, and which one that is, from 1 on. */
+class MoveFault extends Error {
+  constructor(refused, at) {
+    super(`Move ${at}: ${refused.message}`);
+    this.number = refused.number;
+    this.fault = refused.fault;
+    this.at = at;
+  }
+}
+
+/**
+ * @param {Board} board
+ * @param {number} mover
+ * @returns {State}
+ */
+const stateOf = (board, mover) => ({ board, mover, captured: [0, 0], move: null });
+
+/**
+ * @param {State} state
+ * @param {number} pit
+ * @returns {State}
+ */
+function stateAfter(state, pit) {
+  const move = play(state.board, pit), captured = [...state.captured];
+  captured[state.mover] += move.captured;
+  return { board: move.next, mover: 1 - state.mover, captured, move };
+}
+
+/**
+ * The states of a game, from its first board on. It is refused for the first move that can't be played.
+ * @param {Game} game
+ */
+function statesOf({ board, mover, pits }) {
+  const states = [stateOf(board, mover)];
+  for (const [index, pit] of pits.entries()) {
+    const refused = refusalOf(states[index].board, pit);
+    if (refused) throw new MoveFault(refused, index + 1);
+    states.push(stateAfter(states[index], pit));
+  }
+  return states;
+}
+
+// ---- what was thrown away ----
+
+/**
+ * What each move of these states cost. Where a worth is not known, it is null.
+ * @param {State[]} states
+ * @param {(board: Board) => Promise<number | null>} valueOf
+ * @returns {Promise<(Toll | null)[]>}
+ */
+async function tollsOf(states, valueOf) {
+  const values = await Promise.all(states.map(({ board }) => valueOf(board)));
+  return states.slice(1).map(({ move }, index) => {
+    const before = values[index], next = values[index + 1];
+    if (before === null || next === null) return null;
+    const after = move.captured - next;
+    return { before, after, thrown: before - after };
+  });
+}
+
+/**
+ * How many stones each side threw away in all.
+ * @param {State[]} states
+ * @param {(Toll | null)[]} tolls
+ */
+function thrownBySides(states, tolls) {
+  const thrown = [0, 0];
+  for (const [index, toll] of tolls.entries()) thrown[states[index].mover] += toll?.thrown ?? 0;
+  return thrown;
+}
+
+// ---- text ----
+
+/**
+ * A game as the words of `awari judge`: its first board, a limit, and the moves. They don't say who is South.
+ * @param {Game} game
+ */
+const printGame = ({ board, pits }, limit = GREATEST_LIMIT) => [print(board), limit, ...pits].join(" ");
+
+/**
+ * Reads such words, with the name of the command or without it. A board alone is a game of no moves. South
+ * moves first.
+ * @returns {Game}
+ */
+function parseGame(text) {
+  const [board, limit, ...moves] = text.trim().replace(/^(\$\s+)?\S*awari\s+judge\s+/, "").split(/\s+/);
+  const game = { board: parse(board), mover: 0, pits: pitsOf(moves.join("")) };
+  if (limit !== undefined && !(/^\d+$/.test(limit) && Number(limit) <= GREATEST_LIMIT))
+    throw new Error(`“${limit}” is no limit. That comes after the board, 0 to ${GREATEST_LIMIT}, and then the moves`);
+  statesOf(game);
+  return game;
+}
+
+/** The pits of moves, a digit each. What is none stays as it is, and is refused in its turn. */
+const pitsOf = moves => [...moves].map(move => /[0-9]/.test(move) ? Number(move) : move);
+return { MoveFault, stateOf, stateAfter, statesOf, tollsOf, thrownBySides, printGame, parseGame, pitsOf };
+})();
+
+const module_letters = (() => {
+// The names of pits: numbers as their mover sees them, or letters that stay with the pits. Nothing here knows
+// of the page.
+
+/** South's pits and North's, each from left to right as their owner sees them. */
+const LETTERS = ["ABCDEF", "abcdef"];
+
+/** The letter of a pit that the mover numbers so. */
+const letterOf = (pit, mover) => LETTERS[pit < 6 ? mover : 1 - mover][pit % 6];
+
+/** The name of a pit that the mover numbers so. */
+const pitName = (pit, mover, hasLetters) => hasLetters ? letterOf(pit, mover) : String(pit);
+return { letterOf, pitName };
+})();
+
 const module_kept = (() => {
 // The files of levels that the browser keeps until they are cleared. A browser may refuse: then it keeps none.
 
@@ -1655,131 +1873,170 @@ function whyNotOpened(opened, files, name) {
 return { HIGHEST_BUILT, HIGHEST_VERIFIED, Library };
 })();
 
-const module_game = (() => {
-// A game: what was played from a board, what each move threw away, and its text, as `awari judge` takes it.
-// Nothing here knows of files or of the page.
+const module_links = (() => {
+// What stands behind the # of an address: a game, the place in it that is shown, the side whose pits lie below,
+// and the sides that the table plays. Nothing here knows of the page.
+//
+//     BOARD&mover=north&moves=502&at=1&below=north&table=both
+//
+// Only the board has to be there. So an address with a board alone, South to move, is as good as it ever was.
 
-const { parse, play, print, refusalOf } = module_rules;
+const { parse, print } = module_rules;
+const { pitsOf, statesOf } = module_game;
 
 /**
- * @typedef {import("./rules.mjs").Board} Board
- *
- * @typedef {object} State
- * @property {Board} board as its mover sees it
- * @property {number} mover whose move it is: 0 South, 1 North
- * @property {number[]} captured what each side has captured
- * @property {import("./rules.mjs").Move | null} move the move that led here, null if the board was set up
- *
- * @typedef {object} Game
- * @property {Board} board the first, as its mover sees it
- * @property {number} mover who moves first
- * @property {number[]} pits what was played in turn
- *
- * @typedef {object} Toll what a move cost its mover
- * @property {number} before what the board was worth
- * @property {number} after what it is worth by this move
- * @property {number} thrown how much less that is
+ * `at` counts the moves that were played up to what is shown.
+ * @typedef {import("./game.mjs").Game & { at: number, below: number, table: boolean[] }} Link
  */
 
-/** The greatest that `awari judge` takes: by it only the end of play is an outcome. */
-const GREATEST_LIMIT = 4294967295;
+const SIDE_NAMES = ["south", "north"];
+const TABLES = { south: [true, false], north: [false, true], both: [true, true] };
 
-/** A move of a game that is refused, and which one that is, from 1 on. */
-class MoveFault extends Error {
-  constructor(refused, at) {
-    super(`Move ${at}: ${refused.message}`);
-    this.number = refused.number;
-    this.fault = refused.fault;
-    this.at = at;
+/** @param {Link} link */
+function printLink({ board, mover, pits, at, below, table }) {
+  const played = Object.keys(TABLES).find(name => String(TABLES[name]) === String(table));
+  const parts = [
+    ["mover", mover && SIDE_NAMES[mover]],
+    ["moves", pits.join("")],
+    ["at", at < pits.length && String(at)],
+    ["below", below && SIDE_NAMES[below]],
+    ["table", played],
+  ];
+  return [print(board), ...parts.filter(([, value]) => value).map(part => part.join("="))].join("&");
+}
+
+/** What a part may be, and how it reads. */
+const LINK_PARTS = {
+  mover: ["“south” or “north”", text => sideNamed(text)],
+  moves: ["pits, a digit each", pitsOf],
+  at: ["a number of moves", text => /^\d{1,6}$/.test(text) ? Number(text) : undefined],
+  below: ["“south” or “north”", text => sideNamed(text)],
+  table: ["“south”, “north” or “both”", text => Object.hasOwn(TABLES, text) ? TABLES[text] : undefined],
+};
+
+function sideNamed(text) {
+  const side = SIDE_NAMES.indexOf(text);
+  return side < 0 ? undefined : side;
+}
+
+/**
+ * Reads what `printLink` writes. A part that is left out is as in an address with a board alone.
+ * @returns {Link}
+ */
+function parseLink(text) {
+  const [word, ...parts] = unescaped(text).split("&");
+  const link = { board: parse(word), mover: 0, pits: [], at: Infinity, below: 0, table: [false, false] };
+  for (const part of parts) readPart(link, part);
+  statesOf(link);
+  link.at = Math.min(link.at, link.pits.length);
+  return link;
+}
+
+function readPart(link, part) {
+  const [name, ...values] = part.split("="), value = values.join("=");
+  if (!Object.hasOwn(LINK_PARTS, name))
+    throw new Error(`The address has a part “${name}”. Known are ${Object.keys(LINK_PARTS).join(", ")}`);
+  const [wanted, read] = LINK_PARTS[name], found = read(value);
+  if (found === undefined) throw new Error(`The address has “${part}”, and ${name} is ${wanted}`);
+  link[name === "moves" ? "pits" : name] = found;
+}
+
+/** Some programs write a comma or a slash of an address as %2C or %2F. */
+function unescaped(text) {
+  try {
+    return decodeURIComponent(text);
+  } catch {
+    return text;
   }
 }
+return { printLink, parseLink };
+})();
+
+const module_opponent = (() => {
+// The opponent: it plays for one side or for both, by what the table says. Nothing here knows of the page.
+
+/** How long it waits, so that one sees what was played before. */
+const MILLISECONDS_OF_A_REPLY = 700;
 
 /**
- * @param {Board} board
- * @param {number} mover
- * @returns {State}
+ * A move with what it is worth, or why that is not known.
+ * @typedef {{ pit: number, value: number, distance: number, isPlan?: boolean, fault?: Error }} WorthyMove
  */
-const stateOf = (board, mover) => ({ board, mover, captured: [0, 0], move: null });
 
 /**
- * @param {State} state
- * @param {number} pit
- * @returns {State}
+ * The order of the table of moves, the best first: by worth; then the winner hurries and the loser holds out.
+ * A move whose worth is not known comes last.
+ * @param {WorthyMove} one
+ * @param {WorthyMove} other
  */
-function stateAfter(state, pit) {
-  const move = play(state.board, pit), captured = [...state.captured];
-  captured[state.mover] += move.captured;
-  return { board: move.next, mover: 1 - state.mover, captured, move };
+function compareMoves(one, other) {
+  return Number(Boolean(one.fault)) - Number(Boolean(other.fault))
+    || other.value - one.value
+    || (one.value > 0 ? one.distance - other.distance : other.distance - one.distance)
+    || Number(Boolean(other.isPlan)) - Number(Boolean(one.isPlan))
+    || one.pit - other.pit;
 }
 
 /**
- * The states of a game, from its first board on. It is refused for the first move that can't be played.
- * @param {Game} game
+ * The pit that the table plays, or null if there is none or the worth of a move is not known.
+ * @param {WorthyMove[]} moves
  */
-function statesOf({ board, mover, pits }) {
-  const states = [stateOf(board, mover)];
-  for (const [index, pit] of pits.entries()) {
-    const refused = refusalOf(states[index].board, pit);
-    if (refused) throw new MoveFault(refused, index + 1);
-    states.push(stateAfter(states[index], pit));
+function tableMove(moves) {
+  const [first] = [...moves].sort(compareMoves);
+  return first && !moves.some(({ fault }) => fault) ? first.pit : null;
+}
+
+/** It rests while one goes to and fro in a game, and goes on once a move is played by hand. */
+class Opponent {
+  /** Whether it plays South, and whether it plays North. */
+  sides = [false, false];
+  isResting = false;
+  #timer = null;
+
+  /**
+   * @param {(pit: number) => void} play
+   * @param {{ setTimeout: Function, clearTimeout: Function }} clock the timers: of the page, or of a test
+   */
+  constructor(play, clock = globalThis) {
+    this.play = play;
+    this.clock = clock;
   }
-  return states;
+
+  /** Whether a reply is on its way. */
+  get isThinking() { return this.#timer !== null; }
+
+  /** Whether its move comes next, now or once it has rested. */
+  isDue({ mover }) { return this.sides[mover]; }
+
+  setSides(south, north) {
+    this.sides = [south, north];
+    this.isResting = false;
+  }
+
+  rest() {
+    this.stop();
+    this.isResting = true;
+  }
+
+  wake() { this.isResting = false; }
+
+  stop() {
+    this.clock.clearTimeout(this.#timer);
+    this.#timer = null;
+  }
+
+  /** Replies to the state that is shown, if it is its turn and the worths of all moves are known. */
+  consider(state, moves) {
+    this.stop();
+    const pit = tableMove(moves);
+    if (pit === null || this.isResting || !this.isDue(state)) return;
+    this.#timer = this.clock.setTimeout(() => {
+      this.#timer = null;
+      this.play(pit);
+    }, MILLISECONDS_OF_A_REPLY);
+  }
 }
-
-// ---- what was thrown away ----
-
-/**
- * What each move of these states cost. Where a worth is not known, it is null.
- * @param {State[]} states
- * @param {(board: Board) => Promise<number | null>} valueOf
- * @returns {Promise<(Toll | null)[]>}
- */
-async function tollsOf(states, valueOf) {
-  const values = await Promise.all(states.map(({ board }) => valueOf(board)));
-  return states.slice(1).map(({ move }, index) => {
-    const before = values[index], next = values[index + 1];
-    if (before === null || next === null) return null;
-    const after = move.captured - next;
-    return { before, after, thrown: before - after };
-  });
-}
-
-/**
- * How many stones each side threw away in all.
- * @param {State[]} states
- * @param {(Toll | null)[]} tolls
- */
-function thrownBySides(states, tolls) {
-  const thrown = [0, 0];
-  for (const [index, toll] of tolls.entries()) thrown[states[index].mover] += toll?.thrown ?? 0;
-  return thrown;
-}
-
-// ---- text ----
-
-/**
- * A game as the words of `awari judge`: its first board, a limit, and the moves. They don't say who is South.
- * @param {Game} game
- */
-const printGame = ({ board, pits }, limit = GREATEST_LIMIT) => [print(board), limit, ...pits].join(" ");
-
-/**
- * Reads such words, with the name of the command or without it. A board alone is a game of no moves. South
- * moves first.
- * @returns {Game}
- */
-function parseGame(text) {
-  const [board, limit, ...moves] = text.trim().replace(/^(\$\s+)?\S*awari\s+judge\s+/, "").split(/\s+/);
-  const game = { board: parse(board), mover: 0, pits: pitsOf(moves.join("")) };
-  if (limit !== undefined && !(/^\d+$/.test(limit) && Number(limit) <= GREATEST_LIMIT))
-    throw new Error(`“${limit}” is no limit. That comes after the board, 0 to ${GREATEST_LIMIT}, and then the moves`);
-  statesOf(game);
-  return game;
-}
-
-/** The pits of moves, a digit each. What is none stays as it is, and is refused in its turn. */
-const pitsOf = moves => [...moves].map(move => /[0-9]/.test(move) ? Number(move) : move);
-return { MoveFault, stateOf, stateAfter, statesOf, tollsOf, thrownBySides, printGame, parseGame, pitsOf };
+return { compareMoves, tableMove, Opponent };
 })();
 
 const module_record = (() => {
@@ -1874,10 +2131,16 @@ const module_verdict = (() => {
 // What boards and moves are worth, in words.
 
 const { endGain, isEnded, stonesOf } = module_rules;
-const { plies, plural, SIDES, spoken } = module_words;
+const { plies, plural, SIDES, signed, spoken } = module_words;
 
 const endsAhead = (lead, side) =>
   lead === 0 ? "the two end level" : `${SIDES[lead > 0 ? side : 1 - side]} ends ${Math.abs(lead)} ahead`;
+
+/** How many stones a move threw away, and of what. */
+function wordsOfToll({ before, after, thrown }) {
+  if (thrown === 0) return `keeps the worth, ${signed(before)}`;
+  return `threw away ${plural(thrown, "stone")}: worth ${signed(before)} before, ${signed(after)} after`;
+}
 
 /** A heading and a sentence on what the board is worth. */
 function verdictOf({ state, weighed }) {
@@ -1907,16 +2170,16 @@ function verdictOfEnd(state) {
 const spokenVerdict = shown => verdictOf(shown).filter(Boolean).join(". ");
 
 /** A grand slam and a capture, a value and a distance of a move, in words for a voice. */
-function wordsOfMove(move) {
+function wordsOfMove(move, hasHints) {
   const worth = move.fault || move.value === undefined ? "its worth is not known" : `worth ${spoken(move.value)}`;
   return [
     move.captured ? `captures ${move.captured}` : move.isSlam ? "a grand slam, captures nothing" : "captures nothing",
-    worth,
+    ...(hasHints ? [worth] : []),
     ...(move.distance ? [`within ${plies(move.distance)}`] : []),
     ...(move.isPlan ? ["the plan"] : []),
   ].join(", ");
 }
-return { verdictOf, spokenVerdict, wordsOfMove };
+return { wordsOfToll, verdictOf, spokenVerdict, wordsOfMove };
 })();
 
 const module_worths = (() => {
@@ -2059,9 +2322,13 @@ return { weigh, worthOf, brokenRule, bestLine };
 const module_session = (() => {
 // What the page shows, and what is done to it: boards, play, set-up and levels. Nothing here knows of elements.
 
+const { parseGame, printGame, tollsOf } = module_game;
+const { pitName } = module_letters;
 const { Library } = module_library;
+const { parseLink, printLink } = module_links;
+const { Opponent, tableMove } = module_opponent;
 const { Record } = module_record;
-const { MOST_STONES, parse, print, randomBoard, refusalOf, stonesOf, turned } = module_rules;
+const { MOST_STONES, print, randomBoard, refusalOf, stonesOf, turned } = module_rules;
 const { spokenVerdict } = module_verdict;
 const { plural, SIDES } = module_words;
 const { bestLine, weigh } = module_worths;
@@ -2083,6 +2350,10 @@ const { bestLine, weigh } = module_worths;
  * @property {boolean} isEditing whether a click changes a pit
  * @property {boolean} isTaking whether it takes a stone, and does not add one
  * @property {boolean} isPlaying whether the line plays itself
+ * @property {Opponent} opponent what plays the sides that are left to the table
+ * @property {WeakMap<import("./game.mjs").State, import("./game.mjs").Toll | null>} tolls what the moves to states cost
+ * @property {boolean} hasHints whether worths are shown
+ * @property {boolean} hasLetters whether pits have letters
  *
  * @typedef {object} Listener draws what has changed, and tells what is said
  * @property {(shown: Shown) => void} drawState another state is shown, without its worth yet
@@ -2091,6 +2362,8 @@ const { bestLine, weigh } = module_worths;
  * @property {(shown: Shown) => void} drawLevels other levels are there
  * @property {(shown: Shown) => void} drawWork levels are being built or verified, or are not any more
  * @property {(shown: Shown) => void} drawPlaying the line plays itself, or has stopped
+ * @property {(shown: Shown) => void} drawPlayed what moves cost has come
+ * @property {(link: string, isStep: boolean) => void} keepLink a step that Back takes back, or the same step otherwise
  * @property {(text: string) => void} say to those who listen
  * @property {(text: string) => void} hint to those who look, for a while
  */
@@ -2110,25 +2383,31 @@ class Session {
 
   /**
    * @param {(count: number) => import("./proved.mjs").Proved} startProved starts the proved code with so many levels
-   * @param {string} word the first board, if it is one
+   * @param {string} address what stands behind the # of the page's address
+   * @param {{ setTimeout: Function, clearTimeout: Function }} clock the timers: of the page, or of a test
    */
-  constructor(startProved, word = FIRST_BOARD) {
-    this.record = new Record(parse(word));
+  constructor(startProved, address = FIRST_BOARD, clock = globalThis) {
+    const link = parseLink(address);
+    this.record = new Record(link.board);
+    this.opponent = new Opponent(pit => this.#play(pit), clock);
     this.library = new Library(startProved, () => this.#takeLevels(), () => this.listener.drawWork(this.shown));
     /** @type {Shown} */
     this.shown = {
       record: this.record, state: this.record.now, weighed: null, line: null, below: 0, keepsMoverBelow: false,
       shelf: this.library.shelf, library: this.library, isEditing: false, isTaking: false, isPlaying: false,
+      opponent: this.opponent, tolls: new WeakMap(), hasHints: true, hasLetters: false,
     };
+    this.#takeLink(link);
   }
 
   // ---- showing ----
 
-  /** Shows the state of the record, at first without its worth, and then with it. */
-  async show() {
+  /** Shows the state of the record, at first without its worth, and then with it. Back undoes a step. */
+  async show({ isStep = false } = {}) {
     Object.assign(this.shown, { state: this.record.now, weighed: null, line: null });
     this.#laySides();
-    this.listener.drawState(this.shown);
+    this.listener.drawState(this.seen);
+    this.listener.keepLink(this.link, isStep);
     await this.#weigh();
   }
 
@@ -2138,8 +2417,10 @@ class Session {
     const weighed = await weigh(shown.shelf, shown.state.board).catch(() => null);
     if (mine !== this.#turn || !weighed) return;
     shown.weighed = weighed;
-    this.listener.drawWorth(shown);
+    this.listener.drawWorth(this.seen);
+    this.#considerReply();
     this.#showLine(mine);
+    this.#showTolls();
   }
 
   /** The line comes later, since it may be long. Nobody waits for it. */
@@ -2148,7 +2429,19 @@ class Session {
     const line = await bestLine(shown.shelf, shown.state.board).catch(fault => ({ fault }));
     if (mine !== this.#turn) return;
     shown.line = line;
-    this.listener.drawWorth(shown);
+    this.listener.drawWorth(this.seen);
+  }
+
+  async #showTolls() {
+    const { record, shown: { shelf, tolls } } = this, states = record.states.slice(record.start, record.end + 1);
+    const found = await tollsOf(states, board => shelf.entry(board).then(({ value }) => value, () => null));
+    for (const [index, toll] of found.entries()) tolls.set(states[index + 1], toll);
+    this.listener.drawPlayed(this.seen);
+  }
+
+  /** What is shown, but for what hints would tell. */
+  get seen() {
+    return this.shown.hasHints ? this.shown : { ...this.shown, weighed: null, line: null, tolls: new WeakMap() };
   }
 
   #laySides() {
@@ -2156,7 +2449,7 @@ class Session {
     this.shown.below = keepsMoverBelow ? state.mover : Number(this.#northIsBelow);
   }
 
-  sayVerdict() { this.listener.say(spokenVerdict(this.shown)); }
+  sayVerdict() { this.listener.say(spokenVerdict(this.seen)); }
 
   refuse(text) {
     this.listener.say(text);
@@ -2171,11 +2464,21 @@ class Session {
   go(index) {
     this.stopPlaying();
     this.record.go(index);
+    if (this.record.isLast) this.opponent.wake();
+    else this.opponent.rest();
     return this.show();
   }
 
-  undo() { return this.go(this.record.at - 1); }
-  redo() { return this.go(this.record.at + 1); }
+  undo() { return this.go(this.#neighbour(-1)); }
+  redo() { return this.go(this.#neighbour(1)); }
+
+  /** The next state there. Moves of the table are passed over if a hand plays the other side. */
+  #neighbour(step) {
+    const { states, start, end, at } = this.record, [south, north] = this.opponent.sides;
+    const isPassed = index => south !== north && index > start && index < end && this.opponent.isDue(states[index]);
+    const next = at + step;
+    return isPassed(next) ? next + step : next;
+  }
 
   /** To the board from which play began, and from there to the first of all. */
   goToStart() {
@@ -2184,45 +2487,133 @@ class Session {
   }
 
   async #play(pit) {
-    const { board, mover } = this.record.now, refused = refusalOf(board, pit);
-    if (refused) return this.refuse(refused.message);
+    const { mover } = this.record.now, name = this.nameOf(pit);
     this.record.play(pit);
     const { captured, isSlam } = this.record.now.move;
-    await this.show();
+    await this.show({ isStep: true });
     const captures = captured ? `, captured ${captured}` : isSlam ? ", a grand slam, which captures nothing" : "";
-    this.listener.say(`${SIDES[mover]} played pit ${pit}${captures}. ${spokenVerdict(this.shown)}`);
+    this.listener.say(`${SIDES[mover]} played pit ${name}${captures}. ${spokenVerdict(this.seen)}`);
   }
 
-  play(pit) {
+  /** What a hand plays, if it may. */
+  async play(pit) {
+    const { board, mover } = this.record.now, refused = refusalOf(board, pit);
+    if (this.#isTablesMove) return this.refuse(`The table plays ${SIDES[mover]}`);
     this.stopPlaying();
+    if (refused) return this.refuse(refused.message);
+    this.opponent.wake();
     return this.#play(pit);
   }
 
   /** Plays a part of the best line at once. */
   follow(plies) {
     this.stopPlaying();
+    this.opponent.wake();
     for (const { pit } of plies) this.record.play(pit);
-    return this.show();
+    return this.show({ isStep: true });
   }
 
   /** A line that goes on for ever is played to its first repetition. */
   async #playOn() {
-    if (this.plan === null || this.record.isRepeated) return this.stopPlaying();
+    if (this.plan === null || this.record.isRepeated) return this.togglePlaying();
     await this.#play(this.plan);
     if (this.shown.isPlaying) this.#playTimer = setTimeout(() => this.#playOn(), MILLISECONDS_A_PLY);
   }
 
   stopPlaying() {
     clearTimeout(this.#playTimer);
+    this.opponent.stop();
     this.shown.isPlaying = false;
     this.listener.drawPlaying(this.shown);
   }
 
   togglePlaying() {
-    if (this.shown.isPlaying) return this.stopPlaying();
+    const isPlaying = !this.shown.isPlaying;
+    this.stopPlaying();
+    if (!isPlaying) return this.#considerReply();
     this.shown.isPlaying = true;
     this.listener.drawPlaying(this.shown);
     this.#playTimer = setTimeout(() => this.#playOn(), MILLISECONDS_TO_THE_FIRST);
+  }
+
+  // ---- the table plays ----
+
+  setTable(south, north) {
+    this.stopPlaying();
+    this.opponent.setSides(south, north);
+    this.listener.say(`The table plays ${nameOfSides(south, north)}`);
+    this.listener.keepLink(this.link, false);
+    this.#considerReply();
+  }
+
+  /** North, South, both and neither in turn. */
+  changeTable() {
+    const [south, north] = this.opponent.sides;
+    return this.setTable(south !== north, !north);
+  }
+
+  /** Whether the move is the table's, unless it turns out that the table can't tell. */
+  get #isTablesMove() {
+    const { opponent, shown: { state, weighed } } = this;
+    return opponent.isDue(state) && !opponent.isResting && (!weighed || tableMove(weighed.moves) !== null);
+  }
+
+  /** Has the table reply if it is its turn. With itself it plays to the first repetition. */
+  #considerReply() {
+    const { opponent, record, shown } = this, { state, weighed, isEditing, isPlaying } = shown;
+    if (record.isRepeated && opponent.sides.every(Boolean)) opponent.rest();
+    else if (weighed && !isEditing && !isPlaying) opponent.consider(state, weighed.moves);
+    this.listener.drawBoard(this.seen);
+  }
+
+  // ---- links and texts ----
+
+  get link() {
+    return printLink({ ...this.record.game, below: Number(this.#northIsBelow), table: this.opponent.sides });
+  }
+
+  #takeLink(link) {
+    this.record.open(link);
+    this.#northIsBelow = link.below === 1;
+    this.opponent.setSides(...link.table);
+    if (!this.record.isLast) this.opponent.rest();
+  }
+
+  /** Shows what a link says. It throws what is wrong with it. */
+  openLink(text) {
+    const link = parseLink(text);
+    this.stopPlaying();
+    this.#takeLink(link);
+    return this.show().then(() => this.sayVerdict());
+  }
+
+  /** Shows the place of a link by Back or Forward: the rest stays, and the table rests. */
+  comeTo(text) {
+    const link = parseLink(text);
+    this.stopPlaying();
+    this.record.open(link);
+    this.opponent.rest();
+    return this.show().then(() => this.sayVerdict());
+  }
+
+  /** Shows the board or the game that a text spells, or what the link in it says. It throws what is wrong with it. */
+  showText(text) {
+    if (text.includes("#")) return this.openLink(text.trim().slice(text.trim().indexOf("#") + 1));
+    const { board, pits } = parseGame(text), stones = plural(stonesOf(board), "stone");
+    this.stopPlaying();
+    this.opponent.wake();
+    this.record.setUp(board, 0);
+    for (const pit of pits) this.record.play(pit);
+    return this.show({ isStep: true }).then(() => this.listener.say(`${stones}. ${spokenVerdict(this.seen)}`));
+  }
+
+  /** The word of the board that is shown. */
+  get word() { return print(this.shown.state.board); }
+
+  /** The play that is shown as `awari judge` takes it. */
+  get gameText() {
+    const { record: { game }, shown: { shelf } } = this, stones = stonesOf(game.board);
+    return printGame(game, shelf.level(stones) ? shelf.limitTo(stones) : undefined);
   }
 
   // ---- setting up ----
@@ -2230,20 +2621,15 @@ class Session {
   /** @param {Board} board */
   setBoard(board, mover = this.shown.state.mover) {
     this.stopPlaying();
+    this.opponent.wake();
     this.record.setUp(board, mover);
-    return this.show();
-  }
-
-  /** Shows the board that a word spells. It throws what is wrong with the word. */
-  setWord(text) {
-    const board = parse(text.trim()), stones = plural(stonesOf(board), "stone");
-    return this.setBoard(board, 0).then(() => this.listener.say(`${stones}. ${spokenVerdict(this.shown)}`));
+    return this.show({ isStep: true });
   }
 
   setStones(pit, stones) {
     const board = [...this.shown.state.board];
     board[pit] = Math.max(0, stones);
-    const all = stonesOf(board), told = `Pit ${pit}: ${plural(board[pit], "stone")}, ${all} in all`;
+    const all = stonesOf(board), told = `Pit ${this.nameOf(pit)}: ${plural(board[pit], "stone")}, ${all} in all`;
     if (all > MOST_STONES) return this.refuse(`A board has at most ${MOST_STONES} stones`);
     return this.setBoard(board).then(() => this.listener.say(told));
   }
@@ -2271,12 +2657,12 @@ class Session {
   setEditing(isEditing) {
     this.stopPlaying();
     this.shown.isEditing = isEditing;
-    this.listener.drawBoard(this.shown);
+    this.#considerReply();
   }
 
   setTaking(isTaking) {
     this.shown.isTaking = isTaking;
-    this.listener.drawBoard(this.shown);
+    this.listener.drawBoard(this.seen);
   }
 
   turnBoard() {
@@ -2289,11 +2675,29 @@ class Session {
   keepMoverBelow(keeps) {
     this.shown.keepsMoverBelow = keeps;
     this.#laySides();
-    this.listener.drawBoard(this.shown);
+    this.listener.drawBoard(this.seen);
+    this.listener.keepLink(this.link, false);
   }
 
-  /** The word of the board that is shown. */
-  get word() { return print(this.shown.state.board); }
+  setHints(hasHints) {
+    this.shown.hasHints = hasHints;
+    this.#redraw();
+    this.listener.say(`Hints are ${hasHints ? "on" : "off"}. ${spokenVerdict(this.seen)}`);
+  }
+
+  setLetters(hasLetters) {
+    this.shown.hasLetters = hasLetters;
+    this.#redraw();
+    this.listener.say(`Pits have ${hasLetters ? "letters" : "numbers"}`);
+  }
+
+  #redraw() {
+    this.listener.drawBoard(this.seen);
+    this.listener.drawWorth(this.seen);
+    this.listener.drawPlayed(this.seen);
+  }
+
+  nameOf(pit) { return pitName(pit, this.shown.state.mover, this.shown.hasLetters); }
 
   // ---- levels ----
 
@@ -2309,7 +2713,7 @@ class Session {
     this.stopPlaying();
     await this.library.open(chosen);
     await this.show();
-    this.listener.say(this.library.notice ?? `${this.library.title}. ${spokenVerdict(this.shown)}`);
+    this.listener.say(this.library.notice ?? `${this.library.title}. ${spokenVerdict(this.seen)}`);
   }
 
   /** Shows the board of a level that has this rank. */
@@ -2318,14 +2722,49 @@ class Session {
     this.sayVerdict();
   }
 }
+
+function nameOfSides(south, north) {
+  if (south === north) return south ? "both sides" : "neither side";
+  return SIDES[Number(north)];
+}
 return { Session };
+})();
+
+const module_stones = (() => {
+// Stones in a bowl.
+
+const { drawing } = module_elements;
+
+const GOLDEN_ANGLE = 2.399963;
+
+/** How large stones are if there are up to so many. */
+const RADII = [[4, 15], [7, 13], [10, 11], [16, 9.5], [26, 7.6], [48, 6]];
+
+const radiusOf = count => RADII.find(([most]) => count <= most)[1];
+
+/** A picture of so many stones, laid like the seeds of a sunflower. Each number of a pit lays them otherwise. */
+function drawStones(count, pit) {
+  const radius = radiusOf(count), reach = count === 1 ? 0 : Math.min(47 - radius, 1.02 * radius * Math.sqrt(count));
+  const stones = Array.from({ length: count }, (_, index) => {
+    const angle = index * GOLDEN_ANGLE + pit * 1.7;
+    const far = reach * Math.sqrt((index + (count < 4 ? 0.9 : 0.5)) / count);
+    return drawing("circle", {
+      cx: (50 + far * Math.cos(angle)).toFixed(1), cy: (51 + far * Math.sin(angle)).toFixed(1), r: radius,
+      fill: `url(#stone-${(index * 7 + pit) % 3})`, stroke: "#0005", "stroke-width": 0.8,
+    });
+  });
+  return drawing("svg", { viewBox: "0 0 100 100", "aria-hidden": "true" }, ...stones);
+}
+return { drawStones };
 })();
 
 const module_board_view = (() => {
 // The board: twelve pits in two rows, each of them a button, and a line for each player.
 
-const { drawing, element } = module_elements;
+const { element } = module_elements;
+const { letterOf, pitName } = module_letters;
 const { isEnded, isLegal, play, refusalOf } = module_rules;
+const { drawStones } = module_stones;
 const { wordsOfMove } = module_verdict;
 const { kindOf, plural, SIDES, signed } = module_words;
 
@@ -2384,7 +2823,7 @@ class BoardView {
     const { state: { board }, weighed, isEditing } = this.shown;
     const canPlay = !isEditing && isLegal(board, pit);
     const [number, tag, , count] = element.children;
-    number.textContent = pit;
+    number.replaceChildren(...this.nameOf(pit));
     count.textContent = board[pit];
     tag.replaceChildren(...this.tagOf(pit));
     element.dataset.pit = pit;
@@ -2394,6 +2833,13 @@ class BoardView {
     element.classList.toggle("plan", canPlay && weighed?.entry?.plan === pit);
     element.classList.toggle("empty", board[pit] === 0);
     element.classList.toggle("bare", tag.childElementCount === 0);
+  }
+
+  /** A letter stays with its pit. Beside it stands the number by which the mover plays it. */
+  nameOf(pit) {
+    const { state: { mover }, hasLetters } = this.shown;
+    if (!hasLetters) return [String(pit)];
+    return [letterOf(pit, mover), ...(pit < 6 ? [element("small", {}, String(pit))] : [])];
   }
 
   /** What the move from a pit is worth, as it stands on the board. */
@@ -2421,15 +2867,15 @@ class BoardView {
   }
 
   labelOf(pit) {
-    const { state: { board, mover }, weighed, isEditing, isTaking } = this.shown;
+    const { state: { board, mover }, weighed, isEditing, isTaking, hasLetters } = this.shown;
     const side = SIDES[pit < 6 ? mover : 1 - mover];
-    const held = `${side}, pit ${pit}, ${plural(board[pit], "stone")}`;
+    const held = `${side}, pit ${pitName(pit, mover, hasLetters)}, ${plural(board[pit], "stone")}`;
     if (isEditing) return `${held}. ${isTaking ? "Take" : "Add"} a stone`;
     if (pit > 5) return held;
     const refused = refusalOf(board, pit);
     if (refused) return `${held}. ${refused.message}`;
     const move = weighed?.moves.find(each => each.pit === pit);
-    return `${held}. Play${move ? `: ${wordsOfMove(move)}` : ""}`;
+    return `${held}. Play${move ? `: ${wordsOfMove(move, true)}` : ""}`;
   }
 
   layStones(element, pit) {
@@ -2438,7 +2884,7 @@ class BoardView {
     bowl.className = "bowl";
     bowl.style.animationDelay = "";
     // By a number that stays with the pit while the board is turned, so that its stones lie still.
-    bowl.replaceChildren(BoardView.drawStones(board[pit], (pit + 6 * mover) % 12));
+    bowl.replaceChildren(drawStones(board[pit], (pit + 6 * mover) % 12));
     if (move) this.markWhatFell(bowl, move, (pit + 6) % 12);
   }
 
@@ -2454,22 +2900,6 @@ class BoardView {
     }
   }
 
-  /** Stones in a bowl, laid like the seeds of a sunflower. */
-  static drawStones(count, pit) {
-    const GOLDEN_ANGLE = 2.399963;
-    const radius = count <= 4 ? 15 : count <= 7 ? 13 : count <= 10 ? 11 : count <= 16 ? 9.5 : count <= 26 ? 7.6 : 6;
-    const reach = count === 1 ? 0 : Math.min(47 - radius, 1.02 * radius * Math.sqrt(count));
-    const stones = Array.from({ length: count }, (_, index) => {
-      const angle = index * GOLDEN_ANGLE + pit * 1.7;
-      const far = reach * Math.sqrt((index + (count < 4 ? 0.9 : 0.5)) / count);
-      return drawing("circle", {
-        cx: (50 + far * Math.cos(angle)).toFixed(1), cy: (51 + far * Math.sin(angle)).toFixed(1), r: radius,
-        fill: `url(#stone-${(index * 7 + pit) % 3})`, stroke: "#0005", "stroke-width": 0.8,
-      });
-    });
-    return drawing("svg", { viewBox: "0 0 100 100", "aria-hidden": "true" }, ...stones);
-  }
-
   drawPlayers() {
     const { state: { board, mover, captured }, below } = this.shown, hasEnded = isEnded(board);
     [1 - below, below].forEach((side, row) => {
@@ -2478,9 +2908,20 @@ class BoardView {
       this.players[row].replaceChildren(
         element("span", { class: "dot" }),
         element("span", { class: "name" }, SIDES[side]),
-        element("span", { class: "turn" }, isMover && (hasEnded ? "has no move" : "to move")),
+        element("span", { class: "turn" }, this.turnOf(side)),
         element("span", { class: "captured" }, "captured ", stones));
     });
+  }
+
+  /** Whether a side is to move, and whether the table plays it. */
+  turnOf(side) {
+    const { state: { board, mover }, opponent, weighed } = this.shown, isTable = opponent.sides[side];
+    if (side !== mover) return isTable ? "the table" : "";
+    if (isEnded(board)) return "has no move";
+    if (!isTable) return "to move";
+    if (opponent.isResting) return "the table waits";
+    if (opponent.isThinking) return "the table moves…";
+    return weighed?.moves.some(({ fault }) => fault) ? "the table can’t tell" : "the table";
   }
 
   /** Shows where the stones of a pit would fall and what they would capture; of null, nothing. */
@@ -3182,15 +3623,18 @@ const module_worth_view = (() => {
 // What the board that is shown is worth: a verdict, the table of moves, the best line, and what was played.
 
 const { button, element } = module_elements;
+const { thrownBySides } = module_game;
+const { pitName } = module_letters;
+const { compareMoves } = module_opponent;
 const { endGain, isEnded, legalPits, play } = module_rules;
-const { verdictOf, wordsOfMove } = module_verdict;
-const { kindOf, plies, SIDES, signed } = module_words;
+const { verdictOf, wordsOfMove, wordsOfToll } = module_verdict;
+const { grouped, kindOf, plies, SIDES, signed } = module_words;
 
 /** More plies of a line than this are counted, and not shown. */
 const MOST_PLIES_SHOWN = 400;
 
 function makeVerdict(shown) {
-  const { state, weighed } = shown, hasEnded = isEnded(state.board);
+  const { state, weighed, hasHints } = shown, hasEnded = isEnded(state.board);
   const [title, text] = verdictOf(shown);
   const value = hasEnded ? endGain(state.board) : weighed?.entry?.value;
   const kind = value === undefined ? "open" : kindOf(value);
@@ -3200,52 +3644,55 @@ function makeVerdict(shown) {
       element("small", {}, `for ${SIDES[state.mover]}`)),
     element("div", {},
       element("b", {}, title),
-      element("p", {}, text && `${text}.`)));
+      element("p", {}, hasHints || hasEnded ? text && `${text}.` : "Hints are off.")));
 }
 
 // ---- the table of moves ----
 
-/** The best first: known ones, by value; the winner hurries and the loser delays. */
-function compareMoves(one, other) {
-  return Number(Boolean(one.fault)) - Number(Boolean(other.fault))
-    || other.value - one.value
-    || (one.value > 0 ? one.distance - other.distance : other.distance - one.distance)
-    || other.isPlan - one.isPlan
-    || one.pit - other.pit;
-}
-
 function makeMovesTable(shown, hands) {
-  const { state: { board }, weighed } = shown;
+  const { state: { board }, weighed, hasHints } = shown;
   const moves = weighed
     ? [...weighed.moves].sort(compareMoves)
     : legalPits(board).map(pit => play(board, pit));
-  const heads = ["Move", "Captures", "Value", "Within"].map(text => element("th", { scope: "col" }, text));
+  const names = ["Move", "Captures", ...(hasHints ? ["Value", "Within"] : [])];
+  const heads = names.map(text => element("th", { scope: "col" }, text));
   const planHead = element("th", { scope: "col" }, element("span", { class: "unseen" }, "Plan"));
   return element("table", { id: "moves" },
-    element("caption", { class: "unseen" }, "The legal moves, the best first"),
-    element("thead", {}, element("tr", {}, ...heads, planHead)),
-    element("tbody", {}, ...moves.map(move => makeMoveRow(move, hands))));
+    element("caption", { class: "unseen" }, hasHints ? "The legal moves, the best first" : "The legal moves"),
+    element("thead", {}, element("tr", {}, ...heads, hasHints && planHead)),
+    element("tbody", {}, ...moves.map(move => makeMoveRow(move, shown, hands))));
 }
 
-function makeMoveRow(move, hands) {
-  const isKnown = move.value !== undefined && !move.fault;
-  const label = `Play pit ${move.pit}, ${wordsOfMove(move)}`;
-  const playButton = element("button", { type: "button", class: "button", "aria-label": label }, `Pit ${move.pit}`);
+function makeMoveRow(move, { state: { mover }, hasHints, hasLetters }, hands) {
+  const name = pitName(move.pit, mover, hasLetters), label = `Play pit ${name}, ${wordsOfMove(move, hasHints)}`;
+  const playButton = element("button", { type: "button", class: "button", "aria-label": label }, `Pit ${name}`);
   const slam = element("span", { title: "A grand slam: it would take all, and takes nothing" }, "0 (slam)");
-  const value = isKnown
-    ? element("span", { class: `value ${kindOf(move.value)}` }, signed(move.value))
-    : element("span", { class: "soft" }, "?");
   const row = element("tr", { "data-pit": move.pit },
     element("td", {}, playButton),
     element("td", { class: "captures" }, move.isSlam ? slam : String(move.captured)),
-    element("td", {}, value),
-    element("td", { class: "within" }, isKnown && (move.distance ? plies(move.distance) : "–")),
-    element("td", { class: "plan-mark" }, move.isPlan && "plan"));
+    ...(hasHints ? makeWorthCells(move) : []));
   row.addEventListener("click", () => hands.play(move.pit));
   for (const event of ["pointerenter", "focusin"]) row.addEventListener(event, () => hands.preview(move.pit));
   for (const event of ["pointerleave", "focusout"]) row.addEventListener(event, () => hands.preview(null));
   return row;
 }
+
+function makeWorthCells(move) {
+  const isKnown = move.value !== undefined && !move.fault;
+  const value = isKnown
+    ? element("span", { class: `value ${kindOf(move.value)}` }, signed(move.value))
+    : element("span", { class: "soft" }, "?");
+  return [
+    element("td", {}, value),
+    element("td", { class: "within" }, ...(isKnown ? withinOf(move) : [])),
+    element("td", { class: "plan-mark" }, move.isPlan && "plan"),
+  ];
+}
+
+/** The distance. A narrow table has no room for the word behind it. */
+const withinOf = ({ distance }) => distance
+  ? [grouped(distance), element("span", { class: "wide" }, distance === 1 ? " ply" : " plies")]
+  : ["–"];
 
 // ---- what is wrong with it ----
 
@@ -3265,8 +3712,8 @@ function makeRemarks({ weighed, record }) {
 
 /** While the entries are being read, what was there before stays, but faint: nothing flickers. */
 function drawWorth(box, shown, hands) {
-  const isWaiting = !shown.weighed && !isEnded(shown.state.board) ;
-  box.setAttribute("aria-busy", String(!shown.weighed));
+  const isWaiting = !shown.weighed && !isEnded(shown.state.board) && shown.hasHints;
+  box.setAttribute("aria-busy", String(!shown.weighed && shown.hasHints));
   box.classList.toggle("waiting", isWaiting && box.childElementCount > 0);
   if (isWaiting && box.childElementCount > 0) return;
   const hasMoves = !isEnded(shown.state.board);
@@ -3274,41 +3721,53 @@ function drawWorth(box, shown, hands) {
 }
 
 /** Whether the proved code says what is shown. */
-function drawStanding(box, { weighed }) {
-  if (!weighed) return; // what was there before stays, as the worth does
-  box.className = `standing ${weighed.isProved ? "proved" : ""}`;
-  box.textContent = weighed.isProved ? "by the proved code" : weighed.entry ? "not verified" : "";
+function drawStanding(box, { weighed, hasHints }) {
+  if (!weighed && hasHints) return; // what was there before stays, as the worth does
+  box.className = `standing ${weighed?.isProved ? "proved" : ""}`;
+  box.textContent = weighed?.isProved ? "by the proved code" : weighed?.entry ? "not verified" : "";
 }
 
 // ---- plies ----
 
-function makePly({ pit, captured }, mover, label, action, attributes = {}) {
-  const side = SIDES[mover], captures = captured ? `, captures ${captured}` : "";
+/**
+ * A move as a button: its pit, what it captured, and what it threw away.
+ * @param {{ pit: number, captured: number }} ply
+ * @param {number} mover
+ * @param {{ label: string, action: () => void, hasLetters: boolean, toll?: import("./game.mjs").Toll | null }} more
+ * @param {{ class?: string, "aria-current"?: string | false }} attributes
+ */
+function makePly({ pit, captured }, mover, { label, action, hasLetters, toll }, attributes = {}) {
+  const side = SIDES[mover], name = pitName(pit, mover, hasLetters);
+  const captures = captured ? `, captures ${captured}` : "", cost = toll?.thrown ? `, ${wordsOfToll(toll)}` : "";
   const all = {
     ...attributes,
     class: `${side.toLowerCase()} ${attributes.class ?? ""}`,
-    "aria-label": `${label}: ${side}, pit ${pit}${captures}`,
+    title: toll && wordsOfToll(toll),
+    "aria-label": `${label}: ${side}, pit ${name}${captures}${cost}`,
   };
-  return element("li", {}, button(all, action, String(pit), captured > 0 && element("small", {}, `×${captured}`)));
+  return element("li", {}, button(all, action, name,
+    captured > 0 && element("small", {}, `×${captured}`),
+    toll?.thrown > 0 && element("small", { class: "thrown" }, signed(-toll.thrown))));
 }
 
 function drawLine(box, shown, hands) {
-  const { line } = shown;
-  box.setAttribute("aria-busy", String(!line));
-  box.classList.toggle("waiting", !line);
-  if (!line) return;
-  if (line.fault) return box.replaceChildren(element("p", { class: "small soft" }, whyNoLine(shown)));
+  const { line, hasHints, hasLetters } = shown, isWaiting = !line && hasHints;
+  box.setAttribute("aria-busy", String(isWaiting));
+  box.classList.toggle("waiting", isWaiting);
+  if (isWaiting) return;
+  if (!line || line.fault) return box.replaceChildren(element("p", { class: "small soft" }, whyNoLine(shown)));
   const plyList = line.plies.slice(0, MOST_PLIES_SHOWN);
-  const items = plyList.map((ply, index) => makePly(
-    ply, (shown.state.mover + index) % 2, `Go to ply ${index + 1} of the line`,
-    () => hands.follow(plyList.slice(0, index + 1))));
+  const items = plyList.map((ply, index) => makePly(ply, (shown.state.mover + index) % 2, {
+    label: `Go to ply ${index + 1} of the line`, action: () => hands.follow(plyList.slice(0, index + 1)), hasLetters,
+  }));
   box.replaceChildren(
     ...(items.length ? [element("ol", { class: "plies" }, ...items)] : []),
     element("p", { class: "outcome" }, outcomeText(line, plyList.length, shown.state.mover)),
     ...makeLineRemarks(line));
 }
 
-function whyNoLine({ line, weighed }) {
+function whyNoLine({ line, weighed, hasHints }) {
+  if (!hasHints) return "Hints are off.";
   return weighed?.fault ? "There is no line without the entry of this board." : `${line.fault.message}.`;
 }
 
@@ -3328,15 +3787,28 @@ function makeLineRemarks({ outcome, value }) {
   return [element("p", { class: "bad small", role: "alert" }, text)];
 }
 
-function drawPlayed(card, list, score, { record, state }, hands) {
+/** The moves of the play that is shown, its score, and what was thrown away. */
+function drawPlayed({ card, list, score, told }, { record, state, tolls, hasLetters }, hands) {
   const { start, end, at } = record;
   card.hidden = start === end;
-  list.replaceChildren(...record.states.slice(start + 1, end + 1).map(({ move, mover }, offset) => {
-    const index = start + 1 + offset;
+  const items = record.states.slice(start + 1, end + 1).map((to, offset) => {
+    const index = start + 1 + offset, toll = tolls.get(to);
     const attributes = { class: index > at ? "later" : "", "aria-current": index === at && "step" };
-    return makePly(move, 1 - mover, `Go to ply ${offset + 1}`, () => hands.go(index), attributes);
-  }));
+    const ply = { label: `Go to ply ${offset + 1}`, action: () => hands.go(index), hasLetters, toll };
+    return makePly(to.move, 1 - to.mover, ply, attributes);
+  });
+  list.replaceChildren(...items);
   score.textContent = `South ${state.captured[0]} : ${state.captured[1]} North`;
+  told.textContent = thrownText(record.states.slice(start, at + 1), tolls, hasLetters);
+}
+
+/** What the last of these moves cost, and what both sides threw away by all of them. */
+function thrownText(states, tolls, hasLetters) {
+  const { move, mover } = states.at(-1), toll = tolls.get(states.at(-1));
+  if (!move || !toll) return "";
+  const last = `${SIDES[1 - mover]}’s pit ${pitName(move.pit, 1 - mover, hasLetters)} ${wordsOfToll(toll)}.`;
+  const [south, north] = thrownBySides(states, states.slice(1).map(state => tolls.get(state) ?? null));
+  return south + north === 0 ? last : `${last} In all South threw away ${south} and North ${north}.`;
 }
 return { drawWorth, drawStanding, drawLine, drawPlayed };
 })();
@@ -3403,14 +3875,20 @@ class Views {
 
   /** @param {Shown} shown */
   drawState(shown) {
-    const word = print(shown.state.board);
     this.levels.forget();
     this.board.draw(shown);
     this.#drawWorthAndLine(shown);
-    drawPlayed(byId("played-card"), byId("played"), byId("score"), shown, this.playedHands);
+    this.drawPlayed(shown);
     this.levels.draw(stonesOf(shown.state.board));
-    this.#drawWord(word);
-    writeAddress(word);
+    this.#drawWord(print(shown.state.board));
+  }
+
+  keepLink(link, isStep) { writeAddress(link, isStep); }
+
+  /** @param {Shown} shown */
+  drawPlayed(shown) {
+    const parts = { card: byId("played-card"), list: byId("played"), score: byId("score"), told: byId("thrown") };
+    drawPlayed(parts, shown, this.playedHands);
   }
 
   /** @param {Shown} shown */
@@ -3431,6 +3909,9 @@ class Views {
     this.board.draw(shown);
     this.#drawControls(shown);
     byId("keep-low").checked = shown.keepsMoverBelow;
+    byId("hints").checked = shown.hasHints;
+    byId("letters").checked = shown.hasLetters;
+    [byId("table-south").checked, byId("table-north").checked] = shown.opponent.sides;
     byId("setup").hidden = !shown.isEditing;
     for (const [id, isPressed] of [["edit", shown.isEditing], ["adds", !shown.isTaking], ["takes", shown.isTaking]])
       byId(id).setAttribute("aria-pressed", String(isPressed));
@@ -3473,6 +3954,7 @@ const module_page = (() => {
 // The page: a session, its views, and the hands that act on it.
 
 const { readAddress } = module_address;
+const { Choices } = module_choices;
 const { bindHands } = module_hands;
 const { hostedFolder } = module_hosted;
 const { Proved } = module_proved;
@@ -3481,7 +3963,7 @@ const { Views } = module_views;
 
 const startProved = count => new Proved(count);
 
-/** The session of the address. A word in it that is no board is told, and the first board is shown. */
+/** The session of the address. One that is wrong is told, and the first board is shown. */
 function begin() {
   try {
     return { session: new Session(startProved, readAddress() || undefined), fault: null };
@@ -3493,7 +3975,7 @@ function begin() {
 const { session, fault } = begin();
 const views = new Views(session);
 session.listener = views;
-bindHands(session, views);
+bindHands(session, views, new Choices(() => localStorage));
 session.stopPlaying();
 session.show();
 if (fault) views.hint(fault.message);

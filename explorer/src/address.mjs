@@ -1,17 +1,22 @@
 // @ts-check
-// The address of the page, which has a board behind its #.
+// The address of the page, which has a link behind its #.
 
 /** What stands behind the #, empty if nothing does. */
-export function readAddress() {
+export const readAddress = () => location.hash.slice(1);
+
+/** Writes a link there. Back leads from a step to what was shown before it. */
+export function writeAddress(link, isStep) {
+  if (!isStep && history.state && readAddress() === link) return;
   try {
-    return decodeURIComponent(location.hash.slice(1));
-  } catch {
-    return location.hash.slice(1);
-  }
+    if (isStep) history.pushState({ isStep }, "", `#${link}`);
+    else history.replaceState({ isStep }, "", `#${link}`);
+  } catch { /* a page without an address of its own */ }
 }
 
-export function writeAddress(word) {
-  try {
-    history.replaceState(null, "", `#${word}`);
-  } catch { /* a page without an address of its own */ }
+/** Tells of Back and Forward among such steps, and of links that are opened. */
+export function onAddress({ comeTo, openLink }) {
+  addEventListener("popstate", ({ state }) => {
+    const link = readAddress();
+    if (link) (state ? comeTo : openLink)(link);
+  });
 }

@@ -1,8 +1,10 @@
 // @ts-check
 // The board: twelve pits in two rows, each of them a button, and a line for each player.
 
-import { drawing, element } from "./elements.mjs";
+import { element } from "./elements.mjs";
+import { letterOf, pitName } from "./letters.mjs";
 import { isEnded, isLegal, play, refusalOf } from "./rules.mjs";
+import { drawStones } from "./stones.mjs";
 import { wordsOfMove } from "./verdict.mjs";
 import { kindOf, plural, SIDES, signed } from "./words.mjs";
 
@@ -61,7 +63,7 @@ export class BoardView {
     const { state: { board }, weighed, isEditing } = this.shown;
     const canPlay = !isEditing && isLegal(board, pit);
     const [number, tag, , count] = element.children;
-    number.textContent = pit;
+    number.replaceChildren(...this.nameOf(pit));
     count.textContent = board[pit];
     tag.replaceChildren(...this.tagOf(pit));
     element.dataset.pit = pit;
@@ -71,6 +73,13 @@ export class BoardView {
     element.classList.toggle("plan", canPlay && weighed?.entry?.plan === pit);
     element.classList.toggle("empty", board[pit] === 0);
     element.classList.toggle("bare", tag.childElementCount === 0);
+  }
+
+  /** A letter stays with its pit. Beside it stands the number by which the mover plays it. */
+  nameOf(pit) {
+    const { state: { mover }, hasLetters } = this.shown;
+    if (!hasLetters) return [String(pit)];
+    return [letterOf(pit, mover), ...(pit < 6 ? [element("small", {}, String(pit))] : [])];
   }
 
   /** What the move from a pit is worth, as it stands on the board. */
@@ -98,15 +107,15 @@ export class BoardView {
   }
 
   labelOf(pit) {
-    const { state: { board, mover }, weighed, isEditing, isTaking } = this.shown;
+    const { state: { board, mover }, weighed, isEditing, isTaking, hasLetters } = this.shown;
     const side = SIDES[pit < 6 ? mover : 1 - mover];
-    const held = `${side}, pit ${pit}, ${plural(board[pit], "stone")}`;
+    const held = `${side}, pit ${pitName(pit, mover, hasLetters)}, ${plural(board[pit], "stone")}`;
     if (isEditing) return `${held}. ${isTaking ? "Take" : "Add"} a stone`;
     if (pit > 5) return held;
     const refused = refusalOf(board, pit);
     if (refused) return `${held}. ${refused.message}`;
     const move = weighed?.moves.find(each => each.pit === pit);
-    return `${held}. Play${move ? `: ${wordsOfMove(move)}` : ""}`;
+    return `${held}. Play${move ? `: ${wordsOfMove(move, true)}` : ""}`;
   }
 
   layStones(element, pit) {
@@ -115,7 +124,7 @@ export class BoardView {
     bowl.className = "bowl";
     bowl.style.animationDelay = "";
     // By a number that stays with the pit while the board is turned, so that its stones lie still.
-    bowl.replaceChildren(BoardView.drawStones(board[pit], (pit + 6 * mover) % 12));
+    bowl.replaceChildren(drawStones(board[pit], (pit + 6 * mover) % 12));
     if (move) this.markWhatFell(bowl, move, (pit + 6) % 12);
   }
 
@@ -131,22 +140,6 @@ export class BoardView {
     }
   }
 
-  /** Stones in a bowl, laid like the seeds of a sunflower. */
-  static drawStones(count, pit) {
-    const GOLDEN_ANGLE = 2.399963;
-    const radius = count <= 4 ? 15 : count <= 7 ? 13 : count <= 10 ? 11 : count <= 16 ? 9.5 : count <= 26 ? 7.6 : 6;
-    const reach = count === 1 ? 0 : Math.min(47 - radius, 1.02 * radius * Math.sqrt(count));
-    const stones = Array.from({ length: count }, (_, index) => {
-      const angle = index * GOLDEN_ANGLE + pit * 1.7;
-      const far = reach * Math.sqrt((index + (count < 4 ? 0.9 : 0.5)) / count);
-      return drawing("circle", {
-        cx: (50 + far * Math.cos(angle)).toFixed(1), cy: (51 + far * Math.sin(angle)).toFixed(1), r: radius,
-        fill: `url(#stone-${(index * 7 + pit) % 3})`, stroke: "#0005", "stroke-width": 0.8,
-      });
-    });
-    return drawing("svg", { viewBox: "0 0 100 100", "aria-hidden": "true" }, ...stones);
-  }
-
   drawPlayers() {
     const { state: { board, mover, captured }, below } = this.shown, hasEnded = isEnded(board);
     [1 - below, below].forEach((side, row) => {
@@ -155,9 +148,20 @@ export class BoardView {
       this.players[row].replaceChildren(
         element("span", { class: "dot" }),
         element("span", { class: "name" }, SIDES[side]),
-        element("span", { class: "turn" }, isMover && (hasEnded ? "has no move" : "to move")),
+        element("span", { class: "turn" }, this.turnOf(side)),
         element("span", { class: "captured" }, "captured ", stones));
     });
+  }
+
+  /** Whether a side is to move, and whether the table plays it. */
+  turnOf(side) {
+    const { state: { board, mover }, opponent, weighed } = this.shown, isTable = opponent.sides[side];
+    if (side !== mover) return isTable ? "the table" : "";
+    if (isEnded(board)) return "has no move";
+    if (!isTable) return "to move";
+    if (opponent.isResting) return "the table waits";
+    if (opponent.isThinking) return "the table moves…";
+    return weighed?.moves.some(({ fault }) => fault) ? "the table can’t tell" : "the table";
   }
 
   /** Shows where the stones of a pit would fall and what they would capture; of null, nothing. */

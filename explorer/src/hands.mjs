@@ -1,7 +1,7 @@
 // @ts-check
 // What hands and keys do: buttons, fields, what is pasted or dropped, and the address.
 
-import { readAddress } from "./address.mjs";
+import { onAddress } from "./address.mjs";
 import { byId, element } from "./elements.mjs";
 import { filesOfDrop, filesOfInput } from "./files.mjs";
 
@@ -13,20 +13,23 @@ import { filesOfDrop, filesOfInput } from "./files.mjs";
 /** The address of a file that is saved stays so long. */
 const MILLISECONDS_OF_A_DOWNLOAD = 60_000;
 const MILLISECONDS_BETWEEN_DOWNLOADS = 200;
-const KEYS = { b: "best", p: "auto", u: "undo", r: "redo", t: "turn", s: "swap", e: "edit" };
+const KEYS = {
+  b: "best", p: "auto", u: "undo", r: "redo", t: "turn", s: "swap", e: "edit", h: "hints", l: "letters",
+};
 
 const isField = target => /^(INPUT|TEXTAREA|SELECT)$/.test(target.tagName) && target.type !== "checkbox";
 
 /**
  * @param {Session} session
  * @param {Views} views
+ * @param {import("./choices.mjs").Choices} choices
  */
-export function bindHands(session, views) {
+export function bindHands(session, views, choices) {
   const actions = actionsOf(session, views);
   for (const [id, action] of Object.entries(actions)) byId(id).addEventListener("click", action);
-  byId("keep-low").addEventListener("change", () => session.keepMoverBelow(byId("keep-low").checked));
+  bindChoices(session, choices);
   bindWords(session, views);
-  bindKeys(session, actions);
+  bindKeys(session);
   bindFiles(session, views);
   bindBuilding(session, views);
 }
@@ -46,61 +49,93 @@ function actionsOf(session, views) {
     takes: () => session.setTaking(true),
     clear: () => session.clear(),
     random: () => session.setRandomBoard(Number(byId("random-stones").value)),
-    copy: () => copyWord(session, views),
+    copy: () => copy(session.word, "The board", views),
+    "copy-game": () => copy(session.gameText, "The game", views),
+    "copy-link": () => copy(location.href, "The link", views),
   };
 }
 
-function bindKeys(session, actions) {
+/** What is chosen by a box, kept by the browser: whether it is at first, and what it changes. */
+const BOXES = [
+  { id: "keep-low", isAtFirst: false, choose: (session, isChosen) => session.keepMoverBelow(isChosen) },
+  { id: "hints", isAtFirst: true, choose: (session, isChosen) => session.setHints(isChosen) },
+  { id: "letters", isAtFirst: false, choose: (session, isChosen) => session.setLetters(isChosen) },
+  { id: "keys-on", isAtFirst: true, choose: () => {} },
+];
+
+function bindChoices(session, choices) {
+  for (const { id, isAtFirst, choose } of BOXES) {
+    const box = byId(id);
+    box.checked = choices.get(id, isAtFirst);
+    if (box.checked !== isAtFirst) choose(session, box.checked);
+    box.addEventListener("change", () => {
+      choices.set(id, box.checked);
+      choose(session, box.checked);
+    });
+  }
+  const sides = [byId("table-south"), byId("table-north")];
+  for (const side of sides) side.addEventListener("change", () => session.setTable(...sides.map(box => box.checked)));
+}
+
+function bindKeys(session) {
   addEventListener("keydown", event => {
     if (event.defaultPrevented || event.ctrlKey || event.metaKey || event.altKey) return;
     if (!byId("keys-on").checked || isField(event.target)) return;
     if (event.key === "Escape" && session.shown.isEditing) session.setEditing(false);
     else if (/^[0-5]$/.test(event.key) && !session.shown.isEditing) session.play(Number(event.key));
-    else if (event.key in KEYS && !byId(KEYS[event.key]).disabled) actions[KEYS[event.key]]();
+    else if (event.key === "o") session.changeTable();
+    else if (event.key in KEYS) byId(KEYS[event.key]).click();
   });
 }
 
 // ---- words ----
 
-/** Shows the board that a word spells: null, or what is wrong with the word. */
-function showWord(session, views, text) {
+/** Does what a text asks for, or tells what is wrong with the text. */
+function attempt(show, tell) {
   try {
-    session.setWord(text);
-    return null;
+    show();
   } catch (fault) {
-    views.refuseWord(fault);
-    return fault;
+    tell(fault);
   }
 }
 
 function bindWords(session, views) {
-  const showOrHint = text => {
-    const fault = showWord(session, views, text);
-    if (fault) views.hint(fault.message);
+  const tell = fault => {
+    views.refuseWord(fault);
+    views.hint(fault.message);
   };
   byId("word-form").addEventListener("submit", event => {
     event.preventDefault();
-    showWord(session, views, byId("word").value);
+    attempt(() => session.showText(byId("word").value), fault => views.refuseWord(fault));
   });
   document.addEventListener("paste", event => {
     const text = event.clipboardData?.getData("text") ?? "";
-    if (!isField(event.target) && text.includes("/")) showOrHint(text);
+    if (!isField(event.target) && text.includes("/")) attempt(() => session.showText(text), tell);
   });
-  addEventListener("hashchange", () => {
-    const word = readAddress();
-    if (word && word !== session.word) showOrHint(word);
+  onAddress({
+    comeTo: link => attempt(() => session.comeTo(link), tell),
+    openLink: link => attempt(() => session.openLink(link), tell),
   });
 }
 
-async function copyWord(session, views) {
+async function copy(text, name, views) {
   try {
-    await navigator.clipboard.writeText(session.word);
+    await navigator.clipboard.writeText(text);
   } catch {
-    byId("word").select();
-    document.execCommand("copy"); // the older way, for pages to which the newer one is closed
+    copyByField(text); // the older way, for pages to which the newer one is closed
   }
-  views.hint("Copied");
-  views.say("Copied");
+  views.hint(`${name} is copied`);
+  views.say(`${name} is copied`);
+}
+
+function copyByField(text) {
+  const field = element("textarea", { class: "unseen" }), activeElement = /** @type {any} */ (document.activeElement);
+  field.value = text;
+  document.body.append(field);
+  field.select();
+  document.execCommand("copy");
+  field.remove();
+  activeElement?.focus();
 }
 
 // ---- levels ----

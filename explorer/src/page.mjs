@@ -2,6 +2,7 @@
 // The page: a session, its views, and the hands that act on it.
 
 import { readAddress } from "./address.mjs";
+import { Choices } from "./choices.mjs";
 import { bindHands } from "./hands.mjs";
 import { hostedFolder } from "./hosted.mjs";
 import { Proved } from "./proved.mjs";
@@ -10,7 +11,7 @@ import { Views } from "./views.mjs";
 
 const startProved = count => new Proved(count);
 
-/** The session of the address. A word in it that is no board is told, and the first board is shown. */
+/** The session of the address. One that is wrong is told, and the first board is shown. */
 function begin() {
   try {
     return { session: new Session(startProved, readAddress() || undefined), fault: null };
@@ -22,7 +23,7 @@ function begin() {
 const { session, fault } = begin();
 const views = new Views(session);
 session.listener = views;
-bindHands(session, views);
+bindHands(session, views, new Choices(() => localStorage));
 session.stopPlaying();
 session.show();
 if (fault) views.hint(fault.message);

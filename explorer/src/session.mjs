@@ -1,9 +1,13 @@
 // @ts-check
 // What the page shows, and what is done to it: boards, play, set-up and levels. Nothing here knows of elements.
 
+import { parseGame, printGame, tollsOf } from "./game.mjs";
+import { pitName } from "./letters.mjs";
 import { Library } from "./library.mjs";
+import { parseLink, printLink } from "./links.mjs";
+import { Opponent, tableMove } from "./opponent.mjs";
 import { Record } from "./record.mjs";
-import { MOST_STONES, parse, print, randomBoard, refusalOf, stonesOf, turned } from "./rules.mjs";
+import { MOST_STONES, print, randomBoard, refusalOf, stonesOf, turned } from "./rules.mjs";
 import { spokenVerdict } from "./verdict.mjs";
 import { plural, SIDES } from "./words.mjs";
 import { bestLine, weigh } from "./worths.mjs";
@@ -25,6 +29,10 @@ import { bestLine, weigh } from "./worths.mjs";
  * @property {boolean} isEditing whether a click changes a pit
  * @property {boolean} isTaking whether it takes a stone, and does not add one
  * @property {boolean} isPlaying whether the line plays itself
+ * @property {Opponent} opponent what plays the sides that are left to the table
+ * @property {WeakMap<import("./game.mjs").State, import("./game.mjs").Toll | null>} tolls what the moves to states cost
+ * @property {boolean} hasHints whether worths are shown
+ * @property {boolean} hasLetters whether pits have letters
  *
  * @typedef {object} Listener draws what has changed, and tells what is said
  * @property {(shown: Shown) => void} drawState another state is shown, without its worth yet
@@ -33,6 +41,8 @@ import { bestLine, weigh } from "./worths.mjs";
  * @property {(shown: Shown) => void} drawLevels other levels are there
  * @property {(shown: Shown) => void} drawWork levels are being built or verified, or are not any more
  * @property {(shown: Shown) => void} drawPlaying the line plays itself, or has stopped
+ * @property {(shown: Shown) => void} drawPlayed what moves cost has come
+ * @property {(link: string, isStep: boolean) => void} keepLink a step that Back takes back, or the same step otherwise
  * @property {(text: string) => void} say to those who listen
  * @property {(text: string) => void} hint to those who look, for a while
  */
@@ -52,25 +62,31 @@ export class Session {
 
   /**
    * @param {(count: number) => import("./proved.mjs").Proved} startProved starts the proved code with so many levels
-   * @param {string} word the first board, if it is one
+   * @param {string} address what stands behind the # of the page's address
+   * @param {{ setTimeout: Function, clearTimeout: Function }} clock the timers: of the page, or of a test
    */
-  constructor(startProved, word = FIRST_BOARD) {
-    this.record = new Record(parse(word));
+  constructor(startProved, address = FIRST_BOARD, clock = globalThis) {
+    const link = parseLink(address);
+    this.record = new Record(link.board);
+    this.opponent = new Opponent(pit => this.#play(pit), clock);
     this.library = new Library(startProved, () => this.#takeLevels(), () => this.listener.drawWork(this.shown));
     /** @type {Shown} */
     this.shown = {
       record: this.record, state: this.record.now, weighed: null, line: null, below: 0, keepsMoverBelow: false,
       shelf: this.library.shelf, library: this.library, isEditing: false, isTaking: false, isPlaying: false,
+      opponent: this.opponent, tolls: new WeakMap(), hasHints: true, hasLetters: false,
     };
+    this.#takeLink(link);
   }
 
   // ---- showing ----
 
-  /** Shows the state of the record, at first without its worth, and then with it. */
-  async show() {
+  /** Shows the state of the record, at first without its worth, and then with it. Back undoes a step. */
+  async show({ isStep = false } = {}) {
     Object.assign(this.shown, { state: this.record.now, weighed: null, line: null });
     this.#laySides();
-    this.listener.drawState(this.shown);
+    this.listener.drawState(this.seen);
+    this.listener.keepLink(this.link, isStep);
     await this.#weigh();
   }
 
@@ -80,8 +96,10 @@ export class Session {
     const weighed = await weigh(shown.shelf, shown.state.board).catch(() => null);
     if (mine !== this.#turn || !weighed) return;
     shown.weighed = weighed;
-    this.listener.drawWorth(shown);
+    this.listener.drawWorth(this.seen);
+    this.#considerReply();
     this.#showLine(mine);
+    this.#showTolls();
   }
 
   /** The line comes later, since it may be long. Nobody waits for it. */
@@ -90,7 +108,19 @@ export class Session {
     const line = await bestLine(shown.shelf, shown.state.board).catch(fault => ({ fault }));
     if (mine !== this.#turn) return;
     shown.line = line;
-    this.listener.drawWorth(shown);
+    this.listener.drawWorth(this.seen);
+  }
+
+  async #showTolls() {
+    const { record, shown: { shelf, tolls } } = this, states = record.states.slice(record.start, record.end + 1);
+    const found = await tollsOf(states, board => shelf.entry(board).then(({ value }) => value, () => null));
+    for (const [index, toll] of found.entries()) tolls.set(states[index + 1], toll);
+    this.listener.drawPlayed(this.seen);
+  }
+
+  /** What is shown, but for what hints would tell. */
+  get seen() {
+    return this.shown.hasHints ? this.shown : { ...this.shown, weighed: null, line: null, tolls: new WeakMap() };
   }
 
   #laySides() {
@@ -98,7 +128,7 @@ export class Session {
     this.shown.below = keepsMoverBelow ? state.mover : Number(this.#northIsBelow);
   }
 
-  sayVerdict() { this.listener.say(spokenVerdict(this.shown)); }
+  sayVerdict() { this.listener.say(spokenVerdict(this.seen)); }
 
   refuse(text) {
     this.listener.say(text);
@@ -113,11 +143,21 @@ export class Session {
   go(index) {
     this.stopPlaying();
     this.record.go(index);
+    if (this.record.isLast) this.opponent.wake();
+    else this.opponent.rest();
     return this.show();
   }
 
-  undo() { return this.go(this.record.at - 1); }
-  redo() { return this.go(this.record.at + 1); }
+  undo() { return this.go(this.#neighbour(-1)); }
+  redo() { return this.go(this.#neighbour(1)); }
+
+  /** The next state there. Moves of the table are passed over if a hand plays the other side. */
+  #neighbour(step) {
+    const { states, start, end, at } = this.record, [south, north] = this.opponent.sides;
+    const isPassed = index => south !== north && index > start && index < end && this.opponent.isDue(states[index]);
+    const next = at + step;
+    return isPassed(next) ? next + step : next;
+  }
 
   /** To the board from which play began, and from there to the first of all. */
   goToStart() {
@@ -126,45 +166,133 @@ export class Session {
   }
 
   async #play(pit) {
-    const { board, mover } = this.record.now, refused = refusalOf(board, pit);
-    if (refused) return this.refuse(refused.message);
+    const { mover } = this.record.now, name = this.nameOf(pit);
     this.record.play(pit);
     const { captured, isSlam } = this.record.now.move;
-    await this.show();
+    await this.show({ isStep: true });
     const captures = captured ? `, captured ${captured}` : isSlam ? ", a grand slam, which captures nothing" : "";
-    this.listener.say(`${SIDES[mover]} played pit ${pit}${captures}. ${spokenVerdict(this.shown)}`);
+    this.listener.say(`${SIDES[mover]} played pit ${name}${captures}. ${spokenVerdict(this.seen)}`);
   }
 
-  play(pit) {
+  /** What a hand plays, if it may. */
+  async play(pit) {
+    const { board, mover } = this.record.now, refused = refusalOf(board, pit);
+    if (this.#isTablesMove) return this.refuse(`The table plays ${SIDES[mover]}`);
     this.stopPlaying();
+    if (refused) return this.refuse(refused.message);
+    this.opponent.wake();
     return this.#play(pit);
   }
 
   /** Plays a part of the best line at once. */
   follow(plies) {
     this.stopPlaying();
+    this.opponent.wake();
     for (const { pit } of plies) this.record.play(pit);
-    return this.show();
+    return this.show({ isStep: true });
   }
 
   /** A line that goes on for ever is played to its first repetition. */
   async #playOn() {
-    if (this.plan === null || this.record.isRepeated) return this.stopPlaying();
+    if (this.plan === null || this.record.isRepeated) return this.togglePlaying();
     await this.#play(this.plan);
     if (this.shown.isPlaying) this.#playTimer = setTimeout(() => this.#playOn(), MILLISECONDS_A_PLY);
   }
 
   stopPlaying() {
     clearTimeout(this.#playTimer);
+    this.opponent.stop();
     this.shown.isPlaying = false;
     this.listener.drawPlaying(this.shown);
   }
 
   togglePlaying() {
-    if (this.shown.isPlaying) return this.stopPlaying();
+    const isPlaying = !this.shown.isPlaying;
+    this.stopPlaying();
+    if (!isPlaying) return this.#considerReply();
     this.shown.isPlaying = true;
     this.listener.drawPlaying(this.shown);
     this.#playTimer = setTimeout(() => this.#playOn(), MILLISECONDS_TO_THE_FIRST);
+  }
+
+  // ---- the table plays ----
+
+  setTable(south, north) {
+    this.stopPlaying();
+    this.opponent.setSides(south, north);
+    this.listener.say(`The table plays ${nameOfSides(south, north)}`);
+    this.listener.keepLink(this.link, false);
+    this.#considerReply();
+  }
+
+  /** North, South, both and neither in turn. */
+  changeTable() {
+    const [south, north] = this.opponent.sides;
+    return this.setTable(south !== north, !north);
+  }
+
+  /** Whether the move is the table's, unless it turns out that the table can't tell. */
+  get #isTablesMove() {
+    const { opponent, shown: { state, weighed } } = this;
+    return opponent.isDue(state) && !opponent.isResting && (!weighed || tableMove(weighed.moves) !== null);
+  }
+
+  /** Has the table reply if it is its turn. With itself it plays to the first repetition. */
+  #considerReply() {
+    const { opponent, record, shown } = this, { state, weighed, isEditing, isPlaying } = shown;
+    if (record.isRepeated && opponent.sides.every(Boolean)) opponent.rest();
+    else if (weighed && !isEditing && !isPlaying) opponent.consider(state, weighed.moves);
+    this.listener.drawBoard(this.seen);
+  }
+
+  // ---- links and texts ----
+
+  get link() {
+    return printLink({ ...this.record.game, below: Number(this.#northIsBelow), table: this.opponent.sides });
+  }
+
+  #takeLink(link) {
+    this.record.open(link);
+    this.#northIsBelow = link.below === 1;
+    this.opponent.setSides(...link.table);
+    if (!this.record.isLast) this.opponent.rest();
+  }
+
+  /** Shows what a link says. It throws what is wrong with it. */
+  openLink(text) {
+    const link = parseLink(text);
+    this.stopPlaying();
+    this.#takeLink(link);
+    return this.show().then(() => this.sayVerdict());
+  }
+
+  /** Shows the place of a link by Back or Forward: the rest stays, and the table rests. */
+  comeTo(text) {
+    const link = parseLink(text);
+    this.stopPlaying();
+    this.record.open(link);
+    this.opponent.rest();
+    return this.show().then(() => this.sayVerdict());
+  }
+
+  /** Shows the board or the game that a text spells, or what the link in it says. It throws what is wrong with it. */
+  showText(text) {
+    if (text.includes("#")) return this.openLink(text.trim().slice(text.trim().indexOf("#") + 1));
+    const { board, pits } = parseGame(text), stones = plural(stonesOf(board), "stone");
+    this.stopPlaying();
+    this.opponent.wake();
+    this.record.setUp(board, 0);
+    for (const pit of pits) this.record.play(pit);
+    return this.show({ isStep: true }).then(() => this.listener.say(`${stones}. ${spokenVerdict(this.seen)}`));
+  }
+
+  /** The word of the board that is shown. */
+  get word() { return print(this.shown.state.board); }
+
+  /** The play that is shown as `awari judge` takes it. */
+  get gameText() {
+    const { record: { game }, shown: { shelf } } = this, stones = stonesOf(game.board);
+    return printGame(game, shelf.level(stones) ? shelf.limitTo(stones) : undefined);
   }
 
   // ---- setting up ----
@@ -172,20 +300,15 @@ export class Session {
   /** @param {Board} board */
   setBoard(board, mover = this.shown.state.mover) {
     this.stopPlaying();
+    this.opponent.wake();
     this.record.setUp(board, mover);
-    return this.show();
-  }
-
-  /** Shows the board that a word spells. It throws what is wrong with the word. */
-  setWord(text) {
-    const board = parse(text.trim()), stones = plural(stonesOf(board), "stone");
-    return this.setBoard(board, 0).then(() => this.listener.say(`${stones}. ${spokenVerdict(this.shown)}`));
+    return this.show({ isStep: true });
   }
 
   setStones(pit, stones) {
     const board = [...this.shown.state.board];
     board[pit] = Math.max(0, stones);
-    const all = stonesOf(board), told = `Pit ${pit}: ${plural(board[pit], "stone")}, ${all} in all`;
+    const all = stonesOf(board), told = `Pit ${this.nameOf(pit)}: ${plural(board[pit], "stone")}, ${all} in all`;
     if (all > MOST_STONES) return this.refuse(`A board has at most ${MOST_STONES} stones`);
     return this.setBoard(board).then(() => this.listener.say(told));
   }
@@ -213,12 +336,12 @@ export class Session {
   setEditing(isEditing) {
     this.stopPlaying();
     this.shown.isEditing = isEditing;
-    this.listener.drawBoard(this.shown);
+    this.#considerReply();
   }
 
   setTaking(isTaking) {
     this.shown.isTaking = isTaking;
-    this.listener.drawBoard(this.shown);
+    this.listener.drawBoard(this.seen);
   }
 
   turnBoard() {
@@ -231,11 +354,29 @@ export class Session {
   keepMoverBelow(keeps) {
     this.shown.keepsMoverBelow = keeps;
     this.#laySides();
-    this.listener.drawBoard(this.shown);
+    this.listener.drawBoard(this.seen);
+    this.listener.keepLink(this.link, false);
   }
 
-  /** The word of the board that is shown. */
-  get word() { return print(this.shown.state.board); }
+  setHints(hasHints) {
+    this.shown.hasHints = hasHints;
+    this.#redraw();
+    this.listener.say(`Hints are ${hasHints ? "on" : "off"}. ${spokenVerdict(this.seen)}`);
+  }
+
+  setLetters(hasLetters) {
+    this.shown.hasLetters = hasLetters;
+    this.#redraw();
+    this.listener.say(`Pits have ${hasLetters ? "letters" : "numbers"}`);
+  }
+
+  #redraw() {
+    this.listener.drawBoard(this.seen);
+    this.listener.drawWorth(this.seen);
+    this.listener.drawPlayed(this.seen);
+  }
+
+  nameOf(pit) { return pitName(pit, this.shown.state.mover, this.shown.hasLetters); }
 
   // ---- levels ----
 
@@ -251,7 +392,7 @@ export class Session {
     this.stopPlaying();
     await this.library.open(chosen);
     await this.show();
-    this.listener.say(this.library.notice ?? `${this.library.title}. ${spokenVerdict(this.shown)}`);
+    this.listener.say(this.library.notice ?? `${this.library.title}. ${spokenVerdict(this.seen)}`);
   }
 
   /** Shows the board of a level that has this rank. */
@@ -259,4 +400,9 @@ export class Session {
     await this.setBoard(await this.library.proved.ask("board", level, rank), 0);
     this.sayVerdict();
   }
+}
+
+function nameOfSides(south, north) {
+  if (south === north) return south ? "both sides" : "neither side";
+  return SIDES[Number(north)];
 }

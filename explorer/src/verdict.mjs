@@ -2,10 +2,16 @@
 // What boards and moves are worth, in words.
 
 import { endGain, isEnded, stonesOf } from "./rules.mjs";
-import { plies, plural, SIDES, spoken } from "./words.mjs";
+import { plies, plural, SIDES, signed, spoken } from "./words.mjs";
 
 const endsAhead = (lead, side) =>
   lead === 0 ? "the two end level" : `${SIDES[lead > 0 ? side : 1 - side]} ends ${Math.abs(lead)} ahead`;
+
+/** How many stones a move threw away, and of what. */
+export function wordsOfToll({ before, after, thrown }) {
+  if (thrown === 0) return `keeps the worth, ${signed(before)}`;
+  return `threw away ${plural(thrown, "stone")}: worth ${signed(before)} before, ${signed(after)} after`;
+}
 
 /** A heading and a sentence on what the board is worth. */
 export function verdictOf({ state, weighed }) {
@@ -35,11 +41,11 @@ function verdictOfEnd(state) {
 export const spokenVerdict = shown => verdictOf(shown).filter(Boolean).join(". ");
 
 /** A grand slam and a capture, a value and a distance of a move, in words for a voice. */
-export function wordsOfMove(move) {
+export function wordsOfMove(move, hasHints) {
   const worth = move.fault || move.value === undefined ? "its worth is not known" : `worth ${spoken(move.value)}`;
   return [
     move.captured ? `captures ${move.captured}` : move.isSlam ? "a grand slam, captures nothing" : "captures nothing",
-    worth,
+    ...(hasHints ? [worth] : []),
     ...(move.distance ? [`within ${plies(move.distance)}`] : []),
     ...(move.isPlan ? ["the plan"] : []),
   ].join(", ");

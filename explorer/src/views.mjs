@@ -60,14 +60,20 @@ export class Views {
 
   /** @param {Shown} shown */
   drawState(shown) {
-    const word = print(shown.state.board);
     this.levels.forget();
     this.board.draw(shown);
     this.#drawWorthAndLine(shown);
-    drawPlayed(byId("played-card"), byId("played"), byId("score"), shown, this.playedHands);
+    this.drawPlayed(shown);
     this.levels.draw(stonesOf(shown.state.board));
-    this.#drawWord(word);
-    writeAddress(word);
+    this.#drawWord(print(shown.state.board));
+  }
+
+  keepLink(link, isStep) { writeAddress(link, isStep); }
+
+  /** @param {Shown} shown */
+  drawPlayed(shown) {
+    const parts = { card: byId("played-card"), list: byId("played"), score: byId("score"), told: byId("thrown") };
+    drawPlayed(parts, shown, this.playedHands);
   }
 
   /** @param {Shown} shown */
@@ -88,6 +94,9 @@ export class Views {
     this.board.draw(shown);
     this.#drawControls(shown);
     byId("keep-low").checked = shown.keepsMoverBelow;
+    byId("hints").checked = shown.hasHints;
+    byId("letters").checked = shown.hasLetters;
+    [byId("table-south").checked, byId("table-north").checked] = shown.opponent.sides;
     byId("setup").hidden = !shown.isEditing;
     for (const [id, isPressed] of [["edit", shown.isEditing], ["adds", !shown.isTaking], ["takes", shown.isTaking]])
       byId(id).setAttribute("aria-pressed", String(isPressed));

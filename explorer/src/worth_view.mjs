@@ -2,15 +2,18 @@
 // What the board that is shown is worth: a verdict, the table of moves, the best line, and what was played.
 
 import { button, element } from "./elements.mjs";
+import { thrownBySides } from "./game.mjs";
+import { pitName } from "./letters.mjs";
+import { compareMoves } from "./opponent.mjs";
 import { endGain, isEnded, legalPits, play } from "./rules.mjs";
-import { verdictOf, wordsOfMove } from "./verdict.mjs";
-import { kindOf, plies, SIDES, signed } from "./words.mjs";
+import { verdictOf, wordsOfMove, wordsOfToll } from "./verdict.mjs";
+import { grouped, kindOf, plies, SIDES, signed } from "./words.mjs";
 
 /** More plies of a line than this are counted, and not shown. */
 const MOST_PLIES_SHOWN = 400;
 
 function makeVerdict(shown) {
-  const { state, weighed } = shown, hasEnded = isEnded(state.board);
+  const { state, weighed, hasHints } = shown, hasEnded = isEnded(state.board);
   const [title, text] = verdictOf(shown);
   const value = hasEnded ? endGain(state.board) : weighed?.entry?.value;
   const kind = value === undefined ? "open" : kindOf(value);
@@ -20,52 +23,55 @@ function makeVerdict(shown) {
       element("small", {}, `for ${SIDES[state.mover]}`)),
     element("div", {},
       element("b", {}, title),
-      element("p", {}, text && `${text}.`)));
+      element("p", {}, hasHints || hasEnded ? text && `${text}.` : "Hints are off.")));
 }
 
 // ---- the table of moves ----
 
-/** The best first: known ones, by value; the winner hurries and the loser delays. */
-function compareMoves(one, other) {
-  return Number(Boolean(one.fault)) - Number(Boolean(other.fault))
-    || other.value - one.value
-    || (one.value > 0 ? one.distance - other.distance : other.distance - one.distance)
-    || other.isPlan - one.isPlan
-    || one.pit - other.pit;
-}
-
 function makeMovesTable(shown, hands) {
-  const { state: { board }, weighed } = shown;
+  const { state: { board }, weighed, hasHints } = shown;
   const moves = weighed
     ? [...weighed.moves].sort(compareMoves)
     : legalPits(board).map(pit => play(board, pit));
-  const heads = ["Move", "Captures", "Value", "Within"].map(text => element("th", { scope: "col" }, text));
+  const names = ["Move", "Captures", ...(hasHints ? ["Value", "Within"] : [])];
+  const heads = names.map(text => element("th", { scope: "col" }, text));
   const planHead = element("th", { scope: "col" }, element("span", { class: "unseen" }, "Plan"));
   return element("table", { id: "moves" },
-    element("caption", { class: "unseen" }, "The legal moves, the best first"),
-    element("thead", {}, element("tr", {}, ...heads, planHead)),
-    element("tbody", {}, ...moves.map(move => makeMoveRow(move, hands))));
+    element("caption", { class: "unseen" }, hasHints ? "The legal moves, the best first" : "The legal moves"),
+    element("thead", {}, element("tr", {}, ...heads, hasHints && planHead)),
+    element("tbody", {}, ...moves.map(move => makeMoveRow(move, shown, hands))));
 }
 
-function makeMoveRow(move, hands) {
-  const isKnown = move.value !== undefined && !move.fault;
-  const label = `Play pit ${move.pit}, ${wordsOfMove(move)}`;
-  const playButton = element("button", { type: "button", class: "button", "aria-label": label }, `Pit ${move.pit}`);
+function makeMoveRow(move, { state: { mover }, hasHints, hasLetters }, hands) {
+  const name = pitName(move.pit, mover, hasLetters), label = `Play pit ${name}, ${wordsOfMove(move, hasHints)}`;
+  const playButton = element("button", { type: "button", class: "button", "aria-label": label }, `Pit ${name}`);
   const slam = element("span", { title: "A grand slam: it would take all, and takes nothing" }, "0 (slam)");
-  const value = isKnown
-    ? element("span", { class: `value ${kindOf(move.value)}` }, signed(move.value))
-    : element("span", { class: "soft" }, "?");
   const row = element("tr", { "data-pit": move.pit },
     element("td", {}, playButton),
     element("td", { class: "captures" }, move.isSlam ? slam : String(move.captured)),
-    element("td", {}, value),
-    element("td", { class: "within" }, isKnown && (move.distance ? plies(move.distance) : "–")),
-    element("td", { class: "plan-mark" }, move.isPlan && "plan"));
+    ...(hasHints ? makeWorthCells(move) : []));
   row.addEventListener("click", () => hands.play(move.pit));
   for (const event of ["pointerenter", "focusin"]) row.addEventListener(event, () => hands.preview(move.pit));
   for (const event of ["pointerleave", "focusout"]) row.addEventListener(event, () => hands.preview(null));
   return row;
 }
+
+function makeWorthCells(move) {
+  const isKnown = move.value !== undefined && !move.fault;
+  const value = isKnown
+    ? element("span", { class: `value ${kindOf(move.value)}` }, signed(move.value))
+    : element("span", { class: "soft" }, "?");
+  return [
+    element("td", {}, value),
+    element("td", { class: "within" }, ...(isKnown ? withinOf(move) : [])),
+    element("td", { class: "plan-mark" }, move.isPlan && "plan"),
+  ];
+}
+
+/** The distance. A narrow table has no room for the word behind it. */
+const withinOf = ({ distance }) => distance
+  ? [grouped(distance), element("span", { class: "wide" }, distance === 1 ? " ply" : " plies")]
+  : ["–"];
 
 // ---- what is wrong with it ----
 
@@ -85,8 +91,8 @@ function makeRemarks({ weighed, record }) {
 
 /** While the entries are being read, what was there before stays, but faint: nothing flickers. */
 export function drawWorth(box, shown, hands) {
-  const isWaiting = !shown.weighed && !isEnded(shown.state.board) ;
-  box.setAttribute("aria-busy", String(!shown.weighed));
+  const isWaiting = !shown.weighed && !isEnded(shown.state.board) && shown.hasHints;
+  box.setAttribute("aria-busy", String(!shown.weighed && shown.hasHints));
   box.classList.toggle("waiting", isWaiting && box.childElementCount > 0);
   if (isWaiting && box.childElementCount > 0) return;
   const hasMoves = !isEnded(shown.state.board);
@@ -94,41 +100,53 @@ export function drawWorth(box, shown, hands) {
 }
 
 /** Whether the proved code says what is shown. */
-export function drawStanding(box, { weighed }) {
-  if (!weighed) return; // what was there before stays, as the worth does
-  box.className = `standing ${weighed.isProved ? "proved" : ""}`;
-  box.textContent = weighed.isProved ? "by the proved code" : weighed.entry ? "not verified" : "";
+export function drawStanding(box, { weighed, hasHints }) {
+  if (!weighed && hasHints) return; // what was there before stays, as the worth does
+  box.className = `standing ${weighed?.isProved ? "proved" : ""}`;
+  box.textContent = weighed?.isProved ? "by the proved code" : weighed?.entry ? "not verified" : "";
 }
 
 // ---- plies ----
 
-function makePly({ pit, captured }, mover, label, action, attributes = {}) {
-  const side = SIDES[mover], captures = captured ? `, captures ${captured}` : "";
+/**
+ * A move as a button: its pit, what it captured, and what it threw away.
+ * @param {{ pit: number, captured: number }} ply
+ * @param {number} mover
+ * @param {{ label: string, action: () => void, hasLetters: boolean, toll?: import("./game.mjs").Toll | null }} more
+ * @param {{ class?: string, "aria-current"?: string | false }} attributes
+ */
+function makePly({ pit, captured }, mover, { label, action, hasLetters, toll }, attributes = {}) {
+  const side = SIDES[mover], name = pitName(pit, mover, hasLetters);
+  const captures = captured ? `, captures ${captured}` : "", cost = toll?.thrown ? `, ${wordsOfToll(toll)}` : "";
   const all = {
     ...attributes,
     class: `${side.toLowerCase()} ${attributes.class ?? ""}`,
-    "aria-label": `${label}: ${side}, pit ${pit}${captures}`,
+    title: toll && wordsOfToll(toll),
+    "aria-label": `${label}: ${side}, pit ${name}${captures}${cost}`,
   };
-  return element("li", {}, button(all, action, String(pit), captured > 0 && element("small", {}, `×${captured}`)));
+  return element("li", {}, button(all, action, name,
+    captured > 0 && element("small", {}, `×${captured}`),
+    toll?.thrown > 0 && element("small", { class: "thrown" }, signed(-toll.thrown))));
 }
 
 export function drawLine(box, shown, hands) {
-  const { line } = shown;
-  box.setAttribute("aria-busy", String(!line));
-  box.classList.toggle("waiting", !line);
-  if (!line) return;
-  if (line.fault) return box.replaceChildren(element("p", { class: "small soft" }, whyNoLine(shown)));
+  const { line, hasHints, hasLetters } = shown, isWaiting = !line && hasHints;
+  box.setAttribute("aria-busy", String(isWaiting));
+  box.classList.toggle("waiting", isWaiting);
+  if (isWaiting) return;
+  if (!line || line.fault) return box.replaceChildren(element("p", { class: "small soft" }, whyNoLine(shown)));
   const plyList = line.plies.slice(0, MOST_PLIES_SHOWN);
-  const items = plyList.map((ply, index) => makePly(
-    ply, (shown.state.mover + index) % 2, `Go to ply ${index + 1} of the line`,
-    () => hands.follow(plyList.slice(0, index + 1))));
+  const items = plyList.map((ply, index) => makePly(ply, (shown.state.mover + index) % 2, {
+    label: `Go to ply ${index + 1} of the line`, action: () => hands.follow(plyList.slice(0, index + 1)), hasLetters,
+  }));
   box.replaceChildren(
     ...(items.length ? [element("ol", { class: "plies" }, ...items)] : []),
     element("p", { class: "outcome" }, outcomeText(line, plyList.length, shown.state.mover)),
     ...makeLineRemarks(line));
 }
 
-function whyNoLine({ line, weighed }) {
+function whyNoLine({ line, weighed, hasHints }) {
+  if (!hasHints) return "Hints are off.";
   return weighed?.fault ? "There is no line without the entry of this board." : `${line.fault.message}.`;
 }
 
@@ -148,13 +166,26 @@ function makeLineRemarks({ outcome, value }) {
   return [element("p", { class: "bad small", role: "alert" }, text)];
 }
 
-export function drawPlayed(card, list, score, { record, state }, hands) {
+/** The moves of the play that is shown, its score, and what was thrown away. */
+export function drawPlayed({ card, list, score, told }, { record, state, tolls, hasLetters }, hands) {
   const { start, end, at } = record;
   card.hidden = start === end;
-  list.replaceChildren(...record.states.slice(start + 1, end + 1).map(({ move, mover }, offset) => {
-    const index = start + 1 + offset;
+  const items = record.states.slice(start + 1, end + 1).map((to, offset) => {
+    const index = start + 1 + offset, toll = tolls.get(to);
     const attributes = { class: index > at ? "later" : "", "aria-current": index === at && "step" };
-    return makePly(move, 1 - mover, `Go to ply ${offset + 1}`, () => hands.go(index), attributes);
-  }));
+    const ply = { label: `Go to ply ${offset + 1}`, action: () => hands.go(index), hasLetters, toll };
+    return makePly(to.move, 1 - to.mover, ply, attributes);
+  });
+  list.replaceChildren(...items);
   score.textContent = `South ${state.captured[0]} : ${state.captured[1]} North`;
+  told.textContent = thrownText(record.states.slice(start, at + 1), tolls, hasLetters);
+}
+
+/** What the last of these moves cost, and what both sides threw away by all of them. */
+function thrownText(states, tolls, hasLetters) {
+  const { move, mover } = states.at(-1), toll = tolls.get(states.at(-1));
+  if (!move || !toll) return "";
+  const last = `${SIDES[1 - mover]}’s pit ${pitName(move.pit, 1 - mover, hasLetters)} ${wordsOfToll(toll)}.`;
+  const [south, north] = thrownBySides(states, states.slice(1).map(state => tolls.get(state) ?? null));
+  return south + north === 0 ? last : `${last} In all South threw away ${south} and North ${north}.`;
 }

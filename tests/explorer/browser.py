@@ -17,6 +17,7 @@ import building
 import files
 import hosted
 import looks
+import playing
 from driven import FIRST, TALLY, Page, check, end_section, pits_of, random_board, run, signed, unsigned, until
 from selenium.webdriver.common.action_chains import ActionChains
 from selenium.webdriver.common.keys import Keys
@@ -333,6 +334,9 @@ def test_page(given, made):
         setting_up(page, awari, folder)
         words(page)
         line_plays_itself(page)
+        playing.play(page, awari, folder)
+        page.begin()
+        page.open(folder)
         levels_agree(page, awari)
         levels_are_verified(page, awari, folder)
         pictures_agree(page, awari, folder)

@@ -48,6 +48,9 @@ export const run = (...words) => spawnSync(awari, words, { encoding: "utf8", max
 export const fileOf = (bytes, name) => new File([bytes], name);
 export const filesIn = place => readdirSync(place).map(name => fileOf(readFileSync(join(place, name)), name));
 
+/** A listener of a session that hears what `own` has, and nothing else. */
+export const listenerOf = (own = {}) => new Proxy(own, { get: (_, name) => own[name] ?? (() => {}) });
+
 /** What comes of a call, or its refusal as the program prints it. */
 export function caught(call) {
   try {

@@ -10,7 +10,7 @@ import { Library } from "../../explorer/src/library.mjs";
 import { Session } from "../../explorer/src/session.mjs";
 import { Shelf } from "../../explorer/src/shelf.mjs";
 import { weigh } from "../../explorer/src/worths.mjs";
-import { below, end, expect, fileOf, filesIn, folder, module, Proved, run, section } from "./checked.mjs";
+import { below, end, expect, fileOf, filesIn, folder, listenerOf, module, Proved, run, section } from "./checked.mjs";
 
 const HIGHEST = 12;
 const read = number => readFileSync(join(folder, nameOf(number)));
@@ -152,16 +152,13 @@ await section("levels that are built, opened and closed", async () => {
 });
 
 await section("a level that is stopped, and a page that is played on without a browser", async () => {
-  const nothing = () => {};
   const session = new Session(count => new Proved(count));
-  session.listener = Object.fromEntries(["drawState", "drawWorth", "drawBoard", "drawLevels", "drawWork", "drawPlaying",
-    "say", "hint"].map(name => [name, nothing]));
-  session.listener.drawWork = ({ library }) => library.work?.share > 0.2 && library.stop();
+  session.listener = listenerOf({ drawWork: ({ library }) => library.work?.share > 0.2 && library.stop() });
   await session.library.begin();
   await session.library.build(11);
   expect("stopped", session.library.length > 6 && session.library.length < 12, true);
-  session.listener.drawWork = nothing;
-  await session.setWord("1,0,0,0,0,1/1,0,1,0,0,0");
+  session.listener = listenerOf();
+  await session.showText("1,0,0,0,0,1/1,0,1,0,0,0");
   expect("its worth", [session.shown.weighed.entry, session.plan], [{ value: 4, plan: 5, distance: 1 }, 5]);
   await session.play(session.plan);
   expect("played", [session.word, session.shown.state.captured], [run("move", "1,0,0,0,0,1/1,0,1,0,0,0", "5").split(" ")[0], [2, 0]]);

@@ -53,28 +53,39 @@ def contrast(page, folder, made):
     wrong = made / "contrast"
     copy_levels(folder, wrong, 9)
     (wrong / "level_03.awdb").write_bytes(b"GIF8")
-    page.js("document.getElementById('help').open = true")
+    open_texts(page)
+    page.click("#table-north")
     for dark, there in itertools.product([False, True], [folder, wrong]):
         page.look(1240, 900, dark)
         page.open(there)
         page.show("1,0,2,0,1,1/1,2,1,0,0,1")
-        for _ in range(3):
-            page.press("b")
-            page.click("#best" if page.at("#best").is_enabled() else "#turn")
+        page.click(".pit.open")
+        until(lambda: len(page.all("#played li")) == 2)
+        page.settle()
+        page.click(".pit.open")
+        page.click("#letters")
         page.click("#undo")
         until(lambda: page.all("#picture-values") or page.all("#summary .status"))
         check(f"contrast, {'dark' if dark else 'light'}, {there.name}", page.js(CONTRAST), [])
+    page.click("#table-north")
     page.look(1240, 900)
     page.open(folder)
     end_section("contrast of every text, light and dark")
 
 
+def open_texts(page, are_open=True):
+    """Opens the help, or shuts it."""
+    page.js("document.getElementById('help').open = arguments[0]", are_open)
+
+
 def names(page):
+    open_texts(page)
     page.click("#edit")
     for element in page.all("button, input, [role]"):
         if not page.js("return arguments[0].closest('[hidden]')", element) and element.get_attribute("role") != "alert":
             check(f"name of {element.get_attribute('outerHTML')[:80]}", bool(element.accessible_name.strip()))
     page.click("#edit")
+    open_texts(page, False)
     ids = page.js("return [...document.querySelectorAll('[id]')].map(element => element.id)")
     check("no name is given twice", len(ids), len(set(ids)))
     end_section("names for a voice")
@@ -106,13 +117,20 @@ WIDE = """return [...document.querySelectorAll('.card *')].filter(it => it.offse
 
 
 def widths(page):
+    open_texts(page)
+    page.click("#letters")
     for width in WIDTHS:
         page.look(width, 800)
-        page.show("12,3,0,1,0,1/0,3,0,0,2,1" if width % 20 else "0,2,1,1,3,1/1,0,1,0,0,0")
-        until(lambda: page.all("#picture-values") or page.all("#summary .status"))
-        check(f"fits into {width}", page.js("return document.documentElement.scrollWidth <= innerWidth"))
-        check(f"fits into its card, {width}", page.js(WIDE), [])
-        check(f"large enough for fingers, {width}", page.js(SMALL), [])
+        many = "12,3,0,1,0,1/0,3,0,0,2,1" if width % 20 else "0,2,1,1,3,1/1,0,1,0,0,0"
+        for board in ["0,0,0,3,0,2/1,0,2,2,0,0", many]:
+            page.show(board)
+            until(lambda: page.all("#picture-values") or page.all("#summary .status"))
+            # a phone widens its window for what doesn't fit in
+            check(f"{board} fits into {width}", page.js("return document.documentElement.scrollWidth") <= width)
+            check(f"it fits into its cards, {width}", page.js(WIDE), [])
+            check(f"large enough for fingers, {width}", page.js(SMALL), [])
+    page.click("#letters")
+    open_texts(page, False)
     page.look(1240, 900)
     end_section(f"widths of {WIDTHS[0]} to {WIDTHS[-1]}")
 
@@ -151,6 +169,8 @@ def take_pictures(folder, pictures, made):
             take_board(page, pictures / f"{name}.png", board)
             if name == "dark":
                 take_played(page, pictures)
+            if name in ["light", "phone"]:
+                take_play(page, pictures / f"{name}_play.png")
             if name == "phone":
                 page.click("#edit")
                 page.picture(pictures / "phone_setup.png")
@@ -167,6 +187,22 @@ def take_board(page, path, board):
     until(lambda: page.all("#picture-values") or page.all("#summary .status"))
     time.sleep(0.3)
     page.picture(path)
+
+
+def take_play(page, path):
+    """A game against the table, with letters, and the help below it."""
+    page.click("#table-north")
+    page.click("#letters")
+    for plies in [2, 4, 6]:
+        page.click(".pit.open:not(.plan)" if page.all(".pit.open:not(.plan)") else ".pit.open")
+        until(lambda plies=plies: len(page.all("#played li")) == plies)
+        page.settle()
+    open_texts(page)
+    time.sleep(0.3)
+    page.picture(path)
+    open_texts(page, False)
+    page.click("#letters")
+    page.click("#table-north")
 
 
 def take_played(page, pictures):

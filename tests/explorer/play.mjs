@@ -1,5 +1,5 @@
-// Tests what explorer/src has for play: games and their text, the opponent, addresses, letters and choices.
-// checked.mjs says how.
+// Tests what explorer/src has for play: games and their text, the opponent, addresses, letters, choices, and a session
+// that has them all. checked.mjs says how.
 import { execFileSync } from "node:child_process";
 import { readFileSync } from "node:fs";
 import { join } from "node:path";
@@ -12,7 +12,8 @@ import { parseLink, printLink } from "../../explorer/src/links.mjs";
 import { compareMoves, Opponent, tableMove } from "../../explorer/src/opponent.mjs";
 import { Record } from "../../explorer/src/record.mjs";
 import { endGain, isEnded, legalPits, parse, print, randomBoard } from "../../explorer/src/rules.mjs";
-import { awari, below, end, expect, folder, module, run, section } from "./checked.mjs";
+import { Session } from "../../explorer/src/session.mjs";
+import { awari, below, end, expect, folder, listenerOf, module, Proved, run, section } from "./checked.mjs";
 
 const HIGHEST = 10;
 const FIRST = "1,0,0,0,0,1/1,0,1,0,0,0";
@@ -257,6 +258,85 @@ await section("a record that opens games", () => {
   expect("another game takes the place of all", shown(), [1, 2, "5", 1]);
   record.open({ ...game, pits: [5], at: 0, mover: 1 });
   expect("so does the other side's", [record.game.mover, shown()], [1, [0, 2, "5", 0]]);
+});
+
+/** A session, what it said and where it led, and a clock that rings when it is told to. */
+function sessionAt(address) {
+  const told = { said: "", links: [], steps: 0 }, due = new Map();
+  let timers = 0;
+  const session = new Session(count => new Proved(count), address, {
+    setTimeout: call => due.set(++timers, call) && timers,
+    clearTimeout: timer => due.delete(timer),
+  });
+  session.listener = listenerOf({
+    say: text => { told.said = text; },
+    keepLink: (link, isStep) => {
+      told.links.push(link);
+      told.steps += Number(isStep);
+    },
+  });
+  const settled = () => new Promise(done => { setTimeout(done, 20); });
+  const ring = async () => {
+    const calls = [...due.values()];
+    due.clear();
+    for (const call of calls) await call();
+    await settled();
+  };
+  return { session, told, ring, settled };
+}
+
+const pitsShown = session => session.record.game.pits.join("");
+
+await section("a session with the table, without a browser", async () => {
+  const { session, told, ring } = sessionAt(`${FIRST}&table=north`);
+  await session.show();
+  await session.library.begin();
+  await ring();
+  expect("the table waits for South", [pitsShown(session), session.link], ["", `${FIRST}&table=north`]);
+  await session.play(0);
+  await session.play(2);
+  expect("no hand plays for the table", [pitsShown(session), told.said], ["0", "The table plays North"]);
+  await ring();
+  expect("it replies", [session.record.at, told.links.at(-1)], [2, `${FIRST}&moves=${pitsShown(session)}&table=north`]);
+  expect("each move is a step", told.steps, 2);
+  const tolls = session.record.states.slice(1).map(state => session.shown.tolls.get(state)?.thrown);
+  expect("what South threw away", [tolls, session.shown.state.captured], [[8, 0], [0, 0]]);
+  await session.undo();
+  await ring();
+  expect("undo takes back both, and the table rests", [session.record.at, session.link.includes("&at=0")], [0, true]);
+  await session.play(5);
+  await ring();
+  expect("another move wakes it", [pitsShown(session)[0], session.record.at], ["5", 2]);
+  expect("the score", session.shown.state.captured[0], 2);
+});
+
+await section("a session with links, texts and hints, without a browser", async () => {
+  const { session, told, settled } = sessionAt(`${FIRST}&mover=north&moves=0213&at=2&below=north`);
+  await session.show();
+  await session.library.begin();
+  expect("the place of the link", [session.record.at, session.shown.state.mover, session.shown.below], [2, 1, 1]);
+  await session.comeTo(`${FIRST}&mover=north&moves=0`);
+  expect("Back keeps what is behind", [session.record.at, pitsShown(session)], [1, "0213"]);
+  session.turnBoard();
+  expect("the board is turned", [session.shown.below, told.links.at(-1)], [0, `${FIRST}&mover=north&moves=0213&at=1`]);
+  expect("a game as text", session.gameText.split(" ").filter((_, at) => at !== 1).join(" "), `${FIRST} 0 2 1 3`);
+  await session.showText(`awari judge ${FIRST} 9 02`);
+  expect("a text is shown", [session.record.at - session.record.start, pitsShown(session)], [2, "02"]);
+  for (const text of ["hello", `${FIRST} 9 03`, `#${FIRST}&at=x`]) {
+    const before = session.link;
+    expect(`refused: ${text}`, refusalOfText(wrong => session.showText(wrong), text) !== null, true);
+    expect(`nothing changes: ${text}`, session.link, before);
+  }
+  await session.showText(`https://example.org/explorer/?levels=there#${FIRST}&moves=5`);
+  expect("a link is shown", [pitsShown(session), session.shown.state.captured], ["5", [2, 0]]);
+  await settled();
+  expect("with hints", [session.seen.weighed !== null, told.said.includes("loses 2")], [true, true]);
+  session.setHints(false);
+  expect("without hints", [session.seen.weighed, session.seen.line], [null, null]);
+  session.setLetters(true);
+  await session.go(0);
+  await session.play(0);
+  expect("letters are said", told.said.startsWith("South played pit A. North to move"), true);
 });
 
 await section("letters", () => {
