@@ -190,17 +190,30 @@ class Levels {
    */
   line(board) {
     const outcome = this.entry(board).value;
-    for (let room = 1024; ; ) {
-      const place = this.#room(room);
-      try {
-        expect(this.#calls.awari_line(this.#handle, this.#board(board), place, BigInt(room), this.#out));
-        const count = Number(this.#view(8).getBigUint64(0, true));
-        if (count <= room) return { moves: [...this.#bytes(place, count)], outcome };
-        room = count;
-      } finally {
-        this.#calls.page_free(place);
-      }
-    }
+    return { moves: this.#moves(board, this.#calls.awari_line), outcome };
+  }
+
+  /**
+   * The play in which the side that gains follows its plans, and the other holds out as long as it can. It is
+   * refused as `line` is.
+   * @param {Board} board
+   * @returns {number[]}
+   */
+  longestLine(board) {
+    return this.#moves(board, this.#calls.awari_longest_line);
+  }
+
+  /**
+   * How many boards of a level are won, even and lost for the mover, and the greatest distance of its boards.
+   * It is refused as 59.
+   * @returns {{ won: number, even: number, lost: number, limit: number }}
+   */
+  counts(level) {
+    if (!Number.isInteger(level) || level < 0 || level > HIGHEST_LEVEL) throw new Refused(59);
+    expect(this.#calls.awari_counts(this.#handle, level, this.#out));
+    const told = this.#view(16);
+    const [won, even, lost, limit] = [0, 4, 8, 12].map(at => told.getUint32(at, true));
+    return { won, even, lost, limit };
   }
 
   /**
@@ -241,6 +254,21 @@ class Levels {
   /** Forgets all levels, and one that was begun. */
   close() {
     this.#calls.awari_close(this.#handle);
+  }
+
+  /** The pits of a line. It is asked for again where it has more moves than there was room for. */
+  #moves(board, lineOf) {
+    for (let room = 1024; ; ) {
+      const place = this.#room(room);
+      try {
+        expect(lineOf(this.#handle, this.#board(board), place, BigInt(room), this.#out));
+        const count = Number(this.#view(8).getBigUint64(0, true));
+        if (count <= room) return [...this.#bytes(place, count)];
+        room = count;
+      } finally {
+        this.#calls.page_free(place);
+      }
+    }
   }
 
   /** Lays a board where the module reads it, and says where. */
@@ -1214,6 +1242,139 @@ class Proved {
   }
 }
 return { Proved };
+})();
+
+const module_stones = (() => {
+// Stones in a bowl.
+
+const { drawing } = module_elements;
+
+const GOLDEN_ANGLE = 2.399963;
+
+/** How large stones are if there are up to so many. */
+const RADII = [[4, 15], [7, 13], [10, 11], [16, 9.5], [26, 7.6], [48, 6]];
+
+const radiusOf = count => RADII.find(([most]) => count <= most)[1];
+
+/** A picture of so many stones, laid like the seeds of a sunflower. Each number of a pit lays them otherwise. */
+function drawStones(count, pit) {
+  const radius = radiusOf(count), reach = count === 1 ? 0 : Math.min(47 - radius, 1.02 * radius * Math.sqrt(count));
+  const stones = Array.from({ length: count }, (_, index) => {
+    const angle = index * GOLDEN_ANGLE + pit * 1.7;
+    const far = reach * Math.sqrt((index + (count < 4 ? 0.9 : 0.5)) / count);
+    return drawing("circle", {
+      cx: (50 + far * Math.cos(angle)).toFixed(1), cy: (51 + far * Math.sin(angle)).toFixed(1), r: radius,
+      fill: `url(#stone-${(index * 7 + pit) % 3})`, stroke: "#0005", "stroke-width": 0.8,
+    });
+  });
+  return drawing("svg", { viewBox: "0 0 100 100", "aria-hidden": "true" }, ...stones);
+}
+return { drawStones };
+})();
+
+const module_rules_view = (() => {
+// The pictures of the rules: a board before a move and after its sowing, for each figure that names the two.
+
+const { button, drawing, element } = module_elements;
+const { parse, play, refusalOf } = module_rules;
+const { drawStones } = module_stones;
+
+/**
+ * @typedef {import("./rules.mjs").Board} Board
+ *
+ * @typedef {object} Marks what is marked at a pit
+ * @property {(pit: number) => string} ring the class of a ring around it, or nothing
+ * @property {(pit: number) => string} chip the text of a chip on it, or nothing
+ */
+
+/** In the units of a picture: the width of a pit, the margin, a bowl, and what stands where in the upper row. */
+const PIT = 96, EDGE = 20, BOWL = 42;
+const UPPER = { number: 28, bowl: 86, count: 150 };
+const WIDTH = 2 * EDGE + 6 * PIT, HEIGHT = 346;
+
+/**
+ * @param {Board} board
+ * @param {number} pit
+ * @param {Marks} marks
+ */
+function drawPit(board, pit, { ring, chip }) {
+  const isUpper = pit > 5, x = EDGE + PIT * ((isUpper ? 11 - pit : pit) + 0.5);
+  const placeOf = part => isUpper ? UPPER[part] : HEIGHT - UPPER[part], y = placeOf("bowl");
+  const write = (name, part, text) =>
+    drawing("text", { class: name, x, y: placeOf(part), dy: ".35em" }, String(text));
+  const stones = drawStones(board[pit], pit);
+  for (const [name, value] of Object.entries({ x: x - BOWL, y: y - BOWL, width: 2 * BOWL, height: 2 * BOWL }))
+    stones.setAttribute(name, String(value));
+  return drawing("g", {},
+    drawing("circle", { class: `hollow ${ring(pit)}`, cx: x, cy: y, r: BOWL }),
+    stones,
+    write("pit-number", "number", pit),
+    write(board[pit] ? "pit-count" : "pit-count none", "count", board[pit]),
+    chip(pit) !== "" && drawChip(x + BOWL - 8, y - BOWL + 12, chip(pit)));
+}
+
+const drawChip = (x, y, text) => drawing("g", { class: "chip" },
+  drawing("rect", { x: x - 21, y: y - 15, width: 42, height: 30, rx: 11 }),
+  drawing("text", { x, y, dy: ".35em" }, text));
+
+/** What a voice reads of a picture. */
+const wordsOfBoard = board =>
+  `pits 0 to 5 hold ${board.slice(0, 6).join(", ")}, and pits 6 to 11 ${board.slice(6).join(", ")}`;
+
+/**
+ * @param {Board} board
+ * @param {string} when
+ * @param {Marks} marks
+ */
+const drawSmallBoard = (board, when, marks) =>
+  drawing("svg", {
+    class: "small-board", viewBox: `0 0 ${WIDTH} ${HEIGHT}`,
+    role: "img", "aria-label": `${when}: ${wordsOfBoard(board)}`,
+  },
+  drawing("rect", { class: "wood", x: 3, y: 3, width: WIDTH - 6, height: HEIGHT - 6, rx: 30 }),
+  drawing("line", { class: "ridge", x1: EDGE, x2: WIDTH - EDGE, y1: HEIGHT / 2, y2: HEIGHT / 2 }),
+  ...board.map((_, pit) => drawPit(board, pit, marks)));
+
+/** A board with its stones sown, and nothing captured yet. */
+function sownBoard(board, { pit, falls }) {
+  const sown = [...board];
+  sown[pit] = 0;
+  for (const fall of falls) sown[fall] += 1;
+  return sown;
+}
+
+function drawBefore(board, { pit: origin }) {
+  const isRefused = pit => pit < 6 && board[pit] > 0 && refusalOf(board, pit) !== null;
+  return drawSmallBoard(board, "Before", {
+    ring: pit => pit === origin ? "origin-ring" : isRefused(pit) ? "refused-ring" : "",
+    chip: pit => isRefused(pit) ? "✕" : "",
+  });
+}
+
+function drawSown(board, move) {
+  const timesOf = pit => move.falls.filter(fall => fall === pit).length;
+  return drawSmallBoard(sownBoard(board, move), "Sown", {
+    ring: pit => move.taken.includes(pit) ? "taken-ring" : "",
+    chip: pit => timesOf(pit) ? `+${timesOf(pit)}` : "",
+  });
+}
+
+/**
+ * Fills each figure that names a board and a pit. The button of a figure shows its board.
+ * @param {NodeListOf<HTMLElement>} figures
+ * @param {{ showBoard: (board: Board) => void }} hands
+ */
+function drawExamples(figures, hands) {
+  for (const figure of figures) {
+    const board = parse(figure.dataset.board), move = play(board, Number(figure.dataset.pit));
+    const arrow = element("span", { class: "arrow", "aria-hidden": "true" }, "→");
+    const caption = figure.querySelector("figcaption");
+    const named = { class: "button small-button", "aria-label": `Show on the board: ${caption.textContent}` };
+    figure.prepend(element("div", { class: "steps" }, drawBefore(board, move), arrow, drawSown(board, move)));
+    caption.append(" ", button(named, () => hands.showBoard(board), "Show on the board"));
+  }
+}
+return { drawExamples };
 })();
 
 const module_game = (() => {
@@ -2730,34 +2891,6 @@ function nameOfSides(south, north) {
 return { Session };
 })();
 
-const module_stones = (() => {
-// Stones in a bowl.
-
-const { drawing } = module_elements;
-
-const GOLDEN_ANGLE = 2.399963;
-
-/** How large stones are if there are up to so many. */
-const RADII = [[4, 15], [7, 13], [10, 11], [16, 9.5], [26, 7.6], [48, 6]];
-
-const radiusOf = count => RADII.find(([most]) => count <= most)[1];
-
-/** A picture of so many stones, laid like the seeds of a sunflower. Each number of a pit lays them otherwise. */
-function drawStones(count, pit) {
-  const radius = radiusOf(count), reach = count === 1 ? 0 : Math.min(47 - radius, 1.02 * radius * Math.sqrt(count));
-  const stones = Array.from({ length: count }, (_, index) => {
-    const angle = index * GOLDEN_ANGLE + pit * 1.7;
-    const far = reach * Math.sqrt((index + (count < 4 ? 0.9 : 0.5)) / count);
-    return drawing("circle", {
-      cx: (50 + far * Math.cos(angle)).toFixed(1), cy: (51 + far * Math.sin(angle)).toFixed(1), r: radius,
-      fill: `url(#stone-${(index * 7 + pit) % 3})`, stroke: "#0005", "stroke-width": 0.8,
-    });
-  });
-  return drawing("svg", { viewBox: "0 0 100 100", "aria-hidden": "true" }, ...stones);
-}
-return { drawStones };
-})();
-
 const module_board_view = (() => {
 // The board: twelve pits in two rows, each of them a button, and a line for each player.
 
@@ -3840,6 +3973,12 @@ class Views {
       add: (pit, stones) => session.addStones(pit, stones),
       set: (pit, stones) => session.setStones(pit, stones),
     });
+    this.exampleHands = {
+      showBoard: board => {
+        session.setBoard(board, 0).then(() => session.sayVerdict());
+        byId("board").scrollIntoView({ block: "nearest" });
+      },
+    };
     this.levels = new LevelsView({ card: byId("levels-card"), buttons: byId("levels"), summary: byId("summary") }, {
       showRank: (level, rank) => {
         session.showRank(level, rank);
@@ -3958,6 +4097,7 @@ const { Choices } = module_choices;
 const { bindHands } = module_hands;
 const { hostedFolder } = module_hosted;
 const { Proved } = module_proved;
+const { drawExamples } = module_rules_view;
 const { Session } = module_session;
 const { Views } = module_views;
 
@@ -3976,6 +4116,7 @@ const { session, fault } = begin();
 const views = new Views(session);
 session.listener = views;
 bindHands(session, views, new Choices(() => localStorage));
+drawExamples(document.querySelectorAll("figure.example"), views.exampleHands);
 session.stopPlaying();
 session.show();
 if (fault) views.hint(fault.message);

@@ -6,6 +6,7 @@ import { Choices } from "./choices.mjs";
 import { bindHands } from "./hands.mjs";
 import { hostedFolder } from "./hosted.mjs";
 import { Proved } from "./proved.mjs";
+import { drawExamples } from "./rules_view.mjs";
 import { Session } from "./session.mjs";
 import { Views } from "./views.mjs";
 
@@ -24,6 +25,7 @@ const { session, fault } = begin();
 const views = new Views(session);
 session.listener = views;
 bindHands(session, views, new Choices(() => localStorage));
+drawExamples(document.querySelectorAll("figure.example"), views.exampleHands);
 session.stopPlaying();
 session.show();
 if (fault) views.hint(fault.message);

@@ -25,6 +25,12 @@ export class Views {
       add: (pit, stones) => session.addStones(pit, stones),
       set: (pit, stones) => session.setStones(pit, stones),
     });
+    this.exampleHands = {
+      showBoard: board => {
+        session.setBoard(board, 0).then(() => session.sayVerdict());
+        byId("board").scrollIntoView({ block: "nearest" });
+      },
+    };
     this.levels = new LevelsView({ card: byId("levels-card"), buttons: byId("levels"), summary: byId("summary") }, {
       showRank: (level, rank) => {
         session.showRank(level, rank);

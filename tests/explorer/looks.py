@@ -74,8 +74,8 @@ def contrast(page, folder, made):
 
 
 def open_texts(page, are_open=True):
-    """Opens the help, or shuts it."""
-    page.js("document.getElementById('help').open = arguments[0]", are_open)
+    """Opens the help and the rules, or shuts them."""
+    page.js("for (const name of ['help', 'rules']) document.getElementById(name).open = arguments[0]", are_open)
 
 
 def names(page):
@@ -190,7 +190,7 @@ def take_board(page, path, board):
 
 
 def take_play(page, path):
-    """A game against the table, with letters, and the help below it."""
+    """A game against the table, with letters, and the rules below it."""
     page.click("#table-north")
     page.click("#letters")
     for plies in [2, 4, 6]:

@@ -1,4 +1,4 @@
-"""Play against the table, games that are copied and pasted, links, letters, and hints."""
+"""Play against the table, games that are copied and pasted, links, letters, hints, and the rules."""
 from driven import FIRST, check, end_section, pits_of, run, until
 from selenium.webdriver.common.keys import Keys
 
@@ -220,6 +220,29 @@ def letters_and_hints(page):
     end_section("letters and hints")
 
 
+def rules(page, awari):
+    page.begin(FIRST)
+    page.js("document.getElementById('rules').open = true")
+    check("ten sentences", len(page.all("#rules li")), 10)
+    check("four pictures of two boards", [len(page.all(".example")), len(page.all(".small-board"))], [4, 8])
+    for figure in page.all(".example"):
+        board = figure.get_attribute("data-board")
+        drawn = page.js("""return [...arguments[0].querySelectorAll('.small-board')].map(board =>
+          [...board.querySelectorAll('g > svg')].map(bowl => bowl.querySelectorAll('circle').length))""", figure)
+        check(f"stones of {board}", drawn[0], pits_of(board))
+        check(f"no stone is lost in {board}", sum(drawn[1]), sum(pits_of(board)))
+        captured = int(run(awari, "move", board, figure.get_attribute("data-pit")).split()[1])
+        taken = page.js("""return [...arguments[0].querySelectorAll('.taken-ring')]
+          .map(ring => ring.parentElement.querySelectorAll('circle').length - 1)""", figure)
+        check(f"what is taken of {board}", [sum(taken), len(taken)], [captured, 2 if captured else 0])
+    feeding = page.at(".example:has(.refused-ring)").get_attribute("data-board")
+    check("a pit that must not be played", run(awari, "move", feeding, 3), "refused 6 MustFeed")
+    page.click(".example[data-pit='3'] .button")
+    check("an example on the board", page.word(), page.at(".example[data-pit='3']").get_attribute("data-board"))
+    page.js("document.getElementById('rules').open = false")
+    end_section("the rules and their pictures")
+
+
 def phones(page):
     page.begin(FIRST)
     page.look(320, 640)
@@ -229,6 +252,9 @@ def phones(page):
     page.click(".pit[data-pit='0']")
     reply(page, 2)
     check("a move and a reply", len(page.plies("#played")), 2)
+    page.js("document.getElementById('rules').open = true")
+    check("the rules fit in", page.js("return document.documentElement.scrollWidth") <= 320)
+    page.js("document.getElementById('rules').open = false")
     page.look(1240, 900)
     end_section("play on a phone")
 
@@ -242,4 +268,5 @@ def play(page, awari, folder):
     links(page)
     pasted_games(page, awari, folder)
     letters_and_hints(page)
+    rules(page, awari)
     phones(page)
