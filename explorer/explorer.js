@@ -499,12 +499,19 @@ const drawing = (name, attributes = {}, ...children) =>
 
 const icon = name => drawing("svg", { "aria-hidden": "true" }, drawing("use", { href: `#icon-${name}` }));
 
+/** Puts other children into a box. If one of the old had the keyboard, the first of the new that matches gets it. */
+function refill(box, children, matching = "button") {
+  const hasKeyboard = box.querySelector(":focus-visible") !== null;
+  box.replaceChildren(...children);
+  if (hasKeyboard) box.querySelector(matching)?.focus({ preventScroll: true });
+}
+
 function button(attributes, action, ...children) {
   const made = element("button", { type: "button", ...attributes }, ...children);
   made.addEventListener("click", action);
   return made;
 }
-return { byId, element, drawing, icon, button };
+return { byId, element, drawing, icon, refill, button };
 })();
 
 const module_files = (() => {
@@ -3755,7 +3762,7 @@ return { drawNotice };
 const module_worth_view = (() => {
 // What the board that is shown is worth: a verdict, the table of moves, the best line, and what was played.
 
-const { button, element } = module_elements;
+const { button, element, refill } = module_elements;
 const { thrownBySides } = module_game;
 const { pitName } = module_letters;
 const { compareMoves } = module_opponent;
@@ -3850,7 +3857,7 @@ function drawWorth(box, shown, hands) {
   box.classList.toggle("waiting", isWaiting && box.childElementCount > 0);
   if (isWaiting && box.childElementCount > 0) return;
   const hasMoves = !isEnded(shown.state.board);
-  box.replaceChildren(makeVerdict(shown), ...(hasMoves ? [makeMovesTable(shown, hands)] : []), ...makeRemarks(shown));
+  refill(box, [makeVerdict(shown), ...(hasMoves ? [makeMovesTable(shown, hands)] : []), ...makeRemarks(shown)]);
 }
 
 /** Whether the proved code says what is shown. */
@@ -3893,10 +3900,11 @@ function drawLine(box, shown, hands) {
   const items = plyList.map((ply, index) => makePly(ply, (shown.state.mover + index) % 2, {
     label: `Go to ply ${index + 1} of the line`, action: () => hands.follow(plyList.slice(0, index + 1)), hasLetters,
   }));
-  box.replaceChildren(
+  refill(box, [
     ...(items.length ? [element("ol", { class: "plies" }, ...items)] : []),
     element("p", { class: "outcome" }, outcomeText(line, plyList.length, shown.state.mover)),
-    ...makeLineRemarks(line));
+    ...makeLineRemarks(line),
+  ]);
 }
 
 function whyNoLine({ line, weighed, hasHints }) {
@@ -3930,9 +3938,15 @@ function drawPlayed({ card, list, score, told }, { record, state, tolls, hasLett
     const ply = { label: `Go to ply ${offset + 1}`, action: () => hands.go(index), hasLetters, toll };
     return makePly(to.move, 1 - to.mover, ply, attributes);
   });
-  list.replaceChildren(...items);
+  refill(list, items, "[aria-current]");
+  scrollTo(list, list.querySelector("[aria-current]"));
   score.textContent = `South ${state.captured[0]} : ${state.captured[1]} North`;
   told.textContent = thrownText(record.states.slice(start, at + 1), tolls, hasLetters);
+}
+
+/** Scrolls a list, and not the page, so that an element is in its middle. */
+function scrollTo(list, element) {
+  if (element) list.scrollTop = element.offsetTop - list.offsetTop - list.clientHeight / 2;
 }
 
 /** What the last of these moves cost, and what both sides threw away by all of them. */

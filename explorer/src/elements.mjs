@@ -25,6 +25,13 @@ export const drawing = (name, attributes = {}, ...children) =>
 
 export const icon = name => drawing("svg", { "aria-hidden": "true" }, drawing("use", { href: `#icon-${name}` }));
 
+/** Puts other children into a box. If one of the old had the keyboard, the first of the new that matches gets it. */
+export function refill(box, children, matching = "button") {
+  const hasKeyboard = box.querySelector(":focus-visible") !== null;
+  box.replaceChildren(...children);
+  if (hasKeyboard) box.querySelector(matching)?.focus({ preventScroll: true });
+}
+
 export function button(attributes, action, ...children) {
   const made = element("button", { type: "button", ...attributes }, ...children);
   made.addEventListener("click", action);

@@ -1,7 +1,7 @@
 // @ts-check
 // What the board that is shown is worth: a verdict, the table of moves, the best line, and what was played.
 
-import { button, element } from "./elements.mjs";
+import { button, element, refill } from "./elements.mjs";
 import { thrownBySides } from "./game.mjs";
 import { pitName } from "./letters.mjs";
 import { compareMoves } from "./opponent.mjs";
@@ -96,7 +96,7 @@ export function drawWorth(box, shown, hands) {
   box.classList.toggle("waiting", isWaiting && box.childElementCount > 0);
   if (isWaiting && box.childElementCount > 0) return;
   const hasMoves = !isEnded(shown.state.board);
-  box.replaceChildren(makeVerdict(shown), ...(hasMoves ? [makeMovesTable(shown, hands)] : []), ...makeRemarks(shown));
+  refill(box, [makeVerdict(shown), ...(hasMoves ? [makeMovesTable(shown, hands)] : []), ...makeRemarks(shown)]);
 }
 
 /** Whether the proved code says what is shown. */
@@ -139,10 +139,11 @@ export function drawLine(box, shown, hands) {
   const items = plyList.map((ply, index) => makePly(ply, (shown.state.mover + index) % 2, {
     label: `Go to ply ${index + 1} of the line`, action: () => hands.follow(plyList.slice(0, index + 1)), hasLetters,
   }));
-  box.replaceChildren(
+  refill(box, [
     ...(items.length ? [element("ol", { class: "plies" }, ...items)] : []),
     element("p", { class: "outcome" }, outcomeText(line, plyList.length, shown.state.mover)),
-    ...makeLineRemarks(line));
+    ...makeLineRemarks(line),
+  ]);
 }
 
 function whyNoLine({ line, weighed, hasHints }) {
@@ -176,9 +177,15 @@ export function drawPlayed({ card, list, score, told }, { record, state, tolls, 
     const ply = { label: `Go to ply ${offset + 1}`, action: () => hands.go(index), hasLetters, toll };
     return makePly(to.move, 1 - to.mover, ply, attributes);
   });
-  list.replaceChildren(...items);
+  refill(list, items, "[aria-current]");
+  scrollTo(list, list.querySelector("[aria-current]"));
   score.textContent = `South ${state.captured[0]} : ${state.captured[1]} North`;
   told.textContent = thrownText(record.states.slice(start, at + 1), tolls, hasLetters);
+}
+
+/** Scrolls a list, and not the page, so that an element is in its middle. */
+function scrollTo(list, element) {
+  if (element) list.scrollTop = element.offsetTop - list.offsetTop - list.clientHeight / 2;
 }
 
 /** What the last of these moves cost, and what both sides threw away by all of them. */

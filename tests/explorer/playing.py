@@ -220,6 +220,36 @@ def letters_and_hints(page):
     end_section("letters and hints")
 
 
+def keys_stay(page):
+    """Keys are not sent back to the top by what is drawn anew."""
+    page.begin(f"{FIRST}&moves=0213")
+    until(lambda: page.all("#moves button"))
+    page.focus("#moves button")
+    focused = lambda: page.js("return document.activeElement.closest('[id]').id")
+    page.press(Keys.ENTER)
+    check("in the table of moves", [len(page.plies("#played")), focused()], [5, "moves"])
+    page.focus("#played li:nth-child(2) button")
+    page.press(Keys.ENTER)
+    current = page.js("return document.activeElement.getAttribute('aria-current')")
+    check("at the ply that is shown", [len(page.all("#played .later")), current], [3, "step"])
+    end_section("keys that stay where they are")
+
+
+def long_games(page):
+    """Of many plies the one that is shown is in sight."""
+    page.look(390, 844)
+    page.begin(f"1,0,0,0,0,0/0,1,0,0,0,0&moves={'011223344550' * 6}")
+    until(lambda: page.all("#line .outcome"))
+    in_sight = """const list = document.getElementById('played'), ply = list.querySelector('[aria-current]');
+      const box = list.getBoundingClientRect(), at = ply.getBoundingClientRect();
+      return at.top >= box.top && at.bottom <= box.bottom"""
+    check("the last ply", page.js(in_sight))
+    page.press("u")
+    check("the one before it", page.js(in_sight))
+    page.look(1240, 900)
+    end_section("long games")
+
+
 def rules(page, awari):
     page.begin(FIRST)
     page.js("document.getElementById('rules').open = true")
@@ -268,5 +298,7 @@ def play(page, awari, folder):
     links(page)
     pasted_games(page, awari, folder)
     letters_and_hints(page)
+    keys_stay(page)
+    long_games(page)
     rules(page, awari)
     phones(page)
