@@ -117,8 +117,8 @@ export class Levels {
   /**
    * Builds a slice of the level that was begun: spreads boards of one distance, about so many, or opens a gain.
    * It is refused as 59 if no level was begun, and as 53, and then the level is lost.
-   * @returns {{ boards: number, gain: number, settled: boolean }} how many boards were spread, the gain that is
-   * open, and whether all gains are closed
+   * @returns {{ boards: number, gain: number, settled: boolean }} how many boards of the level are settled and were
+   * spread so far, the gain that is open, and whether all gains are closed
    */
   spread(boards = SLICE) {
     expect(this.#calls.awari_spread(this.#handle, BigInt(boards), this.#out));

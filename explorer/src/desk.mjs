@@ -29,11 +29,10 @@ export class Desk {
   async build(told) {
     this.#isStopped = false;
     this.#levels.begin();
-    for (let done = 0, isSettled = false; !isSettled; ) {
+    for (let isSettled = false; !isSettled; ) {
       const { boards, settled } = this.#levels.spread();
-      done += boards;
       isSettled = settled;
-      told(done);
+      told(boards);
       await new Promise(next => setTimeout(next));
       if (this.#isStopped) return null;
     }
