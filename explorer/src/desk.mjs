@@ -5,6 +5,9 @@ import { Levels } from "../../bindings/awari.mjs";
 
 /** @typedef {import("../../bindings/awari.mjs").Board} Board */
 
+/** The thread works so long before it gives way. */
+const MILLISECONDS_OF_WORK = 40;
+
 const bytesOfText = text => Uint8Array.from(atob(text), character => character.charCodeAt(0));
 
 export class Desk {
@@ -22,7 +25,7 @@ export class Desk {
   get length() { return this.#levels?.length ?? 0; }
 
   /**
-   * Builds the next level in slices, and gives way after each, so that boards are answered meanwhile.
+   * Builds the next level in slices, and gives way now and then, so that boards are answered meanwhile.
    * @param {(boards: number) => void} told hears how many boards are done
    * @returns {Promise<Uint8Array | null>} its file, or null if it was stopped
    */
@@ -30,13 +33,22 @@ export class Desk {
     this.#isStopped = false;
     this.#levels.begin();
     for (let isSettled = false; !isSettled; ) {
-      const { boards, settled } = this.#levels.spread();
+      const { boards, settled } = this.#spreadForAWhile();
       isSettled = settled;
       told(boards);
       await new Promise(next => setTimeout(next));
       if (this.#isStopped) return null;
     }
     return this.#levels.finish();
+  }
+
+  /** A slice ends with its distance, and many distances have few boards: there are slices until one would wait. */
+  #spreadForAWhile() {
+    const begun = performance.now();
+    let told;
+    do told = this.#levels.spread();
+    while (!told.settled && performance.now() - begun < MILLISECONDS_OF_WORK);
+    return told;
   }
 
   stop() { this.#isStopped = true; }
