@@ -1,14 +1,15 @@
 -- The command `build`: what is printed of the levels that were built.
-use Rattle.std.specs.Prelude.{◌≡◌, ◌<◌, ◌≤◌, ◌⊎◌, ◌+◌, ℕ, List, ◌++◌, length, Option, None}
+use Rattle.std.specs.Prelude.{◌≡◌, ◌<◌, ◌≤◌, ◌⊎◌, ◌+◌, ℕ, List, [], ◌∷◌, ◌++◌, length, Option, None, Some}
 use Rattle.std.specs.Io.KnownBytes.{Appends}
-use Rattle.awari_answers.specs.LevelLines.{level_lines}
+use Rattle.awari_answers.specs.LevelLines.{level_line, level_lines}
 use Rattle.awari_build.specs.BuildFault.{fault_text as build_fault_text}
 use Rattle.awari_folder.specs.FolderFault.{fault_text as folder_fault_text}
 use Rattle.awari_play.specs.Least.{HasLowestPlans}
-use Rattle.awari_table.specs.Shelves.{IsShelf}
+use Rattle.awari_table.specs.Shelves.{Consistent, IsShelf}
 use Rattle.awari_table.specs.declared.images.Image.{Image}
-use Rattle.awari_folder.specs.Contents.{AreNames, HoldsIn, IsStored, LeavesNoMore, Same}
-use Rattle.awari_folder.specs.Migration.{IsWholeFile}
+use Rattle.awari_folder.specs.Contents.{AreNames, HoldsIn, IsStored, LeavesNoMore, Same, SameBut}
+use Rattle.awari_folder.specs.Migration.{IsWholeFile, KeepsFiles}
+use Rattle.awari_folder.specs.State.{State}
 use Rattle.awari_cli.specs.declared.building.BuildingFault.{BuildingFault}
 use Rattle.awari_cli.specs.declared.building.BuildingFault.TheVariants.{Build, Folder}
 
@@ -41,6 +42,22 @@ SameOutside low top old new = (n : ℕ) → (n < low) ⊎ (top < n) → new n �
 -- A crash may leave nothing else than before, but a whole file under the names from level `low` on that had none.
 abbrev pub LeavesFiles : ℕ → (ℕ → Option (List ℕ)) → (ℕ → Option (List ℕ) → Type 0) → (ℕ → Option (List ℕ) → Type 0) → Type 0
 LeavesFiles low names old new = (n : ℕ) (left : Option (List ℕ)) → new n left → old n left ⊎ ((low ≤ n) × (names n ≡ None) × IsWholeFile left)
+
+-- A level's name alone may have changed: a file that had it stays, and a crash leaves a whole file under it if it had none.
+pub record AddsFile (level : ℕ) (old new : State) : Type 0 where
+  pub others : SameBut level old.stands new.stands
+  pub kept : KeepsFiles old.stands new.stands
+  pub crash : (names : ℕ → Option (List ℕ)) → old.stands level ≡ Some (names level) → LeavesFiles level names old.may_leave new.may_leave
+
+-- A level was saved over the file that ends in `below`, and its own ends in `own`. Then its line was printed.
+pub record SavesLevel (image : Image) (below own : List ℕ) (old new : State) (before after : Option (List ℕ)) : Type 0 where
+  pub holds : (under : List Image) → HoldsIn old.stands under below → Consistent under image → HoldsIn new.stands (under ++ image ∷ []) own
+  pub told : Appends before after (level_line image ++ 10 ∷ [])
+
+-- the same of the level on top of a shelf
+pub record SavesTop (shelf : List Image) (below own : List ℕ) (old new : State) (before after : Option (List ℕ)) : Type 0 where
+  pub holds : (under : List Image) (image : Image) → shelf ≡ under ++ image ∷ [] → HoldsIn old.stands under below → HoldsIn new.stands shelf own
+  pub told : (under : List Image) (image : Image) → shelf ≡ under ++ image ∷ [] → Appends before after (level_line image ++ 10 ∷ [])
 
 -- Nothing is changed, or levels were stored and each of their files stays, as does what has the names above `top`; and a crash
 -- leaves what it might have left before, or a whole file under a name above those levels that had none.

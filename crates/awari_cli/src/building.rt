@@ -1,26 +1,28 @@
 //! The command `build`: levels built one on another.
 
-ghost use Rattle.std.specs.Prelude.{◌≡◌, ◌≤◌, ◌<◌, ◌+◌, ◌++◌, ◌∷◌, [], ℕ, List, length, Option, Some, OnOk, OnErr, IfOk};
+ghost use Rattle.std.specs.Prelude.{◌≡◌, ◌≤◌, ◌<◌, ◌+◌, ◌-◌, ◌++◌, ◌∷◌, [], ℕ, List, length, Option, true, OnOk, OnErr, IfOk, IfSome, IsSome};
 ghost use Rattle.std.specs.Arc.{arc_value};
 ghost use Rattle.std.specs.Io.KnownBytes.{Appends};
 ghost use Rattle.awari_build.specs.declared.faults.BuildFault.TheVariants as build_fault;
 ghost use Rattle.awari_table.specs.declared.images.Image.{Image};
 ghost use Rattle.awari_play.specs.Least.{HasLowestPlans, IsPlannedLowest};
 ghost use Rattle.awari_table.specs.Shelves.{Consistent, IsShelf};
-ghost use Rattle.awari_folder.specs.Contents.{AreNames, HoldsIn, Same, SameBut};
+ghost use Rattle.awari_folder.specs.Contents.{AreNames, HoldsIn, Same};
 ghost use Rattle.awari_folder.specs.Migration.{KeepsFiles};
 ghost use Rattle.awari_answers.specs.LevelLines.{IsToldOf, level_lines};
-ghost use Rattle.awari_cli.specs.Building.{KeepsLevels, LeavesFiles, PrintsAllLevels, PrintsLevels, SameOutside};
+ghost use Rattle.awari_cli.specs.Building.{AddsFile, KeepsLevels, LeavesFiles, PrintsAllLevels, PrintsLevels, SameOutside, SavesLevel, SavesTop};
 ghost use Rattle.awari_cli.specs.declared.building.BuildingFault.TheVariants as building_fault;
 
+use crate::beside::{Beside, BuildProgress, Saving};
 use crate::estimates::{Bytes, Estimate};
-use crate::ways::{build_by, way_of};
-use awari_answers::{LevelLine, Replies, line_of_level, print, refuse};
+use crate::ways::{Way, build_by, way_beside_save, way_of};
+use awari_answers::{LevelLine, Replies, line_of_level, print, refuse, status_of};
 use awari_build::{BuildFault, Pace};
 use awari_folder::{Folder, FolderFault, Stored, Together, load, save_or_keep};
 use awari_heard::Progress;
 use awari_play::lowest_plans_stay;
 use awari_table::{HIGHEST_LEVEL, Level, Shelf};
+use rayon::join_mut;
 use std::alloc::{AllocFailed, Global};
 use std::fmt;
 use std::sync::{Arc, Wait};
@@ -35,6 +37,27 @@ pub struct Builder<'a, T, P> {
     pub threads: usize,
     pub pace: Pace,
     pub progress: &'a mut P,
+}
+
+/// What a level is built with.
+#[derive(Drop)]
+struct Tools<'a, T> {
+    rt: &'a T,
+    alloc: Global,
+    way: Way,
+    /// By whom it is built while a thread saves the level below, none if a save and a build come in turn.
+    fewer: Option<Way>,
+}
+
+/// What this builder builds with: its owners, or all threads together if it has none.
+fn tools_of<'a, T, P>(builder: &Builder<'a, T, P>) -> Tools<'a, T> {
+    let way = way_of(builder.threads, builder.pace);
+    Tools {
+        rt: builder.rt,
+        alloc: builder.alloc,
+        way,
+        fewer: way_beside_save(way),
+    }
 }
 
 /// Why a level is not built, or not saved. It is printed as the fault inside it.
@@ -100,7 +123,7 @@ pub fn run_build<T: Threads + Wait + Sync, P: Progress, W: Replies>(
 /// Builds the levels above those of the folder, up to `top`, and prints the line of each once it is
 /// saved there. A file that stands there already stays: it counts as saved if it is the level's, and
 /// else the level is refused as 85. A refusal is printed behind the lines before it.
-pub fn run_build_in<T: Threads + Wait + Sync, P: Progress, F: Folder, W: Replies>(
+pub fn run_build_in<T: Threads + Wait + Sync, P: BuildProgress + Send, F: Folder, W: Replies>(
     builder: &mut Builder<'_, T, P>,
     folder: &mut F,
     top: u8,
@@ -151,7 +174,7 @@ fn build_up<T: Threads + Wait + Sync, P: Progress, W: Replies>(
 
 /// Builds the levels above those that the folder has stored up to `top`, saves each there, and prints
 /// its line.
-pub(crate) fn build_up_in<T: Threads + Wait + Sync, P: Progress, F: Folder, W: Replies>(
+pub(crate) fn build_up_in<T: Threads + Wait + Sync, P: BuildProgress + Send, F: Folder, W: Replies>(
     builder: &mut Builder<'_, T, P>,
     folder: &mut F,
     top: u8,
@@ -169,17 +192,18 @@ pub(crate) fn build_up_in<T: Threads + Wait + Sync, P: Progress, F: Folder, W: R
     ensures crash { (names : ℕ → Option (List ℕ)) → AreNames (F.state folder.old).stands names
         → LeavesFiles (length stored.old.shelf) names (F.state folder.old).may_leave (F.state folder.new).may_leave }
 {
+    if top < stored.shelf.levels() {
+        return 0;
+    }
+    if let Err(fault) = put_next(builder, &mut stored.shelf) {
+        return refuse_level(writer, stored.shelf.levels(), fault);
+    }
     while stored.shelf.levels() <= top {
-        match save_next(builder, folder, stored) {
-            Ok(told) => {
-                if !print(writer, &told) {
-                    return 1;
-                }
-            }
-            Err(fault) => return refuse_level(writer, stored.shelf.levels(), fault),
+        if !save_and_build(builder, folder, stored, writer) {
+            return 1;
         }
     }
-    0
+    status_of(save_last(builder.rt, folder, stored, writer))
 }
 
 /// Writes the refusal of the level of this number, and gives the status 1. If memory ran out, it is told how
@@ -210,50 +234,203 @@ fn build_next<T: Threads + Wait + Sync, P: Progress>(
 {
     // Ghost: the plans stay the lowest.
     lowest_plans_stay();
-    let level = built_level(builder, shelf)?;
+    let tools = tools_of(builder);
+    let level = built_level(&tools, tools.way, shelf, builder.progress)?;
     let told = line_of_level(&level);
     shelf.push(level);
     Ok(told)
 }
 
-/// Builds the level above those that are stored, saves it unless its file is there, and puts it on top.
-/// Nothing is refused after the file is saved, so a level that is saved is always answered.
-fn save_next<T: Threads + Wait + Sync, P: Progress, F: Folder>(
+/// Builds the level above the shelf, and puts it on top.
+fn put_next<T: Threads + Wait + Sync, P: Progress>(
     builder: &mut Builder<'_, T, P>,
-    folder: &mut F,
-    stored: &mut Stored,
-) -> Result<LevelLine, BuildingFault>
-    ensures built { IfOk result (λ told. (image : Image) × (stored.new.shelf ≡ stored.old.shelf ++ image ∷ []) × IsToldOf image told) }
-    ensures planned { OnOk result (HasLowestPlans stored.old.shelf → HasLowestPlans stored.new.shelf) }
-    ensures holds { HoldsIn (F.state folder.old).stands stored.old.shelf stored.old.digest → OnOk result (HoldsIn (F.state folder.new).stands stored.new.shelf stored.new.digest) }
-    ensures others { SameBut (length stored.old.shelf) (F.state folder.old).stands (F.state folder.new).stands }
-    ensures kept { KeepsFiles (F.state folder.old).stands (F.state folder.new).stands }
-    ensures err { OnErr result (Same (F.state folder.old).stands (F.state folder.new).stands) }
-    ensures crash { (names : ℕ → Option (List ℕ)) → (F.state folder.old).stands (length stored.old.shelf) ≡ Some (names (length stored.old.shelf))
-        → LeavesFiles (length stored.old.shelf) names (F.state folder.old).may_leave (F.state folder.new).may_leave }
+    shelf: &mut Shelf,
+) -> Result<(), BuildingFault>
+    ensures built { OnOk result ((image : Image) × (shelf.new ≡ shelf.old ++ image ∷ [])) }
+    ensures planned { OnOk result (HasLowestPlans shelf.old → HasLowestPlans shelf.new) }
 {
     // Ghost: the plans stay the lowest.
     lowest_plans_stay();
-    let level = built_level(builder, &stored.shelf)?;
-    let own = save_or_keep(folder, &level, stored.digest)?;
-    stored.digest = own;
-    let told = line_of_level(&level);
-    stored.shelf.push(level);
-    Ok(told)
+    let tools = tools_of(builder);
+    let level = built_level(&tools, tools.way, shelf, builder.progress)?;
+    shelf.push(level);
+    Ok(())
 }
 
-/// The level above the shelf, in the `Arc` that a shelf holds. It is built by the owners of the pace,
-/// or by all threads together if there are none.
-fn built_level<T: Threads + Wait + Sync, P: Progress>(
+/// Saves the level on top of the shelf, and puts the next one on it. True if both was done. If not, the
+/// refusal is printed, behind the line of the level if that is saved.
+fn save_and_build<T: Threads + Wait + Sync, P: BuildProgress + Send, F: Folder, W: Replies>(
     builder: &mut Builder<'_, T, P>,
+    folder: &mut F,
+    stored: &mut Stored,
+    writer: &mut W,
+) -> bool
+    requires { 0 < length stored.old.shelf }
+    ensures saved { result ≡ true → SavesTop stored.old.shelf stored.old.digest stored.new.digest (F.state folder.old) (F.state folder.new) (W.contents writer.old) (W.contents writer.new) }
+    ensures built { result ≡ true → (image : Image) × (stored.new.shelf ≡ stored.old.shelf ++ image ∷ []) }
+    ensures planned { result ≡ true → HasLowestPlans stored.old.shelf → HasLowestPlans stored.new.shelf }
+    ensures adds { AddsFile (length stored.old.shelf - 1) (F.state folder.old) (F.state folder.new) }
+{
+    // Ghost: the plans stay the lowest.
+    lowest_plans_stay();
+    let tools = tools_of(builder);
+    let Some(saved) = saved_and_built(&tools, builder.progress, folder, stored, writer) else {
+        return false;
+    };
+    let own = saved.digest;
+    stored.digest = own;
+    match saved.built {
+        Ok(level) => {
+            stored.shelf.push(level);
+            true
+        }
+        Err(fault) => {
+            refuse_level(writer, stored.shelf.levels(), fault);
+            false
+        }
+    }
+}
+
+/// A level that was saved, and what was built above it.
+#[derive(Drop)]
+struct Saved {
+    /// The digest that the level's file ends in.
+    digest: [u8; 32],
+    built: Result<Arc<Level>, BuildingFault>,
+}
+
+/// Saves the level on top of the shelf, and builds the next one above it. Of several threads one saves while the
+/// others build. It gives nothing if the level is not saved, or its line not written.
+fn saved_and_built<T: Threads + Wait + Sync, P: BuildProgress + Send, F: Folder, W: Replies>(
+    tools: &Tools<'_, T>,
+    progress: &mut P,
+    folder: &mut F,
+    stored: &Stored,
+    writer: &mut W,
+) -> Option<Saved>
+    requires { 0 < length stored.now.shelf }
+    ensures saved { IfSome result (λ saved. SavesTop stored.now.shelf stored.now.digest saved.digest (F.state folder.old) (F.state folder.new) (W.contents writer.old) (W.contents writer.new)) }
+    ensures built { IfSome result (λ saved. IfOk saved.built (λ level. Consistent stored.now.shelf (arc_value level) × IsPlannedLowest stored.now.shelf (arc_value level))) }
+    ensures adds { AddsFile (length stored.now.shelf - 1) (F.state folder.old) (F.state folder.new) }
+{
+    let saving = Saving::new(tools.rt);
+    if tools.fewer.is_none() {
+        let digest = save_or_refuse(&saving, folder, stored, writer)?;
+        let built = built_level(tools, tools.way, &stored.shelf, progress);
+        return Some(Saved { digest, built });
+    }
+    let (built, saved) = join_mut(
+        tools.rt,
+        &mut || built_beside(&saving, tools, &stored.shelf, progress),
+        &mut || save_or_refuse(&saving, folder, stored, writer),
+    );
+    let digest = saved?;
+    Some(Saved { digest, built })
+}
+
+/// The level above the shelf, built while the level below is saved. It is not wanted once that is refused.
+fn built_beside<T: Threads + Wait + Sync, P: BuildProgress>(
+    saving: &Saving<'_, T>,
+    tools: &Tools<'_, T>,
     shelf: &Shelf,
+    progress: &mut P,
 ) -> Result<Arc<Level>, BuildingFault>
     ensures consistent { IfOk result (λ level. Consistent shelf.now (arc_value level)) }
     ensures planned { IfOk result (λ level. IsPlannedLowest shelf.now (arc_value level)) }
 {
-    let way = way_of(builder.threads, builder.pace);
-    let progress = &mut *builder.progress;
-    let level = build_by(builder.rt, builder.alloc, shelf, way, progress)?;
-    let shared = Arc::new(builder.alloc, level)?;
+    let way = tools.fewer.unwrap_or(tools.way);
+    let mut beside = Beside { saving, progress };
+    built_level(tools, way, shelf, &mut beside)
+}
+
+/// Saves the level on top of the shelf. True if that was done; if not, the refusal is printed.
+fn save_last<T: Wait, F: Folder, W: Replies>(
+    rt: &T,
+    folder: &mut F,
+    stored: &mut Stored,
+    writer: &mut W,
+) -> bool
+    requires { 0 < length stored.old.shelf }
+    ensures saved { result ≡ true → SavesTop stored.old.shelf stored.old.digest stored.new.digest (F.state folder.old) (F.state folder.new) (W.contents writer.old) (W.contents writer.new) }
+    ensures shelf { stored.new.shelf ≡ stored.old.shelf }
+    ensures adds { AddsFile (length stored.old.shelf - 1) (F.state folder.old) (F.state folder.new) }
+{
+    let saving = Saving::new(rt);
+    match save_or_refuse(&saving, folder, stored, writer) {
+        Some(own) => {
+            stored.digest = own;
+            true
+        }
+        None => false,
+    }
+}
+
+/// Saves the level on top of the shelf unless its file is there, and prints its line. It gives the digest of the
+/// file, or nothing if that is refused, which is printed, or if the line is not written. Then no further
+/// level is wanted.
+fn save_or_refuse<T: Wait, F: Folder, W: Replies>(
+    saving: &Saving<'_, T>,
+    folder: &mut F,
+    stored: &Stored,
+    writer: &mut W,
+) -> Option<[u8; 32]>
+    requires { 0 < length stored.now.shelf }
+    ensures saved { IfSome result (λ own. SavesTop stored.now.shelf stored.now.digest own (F.state folder.old) (F.state folder.new) (W.contents writer.old) (W.contents writer.new)) }
+    ensures adds { AddsFile (length stored.now.shelf - 1) (F.state folder.old) (F.state folder.new) }
+{
+    let number = stored.shelf.levels() - 1;
+    let level = stored.shelf.level(number);
+    let below = stored.digest;
+    match save_and_tell(saving, folder, level, below, writer) {
+        Ok(Some(own)) => Some(own),
+        Ok(None) => {
+            saving.begin_to_print().refused = true;
+            None
+        }
+        Err(fault) => {
+            let mut save = saving.begin_to_print();
+            save.refused = true;
+            refuse_level(writer, number, BuildingFault::Folder { fault });
+            None
+        }
+    }
+}
+
+/// Saves the level unless its file is there, and prints its line. It gives the digest of the file, or nothing
+/// if the line is not written. Nothing is refused once the file is saved, so a level that is saved is
+/// always told.
+fn save_and_tell<T: Wait, F: Folder, W: Replies>(
+    saving: &Saving<'_, T>,
+    folder: &mut F,
+    level: &Level,
+    below: [u8; 32],
+    writer: &mut W,
+) -> Result<Option<[u8; 32]>, FolderFault>
+    ensures saved { IfOk result (λ told. IfSome told (λ own. SavesLevel level.now below own (F.state folder.old) (F.state folder.new) (W.contents writer.old) (W.contents writer.new))) }
+    ensures err { OnErr result (Same (F.state folder.old).stands (F.state folder.new).stands) }
+    ensures adds { AddsFile level.now.level (F.state folder.old) (F.state folder.new) }
+{
+    let own = save_or_keep(folder, level, below)?;
+    let line = line_of_level(level);
+    let _save = saving.begin_to_print();
+    if print(writer, &line) {
+        Ok(Some(own))
+    } else {
+        Ok(None)
+    }
+}
+
+/// The level above the shelf, built so, in the `Arc` that a shelf holds.
+fn built_level<T: Threads + Wait + Sync, P: Progress>(
+    tools: &Tools<'_, T>,
+    way: Way,
+    shelf: &Shelf,
+    progress: &mut P,
+) -> Result<Arc<Level>, BuildingFault>
+    ensures consistent { IfOk result (λ level. Consistent shelf.now (arc_value level)) }
+    ensures planned { IfOk result (λ level. IsPlannedLowest shelf.now (arc_value level)) }
+{
+    let level = build_by(tools.rt, tools.alloc, shelf, way, progress)?;
+    let shared = Arc::new(tools.alloc, level)?;
     Ok(shared)
 }

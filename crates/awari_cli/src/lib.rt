@@ -11,7 +11,7 @@
 //!         rt: &(impl AllocGlobal + Threads + Wait + Sync),
 //!         folder: &mut MemoryFolder,
 //!         top: u8,
-//!         progress: &mut impl Progress,
+//!         progress: &mut (impl BuildProgress + Send),
 //!         output: &mut impl Replies,
 //!     ) -> u8 {
 //!         let mut builder = Builder {
@@ -25,6 +25,7 @@
 //!     }
 #![tactic(auto)]
 
+mod beside;
 mod building;
 mod disk;
 mod estimates;
@@ -46,6 +47,7 @@ pub use awari_answers::{
     run_longest_line, run_moves, run_moves_json, run_plies, run_text, run_verify,
 };
 pub use awari_check::check;
+pub use beside::BuildProgress;
 pub use building::{Builder, run_build_in};
 pub use disk::Disk;
 pub use estimates::Estimate;

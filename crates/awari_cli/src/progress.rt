@@ -2,6 +2,7 @@
 
 ghost use Rattle.std.specs.Prelude.{⊤};
 
+use crate::beside::BuildProgress;
 use crate::estimates::Estimate;
 use awari_answers::print;
 use awari_heard::{Progress, Told};
@@ -183,6 +184,12 @@ impl<C: Clock, E: Write> Progress for ProgressLines<'_, C, E> {
             Told::Settled { gain, boards } => self.settled(gain, boards),
             Told::Planned => self.plan(),
         }
+    }
+}
+
+impl<C: Clock, E: Write> BuildProgress for ProgressLines<'_, C, E> {
+    fn hear_line(&mut self) {
+        self.follows = false;
     }
 }
 

@@ -49,7 +49,7 @@ pub fn run<
     S: AsStr,
     R: Read,
     W: Replies,
-    E: Write,
+    E: Write + Send,
 >(rt: &T, host: &mut H, alloc: Global, words: &'a [S], streams: &mut Streams<R, W, E>) -> u8
     ensures status { result ≤ 2 }
 
@@ -83,7 +83,7 @@ fn run_understood<
     H: Host<'a>,
     R: Read,
     W: Replies,
-    E: Write,
+    E: Write + Send,
 >(
     rt: &T,
     host: &mut H,
@@ -111,7 +111,7 @@ fn run_request<
     H: Host<'a>,
     R: Read,
     W: Replies,
-    E: Write,
+    E: Write + Send,
 >(
     rt: &T,
     host: &mut H,

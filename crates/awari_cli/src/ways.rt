@@ -1,6 +1,6 @@
 //! By whom a level is built.
 
-ghost use Rattle.std.specs.Prelude.{◌≡◌, ◌<◌, ◌↔◌, ◌⊎◌, ℕ, Err, IfOk};
+ghost use Rattle.std.specs.Prelude.{◌≡◌, ◌<◌, ◌+◌, ◌↔◌, ◌⊎◌, ℕ, Err, IfOk, IfSome};
 ghost use Rattle.awari_pace.specs.Paces.{HasOwners, IsPaced};
 ghost use Rattle.awari_pace.specs.declared.paces.Pace.{Pace as APace};
 ghost use Rattle.awari_play.specs.Least.{IsPlannedLowest};
@@ -15,6 +15,10 @@ use awari_table::{Level, Shelf};
 use std::alloc::Global;
 use std::sync::Wait;
 use std::thread::Threads;
+
+/// From so many threads on, one saves a level while the others build the next. Of fewer, one is missed for longer
+/// than a save takes.
+const THREADS_TO_SHARE: usize = 4;
 
 /// By whom a level is built.
 #[derive(Clone, Copy)]
@@ -34,6 +38,19 @@ pub(crate) fn way_of(threads: usize, pace: Pace) -> Way
         Way::Together { threads }
     } else {
         Way::Owners { pace }
+    }
+}
+
+/// By one thread fewer, while that one saves the level below; none if a save and a build come in turn. Owners are
+/// not disturbed.
+pub(crate) fn way_beside_save(way: Way) -> Option<Way>
+    ensures fewer { IfSome result (λ fewer. (threads : ℕ) × (way ≡ Way.Together (threads + 1)) × (fewer ≡ Way.Together threads)) }
+{
+    match way {
+        Way::Together { threads } if threads >= THREADS_TO_SHARE => Some(Way::Together {
+            threads: threads - 1,
+        }),
+        _ => None,
     }
 }
 

@@ -65,7 +65,7 @@ pub(crate) fn run_build_asked<
     H: Host<'a>,
     R: Read,
     W: Replies,
-    E: Write,
+    E: Write + Send,
 >(rt: &T, host: &mut H, alloc: Global, asked: AskedBuild<'a>, streams: &mut Streams<R, W, E>) -> u8
     ensures status { result ≤ 1 }
     ensures leaves { LeavesFolders H.keeps (IsFolder asked.entry.folder) (H.holds host.old) (H.holds host.new) }
@@ -105,13 +105,14 @@ fn run_build_alone<T: Threads + Clock + Wait + Sync, R: Read, W: Replies, E: Wri
 }
 
 /// Builds the levels that are asked for in the folder of this name.
-fn run_build_on<'a, T: Threads + Clock + Wait + Sync, H: Host<'a>, R: Read, W: Replies, E: Write>(
-    rt: &T,
-    host: &mut H,
-    alloc: Global,
-    asked: BuildIn<'a>,
-    streams: &mut Streams<R, W, E>,
-) -> u8
+fn run_build_on<
+    'a,
+    T: Threads + Clock + Wait + Sync,
+    H: Host<'a>,
+    R: Read,
+    W: Replies,
+    E: Write + Send,
+>(rt: &T, host: &mut H, alloc: Global, asked: BuildIn<'a>, streams: &mut Streams<R, W, E>) -> u8
     ensures status { result ≤ 1 }
     ensures others { OthersStay asked.entry.folder.now (H.holds host.old) (H.holds host.new) }
     ensures kept { H.keeps asked.entry.folder.now → KeepsFiles (H.holds host.old asked.entry.folder.now) (H.holds host.new asked.entry.folder.now) }
@@ -139,7 +140,7 @@ fn run_build_on<'a, T: Threads + Clock + Wait + Sync, H: Host<'a>, R: Read, W: R
 }
 
 /// Builds the levels that are asked for in this folder.
-fn run_build_of<T: Threads + Clock + Wait + Sync, F: Folder, R: Read, W: Replies, E: Write>(
+fn run_build_of<T: Threads + Clock + Wait + Sync, F: Folder, R: Read, W: Replies, E: Write + Send>(
     rt: &T,
     folder: &mut F,
     alloc: Global,

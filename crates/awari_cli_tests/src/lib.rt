@@ -24,6 +24,8 @@ mod json;
 #[cfg(test)]
 mod levels;
 #[cfg(test)]
+mod meanwhile;
+#[cfg(test)]
 mod migrations;
 #[cfg(test)]
 mod named;

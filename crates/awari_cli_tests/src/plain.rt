@@ -4,12 +4,12 @@
 
 use awari_build::Pace;
 use awari_cli::{
-    Builder, Disk, Growth, HowTold, MovesQuery, ProgressLines, Replies, Streams, VerifyQuery, run,
-    run_ask, run_build_in, run_line, run_moves, run_serve, run_text, run_verify,
+    BuildProgress, Builder, Disk, Growth, HowTold, MovesQuery, ProgressLines, Replies, Streams,
+    VerifyQuery, run, run_ask, run_build_in, run_line, run_moves, run_serve, run_text, run_verify,
 };
 use awari_file_tests::MemoryFolder;
 use awari_folder::Folder;
-use awari_heard::{Progress, Silent};
+use awari_heard::Silent;
 use awari_questions::{BoardsQuery, run_all_boards, run_boards};
 use awari_unverified::run_serve_unverified;
 use std::alloc::Global;
@@ -61,7 +61,7 @@ fn build_to(
     rt: &(impl AllocGlobal + Threads + Wait + Sync),
     folder: &mut MemoryFolder,
     top: u8,
-    progress: &mut impl Progress,
+    progress: &mut (impl BuildProgress + Send),
     output: &mut impl Replies,
 ) -> u8 {
     let mut builder = Builder {
@@ -74,10 +74,28 @@ fn build_to(
     run_build_in(&mut builder, folder, top, output)
 }
 
+/// Builds up to level 1 in the folder by so many threads together, and gives the status.
+pub(crate) fn build_by(
+    rt: &(impl AllocGlobal + Threads + Wait + Sync),
+    threads: usize,
+    folder: &mut MemoryFolder,
+    progress: &mut (impl BuildProgress + Send),
+    output: &mut impl Replies,
+) -> u8 {
+    let mut builder = Builder {
+        rt,
+        alloc: rt.alloc(),
+        threads,
+        pace: OWNERLESS,
+        progress,
+    };
+    run_build_in(&mut builder, folder, 1, output)
+}
+
 /// Builds up to this level without owners, tells on this stream how far it is, and gives the status.
 pub(crate) fn build_telling(
     rt: &(impl AllocGlobal + Threads + Wait + Sync),
-    clock: &impl Clock,
+    clock: &(impl Clock + Sync),
     how: HowTold,
     errors: &mut Vec<u8>,
 ) -> u8 {
@@ -224,7 +242,7 @@ pub(crate) fn run_on_disk<'a>(
         + 'static),
     alloc: Global,
     words: &'a [&'a str],
-    streams: &mut Streams<impl Read, impl Replies, impl Write>,
+    streams: &mut Streams<impl Read, impl Replies, impl Write + Send>,
 ) -> u8 {
     run(rt, &mut Disk::new(rt, alloc), alloc, words, streams)
 }

@@ -3,12 +3,13 @@
 use crate::expect::{expect, expect_equal};
 use crate::levels::LEVELS_0_TO_2;
 use crate::plain::{build_telling, run_on_disk};
-use awari_cli::{HowTold, Streams};
-use std::cell::Cell;
+use awari_cli::{BuildProgress, HowTold, ProgressLines, Streams};
+use awari_heard::{Progress, Told};
 use std::fs::File;
 use std::process::Abort;
 use std::rt::Files;
 use std::sync::Wait;
+use std::sync::atomic::{AtomicU64, Ordering};
 use std::thread::Threads;
 use std::time::{Clock, Duration};
 use std::{io, str};
@@ -17,22 +18,21 @@ use std::{io, str};
 #[derive(Drop)]
 struct Ticking {
     step: u64,
-    time: Cell<u64>,
+    time: AtomicU64,
 }
 
 impl Ticking {
     fn by(step: u64) -> Ticking {
         Ticking {
             step,
-            time: Cell::new(0),
+            time: AtomicU64::new(0),
         }
     }
 }
 
 impl Clock for Ticking {
     fn monotonic(&self) -> io::Result<Duration> {
-        let time = self.time.get();
-        self.time.set(time.saturating_add(self.step));
+        let time = self.time.fetch_add(self.step, Ordering::SeqCst);
         Ok(Duration::from_millis(time))
     }
 
@@ -90,10 +90,18 @@ const ANEW: &str = "\
 \x1b[A\r\x1b[K\x1b[?7llevel 0 of 0 plans of 1; 0% done in 0.0 s\x1b[?7h
 ";
 
+/// What is told on a terminal of level 1 while the line of level 0 is printed behind the first of these: the
+/// second takes no line's place.
+const BESIDE_A_LINE: &str = "\
+\x1b[?7llevel 1 of 1 scan of 12; 0% done in 0.0 s\x1b[?7h
+\x1b[?7llevel 1 of 1 gain 1 settled 0 of 12; 8% done in 0.0 s\x1b[?7h
+\x1b[A\r\x1b[K\x1b[?7llevel 1 of 1 plans of 12; 75% done in 0.0 s\x1b[?7h
+";
+
 /// Builds without owners, and compares what is told by this clock.
 fn expect_told(
     rt: &(impl Abort + AllocGlobal + Threads + Wait + Sync),
-    clock: &impl Clock,
+    clock: &(impl Clock + Sync),
     how: HowTold,
     expected: &str,
 ) {
@@ -124,6 +132,22 @@ fn a_build_tells_at_most_four_times_a_second(rt: HostRuntime) {
 fn a_terminal_has_one_line_a_level(rt: HostRuntime) {
     let how = HowTold { top: 0, anew: true };
     expect_told(&rt, &Ticking::by(0), how, ANEW);
+}
+
+#[test]
+fn a_line_stays_on_a_terminal_between_those_of_the_next_level(rt: HostRuntime) {
+    let clock = Ticking::by(0);
+    let mut errors = Vec::new(rt.alloc());
+    let how = HowTold { top: 1, anew: true };
+    let mut lines = ProgressLines::new(&clock, &mut errors, how);
+    lines.hear(Told::Begun {
+        level: 1,
+        boards: 12,
+    });
+    lines.hear_line();
+    lines.hear(Told::Settled { gain: 1, boards: 0 });
+    lines.hear(Told::Planned);
+    expect_equal(&rt, "told", str::from_utf8(&errors), Ok(BESIDE_A_LINE));
 }
 
 /// Whether anything is told on the error stream of levels that are built with these words.
