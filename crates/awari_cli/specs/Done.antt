@@ -48,9 +48,7 @@ PrintsAnswer (Line board longest true json true) stands input before after = Pri
 PrintsAnswer (Serve top owners false) stands input before after = PrintsService stands input before after
 PrintsAnswer (Serve top owners true) stands input before after = PrintsServiceSaid stands input before after
 PrintsAnswer (Counts level json unverified) stands input before after = PrintsCountsBy unverified json stands level before after
-PrintsAnswer (Boards level value distance farthest every count unverified) stands input before after =
-    PrintsBoardsBy unverified stands
-    (record { level = level; value = value; distance = distance; farthest = farthest; every = every; count = count; unverified = unverified }) before after
+PrintsAnswer (Boards query) stands input before after = PrintsBoardsBy query.unverified stands query before after
 
 -- The lines of the levels that were built in the folder of this name, which holds them now if the host keeps it.
 abbrev pub PrintsBuilt : (List ℕ → Type 0) → ℕ → List ℕ → (List ℕ → Stands) → (List ℕ → Stands) → Option (List ℕ) → Option (List ℕ) → Type 0

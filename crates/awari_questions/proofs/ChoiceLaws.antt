@@ -13,8 +13,10 @@ use Rattle.awari_table.proofs.ShelfLemmas.{entry_of-read, take-read}
 use Rattle.awari_table.specs.Images.{entry_of, greatest_dist}
 use Rattle.awari_table.specs.declared.images.Entry.{Entry}
 use Rattle.awari_table.specs.declared.images.Image.{Image}
-use Rattle.awari_questions.specs.Listing.{each, farthest_among, farthest_of, is_within, passes, passing, wanted_boards}
-use Rattle.awari_questions.specs.declared.listing.Wanted.{Wanted}
+use Rattle.awari_questions.specs.Listing.{IsAt, due_boards, each, farthest_among, farthest_of, fits, is_weighed, is_within, passes, passing, suits, wanted_boards}
+use Rattle.awari_queries.specs.declared.boards.Form.TheVariants.{Text}
+use Rattle.awari_queries.specs.declared.boards.Spans.{Spans}
+use Rattle.awari_questions.specs.declared.wanted.Wanted.{Wanted}
 
 -- one more at the end of a list
 each-push : {A : Type 0} (k before : ℕ) (xs : List A) (x : A) → each k before (xs ++ x ∷ []) ≡ each k before xs ++ cond ((before + (length xs + 1)) % k == 0) (x ∷ []) []
@@ -33,11 +35,6 @@ each-push k before (y ∷ ys) x =
         ≡ cond b (y ∷ each k (before + 1) ys) (each k (before + 1) ys) ++ cond ((before + (length (y ∷ ys) + 1)) % k == 0) (x ∷ []) []
     go true rest = ap (λ t. y ∷ t) rest
     go false rest = rest
-
--- the board of a rank of a level, in the list of its boards and on the shelf
-pub record IsAt (images : List Image) (level rank : ℕ) (board : List ℕ) (e : Entry) : Type 0 where
-  pub listed : slice_get (tuples 12 level) rank ≡ Some board
-  pub entry : e ≡ entry_of images board
 
 pub is_at : (images : List Image) (level rank : ℕ) (image : Image) (board : List ℕ) (e : Entry) → slice_get images level ≡ Some image → slice_get image.entries rank ≡ Some e
     → IsBoard board → sum board ≡ level → rank_of board ≡ rank → IsAt images level rank board e
@@ -62,18 +59,19 @@ IsFarthestTo wanted images level rank farthest = farthest ≡ farthest_among wan
 pub farthest-none : (wanted : Wanted) (images : List Image) (level : ℕ) → IsFarthestTo wanted images level 0 0
 farthest-none wanted images level = refl
 
-farther : (most : ℕ) (front : List Entry) (e : Entry) (within : Bool) → most ≡ greatest_dist front → cond within (max most e.dist) most ≡ greatest_dist (front ++ cond within (e ∷ []) [])
-farther most front e true is = ap (λ m. max m e.dist) is ∙ sym (fold-append (λ m (x : Entry). max m x.dist) 0 front (e ∷ []))
-farther most front e false is = is ∙ ap greatest_dist (sym (append-nil front))
+farther : (images : List Image) (most : ℕ) (front : List (List ℕ)) (board : List ℕ) (e : Entry) (within : Bool) → e ≡ entry_of images board → most ≡ greatest_dist (map (entry_of images) front)
+    → cond within (max most e.dist) most ≡ greatest_dist (map (entry_of images) (front ++ cond within (board ∷ []) []))
+farther images most front board e true at is =
+    ap (λ m. max m e.dist) is ∙ ap (λ (x : Entry). max (greatest_dist (map (entry_of images) front)) x.dist) at
+    ∙ sym (ap greatest_dist (map-append (entry_of images) front (board ∷ [])) ∙ fold-append (λ m (x : Entry). max m x.dist) 0 (map (entry_of images) front) (entry_of images board ∷ []))
+farther images most front board e false at is = is ∙ ap (λ bs. greatest_dist (map (entry_of images) bs)) (sym (append-nil front))
 
 pub farthest-more : (wanted : Wanted) (images : List Image) (level rank most : ℕ) (board : List ℕ) (e : Entry) → IsFarthestTo wanted images level rank most → IsAt images level rank board e
-    → IsFarthestTo wanted images level (rank + 1) (cond (is_within wanted e) (max most e.dist) most)
+    → IsFarthestTo wanted images level (rank + 1) (cond (is_within wanted images board) (max most e.dist) most)
 farthest-more wanted images level rank most board e so_far at =
-    farther most (filter (is_within wanted) (map (entry_of images) (take rank (tuples 12 level)))) e (is_within wanted e) so_far
-    ∙ ap (λ x. greatest_dist (filter (is_within wanted) (map (entry_of images) (take rank (tuples 12 level))) ++ cond (is_within wanted x) (x ∷ []) [])) at.entry
-    ∙ ap greatest_dist (sym (ap (λ bs. filter (is_within wanted) (map (entry_of images) bs)) (take-read (tuples 12 level) rank board at.listed)
-    ∙ ap (filter (is_within wanted)) (map-append (entry_of images) (take rank (tuples 12 level)) (board ∷ []))
-    ∙ filter-append (is_within wanted) (map (entry_of images) (take rank (tuples 12 level))) (entry_of images board ∷ [])))
+    farther images most (filter (is_within wanted images) (take rank (tuples 12 level))) board e (is_within wanted images board) at.entry so_far
+    ∙ ap (λ bs. greatest_dist (map (entry_of images) bs)) (sym (ap (filter (is_within wanted images)) (take-read (tuples 12 level) rank board at.listed)
+    ∙ filter-append (is_within wanted images) (take rank (tuples 12 level)) (board ∷ [])))
 
 pub farthest-all : (wanted : Wanted) (images : List Image) (level rank most : ℕ) → IsFarthestTo wanted images level rank most → rank ≡ size_of level → wanted.farthest ≡ true → most ≡ farthest_of wanted images level
 unfolding size_of farthest_of
@@ -108,16 +106,18 @@ pick k passed next front x true due before count is =
     )
 
 -- what is known of the board of a rank: whether it passes is counted, and whether it is due
-pub record Weighs (wanted : Wanted) (images : List Image) (level passed next : ℕ) (e : Entry) (due : Bool) : Type 0 where
-  pub count : next ≡ passed + cond (passes wanted (farthest_of wanted images level) e) 1 0
-  pub is : due ≡ (passes wanted (farthest_of wanted images level) e && (next % wanted.every == 0))
+pub record Weighs (wanted : Wanted) (images : List Image) (level passed next : ℕ) (board : List ℕ) (due : Bool) : Type 0 where
+  pub count : next ≡ passed + cond (passes wanted (farthest_of wanted images level) images board) 1 0
+  pub is : due ≡ (passes wanted (farthest_of wanted images level) images board && (next % wanted.every == 0))
 
-pub weighs : (wanted : Wanted) (images : List Image) (level passed next farthest : ℕ) (e : Entry) (due : Bool) → farthest ≡ farthest_of wanted images level → next ≡ passed + cond (passes wanted farthest e) 1 0
-    → due ≡ (passes wanted farthest e && (next % wanted.every == 0)) → Weighs wanted images level passed next e due
-weighs wanted images level passed next farthest e due found count is = record {
-  count = count ∙ ap (λ l. passed + cond (passes wanted l e) 1 0) found;
-  is = is ∙ ap (λ l. passes wanted l e && (next % wanted.every == 0)) found;
-}
+pub weighs : (wanted : Wanted) (images : List Image) (level passed next farthest : ℕ) (board : List ℕ) (pass due : Bool) → farthest ≡ farthest_of wanted images level → pass ≡ passes wanted farthest images board
+    → next ≡ passed + cond pass 1 0 → due ≡ (pass && (next % wanted.every == 0)) → Weighs wanted images level passed next board due
+weighs wanted images level passed next farthest board pass due found asked count is =
+    let same : pass ≡ passes wanted (farthest_of wanted images level) images board = asked ∙ ap (λ l. passes wanted l images board) found in
+    record {
+      count = count ∙ ap (λ b. passed + cond b 1 0) same;
+      is = is ∙ ap (λ b. b && (next % wanted.every == 0)) same;
+    }
 
 -- no more pass than there are
 pub few-more : (passed next rank : ℕ) (b : Bool) → next ≡ passed + cond b 1 0 → passed ≤ rank → next ≤ rank + 1
@@ -125,7 +125,7 @@ few-more passed next rank true is few = omega (arith, is, few)
 few-more passed next rank false is few = omega (arith, is, few)
 
 pub chosen-more : (wanted : Wanted) (images : List Image) (level rank passed next : ℕ) (boards : List (List ℕ)) (board : List ℕ) (e : Entry) (due : Bool) → Chosen wanted images level rank passed boards
-    → IsAt images level rank board e → Weighs wanted images level passed next e due
+    → IsAt images level rank board e → Weighs wanted images level passed next board due
     → Chosen wanted images level (rank + 1) next (boards ++ cond due (board ∷ []) [])
 chosen-more wanted images level rank passed next boards board e due so_far at weighed = record {
   count = picked.0 ∙ ap length (sym front);
@@ -133,22 +133,19 @@ chosen-more wanted images level rank passed next boards board e due so_far at we
 }
   where
     test : List ℕ → Bool
-    test b = passes wanted (farthest_of wanted images level) (entry_of images b)
+    test = passes wanted (farthest_of wanted images level) images
 
-    picked : (next ≡ length (passing wanted images level (take rank (tuples 12 level)) ++ cond (passes wanted (farthest_of wanted images level) e) (board ∷ []) []))
+    picked : (next ≡ length (passing wanted images level (take rank (tuples 12 level)) ++ cond (test board) (board ∷ []) []))
         × (each wanted.every 0 (passing wanted images level (take rank (tuples 12 level))) ++ cond due (board ∷ []) []
-        ≡ each wanted.every 0 (passing wanted images level (take rank (tuples 12 level)) ++ cond (passes wanted (farthest_of wanted images level) e) (board ∷ []) []))
-    picked = pick wanted.every passed next (passing wanted images level (take rank (tuples 12 level))) board (passes wanted (farthest_of wanted images level) e) due so_far.count weighed.count weighed.is
+        ≡ each wanted.every 0 (passing wanted images level (take rank (tuples 12 level)) ++ cond (test board) (board ∷ []) []))
+    picked = pick wanted.every passed next (passing wanted images level (take rank (tuples 12 level))) board (test board) due so_far.count weighed.count weighed.is
 
-    front : passing wanted images level (take (rank + 1) (tuples 12 level)) ≡ passing wanted images level (take rank (tuples 12 level)) ++ cond (passes wanted (farthest_of wanted images level) e) (board ∷ []) []
-    front =
-        ap (passing wanted images level) (take-read (tuples 12 level) rank board at.listed)
-        ∙ filter-append test (take rank (tuples 12 level)) (board ∷ [])
-        ∙ ap (λ x. passing wanted images level (take rank (tuples 12 level)) ++ cond (passes wanted (farthest_of wanted images level) x) (board ∷ []) []) (sym at.entry)
+    front : passing wanted images level (take (rank + 1) (tuples 12 level)) ≡ passing wanted images level (take rank (tuples 12 level)) ++ cond (test board) (board ∷ []) []
+    front = ap (passing wanted images level) (take-read (tuples 12 level) rank board at.listed) ∙ filter-append test (take rank (tuples 12 level)) (board ∷ [])
 
 pub chosen-all : (wanted : Wanted) (images : List Image) (level rank passed : ℕ) (boards : List (List ℕ)) → Chosen wanted images level rank passed boards → rank ≡ size_of level
-    → boards ≡ wanted_boards wanted images level
-unfolding size_of wanted_boards
+    → boards ≡ due_boards wanted images level
+unfolding size_of
 chosen-all wanted images level rank passed boards all is =
     all.list ∙ ap (λ bs. each wanted.every 0 (passing wanted images level bs)) (take_all rank (tuples 12 level) (omega (arith, is)))
 
@@ -162,7 +159,7 @@ pub numbered-none : (wanted : Wanted) (images : List Image) (level : ℕ) → Nu
 numbered-none wanted images level = record { boards = []; chosen = chosen-none wanted images level; many = refl }
 
 pub numbered-skip : (wanted : Wanted) (images : List Image) (level rank passed next count : ℕ) (board : List ℕ) (e : Entry) (due : Bool) → Numbered wanted images level rank passed count
-    → IsAt images level rank board e → Weighs wanted images level passed next e due → due ≡ false → Numbered wanted images level (rank + 1) next count
+    → IsAt images level rank board e → Weighs wanted images level passed next board due → due ≡ false → Numbered wanted images level (rank + 1) next count
 numbered-skip wanted images level rank passed next count board e due so_far at weighed none = record {
   boards = so_far.boards;
   chosen =
@@ -172,7 +169,7 @@ numbered-skip wanted images level rank passed next count board e due so_far at w
 }
 
 pub numbered-more : (wanted : Wanted) (images : List Image) (level rank passed next count : ℕ) (board : List ℕ) (e : Entry) (due : Bool) → Numbered wanted images level rank passed count
-    → IsAt images level rank board e → Weighs wanted images level passed next e due → due ≡ true → Numbered wanted images level (rank + 1) next (count + 1)
+    → IsAt images level rank board e → Weighs wanted images level passed next board due → due ≡ true → Numbered wanted images level (rank + 1) next (count + 1)
 numbered-more wanted images level rank passed next count board e due so_far at weighed some = record {
   boards = so_far.boards ++ board ∷ [];
   chosen =
@@ -182,7 +179,7 @@ numbered-more wanted images level rank passed next count board e due so_far at w
 }
 
 pub numbered-all : (wanted : Wanted) (images : List Image) (level rank passed count : ℕ) → Numbered wanted images level rank passed count → rank ≡ size_of level
-    → count ≡ length (wanted_boards wanted images level)
+    → count ≡ length (due_boards wanted images level)
 numbered-all wanted images level rank passed count all is = all.many ∙ ap length (chosen-all wanted images level rank passed all.boards all.chosen is)
 
 -- ---- all boards
@@ -197,10 +194,17 @@ each-one before (x ∷ xs) =
     let due : ((before + 1) % 1 == 0) ≡ true = grind (arith, nat_tests) in
     ap (λ b. cond b (x ∷ each 1 (before + 1) xs) (each 1 (before + 1) xs)) due ∙ ap (λ t. x ∷ t) (each-one (before + 1) xs)
 
-all_pass : (farthest : ℕ) (e : Entry) → passes (record { values = None; distances = None; farthest = false; every = 1 }) farthest e ≡ true
-unfolding passes is_within
-all_pass farthest e = refl
+-- what asks for nothing
+abbrev pub no_spans : Spans
+no_spans = record { value = None; distance = None; plan = None; captures = None; side = None; moves = None; keep = None; trap = None }
 
-pub all_wanted : (images : List Image) (level : ℕ) → wanted_boards (record { values = None; distances = None; farthest = false; every = 1 }) images level ≡ tuples 12 level
+abbrev pub all : Wanted
+all = record { spans = no_spans; waits = false; ended = false; running = false; farthest = false; every = 1; random = 0; seed = 0; form = Text }
+
+all_pass : (farthest : ℕ) (images : List Image) (board : List ℕ) → passes all farthest images board ≡ true
+unfolding passes is_within fits suits is_weighed
+all_pass farthest images board = refl
+
+pub all_wanted : (images : List Image) (level : ℕ) → wanted_boards all images level ≡ tuples 12 level
 unfolding wanted_boards
-all_wanted images level = each-one 0 _ ∙ filter-all _ (λ b. all_pass (farthest_of (record { values = None; distances = None; farthest = false; every = 1 }) images level) (entry_of images b)) (tuples 12 level)
+all_wanted images level = each-one 0 _ ∙ filter-all _ (all_pass (farthest_of all images level) images) (tuples 12 level)

@@ -13,7 +13,7 @@ use Rattle.awari_answers.specs.LevelLines.{IsToldOf}
 use Rattle.awari_answers.specs.declared.telling.LevelLine.{LevelLine}
 use Rattle.std.specs.Prelude.{IsSomeAnd}
 use Rattle.awari_table.proofs.ShelfLemmas.{take-read}
-use Rattle.awari_questions.proofs.SourceLaws.{image_of}
+use Rattle.awari_facts.proofs.SourceLaws.{image_of}
 use Rattle.awari_questions.specs.Numbers.{AreNumbersOf}
 use Rattle.awari_questions.specs.declared.counts.Numbers.{Numbers}
 use Rattle.awari_questions.specs.Counts.{boards_of_distance, boards_of_value, count_lines, distance_lines, share_line, shown_distance, shown_level, shown_levels, shown_told, shown_value, value_at, value_lines}

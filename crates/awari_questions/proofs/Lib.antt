@@ -7,4 +7,4 @@ pub mod SourceLaws
 pub mod TallyLaws
 pub mod CountLaws
 pub mod CountJsonLaws
-pub mod SpanLaws
+pub mod WantedLaws

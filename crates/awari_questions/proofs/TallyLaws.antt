@@ -20,14 +20,14 @@ use Rattle.awari_table.specs.declared.images.Image.{Image}
 use Rattle.awari_answers.specs.LevelLines.{IsToldOf}
 use Rattle.awari_questions.proofs.ShareLaws.{counted-none, zeros-replicate}
 use Rattle.awari_questions.specs.Counts.{value_at}
-use Rattle.awari_questions.specs.Listing.{limit_of}
+use Rattle.awari_facts.specs.Sources.{limit_of}
 use Rattle.awari_questions.specs.Numbers.{AreNumbersOf}
 use Rattle.awari_questions.specs.declared.counts.Numbers.{Numbers}
-use Rattle.awari_questions.proofs.SourceLaws.{image_of, says_still}
-use Rattle.awari_questions.specs.Sources.{SaysBy, levels_of}
+use Rattle.awari_facts.proofs.SourceLaws.{image_of, says_still}
+use Rattle.awari_facts.specs.Sources.{SaysBy, levels_of}
 use Rattle.awari_questions.specs.Tallies.{AreCounted, AreEntriesOf, IsTallied, IsTallyOf, has_sign}
-use Rattle.awari_questions.specs.declared.sources.Source.{Source}
-use Rattle.awari_questions.specs.declared.sources.Source.TheVariants.{Shelf, Files}
+use Rattle.awari_facts.specs.declared.sources.Source.{Source}
+use Rattle.awari_facts.specs.declared.sources.Source.TheVariants.{Shelf, Files}
 use Rattle.awari_questions.specs.declared.tallies.Tally.{Tally}
 
 zeros-counted : (test : ℕ → Entry → Bool) (n : ℕ) (counts : List ℕ) → counts ≡ replicate n 0 → AreCounted test n [] counts

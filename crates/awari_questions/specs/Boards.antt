@@ -7,24 +7,30 @@ use Rattle.awari_answers.specs.Asked.{AreLevelsTo}
 use Rattle.awari_rank.specs.Tuples.{tuples}
 use Rattle.awari_table.specs.declared.TheConstants.{HIGHEST_LEVEL}
 use Rattle.awari_table.specs.declared.images.Image.{Image}
-use Rattle.awari_questions.specs.Listing.{board_lines, wanted_boards}
-use Rattle.awari_questions.specs.Loads.{HasLevel}
-use Rattle.awari_questions.specs.Sources.{IsSaidOf}
-use Rattle.awari_questions.specs.Spans.{AsksFor}
-use Rattle.awari_questions.specs.declared.boards.BoardsQuery.{BoardsQuery}
-use Rattle.awari_questions.specs.declared.listing.Wanted.{Wanted}
+use Rattle.awari_questions.specs.Listing.{board_lines, header_of, wanted_boards}
+use Rattle.awari_facts.specs.Loads.{HasLevel}
+use Rattle.awari_facts.specs.Sources.{IsSaidOf}
+use Rattle.awari_queries.specs.Boards.{AreAskedFor, form_of}
+use Rattle.awari_queries.specs.declared.boards.BoardsQuery.{BoardsQuery}
+use Rattle.awari_queries.specs.declared.boards.Form.TheVariants.{Text}
+use Rattle.awari_questions.specs.declared.wanted.Wanted.{Wanted}
 
 -- the boards that are asked for; each 0th counts as each
 pub record IsWanted (query : BoardsQuery) (wanted : Wanted) : Type 0 where
-  pub values : AsksFor query.value wanted.values
-  pub distances : AsksFor query.distance wanted.distances
+  pub spans : AreAskedFor query.spans wanted.spans
+  pub waits : wanted.waits ≡ query.waits
+  pub ended : wanted.ended ≡ query.ended
+  pub running : wanted.running ≡ query.running
   pub farthest : wanted.farthest ≡ query.farthest
   pub every : wanted.every ≡ max 1 query.every
+  pub random : wanted.random ≡ query.random
+  pub seed : wanted.seed ≡ query.seed
+  pub form : wanted.form ≡ form_of query.json query.csv
 
 -- What was written is how many boards of the level are wanted, or a line for each of them.
 abbrev pub AppendsWanted : Bool → List Image → ℕ → Wanted → Option (List ℕ) → Option (List ℕ) → Type 0
 AppendsWanted true images level wanted before after = Appends before after (decimal (length (wanted_boards wanted images level)) ++ 10 ∷ [])
-AppendsWanted false images level wanted before after = Appends before after (board_lines images (wanted_boards wanted images level))
+AppendsWanted false images level wanted before after = Appends before after (header_of wanted.form ++ board_lines wanted.form images (wanted_boards wanted images level))
 
 -- Where it is known what the writer holds, that was written of the boards that the query asks for, by right levels: those up to
 -- the query's that the folder stores, where it is known what its names have.
@@ -45,10 +51,10 @@ PrintsBoardsBy true = PrintsBoardsSaid
 
 -- the boards of all levels: `tuples 12 level` are the boards of so many stones in lexicographic order
 abbrev pub all_lines : List Image → List ℕ
-all_lines images = flat_map (λ level. board_lines images (tuples 12 level)) (range_with_len 0 (length images))
+all_lines images = flat_map (λ level. board_lines Text images (tuples 12 level)) (range_with_len 0 (length images))
 
 -- Where it is known what the writer holds, what was written are the lines of all boards of right levels, or of the one of this
 -- number. The levels are those that the folder stores, where it is known what its names have.
 abbrev pub PrintsAllBoards : (ℕ → Option (Option (List ℕ))) → Option ℕ → Option (List ℕ) → Option (List ℕ) → Type 0
 PrintsAllBoards stands None before after = (images : List Image) × AreLevelsTo HIGHEST_LEVEL stands images × Appends before after (all_lines images)
-PrintsAllBoards stands (Some level) before after = (images : List Image) × HasLevel level stands images × Appends before after (board_lines images (tuples 12 level))
+PrintsAllBoards stands (Some level) before after = (images : List Image) × HasLevel level stands images × Appends before after (board_lines Text images (tuples 12 level))

@@ -13,8 +13,8 @@ use Rattle.awari_table.specs.declared.TheConstants.{HIGHEST_LEVEL}
 use Rattle.awari_table.specs.declared.images.Counts.{Counts}
 use Rattle.awari_table.specs.declared.images.Entry.{Entry}
 use Rattle.awari_table.specs.declared.images.Image.{Image}
-use Rattle.awari_questions.specs.Loads.{HasLevel}
-use Rattle.awari_questions.specs.Sources.{AreSaid, IsSaidOf}
+use Rattle.awari_facts.specs.Loads.{HasLevel}
+use Rattle.awari_facts.specs.Sources.{AreSaid, IsSaidOf}
 
 -- how many boards have this value, and how many this distance
 abbrev pub boards_of_value : List Entry → ℤ → ℕ

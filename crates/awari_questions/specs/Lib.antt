@@ -2,11 +2,8 @@ pub mod Batches
 pub mod Boards
 pub mod Counts
 pub mod Listing
-pub mod Loads
 pub mod Memo
 pub mod Numbers
 pub mod Places
 pub mod Plays
-pub mod Sources
-pub mod Spans
 pub mod Tallies

@@ -1,58 +1,117 @@
 -- The commands `boards` and `text --boards`: which boards of a level are wanted, and what is printed of them.
-use Rattle.std.specs.Prelude.{ℕ, ◌+◌, ◌%◌, ◌==◌, Bool, true, not, ◌&&◌, ◌||◌, if◌then◌else◌, List, ◌++◌, ◌∷◌, [], filter, map, codes, ℤ, pos, int_le, Option, Some, None, slice_index_or}
+use Rattle.std.specs.Prelude.{◌≡◌, ℕ, ◌+◌, ◌%◌, ◌==◌, nat_lt, Bool, not, ◌&&◌, ◌||◌, if◌then◌else◌, List, ◌++◌, ◌∷◌, [], length, filter, map, codes, pos, Option, Some, None, slice_get}
+use Rattle.std.specs.Fmt.{decimal, signed_decimal}
 use Rattle.std.specs.List.{flat_map}
+use Rattle.awari_board.specs.Rules.{own_stones}
 use Rattle.awari_board.specs.Text.{text_of}
+use Rattle.awari_facts.specs.Facts.{captures_by, keeping_moves, legal_moves, trap_of, waits}
+use Rattle.awari_queries.specs.Draws.{draw_of, taken}
+use Rattle.awari_queries.specs.Spans.{has, is_in}
+use Rattle.awari_play.specs.Json.{entry_json}
+use Rattle.awari_queries.specs.declared.boards.Form.{Form}
+use Rattle.awari_queries.specs.declared.boards.Form.TheVariants.{Text, Csv, Json}
+use Rattle.awari_queries.specs.declared.boards.Spans.{Spans}
 use Rattle.awari_rank.specs.Tuples.{tuples}
-use Rattle.awari_table.specs.Images.{entry_of, greatest_dist, no_image}
+use Rattle.awari_table.specs.Images.{entry_of, greatest_dist}
 use Rattle.awari_table.specs.Spelling.{entry_line}
 use Rattle.awari_table.specs.declared.images.Entry.{Entry}
 use Rattle.awari_table.specs.declared.images.Image.{Image}
-use Rattle.awari_questions.specs.declared.listing.Span.{Span}
-use Rattle.awari_questions.specs.declared.listing.Wanted.{Wanted}
+use Rattle.awari_questions.specs.declared.listing.Choice.{Choice}
+use Rattle.awari_questions.specs.declared.wanted.Wanted.{Wanted}
 
 -- the board, a space, and the line of the entry
 abbrev pub entry_text : List ℕ → Entry → List ℕ
 entry_text board e = text_of board ++ codes " " ++ entry_line e
 
+-- the plan's pit, or nothing for none
+abbrev pub plan_field : Option ℕ → List ℕ
+plan_field None = []
+plan_field (Some pit) = decimal pit
+
+-- the board in quotes (34), and value, plan and distance, with commas (44) and a line feed (10)
+abbrev pub csv_line : List ℕ → Entry → List ℕ
+csv_line board e =
+    34 ∷ (text_of board ++ 34 ∷ 44 ∷ (signed_decimal e.value ++ 44 ∷ (plan_field e.plan ++ 44 ∷ (decimal e.dist ++ 10 ∷ []))))
+
+-- the line of a board
+unfoldable pub board_line : Form → List ℕ → Entry → List ℕ
+board_line Text board e = entry_text board e
+board_line Csv board e = csv_line board e
+board_line Json board e = entry_json board e
+
+-- what stands above the lines: of CSV their names
+unfoldable pub header_of : Form → List ℕ
+header_of Text = []
+header_of Csv = codes "board,value,plan,distance" ++ 10 ∷ []
+header_of Json = []
+
 -- the lines of boards, with what the levels say of each
-abbrev pub board_lines : List Image → List (List ℕ) → List ℕ
-board_lines images boards = flat_map (λ board. entry_text board (entry_of images board)) boards
+abbrev pub board_lines : Form → List Image → List (List ℕ) → List ℕ
+board_lines form images boards = flat_map (λ board. board_line form board (entry_of images board)) boards
 
--- the number is in the span, if there is one
-abbrev pub is_in : Option Span → ℤ → Bool
-is_in None x = true
-is_in (Some span) x = int_le span.low x && int_le x span.high
+-- value, distance and plan are in the spans that are asked for
+unfoldable pub fits : Spans → Entry → Bool
+fits spans e = is_in spans.value e.value && (is_in spans.distance (pos e.dist) && has spans.plan e.plan)
 
--- the value and the distance are in the spans that are asked for
-unfoldable pub is_within : Wanted → Entry → Bool
-is_within wanted e = is_in wanted.values e.value && is_in wanted.distances (pos e.dist)
+-- a board of so many legal moves has ended or has not, if that is asked for
+abbrev pub is_of_kind : Wanted → ℕ → Bool
+is_of_kind wanted moves = not (wanted.ended && nat_lt 0 moves) && not (wanted.running && moves == 0)
+
+-- what the rules say of the board is as it is asked for: its stones, its moves, and what the plan captures
+unfoldable pub suits : Wanted → List ℕ → Entry → Bool
+suits wanted board e =
+    is_in wanted.spans.side (pos (own_stones board)) && (is_in wanted.spans.moves (pos (legal_moves board)) && (has wanted.spans.captures (captures_by board e.plan)
+    && is_of_kind wanted (legal_moves board)))
+
+-- what the levels say of the boards that moves leave is as it is asked for: how many moves keep the value, what the largest capture
+-- throws away, and whether it is a burden to move
+unfoldable pub is_weighed : Wanted → List Image → List ℕ → Bool
+is_weighed wanted images board =
+    is_in wanted.spans.keep (pos (keeping_moves images board)) && (is_in wanted.spans.trap (trap_of images board) && not (wanted.waits && not (waits images board)))
+
+-- the board has all of that
+unfoldable pub is_within : Wanted → List Image → List ℕ → Bool
+is_within wanted images board =
+    fits wanted.spans (entry_of images board) && (suits wanted board (entry_of images board) && is_weighed wanted images board)
 
 -- the greatest distance of those of these boards, 0 if there are none
 abbrev pub farthest_among : Wanted → List Image → List (List ℕ) → ℕ
-farthest_among wanted images boards = greatest_dist (filter (is_within wanted) (map (entry_of images) boards))
+farthest_among wanted images boards = greatest_dist (map (entry_of images) (filter (is_within wanted images) boards))
 
 -- That of the boards of a level, if the farthest are asked for: `tuples 12 level` are the boards of so many stones in
 -- lexicographic order.
 unfoldable pub farthest_of : Wanted → List Image → ℕ → ℕ
 farthest_of wanted images level = if wanted.farthest then farthest_among wanted images (tuples 12 level) else 0
 
--- the value and the distance are in the spans, and the distance is this one, if the farthest are asked for
-unfoldable pub passes : Wanted → ℕ → Entry → Bool
-passes wanted farthest e = is_within wanted e && (not wanted.farthest || e.dist == farthest)
+-- the board has all of that, and has this distance, if the farthest are asked for
+unfoldable pub passes : Wanted → ℕ → List Image → List ℕ → Bool
+passes wanted farthest images board = is_within wanted images board && (not wanted.farthest || (entry_of images board).dist == farthest)
 
 -- each k-th of a list, where so many came before it
 abbrev pub each : {A : Type 0} → ℕ → ℕ → List A → List A
 each k before [] = []
 each k before (x ∷ xs) = if (before + 1) % k == 0 then x ∷ each k (before + 1) xs else each k (before + 1) xs
 
--- the limit of the level of this number
-abbrev pub limit_of : List Image → ℕ → ℕ
-limit_of images level = (slice_index_or images level no_image).limit
-
 -- those of these boards of a level that pass, in order of rank
 abbrev pub passing : Wanted → List Image → ℕ → List (List ℕ) → List (List ℕ)
-passing wanted images level boards = filter (λ board. passes wanted (farthest_of wanted images level) (entry_of images board)) boards
+passing wanted images level boards = filter (passes wanted (farthest_of wanted images level) images) boards
 
 -- each of those boards that is due
+abbrev pub due_boards : Wanted → List Image → ℕ → List (List ℕ)
+due_boards wanted images level = each wanted.every 0 (passing wanted images level (tuples 12 level))
+
+-- the boards that are wanted of a level
 unfoldable pub wanted_boards : Wanted → List Image → ℕ → List (List ℕ)
-wanted_boards wanted images level = each wanted.every 0 (passing wanted images level (tuples 12 level))
+wanted_boards wanted images level = taken (draw_of wanted.random wanted.seed (length (due_boards wanted images level))) (due_boards wanted images level)
+
+-- Private functions alone go by what follows: no public contract does.
+
+-- the board of a rank of a level, and its entry
+pub record IsAt (images : List Image) (level rank : ℕ) (board : List ℕ) (e : Entry) : Type 0 where
+  pub listed : slice_get (tuples 12 level) rank ≡ Some board
+  pub entry : e ≡ entry_of images board
+
+-- the farthest, and how those that are due are drawn, are those of the level
+pub record IsChoice (wanted : Wanted) (images : List Image) (choice : Choice) : Type 0 where
+  pub farthest : choice.farthest ≡ farthest_of wanted images choice.level
+  pub sample : choice.sample ≡ draw_of wanted.random wanted.seed (length (due_boards wanted images choice.level))

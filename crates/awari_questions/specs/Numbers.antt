@@ -7,7 +7,7 @@ use Rattle.awari_places.specs.Opening.{AreFramed}
 use Rattle.awari_places.specs.declared.opening.Opened.{Opened}
 use Rattle.awari_table.specs.declared.TheConstants.{HIGHEST_LEVEL}
 use Rattle.awari_table.specs.declared.images.Image.{Image}
-use Rattle.awari_questions.specs.Loads.{HasLevel}
+use Rattle.awari_facts.specs.Loads.{HasLevel}
 use Rattle.awari_questions.specs.Tallies.{IsTallyOf}
 use Rattle.awari_questions.specs.declared.counts.Numbers.{Numbers}
 

@@ -5,8 +5,8 @@ use Rattle.awari_rank.specs.Rank.{size_of}
 use Rattle.awari_table.specs.declared.images.Entry.{Entry}
 use Rattle.awari_table.specs.declared.images.Image.{Image}
 use Rattle.awari_questions.specs.Counts.{value_at}
-use Rattle.awari_questions.specs.Sources.{SaysBy}
-use Rattle.awari_questions.specs.declared.sources.Source.{Source}
+use Rattle.awari_facts.specs.Sources.{SaysBy}
+use Rattle.awari_facts.specs.declared.sources.Source.{Source}
 use Rattle.awari_questions.specs.declared.tallies.Tally.{Tally}
 
 -- the value has the sign of this number: lost, even, won

@@ -1,67 +1,66 @@
 //! The commands `boards` and `text --boards`: the boards of a level with what is known of them.
 
-ghost use Rattle.std.specs.Prelude.{◌≡◌, ◌≤◌, ◌<◌, true, List, length, IfOk, Ok, OnErr, ◌⊎◌};
 ghost use Rattle.std.specs.Io.KnownBytes.{Appends};
+ghost use Rattle.std.specs.Prelude.{◌≡◌, ◌≤◌, ◌<◌, ◌+◌, true, List, length, IfOk, Ok, OnErr};
+ghost use Rattle.awari_facts.specs.Sources.{IsSaidOf, SaysBy, levels_of};
 ghost use Rattle.awari_folder.specs.Contents.{Same};
 ghost use Rattle.awari_folder.specs.State.{Unchanged};
-ghost use Rattle.awari_questions.specs.Boards.{AppendsWanted, IsWanted, PrintsAllBoards, PrintsBoardsBy, all_lines};
-ghost use Rattle.awari_questions.specs.Listing.{board_lines};
-ghost use Rattle.awari_questions.specs.Sources.{IsSaidOf, SaysBy, levels_of};
-ghost use Rattle.awari_questions.specs.Spans.{AsksForNone};
+ghost use Rattle.awari_queries.specs.Boards.{AsksForNoSpans};
+ghost use Rattle.awari_queries.specs.declared.boards.Form.TheVariants.{Text};
 ghost use Rattle.awari_rank.specs.Tuples.{tuples};
 ghost use Rattle.awari_table.specs.declared.images.Image.{Image};
+ghost use Rattle.awari_questions.specs.Boards.{AppendsWanted, IsWanted, PrintsAllBoards, PrintsBoardsBy, all_lines};
+ghost use Rattle.awari_questions.specs.Listing.{board_lines};
 
-use crate::listing::{Wanted, count_boards, print_boards};
-use crate::loads::{load_to, open_to};
-use crate::sources::Source;
-use crate::spans::{NoSpan, asked_span};
+use crate::listing::{count_boards, print_boards};
+use crate::wanted::Wanted;
 use awari_answers::{Replies, load_levels, print, refuse, status_of};
+use awari_facts::{Source, load_to, open_to};
 use awari_folder::{Folder, FolderFault};
+use awari_queries::{BoardsQuery, Form, NoSpan, Spans, asked_spans, form_of};
 use awari_table::{HIGHEST_LEVEL, Shelf};
 use std::alloc::Global;
 use std::io::Write;
 use std::thread::Threads;
 
-/// Which boards of a level are asked for, in words.
-#[derive(Clone, Copy)]
-pub struct BoardsQuery<'a> {
-    /// The stones on each board.
-    pub level: u8,
-    /// Values, as `-3..2`, `1..`, `..0` or `5`.
-    pub value: Option<&'a str>,
-    /// Distances, likewise.
-    pub distance: Option<&'a str>,
-    /// Those of the greatest distance alone.
-    pub farthest: bool,
-    /// Each so many-th of them; 0 counts as 1.
-    pub every: u32,
-    /// How many there are, and not the boards.
-    pub count: bool,
-    /// Whether files answer that nobody verified.
-    pub unverified: bool,
-}
-
 /// All boards of a level.
 const ALL: Wanted = Wanted {
-    values: None,
-    distances: None,
+    spans: Spans {
+        value: None,
+        distance: None,
+        plan: None,
+        captures: None,
+        side: None,
+        moves: None,
+        keep: None,
+        trap: None,
+    },
+    waits: false,
+    ended: false,
+    running: false,
     farthest: false,
     every: 1,
+    random: 0,
+    seed: 0,
+    form: Form::Text,
 };
 
-/// The boards that the query asks for. It is refused as 95 if values or distances are not as they have
-/// to be.
+/// The boards that the query asks for. It is refused as 95 if what it asks for is no span.
 pub fn wanted_of(query: &BoardsQuery<'_>) -> Result<Wanted, NoSpan>
     ensures wanted { IfOk result (IsWanted query.now) }
-    ensures none { OnErr result (AsksForNone query.now.value ⊎ AsksForNone query.now.distance) }
+    ensures none { OnErr result (AsksForNoSpans query.now.spans) }
 {
-    let values = asked_span(query.value)?;
-    let distances = asked_span(query.distance)?;
+    let spans = asked_spans(&query.spans)?;
     Ok(Wanted {
-        values,
-        distances,
+        spans,
+        waits: query.waits,
+        ended: query.ended,
+        running: query.running,
         farthest: query.farthest,
         every: query.every.max(1),
+        random: query.random,
+        seed: query.seed,
+        form: form_of(query.json, query.csv),
     })
 }
 
@@ -75,7 +74,7 @@ fn print_wanted<F: Folder, W: Write>(
     writer: &mut W,
 ) -> Result<bool, FolderFault>
     requires level { query.now.level < levels_of source }
-    requires low { query.now.level ≤ HIGHEST_LEVEL }
+    requires few { levels_of source ≤ HIGHEST_LEVEL + 1 }
     requires every { 0 < wanted.now.every }
     ensures printed { (images : List Image) → SaysBy source.entry (F.state folder.old).stands images → result ≡ Ok true
         → AppendsWanted query.now.count images query.now.level wanted.now (W.contents writer.old) (W.contents writer.new) }
@@ -152,7 +151,7 @@ fn print_level<F: Folder, W: Write>(
     writer: &mut W,
 ) -> Result<bool, FolderFault>
     requires { level < length shelf.now }
-    ensures printed { result ≡ Ok true → Appends (W.contents writer.old) (W.contents writer.new) (board_lines shelf.now (tuples 12 level)) }
+    ensures printed { result ≡ Ok true → Appends (W.contents writer.old) (W.contents writer.new) (board_lines Text shelf.now (tuples 12 level)) }
     ensures same { Unchanged (F.state folder.old) (F.state folder.new) }
 {
     // For the proof: there are at most 25 levels.

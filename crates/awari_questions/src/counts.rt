@@ -11,17 +11,16 @@ ghost use Rattle.awari_table.specs.declared.images.Entry.{Entry as AnEntry};
 ghost use Rattle.awari_table.specs.declared.images.Image.{Image};
 ghost use Rattle.awari_questions.specs.Counts.{AppendsCounts, PrintsCountsBy, PrintsCountsSaid, count_lines, distance_lines, shown_levels, value_lines};
 ghost use Rattle.awari_questions.specs.Numbers.{AreNumbersOf, HasLevels, HasOpened};
-ghost use Rattle.awari_questions.specs.Sources.{SaysBy, levels_of};
+ghost use Rattle.awari_facts.specs.Sources.{SaysBy, levels_of};
 ghost use Rattle.awari_questions.specs.Tallies.{AreByDistance, AreByValue, IsTallyOf};
 
-use crate::loads::{LevelFault, load_to, open_all, open_to};
 use crate::shown::{DistanceShare, ShownLevel, ValueShare};
-use crate::sources::{Source, count_levels, read_limit};
 use crate::tallies::{Tally, VALUES, tally_level, value_of};
 use arrayvec::ArrayString;
 use awari_answers::{
     LevelLine, NoAnswer, Replies, load_levels, print, refuse, refuse_json, status_of,
 };
+use awari_facts::{LevelFault, Source, count_levels, load_to, open_all, open_to, read_limit};
 use awari_folder::{Folder, FolderFault};
 use awari_places::Opened;
 use awari_rank::size;

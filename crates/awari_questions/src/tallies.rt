@@ -7,10 +7,10 @@ ghost use Rattle.awari_table.specs.declared.TheConstants.{HIGHEST_LEVEL};
 ghost use Rattle.awari_table.specs.declared.images.Entry.{Entry as AnEntry};
 ghost use Rattle.awari_table.specs.declared.images.Image.{Image};
 ghost use Rattle.awari_questions.specs.Counts.{value_at};
-ghost use Rattle.awari_questions.specs.Sources.{SaysBy, levels_of};
+ghost use Rattle.awari_facts.specs.Sources.{SaysBy, levels_of};
 ghost use Rattle.awari_questions.specs.Tallies.{IsTallied, IsTallyOf, has_sign};
 
-use crate::sources::{Source, read_entry};
+use awari_facts::{Source, read_entry};
 use awari_folder::{Folder, FolderFault};
 use awari_places::Run;
 use awari_rank::size;

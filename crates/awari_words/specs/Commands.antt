@@ -133,9 +133,30 @@ plays_command = command (codes "plays") (board ∷ number (codes "PLIES") (Signe
 abbrev pub counts_command : Shape
 counts_command = command (codes "counts") (folder ∷ level ∷ json ∷ unverified ∷ [])
 
+-- spans of numbers that a board's entry gives
+abbrev pub entry_spans : List Rule
+entry_spans = option (codes "value") ∷ option (codes "distance") ∷ option (codes "plan") ∷ option (codes "captures") ∷ []
+
+-- spans of what is counted on a board
+abbrev pub count_spans : List Rule
+count_spans = option (codes "side") ∷ option (codes "moves") ∷ option (codes "keep") ∷ option (codes "trap") ∷ []
+
+-- kinds of boards
+abbrev pub kinds : List Rule
+kinds = flag (codes "waits") ∷ flag (codes "ended") ∷ flag (codes "open") ∷ []
+
+-- which of these
+abbrev pub choices : List Rule
+choices = flag (codes "farthest") ∷ number_option (codes "every") (Unsigned 1 4294967295) (codes "1")
+    ∷ number_option (codes "random") (Unsigned 0 4294967295) (codes "0") ∷ number_option (codes "seed") (Unsigned 0 4294967295) (codes "0") ∷ []
+
+-- how they are printed
+abbrev pub forms : List Rule
+forms = flag (codes "count") ∷ flag (codes "csv") ∷ json ∷ unverified ∷ []
+
 -- which boards of a level are wanted
 abbrev pub wishes : List Rule
-wishes = option (codes "value") ∷ option (codes "distance") ∷ flag (codes "farthest") ∷ number_option (codes "every") (Unsigned 1 4294967295) (codes "1") ∷ flag (codes "count") ∷ unverified ∷ []
+wishes = entry_spans ++ count_spans ++ kinds ++ choices ++ forms
 
 abbrev pub boards_command : Shape
 boards_command = command (codes "boards") (folder ∷ number (codes "LEVEL") levels ∷ wishes)

@@ -5,6 +5,7 @@ use Rattle.clap.specs.Matches.{found_of}
 use Rattle.clap.specs.Walk.{Row, all_of, first_of, one_of, rows_of, texts}
 use Rattle.clap.specs.declared.parser.matches.ArgMatches.{ArgMatches}
 use Rattle.awari_pace.specs.declared.paces.Pace.{Pace}
+use Rattle.awari_queries.specs.declared.boards.BoardsQuery.{BoardsQuery}
 use Rattle.awari_words.specs.declared.requests.Question.{Question}
 use Rattle.awari_words.specs.declared.requests.Question.TheVariants.{Verify, Text, Ask, Moves, Line, Serve, Counts, Boards}
 use Rattle.awari_words.specs.declared.requests.Request.{Request}
@@ -48,6 +49,34 @@ pub record IsFlagOf (given : List Row) (id : List ℕ) (flag : Bool) : Type 0 wh
   pub set : one_of id given ≡ Some (codes "true") → flag ≡ true
   pub unset : one_of id given ≡ Some (codes "false") → flag ≡ false
 
+-- what is asked of boards has the values of these names
+pub record IsBoardsQueryOf (given : List Row) (query : BoardsQuery) : Type 0 where
+  pub level : Spells given (codes "LEVEL") query.level
+  pub value : option_map (λ t. t.now) query.spans.value ≡ first_of (codes "value") given
+  pub distance : option_map (λ t. t.now) query.spans.distance ≡ first_of (codes "distance") given
+  pub plan : option_map (λ t. t.now) query.spans.plan ≡ first_of (codes "plan") given
+  pub captures : option_map (λ t. t.now) query.spans.captures ≡ first_of (codes "captures") given
+  pub side : option_map (λ t. t.now) query.spans.side ≡ first_of (codes "side") given
+  pub moves : option_map (λ t. t.now) query.spans.moves ≡ first_of (codes "moves") given
+  pub keep : option_map (λ t. t.now) query.spans.keep ≡ first_of (codes "keep") given
+  pub trap : option_map (λ t. t.now) query.spans.trap ≡ first_of (codes "trap") given
+  pub waits : IsFlagOf given (codes "waits") query.waits
+  pub ended : IsFlagOf given (codes "ended") query.ended
+  pub running : IsFlagOf given (codes "open") query.running
+  pub farthest : IsFlagOf given (codes "farthest") query.farthest
+  pub every : Spells given (codes "every") query.every
+  pub random : Spells given (codes "random") query.random
+  pub seed : Spells given (codes "seed") query.seed
+  pub count : IsFlagOf given (codes "count") query.count
+  pub json : IsFlagOf given (codes "json") query.json
+  pub csv : IsFlagOf given (codes "csv") query.csv
+  pub unverified : IsFlagOf given (codes "unverified") query.unverified
+
+-- one of the numbers that it needs is not there, or is spelled by no text
+abbrev pub IsNoBoardsQuery : List Row → Type 0
+IsNoBoardsQuery given =
+    SpellsNone 8 given (codes "LEVEL") ⊎ SpellsNone 32 given (codes "every") ⊎ SpellsNone 32 given (codes "random") ⊎ SpellsNone 32 given (codes "seed")
+
 -- The question is that of the command's name, with the values that were given for each of its names.
 abbrev pub IsQuestionOf : List ℕ → List Row → Question → Type 0
 IsQuestionOf name given (Verify levels digest progress) = (name ≡ codes "verify") × SpellsOr given (codes "levels") levels
@@ -64,9 +93,7 @@ IsQuestionOf name given (Serve top owners unverified) = (name ≡ codes "serve")
     × IsFlagOf given (codes "unverified") unverified
 IsQuestionOf name given (Counts level json unverified) = (name ≡ codes "counts") × SpellsOr given (codes "LEVEL") level × IsFlagOf given (codes "json") json
     × IsFlagOf given (codes "unverified") unverified
-IsQuestionOf name given (Boards level value distance farthest every count unverified) = (name ≡ codes "boards") × Spells given (codes "LEVEL") level
-    × (option_map (λ t. t.now) value ≡ first_of (codes "value") given) × (option_map (λ t. t.now) distance ≡ first_of (codes "distance") given)
-    × IsFlagOf given (codes "farthest") farthest × Spells given (codes "every") every × IsFlagOf given (codes "count") count × IsFlagOf given (codes "unverified") unverified
+IsQuestionOf name given (Boards query) = (name ≡ codes "boards") × IsBoardsQueryOf given query
 
 -- The same of the request. A question's folder has one name in all commands.
 abbrev pub IsRequestOf : List ℕ → List Row → Request → Type 0
@@ -99,7 +126,7 @@ pub record IsNoRequest (name : List ℕ) (given : List Row) : Type 0 where
   pub board : name ≡ codes "board" → SpellsNone 8 given (codes "LEVEL") ⊎ SpellsNone 32 given (codes "RANK")
   pub plays : name ≡ codes "plays" → Lacks given (codes "BOARD") ⊎ SpellsNone 8 given (codes "PLIES")
   pub counts : name ≡ codes "counts" → Lacks given (codes "FOLDER")
-  pub boards : name ≡ codes "boards" → Lacks given (codes "FOLDER") ⊎ SpellsNone 8 given (codes "LEVEL") ⊎ SpellsNone 32 given (codes "every")
+  pub boards : name ≡ codes "boards" → Lacks given (codes "FOLDER") ⊎ IsNoBoardsQuery given
 
 -- The words have no fault, and the request is that of the command that they name.
 abbrev pub IsAsked : Option (List ℕ × List Row) → Option Request → Type 0

@@ -250,31 +250,36 @@ pub(crate) fn listed_level<'a>(alloc: Global) -> Arg<'a>
         .help("The stones on each board, 0 to 24")
 }
 
-pub(crate) fn value<'a>(alloc: Global) -> Arg<'a>
-    ensures { IsArg result (option (codes "value")) }
+/// The option `--name A..B`.
+pub(crate) fn span<'a>(alloc: Global, name: &'a str, help: &'a str) -> Arg<'a>
+    ensures { IsArg result (option name.entry.now) }
 {
-    Arg::new(alloc, "value")
-        .long("value")
+    Arg::new(alloc, name)
+        .long(name)
         .value_name("A..B")
-        .help("Boards of these values, as --value -3..2")
+        .help(help)
 }
 
-pub(crate) fn distance<'a>(alloc: Global) -> Arg<'a>
-    ensures { IsArg result (option (codes "distance")) }
+/// The flag `--name`.
+pub(crate) fn flag<'a>(alloc: Global, name: &'a str, help: &'a str) -> Arg<'a>
+    ensures { IsArg result (flag name.entry.now) }
 {
-    Arg::new(alloc, "distance")
-        .long("distance")
-        .value_name("A..B")
-        .help("Boards of these distances, as --distance 5..9")
-}
-
-pub(crate) fn farthest<'a>(alloc: Global) -> Arg<'a>
-    ensures { IsArg result (flag (codes "farthest")) }
-{
-    Arg::new(alloc, "farthest")
-        .long("farthest")
+    Arg::new(alloc, name)
+        .long(name)
         .action(ArgAction::SetTrue)
-        .help("Of these, boards of the greatest distance")
+        .help(help)
+}
+
+/// The option `--name N`, which is 0 where it isn't given.
+pub(crate) fn number_or_none<'a>(alloc: Global, name: &'a str, help: &'a str) -> Arg<'a>
+    ensures { IsArg result (number_option name.entry.now (Unsigned 0 4294967295) (codes "0")) }
+{
+    Arg::new(alloc, name)
+        .long(name)
+        .value_name("N")
+        .value_parser(ValueParser::unsigned(0, u64::from(u32::MAX)))
+        .default_value("0")
+        .help(help)
 }
 
 pub(crate) fn every<'a>(alloc: Global) -> Arg<'a>
@@ -286,15 +291,6 @@ pub(crate) fn every<'a>(alloc: Global) -> Arg<'a>
         .value_parser(ValueParser::unsigned(1, u64::from(u32::MAX)))
         .default_value("1")
         .help("Each K-th of these")
-}
-
-pub(crate) fn count<'a>(alloc: Global) -> Arg<'a>
-    ensures { IsArg result (flag (codes "count")) }
-{
-    Arg::new(alloc, "count")
-        .long("count")
-        .action(ArgAction::SetTrue)
-        .help("Print how many these are, and no board")
 }
 
 pub(crate) fn folder<'a>(alloc: Global) -> Arg<'a>

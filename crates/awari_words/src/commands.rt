@@ -3,14 +3,14 @@
 ghost use Rattle.std.specs.Prelude.{◌≡◌, ◌∷◌, []};
 ghost use Rattle.clap.specs.Simple.{App, Shape, with_rule, with_subcommand};
 ghost use Rattle.clap.specs.Walk.{Rule};
-ghost use Rattle.awari_words.specs.Commands.{ask_command, awari, awari_commands, board, board_command, boards_command, build_command, check_command, command, counts_command, folder, folder_commands, judge_command, line_command, migrate_command, move_command, moves_command, pace, play_commands, plays_command, question_commands, rank_command, serve_command, text_command, verify_command, wishes};
+ghost use Rattle.awari_words.specs.Commands.{ask_command, awari, awari_commands, board, board_command, boards_command, build_command, check_command, choices, command, count_spans, counts_command, entry_spans, folder, folder_commands, forms, judge_command, kinds, line_command, migrate_command, move_command, moves_command, pace, play_commands, plays_command, question_commands, rank_command, serve_command, text_command, verify_command, wishes};
 ghost use Rattle.awari_words.specs.Making.{IsArg, IsCommand, MakesApp, MakesCommand, with_subcommands, with_words};
 
 use crate::arguments::{
-    board, count, digest, distance, each_ply, estimate, every, farthest, folder, from, json, level,
-    levels_wish, limit, listed_level, longest, moves, owners, pit, plies, progress, rank,
-    ranked_level, replies, room, served_owners, served_top, start_folder, sweeps, threads, to, top,
-    unverified, value, with_boards,
+    board, digest, each_ply, estimate, every, flag, folder, from, json, level, levels_wish, limit,
+    listed_level, longest, moves, number_or_none, owners, pit, plies, progress, rank, ranked_level,
+    replies, room, served_owners, served_top, span, start_folder, sweeps, threads, to, top,
+    unverified, with_boards,
 };
 use crate::helps::{
     ASK_HELP, AWARI_HELP, BOARD_HELP, BOARDS_HELP, BUILD_HELP, CHECK_HELP, COUNTS_HELP, JUDGE_HELP,
@@ -369,10 +369,121 @@ fn with_wishes<'a>(
 ) -> Result<Command<'a>, AllocError>
     ensures { (app : App) → MakesApp command.entry app → MakesApp result (with_words app wishes) }
 {
-    let command = with_word(command, value(alloc));
-    let command = with_word(command, distance(alloc));
-    let command = with_word(command, farthest(alloc));
+    let command = with_entry_spans(alloc, command);
+    let command = with_count_spans(alloc, command);
+    let command = with_kinds(alloc, command);
+    let command = with_choices(alloc, command);
+    with_forms(alloc, command)
+}
+
+/// The command with the options that say which of these boards are wanted.
+fn with_choices<'a>(
+    alloc: Global,
+    command: Result<Command<'a>, AllocError>,
+) -> Result<Command<'a>, AllocError>
+    ensures { (app : App) → MakesApp command.entry app → MakesApp result (with_words app choices) }
+{
+    let farthest = flag(
+        alloc,
+        "farthest",
+        "Of these, boards of the greatest distance",
+    );
+    let command = with_word(command, farthest);
     let command = with_word(command, every(alloc));
-    let command = with_word(command, count(alloc));
+    let random = number_or_none(
+        alloc,
+        "random",
+        "So many of these, drawn by chance; 0 is all",
+    );
+    let command = with_word(command, random);
+    let seed = number_or_none(alloc, "seed", "The number that decides which are drawn");
+    with_word(command, seed)
+}
+
+/// The command with the options that say how boards are printed.
+fn with_forms<'a>(
+    alloc: Global,
+    command: Result<Command<'a>, AllocError>,
+) -> Result<Command<'a>, AllocError>
+    ensures { (app : App) → MakesApp command.entry app → MakesApp result (with_words app forms) }
+{
+    let count = flag(alloc, "count", "Print how many these are, and no board");
+    let command = with_word(command, count);
+    let csv = flag(alloc, "csv", "Print CSV, below the names of its columns");
+    let command = with_word(command, csv);
+    let command = with_word(command, json(alloc));
     with_word(command, unverified(alloc))
+}
+
+/// The command with the options of numbers that a board's entry gives.
+fn with_entry_spans<'a>(
+    alloc: Global,
+    command: Result<Command<'a>, AllocError>,
+) -> Result<Command<'a>, AllocError>
+    ensures { (app : App) → MakesApp command.entry app → MakesApp result (with_words app entry_spans) }
+{
+    let value = span(alloc, "value", "Boards of these values, as --value -3..2");
+    let command = with_word(command, value);
+    let distance = span(
+        alloc,
+        "distance",
+        "Boards of these distances, as --distance 5..9",
+    );
+    let command = with_word(command, distance);
+    let plan = span(
+        alloc,
+        "plan",
+        "Boards whose plan is one of these pits, as --plan 0",
+    );
+    let command = with_word(command, plan);
+    let captures = span(
+        alloc,
+        "captures",
+        "Boards whose plan captures so many stones",
+    );
+    with_word(command, captures)
+}
+
+/// The command with the options of what is counted on a board.
+fn with_count_spans<'a>(
+    alloc: Global,
+    command: Result<Command<'a>, AllocError>,
+) -> Result<Command<'a>, AllocError>
+    ensures { (app : App) → MakesApp command.entry app → MakesApp result (with_words app count_spans) }
+{
+    let side = span(
+        alloc,
+        "side",
+        "Boards with so many stones on the mover's side",
+    );
+    let command = with_word(command, side);
+    let moves = span(alloc, "moves", "Boards with so many legal moves");
+    let command = with_word(command, moves);
+    let keep = span(alloc, "keep", "Boards where so many moves keep the value");
+    let command = with_word(command, keep);
+    let trap = span(
+        alloc,
+        "trap",
+        "Boards where the largest capture loses so many stones",
+    );
+    with_word(command, trap)
+}
+
+/// The command with the flags that name kinds of boards.
+fn with_kinds<'a>(
+    alloc: Global,
+    command: Result<Command<'a>, AllocError>,
+) -> Result<Command<'a>, AllocError>
+    ensures { (app : App) → MakesApp command.entry app → MakesApp result (with_words app kinds) }
+{
+    let waits = flag(
+        alloc,
+        "waits",
+        "Boards where it is worth less to move than to wait",
+    );
+    let command = with_word(command, waits);
+    let ended = flag(alloc, "ended", "Boards where the play has ended");
+    let command = with_word(command, ended);
+    let open = flag(alloc, "open", "Boards where the play has not ended");
+    with_word(command, open)
 }

@@ -1,4 +1,5 @@
-//! What `awari --version` and `awari help` say. The help of a command is at most a screen of 24 lines.
+//! What `awari --version` and `awari help` say. The help of a command is at most a screen of 24 lines,
+//! but for `boards`, whose options alone are more.
 //! docs/MANUAL.md has more of each, and docs/FORMATS.md the numbers of its refusals.
 
 use awari_table::HIGHEST_LEVEL;

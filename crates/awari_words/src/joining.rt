@@ -60,7 +60,14 @@ fn is_joined(option: &str, span: &str) -> bool
 fn takes_span(option: &str) -> bool
     ensures { result ≡ takes_span option.now }
 {
-    option == "--value" || option == "--distance"
+    option == "--value"
+        || option == "--distance"
+        || option == "--plan"
+        || option == "--captures"
+        || option == "--side"
+        || option == "--moves"
+        || option == "--keep"
+        || option == "--trap"
 }
 
 /// Whether the text begins with a hyphen and a digit.

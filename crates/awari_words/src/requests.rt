@@ -8,7 +8,9 @@ ghost use Rattle.clap.specs.Walk.{all_of, first_of, texts};
 ghost use Rattle.awari_words.specs.Commands.{awari_commands};
 ghost use Rattle.awari_words.specs.Requests.{
   IsAsked,
+  IsBoardsQueryOf,
   IsFlagOf,
+  IsNoBoardsQuery,
   IsNoPace,
   IsNoRequest,
   IsPaceOf,
@@ -21,6 +23,7 @@ ghost use Rattle.awari_words.specs.Requests.{
 
 use crate::commands::commands;
 use awari_pace::Pace;
+use awari_queries::{BoardSpans, BoardsQuery};
 use clap::{ArgMatches, Error};
 use std::alloc::Global;
 use std::convert::AsStr;
@@ -127,17 +130,10 @@ pub enum Question<'a> {
         json: bool,
         unverified: bool,
     },
-    /// `boards FOLDER LEVEL [--value A..B] [--distance A..B] [--farthest] [--every K] [--count]
-    /// [--unverified]`: the boards of a level.
-    Boards {
-        level: u8,
-        value: Option<&'a str>,
-        distance: Option<&'a str>,
-        farthest: bool,
-        every: u32,
-        count: bool,
-        unverified: bool,
-    },
+    /// `boards FOLDER LEVEL [--value A..B] [--distance A..B] [--plan A..B] [--captures A..B]
+    /// [--side A..B] [--moves A..B] [--keep A..B] [--trap A..B] [--waits] [--ended] [--open]
+    /// [--farthest] [--every K] [--count] [--unverified]`: the boards of a level.
+    Boards(BoardsQuery<'a>),
 }
 
 /// What `clap` makes of the words. The first word is the program's own name. The error has the text of
@@ -367,19 +363,42 @@ fn counts_request<'m, 'a: 'm>(given: &'m ArgMatches<'a>) -> Option<Request<'m, '
 
 fn boards_request<'m, 'a: 'm>(given: &'m ArgMatches<'a>) -> Option<Request<'m, 'a>>
     ensures asked { IfSome result (IsRequestOf (codes "boards") (values given.now)) }
-    ensures none { IsNone result → Lacks (values given.now) (codes "FOLDER") ⊎ SpellsNone 8 (values given.now) (codes "LEVEL") ⊎ SpellsNone 32 (values given.now) (codes "every") }
+    ensures none { IsNone result → Lacks (values given.now) (codes "FOLDER") ⊎ IsNoBoardsQuery (values given.now) }
 {
     Some(Request::Read {
         folder: text(given, "FOLDER")?,
-        question: Question::Boards {
-            level: byte(given, "LEVEL")?,
+        question: Question::Boards(boards_query_of(given)?),
+    })
+}
+
+/// What is asked of the boards of a level.
+fn boards_query_of<'a>(given: &ArgMatches<'a>) -> Option<BoardsQuery<'a>>
+    ensures asked { IfSome result (IsBoardsQueryOf (values given.now)) }
+    ensures none { IsNone result → IsNoBoardsQuery (values given.now) }
+{
+    Some(BoardsQuery {
+        level: byte(given, "LEVEL")?,
+        spans: BoardSpans {
             value: text(given, "value"),
             distance: text(given, "distance"),
-            farthest: flag(given, "farthest"),
-            every: number(given, "every")?,
-            count: flag(given, "count"),
-            unverified: flag(given, "unverified"),
+            plan: text(given, "plan"),
+            captures: text(given, "captures"),
+            side: text(given, "side"),
+            moves: text(given, "moves"),
+            keep: text(given, "keep"),
+            trap: text(given, "trap"),
         },
+        waits: flag(given, "waits"),
+        ended: flag(given, "ended"),
+        running: flag(given, "open"),
+        farthest: flag(given, "farthest"),
+        every: number(given, "every")?,
+        random: number(given, "random")?,
+        seed: number(given, "seed")?,
+        count: flag(given, "count"),
+        json: flag(given, "json"),
+        csv: flag(given, "csv"),
+        unverified: flag(given, "unverified"),
     })
 }
 

@@ -1,4 +1,4 @@
-use Rattle.awari_questions.proofs.SourceLaws.{says_still}
+use Rattle.awari_facts.proofs.SourceLaws.{says_still}
 use Rattle.awari_questions.proofs.TallyLaws.{numbered}
 use Rattle.awari_questions.proofs.counts.numbers_of.Goals as goal
 

@@ -3,7 +3,7 @@ use Rattle.std.proofs.lemmas.List.{take_all}
 use Rattle.std.specs.Io.KnownBytes.{Appends}
 use Rattle.awari_folder.proofs.States.{unchanged_then}
 use Rattle.awari_questions.proofs.CountLaws.{level-line}
-use Rattle.awari_questions.proofs.SourceLaws.{says_still}
+use Rattle.awari_facts.proofs.SourceLaws.{says_still}
 use Rattle.awari_questions.proofs.TallyLaws.{levels_by}
 use Rattle.awari_questions.specs.Counts.{shown_levels}
 use Rattle.awari_questions.proofs.counts.print_levels.Goals as goal

@@ -3,7 +3,7 @@ use Rattle.std.specs.Io.KnownBytes.{Appends}
 use Rattle.awari_folder.specs.State.{Unchanged}
 use Rattle.awari_table.specs.declared.images.Image.{Image}
 use Rattle.awari_questions.specs.Counts.{shown_levels}
-use Rattle.awari_questions.specs.Sources.{SaysBy}
+use Rattle.awari_facts.specs.Sources.{SaysBy}
 use Rattle.awari_questions.proofs.counts.print_levels.Given as goal
 
 abbrev pub invariant-loop-number : goal.invariant-loop-number

@@ -1,53 +1,15 @@
-use Rattle.std.proofs.Common.{◌<◌, ◌≤◌, arith}
-use Rattle.awari_folder.proofs.States.{unchanged_then}
-use Rattle.awari_rank.specs.Rank.{size_of}
-use Rattle.awari_places.proofs.Running.{run-none}
-use Rattle.awari_questions.proofs.ChoiceLaws.{few-more, numbered-all, numbered-more, numbered-none, numbered-skip, weighs}
-use Rattle.awari_questions.proofs.SourceLaws.{says_still, some_entry}
-use Rattle.awari_questions.specs.Listing.{passes}
+use Rattle.std.proofs.Common.{◌∙◌}
+use Rattle.awari_facts.proofs.SourceLaws.{says_still}
+use Rattle.awari_questions.proofs.ListingLaws.{many-drawn, many-wanted}
 use Rattle.awari_questions.proofs.listing.count_boards.Goals as goal
 
-pub loop-rank-init : goal.loop-rank-init
-loop-rank-init g c = record {
-  few = omega arith;
-  fewer = omega arith;
-  unchanged = c.in-Ok.ensures.same;
-  numbered = λ images says. (run-none images c.args.level c.new-run.result c.new-run.ensures, numbered-none _ _ _);
-}
-
-pub loop-rank-preserved-then-not-is_due : goal.loop-rank-preserved-then-not-is_due
-loop-rank-preserved-then-not-is_due g c =
-    let i = c.loop-rank.invariant in
-    let low : c.args.level ≤ 24 = omega (arith, c.requires.low) in
-    let inside : c.loop-rank.rank < size_of c.args.level = omega (arith, c.loop-rank-test.true, c.size-rank-end.ensures.boards) in
-    record {
-      few = few-more c.loop-rank.passed c.is_due.new.passed c.loop-rank.rank (passes c.args.wanted.now c.in-Ok.farthest c.in-Ok-read_entry.entry) c.is_due.ensures.passed i.few;
-      fewer = omega (arith, i.fewer);
-      unchanged = unchanged_then _ _ _ i.unchanged c.in-Ok-read_entry.ensures.same;
-      numbered = λ images says.
-          let before = i.numbered images says in
-          let still = says_still c.args.source _ _ images i.unchanged.stands says in
-          let weighed = weighs c.args.wanted.now images c.args.level c.loop-rank.passed c.is_due.new.passed c.in-Ok.farthest c.in-Ok-read_entry.entry c.is_due.result (c.in-Ok.ensures.farthest images says) c.is_due.ensures.passed c.is_due.ensures.due in
-          let (board, at) = some_entry images c.args.level c.loop-rank.rank c.in-Ok-read_entry.entry (c.in-Ok-read_entry.ensures.entry images still before.0) low inside in
-          (c.in-Ok-read_entry.ensures.run images still before.0, numbered-skip _ _ _ _ _ _ _ board _ _ before.1 at weighed c.if-not-is_due.true);
-    }
-
-pub loop-rank-preserved : goal.loop-rank-preserved
-loop-rank-preserved g c =
-    let i = c.loop-rank.invariant in
-    let low : c.args.level ≤ 24 = omega (arith, c.requires.low) in
-    let inside : c.loop-rank.rank < size_of c.args.level = omega (arith, c.loop-rank-test.true, c.size-rank-end.ensures.boards) in
-    record {
-      few = few-more c.loop-rank.passed c.is_due.new.passed c.loop-rank.rank (passes c.args.wanted.now c.in-Ok.farthest c.in-Ok-read_entry.entry) c.is_due.ensures.passed i.few;
-      fewer = omega (arith, i.fewer);
-      unchanged = unchanged_then _ _ _ i.unchanged c.in-Ok-read_entry.ensures.same;
-      numbered = λ images says.
-          let before = i.numbered images says in
-          let still = says_still c.args.source _ _ images i.unchanged.stands says in
-          let weighed = weighs c.args.wanted.now images c.args.level c.loop-rank.passed c.is_due.new.passed c.in-Ok.farthest c.in-Ok-read_entry.entry c.is_due.result (c.in-Ok.ensures.farthest images says) c.is_due.ensures.passed c.is_due.ensures.due in
-          let (board, at) = some_entry images c.args.level c.loop-rank.rank c.in-Ok-read_entry.entry (c.in-Ok-read_entry.ensures.entry images still before.0) low inside in
-          (c.in-Ok-read_entry.ensures.run images still before.0, numbered-more _ _ _ _ _ _ _ board _ _ before.1 at weighed c.if-not-is_due.false);
-    }
+pub returns-then-wanted-eq0-clause-counted : goal.returns-then-wanted-eq0-clause-counted
+returns-then-wanted-eq0-clause-counted g c = λ images says.
+    many-wanted c.args.wanted.now images c.args.level c.in-Ok-count_due.due
+    (c.in-Ok-count_due.ensures.counted images (says_still c.args.source _ _ images c.in-Ok.ensures.same.stands says) (c.in-Ok.ensures.farthest images says)) c.if-wanted-eq0.true
 
 pub returns-clause-counted : goal.returns-clause-counted
-returns-clause-counted g c = λ images says. numbered-all _ _ _ _ _ _ (c.loop-rank.invariant.numbered images says).1 (omega (arith, c.size-rank-end.ensures.boards))
+returns-clause-counted g c = λ images says.
+    c.min.ensures
+    ∙ many-drawn c.args.wanted.now images c.args.level c.in-Ok-count_due.due
+    (c.in-Ok-count_due.ensures.counted images (says_still c.args.source _ _ images c.in-Ok.ensures.same.stands says) (c.in-Ok.ensures.farthest images says)) c.if-wanted-eq0.false

@@ -3,7 +3,7 @@ use Rattle.awari_folder.specs.State.{Unchanged}
 use Rattle.awari_places.specs.Runs.{IsRunOf}
 use Rattle.awari_table.specs.declared.images.Image.{Image}
 use Rattle.awari_questions.proofs.ChoiceLaws.{IsFarthestTo}
-use Rattle.awari_questions.specs.Sources.{SaysBy}
+use Rattle.awari_facts.specs.Sources.{SaysBy}
 use Rattle.awari_questions.proofs.listing.find_farthest.Given as goal
 
 abbrev pub invariant-loop-rank : goal.invariant-loop-rank

@@ -1,0 +1,65 @@
+-- What is known of a board, pit by pit.
+use Rattle.std.proofs.Common.{◌≡◌, ◌↔◌, ℕ, ◌+◌, Bool, true, false, cond, List, ◌++◌, ◌∷◌, [], count_by, fold, Some, None, ℤ, pos, ◌-ℤ◌, ap, sym, ◌∙◌, refl, zero-add, arith}
+use Rattle.std.proofs.lemmas.Bool.{false≢true}
+use Rattle.std.proofs.lemmas.List.Sums.{fold-append, sum_by-append}
+use Rattle.std.specs.List.{range_with_len}
+use Rattle.awari_board.proofs.Falling.{range-more}
+use Rattle.awari_board.proofs.Legal.{legal_is}
+use Rattle.awari_board.specs.Rules.{IsLegal, IsMove, captured, next_board}
+use Rattle.awari_board.specs.Tests.{is_legal}
+use Rattle.awari_table.specs.Images.{entry_of}
+use Rattle.awari_table.specs.declared.images.Entry.{Entry}
+use Rattle.awari_table.specs.declared.images.Image.{Image}
+use Rattle.awari_facts.specs.Facts.{captures_by, gained_by}
+use Rattle.awari_facts.specs.declared.looks.Gained.{Gained}
+
+range-next : (n : ℕ) → range_with_len 0 (n + 1) ≡ range_with_len 0 n ++ n ∷ []
+range-next n = range-more 0 n ∙ ap (λ k. range_with_len 0 n ++ k ∷ []) (zero-add n)
+
+-- the count over one more number
+pub count-more : (p : ℕ → Bool) (n : ℕ) → count_by p (range_with_len 0 (n + 1)) ≡ count_by p (range_with_len 0 n) + cond (p n) 1 0
+count-more p n = ap (count_by p) (range-next n) ∙ sum_by-append (λ x. cond (p x) 1 0) (range_with_len 0 n) (n ∷ []) ∙ omega arith
+
+pub count-next : (p : ℕ → Bool) (n count next : ℕ) (b : Bool) → count ≡ count_by p (range_with_len 0 n) → b ≡ p n → next ≡ count + cond b 1 0 → next ≡ count_by p (range_with_len 0 (n + 1))
+count-next p n count next b before is more =
+    more ∙ ap (λ b. count + cond b 1 0) is ∙ ap (λ c. c + cond (p n) 1 0) before ∙ sym (count-more p n)
+
+-- the fold over one more number
+pub fold-more : {B : Type 0} (f : B → ℕ → B) (start : B) (n : ℕ) → fold f start (range_with_len 0 (n + 1)) ≡ f (fold f start (range_with_len 0 n)) n
+fold-more f start n = ap (fold f start) (range-next n) ∙ fold-append f start (range_with_len 0 n) (n ∷ [])
+
+-- ---- a pit
+
+pub not_legal : (board : List ℕ) (x : ℕ) → (IsLegal board x → ⊥) → is_legal board x ≡ false
+not_legal board x none = go (is_legal board x) refl
+  where
+    go : (b : Bool) → is_legal board x ≡ b → b ≡ false
+    go true e = absurd (none ((legal_is board x).0 e))
+    go false e = refl
+
+pub legal-test : (board : List ℕ) (x : ℕ) (b : Bool) → (b ≡ true) ↔ IsLegal board x → b ≡ is_legal board x
+legal-test board x true test = sym ((legal_is board x).1 (test.0 refl))
+legal-test board x false test = sym (not_legal board x (λ legal. false≢true (test.1 legal)))
+
+pub captures-legal : (board : List ℕ) (x c : ℕ) (next : List ℕ) → IsMove board x c next → Some c ≡ captures_by board (Some x)
+captures-legal board x c next move =
+    ap (λ n. Some n) move.captures ∙ sym (ap (λ b. cond b (Some (captured board x)) None) ((legal_is board x).1 move.legal))
+
+pub captures-none : (board : List ℕ) (x : ℕ) → (IsLegal board x → ⊥) → None ≡ captures_by board (Some x)
+captures-none board x none = sym (ap (λ b. cond b (Some (captured board x)) None) (not_legal board x none))
+
+abbrev gain : List Image → List ℕ → ℕ → Gained
+gain images board x = record { captured = captured board x; value = pos (captured board x) -ℤ (entry_of images (next_board board x)).value }
+
+pub gained-none : (images : List Image) (board : List ℕ) (x : ℕ) → (IsLegal board x → ⊥) → None ≡ gained_by images board x
+gained-none images board x none = sym (ap (λ b. cond b (Some (gain images board x)) None) (not_legal board x none))
+
+pub gained-legal : (images : List Image) (board : List ℕ) (x c : ℕ) (next : List ℕ) (e : Entry) (g : Gained) → IsMove board x c next → e ≡ entry_of images next → g.captured ≡ c → g.value ≡ pos c -ℤ e.value
+    → Some g ≡ gained_by images board x
+gained-legal images board x c next e g move says takes worth =
+    let same : g ≡ gain images board x = whole g (captured board x) _ (takes ∙ move.captures)
+    (worth ∙ ap (λ n. pos n -ℤ e.value) move.captures ∙ ap (λ (f : Entry). pos (captured board x) -ℤ f.value) (says ∙ ap (entry_of images) move.leaves)) in
+    ap (λ h. Some h) same ∙ sym (ap (λ b. cond b (Some (gain images board x)) None) ((legal_is board x).1 move.legal))
+  where
+    whole : (g : Gained) (c : ℕ) (v : ℤ) → g.captured ≡ c → g.value ≡ v → g ≡ record { captured = c; value = v }
+    whole g c v captures gains = ap (λ n. record { captured = n; value = g.value }) captures ∙ ap (λ w. record { captured = c; value = w }) gains

@@ -1,0 +1,66 @@
+-- What is known of a board beside its entry: by the rules alone, or by what levels say of the boards that its moves leave.
+use Rattle.std.specs.Prelude.{ℕ, ◌==◌, Bool, false, ◌&&◌, ◌||◌, nat_lt, if◌then◌else◌, List, fold, count_by, ℤ, pos, neg_ℤ, ◌-ℤ◌, int_lt, Option, Some, None}
+use Rattle.std.specs.List.{range_with_len}
+use Rattle.std.specs.Ordering.{int_eq}
+use Rattle.awari_board.specs.Rules.{captured, next_board, turned}
+use Rattle.awari_board.specs.Tests.{is_legal}
+use Rattle.awari_table.specs.Images.{entry_of}
+use Rattle.awari_table.specs.declared.images.Image.{Image}
+use Rattle.awari_facts.specs.declared.looks.Gained.{Gained}
+
+-- the mover's pits
+abbrev pub own_pits : List ℕ
+own_pits = range_with_len 0 6
+
+-- how many moves are legal
+abbrev pub legal_moves : List ℕ → ℕ
+legal_moves board = count_by (is_legal board) own_pits
+
+-- the stones that the plan's move captures, if there is a plan and its move is legal
+abbrev pub captures_by : List ℕ → Option ℕ → Option ℕ
+captures_by board None = None
+captures_by board (Some x) = if is_legal board x then Some (captured board x) else None
+
+-- What a legal move captures, and what the mover gains by it: that, less the value of the board that it leaves.
+abbrev pub gained_by : List Image → List ℕ → ℕ → Option Gained
+gained_by images board x =
+    if is_legal board x
+    then Some (record { captured = captured board x; value = pos (captured board x) -ℤ (entry_of images (next_board board x)).value })
+    else None
+
+-- there is a move, and the mover gains this value by it
+abbrev pub gains : ℤ → Option Gained → Bool
+gains value None = false
+gains value (Some g) = int_eq g.value value
+
+-- how many legal moves gain this value
+abbrev pub moves_gaining : List Image → List ℕ → ℤ → ℕ
+moves_gaining images board value = count_by (λ x. gains value (gained_by images board x)) own_pits
+
+-- how many legal moves gain what the board is worth
+abbrev pub keeping_moves : List Image → List ℕ → ℕ
+keeping_moves images board = moves_gaining images board (entry_of images board).value
+
+-- The board is worth less to the mover than it would be if the opponent had to move.
+abbrev pub waits : List Image → List ℕ → Bool
+waits images board = int_lt (entry_of images board).value (neg_ℤ (entry_of images (turned board)).value)
+
+-- the one of two moves that captures more; of those that capture as many, the one that gains more
+abbrev pub greedier : Gained → Option Gained → Gained
+greedier most None = most
+greedier most (Some g) = if nat_lt most.captured g.captured || (g.captured == most.captured && int_lt most.value g.value) then g else most
+
+-- what stands for a move that captures nothing
+abbrev pub no_capture : Gained
+no_capture = record { captured = 0; value = pos 0 }
+
+-- the legal move that captures most; if none captures, it captures 0
+abbrev pub greediest : List Image → List ℕ → Gained
+greediest images board = fold (λ most x. greedier most (gained_by images board x)) no_capture own_pits
+
+-- what is thrown away by the move that captures most, if this is the value: the value less what it gains; 0 if no move captures
+abbrev pub lost_by : ℤ → Gained → ℤ
+lost_by value g = if g.captured == 0 then pos 0 else value -ℤ g.value
+
+abbrev pub trap_of : List Image → List ℕ → ℤ
+trap_of images board = lost_by (entry_of images board).value (greediest images board)

@@ -1,0 +1,3 @@
+pub mod Facts
+pub mod Loads
+pub mod Sources

@@ -1,0 +1,40 @@
+-- Where the entries of a level are read, and what is said of a level that no one verified.
+use Rattle.std.specs.Prelude.{◌≡◌, ℕ, ◌<◌, List, length, min, Option, slice_index_or}
+use Rattle.awari_folder.specs.Contents.{AreNames}
+use Rattle.awari_places.specs.Opening.{AreFramed}
+use Rattle.awari_places.specs.Places.{Says}
+use Rattle.awari_places.specs.declared.opening.Opened.{Opened}
+use Rattle.awari_table.specs.Images.{no_image}
+use Rattle.awari_table.specs.declared.TheConstants.{HIGHEST_LEVEL}
+use Rattle.awari_table.specs.Shelves.{IsShelf}
+use Rattle.awari_table.specs.declared.images.Image.{Image}
+use Rattle.awari_facts.specs.declared.sources.Source.{Source}
+use Rattle.awari_facts.specs.declared.sources.Source.TheVariants.{Shelf, Files}
+
+-- how many levels a source has
+abbrev pub levels_of : Source → ℕ
+levels_of (Shelf shelf) = length shelf.now
+levels_of (Files levels) = levels
+
+-- these are the levels of the shelf, which are right, or what the files say
+abbrev pub SaysBy : Source → (ℕ → Option (Option (List ℕ))) → List Image → Type 0
+SaysBy (Shelf shelf) stands images = (images ≡ shelf.now) × IsShelf images
+SaysBy (Files levels) stands images = Says stands levels images
+
+-- the limit of the level of this number
+abbrev pub limit_of : List Image → ℕ → ℕ
+limit_of images level = (slice_index_or images level no_image).limit
+
+-- These files are opened by their headers, up to this level's, where it is known what has the names; and this holds of what they
+-- say. If they are right, that is their shelf.
+pub record AreSaid (most : ℕ) (stands : ℕ → Option (Option (List ℕ))) (P : List Image → Type 0) : Type 0 where
+  pub opened : Opened
+  pub framed : (names : ℕ → Option (List ℕ)) → AreNames stands names → AreFramed (min most HIGHEST_LEVEL) names opened
+  pub said : (images : List Image) → Says stands opened.levels images → P images
+
+-- the same, and this level's file is among them
+pub record IsSaidOf (level : ℕ) (stands : ℕ → Option (Option (List ℕ))) (P : List Image → Type 0) : Type 0 where
+  pub opened : Opened
+  pub framed : (names : ℕ → Option (List ℕ)) → AreNames stands names → AreFramed (min level HIGHEST_LEVEL) names opened
+  pub known : level < opened.levels
+  pub said : (images : List Image) → Says stands opened.levels images → P images

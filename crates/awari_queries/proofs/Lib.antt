@@ -1,0 +1,2 @@
+pub mod Sampling
+pub mod SpanLaws

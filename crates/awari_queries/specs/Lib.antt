@@ -1,0 +1,3 @@
+pub mod Boards
+pub mod Draws
+pub mod Spans

@@ -1,0 +1,117 @@
+//! Which boards of a level are asked for.
+
+ghost use Rattle.std.specs.Prelude.{◌≡◌, IfOk, OnErr};
+ghost use Rattle.awari_queries.specs.Boards.{AreAskedFor, AsksForNoSpans, form_of};
+
+use crate::spans::{NoSpan, Span, asked_span};
+
+/// Which boards of a level are asked for, in words. A span is `-3..2`, `1..`, `..0` or `5`.
+#[derive(Clone, Copy)]
+pub struct BoardsQuery<'a> {
+    /// The stones on each board.
+    pub level: u8,
+    /// Spans that a board has to be in.
+    pub spans: BoardSpans<'a>,
+    /// Those for whom it is a burden to move: their value is less than if the opponent had to.
+    pub waits: bool,
+    /// Those where the play has ended.
+    pub ended: bool,
+    /// Those where it has not.
+    pub running: bool,
+    /// Those of the greatest distance alone, among those that have the rest.
+    pub farthest: bool,
+    /// Each so many-th of them; 0 counts as 1.
+    pub every: u32,
+    /// So many of them, drawn by chance; 0 is all.
+    pub random: u32,
+    /// The number that decides which are drawn.
+    pub seed: u32,
+    /// How many there are, and not the boards.
+    pub count: bool,
+    /// Lines of JSON.
+    pub json: bool,
+    /// Lines of CSV below a header, unless JSON is asked for.
+    pub csv: bool,
+    /// Whether files answer that nobody verified.
+    pub unverified: bool,
+}
+
+/// Spans, in words, of numbers that are known of each board.
+#[derive(Clone, Copy, Default)]
+pub struct BoardSpans<'a> {
+    /// Values.
+    pub value: Option<&'a str>,
+    /// Distances.
+    pub distance: Option<&'a str>,
+    /// Pits of the plan.
+    pub plan: Option<&'a str>,
+    /// Stones that the plan's move captures.
+    pub captures: Option<&'a str>,
+    /// Stones on the mover's side.
+    pub side: Option<&'a str>,
+    /// Legal moves.
+    pub moves: Option<&'a str>,
+    /// Legal moves that gain what the board is worth.
+    pub keep: Option<&'a str>,
+    /// Stones that are thrown away by whoever captures the most.
+    pub trap: Option<&'a str>,
+}
+
+/// How boards are printed.
+#[derive(Clone, Copy, Debug, PartialEq, Eq)]
+pub enum Form {
+    /// A line with spaces.
+    Text,
+    /// Values with commas, below a line of names.
+    Csv,
+    /// An object a line.
+    Json,
+}
+
+/// The form that is asked for.
+pub fn form_of(json: bool, csv: bool) -> Form
+    ensures { result ≡ form_of json csv }
+{
+    if json {
+        return Form::Json;
+    }
+    if csv { Form::Csv } else { Form::Text }
+}
+
+/// Spans of numbers that are known of each board.
+#[derive(Clone, Copy, Debug, Default, PartialEq, Eq)]
+pub struct Spans {
+    /// Values.
+    pub value: Option<Span>,
+    /// Distances.
+    pub distance: Option<Span>,
+    /// Pits of the plan.
+    pub plan: Option<Span>,
+    /// Stones that the plan's move captures.
+    pub captures: Option<Span>,
+    /// Stones on the mover's side.
+    pub side: Option<Span>,
+    /// Legal moves.
+    pub moves: Option<Span>,
+    /// Legal moves that gain what the board is worth.
+    pub keep: Option<Span>,
+    /// Stones that are thrown away by whoever captures the most.
+    pub trap: Option<Span>,
+}
+
+/// The spans that the words name. They are refused as 95 if one of them is no span.
+pub fn asked_spans(words: &BoardSpans<'_>) -> Result<Spans, NoSpan>
+    ensures asked { IfOk result (AreAskedFor words.now) }
+    ensures none { OnErr result (AsksForNoSpans words.now) }
+{
+    Ok(Spans {
+        value: asked_span(words.value)?,
+        distance: asked_span(words.distance)?,
+        plan: asked_span(words.plan)?,
+        captures: asked_span(words.captures)?,
+        side: asked_span(words.side)?,
+        moves: asked_span(words.moves)?,
+        keep: asked_span(words.keep)?,
+        trap: asked_span(words.trap)?,
+    })
+}
