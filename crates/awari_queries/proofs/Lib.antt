@@ -1,2 +1,3 @@
+pub mod HoldingLaws
 pub mod Sampling
 pub mod SpanLaws

@@ -2,13 +2,8 @@
 use Rattle.std.proofs.Common.{◌≡◌, ◌-◌, ◌/◌, ◌%◌, ◌<◌, ◌≤◌, max, min, Bool, true, false, cond, List, [], ◌∷◌, ◌++◌, length, Option, Some, None, refl, sym, ap, ◌∙◌, arith}
 use Rattle.std.proofs.lemmas.Bool.Decides.{nat_tests}
 use Rattle.std.proofs.lemmas.Nat.{mod_below}
-use Rattle.awari_queries.specs.Draws.{drawn, drawn_on, is_drawn, is_taken, next_number, sample, taken}
+use Rattle.awari_queries.specs.Draws.{drawn, drawn_on, is_drawn, is_taken, left_after, next_number, sample, taken}
 use Rattle.awari_queries.specs.declared.draws.Draw.{Draw}
-
--- what is left to draw behind a list
-abbrev pub left_after : {A : Type 0} → Option Draw → List A → Option Draw
-left_after d [] = d
-left_after d (x ∷ xs) = left_after (drawn_on d) xs
 
 sample-push : {A : Type 0} (d : Draw) (xs : List A) (x : A) → sample d (xs ++ x ∷ []) ≡ sample d xs ++ cond (is_taken (left_after (Some d) xs)) (x ∷ []) []
 sample-push d [] x = go (is_drawn d)

@@ -36,3 +36,8 @@ is_taken (Some d) = is_drawn d
 abbrev pub drawn_on : Option Draw → Option Draw
 drawn_on None = None
 drawn_on (Some d) = Some (drawn d)
+
+-- what is left to draw behind a list
+abbrev pub left_after : {A : Type 0} → Option Draw → List A → Option Draw
+left_after d [] = d
+left_after d (x ∷ xs) = left_after (drawn_on d) xs

@@ -26,6 +26,10 @@ pub struct BoardsQuery<'a> {
     pub random: u32,
     /// The number that decides which are drawn.
     pub seed: u32,
+    /// The column by which the first ones are found, with `-` before it for the greatest first.
+    pub sort: Option<&'a str>,
+    /// So many of the first ones; 0 is all.
+    pub most: u32,
     /// How many there are, and not the boards.
     pub count: bool,
     /// Lines of JSON.

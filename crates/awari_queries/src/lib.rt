@@ -1,15 +1,28 @@
-//! What is asked of the boards of a level, in words: spans of numbers, and what else a board has to have.
-//! Words of a command name it, and `boards` answers it. Nothing here looks at a level.
+//! What is asked of the boards of a level, in words: spans of numbers, the order in which they come, and what
+//! else a board has to have. Words of a command name it, and `boards` answers it. Nothing here looks at a level.
 //!
-//! The spans that are asked for, in `crates/awari_questions/src/boards.rt`:
+//! Whether a number that a board may have is in a span, in `crates/awari_queries/src/spans.rt`:
 //!
-//!     let spans = asked_spans(&query.spans)?;
+//!     pub fn has(span: Option<Span>, number: Option<u8>) -> bool
+//!         ensures { result ≡ has span number }
+//!     {
+//!         match number {
+//!             None => span.is_none(),
+//!             Some(number) => is_in(span, i64::from(number)),
+//!         }
+//!     }
 #![tactic(auto)]
 
 mod boards;
+mod columns;
 mod draws;
+mod holding;
+mod orders;
 mod spans;
 
 pub use boards::{BoardSpans, BoardsQuery, Form, Spans, asked_spans, form_of};
+pub use columns::{Column, NoColumn, Pair, asked_pair};
 pub use draws::{Draw, draw_of, is_taken, samples_are_as_large_as_wanted};
+pub use holding::{Held, hold};
+pub use orders::{Order, asked_order, key_of};
 pub use spans::{NoSpan, Span, has, is_in};

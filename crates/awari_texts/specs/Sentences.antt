@@ -83,6 +83,7 @@ of_files n =
     if n == 93 then codes "The level has fewer boards" else
     if n == 94 then codes "There are 2^64 plays or more, which are not counted" else
     if n == 95 then codes "Values and distances are A..B, A.., ..B or A, the lower end first" else
+    if n == 96 then codes "There is no such column, or it is not said how many boards or of which level" else
     codes "No answer has this number"
 
 -- the sentence of an answer, and of each other number that it is none

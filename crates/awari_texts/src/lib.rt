@@ -129,6 +129,7 @@ fn of_files(answer: u8) -> &'static [u8]
         93 => b"The level has fewer boards\0",
         94 => b"There are 2^64 plays or more, which are not counted\0",
         95 => b"Values and distances are A..B, A.., ..B or A, the lower end first\0",
+        96 => b"There is no such column, or it is not said how many boards or of which level\0",
         _ => b"No answer has this number\0",
     }
 }
