@@ -1,5 +1,5 @@
 -- What is known of a board beside its entry: by the rules alone, or by what levels say of the boards that its moves leave.
-use Rattle.std.specs.Prelude.{ℕ, ◌==◌, Bool, false, ◌&&◌, ◌||◌, nat_lt, if◌then◌else◌, List, fold, count_by, ℤ, pos, neg_ℤ, ◌-ℤ◌, int_lt, Option, Some, None}
+use Rattle.std.specs.Prelude.{ℕ, ◌==◌, Bool, false, ◌&&◌, ◌||◌, nat_lt, if◌then◌else◌, List, fold, count_by, map, ℤ, pos, neg_ℤ, ◌-ℤ◌, int_lt, Option, Some, None}
 use Rattle.std.specs.List.{range_with_len}
 use Rattle.std.specs.Ordering.{int_eq}
 use Rattle.awari_board.specs.Rules.{captured, next_board, turned}
@@ -28,18 +28,22 @@ gained_by images board x =
     then Some (record { captured = captured board x; value = pos (captured board x) -ℤ (entry_of images (next_board board x)).value })
     else None
 
+-- what each of the mover's pits gives
+abbrev pub gains_in : List Image → List ℕ → List (Option Gained)
+gains_in images board = map (gained_by images board) own_pits
+
 -- there is a move, and the mover gains this value by it
 abbrev pub gains : ℤ → Option Gained → Bool
 gains value None = false
 gains value (Some g) = int_eq g.value value
 
--- how many legal moves gain this value
-abbrev pub moves_gaining : List Image → List ℕ → ℤ → ℕ
-moves_gaining images board value = count_by (λ x. gains value (gained_by images board x)) own_pits
+-- how many of these moves gain this value
+abbrev pub moves_gaining : ℤ → List (Option Gained) → ℕ
+moves_gaining value moves = count_by (gains value) moves
 
 -- how many legal moves gain what the board is worth
 abbrev pub keeping_moves : List Image → List ℕ → ℕ
-keeping_moves images board = moves_gaining images board (entry_of images board).value
+keeping_moves images board = moves_gaining (entry_of images board).value (gains_in images board)
 
 -- The board is worth less to the mover than it would be if the opponent had to move.
 abbrev pub waits : List Image → List ℕ → Bool
@@ -54,13 +58,13 @@ greedier most (Some g) = if nat_lt most.captured g.captured || (g.captured == mo
 abbrev pub no_capture : Gained
 no_capture = record { captured = 0; value = pos 0 }
 
--- the legal move that captures most; if none captures, it captures 0
-abbrev pub greediest : List Image → List ℕ → Gained
-greediest images board = fold (λ most x. greedier most (gained_by images board x)) no_capture own_pits
+-- the one of these moves that captures most; if none captures, it captures 0
+abbrev pub greediest : List (Option Gained) → Gained
+greediest moves = fold greedier no_capture moves
 
 -- what is thrown away by the move that captures most, if this is the value: the value less what it gains; 0 if no move captures
 abbrev pub lost_by : ℤ → Gained → ℤ
 lost_by value g = if g.captured == 0 then pos 0 else value -ℤ g.value
 
 abbrev pub trap_of : List Image → List ℕ → ℤ
-trap_of images board = lost_by (entry_of images board).value (greediest images board)
+trap_of images board = lost_by (entry_of images board).value (greediest (gains_in images board))

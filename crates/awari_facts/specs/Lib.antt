@@ -1,3 +1,4 @@
 pub mod Facts
 pub mod Loads
+pub mod Numbers
 pub mod Sources

@@ -9,8 +9,8 @@ ghost use Rattle.awari_table.specs.declared.TheConstants.{HIGHEST_LEVEL};
 ghost use Rattle.awari_table.specs.declared.images.Image.{Image};
 ghost use Rattle.awari_facts.specs.Sources.{SaysBy, levels_of, limit_of};
 
-use awari_board::Board;
 use awari_folder::{Folder, FolderFault};
+use awari_packed::PackedBoard;
 use awari_places::{Run, entry, entry_in_run, limit_in_header};
 use awari_table::{Entry, Shelf};
 
@@ -33,6 +33,17 @@ pub fn count_levels(source: Source<'_>) -> u8
     }
 }
 
+/// The entry of a rank of a verified level. Conditions: the level is there, and has so many boards.
+pub fn entry_on(shelf: &Shelf, level: u8, rank: u32) -> Entry
+    requires level { level < length shelf.now }
+    requires rank { rank < size_of level }
+    ensures { IsEntryAt shelf.now level rank result }
+{
+    // For the proof: the levels are a shelf.
+    let _levels = shelf.levels();
+    shelf.level(level).entry_at(rank)
+}
+
 /// The entry of a rank of a level. Conditions: the level is there, and has so many boards; the run is
 /// new, or was filled for this level.
 pub fn read_entry<F: Folder>(
@@ -50,11 +61,7 @@ pub fn read_entry<F: Folder>(
     ensures same { Unchanged (F.state folder.old) (F.state folder.new) }
 {
     match source {
-        Source::Shelf(shelf) => {
-            // For the proof: the levels are a shelf.
-            let _levels = shelf.levels();
-            Ok(shelf.level(level).entry_at(rank))
-        }
+        Source::Shelf(shelf) => Ok(entry_on(shelf, level, rank)),
         Source::Files(_) => entry_in_run(folder, run, level, rank),
     }
 }
@@ -63,7 +70,7 @@ pub fn read_entry<F: Folder>(
 pub fn entry_at<F: Folder>(
     source: Source<'_>,
     folder: &mut F,
-    board: &Board,
+    board: &PackedBoard,
 ) -> Result<Entry, FolderFault>
     requires known { sum board.now < levels_of source }
     requires few { levels_of source ≤ HIGHEST_LEVEL + 1 }
@@ -71,11 +78,8 @@ pub fn entry_at<F: Folder>(
     ensures same { Unchanged (F.state folder.old) (F.state folder.new) }
 {
     match source {
-        Source::Shelf(shelf) => match shelf.entry(board) {
-            Ok(entry) => Ok(entry),
-            Err(_) => unreachable!(),
-        },
-        Source::Files(levels) => entry(folder, levels, board),
+        Source::Shelf(shelf) => Ok(shelf.entry_below(board, board.stones())),
+        Source::Files(levels) => entry(folder, levels, &board.board()),
     }
 }
 
