@@ -2,17 +2,17 @@
 use Rattle.std.proofs.Common.{◌≡◌, ◌∷◌, ◌++◌, [], ℕ, List, true, false, codes, length, map, refl, arith, rules}
 use Rattle.awari_words.specs.Joined.{is_joined, joined}
 
-pub joined_next : {T : Type 0} (f : T → List ℕ) → (word bytes : List ℕ) (after : List T) (span : T) (others : List T)
-    → bytes ≡ word ++ (codes "=" ++ f span) → after ≡ span ∷ others → is_joined word (f span) ≡ true
+pub joined_next : {T : Type 0} (f : T → List ℕ) → (word bytes : List ℕ) (after : List T) (value : T) (others : List T)
+    → bytes ≡ word ++ (codes "=" ++ f value) → after ≡ value ∷ others → is_joined word (f value) ≡ true
     → bytes ∷ joined (map f others) ≡ joined (word ∷ map f after)
 unfolding joined
-joined_next f word bytes after span others is split both = rw (split, is, both) refl
+joined_next f word bytes after value others is split both = rw (split, is, both) refl
 
-pub kept_next : {T : Type 0} (f : T → List ℕ) → (word bytes : List ℕ) (after : List T) (span : T) (others : List T)
-    → bytes ≡ word → after ≡ span ∷ others → is_joined word (f span) ≡ false
+pub kept_next : {T : Type 0} (f : T → List ℕ) → (word bytes : List ℕ) (after : List T) (value : T) (others : List T)
+    → bytes ≡ word → after ≡ value ∷ others → is_joined word (f value) ≡ false
     → bytes ∷ joined (map f after) ≡ joined (word ∷ map f after)
 unfolding joined
-kept_next f word bytes after span others is split both = rw (split, is, both) refl
+kept_next f word bytes after value others is split both = rw (split, is, both) refl
 
 pub kept_last : {T : Type 0} (f : T → List ℕ) → (word bytes : List ℕ) (after : List T) → bytes ≡ word → length after ≡ 0
     → bytes ∷ joined (map f after) ≡ joined (word ∷ map f after)

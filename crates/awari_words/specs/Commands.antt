@@ -101,6 +101,10 @@ migrate_command = command (codes "migrate") (folder_word (codes "FROM") ∷ fold
 abbrev pub json : Rule
 json = flag (codes "json")
 
+-- the answer is CSV
+abbrev pub csv : Rule
+csv = flag (codes "csv")
+
 -- the answer is by what the files say, and nothing is verified
 abbrev pub unverified : Rule
 unverified = flag (codes "unverified")
@@ -131,7 +135,7 @@ abbrev pub plays_command : Shape
 plays_command = command (codes "plays") (board ∷ number (codes "PLIES") (Signed (pos 0) (pos 255)) ∷ [])
 
 abbrev pub counts_command : Shape
-counts_command = command (codes "counts") (folder ∷ level ∷ json ∷ unverified ∷ [])
+counts_command = command (codes "counts") (folder ∷ level ∷ option (codes "by") ∷ csv ∷ json ∷ unverified ∷ [])
 
 -- spans of numbers that a board's entry gives
 abbrev pub entry_spans : List Rule
@@ -150,13 +154,17 @@ abbrev pub choices : List Rule
 choices = flag (codes "farthest") ∷ number_option (codes "every") (Unsigned 1 4294967295) (codes "1")
     ∷ number_option (codes "random") (Unsigned 0 4294967295) (codes "0") ∷ number_option (codes "seed") (Unsigned 0 4294967295) (codes "0") ∷ []
 
+-- which of these come first, and how many of them are wanted
+abbrev pub order : List Rule
+order = option (codes "sort") ∷ number_option (codes "most") (Unsigned 0 4294967295) (codes "0") ∷ []
+
 -- how they are printed
 abbrev pub forms : List Rule
-forms = flag (codes "count") ∷ flag (codes "csv") ∷ json ∷ unverified ∷ []
+forms = flag (codes "count") ∷ csv ∷ json ∷ unverified ∷ []
 
 -- which boards of a level are wanted
 abbrev pub wishes : List Rule
-wishes = entry_spans ++ count_spans ++ kinds ++ choices ++ forms
+wishes = entry_spans ++ count_spans ++ kinds ++ choices ++ order ++ forms
 
 abbrev pub boards_command : Shape
 boards_command = command (codes "boards") (folder ∷ number (codes "LEVEL") levels ∷ wishes)

@@ -1,4 +1,5 @@
--- Words in which a span that begins below zero is joined to the option before it: `--value -3..2` is `--value=-3..2`.
+-- Words in which a value that begins with a hyphen is joined to the option before it: `--value -3..2` is `--value=-3..2`, and
+-- `--sort -value` is `--sort=-value`.
 use Rattle.std.specs.Prelude.{ℕ, Bool, false, ◌&&◌, ◌||◌, ◌==◌, if◌then◌else◌, List, [], ◌∷◌, ◌++◌, codes, nat_le}
 use Rattle.std.specs.Str.{bytes_eq}
 
@@ -13,10 +14,17 @@ is_below_zero [] = false
 is_below_zero (c ∷ []) = false
 is_below_zero (c ∷ (d ∷ rest)) = c == 45 && (nat_le 48 d && nat_le d 57)
 
-abbrev pub is_joined : List ℕ → List ℕ → Bool
-is_joined word span = takes_span word && is_below_zero span
+-- the text begins with a hyphen (45) and a small letter (97 to 122)
+abbrev pub is_descending : List ℕ → Bool
+is_descending [] = false
+is_descending (c ∷ []) = false
+is_descending (c ∷ (d ∷ rest)) = c == 45 && (nat_le 97 d && nat_le d 122)
 
--- the words in turn, each with its span
+-- the value begins with a hyphen, and is one that the option takes
+abbrev pub is_joined : List ℕ → List ℕ → Bool
+is_joined word value = if bytes_eq word (codes "--sort") then is_descending value else takes_span word && is_below_zero value
+
+-- the words in turn, each with its value
 unfoldable pub joined : List (List ℕ) → List (List ℕ)
 joined [] = []
 joined (word ∷ []) = word ∷ []

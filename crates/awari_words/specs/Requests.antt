@@ -67,6 +67,8 @@ pub record IsBoardsQueryOf (given : List Row) (query : BoardsQuery) : Type 0 whe
   pub every : Spells given (codes "every") query.every
   pub random : Spells given (codes "random") query.random
   pub seed : Spells given (codes "seed") query.seed
+  pub sort : option_map (λ t. t.now) query.sort ≡ first_of (codes "sort") given
+  pub most : Spells given (codes "most") query.most
   pub count : IsFlagOf given (codes "count") query.count
   pub json : IsFlagOf given (codes "json") query.json
   pub csv : IsFlagOf given (codes "csv") query.csv
@@ -76,6 +78,7 @@ pub record IsBoardsQueryOf (given : List Row) (query : BoardsQuery) : Type 0 whe
 abbrev pub IsNoBoardsQuery : List Row → Type 0
 IsNoBoardsQuery given =
     SpellsNone 8 given (codes "LEVEL") ⊎ SpellsNone 32 given (codes "every") ⊎ SpellsNone 32 given (codes "random") ⊎ SpellsNone 32 given (codes "seed")
+    ⊎ SpellsNone 32 given (codes "most")
 
 -- The question is that of the command's name, with the values that were given for each of its names.
 abbrev pub IsQuestionOf : List ℕ → List Row → Question → Type 0
@@ -91,7 +94,8 @@ IsQuestionOf name given (Line board longest plies json unverified) = (name ≡ c
     × IsFlagOf given (codes "unverified") unverified
 IsQuestionOf name given (Serve top owners unverified) = (name ≡ codes "serve") × Spells given (codes "TOP") top × Spells given (codes "OWNERS") owners
     × IsFlagOf given (codes "unverified") unverified
-IsQuestionOf name given (Counts level json unverified) = (name ≡ codes "counts") × SpellsOr given (codes "LEVEL") level × IsFlagOf given (codes "json") json
+IsQuestionOf name given (Counts level by json csv unverified) = (name ≡ codes "counts") × SpellsOr given (codes "LEVEL") level
+    × (option_map (λ t. t.now) by ≡ first_of (codes "by") given) × IsFlagOf given (codes "json") json × IsFlagOf given (codes "csv") csv
     × IsFlagOf given (codes "unverified") unverified
 IsQuestionOf name given (Boards query) = (name ≡ codes "boards") × IsBoardsQueryOf given query
 

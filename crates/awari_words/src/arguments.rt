@@ -2,7 +2,7 @@
 
 ghost use Rattle.std.specs.Prelude.{◌≡◌, Some, codes, pos};
 ghost use Rattle.clap.specs.declared.builder.value_parser.ValueParser.TheVariants.{NonEmptyString, Signed, Unsigned};
-ghost use Rattle.awari_words.specs.Commands.{board, flag, folder, folder_word, json, level, levels, levels_wish, moves, number, number_option, number_or_0, option, start_folder, threads, top, unverified};
+ghost use Rattle.awari_words.specs.Commands.{board, csv, flag, folder, folder_word, json, level, levels, levels_wish, moves, number, number_option, number_or_0, option, start_folder, threads, top, unverified};
 ghost use Rattle.awari_words.specs.Making.{IsArg};
 
 use awari_pace::{MOST_OWNERS, MOST_ROOM, MOST_SWEEPS};
@@ -179,6 +179,15 @@ pub(crate) fn json<'a>(alloc: Global) -> Arg<'a>
         .help("Print JSON, an object a line")
 }
 
+pub(crate) fn csv<'a>(alloc: Global) -> Arg<'a>
+    ensures { IsArg result csv }
+{
+    Arg::new(alloc, "csv")
+        .long("csv")
+        .action(ArgAction::SetTrue)
+        .help("Print CSV, below the names of its columns")
+}
+
 pub(crate) fn longest<'a>(alloc: Global) -> Arg<'a>
     ensures { IsArg result (flag (codes "longest")) }
 {
@@ -280,6 +289,24 @@ pub(crate) fn number_or_none<'a>(alloc: Global, name: &'a str, help: &'a str) ->
         .value_parser(ValueParser::unsigned(0, u64::from(u32::MAX)))
         .default_value("0")
         .help(help)
+}
+
+pub(crate) fn sort<'a>(alloc: Global) -> Arg<'a>
+    ensures { IsArg result (option (codes "sort")) }
+{
+    Arg::new(alloc, "sort")
+        .long("sort")
+        .value_name("COLUMN")
+        .help("Sort by it; -COLUMN for the greatest first")
+}
+
+pub(crate) fn pair<'a>(alloc: Global) -> Arg<'a>
+    ensures { IsArg result (option (codes "by")) }
+{
+    Arg::new(alloc, "by")
+        .long("by")
+        .value_name("COLUMN,COLUMN")
+        .help("Count the boards of each pair of numbers")
 }
 
 pub(crate) fn every<'a>(alloc: Global) -> Arg<'a>

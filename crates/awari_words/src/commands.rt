@@ -3,14 +3,14 @@
 ghost use Rattle.std.specs.Prelude.{◌≡◌, ◌∷◌, []};
 ghost use Rattle.clap.specs.Simple.{App, Shape, with_rule, with_subcommand};
 ghost use Rattle.clap.specs.Walk.{Rule};
-ghost use Rattle.awari_words.specs.Commands.{ask_command, awari, awari_commands, board, board_command, boards_command, build_command, check_command, choices, command, count_spans, counts_command, entry_spans, folder, folder_commands, forms, judge_command, kinds, line_command, migrate_command, move_command, moves_command, pace, play_commands, plays_command, question_commands, rank_command, serve_command, text_command, verify_command, wishes};
+ghost use Rattle.awari_words.specs.Commands.{ask_command, awari, awari_commands, board, board_command, boards_command, build_command, check_command, choices, command, count_spans, counts_command, entry_spans, folder, folder_commands, forms, judge_command, kinds, line_command, migrate_command, move_command, moves_command, order, pace, play_commands, plays_command, question_commands, rank_command, serve_command, text_command, verify_command, wishes};
 ghost use Rattle.awari_words.specs.Making.{IsArg, IsCommand, MakesApp, MakesCommand, with_subcommands, with_words};
 
 use crate::arguments::{
-    board, digest, each_ply, estimate, every, flag, folder, from, json, level, levels_wish, limit,
-    listed_level, longest, moves, number_or_none, owners, pit, plies, progress, rank, ranked_level,
-    replies, room, served_owners, served_top, span, start_folder, sweeps, threads, to, top,
-    unverified, with_boards,
+    board, csv, digest, each_ply, estimate, every, flag, folder, from, json, level, levels_wish,
+    limit, listed_level, longest, moves, number_or_none, owners, pair, pit, plies, progress, rank,
+    ranked_level, replies, room, served_owners, served_top, sort, span, start_folder, sweeps,
+    threads, to, top, unverified, with_boards,
 };
 use crate::helps::{
     ASK_HELP, AWARI_HELP, BOARD_HELP, BOARDS_HELP, BUILD_HELP, CHECK_HELP, COUNTS_HELP, JUDGE_HELP,
@@ -344,6 +344,8 @@ fn counts_command<'a>(alloc: Global) -> Result<Command<'a>, AllocError>
     );
     let command = with_word(command, folder(alloc));
     let command = with_word(command, level(alloc));
+    let command = with_word(command, pair(alloc));
+    let command = with_word(command, csv(alloc));
     let command = with_word(command, json(alloc));
     with_word(command, unverified(alloc))
 }
@@ -373,6 +375,7 @@ fn with_wishes<'a>(
     let command = with_count_spans(alloc, command);
     let command = with_kinds(alloc, command);
     let command = with_choices(alloc, command);
+    let command = with_order(alloc, command);
     with_forms(alloc, command)
 }
 
@@ -390,14 +393,22 @@ fn with_choices<'a>(
     );
     let command = with_word(command, farthest);
     let command = with_word(command, every(alloc));
-    let random = number_or_none(
-        alloc,
-        "random",
-        "So many of these, drawn by chance; 0 is all",
-    );
+    let random = number_or_none(alloc, "random", "So many of these, by chance; 0 is all");
     let command = with_word(command, random);
     let seed = number_or_none(alloc, "seed", "The number that decides which are drawn");
     with_word(command, seed)
+}
+
+/// The command with the options that say which of these boards come first.
+fn with_order<'a>(
+    alloc: Global,
+    command: Result<Command<'a>, AllocError>,
+) -> Result<Command<'a>, AllocError>
+    ensures { (app : App) → MakesApp command.entry app → MakesApp result (with_words app order) }
+{
+    let command = with_word(command, sort(alloc));
+    let most = number_or_none(alloc, "most", "The first so many of these; 0 is all");
+    with_word(command, most)
 }
 
 /// The command with the options that say how boards are printed.
@@ -409,8 +420,7 @@ fn with_forms<'a>(
 {
     let count = flag(alloc, "count", "Print how many these are, and no board");
     let command = with_word(command, count);
-    let csv = flag(alloc, "csv", "Print CSV, below the names of its columns");
-    let command = with_word(command, csv);
+    let command = with_word(command, csv(alloc));
     let command = with_word(command, json(alloc));
     with_word(command, unverified(alloc))
 }

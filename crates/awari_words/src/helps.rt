@@ -176,22 +176,24 @@ Each ply takes some four times as long. The status is 0, or 1 for a refusal, as
 `refused 94 Overflow` if N is 2^64 or more. docs/FORMATS.md lists them.";
 
 pub const COUNTS_HELP: &str = "\
-It prints a line for each level of the folder, the lowest first, as build does:
+It prints a line for each level, the lowest first, as build does. With LEVEL it
+prints this level's line, and then how many boards have each value and distance:
 
     level L boards S won A even B lost C limit K
+    value V boards N                or `distance D boards N`
+    value 3 distance 5 boards 12    pairs, with LEVEL and --by value,distance
 
-With LEVEL it prints the line of this level alone, and then, in ascending order,
-a line for each value and each distance that some of its boards have:
-
-    value V boards N       N boards have the value V for their mover
-    distance D boards N    N boards have the distance D
-
-With --json each line is an object. docs/FORMATS.md lists the refusals.";
+--by takes two of value, distance, plan, captures, moves and keep; no plan is -.
+docs/FORMATS.md lists the refusals, as `refused 96 Column` of another word.";
 
 pub const BOARDS_HELP: &str = "\
 It prints a line for each board that has all that is asked for, by rank:
 
     BOARD V P D    the board, its value, a pit to play or -, and its distance
+
+--sort takes a COLUMN: rank, value, distance, plan, captures, moves or keep. It
+wants --most. A - before the COLUMN puts the greatest first, and another word is
+`refused 96 Column`.
 
 A..B are the numbers from A to B; A.. and ..B have one end, and A is one number.
 The levels are verified first. The status is 0, or 1 for a refusal, as `refused

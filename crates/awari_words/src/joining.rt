@@ -1,15 +1,15 @@
-//! Spans that begin below zero, joined to the option that takes them.
+//! Values that begin with a hyphen, joined to the option that takes them.
 
 ghost use Rattle.std.specs.Prelude.{◌≡◌, ◌≤◌, ◌∷◌, ◌++◌, IfOk, codes, length, map};
 ghost use Rattle.std.specs.String.{string_bytes};
-ghost use Rattle.awari_words.specs.Joined.{is_below_zero, is_joined, joined, takes_span};
+ghost use Rattle.awari_words.specs.Joined.{is_below_zero, is_joined, is_descending, joined, takes_span};
 
 use std::alloc::{AllocError, Global};
 use std::convert::AsStr;
 
-/// The words, with each span that begins below zero joined by `=` to the option before it, as
-/// `--value=-3..2` of `--value` and `-3..2`. For `clap` takes a word that begins with a hyphen for an
-/// option. It takes memory for the words.
+/// The words, with each value that begins with a hyphen joined by `=` to the option before it: a span below
+/// zero, as `--value=-3..2` of `--value` and `-3..2`, or an order, as `--sort=-value` of `--sort` and
+/// `-value`. For `clap` takes a word that begins with a hyphen for an option. It takes memory for the words.
 pub fn joined<S: AsStr>(alloc: Global, words: &[S]) -> Result<Vec<String>, AllocError>
     ensures { IfOk result (λ all. map string_bytes all.items ≡ joined (map S.text words.now)) }
 {
@@ -23,7 +23,7 @@ pub fn joined<S: AsStr>(alloc: Global, words: &[S]) -> Result<Vec<String>, Alloc
     Ok(all)
 }
 
-/// The word, joined with the one after it if that is its span, and the words that are left.
+/// The word, joined with the one after it if that is its value, and the words that are left.
 fn next_word<'w, S: AsStr>(
     alloc: Global,
     word: &str,
@@ -33,28 +33,32 @@ fn next_word<'w, S: AsStr>(
     ensures fewer { IfOk result (λ next. length next.1.now ≤ length after.now) }
 {
     match after.split_first() {
-        Some((span, others)) if is_joined(word, span.as_str()) => {
-            Ok((with_span(alloc, word, span.as_str())?, others))
+        Some((value, others)) if is_joined(word, value.as_str()) => {
+            Ok((with_value(alloc, word, value.as_str())?, others))
         }
         _ => Ok((String::from_str(alloc, word)?, after)),
     }
 }
 
-/// The option and its span in one word.
-fn with_span(alloc: Global, option: &str, span: &str) -> Result<String, AllocError>
-    ensures { IfOk result (λ word. string_bytes word ≡ option.now ++ (codes "=" ++ span.now)) }
+/// The option and its value in one word.
+fn with_value(alloc: Global, option: &str, value: &str) -> Result<String, AllocError>
+    ensures { IfOk result (λ word. string_bytes word ≡ option.now ++ (codes "=" ++ value.now)) }
 {
     let mut word = String::from_str(alloc, option)?;
     word.push_str("=")?;
-    word.push_str(span)?;
+    word.push_str(value)?;
     Ok(word)
 }
 
-/// Whether the second word is a span below zero, and the first an option that takes spans.
-fn is_joined(option: &str, span: &str) -> bool
-    ensures { result ≡ is_joined option.now span.now }
+/// Whether the second word is a value that begins with a hyphen, and the first an option that takes it: a
+/// span below zero, or the order from the greatest on.
+fn is_joined(option: &str, value: &str) -> bool
+    ensures { result ≡ is_joined option.now value.now }
 {
-    takes_span(option) && is_below_zero(span.as_bytes())
+    if option == "--sort" {
+        return is_descending(value.as_bytes());
+    }
+    takes_span(option) && is_below_zero(value.as_bytes())
 }
 
 fn takes_span(option: &str) -> bool
@@ -76,6 +80,16 @@ fn is_below_zero(text: &[u8]) -> bool
 {
     match text {
         [b'-', digit, ..] => digit.is_ascii_digit(),
+        _ => false,
+    }
+}
+
+/// Whether the text begins with a hyphen and a small letter.
+fn is_descending(text: &[u8]) -> bool
+    ensures { result ≡ is_descending text.now }
+{
+    match text {
+        [b'-', letter, ..] => letter.is_ascii_lowercase(),
         _ => false,
     }
 }

@@ -1,6 +1,6 @@
 //! What the words ask for that the program is called with.
 //!
-//! [`joined`] joins spans below zero to their options. [`understand`] reads the words by `clap`, and gives what they name or the text that `clap` prints.
+//! [`joined`] joins values that begin with a hyphen to their options. [`understand`] reads the words by `clap`, and gives what they name or the text that `clap` prints.
 //! [`request_of`] gives the [`Request`] that this is. The help texts stand here too.
 //!
 //! The words of a move are read, in `crates/awari_cli_tests/src/examples.rt`:

@@ -124,15 +124,19 @@ pub enum Question<'a> {
         owners: u8,
         unverified: bool,
     },
-    /// `counts FOLDER [LEVEL] [--json] [--unverified]`: the levels in numbers, or one.
+    /// `counts FOLDER [LEVEL] [--by COLUMN,COLUMN] [--csv] [--json] [--unverified]`: the levels in numbers,
+    /// or one.
     Counts {
         level: Option<u8>,
+        by: Option<&'a str>,
         json: bool,
+        csv: bool,
         unverified: bool,
     },
     /// `boards FOLDER LEVEL [--value A..B] [--distance A..B] [--plan A..B] [--captures A..B]
     /// [--side A..B] [--moves A..B] [--keep A..B] [--trap A..B] [--waits] [--ended] [--open]
-    /// [--farthest] [--every K] [--count] [--unverified]`: the boards of a level.
+    /// [--farthest] [--every K] [--random N] [--seed N] [--sort [-]COLUMN] [--most N] [--count]
+    /// [--csv] [--json] [--unverified]`: the boards of a level.
     Boards(BoardsQuery<'a>),
 }
 
@@ -355,7 +359,9 @@ fn counts_request<'m, 'a: 'm>(given: &'m ArgMatches<'a>) -> Option<Request<'m, '
         folder: text(given, "FOLDER")?,
         question: Question::Counts {
             level: byte(given, "LEVEL"),
+            by: text(given, "by"),
             json: flag(given, "json"),
+            csv: flag(given, "csv"),
             unverified: flag(given, "unverified"),
         },
     })
@@ -395,6 +401,8 @@ fn boards_query_of<'a>(given: &ArgMatches<'a>) -> Option<BoardsQuery<'a>>
         every: number(given, "every")?,
         random: number(given, "random")?,
         seed: number(given, "seed")?,
+        sort: text(given, "sort"),
+        most: number(given, "most")?,
         count: flag(given, "count"),
         json: flag(given, "json"),
         csv: flag(given, "csv"),
