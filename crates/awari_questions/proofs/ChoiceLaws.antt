@@ -1,5 +1,5 @@
 -- The boards of a level, taken one by one in order of rank.
-use Rattle.std.proofs.Common.{◌≡◌, ℕ, ◌+◌, ◌%◌, ◌==◌, ◌<◌, ◌≤◌, Bool, true, false, cond, ◌&&◌, List, [], ◌∷◌, ◌++◌, length, take, filter, map, max, sum, Some, None, slice_get, refl, sym, ◌∙◌, ap, subst, arith}
+use Rattle.std.proofs.Common.{◌≡◌, ℕ, ◌+◌, ◌%◌, ◌==◌, ◌<◌, ◌≤◌, Bool, true, false, cond, ◌&&◌, List, [], ◌∷◌, ◌++◌, length, take, filter, map, max, sum, Some, None, slice_get, refl, sym, ◌∙◌, ap, arith}
 use Rattle.std.proofs.lemmas.Bool.Decides.{nat_tests}
 use Rattle.std.proofs.lemmas.List.{append-nil, length-append, map-append, take_all}
 use Rattle.std.proofs.lemmas.List.Elements.{filter-append}
@@ -13,7 +13,9 @@ use Rattle.awari_table.proofs.ShelfLemmas.{entry_of-read, take-read}
 use Rattle.awari_table.specs.Images.{entry_of, greatest_dist}
 use Rattle.awari_table.specs.declared.images.Entry.{Entry}
 use Rattle.awari_table.specs.declared.images.Image.{Image}
-use Rattle.awari_questions.specs.Listing.{IsAt, due_boards, each, farthest_among, farthest_of, fits, is_weighed, is_within, passes, passing, suits, wanted_boards}
+use Rattle.awari_facts.specs.Numbers.{IsAt}
+use Rattle.awari_questions.specs.Listing.{due_boards, each, farthest_among, farthest_of, fits, is_weighed, is_within, passes, passing, suits, taken_boards, wanted_boards}
+use Rattle.awari_questions.specs.Walks.{Chosen}
 use Rattle.awari_queries.specs.declared.boards.Form.TheVariants.{Text}
 use Rattle.awari_queries.specs.declared.boards.Spans.{Spans}
 use Rattle.awari_questions.specs.declared.wanted.Wanted.{Wanted}
@@ -85,11 +87,6 @@ farthest-unasked wanted images level none = sym (ap (λ b. cond b (farthest_amon
 
 -- ---- those that pass
 
--- how many of the boards up to a rank pass, and which of these are due
-pub record Chosen (wanted : Wanted) (images : List Image) (level rank passed : ℕ) (boards : List (List ℕ)) : Type 0 where
-  pub count : passed ≡ length (passing wanted images level (take rank (tuples 12 level)))
-  pub list : boards ≡ each wanted.every 0 (passing wanted images level (take rank (tuples 12 level)))
-
 pub chosen-none : (wanted : Wanted) (images : List Image) (level : ℕ) → Chosen wanted images level 0 0 []
 chosen-none wanted images level = record { count = refl; list = refl }
 
@@ -149,39 +146,6 @@ unfolding size_of
 chosen-all wanted images level rank passed boards all is =
     all.list ∙ ap (λ bs. each wanted.every 0 (passing wanted images level bs)) (take_all rank (tuples 12 level) (omega (arith, is)))
 
--- how many are due so far
-pub record Numbered (wanted : Wanted) (images : List Image) (level rank passed count : ℕ) : Type 0 where
-  pub boards : List (List ℕ)
-  pub chosen : Chosen wanted images level rank passed boards
-  pub many : count ≡ length boards
-
-pub numbered-none : (wanted : Wanted) (images : List Image) (level : ℕ) → Numbered wanted images level 0 0 0
-numbered-none wanted images level = record { boards = []; chosen = chosen-none wanted images level; many = refl }
-
-pub numbered-skip : (wanted : Wanted) (images : List Image) (level rank passed next count : ℕ) (board : List ℕ) (e : Entry) (due : Bool) → Numbered wanted images level rank passed count
-    → IsAt images level rank board e → Weighs wanted images level passed next board due → due ≡ false → Numbered wanted images level (rank + 1) next count
-numbered-skip wanted images level rank passed next count board e due so_far at weighed none = record {
-  boards = so_far.boards;
-  chosen =
-      subst (Chosen wanted images level (rank + 1) next) (ap (λ b. so_far.boards ++ cond b (board ∷ []) []) none ∙ append-nil so_far.boards)
-      (chosen-more wanted images level rank passed next so_far.boards board e due so_far.chosen at weighed);
-  many = so_far.many;
-}
-
-pub numbered-more : (wanted : Wanted) (images : List Image) (level rank passed next count : ℕ) (board : List ℕ) (e : Entry) (due : Bool) → Numbered wanted images level rank passed count
-    → IsAt images level rank board e → Weighs wanted images level passed next board due → due ≡ true → Numbered wanted images level (rank + 1) next (count + 1)
-numbered-more wanted images level rank passed next count board e due so_far at weighed some = record {
-  boards = so_far.boards ++ board ∷ [];
-  chosen =
-      subst (Chosen wanted images level (rank + 1) next) (ap (λ b. so_far.boards ++ cond b (board ∷ []) []) some)
-      (chosen-more wanted images level rank passed next so_far.boards board e due so_far.chosen at weighed);
-  many = omega (arith, so_far.many, length-append so_far.boards (board ∷ []));
-}
-
-pub numbered-all : (wanted : Wanted) (images : List Image) (level rank passed count : ℕ) → Numbered wanted images level rank passed count → rank ≡ size_of level
-    → count ≡ length (due_boards wanted images level)
-numbered-all wanted images level rank passed count all is = all.many ∙ ap length (chosen-all wanted images level rank passed all.boards all.chosen is)
-
 -- ---- all boards
 
 filter-all : {A : Type 0} (p : A → Bool) → ((x : A) → p x ≡ true) → (xs : List A) → filter p xs ≡ xs
@@ -199,12 +163,12 @@ abbrev pub no_spans : Spans
 no_spans = record { value = None; distance = None; plan = None; captures = None; side = None; moves = None; keep = None; trap = None }
 
 abbrev pub all : Wanted
-all = record { spans = no_spans; waits = false; ended = false; running = false; farthest = false; every = 1; random = 0; seed = 0; form = Text }
+all = record { spans = no_spans; waits = false; ended = false; running = false; farthest = false; every = 1; random = 0; seed = 0; order = None; count = false; form = Text }
 
 all_pass : (farthest : ℕ) (images : List Image) (board : List ℕ) → passes all farthest images board ≡ true
 unfolding passes is_within fits suits is_weighed
 all_pass farthest images board = refl
 
 pub all_wanted : (images : List Image) (level : ℕ) → wanted_boards all images level ≡ tuples 12 level
-unfolding wanted_boards
+unfolding wanted_boards taken_boards
 all_wanted images level = each-one 0 _ ∙ filter-all _ (all_pass (farthest_of all images level) images) (tuples 12 level)

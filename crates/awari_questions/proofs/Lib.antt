@@ -1,10 +1,12 @@
 pub mod PlayLaws
 pub mod MemoLaws
 pub mod ChoiceLaws
+pub mod HeldLaws
 pub mod ListingLaws
 pub mod ShareLaws
 pub mod SourceLaws
 pub mod TallyLaws
 pub mod CountLaws
 pub mod CountJsonLaws
+pub mod WalkLaws
 pub mod WantedLaws

@@ -1,70 +1,92 @@
 -- Which boards are wanted, test by test.
-use Rattle.std.proofs.Common.{◌≡◌, ◌&&◌, not, Bool, true, false, List, Some, slice_get, sum, ℕ, pos, neg_ℤ, int_lt, refl, sym, ap, ◌∙◌}
-use Rattle.awari_board.specs.Rules.{IsBoard, turned}
-use Rattle.awari_facts.specs.Facts.{keeping_moves, trap_of, waits}
-use Rattle.awari_queries.specs.Spans.{is_in}
-use Rattle.awari_rank.proofs.Ranking.{listed_board}
-use Rattle.awari_rank.specs.Rank.{rank_of}
-use Rattle.awari_rank.specs.Tuples.{tuples}
+use Rattle.std.proofs.Common.{◌≡◌, ◌&&◌, not, Bool, true, false, cond, ◌<◌, List, length, get_or, nat_lt, slice_get, Option, Some, None, ℕ, ℤ, neg_ℤ, int_lt, refl, sym, ap, ◌∙◌, arith}
+use Rattle.std.proofs.lemmas.Bool.Decides.{nat_tests}
+use Rattle.std.proofs.lemmas.Option.{get_or_from_slice_get}
+use Rattle.std.specs.Borrow.{Bor}
+use Rattle.std.specs.Prelude.{IfSome}
+use Rattle.core.specs.Option.{is_some, option_copied}
+use Rattle.awari_board.specs.Rules.{turned}
+use Rattle.awari_facts.specs.Facts.{gains_in, waits}
 use Rattle.awari_table.specs.Images.{entry_of}
 use Rattle.awari_table.specs.declared.images.Entry.{Entry}
 use Rattle.awari_table.specs.declared.images.Image.{Image}
-use Rattle.awari_questions.specs.Listing.{fits, is_weighed, is_within, suits}
+use Rattle.awari_questions.specs.Listing.{fits, is_weighed, is_within, key_if, sort_key, suits, weighs}
 use Rattle.awari_questions.specs.declared.wanted.Wanted.{Wanted}
+
+both-first : (a b : Bool) → a ≡ false → false ≡ (a && b)
+both-first a b none = sym (ap (λ a. a && b) none)
+
+both-last : (a b c : Bool) → a ≡ true → c ≡ b → c ≡ (a && b)
+both-last a b c some is = is ∙ sym (ap (λ a. a && b) some)
 
 -- ---- is_weighed
 
--- the number of moves that keep the value is not in the span
-pub weighed-not_kept : (wanted : Wanted) (images : List Image) (board : List ℕ) (kept : Bool) → kept ≡ is_in wanted.spans.keep (pos (keeping_moves images board)) → kept ≡ false → false ≡ is_weighed wanted images board
+pub weighed-none : (wanted : Wanted) (images : List Image) (board : List ℕ) (value : ℤ) → value ≡ (entry_of images board).value → weighs wanted.spans (gains_in images board) value ≡ false
+    → false ≡ is_weighed wanted images board
 unfolding is_weighed
-weighed-not_kept wanted images board kept is none = sym (ap (λ b. b && (is_in wanted.spans.trap (trap_of images board) && not (wanted.waits && not (waits images board)))) (sym is ∙ none))
+weighed-none wanted images board value worth none =
+    both-first _ (not (wanted.waits && not (waits images board))) (ap (weighs wanted.spans (gains_in images board)) (sym worth) ∙ none)
 
-weighed-kept : (wanted : Wanted) (images : List Image) (board : List ℕ) (kept trap last : Bool) → kept ≡ is_in wanted.spans.keep (pos (keeping_moves images board)) → kept ≡ true
-    → trap ≡ is_in wanted.spans.trap (trap_of images board) → last ≡ (trap && not (wanted.waits && not (waits images board))) → last ≡ is_weighed wanted images board
+pub weighed-last : (wanted : Wanted) (images : List Image) (board : List ℕ) (value : ℤ) (last : Bool) → value ≡ (entry_of images board).value → weighs wanted.spans (gains_in images board) value ≡ true
+    → last ≡ not (wanted.waits && not (waits images board)) → last ≡ is_weighed wanted images board
 unfolding is_weighed
-weighed-kept wanted images board kept trap last is some told all =
-    all ∙ ap (λ b. b && not (wanted.waits && not (waits images board))) told
-    ∙ sym (ap (λ b. b && (is_in wanted.spans.trap (trap_of images board) && not (wanted.waits && not (waits images board)))) (sym is ∙ some))
+weighed-last wanted images board value last worth some is =
+    both-last _ (not (wanted.waits && not (waits images board))) last (ap (weighs wanted.spans (gains_in images board)) (sym worth) ∙ some) is
 
-pub weighed-not_trap : (wanted : Wanted) (images : List Image) (board : List ℕ) (kept trap : Bool) → kept ≡ is_in wanted.spans.keep (pos (keeping_moves images board)) → kept ≡ true
-    → trap ≡ is_in wanted.spans.trap (trap_of images board) → trap ≡ false → false ≡ is_weighed wanted images board
-weighed-not_trap wanted images board kept trap is some told none =
-    weighed-kept wanted images board kept trap false is some told (sym (ap (λ b. b && not (wanted.waits && not (waits images board))) none))
-
-pub weighed-unasked : (wanted : Wanted) (images : List Image) (board : List ℕ) (kept trap : Bool) → kept ≡ is_in wanted.spans.keep (pos (keeping_moves images board)) → kept ≡ true
-    → trap ≡ is_in wanted.spans.trap (trap_of images board) → trap ≡ true → wanted.waits ≡ false → true ≡ is_weighed wanted images board
-weighed-unasked wanted images board kept trap is some told trapped unasked =
-    weighed-kept wanted images board kept trap true is some told
-    (sym (ap (λ b. b && not (wanted.waits && not (waits images board))) trapped ∙ ap (λ b. not (b && not (waits images board))) unasked))
+pub waits-unasked : (wanted : Wanted) (images : List Image) (board : List ℕ) → wanted.waits ≡ false → true ≡ not (wanted.waits && not (waits images board))
+waits-unasked wanted images board unasked = sym (ap (λ b. not (b && not (waits images board))) unasked)
 
 twice : (b : Bool) → b ≡ not (not b)
 twice true = refl
 twice false = refl
 
-pub weighed-waits : (wanted : Wanted) (images : List Image) (board : List ℕ) (e : Entry) (kept trap wait : Bool) → e ≡ entry_of images board → kept ≡ is_in wanted.spans.keep (pos (keeping_moves images board))
-    → kept ≡ true → trap ≡ is_in wanted.spans.trap (trap_of images board) → trap ≡ true → wanted.waits ≡ true → wait ≡ int_lt e.value (neg_ℤ (entry_of images (turned board)).value)
-    → wait ≡ is_weighed wanted images board
-weighed-waits wanted images board e kept trap wait at is some told trapped asked waiting =
-    let waited : wait ≡ waits images board = waiting ∙ ap (λ (f : Entry). int_lt f.value (neg_ℤ (entry_of images (turned board)).value)) at in
-    weighed-kept wanted images board kept trap wait is some told
-    (waited ∙ twice (waits images board) ∙ sym (ap (λ b. b && not (wanted.waits && not (waits images board))) trapped ∙ ap (λ b. not (b && not (waits images board))) asked))
+pub waits-asked : (wanted : Wanted) (images : List Image) (board other : List ℕ) (value worth : ℤ) (wait : Bool) → wanted.waits ≡ true → value ≡ (entry_of images board).value
+    → worth ≡ (entry_of images other).value → other ≡ turned board → wait ≡ int_lt value (neg_ℤ worth) → wait ≡ not (wanted.waits && not (waits images board))
+waits-asked wanted images board other value worth wait asked is said same waiting =
+    let waited : wait ≡ waits images board =
+    waiting ∙ ap (λ v. int_lt v (neg_ℤ worth)) is ∙ ap (λ v. int_lt (entry_of images board).value (neg_ℤ v)) (said ∙ ap (λ b. (entry_of images b).value) same) in
+    waited ∙ twice (waits images board) ∙ sym (ap (λ b. not (b && not (waits images board))) asked)
 
 -- ---- is_within
 
-pub within-not_fit : (wanted : Wanted) (images : List Image) (board : List ℕ) (e : Entry) (fit : Bool) → e ≡ entry_of images board → fit ≡ fits wanted.spans e → fit ≡ false → false ≡ is_within wanted images board
+pub within-not_fit : (wanted : Wanted) (images : List Image) (board : List ℕ) (e : Entry) → e ≡ entry_of images board → fits wanted.spans e ≡ false → false ≡ is_within wanted images board
 unfolding is_within
-within-not_fit wanted images board e fit at is none =
-    sym (ap (λ b. b && (suits wanted board (entry_of images board) && is_weighed wanted images board)) (sym (is ∙ ap (fits wanted.spans) at) ∙ none))
+within-not_fit wanted images board e at none = both-first _ _ (ap (fits wanted.spans) (sym at) ∙ none)
 
-pub within-fit : (wanted : Wanted) (images : List Image) (board : List ℕ) (e : Entry) (fit suit last : Bool) → e ≡ entry_of images board → fit ≡ fits wanted.spans e → fit ≡ true
-    → suit ≡ suits wanted board e → last ≡ (suit && is_weighed wanted images board) → last ≡ is_within wanted images board
+pub within-not_suit : (wanted : Wanted) (images : List Image) (board : List ℕ) (e : Entry) → e ≡ entry_of images board → fits wanted.spans e ≡ true → suits wanted board e ≡ false
+    → false ≡ is_within wanted images board
 unfolding is_within
-within-fit wanted images board e fit suit last at is some told all =
-    all ∙ ap (λ b. b && is_weighed wanted images board) (told ∙ ap (suits wanted board) at)
-    ∙ sym (ap (λ b. b && (suits wanted board (entry_of images board) && is_weighed wanted images board)) (sym (is ∙ ap (fits wanted.spans) at) ∙ some))
+within-not_suit wanted images board e at some none =
+    both-last _ _ false (ap (fits wanted.spans) (sym at) ∙ some) (both-first _ (is_weighed wanted images board) (ap (suits wanted board) (sym at) ∙ none))
 
--- the board of a rank is the one that is unranked
-pub same_board : (level rank : ℕ) (board other : List ℕ) → IsBoard other → sum other ≡ level → rank_of other ≡ rank → slice_get (tuples 12 level) rank ≡ Some board → other ≡ board
-same_board level rank board other whole stones ranked listed =
-    let there : slice_get (tuples 12 level) rank ≡ Some other = rw (stones, ranked) at (listed_board other whole.pits) in
-    cc
+pub within-weighed : (wanted : Wanted) (images : List Image) (board : List ℕ) (e : Entry) → e ≡ entry_of images board → fits wanted.spans e ≡ true → suits wanted board e ≡ true
+    → is_weighed wanted images board ≡ is_within wanted images board
+unfolding is_within
+within-weighed wanted images board e at some suited =
+    both-last _ _ _ (ap (fits wanted.spans) (sym at) ∙ some) (both-last _ (is_weighed wanted images board) _ (ap (suits wanted board) (sym at) ∙ suited) refl)
+
+-- ---- key_if
+
+pub key-none : (wanted : Wanted) (images : List Image) (board : List ℕ) → is_within wanted images board ≡ false → None ≡ key_if wanted images board
+unfolding key_if
+key-none wanted images board none = sym (ap (λ b. cond b (Some (sort_key wanted.order images board)) None) none)
+
+pub key-some : (wanted : Wanted) (images : List Image) (board : List ℕ) (key : ℤ) → is_within wanted images board ≡ true → key ≡ sort_key wanted.order images board → Some key ≡ key_if wanted images board
+unfolding key_if
+key-some wanted images board key some is = ap (λ k. Some k) is ∙ sym (ap (λ b. cond b (Some (sort_key wanted.order images board)) None) some)
+
+pub within-key : (wanted : Wanted) (images : List Image) (board : List ℕ) (key : Option ℤ) → key ≡ key_if wanted images board → is_some key ≡ is_within wanted images board
+unfolding key_if
+within-key wanted images board key is = ap is_some is ∙ go (is_within wanted images board)
+  where
+    go : (b : Bool) → is_some (cond b (Some (sort_key wanted.order images board)) None) ≡ b
+    go true = refl
+    go false = refl
+
+-- what is found among keys
+pub copied-key : (found : Option (Bor (Option ℤ))) (keys : List (Option ℤ)) (place : ℕ) (key : Option ℤ) → is_some found ≡ nat_lt place (length keys) → IfSome found (λ x. x.now ≡ get_or keys place x.now)
+    → (place < length keys → slice_get keys place ≡ Some key) → IfSome (option_copied found) (λ k. k ≡ key)
+copied-key None keys place key inside is there = tt
+copied-key (Some x) keys place key inside is there =
+    let low : place < length keys = grind (arith, nat_tests) in
+    is ∙ get_or_from_slice_get keys place key x.now (there low)

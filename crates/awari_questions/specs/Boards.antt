@@ -1,5 +1,5 @@
 -- The commands `boards` and `text --boards`: what is printed of the boards of a level.
-use Rattle.std.specs.Prelude.{◌≡◌, ℕ, max, Bool, true, false, List, ◌++◌, ◌∷◌, [], length, Option, Some, None}
+use Rattle.std.specs.Prelude.{◌≡◌, ℕ, max, Bool, true, false, if◌then◌else◌, List, ◌++◌, ◌∷◌, [], length, codes, Option, Some, None}
 use Rattle.std.specs.Fmt.{decimal}
 use Rattle.std.specs.Io.KnownBytes.{Appends}
 use Rattle.std.specs.List.{flat_map, range_with_len}
@@ -10,9 +10,12 @@ use Rattle.awari_table.specs.declared.images.Image.{Image}
 use Rattle.awari_questions.specs.Listing.{board_lines, header_of, wanted_boards}
 use Rattle.awari_facts.specs.Loads.{HasLevel}
 use Rattle.awari_facts.specs.Sources.{IsSaidOf}
-use Rattle.awari_queries.specs.Boards.{AreAskedFor, form_of}
+use Rattle.awari_queries.specs.Boards.{AreAskedFor, AsksForNoSpans, form_of}
+use Rattle.awari_queries.specs.Orders.{AsksForNoOrder, AsksForOrder}
 use Rattle.awari_queries.specs.declared.boards.BoardsQuery.{BoardsQuery}
 use Rattle.awari_queries.specs.declared.boards.Form.TheVariants.{Text}
+use Rattle.awari_questions.specs.declared.boards.QueryFault.{QueryFault}
+use Rattle.awari_questions.specs.declared.boards.QueryFault.TheVariants.{Span, Column}
 use Rattle.awari_questions.specs.declared.wanted.Wanted.{Wanted}
 
 -- the boards that are asked for; each 0th counts as each
@@ -25,24 +28,42 @@ pub record IsWanted (query : BoardsQuery) (wanted : Wanted) : Type 0 where
   pub every : wanted.every ≡ max 1 query.every
   pub random : wanted.random ≡ query.random
   pub seed : wanted.seed ≡ query.seed
+  pub order : AsksForOrder query.sort query.most wanted.order
+  pub count : wanted.count ≡ query.count
   pub form : wanted.form ≡ form_of query.json query.csv
 
--- What was written is how many boards of the level are wanted, or a line for each of them.
-abbrev pub AppendsWanted : Bool → List Image → ℕ → Wanted → Option (List ℕ) → Option (List ℕ) → Type 0
-AppendsWanted true images level wanted before after = Appends before after (decimal (length (wanted_boards wanted images level)) ++ 10 ∷ [])
-AppendsWanted false images level wanted before after = Appends before after (header_of wanted.form ++ board_lines wanted.form images (wanted_boards wanted images level))
+-- one of the words is no span, or there is no order as it is asked for
+abbrev pub IsRefused : BoardsQuery → QueryFault → Type 0
+IsRefused query (Span fault) = AsksForNoSpans query.spans
+IsRefused query (Column fault) = AsksForNoOrder query.sort query.most
+
+-- the fault inside it
+abbrev pub query_fault_text : QueryFault → List ℕ
+query_fault_text (Span fault) = codes "95 Span"
+query_fault_text (Column fault) = codes "96 Column"
+
+-- how many boards of the level are wanted, or a line for each of them
+unfoldable pub wanted_text : List Image → ℕ → Wanted → List ℕ
+wanted_text images level wanted =
+    if wanted.count
+    then decimal (length (wanted_boards wanted images level)) ++ 10 ∷ []
+    else header_of wanted.form ++ board_lines wanted.form images (wanted_boards wanted images level)
+
+-- That was written.
+abbrev pub AppendsWanted : List Image → ℕ → Wanted → Option (List ℕ) → Option (List ℕ) → Type 0
+AppendsWanted images level wanted before after = Appends before after (wanted_text images level wanted)
 
 -- Where it is known what the writer holds, that was written of the boards that the query asks for, by right levels: those up to
 -- the query's that the folder stores, where it is known what its names have.
 abbrev pub PrintsBoards : (ℕ → Option (Option (List ℕ))) → BoardsQuery → Option (List ℕ) → Option (List ℕ) → Type 0
 PrintsBoards stands query before after = (images : List Image) × (wanted : Wanted) × HasLevel query.level stands images × IsWanted query wanted
-    × AppendsWanted query.count images query.level wanted before after
+    × AppendsWanted images query.level wanted before after
 
 -- Where it is known what has the names, and what the writer holds, that was written of the boards that the query asks for, by what
 -- the files say, whether that is right or not.
 abbrev pub PrintsBoardsSaid : (ℕ → Option (Option (List ℕ))) → BoardsQuery → Option (List ℕ) → Option (List ℕ) → Type 0
 PrintsBoardsSaid stands query before after = (wanted : Wanted) × IsWanted query wanted
-    × IsSaidOf query.level stands (λ images. AppendsWanted query.count images query.level wanted before after)
+    × IsSaidOf query.level stands (λ images. AppendsWanted images query.level wanted before after)
 
 -- The one or the other.
 abbrev pub PrintsBoardsBy : Bool → (ℕ → Option (Option (List ℕ))) → BoardsQuery → Option (List ℕ) → Option (List ℕ) → Type 0

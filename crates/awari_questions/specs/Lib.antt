@@ -6,4 +6,6 @@ pub mod Memo
 pub mod Numbers
 pub mod Places
 pub mod Plays
+pub mod Segments
 pub mod Tallies
+pub mod Walks

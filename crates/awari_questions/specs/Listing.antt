@@ -1,22 +1,27 @@
 -- The commands `boards` and `text --boards`: which boards of a level are wanted, and what is printed of them.
-use Rattle.std.specs.Prelude.{◌≡◌, ℕ, ◌+◌, ◌%◌, ◌==◌, nat_lt, Bool, not, ◌&&◌, ◌||◌, if◌then◌else◌, List, ◌++◌, ◌∷◌, [], length, filter, map, codes, pos, Option, Some, None, slice_get}
+use Rattle.std.specs.Prelude.{ℕ, ◌+◌, ◌%◌, ◌==◌, nat_lt, Bool, not, ◌&&◌, ◌||◌, if◌then◌else◌, List, ◌++◌, ◌∷◌, [], length, filter, map, codes, pos, Option, Some, None, ℤ}
 use Rattle.std.specs.Fmt.{decimal, signed_decimal}
+use Rattle.std.specs.Io.KnownBytes.{Appends}
 use Rattle.std.specs.List.{flat_map}
 use Rattle.awari_board.specs.Rules.{own_stones}
 use Rattle.awari_board.specs.Text.{text_of}
-use Rattle.awari_facts.specs.Facts.{captures_by, keeping_moves, legal_moves, trap_of, waits}
+use Rattle.awari_facts.specs.Facts.{captures_by, gains_in, greediest, legal_moves, lost_by, moves_gaining, waits}
+use Rattle.awari_facts.specs.Numbers.{number_in}
+use Rattle.awari_facts.specs.declared.looks.Gained.{Gained}
 use Rattle.awari_queries.specs.Draws.{draw_of, taken}
+use Rattle.awari_queries.specs.Holding.{first_by}
+use Rattle.awari_queries.specs.Orders.{key_of}
 use Rattle.awari_queries.specs.Spans.{has, is_in}
 use Rattle.awari_play.specs.Json.{entry_json}
 use Rattle.awari_queries.specs.declared.boards.Form.{Form}
 use Rattle.awari_queries.specs.declared.boards.Form.TheVariants.{Text, Csv, Json}
 use Rattle.awari_queries.specs.declared.boards.Spans.{Spans}
+use Rattle.awari_queries.specs.declared.orders.Order.{Order}
 use Rattle.awari_rank.specs.Tuples.{tuples}
 use Rattle.awari_table.specs.Images.{entry_of, greatest_dist}
 use Rattle.awari_table.specs.Spelling.{entry_line}
 use Rattle.awari_table.specs.declared.images.Entry.{Entry}
 use Rattle.awari_table.specs.declared.images.Image.{Image}
-use Rattle.awari_questions.specs.declared.listing.Choice.{Choice}
 use Rattle.awari_questions.specs.declared.wanted.Wanted.{Wanted}
 
 -- the board, a space, and the line of the entry
@@ -49,6 +54,10 @@ header_of Json = []
 abbrev pub board_lines : Form → List Image → List (List ℕ) → List ℕ
 board_lines form images boards = flat_map (λ board. board_line form board (entry_of images board)) boards
 
+-- what was written are the lines of these boards, below what stands above them
+abbrev pub AppendsLines : Form → List Image → List (List ℕ) → Option (List ℕ) → Option (List ℕ) → Type 0
+AppendsLines form images boards before after = Appends before after (header_of form ++ board_lines form images boards)
+
 -- value, distance and plan are in the spans that are asked for
 unfoldable pub fits : Spans → Entry → Bool
 fits spans e = is_in spans.value e.value && (is_in spans.distance (pos e.dist) && has spans.plan e.plan)
@@ -63,16 +72,26 @@ suits wanted board e =
     is_in wanted.spans.side (pos (own_stones board)) && (is_in wanted.spans.moves (pos (legal_moves board)) && (has wanted.spans.captures (captures_by board e.plan)
     && is_of_kind wanted (legal_moves board)))
 
--- what the levels say of the boards that moves leave is as it is asked for: how many moves keep the value, what the largest capture
--- throws away, and whether it is a burden to move
+-- what these moves gain is as it is asked for, on a board of this value: how many keep it, and what the largest capture throws away
+abbrev pub weighs : Spans → List (Option Gained) → ℤ → Bool
+weighs spans moves value = is_in spans.keep (pos (moves_gaining value moves)) && is_in spans.trap (lost_by value (greediest moves))
+
+-- so it is of the board, by what the levels say, and it is a burden to move, if that is asked for
 unfoldable pub is_weighed : Wanted → List Image → List ℕ → Bool
-is_weighed wanted images board =
-    is_in wanted.spans.keep (pos (keeping_moves images board)) && (is_in wanted.spans.trap (trap_of images board) && not (wanted.waits && not (waits images board)))
+is_weighed wanted images board = weighs wanted.spans (gains_in images board) (entry_of images board).value && not (wanted.waits && not (waits images board))
 
 -- the board has all of that
 unfoldable pub is_within : Wanted → List Image → List ℕ → Bool
 is_within wanted images board =
     fits wanted.spans (entry_of images board) && (suits wanted board (entry_of images board) && is_weighed wanted images board)
+
+-- what a board is sorted by, if it has all of that
+abbrev pub sort_key : Option Order → List Image → List ℕ → ℤ
+sort_key None images board = pos 0
+sort_key (Some order) images board = key_of order (number_in images order.by board)
+
+unfoldable pub key_if : Wanted → List Image → List ℕ → Option ℤ
+key_if wanted images board = if is_within wanted images board then Some (sort_key wanted.order images board) else None
 
 -- the greatest distance of those of these boards, 0 if there are none
 abbrev pub farthest_among : Wanted → List Image → List (List ℕ) → ℕ
@@ -100,18 +119,15 @@ passing wanted images level boards = filter (passes wanted (farthest_of wanted i
 abbrev pub due_boards : Wanted → List Image → ℕ → List (List ℕ)
 due_boards wanted images level = each wanted.every 0 (passing wanted images level (tuples 12 level))
 
+-- those of them that are taken
+unfoldable pub taken_boards : Wanted → List Image → ℕ → List (List ℕ)
+taken_boards wanted images level = taken (draw_of wanted.random wanted.seed (length (due_boards wanted images level))) (due_boards wanted images level)
+
+-- all of these boards, or the first ones by a number
+abbrev pub first_of : Option Order → List Image → List (List ℕ) → List (List ℕ)
+first_of None images boards = boards
+first_of (Some order) images boards = first_by order.most (sort_key (Some order) images) boards
+
 -- the boards that are wanted of a level
 unfoldable pub wanted_boards : Wanted → List Image → ℕ → List (List ℕ)
-wanted_boards wanted images level = taken (draw_of wanted.random wanted.seed (length (due_boards wanted images level))) (due_boards wanted images level)
-
--- Private functions alone go by what follows: no public contract does.
-
--- the board of a rank of a level, and its entry
-pub record IsAt (images : List Image) (level rank : ℕ) (board : List ℕ) (e : Entry) : Type 0 where
-  pub listed : slice_get (tuples 12 level) rank ≡ Some board
-  pub entry : e ≡ entry_of images board
-
--- the farthest, and how those that are due are drawn, are those of the level
-pub record IsChoice (wanted : Wanted) (images : List Image) (choice : Choice) : Type 0 where
-  pub farthest : choice.farthest ≡ farthest_of wanted images choice.level
-  pub sample : choice.sample ≡ draw_of wanted.random wanted.seed (length (due_boards wanted images choice.level))
+wanted_boards wanted images level = first_of wanted.order images (taken_boards wanted images level)

@@ -1,25 +1,28 @@
 //! The commands `boards` and `text --boards`: the boards of a level with what is known of them.
 
 ghost use Rattle.std.specs.Io.KnownBytes.{Appends};
-ghost use Rattle.std.specs.Prelude.{◌≡◌, ◌≤◌, ◌<◌, ◌+◌, true, List, length, IfOk, Ok, OnErr};
+ghost use Rattle.std.specs.Prelude.{◌≡◌, ◌≤◌, ◌<◌, ◌+◌, true, List, length, IfErr, IfOk, Ok};
 ghost use Rattle.awari_facts.specs.Sources.{IsSaidOf, SaysBy, levels_of};
 ghost use Rattle.awari_folder.specs.Contents.{Same};
 ghost use Rattle.awari_folder.specs.State.{Unchanged};
-ghost use Rattle.awari_queries.specs.Boards.{AsksForNoSpans};
 ghost use Rattle.awari_queries.specs.declared.boards.Form.TheVariants.{Text};
 ghost use Rattle.awari_rank.specs.Tuples.{tuples};
 ghost use Rattle.awari_table.specs.declared.images.Image.{Image};
-ghost use Rattle.awari_questions.specs.Boards.{AppendsWanted, IsWanted, PrintsAllBoards, PrintsBoardsBy, all_lines};
+ghost use Rattle.awari_questions.specs.Boards.{AppendsWanted, IsRefused, IsWanted, PrintsAllBoards, PrintsBoardsBy, all_lines};
 ghost use Rattle.awari_questions.specs.Listing.{board_lines};
 
 use crate::listing::{count_boards, print_boards};
+use crate::walks::Asked;
 use crate::wanted::Wanted;
 use awari_answers::{Replies, load_levels, print, refuse, status_of};
 use awari_facts::{Source, load_to, open_to};
 use awari_folder::{Folder, FolderFault};
-use awari_queries::{BoardsQuery, Form, NoSpan, Spans, asked_spans, form_of};
+use awari_queries::{
+    BoardsQuery, Form, NoColumn, NoSpan, Spans, asked_order, asked_spans, form_of,
+};
 use awari_table::{HIGHEST_LEVEL, Shelf};
 use std::alloc::Global;
+use std::fmt;
 use std::io::Write;
 use std::thread::Threads;
 
@@ -42,15 +45,48 @@ const ALL: Wanted = Wanted {
     every: 1,
     random: 0,
     seed: 0,
+    order: None,
+    count: false,
     form: Form::Text,
 };
 
-/// The boards that the query asks for. It is refused as 95 if what it asks for is no span.
-pub fn wanted_of(query: &BoardsQuery<'_>) -> Result<Wanted, NoSpan>
+/// Why a query is refused. It is printed as the fault inside it.
+#[derive(Clone, Copy, Debug, PartialEq, Eq)]
+pub enum QueryFault {
+    /// 95: a span is none.
+    Span { fault: NoSpan },
+    /// 96: what boards are sorted by is no column, or it is not said how many of them are wanted.
+    Column { fault: NoColumn },
+}
+
+impl fmt::Display for QueryFault {
+    ghost use Rattle.std.specs.Prelude.{Some};
+    ghost use Rattle.awari_questions.specs.Boards.{query_fault_text};
+
+    ghost output = { λ fault. Some (query_fault_text fault) };
+
+    fn fmt<W: fmt::Write>(&self, f: &mut fmt::Formatter<W>) -> fmt::Result {
+        match *self {
+            QueryFault::Span { fault } => write!(f, "{fault}"),
+            QueryFault::Column { fault } => write!(f, "{fault}"),
+        }
+    }
+}
+
+/// The boards that the query asks for. It is refused as 95 if what it asks for is no span, and as 96 if it is
+/// no order.
+pub fn wanted_of(query: &BoardsQuery<'_>) -> Result<Wanted, QueryFault>
     ensures wanted { IfOk result (IsWanted query.now) }
-    ensures none { OnErr result (AsksForNoSpans query.now.spans) }
+    ensures none { IfErr result (IsRefused query.now) }
 {
-    let spans = asked_spans(&query.spans)?;
+    let spans = match asked_spans(&query.spans) {
+        Ok(spans) => spans,
+        Err(fault) => return Err(QueryFault::Span { fault }),
+    };
+    let order = match asked_order(query.sort, query.most) {
+        Ok(order) => order,
+        Err(fault) => return Err(QueryFault::Column { fault }),
+    };
     Ok(Wanted {
         spans,
         waits: query.waits,
@@ -60,38 +96,60 @@ pub fn wanted_of(query: &BoardsQuery<'_>) -> Result<Wanted, NoSpan>
         every: query.every.max(1),
         random: query.random,
         seed: query.seed,
+        order,
+        count: query.count,
         form: form_of(query.json, query.csv),
     })
 }
 
-/// Prints how many boards are wanted, or a line for each, and says whether the writer took that.
-/// Conditions as for [`print_boards`].
-fn print_wanted<F: Folder, W: Write>(
-    source: Source<'_>,
+/// Prints how many boards are wanted, or a line for each, and says whether the writer took that. Conditions:
+/// the source has the level, and not each 0th board is wanted.
+fn print_wanted<R: Threads + Sync, F: Folder, W: Write>(
+    rt: &R,
     folder: &mut F,
-    query: &BoardsQuery<'_>,
-    wanted: &Wanted,
+    alloc: Global,
+    asked: Asked<'_>,
     writer: &mut W,
 ) -> Result<bool, FolderFault>
-    requires level { query.now.level < levels_of source }
-    requires few { levels_of source ≤ HIGHEST_LEVEL + 1 }
-    requires every { 0 < wanted.now.every }
-    ensures printed { (images : List Image) → SaysBy source.entry (F.state folder.old).stands images → result ≡ Ok true
-        → AppendsWanted query.now.count images query.now.level wanted.now (W.contents writer.old) (W.contents writer.new) }
+    requires level { asked.level < levels_of asked.source }
+    requires few { levels_of asked.source ≤ HIGHEST_LEVEL + 1 }
+    requires every { 0 < asked.wanted.now.every }
+    ensures printed { (images : List Image) → SaysBy asked.entry.source (F.state folder.old).stands images → result ≡ Ok true
+        → AppendsWanted images asked.entry.level asked.entry.wanted.now (W.contents writer.old) (W.contents writer.new) }
     ensures same { Unchanged (F.state folder.old) (F.state folder.new) }
 {
-    if !query.count {
-        return print_boards(source, folder, query.level, wanted, writer);
+    if !asked.wanted.count {
+        return print_boards(rt, folder, alloc, asked, writer);
     }
-    match count_boards(source, folder, query.level, wanted) {
-        Ok(count) => Ok(print(writer, &count)),
-        Err(fault) => Err(fault),
+    let count = count_boards(rt, folder, alloc, asked)?;
+    Ok(print(writer, &count))
+}
+
+/// Prints the same, or the refusal, and gives the status. Conditions as for [`print_wanted`].
+fn run_asked<R: Threads + Sync, F: Folder, W: Replies>(
+    rt: &R,
+    folder: &mut F,
+    alloc: Global,
+    asked: Asked<'_>,
+    writer: &mut W,
+) -> u8
+    requires level { asked.level < levels_of asked.source }
+    requires few { levels_of asked.source ≤ HIGHEST_LEVEL + 1 }
+    requires every { 0 < asked.wanted.now.every }
+    ensures status { result ≤ 1 }
+    ensures printed { (images : List Image) → SaysBy asked.entry.source (F.state folder.old).stands images → result ≡ 0
+        → AppendsWanted images asked.entry.level asked.entry.wanted.now (W.contents writer.old) (W.contents writer.new) }
+    ensures same { Unchanged (F.state folder.old) (F.state folder.new) }
+{
+    match print_wanted(rt, folder, alloc, asked, writer) {
+        Ok(written) => status_of(written),
+        Err(fault) => refuse(writer, fault),
     }
 }
 
-/// Prints the boards of a level that the query asks for, in order of rank, or how many there are, or the
-/// refusal. If it asks for files that nobody verified, they are read once and take no memory but for
-/// names.
+/// Prints the boards of a level that the query asks for, by rank or sorted, or how many there are, or the
+/// refusal. It takes memory for the levels, for boards that threads look at, and for those that are sorted. If
+/// it asks for files that nobody verified, it takes none for levels.
 pub fn run_boards<T: Threads + Sync, F: Folder, W: Replies>(
     rt: &T,
     folder: &mut F,
@@ -108,72 +166,47 @@ pub fn run_boards<T: Threads + Sync, F: Folder, W: Replies>(
         Err(fault) => return refuse(writer, fault),
     };
     if query.unverified {
-        return run_boards_said(folder, query, &wanted, writer);
+        let opened = match open_to(folder, query.level) {
+            Ok(opened) => opened,
+            Err(fault) => return refuse(writer, fault),
+        };
+        let asked = Asked {
+            source: Source::Files(opened.levels),
+            level: query.level,
+            wanted: &wanted,
+        };
+        return run_asked(rt, folder, alloc, asked, writer);
     }
     let shelf = match load_to(rt, folder, alloc, query.level) {
         Ok(shelf) => shelf,
         Err(fault) => return refuse(writer, fault),
     };
-    match print_wanted(Source::Shelf(&shelf), folder, query, &wanted, writer) {
-        Ok(written) => status_of(written),
-        Err(fault) => refuse(writer, fault),
-    }
-}
-
-/// Prints the same by what the files say.
-fn run_boards_said<F: Folder, W: Replies>(
-    folder: &mut F,
-    query: &BoardsQuery<'_>,
-    wanted: &Wanted,
-    writer: &mut W,
-) -> u8
-    requires { 0 < wanted.now.every }
-    ensures status { result ≤ 1 }
-    ensures same { Same (F.state folder.old).stands (F.state folder.new).stands }
-    ensures found { result ≡ 0 → IsSaidOf query.now.level (F.state folder.old).stands
-        (λ images. AppendsWanted query.now.count images query.now.level wanted.now (W.contents writer.old) (W.contents writer.new)) }
-{
-    let opened = match open_to(folder, query.level) {
-        Ok(opened) => opened,
-        Err(fault) => return refuse(writer, fault),
+    let asked = Asked {
+        source: Source::Shelf(&shelf),
+        level: query.level,
+        wanted: &wanted,
     };
-    match print_wanted(Source::Files(opened.levels), folder, query, wanted, writer) {
-        Ok(written) => status_of(written),
-        Err(fault) => refuse(writer, fault),
-    }
-}
-
-/// Prints all boards of a level, and says whether the writer took them.
-fn print_level<F: Folder, W: Write>(
-    shelf: &Shelf,
-    folder: &mut F,
-    level: u8,
-    writer: &mut W,
-) -> Result<bool, FolderFault>
-    requires { level < length shelf.now }
-    ensures printed { result ≡ Ok true → Appends (W.contents writer.old) (W.contents writer.new) (board_lines Text shelf.now (tuples 12 level)) }
-    ensures same { Unchanged (F.state folder.old) (F.state folder.new) }
-{
-    // For the proof: there are at most 25 levels.
-    let _levels = shelf.levels();
-    print_boards(Source::Shelf(shelf), folder, level, &ALL, writer)
+    run_asked(rt, folder, alloc, asked, writer)
 }
 
 /// Prints all boards of all levels, and says whether the writer took them.
-fn print_levels<F: Folder, W: Write>(
-    shelf: &Shelf,
+fn print_levels<R: Threads + Sync, F: Folder, W: Write>(
+    rt: &R,
     folder: &mut F,
+    alloc: Global,
+    shelf: &Shelf,
     writer: &mut W,
 ) -> Result<bool, FolderFault>
     ensures printed { result ≡ Ok true → Appends (W.contents writer.old) (W.contents writer.new) (all_lines shelf.now) }
     ensures same { Unchanged (F.state folder.old) (F.state folder.new) }
 {
     for level in 0..shelf.levels() {
-        let written = match print_level(shelf, folder, level, writer) {
-            Ok(written) => written,
-            Err(fault) => return Err(fault),
+        let asked = Asked {
+            source: Source::Shelf(shelf),
+            level,
+            wanted: &ALL,
         };
-        if !written {
+        if !print_boards(rt, folder, alloc, asked, writer)? {
             return Ok(false);
         }
     }
@@ -197,7 +230,7 @@ pub fn run_all_boards<T: Threads + Sync, F: Folder, W: Replies>(
             Ok(shelf) => shelf,
             Err(fault) => return refuse(writer, fault),
         };
-        return match print_levels(&shelf, folder, writer) {
+        return match print_levels(rt, folder, alloc, &shelf, writer) {
             Ok(written) => status_of(written),
             Err(fault) => refuse(writer, fault),
         };
@@ -206,8 +239,10 @@ pub fn run_all_boards<T: Threads + Sync, F: Folder, W: Replies>(
         Ok(shelf) => shelf,
         Err(fault) => return refuse(writer, fault),
     };
-    match print_level(&shelf, folder, level, writer) {
-        Ok(written) => status_of(written),
-        Err(fault) => refuse(writer, fault),
-    }
+    let asked = Asked {
+        source: Source::Shelf(&shelf),
+        level,
+        wanted: &ALL,
+    };
+    run_asked(rt, folder, alloc, asked, writer)
 }

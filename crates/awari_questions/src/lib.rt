@@ -24,12 +24,14 @@ mod laws;
 mod listing;
 mod memo;
 mod places;
+mod segments;
 mod shown;
 mod sums;
 mod tallies;
+mod walks;
 mod wanted;
 
-pub use boards::{run_all_boards, run_boards, wanted_of};
+pub use boards::{QueryFault, run_all_boards, run_boards, wanted_of};
 pub use counting::{PlaysFault, plays_from, run_plays};
 pub use counts::{CountsQuery, run_counts};
 pub use laws::counts_come_to_the_size;

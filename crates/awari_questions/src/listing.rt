@@ -1,49 +1,28 @@
-//! The boards of a level that are wanted, by rank.
+//! The boards of a level that are wanted, counted or printed.
 
-ghost use Rattle.std.specs.Prelude.{◌≡◌, ◌<◌, ◌≤◌, ◌+◌, ◌%◌, ◌==◌, ◌&&◌, ◌++◌, true, if◌then◌else◌, max, List, length, IfOk, Ok};
-ghost use Rattle.std.specs.Io.KnownBytes.{Appends};
+ghost use Rattle.std.specs.Prelude.{◌≡◌, ◌<◌, ◌≤◌, ◌+◌, ℕ, true, if◌then◌else◌, max, List, length, All, IfOk, Ok, Some};
 ghost use Rattle.awari_facts.specs.Sources.{SaysBy, levels_of};
 ghost use Rattle.awari_folder.specs.State.{Unchanged};
-ghost use Rattle.awari_queries.specs.Draws.{draw_of};
+ghost use Rattle.awari_queries.specs.Draws.{taken};
+ghost use Rattle.awari_queries.specs.declared.holding.Held.{Held as AHeld};
+ghost use Rattle.awari_rank.specs.Rank.{size_of};
 ghost use Rattle.awari_table.specs.declared.TheConstants.{HIGHEST_LEVEL};
 ghost use Rattle.awari_table.specs.declared.images.Image.{Image};
-ghost use Rattle.awari_questions.specs.Listing.{IsChoice, board_lines, due_boards, farthest_of, header_of, wanted_boards};
+ghost use Rattle.awari_questions.specs.Listing.{AppendsLines, due_boards, farthest_of, taken_boards, wanted_boards};
+ghost use Rattle.awari_questions.specs.Walks.{AreHeld, IsChoice};
 
 use crate::batches::{new_batch, push_board};
-use crate::wanted::{Seen, Wanted, is_within, passes};
+use crate::walks::{Asked, Choice, look, new_walk, segment_for, step};
 use awari_answers::print_bytes;
-use awari_facts::{Source, read_entry};
+use awari_facts::{Seen, entry_at, read_entry};
 use awari_folder::{Folder, FolderFault};
+use awari_packed::PackedBoard;
 use awari_places::Run;
-use awari_queries::{Draw, draw_of, is_taken};
+use awari_queries::{Held, Order, draw_of, hold};
 use awari_rank::{size, unrank};
+use std::alloc::Global;
 use std::io::Write;
-
-/// What is known of a level before its boards are printed.
-#[derive(Clone, Copy)]
-struct Choice {
-    /// The level.
-    level: u8,
-    /// The greatest distance of those that have what is wanted of each, if the farthest are asked for.
-    farthest: u32,
-    /// How those that are due are drawn, if a sample is wanted.
-    sample: Option<Draw>,
-}
-
-/// Whether a board is due, of which it is known whether it passes. So many passed before it, and it is
-/// counted if it does.
-fn is_due(passes: bool, every: u32, passed: &mut u32) -> bool
-    requires every { 0 < every }
-    requires fits { passed.old < 4294967295 }
-    ensures passed { passed.new ≡ passed.old + (if passes then 1 else 0) }
-    ensures due { result ≡ (passes && (passed.new % every == 0)) }
-{
-    if !passes {
-        return false;
-    }
-    *passed += 1;
-    *passed % every == 0
-}
+use std::thread::Threads;
 
 /// A distance, if it is that of a board within and farther than the farthest before it, else that one's.
 fn farther(within: bool, farthest: u32, distance: u32) -> u32
@@ -58,200 +37,222 @@ fn farther(within: bool, farthest: u32, distance: u32) -> u32
 
 /// The greatest distance of the boards of a level that have what is wanted of each, if the farthest are asked
 /// for, else 0. Condition: the source has the level.
-fn find_farthest<F: Folder>(
-    source: Source<'_>,
+fn find_farthest<R: Threads + Sync, F: Folder>(
+    rt: &R,
     folder: &mut F,
-    level: u8,
-    wanted: &Wanted,
+    alloc: Global,
+    asked: Asked<'_>,
 ) -> Result<u32, FolderFault>
-    requires level { level < levels_of source }
-    requires few { levels_of source ≤ HIGHEST_LEVEL + 1 }
-    ensures farthest { (images : List Image) → SaysBy source.entry (F.state folder.old).stands images → IfOk result (λ found. found ≡ farthest_of wanted.now images level) }
+    requires level { asked.level < levels_of asked.source }
+    requires few { levels_of asked.source ≤ HIGHEST_LEVEL + 1 }
+    ensures farthest { (images : List Image) → SaysBy asked.entry.source (F.state folder.old).stands images → IfOk result (λ found. found ≡ farthest_of asked.entry.wanted.now images asked.entry.level) }
     ensures same { Unchanged (F.state folder.old) (F.state folder.new) }
 {
-    if !wanted.farthest {
+    let level = asked.level;
+    if !asked.wanted.farthest {
         return Ok(0);
     }
+    let mut segment = segment_for(asked, alloc)?;
     let mut run = Run::new();
     let mut farthest = 0;
     for rank in 0..size(level) {
-        let entry = match read_entry(source, folder, &mut run, level, rank) {
-            Ok(entry) => entry,
-            Err(fault) => return Err(fault),
-        };
+        let entry = read_entry(asked.source, folder, &mut run, level, rank)?;
         let seen = Seen { level, rank, entry };
-        let within = match is_within(source, folder, wanted, seen) {
-            Ok(within) => within,
-            Err(fault) => return Err(fault),
-        };
-        farthest = farther(within, farthest, entry.dist);
+        let key = look(rt, folder, asked, &mut segment, &seen)?;
+        farthest = farther(key.is_some(), farthest, entry.dist);
     }
     Ok(farthest)
 }
 
-/// How many boards of a level pass and are due, where the farthest have this distance. Conditions: the source
-/// has the level, and not each 0th board is wanted.
-fn count_due<F: Folder>(
-    source: Source<'_>,
+/// How many boards of a level are taken. Conditions: the source has the level, and not each 0th board is
+/// wanted.
+fn count_taken<R: Threads + Sync, F: Folder>(
+    rt: &R,
     folder: &mut F,
-    level: u8,
-    wanted: &Wanted,
-    farthest: u32,
+    alloc: Global,
+    choice: Choice<'_>,
 ) -> Result<u32, FolderFault>
-    requires level { level < levels_of source }
-    requires few { levels_of source ≤ HIGHEST_LEVEL + 1 }
-    requires every { 0 < wanted.now.every }
-    ensures counted { (images : List Image) → SaysBy source.entry (F.state folder.old).stands images → farthest ≡ farthest_of wanted.now images level
-        → IfOk result (λ n. n ≡ length (due_boards wanted.now images level)) }
+    requires level { choice.asked.level < levels_of choice.asked.source }
+    requires few { levels_of choice.asked.source ≤ HIGHEST_LEVEL + 1 }
+    requires every { 0 < choice.asked.wanted.now.every }
+    ensures counted { (images : List Image) → SaysBy choice.entry.asked.source (F.state folder.old).stands images → choice.entry.farthest ≡ farthest_of choice.entry.asked.wanted.now images choice.entry.asked.level
+        → IfOk result (λ n. n ≡ length (taken choice.entry.sample (due_boards choice.entry.asked.wanted.now images choice.entry.asked.level))) }
     ensures same { Unchanged (F.state folder.old) (F.state folder.new) }
 {
-    let mut run = Run::new();
+    let mut walk = new_walk(choice.asked, choice.sample, alloc)?;
     let mut count = 0u32;
-    let mut passed = 0u32;
-    for rank in 0..size(level) {
-        let entry = match read_entry(source, folder, &mut run, level, rank) {
-            Ok(entry) => entry,
-            Err(fault) => return Err(fault),
-        };
-        let seen = Seen { level, rank, entry };
-        let passes = match passes(source, folder, wanted, farthest, seen) {
-            Ok(passes) => passes,
-            Err(fault) => return Err(fault),
-        };
-        if !is_due(passes, wanted.every, &mut passed) {
-            continue;
+    for rank in 0..size(choice.asked.level) {
+        if step(rt, folder, choice, &mut walk, rank)?.is_some() {
+            count += 1;
         }
-        count += 1;
     }
     Ok(count)
 }
 
-/// How the boards are drawn that are due, if a sample is wanted. Conditions as for [`count_due`].
-fn sample_of<F: Folder>(
-    source: Source<'_>,
+/// What has to be known before the boards of a level are listed. Conditions as for [`count_taken`].
+fn choose<'a, R: Threads + Sync, F: Folder>(
+    rt: &R,
     folder: &mut F,
-    level: u8,
-    wanted: &Wanted,
-    farthest: u32,
-) -> Result<Option<Draw>, FolderFault>
-    requires level { level < levels_of source }
-    requires few { levels_of source ≤ HIGHEST_LEVEL + 1 }
-    requires every { 0 < wanted.now.every }
-    ensures sample { (images : List Image) → SaysBy source.entry (F.state folder.old).stands images → farthest ≡ farthest_of wanted.now images level
-        → IfOk result (λ sample. sample ≡ draw_of wanted.now.random wanted.now.seed (length (due_boards wanted.now images level))) }
+    alloc: Global,
+    asked: Asked<'a>,
+) -> Result<Choice<'a>, FolderFault>
+    requires level { asked.level < levels_of asked.source }
+    requires few { levels_of asked.source ≤ HIGHEST_LEVEL + 1 }
+    requires every { 0 < asked.wanted.now.every }
+    ensures chosen { (images : List Image) → SaysBy asked.entry.source (F.state folder.old).stands images → IfOk result (IsChoice asked.entry.wanted.now images asked.entry.level) }
+    ensures asked { IfOk result (λ choice. choice.asked ≡ asked.entry) }
     ensures same { Unchanged (F.state folder.old) (F.state folder.new) }
 {
+    let farthest = find_farthest(rt, folder, alloc, asked)?;
+    let all = Choice {
+        asked,
+        farthest,
+        sample: None,
+    };
+    let wanted = asked.wanted;
     if wanted.random == 0 {
-        return Ok(None);
+        return Ok(all);
     }
-    match count_due(source, folder, level, wanted, farthest) {
-        Ok(due) => Ok(draw_of(wanted.random, u64::from(wanted.seed), due)),
-        Err(fault) => Err(fault),
-    }
+    let due = count_taken(rt, folder, alloc, all)?;
+    let sample = draw_of(wanted.random, u64::from(wanted.seed), due);
+    Ok(Choice { sample, ..all })
 }
 
-/// Prints the boards of a level that are wanted, a line each, and says whether the writer took them.
-/// Conditions as for [`count_due`].
-pub(crate) fn print_boards<F: Folder, W: Write>(
-    source: Source<'_>,
+/// Prints the boards that are taken, by rank, and says whether the writer took them. Conditions as for
+/// [`count_taken`].
+fn print_taken<R: Threads + Sync, F: Folder, W: Write>(
+    rt: &R,
     folder: &mut F,
-    level: u8,
-    wanted: &Wanted,
+    alloc: Global,
+    choice: Choice<'_>,
     writer: &mut W,
 ) -> Result<bool, FolderFault>
-    requires level { level < levels_of source }
-    requires few { levels_of source ≤ HIGHEST_LEVEL + 1 }
-    requires every { 0 < wanted.now.every }
-    ensures listed { (images : List Image) → SaysBy source.entry (F.state folder.old).stands images → result ≡ Ok true
-        → Appends (W.contents writer.old) (W.contents writer.new) (header_of wanted.now.form ++ board_lines wanted.now.form images (wanted_boards wanted.now images level)) }
+    requires level { choice.asked.level < levels_of choice.asked.source }
+    requires few { levels_of choice.asked.source ≤ HIGHEST_LEVEL + 1 }
+    requires every { 0 < choice.asked.wanted.now.every }
+    ensures printed { (images : List Image) → SaysBy choice.entry.asked.source (F.state folder.old).stands images → IsChoice choice.entry.asked.wanted.now images choice.entry.asked.level choice.entry → result ≡ Ok true
+        → AppendsLines choice.entry.asked.wanted.now.form images (taken_boards choice.entry.asked.wanted.now images choice.entry.asked.level) (W.contents writer.old) (W.contents writer.new) }
     ensures same { Unchanged (F.state folder.old) (F.state folder.new) }
 {
-    let farthest = match find_farthest(source, folder, level, wanted) {
-        Ok(farthest) => farthest,
-        Err(fault) => return Err(fault),
-    };
-    let sample = match sample_of(source, folder, level, wanted, farthest) {
-        Ok(sample) => sample,
-        Err(fault) => return Err(fault),
-    };
-    let choice = Choice {
-        level,
-        farthest,
-        sample,
-    };
-    print_chosen(source, folder, wanted, choice, writer)
-}
-
-/// Prints the boards of a level that are wanted, where the farthest and how they are drawn is known.
-fn print_chosen<F: Folder, W: Write>(
-    source: Source<'_>,
-    folder: &mut F,
-    wanted: &Wanted,
-    choice: Choice,
-    writer: &mut W,
-) -> Result<bool, FolderFault>
-    requires level { choice.level < levels_of source }
-    requires few { levels_of source ≤ HIGHEST_LEVEL + 1 }
-    requires every { 0 < wanted.now.every }
-    ensures listed { (images : List Image) → SaysBy source.entry (F.state folder.old).stands images → IsChoice wanted.now images choice → result ≡ Ok true
-        → Appends (W.contents writer.old) (W.contents writer.new) (header_of wanted.now.form ++ board_lines wanted.now.form images (wanted_boards wanted.now images choice.level)) }
-    ensures same { Unchanged (F.state folder.old) (F.state folder.new) }
-{
-    let Choice {
-        level,
-        farthest,
-        ..
-    } = choice;
-    let mut run = Run::new();
-    let mut batch = new_batch(wanted.form);
-    let mut passed = 0u32;
-    let mut sample = choice.sample;
+    let level = choice.asked.level;
+    let form = choice.asked.wanted.form;
+    let mut walk = new_walk(choice.asked, choice.sample, alloc)?;
+    let mut batch = new_batch(form);
     for rank in 0..size(level) {
-        let entry = match read_entry(source, folder, &mut run, level, rank) {
-            Ok(entry) => entry,
-            Err(fault) => return Err(fault),
-        };
-        let seen = Seen { level, rank, entry };
-        let passes = match passes(source, folder, wanted, farthest, seen) {
-            Ok(passes) => passes,
-            Err(fault) => return Err(fault),
-        };
-        if !is_due(passes, wanted.every, &mut passed) {
+        let Some(taken) = step(rt, folder, choice, &mut walk, rank)? else {
             continue;
-        }
-        if !is_taken(&mut sample) {
-            continue;
-        }
-        if !push_board(&mut batch, wanted.form, &unrank(level, rank), entry, writer) {
+        };
+        if !push_board(&mut batch, form, &unrank(level, rank), taken.entry, writer) {
             return Ok(false);
         }
     }
     Ok(print_bytes(writer, batch.as_slice()))
 }
 
-/// How many boards of a level are wanted. Conditions as for [`count_due`].
-pub(crate) fn count_boards<F: Folder>(
-    source: Source<'_>,
+/// The first ones of the boards that are taken. Conditions as for [`count_taken`]. It takes memory for these.
+fn hold_taken<R: Threads + Sync, F: Folder>(
+    rt: &R,
     folder: &mut F,
-    level: u8,
-    wanted: &Wanted,
-) -> Result<u32, FolderFault>
-    requires level { level < levels_of source }
-    requires few { levels_of source ≤ HIGHEST_LEVEL + 1 }
-    requires every { 0 < wanted.now.every }
-    ensures counted { (images : List Image) → SaysBy source.entry (F.state folder.old).stands images → IfOk result (λ n. n ≡ length (wanted_boards wanted.now images level)) }
+    alloc: Global,
+    choice: Choice<'_>,
+    order: Order,
+) -> Result<Vec<Held>, FolderFault>
+    requires level { choice.asked.level < levels_of choice.asked.source }
+    requires few { levels_of choice.asked.source ≤ HIGHEST_LEVEL + 1 }
+    requires every { 0 < choice.asked.wanted.now.every }
+    ensures held { (images : List Image) → SaysBy choice.entry.asked.source (F.state folder.old).stands images → IsChoice choice.entry.asked.wanted.now images choice.entry.asked.level choice.entry → Some order ≡ choice.entry.asked.wanted.now.order
+        → IfOk result (λ held. AreHeld choice.entry.asked.wanted.now images choice.entry.asked.level (wanted_boards choice.entry.asked.wanted.now images choice.entry.asked.level) held.items) }
+    ensures few { IfOk result (λ held. All (λ (h : AHeld). h.rank < size_of choice.entry.asked.level) held.items) }
     ensures same { Unchanged (F.state folder.old) (F.state folder.new) }
 {
-    let farthest = match find_farthest(source, folder, level, wanted) {
-        Ok(farthest) => farthest,
-        Err(fault) => return Err(fault),
-    };
-    let due = match count_due(source, folder, level, wanted, farthest) {
-        Ok(due) => due,
-        Err(fault) => return Err(fault),
-    };
-    if wanted.random == 0 {
-        return Ok(due);
+    let mut walk = new_walk(choice.asked, choice.sample, alloc)?;
+    let mut held = Vec::new(alloc);
+    for rank in 0..size(choice.asked.level) {
+        let Some(taken) = step(rt, folder, choice, &mut walk, rank)? else {
+            continue;
+        };
+        let one = Held {
+            number: taken.key,
+            rank,
+        };
+        match hold(&mut held, order.most, one) {
+            Ok(()) => {}
+            Err(_) => return Err(FolderFault::Memory),
+        }
     }
-    Ok(due.min(wanted.random))
+    Ok(held)
+}
+
+/// Prints boards that are held, and says whether the writer took them. Conditions: the source has the level,
+/// and that has so many boards.
+fn print_held<F: Folder, W: Write>(
+    folder: &mut F,
+    asked: Asked<'_>,
+    held: &[Held],
+    writer: &mut W,
+) -> Result<bool, FolderFault>
+    requires level { asked.level < levels_of asked.source }
+    requires few { levels_of asked.source ≤ HIGHEST_LEVEL + 1 }
+    requires held { All (λ (h : AHeld). h.rank < size_of asked.level) held.now }
+    ensures printed { (images : List Image) → SaysBy asked.entry.source (F.state folder.old).stands images → (boards : List (List ℕ)) → AreHeld asked.entry.wanted.now images asked.entry.level boards held.now → result ≡ Ok true
+        → AppendsLines asked.entry.wanted.now.form images boards (W.contents writer.old) (W.contents writer.new) }
+    ensures same { Unchanged (F.state folder.old) (F.state folder.new) }
+{
+    let form = asked.wanted.form;
+    let mut batch = new_batch(form);
+    for place in 0..held.len() {
+        let board = unrank(asked.level, held[place].rank);
+        let entry = entry_at(asked.source, folder, &PackedBoard::new(&board))?;
+        if !push_board(&mut batch, form, &board, entry, writer) {
+            return Ok(false);
+        }
+    }
+    Ok(print_bytes(writer, batch.as_slice()))
+}
+
+/// Prints the boards of a level that are wanted, a line each, and says whether the writer took them. Conditions
+/// as for [`count_taken`]. It takes memory for those that are sorted, and for those that threads look at.
+pub(crate) fn print_boards<R: Threads + Sync, F: Folder, W: Write>(
+    rt: &R,
+    folder: &mut F,
+    alloc: Global,
+    asked: Asked<'_>,
+    writer: &mut W,
+) -> Result<bool, FolderFault>
+    requires level { asked.level < levels_of asked.source }
+    requires few { levels_of asked.source ≤ HIGHEST_LEVEL + 1 }
+    requires every { 0 < asked.wanted.now.every }
+    ensures printed { (images : List Image) → SaysBy asked.entry.source (F.state folder.old).stands images → result ≡ Ok true
+        → AppendsLines asked.entry.wanted.now.form images (wanted_boards asked.entry.wanted.now images asked.entry.level) (W.contents writer.old) (W.contents writer.new) }
+    ensures same { Unchanged (F.state folder.old) (F.state folder.new) }
+{
+    let choice = choose(rt, folder, alloc, asked)?;
+    match asked.wanted.order {
+        None => print_taken(rt, folder, alloc, choice, writer),
+        Some(order) => {
+            let held = hold_taken(rt, folder, alloc, choice, order)?;
+            print_held(folder, asked, held.as_slice(), writer)
+        }
+    }
+}
+
+/// How many boards of a level are wanted. Conditions as for [`count_taken`].
+pub(crate) fn count_boards<R: Threads + Sync, F: Folder>(
+    rt: &R,
+    folder: &mut F,
+    alloc: Global,
+    asked: Asked<'_>,
+) -> Result<u32, FolderFault>
+    requires level { asked.level < levels_of asked.source }
+    requires few { levels_of asked.source ≤ HIGHEST_LEVEL + 1 }
+    requires every { 0 < asked.wanted.now.every }
+    ensures counted { (images : List Image) → SaysBy asked.entry.source (F.state folder.old).stands images → IfOk result (λ n. n ≡ length (wanted_boards asked.entry.wanted.now images asked.entry.level)) }
+    ensures same { Unchanged (F.state folder.old) (F.state folder.new) }
+{
+    let choice = choose(rt, folder, alloc, asked)?;
+    let count = count_taken(rt, folder, alloc, choice)?;
+    match asked.wanted.order {
+        None => Ok(count),
+        Some(order) => Ok(count.min(order.most)),
+    }
 }

@@ -1,6 +1,7 @@
-use Rattle.std.proofs.Common.{Ok, ap}
+use Rattle.std.proofs.Common.{Ok, ap, refl}
 use Rattle.std.proofs.KnownBytes.{Appends-nil}
 use Rattle.awari_folder.proofs.States.{unchanged, unchanged_then}
+use Rattle.awari_questions.proofs.ListingLaws.{all_listed}
 use Rattle.awari_questions.proofs.CountLaws.{lines-next}
 use Rattle.awari_queries.specs.declared.boards.Form.TheVariants.{Text}
 use Rattle.awari_questions.specs.Listing.{board_lines}
@@ -12,6 +13,8 @@ loop-level-init g c = record { unchanged = unchanged _; lines = Appends-nil _ }
 
 pub loop-level-preserved : goal.loop-level-preserved
 loop-level-preserved g c = record {
-  unchanged = unchanged_then _ _ _ c.loop-level.invariant.unchanged c.in-Ok.ensures.same;
-  lines = lines-next (λ level. board_lines Text c.args.shelf.now (tuples 12 level)) c.loop-level.level _ _ _ c.loop-level.invariant.lines (c.in-Ok.ensures.printed (ap (λ b. Ok b) c.if-not-written.false));
+  unchanged = unchanged_then _ _ _ c.loop-level.invariant.unchanged c.in_ok-print_boards.ensures.same;
+  lines =
+      lines-next (λ level. board_lines Text c.args.shelf.now (tuples 12 level)) c.loop-level.level _ _ _ c.loop-level.invariant.lines
+      (all_listed c.args.shelf.now c.loop-level.level _ _ (c.in_ok-print_boards.ensures.printed c.args.shelf.now (refl, c.levels-level-end.ensures.shelf) (ap (λ b. Ok b) c.if-not-branch.false)));
 }

@@ -1,23 +1,32 @@
+use mir.Syntax.{w8}
+use mir.Val.{of_z, to_z}
+use Rattle.std.proofs.Common.{◌≡◌, ap, int_lt, neg_ℤ, rules, sym, ◌∙◌}
 use Rattle.awari_facts.proofs.SourceLaws.{says_still}
-use Rattle.awari_questions.proofs.WantedLaws.{weighed-not_kept, weighed-not_trap, weighed-unasked, weighed-waits}
+use Rattle.awari_facts.specs.Facts.{gains_in}
+use Rattle.awari_table.specs.declared.images.Entry.{Entry}
+use Rattle.awari_questions.proofs.WantedLaws.{waits-asked, waits-unasked, weighed-last, weighed-none}
+use Rattle.awari_questions.specs.Listing.{weighs}
 use Rattle.awari_questions.proofs.wanted.is_weighed.Goals as goal
 
-pub returns-then-not-kept-clause-weighed : goal.returns-then-not-kept-clause-weighed
-returns-then-not-kept-clause-weighed g c = λ images says same. weighed-not_kept c.args.wanted.now images c.args.board.now c.in-Ok.kept (c.in-Ok.ensures.kept images says same) c.if-not-kept.true
-
-pub returns-then-not-trap-clause-weighed : goal.returns-then-not-trap-clause-weighed
-returns-then-not-trap-clause-weighed g c = λ images says same.
-    weighed-not_trap c.args.wanted.now images c.args.board.now c.in-Ok.kept c.in-Ok-is_trap.trap (c.in-Ok.ensures.kept images says same) c.if-not-kept.false
-    (c.in-Ok-is_trap.ensures.trap images (says_still c.args.source _ _ images c.in-Ok.ensures.same.stands says) same) c.if-not-trap.true
+pub returns-then-not-weighs-clause-weighed : goal.returns-then-not-weighs-clause-weighed
+returns-then-not-weighs-clause-weighed g c = λ images says worth.
+    let byte : to_z w8 (of_z w8 c.args.value) ≡ c.args.value = search rules in
+    weighed-none c.args.wanted.now images c.args.board.now c.args.value worth
+    (ap (weighs c.args.wanted.now.spans (gains_in images c.args.board.now)) (sym byte) ∙ sym (c.in_ok-weighs.ensures.weighed images says) ∙ c.if-not-weighs.true)
 
 pub returns-then-not-wanted-clause-weighed : goal.returns-then-not-wanted-clause-weighed
-returns-then-not-wanted-clause-weighed g c = λ images says same.
-    weighed-unasked c.args.wanted.now images c.args.board.now c.in-Ok.kept c.in-Ok-is_trap.trap (c.in-Ok.ensures.kept images says same) c.if-not-kept.false
-    (c.in-Ok-is_trap.ensures.trap images (says_still c.args.source _ _ images c.in-Ok.ensures.same.stands says) same) c.if-not-trap.false c.if-not-wanted.true
+returns-then-not-wanted-clause-weighed g c = λ images says worth.
+    let byte : to_z w8 (of_z w8 c.args.value) ≡ c.args.value = search rules in
+    weighed-last c.args.wanted.now images c.args.board.now c.args.value _ worth
+    (ap (weighs c.args.wanted.now.spans (gains_in images c.args.board.now)) (sym byte) ∙ sym (c.in_ok-weighs.ensures.weighed images says) ∙ c.if-not-weighs.false)
+    (waits-unasked c.args.wanted.now images c.args.board.now c.if-not-wanted.true)
 
-pub returns-in-Ok-waits-clause-weighed : goal.returns-in-Ok-waits-clause-weighed
-returns-in-Ok-waits-clause-weighed g c = λ images says same.
-    let after = says_still c.args.source _ _ images c.in-Ok.ensures.same.stands says in
-    let last = says_still c.args.source _ _ images c.in-Ok-is_trap.ensures.same.stands after in
-    weighed-waits c.args.wanted.now images c.args.board.now c.args.entry c.in-Ok.kept c.in-Ok-is_trap.trap c.in-Ok-waits.waits same (c.in-Ok.ensures.kept images says same) c.if-not-kept.false
-    (c.in-Ok-is_trap.ensures.trap images after same) c.if-not-trap.false c.if-not-wanted.false (c.in-Ok-waits.ensures.waits images last)
+pub returns-clause-weighed : goal.returns-clause-weighed
+returns-clause-weighed g c = λ images says worth.
+    let byte : to_z w8 (of_z w8 c.args.value) ≡ c.args.value = search rules in
+    let other : to_z w8 (of_z w8 c.in_ok-other.other.value) ≡ c.in_ok-other.other.value = search rules in
+    let said = c.in_ok-other.ensures.entry images (says_still c.args.source _ _ images c.in_ok-weighs.ensures.same.stands says) in
+    weighed-last c.args.wanted.now images c.args.board.now c.args.value _ worth
+    (ap (weighs c.args.wanted.now.spans (gains_in images c.args.board.now)) (sym byte) ∙ sym (c.in_ok-weighs.ensures.weighed images says) ∙ c.if-not-weighs.false)
+    (waits-asked c.args.wanted.now images c.args.board.now c.turned.result c.args.value c.in_ok-other.other.value _ c.if-not-wanted.false worth (ap (λ (e : Entry). e.value) said) c.turned.ensures.turned
+    (c.waits.ensures ∙ ap (λ v. int_lt v (neg_ℤ (to_z w8 (of_z w8 c.in_ok-other.other.value)))) byte ∙ ap (λ v. int_lt c.args.value (neg_ℤ v)) other))
