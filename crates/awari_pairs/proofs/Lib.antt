@@ -1,0 +1,4 @@
+pub mod CellLaws
+pub mod LineLaws
+pub mod ShownLaws
+pub mod SizeLaws

@@ -1,0 +1,12 @@
+use Rattle.std.proofs.Common.{List}
+use Rattle.std.specs.Io.KnownBytes.{Appends}
+use Rattle.std.specs.List.{flat_map, range_with_len}
+use Rattle.awari_rank.specs.Tuples.{tuples}
+use Rattle.awari_table.specs.declared.images.Image.{Image}
+use Rattle.awari_pairs.specs.Pairs.{cell_line}
+use Rattle.awari_pairs.specs.Tables.{AreCounted}
+use Rattle.awari_pairs.proofs.pairs.print_row.Given as goal
+
+abbrev pub invariant-loop-column : goal.invariant-loop-column
+invariant-loop-column g l = (images : List Image) → AreCounted images l.asked (tuples 12 l.asked.level) l.counts → Appends (g.W.Write.contents l.fn.writer) (g.W.Write.contents l.writer)
+    (flat_map (cell_line l.form l.asked.pair images l.asked.level l.row) (range_with_len 0 l.column))

@@ -1,0 +1,15 @@
+use Rattle.std.proofs.Common.{◌≡◌, ℕ, ◌-◌, ◌≤◌, min, get_or, vec_len}
+use Rattle.awari_pairs.specs.Tables.{AreCountedTo, cells_of}
+use Rattle.awari_pairs.proofs.segments.count_on.Given as goal
+
+abbrev pub invariant-loop-first : goal.invariant-loop-first
+invariant-loop-first g l = record {
+  within : l.first ≤ l.boards;
+  room : min (l.boards - l.first) 65536 ≤ vec_len l.found;
+  long : vec_len l.counts ≡ cells_of l.asked;
+  few : (k : ℕ) → get_or l.counts.items k 0 ≤ l.first;
+  counted : AreCountedTo l.shelf l.asked l.first l.counts.items;
+}
+
+abbrev pub decreases-loop-first : goal.decreases-loop-first
+decreases-loop-first g l = l.boards - l.first

@@ -1,0 +1,3 @@
+pub mod Pairs
+pub mod Ranges
+pub mod Tables

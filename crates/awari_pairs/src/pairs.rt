@@ -1,0 +1,243 @@
+//! The command `counts --by`: a level's boards by two columns.
+
+ghost use Rattle.std.specs.Prelude.{◌≡◌, ◌<◌, ◌≤◌, ◌+◌, List, IfOk, Ok, length, true};
+ghost use Rattle.std.specs.Io.KnownBytes.{Appends};
+ghost use Rattle.awari_facts.specs.Sources.{IsSaidOf, limit_of};
+ghost use Rattle.awari_folder.specs.Contents.{Same};
+ghost use Rattle.awari_folder.specs.State.{Unchanged};
+ghost use Rattle.awari_places.specs.Places.{Says};
+ghost use Rattle.awari_rank.specs.Tuples.{tuples};
+ghost use Rattle.awari_table.specs.declared.TheConstants.{HIGHEST_LEVEL};
+ghost use Rattle.awari_table.specs.declared.images.Image.{Image};
+ghost use Rattle.awari_pairs.specs.Pairs.{PrintsPairsBy, header_of, pair_lines, row_lines};
+ghost use Rattle.awari_pairs.specs.Tables.{AreCounted, cells_of, rows_of};
+
+use crate::ranges::{number_at, width_of};
+use crate::segments::count_on;
+use crate::shown::{Names, PairShare};
+use crate::tables::{Asked, count_pairs, wrong_limit};
+use awari_answers::{Replies, print, refuse, status_of};
+use awari_facts::{Source, load_to, open_to, read_limit};
+use awari_folder::{Folder, FolderFault};
+use awari_queries::{Form, NoColumn, Pair, asked_pair, form_of};
+use awari_rank::size;
+use awari_table::Shelf;
+use std::alloc::Global;
+use std::io::Write;
+use std::thread::Threads;
+
+/// Which boards are counted by which columns, in words.
+#[derive(Clone, Copy)]
+pub struct PairsQuery<'a> {
+    /// The level.
+    pub level: Option<u8>,
+    /// The names of two columns with a comma between them.
+    pub by: &'a str,
+    /// Lines of JSON.
+    pub json: bool,
+    /// Lines of CSV below a header, unless JSON is asked for.
+    pub csv: bool,
+    /// Whether files answer that nobody verified.
+    pub unverified: bool,
+}
+
+/// What is printed: the boards of a level by two columns, in a form.
+#[derive(Clone, Copy)]
+struct Wish {
+    level: u8,
+    pair: Pair,
+    form: Form,
+}
+
+/// Prints what stands above the lines, and says whether the writer took it.
+#[tactic(auto, unfolding(crate::specs::Pairs::header_of))]
+fn print_header<W: Write>(form: Form, pair: Pair, writer: &mut W) -> bool
+    ensures { result ≡ true → Appends (W.contents writer.old) (W.contents writer.new) (header_of form pair) }
+{
+    match form {
+        Form::Csv => print(writer, &Names(pair)),
+        Form::Text | Form::Json => true,
+    }
+}
+
+/// Prints a line for each number of the second column that some boards of a row have, and says whether the
+/// writer took them. These are how many boards are in each cell. Condition: the table has the row.
+fn print_row<W: Write>(counts: &[u32], asked: Asked, row: usize, form: Form, writer: &mut W) -> bool
+    requires long { length counts.now ≡ cells_of asked }
+    requires row { row < rows_of asked }
+    ensures { (images : List Image) → AreCounted images asked (tuples 12 asked.level) counts.now → result ≡ true
+        → Appends (W.contents writer.old) (W.contents writer.new) (row_lines form asked.pair images asked.level asked.limit row) }
+{
+    let columns = width_of(asked.pair.second, asked.limit);
+    let first = number_at(asked.pair.first, row);
+    for column in 0..columns {
+        let boards = counts[row * columns + column];
+        if boards == 0 {
+            continue;
+        }
+        let share = PairShare {
+            form,
+            pair: asked.pair,
+            first,
+            second: number_at(asked.pair.second, column),
+            boards,
+        };
+        if !print(writer, &share) {
+            return false;
+        }
+    }
+    true
+}
+
+/// Prints a line for each pair of numbers that some boards have, and says whether the writer took them.
+/// These are how many boards are in each cell.
+fn print_table<W: Write>(counts: &[u32], asked: Asked, form: Form, writer: &mut W) -> bool
+    requires { length counts.now ≡ cells_of asked }
+    ensures { (images : List Image) → AreCounted images asked (tuples 12 asked.level) counts.now → result ≡ true
+        → Appends (W.contents writer.old) (W.contents writer.new) (pair_lines form asked.pair images asked.level asked.limit) }
+{
+    if !print_header(form, asked.pair, writer) {
+        return false;
+    }
+    for row in 0..width_of(asked.pair.first, asked.limit) {
+        if !print_row(counts, asked, row, form, writer) {
+            return false;
+        }
+    }
+    true
+}
+
+/// What is counted of a level with this limit. It is refused as 83 with V7 if the limit is above the number of
+/// boards: a distance is below that. Condition: the level is at most 24.
+fn asked_of(wish: Wish, limit: u32) -> Result<Asked, FolderFault>
+    requires { wish.level ≤ HIGHEST_LEVEL }
+    ensures { IfOk result (λ asked. asked ≡ record { level = wish.level; pair = wish.pair; limit = limit }) }
+{
+    if limit > size(wish.level) {
+        return Err(wrong_limit(wish.level));
+    }
+    Ok(Asked {
+        level: wish.level,
+        pair: wish.pair,
+        limit,
+    })
+}
+
+/// Prints the boards of a verified level by two columns, and says whether the writer took that. Condition: the
+/// level is there. It takes memory for four bytes a pair of numbers, and for a segment of boards. It is refused
+/// as 84 if that is not there.
+fn print_pairs_on<T: Threads + Sync, W: Write>(
+    rt: &T,
+    shelf: &Shelf,
+    alloc: Global,
+    wish: Wish,
+    writer: &mut W,
+) -> Result<bool, FolderFault>
+    requires { wish.level < length shelf.now }
+    ensures { result ≡ Ok true → Appends (W.contents writer.old) (W.contents writer.new) (pair_lines wish.form wish.pair shelf.now wish.level (limit_of shelf.now wish.level)) }
+{
+    // For the proof: there are at most 25 levels.
+    let _levels = shelf.levels();
+    let asked = match asked_of(wish, shelf.level(wish.level).limit()) {
+        Ok(asked) => asked,
+        Err(fault) => return Err(fault),
+    };
+    let counts = match count_on(rt, shelf, asked, alloc) {
+        Ok(counts) => counts,
+        Err(fault) => return Err(fault),
+    };
+    Ok(print_table(counts.as_slice(), asked, wish.form, writer))
+}
+
+/// Prints the boards of a level by two columns, by what a file says, and says whether the writer took that.
+/// Condition: so many files were opened that the level's is among them. It takes memory for four bytes a pair
+/// of numbers, and is refused as 84 if that is not there. It is refused as 83 with V7 if the limit is above the
+/// number of boards or a distance is above the limit.
+fn print_pairs_said<F: Folder, W: Write>(
+    levels: u8,
+    folder: &mut F,
+    alloc: Global,
+    wish: Wish,
+    writer: &mut W,
+) -> Result<bool, FolderFault>
+    requires level { wish.level < levels }
+    requires few { levels ≤ HIGHEST_LEVEL + 1 }
+    ensures printed { (images : List Image) → Says (F.state folder.old).stands levels images → result ≡ Ok true
+        → Appends (W.contents writer.old) (W.contents writer.new) (pair_lines wish.form wish.pair images wish.level (limit_of images wish.level)) }
+    ensures same { Unchanged (F.state folder.old) (F.state folder.new) }
+{
+    let source = Source::Files(levels);
+    let limit = match read_limit(source, folder, wish.level) {
+        Ok(limit) => limit,
+        Err(fault) => return Err(fault),
+    };
+    let asked = match asked_of(wish, limit) {
+        Ok(asked) => asked,
+        Err(fault) => return Err(fault),
+    };
+    let counts = match count_pairs(source, folder, asked, alloc) {
+        Ok(counts) => counts,
+        Err(fault) => return Err(fault),
+    };
+    Ok(print_table(counts.as_slice(), asked, wish.form, writer))
+}
+
+/// Prints how many boards of a level have each pair of numbers, by the first and then by the second. Pairs
+/// that no board has are left out. It may print a refusal: 96 if no level is asked for, or if the word names
+/// no two columns. It takes memory for four bytes a pair of numbers, and for the levels, if they are to be
+/// verified. Files that nobody verified are read board by board. For the moves that keep the value, six bytes
+/// more are read for each move.
+pub fn run_pairs<T: Threads + Sync, F: Folder, W: Replies>(
+    rt: &T,
+    folder: &mut F,
+    alloc: Global,
+    query: &PairsQuery<'_>,
+    writer: &mut W,
+) -> u8
+    ensures status { result ≤ 1 }
+    ensures same { Same (F.state folder.old).stands (F.state folder.new).stands }
+    ensures found { result ≡ 0 → PrintsPairsBy query.now.unverified (F.state folder.old).stands query.now (W.contents writer.old) (W.contents writer.new) }
+{
+    let Some(level) = query.level else {
+        return refuse(writer, NoColumn);
+    };
+    let pair = match asked_pair(query.by) {
+        Ok(pair) => pair,
+        Err(fault) => return refuse(writer, fault),
+    };
+    let form = form_of(query.json, query.csv);
+    let wish = Wish { level, pair, form };
+    if query.unverified {
+        return run_pairs_said(folder, alloc, wish, writer);
+    }
+    let shelf = match load_to(rt, folder, alloc, level) {
+        Ok(shelf) => shelf,
+        Err(fault) => return refuse(writer, fault),
+    };
+    match print_pairs_on(rt, &shelf, alloc, wish, writer) {
+        Ok(written) => status_of(written),
+        Err(fault) => refuse(writer, fault),
+    }
+}
+
+/// Prints the same by what the files say.
+fn run_pairs_said<F: Folder, W: Replies>(
+    folder: &mut F,
+    alloc: Global,
+    wish: Wish,
+    writer: &mut W,
+) -> u8
+    ensures status { result ≤ 1 }
+    ensures same { Same (F.state folder.old).stands (F.state folder.new).stands }
+    ensures found { result ≡ 0 → IsSaidOf wish.level (F.state folder.old).stands
+        (λ images. Appends (W.contents writer.old) (W.contents writer.new) (pair_lines wish.form wish.pair images wish.level (limit_of images wish.level))) }
+{
+    let opened = match open_to(folder, wish.level) {
+        Ok(opened) => opened,
+        Err(fault) => return refuse(writer, fault),
+    };
+    match print_pairs_said(opened.levels, folder, alloc, wish, writer) {
+        Ok(written) => status_of(written),
+        Err(fault) => refuse(writer, fault),
+    }
+}

@@ -1,0 +1,149 @@
+//! How many boards of a verified level have each pair of numbers, by threads.
+
+ghost use Rattle.std.specs.Prelude.{◌≡◌, ◌<◌, ◌≤◌, ◌+◌, ◌^◌, ℕ, List, None, Some, IfOk, length, slice_index, slice_index_or, true, vec_len};
+ghost use Rattle.awari_rank.specs.Rank.{size_of};
+ghost use Rattle.awari_rank.specs.Tuples.{tuples};
+ghost use Rattle.awari_table.specs.declared.images.Image.{Image};
+ghost use Rattle.awari_pairs.specs.declared.tables.Asked.{Asked as AnAsked};
+ghost use Rattle.awari_pairs.specs.Tables.{AreCellsFrom, AreCounted, AreCountedTo, IsCellAt, IsSegmentOf, cells_of};
+
+use crate::tables::{Asked, cell_at, count, new_counts, wrong_limit};
+use awari_facts::{Seen, entry_on, number_on};
+use awari_folder::FolderFault;
+use awari_rank::size;
+use awari_table::Shelf;
+use rayon::prelude::*;
+use std::alloc::Global;
+use std::thread::Threads;
+
+/// How many boards are looked at before they are counted.
+const SEGMENT: u32 = 65536;
+
+/// Where a segment begins.
+#[derive(Clone, Copy)]
+struct Segment {
+    /// What is counted.
+    asked: Asked,
+    /// The rank of its first board.
+    first: u32,
+}
+
+/// The cell of the board of a rank. There is none if a number is none that its column may have. Conditions:
+/// the level is there, and has so many boards; the cells fit in memory.
+fn cell_on(shelf: &Shelf, asked: Asked, rank: u32) -> Option<usize>
+    requires level { asked.level < length shelf.now }
+    requires rank { rank < size_of asked.level }
+    requires cells { cells_of asked < 2 ^ 64 }
+    ensures { IsCellAt shelf.now asked rank result }
+{
+    // For the proof: there are at most 25 levels.
+    let _levels = shelf.levels();
+    let level = asked.level;
+    let entry = entry_on(shelf, level, rank);
+    let seen = Seen { level, rank, entry };
+    let first = number_on(shelf, asked.pair.first, &seen);
+    let second = number_on(shelf, asked.pair.second, &seen);
+    cell_at(asked, first, second)
+}
+
+/// Finds the cells of the boards of a segment, by as many threads as there are processors. Conditions: the
+/// level is there, and has so many boards; the cells fit in memory.
+fn find_cells<T: Threads + Sync>(
+    rt: &T,
+    shelf: &Shelf,
+    segment: Segment,
+    found: &mut [Option<usize>],
+)
+    requires segment { IsSegmentOf shelf.now segment (length found.old) }
+    requires cells { cells_of segment.asked < 2 ^ 64 }
+    ensures long { length found.new ≡ length found.old }
+    ensures cells { AreCellsFrom shelf.now segment.asked segment.first found.new }
+{
+    let Segment { asked, first } = segment;
+    par_for_each_mut(
+        rt,
+        found,
+        |place: usize, cell: &mut Option<usize>|
+            requires level { asked.level < length shelf.now }
+            requires rank { first + place < size_of asked.level }
+            requires fits { first + place < 4294967296 }
+            requires cells { cells_of asked < 2 ^ 64 }
+            ensures { IsCellAt shelf.entry.now asked (first + place) cell.new }
+        { *cell = cell_on(shelf, asked, first + place as u32) },
+    );
+}
+
+/// Counts the boards of these cells, and says whether each has one. Conditions: the table has the cells, and
+/// there is room to count.
+fn count_found(counts: &mut Vec<u32>, found: &[Option<usize>]) -> bool
+    requires inside { (k cell : ℕ) → k < length found.now → slice_index_or found.now k None ≡ Some cell → cell < vec_len counts.old }
+    requires few { (k : ℕ) → slice_index counts.old.items k + length found.now ≤ 4294967295 }
+    ensures long { vec_len counts.new ≡ vec_len counts.old }
+    ensures few { (k : ℕ) → slice_index counts.new.items k ≤ slice_index counts.old.items k + length found.now }
+    ensures counted { (images : List Image) (asked : AnAsked) (rank : ℕ) → AreCellsFrom images asked rank found.now → AreCountedTo images asked rank counts.old.items
+        → result ≡ true → AreCountedTo images asked (rank + length found.now) counts.new.items }
+{
+    for place in 0..found.len() {
+        let Some(cell) = found[place] else {
+            return false;
+        };
+        count(counts, cell);
+    }
+    true
+}
+
+/// Counts the boards of a segment, and says whether each has a cell. Conditions as for [`find_cells`]; the
+/// table has all cells, and no more boards than the ranks before the segment were counted.
+fn count_segment<T: Threads + Sync>(
+    rt: &T,
+    shelf: &Shelf,
+    segment: Segment,
+    found: &mut [Option<usize>],
+    counts: &mut Vec<u32>,
+) -> bool
+    requires segment { IsSegmentOf shelf.now segment (length found.old) }
+    requires long { vec_len counts.old ≡ cells_of segment.asked }
+    requires few { (k : ℕ) → slice_index counts.old.items k ≤ segment.first }
+    ensures long { vec_len counts.new ≡ cells_of segment.asked }
+    ensures few { (k : ℕ) → slice_index counts.new.items k ≤ segment.first + length found.old }
+    ensures counted { result ≡ true → AreCountedTo shelf.now segment.asked segment.first counts.old.items → AreCountedTo shelf.now segment.asked (segment.first + length found.old) counts.new.items }
+{
+    find_cells(rt, shelf, segment, found);
+    count_found(counts, found)
+}
+
+/// How many boards of a verified level are in each cell. Condition: the level is there. It takes memory for
+/// four bytes a cell, and for a segment of boards. It is refused as 84 if that is not there, and as 83 with V7
+/// if a distance is above the limit. By the level's own limit none is.
+pub(crate) fn count_on<T: Threads + Sync>(
+    rt: &T,
+    shelf: &Shelf,
+    asked: Asked,
+    alloc: Global,
+) -> Result<Vec<u32>, FolderFault>
+    requires { asked.level < length shelf.now }
+    ensures long { IfOk result (λ counts. vec_len counts ≡ cells_of asked) }
+    ensures counted { IfOk result (λ counts. AreCounted shelf.now asked (tuples 12 asked.level) counts.items) }
+{
+    // For the proof: there are at most 25 levels.
+    let _levels = shelf.levels();
+    let boards = size(asked.level);
+    let mut counts = match new_counts(asked, alloc) {
+        Ok(counts) => counts,
+        Err(fault) => return Err(fault),
+    };
+    let Ok(mut found) = vec![in alloc; None::<usize>; SEGMENT as usize] else {
+        return Err(FolderFault::Memory);
+    };
+    let mut first = 0;
+    while first < boards {
+        let many = (boards - first).min(SEGMENT);
+        found.truncate(many as usize);
+        let segment = Segment { asked, first };
+        if !count_segment(rt, shelf, segment, found.as_mut_slice(), &mut counts) {
+            return Err(wrong_limit(asked.level));
+        }
+        first += many;
+    }
+    Ok(counts)
+}
