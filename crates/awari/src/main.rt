@@ -37,7 +37,8 @@ fn main(rt: HostRuntime) -> ExitCode {
     }
 }
 
-/// The program's words, of which the first is its own name. Each span below zero is joined to its option.
+/// The program's words, of which the first is its own name. Each span below zero, and each order from
+/// the greatest on, is joined to its option.
 fn words(rt: HostRuntime) -> io::Result<Vec<String>> {
     let words: Vec<String> = env::args(&rt)?.collect(rt.alloc())?;
     Ok(joined(rt.alloc(), words.as_slice())?)

@@ -20,6 +20,7 @@ use Rattle.awari_answers.specs.Unverified.{PrintsEntrySaidBy, PrintsWorthsSaidBy
 use Rattle.awari_answers.specs.UnverifiedLines.{PrintsLineSaid, PrintsPliesSaid}
 use Rattle.awari_answers.specs.Worths.{PrintsWorths, PrintsWorthsJson}
 use Rattle.awari_questions.specs.Boards.{PrintsAllBoards, PrintsBoardsBy}
+use Rattle.awari_pairs.specs.Pairs.{PrintsPairsBy}
 use Rattle.awari_questions.specs.Counts.{PrintsCountsBy}
 use Rattle.awari_questions.specs.Places.{PrintsBoard, PrintsPlace}
 use Rattle.awari_questions.specs.Plays.{PrintsPlays}
@@ -47,7 +48,9 @@ PrintsAnswer (Line board longest true json false) stands input before after = Pr
 PrintsAnswer (Line board longest true json true) stands input before after = PrintsPliesSaid stands longest json board.now before after
 PrintsAnswer (Serve top owners false) stands input before after = PrintsService stands input before after
 PrintsAnswer (Serve top owners true) stands input before after = PrintsServiceSaid stands input before after
-PrintsAnswer (Counts level json unverified) stands input before after = PrintsCountsBy unverified json stands level before after
+PrintsAnswer (Counts level None json csv unverified) stands input before after = PrintsCountsBy unverified json stands level before after
+PrintsAnswer (Counts level (Some by) json csv unverified) stands input before after =
+    PrintsPairsBy unverified stands (record { level = level; by = by; json = json; csv = csv; unverified = unverified }) before after
 PrintsAnswer (Boards query) stands input before after = PrintsBoardsBy query.unverified stands query before after
 
 -- The lines of the levels that were built in the folder of this name, which holds them now if the host keeps it.

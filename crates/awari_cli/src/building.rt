@@ -195,7 +195,7 @@ pub(crate) fn build_up_in<T: Threads + Wait + Sync, P: BuildProgress + Send, F: 
     if top < stored.shelf.levels() {
         return 0;
     }
-    if let Err(fault) = put_next(builder, &mut stored.shelf) {
+    if let Err(fault) = build_next(builder, &mut stored.shelf) {
         return refuse_level(writer, stored.shelf.levels(), fault);
     }
     while stored.shelf.levels() <= top {
@@ -239,22 +239,6 @@ fn build_next<T: Threads + Wait + Sync, P: Progress>(
     let told = line_of_level(&level);
     shelf.push(level);
     Ok(told)
-}
-
-/// Builds the level above the shelf, and puts it on top.
-fn put_next<T: Threads + Wait + Sync, P: Progress>(
-    builder: &mut Builder<'_, T, P>,
-    shelf: &mut Shelf,
-) -> Result<(), BuildingFault>
-    ensures built { OnOk result ((image : Image) × (shelf.new ≡ shelf.old ++ image ∷ [])) }
-    ensures planned { OnOk result (HasLowestPlans shelf.old → HasLowestPlans shelf.new) }
-{
-    // Ghost: the plans stay the lowest.
-    lowest_plans_stay();
-    let tools = tools_of(builder);
-    let level = built_level(&tools, tools.way, shelf, builder.progress)?;
-    shelf.push(level);
-    Ok(())
 }
 
 /// Saves the level on top of the shelf, and puts the next one on it. True if both was done. If not, the

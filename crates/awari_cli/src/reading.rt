@@ -10,13 +10,14 @@ ghost use Rattle.awari_folder.specs.Contents.{Same};
 use crate::hosts::{Host, Purpose};
 use crate::serving::{Growth, run_serve};
 use awari_answers::{
-    MovesQuery, PliesQuery, Replies, Streams, VerifyQuery, print, run_ask, run_ask_json,
+    MovesQuery, PliesQuery, Replies, Streams, VerifyQuery, print, refuse, run_ask, run_ask_json,
     run_ask_json_unverified, run_ask_unverified, run_line, run_line_json, run_line_unverified,
     run_longest_json, run_longest_line, run_moves, run_moves_json, run_moves_json_unverified,
     run_moves_unverified, run_plies, run_plies_unverified, run_text, run_verify,
 };
 use awari_folder::Folder;
-use awari_queries::BoardsQuery;
+use awari_pairs::{PairsQuery, run_pairs};
+use awari_queries::{BoardsQuery, NoColumn};
 use awari_questions::{CountsQuery, run_all_boards, run_boards, run_counts};
 use awari_unverified::run_serve_unverified;
 use awari_words::Question;
@@ -162,8 +163,26 @@ fn run_question<
         }
         Question::Counts {
             level,
+            by: Some(by),
+            json,
+            csv,
+            unverified,
+        } => {
+            let query = PairsQuery {
+                level,
+                by,
+                json,
+                csv,
+                unverified,
+            };
+            run_pairs(rt, folder, alloc, &query, output)
+        }
+        Question::Counts { csv: true, .. } => refuse(output, NoColumn),
+        Question::Counts {
+            level,
             json,
             unverified,
+            ..
         } => {
             let query = CountsQuery {
                 level,

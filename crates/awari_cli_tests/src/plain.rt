@@ -195,6 +195,8 @@ pub(crate) fn listed(
         every: 1,
         random: 0,
         seed: 0,
+        sort: None,
+        most: 0,
         count: false,
         json: false,
         csv: false,

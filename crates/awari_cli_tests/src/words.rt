@@ -131,7 +131,7 @@ const COMMANDS: [&str; 16] = [
 
 /// How many lines the help of this command may have. The options of `boards` alone are more than a screen.
 fn most_lines(command: &str) -> usize {
-    if command == "boards" { 40 } else { 24 }
+    if command == "boards" { 45 } else { 24 }
 }
 
 /// Whether the help of this command is its own, and no longer than it may be.
@@ -159,7 +159,7 @@ fn expect_screen(
     expect(rt, command, is_screen_of(&streams.errors, command));
 }
 
-/// Whether these bytes are the help of this command, in lines of at most 81 characters.
+/// Whether these bytes are the help of this command, in lines of at most 80 characters.
 fn is_screen_of(bytes: &[u8], command: &str) -> bool {
     str::from_utf8(bytes).is_ok_and(|text| {
         text.contains("Usage: awari ")
@@ -169,7 +169,7 @@ fn is_screen_of(bytes: &[u8], command: &str) -> bool {
 }
 
 fn is_screen(text: &str, most: usize) -> bool {
-    text.lines().count() <= most && text.lines().all(|line| line.chars().count() <= 81)
+    text.lines().count() <= most && text.lines().all(|line| line.chars().count() <= 80)
 }
 
 #[test]
