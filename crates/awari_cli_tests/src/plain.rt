@@ -197,6 +197,8 @@ pub(crate) fn listed(
         seed: 0,
         sort: None,
         most: 0,
+        with_moves: false,
+        with_keep: false,
         count: false,
         json: false,
         csv: false,

@@ -30,6 +30,10 @@ pub struct BoardsQuery<'a> {
     pub sort: Option<&'a str>,
     /// So many of the first ones; 0 is all.
     pub most: u32,
+    /// Whether each line has the number of legal moves.
+    pub with_moves: bool,
+    /// Whether each line has the number of those that keep the value.
+    pub with_keep: bool,
     /// How many there are, and not the boards.
     pub count: bool,
     /// Lines of JSON.

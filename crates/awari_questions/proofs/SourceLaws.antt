@@ -6,6 +6,8 @@ use Rattle.awari_facts.proofs.SourceLaws.{image_of}
 use Rattle.awari_facts.specs.Numbers.{IsAt}
 use Rattle.awari_places.specs.Runs.{IsEntryAt}
 use Rattle.awari_rank.specs.Tuples.{tuples}
+use Rattle.awari_rank.proofs.Ranking.{listed_board}
+use Rattle.awari_table.specs.Images.{entry_of}
 use Rattle.awari_rank.specs.Rank.{rank_of, size_of}
 use Rattle.awari_table.specs.declared.images.Entry.{Entry}
 use Rattle.awari_table.specs.declared.images.Image.{Image}
@@ -33,3 +35,7 @@ at_listed images level rank board e there low inside listed =
     let (other, at) = some_entry images level rank e there low inside in
     let same : other ≡ board = cc in
     subst (λ b. IsAt images level rank b e) same at
+
+-- the board of a rank, by its entry
+pub at_board : (images : List Image) (level rank : ℕ) (board : List ℕ) (e : Entry) → IsBoard board → sum board ≡ level → rank_of board ≡ rank → e ≡ entry_of images board → IsAt images level rank board e
+at_board images level rank board e whole stones ranked is = record { listed = rw (stones, ranked) at (listed_board board whole.pits); entry = is }

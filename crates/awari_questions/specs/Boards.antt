@@ -5,9 +5,10 @@ use Rattle.std.specs.Io.KnownBytes.{Appends}
 use Rattle.std.specs.List.{flat_map, range_with_len}
 use Rattle.awari_answers.specs.Asked.{AreLevelsTo}
 use Rattle.awari_rank.specs.Tuples.{tuples}
+use Rattle.awari_table.specs.Images.{entry_of}
 use Rattle.awari_table.specs.declared.TheConstants.{HIGHEST_LEVEL}
 use Rattle.awari_table.specs.declared.images.Image.{Image}
-use Rattle.awari_questions.specs.Listing.{board_lines, header_of, wanted_boards}
+use Rattle.awari_questions.specs.Listing.{board_lines, header_of, stem_of, wanted_boards}
 use Rattle.awari_facts.specs.Loads.{HasLevel}
 use Rattle.awari_facts.specs.Sources.{IsSaidOf}
 use Rattle.awari_queries.specs.Boards.{AreAskedFor, AsksForNoSpans, form_of}
@@ -28,6 +29,8 @@ pub record IsWanted (query : BoardsQuery) (wanted : Wanted) : Type 0 where
   pub every : wanted.every ≡ max 1 query.every
   pub random : wanted.random ≡ query.random
   pub seed : wanted.seed ≡ query.seed
+  pub with_moves : wanted.with_moves ≡ query.with_moves
+  pub with_keep : wanted.with_keep ≡ query.with_keep
   pub order : AsksForOrder query.sort query.most wanted.order
   pub count : wanted.count ≡ query.count
   pub form : wanted.form ≡ form_of query.json query.csv
@@ -47,7 +50,7 @@ unfoldable pub wanted_text : List Image → ℕ → Wanted → List ℕ
 wanted_text images level wanted =
     if wanted.count
     then decimal (length (wanted_boards wanted images level)) ++ 10 ∷ []
-    else header_of wanted.form ++ board_lines wanted.form images (wanted_boards wanted images level)
+    else header_of wanted ++ board_lines wanted images (wanted_boards wanted images level)
 
 -- That was written.
 abbrev pub AppendsWanted : List Image → ℕ → Wanted → Option (List ℕ) → Option (List ℕ) → Type 0
@@ -70,12 +73,17 @@ abbrev pub PrintsBoardsBy : Bool → (ℕ → Option (Option (List ℕ))) → Bo
 PrintsBoardsBy false = PrintsBoards
 PrintsBoardsBy true = PrintsBoardsSaid
 
--- the boards of all levels: `tuples 12 level` are the boards of so many stones in lexicographic order
+-- a board, its entry, and a line feed (10), for each board of a level: `tuples 12 level` are the boards of so many stones in
+-- lexicographic order
+unfoldable pub level_lines : List Image → ℕ → List ℕ
+level_lines images level = flat_map (λ board. stem_of Text board (entry_of images board) ++ 10 ∷ []) (tuples 12 level)
+
+-- those of all levels
 abbrev pub all_lines : List Image → List ℕ
-all_lines images = flat_map (λ level. board_lines Text images (tuples 12 level)) (range_with_len 0 (length images))
+all_lines images = flat_map (level_lines images) (range_with_len 0 (length images))
 
 -- Where it is known what the writer holds, what was written are the lines of all boards of right levels, or of the one of this
 -- number. The levels are those that the folder stores, where it is known what its names have.
 abbrev pub PrintsAllBoards : (ℕ → Option (Option (List ℕ))) → Option ℕ → Option (List ℕ) → Option (List ℕ) → Type 0
 PrintsAllBoards stands None before after = (images : List Image) × AreLevelsTo HIGHEST_LEVEL stands images × Appends before after (all_lines images)
-PrintsAllBoards stands (Some level) before after = (images : List Image) × HasLevel level stands images × Appends before after (board_lines Text images (tuples 12 level))
+PrintsAllBoards stands (Some level) before after = (images : List Image) × HasLevel level stands images × Appends before after (level_lines images level)

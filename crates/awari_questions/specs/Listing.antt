@@ -5,58 +5,86 @@ use Rattle.std.specs.Io.KnownBytes.{Appends}
 use Rattle.std.specs.List.{flat_map}
 use Rattle.awari_board.specs.Rules.{own_stones}
 use Rattle.awari_board.specs.Text.{text_of}
-use Rattle.awari_facts.specs.Facts.{captures_by, gains_in, greediest, legal_moves, lost_by, moves_gaining, waits}
+use Rattle.awari_facts.specs.Facts.{captures_by, gains_in, keeping_moves, greediest, legal_moves, lost_by, moves_gaining, waits}
 use Rattle.awari_facts.specs.Numbers.{number_in}
 use Rattle.awari_facts.specs.declared.looks.Gained.{Gained}
 use Rattle.awari_queries.specs.Draws.{draw_of, taken}
 use Rattle.awari_queries.specs.Holding.{first_by}
 use Rattle.awari_queries.specs.Orders.{key_of}
 use Rattle.awari_queries.specs.Spans.{has, is_in}
-use Rattle.awari_play.specs.Json.{entry_json}
+use Rattle.awari_play.specs.Json.{commas, entry_members, member}
 use Rattle.awari_queries.specs.declared.boards.Form.{Form}
 use Rattle.awari_queries.specs.declared.boards.Form.TheVariants.{Text, Csv, Json}
 use Rattle.awari_queries.specs.declared.boards.Spans.{Spans}
 use Rattle.awari_queries.specs.declared.orders.Order.{Order}
 use Rattle.awari_rank.specs.Tuples.{tuples}
 use Rattle.awari_table.specs.Images.{entry_of, greatest_dist}
-use Rattle.awari_table.specs.Spelling.{entry_line}
+use Rattle.awari_table.specs.Spelling.{plan_text}
 use Rattle.awari_table.specs.declared.images.Entry.{Entry}
 use Rattle.awari_table.specs.declared.images.Image.{Image}
+use Rattle.awari_questions.specs.declared.batches.LineNumbers.{LineNumbers}
 use Rattle.awari_questions.specs.declared.wanted.Wanted.{Wanted}
-
--- the board, a space, and the line of the entry
-abbrev pub entry_text : List ℕ → Entry → List ℕ
-entry_text board e = text_of board ++ codes " " ++ entry_line e
 
 -- the plan's pit, or nothing for none
 abbrev pub plan_field : Option ℕ → List ℕ
 plan_field None = []
 plan_field (Some pit) = decimal pit
 
--- the board in quotes (34), and value, plan and distance, with commas (44) and a line feed (10)
-abbrev pub csv_line : List ℕ → Entry → List ℕ
-csv_line board e =
-    34 ∷ (text_of board ++ 34 ∷ 44 ∷ (signed_decimal e.value ++ 44 ∷ (plan_field e.plan ++ 44 ∷ (decimal e.dist ++ 10 ∷ []))))
+-- The line of a board up to the distance: with spaces (32); of CSV with the board in quotes (34), and commas (44); or an object
+-- (123) that is not closed.
+unfoldable pub stem_of : Form → List ℕ → Entry → List ℕ
+stem_of Text board e = text_of board ++ 32 ∷ (signed_decimal e.value ++ 32 ∷ (plan_text e.plan ++ 32 ∷ decimal e.dist))
+stem_of Csv board e = 34 ∷ (text_of board ++ 34 ∷ 44 ∷ (signed_decimal e.value ++ 44 ∷ (plan_field e.plan ++ 44 ∷ decimal e.dist)))
+stem_of Json board e = 123 ∷ commas (entry_members board e)
+
+-- a number on request behind it: behind a space, a comma, or as a member of this name
+unfoldable pub added_text : Form → List ℕ → Option ℕ → List ℕ
+added_text form name None = []
+added_text Text name (Some n) = 32 ∷ decimal n
+added_text Csv name (Some n) = 44 ∷ decimal n
+added_text Json name (Some n) = 44 ∷ member name (decimal n)
+
+-- the end: a line feed (10), behind the object's brace (125)
+unfoldable pub end_of : Form → List ℕ
+end_of Text = 10 ∷ []
+end_of Csv = 10 ∷ []
+end_of Json = 125 ∷ 10 ∷ []
+
+-- the numbers of a board's line: its entry, and how many moves are legal and keep its value, if they are asked for
+abbrev pub numbers_of : Wanted → List Image → List ℕ → LineNumbers
+numbers_of wanted images board = record {
+  entry = entry_of images board;
+  moves = if wanted.with_moves then Some (legal_moves board) else None;
+  keep = if wanted.with_keep then Some (keeping_moves images board) else None;
+}
 
 -- the line of a board
-unfoldable pub board_line : Form → List ℕ → Entry → List ℕ
-board_line Text board e = entry_text board e
-board_line Csv board e = csv_line board e
-board_line Json board e = entry_json board e
+abbrev pub line_of : Form → List ℕ → LineNumbers → List ℕ
+line_of form board n = stem_of form board n.entry ++ (added_text form (codes "moves") n.moves ++ (added_text form (codes "keep") n.keep ++ end_of form))
 
--- what stands above the lines: of CSV their names
-unfoldable pub header_of : Form → List ℕ
-header_of Text = []
-header_of Csv = codes "board,value,plan,distance" ++ 10 ∷ []
-header_of Json = []
+abbrev pub board_line : Wanted → List Image → List ℕ → List ℕ
+board_line wanted images board = line_of wanted.form board (numbers_of wanted images board)
+
+-- the name of a column on request
+abbrev pub added_name : Bool → List ℕ → List ℕ
+added_name added name = if added then 44 ∷ name else []
+
+-- what stands above the lines: of CSV the names of the columns
+unfoldable pub header_text : Form → Bool → Bool → List ℕ
+header_text Text moves keep = []
+header_text Csv moves keep = codes "board,value,plan,distance" ++ (added_name moves (codes "moves") ++ (added_name keep (codes "keep") ++ 10 ∷ []))
+header_text Json moves keep = []
+
+abbrev pub header_of : Wanted → List ℕ
+header_of wanted = header_text wanted.form wanted.with_moves wanted.with_keep
 
 -- the lines of boards, with what the levels say of each
-abbrev pub board_lines : Form → List Image → List (List ℕ) → List ℕ
-board_lines form images boards = flat_map (λ board. board_line form board (entry_of images board)) boards
+abbrev pub board_lines : Wanted → List Image → List (List ℕ) → List ℕ
+board_lines wanted images boards = flat_map (board_line wanted images) boards
 
 -- what was written are the lines of these boards, below what stands above them
-abbrev pub AppendsLines : Form → List Image → List (List ℕ) → Option (List ℕ) → Option (List ℕ) → Type 0
-AppendsLines form images boards before after = Appends before after (header_of form ++ board_lines form images boards)
+abbrev pub AppendsLines : Wanted → List Image → List (List ℕ) → Option (List ℕ) → Option (List ℕ) → Type 0
+AppendsLines wanted images boards before after = Appends before after (header_of wanted ++ board_lines wanted images boards)
 
 -- value, distance and plan are in the spans that are asked for
 unfoldable pub fits : Spans → Entry → Bool

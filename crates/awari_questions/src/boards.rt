@@ -1,15 +1,12 @@
 //! The commands `boards` and `text --boards`: the boards of a level with what is known of them.
 
 ghost use Rattle.std.specs.Io.KnownBytes.{Appends};
-ghost use Rattle.std.specs.Prelude.{◌≡◌, ◌≤◌, ◌<◌, ◌+◌, true, List, length, IfErr, IfOk, Ok};
-ghost use Rattle.awari_facts.specs.Sources.{IsSaidOf, SaysBy, levels_of};
+ghost use Rattle.std.specs.Prelude.{◌≡◌, ◌≤◌, ◌<◌, ◌+◌, true, List, IfErr, IfOk, Ok};
+ghost use Rattle.awari_facts.specs.Sources.{SaysBy, levels_of};
 ghost use Rattle.awari_folder.specs.Contents.{Same};
 ghost use Rattle.awari_folder.specs.State.{Unchanged};
-ghost use Rattle.awari_queries.specs.declared.boards.Form.TheVariants.{Text};
-ghost use Rattle.awari_rank.specs.Tuples.{tuples};
 ghost use Rattle.awari_table.specs.declared.images.Image.{Image};
 ghost use Rattle.awari_questions.specs.Boards.{AppendsWanted, IsRefused, IsWanted, PrintsAllBoards, PrintsBoardsBy, all_lines};
-ghost use Rattle.awari_questions.specs.Listing.{board_lines};
 
 use crate::listing::{count_boards, print_boards};
 use crate::walks::Asked;
@@ -46,6 +43,8 @@ const ALL: Wanted = Wanted {
     random: 0,
     seed: 0,
     order: None,
+    with_moves: false,
+    with_keep: false,
     count: false,
     form: Form::Text,
 };
@@ -97,6 +96,8 @@ pub fn wanted_of(query: &BoardsQuery<'_>) -> Result<Wanted, QueryFault>
         random: query.random,
         seed: query.seed,
         order,
+        with_moves: query.with_moves,
+        with_keep: query.with_keep,
         count: query.count,
         form: form_of(query.json, query.csv),
     })

@@ -1,6 +1,8 @@
 //! The boards of a level that are wanted, counted or printed.
 
-ghost use Rattle.std.specs.Prelude.{◌≡◌, ◌<◌, ◌≤◌, ◌+◌, ℕ, true, if◌then◌else◌, max, List, length, All, IfOk, Ok, Some};
+ghost use Rattle.std.specs.Prelude.{◌≡◌, ◌<◌, ◌≤◌, ◌+◌, ℕ, true, if◌then◌else◌, max, List, length, All, IfOk, None, Ok, Some};
+ghost use Rattle.awari_facts.specs.Facts.{keeping_moves};
+ghost use Rattle.awari_facts.specs.Numbers.{IsAt};
 ghost use Rattle.awari_facts.specs.Sources.{SaysBy, levels_of};
 ghost use Rattle.awari_folder.specs.State.{Unchanged};
 ghost use Rattle.awari_queries.specs.Draws.{taken};
@@ -8,13 +10,13 @@ ghost use Rattle.awari_queries.specs.declared.holding.Held.{Held as AHeld};
 ghost use Rattle.awari_rank.specs.Rank.{size_of};
 ghost use Rattle.awari_table.specs.declared.TheConstants.{HIGHEST_LEVEL};
 ghost use Rattle.awari_table.specs.declared.images.Image.{Image};
-ghost use Rattle.awari_questions.specs.Listing.{AppendsLines, due_boards, farthest_of, taken_boards, wanted_boards};
+ghost use Rattle.awari_questions.specs.Listing.{AppendsLines, due_boards, farthest_of, numbers_of, taken_boards, wanted_boards};
 ghost use Rattle.awari_questions.specs.Walks.{AreHeld, IsChoice};
 
-use crate::batches::{new_batch, push_board};
+use crate::batches::{LineNumbers, new_batch, push_board};
 use crate::walks::{Asked, Choice, look, new_walk, segment_for, step};
 use awari_answers::print_bytes;
-use awari_facts::{Seen, entry_at, read_entry};
+use awari_facts::{Seen, entry_at, gains_of, legal_moves, moves_gaining, read_entry};
 use awari_folder::{Folder, FolderFault};
 use awari_packed::PackedBoard;
 use awari_places::Run;
@@ -118,6 +120,53 @@ fn choose<'a, R: Threads + Sync, F: Folder>(
     Ok(Choice { sample, ..all })
 }
 
+/// The moves of a board that keep its value, if that is asked for. Conditions: the level is there, and has so
+/// many boards.
+fn keeping<F: Folder>(
+    folder: &mut F,
+    asked: Asked<'_>,
+    seen: &Seen,
+) -> Result<Option<u8>, FolderFault>
+    requires level { seen.now.level < levels_of asked.source }
+    requires few { levels_of asked.source ≤ HIGHEST_LEVEL + 1 }
+    requires rank { seen.now.rank < size_of seen.now.level }
+    ensures keeping { (images : List Image) → SaysBy asked.entry.source (F.state folder.old).stands images → (board : List ℕ) → IsAt images seen.now.level seen.now.rank board seen.now.entry
+        → IfOk result (λ keep. keep ≡ (if asked.entry.wanted.now.with_keep then Some (keeping_moves images board) else None)) }
+    ensures same { Unchanged (F.state folder.old) (F.state folder.new) }
+{
+    if !asked.wanted.with_keep {
+        return Ok(None);
+    }
+    let moves = gains_of(asked.source, folder, &seen.board())?;
+    Ok(Some(moves_gaining(&moves, seen.entry.value)))
+}
+
+/// The numbers of a board's line. Conditions: the level is there, and has so many boards.
+fn numbers_of<F: Folder>(
+    folder: &mut F,
+    asked: Asked<'_>,
+    seen: &Seen,
+) -> Result<LineNumbers, FolderFault>
+    requires level { seen.now.level < levels_of asked.source }
+    requires few { levels_of asked.source ≤ HIGHEST_LEVEL + 1 }
+    requires rank { seen.now.rank < size_of seen.now.level }
+    ensures numbers { (images : List Image) → SaysBy asked.entry.source (F.state folder.old).stands images → (board : List ℕ) → IsAt images seen.now.level seen.now.rank board seen.now.entry
+        → IfOk result (λ n. n ≡ numbers_of asked.entry.wanted.now images board) }
+    ensures same { Unchanged (F.state folder.old) (F.state folder.new) }
+{
+    let keep = keeping(folder, asked, seen)?;
+    let moves = if asked.wanted.with_moves {
+        Some(legal_moves(&seen.board()))
+    } else {
+        None
+    };
+    Ok(LineNumbers {
+        entry: seen.entry,
+        moves,
+        keep,
+    })
+}
+
 /// Prints the boards that are taken, by rank, and says whether the writer took them. Conditions as for
 /// [`count_taken`].
 fn print_taken<R: Threads + Sync, F: Folder, W: Write>(
@@ -131,18 +180,30 @@ fn print_taken<R: Threads + Sync, F: Folder, W: Write>(
     requires few { levels_of choice.asked.source ≤ HIGHEST_LEVEL + 1 }
     requires every { 0 < choice.asked.wanted.now.every }
     ensures printed { (images : List Image) → SaysBy choice.entry.asked.source (F.state folder.old).stands images → IsChoice choice.entry.asked.wanted.now images choice.entry.asked.level choice.entry → result ≡ Ok true
-        → AppendsLines choice.entry.asked.wanted.now.form images (taken_boards choice.entry.asked.wanted.now images choice.entry.asked.level) (W.contents writer.old) (W.contents writer.new) }
+        → AppendsLines choice.entry.asked.wanted.now images (taken_boards choice.entry.asked.wanted.now images choice.entry.asked.level) (W.contents writer.old) (W.contents writer.new) }
     ensures same { Unchanged (F.state folder.old) (F.state folder.new) }
 {
     let level = choice.asked.level;
-    let form = choice.asked.wanted.form;
+    let wanted = choice.asked.wanted;
     let mut walk = new_walk(choice.asked, choice.sample, alloc)?;
-    let mut batch = new_batch(form);
+    let mut batch = new_batch(wanted.form, wanted.with_moves, wanted.with_keep);
     for rank in 0..size(level) {
         let Some(taken) = step(rt, folder, choice, &mut walk, rank)? else {
             continue;
         };
-        if !push_board(&mut batch, form, &unrank(level, rank), taken.entry, writer) {
+        let seen = Seen {
+            level,
+            rank,
+            entry: taken.entry,
+        };
+        let numbers = numbers_of(folder, choice.asked, &seen)?;
+        if !push_board(
+            &mut batch,
+            wanted.form,
+            &unrank(level, rank),
+            numbers,
+            writer,
+        ) {
             return Ok(false);
         }
     }
@@ -195,15 +256,17 @@ fn print_held<F: Folder, W: Write>(
     requires few { levels_of asked.source ≤ HIGHEST_LEVEL + 1 }
     requires held { All (λ (h : AHeld). h.rank < size_of asked.level) held.now }
     ensures printed { (images : List Image) → SaysBy asked.entry.source (F.state folder.old).stands images → (boards : List (List ℕ)) → AreHeld asked.entry.wanted.now images asked.entry.level boards held.now → result ≡ Ok true
-        → AppendsLines asked.entry.wanted.now.form images boards (W.contents writer.old) (W.contents writer.new) }
+        → AppendsLines asked.entry.wanted.now images boards (W.contents writer.old) (W.contents writer.new) }
     ensures same { Unchanged (F.state folder.old) (F.state folder.new) }
 {
-    let form = asked.wanted.form;
-    let mut batch = new_batch(form);
+    let Asked { level, wanted, .. } = asked;
+    let mut batch = new_batch(wanted.form, wanted.with_moves, wanted.with_keep);
     for place in 0..held.len() {
-        let board = unrank(asked.level, held[place].rank);
+        let rank = held[place].rank;
+        let board = unrank(level, rank);
         let entry = entry_at(asked.source, folder, &PackedBoard::new(&board))?;
-        if !push_board(&mut batch, form, &board, entry, writer) {
+        let numbers = numbers_of(folder, asked, &Seen { level, rank, entry })?;
+        if !push_board(&mut batch, wanted.form, &board, numbers, writer) {
             return Ok(false);
         }
     }
@@ -223,7 +286,7 @@ pub(crate) fn print_boards<R: Threads + Sync, F: Folder, W: Write>(
     requires few { levels_of asked.source ≤ HIGHEST_LEVEL + 1 }
     requires every { 0 < asked.wanted.now.every }
     ensures printed { (images : List Image) → SaysBy asked.entry.source (F.state folder.old).stands images → result ≡ Ok true
-        → AppendsLines asked.entry.wanted.now.form images (wanted_boards asked.entry.wanted.now images asked.entry.level) (W.contents writer.old) (W.contents writer.new) }
+        → AppendsLines asked.entry.wanted.now images (wanted_boards asked.entry.wanted.now images asked.entry.level) (W.contents writer.old) (W.contents writer.new) }
     ensures same { Unchanged (F.state folder.old) (F.state folder.new) }
 {
     let choice = choose(rt, folder, alloc, asked)?;

@@ -4,7 +4,6 @@ ghost use Rattle.std.specs.Prelude.{◌≡◌, ◌<◌, ◌≤◌, ◌+◌, ◌%
 ghost use Rattle.awari_facts.specs.Numbers.{IsAt};
 ghost use Rattle.awari_facts.specs.Sources.{SaysBy, levels_of};
 ghost use Rattle.awari_folder.specs.State.{Unchanged};
-ghost use Rattle.awari_queries.specs.declared.draws.Draw.{Draw as ADraw};
 ghost use Rattle.awari_rank.specs.Rank.{size_of};
 ghost use Rattle.awari_table.specs.Images.{entry_of};
 ghost use Rattle.awari_table.specs.declared.TheConstants.{HIGHEST_LEVEL};

@@ -43,6 +43,10 @@ pub struct Wanted {
     pub seed: u32,
     /// The first of these by a number, if not all of them by rank.
     pub order: Option<Order>,
+    /// Whether each line has the number of legal moves.
+    pub with_moves: bool,
+    /// Whether each line has the number of those that keep the value.
+    pub with_keep: bool,
     /// How many there are, and not the boards.
     pub count: bool,
     /// How they are printed.

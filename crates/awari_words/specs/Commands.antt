@@ -158,13 +158,17 @@ choices = flag (codes "farthest") ∷ number_option (codes "every") (Unsigned 1 
 abbrev pub order : List Rule
 order = option (codes "sort") ∷ number_option (codes "most") (Unsigned 0 4294967295) (codes "0") ∷ []
 
+-- numbers that are added to each line
+abbrev pub added_numbers : List Rule
+added_numbers = flag (codes "with-moves") ∷ flag (codes "with-keep") ∷ []
+
 -- how they are printed
 abbrev pub forms : List Rule
 forms = flag (codes "count") ∷ csv ∷ json ∷ unverified ∷ []
 
 -- which boards of a level are wanted
 abbrev pub wishes : List Rule
-wishes = entry_spans ++ count_spans ++ kinds ++ choices ++ order ++ forms
+wishes = entry_spans ++ count_spans ++ kinds ++ choices ++ order ++ added_numbers ++ forms
 
 abbrev pub boards_command : Shape
 boards_command = command (codes "boards") (folder ∷ number (codes "LEVEL") levels ∷ wishes)

@@ -69,6 +69,8 @@ pub record IsBoardsQueryOf (given : List Row) (query : BoardsQuery) : Type 0 whe
   pub seed : Spells given (codes "seed") query.seed
   pub sort : option_map (λ t. t.now) query.sort ≡ first_of (codes "sort") given
   pub most : Spells given (codes "most") query.most
+  pub with_moves : IsFlagOf given (codes "with-moves") query.with_moves
+  pub with_keep : IsFlagOf given (codes "with-keep") query.with_keep
   pub count : IsFlagOf given (codes "count") query.count
   pub json : IsFlagOf given (codes "json") query.json
   pub csv : IsFlagOf given (codes "csv") query.csv

@@ -3,7 +3,7 @@
 ghost use Rattle.std.specs.Prelude.{◌≡◌, ◌∷◌, []};
 ghost use Rattle.clap.specs.Simple.{App, Shape, with_rule, with_subcommand};
 ghost use Rattle.clap.specs.Walk.{Rule};
-ghost use Rattle.awari_words.specs.Commands.{ask_command, awari, awari_commands, board, board_command, boards_command, build_command, check_command, choices, command, count_spans, counts_command, entry_spans, folder, folder_commands, forms, judge_command, kinds, line_command, migrate_command, move_command, moves_command, order, pace, play_commands, plays_command, question_commands, rank_command, serve_command, text_command, verify_command, wishes};
+ghost use Rattle.awari_words.specs.Commands.{added_numbers, ask_command, awari, awari_commands, board, board_command, boards_command, build_command, check_command, choices, command, count_spans, counts_command, entry_spans, folder, folder_commands, forms, judge_command, kinds, line_command, migrate_command, move_command, moves_command, order, pace, play_commands, plays_command, question_commands, rank_command, serve_command, text_command, verify_command, wishes};
 ghost use Rattle.awari_words.specs.Making.{IsArg, IsCommand, MakesApp, MakesCommand, with_subcommands, with_words};
 
 use crate::arguments::{
@@ -376,6 +376,7 @@ fn with_wishes<'a>(
     let command = with_kinds(alloc, command);
     let command = with_choices(alloc, command);
     let command = with_order(alloc, command);
+    let command = with_added_numbers(alloc, command);
     with_forms(alloc, command)
 }
 
@@ -409,6 +410,19 @@ fn with_order<'a>(
     let command = with_word(command, sort(alloc));
     let most = number_or_none(alloc, "most", "The first so many of these; 0 is all");
     with_word(command, most)
+}
+
+/// The command with the flags that add numbers to the line of each board.
+fn with_added_numbers<'a>(
+    alloc: Global,
+    command: Result<Command<'a>, AllocError>,
+) -> Result<Command<'a>, AllocError>
+    ensures { (app : App) → MakesApp command.entry app → MakesApp result (with_words app added_numbers) }
+{
+    let moves = flag(alloc, "with-moves", "Add the number of legal moves");
+    let command = with_word(command, moves);
+    let keep = flag(alloc, "with-keep", "Add how many of them keep the value");
+    with_word(command, keep)
 }
 
 /// The command with the options that say how boards are printed.

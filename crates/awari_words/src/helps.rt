@@ -191,9 +191,9 @@ It prints a line for each board that has all that is asked for, by rank:
 
     BOARD V P D    the board, its value, a pit to play or -, and its distance
 
---sort takes a COLUMN: rank, value, distance, plan, captures, moves or keep. It
-wants --most. A - before the COLUMN puts the greatest first, and another word is
-`refused 96 Column`.
+With --with-moves and --with-keep a line ends in these numbers. --sort wants
+--most, and a COLUMN: rank, value, distance, plan, captures, moves or keep. A -
+before it puts the greatest first; another word is `refused 96 Column`.
 
 A..B are the numbers from A to B; A.. and ..B have one end, and A is one number.
 The levels are verified first. The status is 0, or 1 for a refusal, as `refused

@@ -135,8 +135,8 @@ pub enum Question<'a> {
     },
     /// `boards FOLDER LEVEL [--value A..B] [--distance A..B] [--plan A..B] [--captures A..B]
     /// [--side A..B] [--moves A..B] [--keep A..B] [--trap A..B] [--waits] [--ended] [--open]
-    /// [--farthest] [--every K] [--random N] [--seed N] [--sort [-]COLUMN] [--most N] [--count]
-    /// [--csv] [--json] [--unverified]`: the boards of a level.
+    /// [--farthest] [--every K] [--random N] [--seed N] [--sort [-]COLUMN] [--most N] [--with-moves]
+    /// [--with-keep] [--count] [--csv] [--json] [--unverified]`: the boards of a level.
     Boards(BoardsQuery<'a>),
 }
 
@@ -403,6 +403,8 @@ fn boards_query_of<'a>(given: &ArgMatches<'a>) -> Option<BoardsQuery<'a>>
         seed: number(given, "seed")?,
         sort: text(given, "sort"),
         most: number(given, "most")?,
+        with_moves: flag(given, "with-moves"),
+        with_keep: flag(given, "with-keep"),
         count: flag(given, "count"),
         json: flag(given, "json"),
         csv: flag(given, "csv"),

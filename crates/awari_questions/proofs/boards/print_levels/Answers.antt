@@ -3,9 +3,7 @@ use Rattle.std.proofs.KnownBytes.{Appends-nil}
 use Rattle.awari_folder.proofs.States.{unchanged, unchanged_then}
 use Rattle.awari_questions.proofs.ListingLaws.{all_listed}
 use Rattle.awari_questions.proofs.CountLaws.{lines-next}
-use Rattle.awari_queries.specs.declared.boards.Form.TheVariants.{Text}
-use Rattle.awari_questions.specs.Listing.{board_lines}
-use Rattle.awari_rank.specs.Tuples.{tuples}
+use Rattle.awari_questions.specs.Boards.{level_lines}
 use Rattle.awari_questions.proofs.boards.print_levels.Goals as goal
 
 pub loop-level-init : goal.loop-level-init
@@ -15,6 +13,6 @@ pub loop-level-preserved : goal.loop-level-preserved
 loop-level-preserved g c = record {
   unchanged = unchanged_then _ _ _ c.loop-level.invariant.unchanged c.in_ok-print_boards.ensures.same;
   lines =
-      lines-next (λ level. board_lines Text c.args.shelf.now (tuples 12 level)) c.loop-level.level _ _ _ c.loop-level.invariant.lines
+      lines-next (level_lines c.args.shelf.now) c.loop-level.level _ _ _ c.loop-level.invariant.lines
       (all_listed c.args.shelf.now c.loop-level.level _ _ (c.in_ok-print_boards.ensures.printed c.args.shelf.now (refl, c.levels-level-end.ensures.shelf) (ap (λ b. Ok b) c.if-not-branch.false)));
 }

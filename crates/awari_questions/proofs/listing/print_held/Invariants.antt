@@ -10,5 +10,5 @@ abbrev pub invariant-loop-place : goal.invariant-loop-place
 invariant-loop-place g l = record {
   unchanged : Unchanged (g.F.Folder.state l.fn.folder) (g.F.Folder.state l.folder);
   listed : (images : List Image) → SaysBy l.asked.source (g.F.Folder.state l.fn.folder).stands images → (boards : List (List ℕ)) → AreHeld l.asked.wanted.now images l.asked.level boards l.held
-      → Lists l.form images (take l.place boards) (g.W.Write.contents l.fn.writer) (g.W.Write.contents l.writer) l.batch.items;
+      → Lists l.asked.wanted.now images (take l.place boards) (g.W.Write.contents l.fn.writer) (g.W.Write.contents l.writer) l.batch.items;
 }

@@ -5,7 +5,7 @@ use Rattle.awari_folder.proofs.States.{unchanged, unchanged_then}
 use Rattle.awari_questions.proofs.ListingLaws.{lists-all, lists-more, lists-none}
 use Rattle.awari_questions.proofs.WalkLaws.{drawn-all, taken-all}
 use Rattle.awari_questions.specs.Batches.{Passes}
-use Rattle.awari_questions.specs.Listing.{board_line}
+use Rattle.awari_questions.specs.Listing.{line_of}
 use Rattle.awari_questions.specs.Walks.{Steps}
 use Rattle.awari_questions.proofs.listing.print_taken.Goals as goal
 
@@ -13,7 +13,7 @@ pub loop-rank-init : goal.loop-rank-init
 loop-rank-init g c = record {
   few = omega (arith, c.in_ok-walk.ensures.none);
   unchanged = unchanged _;
-  listed = λ images says choice. ([], c.in_ok-walk.ensures.walked c.args.choice.asked.wanted.now images c.args.choice.asked.level, lists-none _ images _ _ c.new_batch-batch.ensures);
+  listed = λ images says choice. ([], c.in_ok-walk.ensures.walked c.args.choice.asked.wanted.now images c.args.choice.asked.level, lists-none c.args.choice.asked.wanted.now images _ _ c.new_batch-batch.ensures);
 }
 
 pub loop-rank-preserved-in_default : goal.loop-rank-preserved-in_default
@@ -33,16 +33,18 @@ loop-rank-preserved g c =
     let i = c.loop-rank.invariant in
     record {
       few = c.in_ok-taken.ensures.walked;
-      unchanged = unchanged_then _ _ _ i.unchanged c.in_ok-taken.ensures.same;
+      unchanged = unchanged_then _ _ _ i.unchanged (unchanged_then _ _ _ c.in_ok-taken.ensures.same c.in_ok-numbers.ensures.same);
       listed = λ images says choice.
           let before = i.listed images says choice in
           let stepped = c.in_ok-taken.ensures.stepped images (says_still c.args.choice.asked.source _ _ images i.unchanged.stands says) choice.farthest before.0 before.1 in
           let taken = subst (λ t. Steps c.args.choice.asked.wanted.now images c.args.choice.asked.level c.loop-rank.rank c.args.choice.sample before.0 t c.step.new.walk) c.in-Some.is stepped in
-          let same = same_board c.args.choice.asked.level c.loop-rank.rank taken.0 c.unrank.result c.unrank.ensures.board c.unrank.ensures.stones c.unrank.ensures.rank taken.1.at.listed in (
+          let same = same_board c.args.choice.asked.level c.loop-rank.rank taken.0 c.unrank.result c.unrank.ensures.board c.unrank.ensures.stones c.unrank.ensures.rank taken.1.at.listed in
+          let still = says_still c.args.choice.asked.source _ _ images i.unchanged.stands says in
+          let numbers = c.in_ok-numbers.ensures.numbers images (says_still c.args.choice.asked.source _ _ images c.in_ok-taken.ensures.same.stands still) taken.0 taken.1.at in (
             before.0 ++ taken.0 ∷ [],
             taken.2,
-            lists-more c.args.choice.asked.wanted.now.form images before.0 taken.0 c.in-Some.taken.entry _ _ _ _ _ before.2 taken.1.at.entry
-                (subst (λ b. Passes (g.W.Write.contents c.loop-rank.writer) (g.W.Write.contents c.push_board.new.writer) c.loop-rank.batch.items c.push_board.new.batch.items (board_line c.args.choice.asked.wanted.now.form b c.in-Some.taken.entry)) same (c.push_board.ensures c.if-not-push_board.false)),
+            lists-more c.args.choice.asked.wanted.now images before.0 taken.0 c.in_ok-numbers.numbers _ _ _ _ _ before.2 numbers
+                (subst (λ b. Passes (g.W.Write.contents c.loop-rank.writer) (g.W.Write.contents c.push_board.new.writer) c.loop-rank.batch.items c.push_board.new.batch.items (line_of c.args.choice.asked.wanted.now.form b c.in_ok-numbers.numbers)) same (c.push_board.ensures c.if-not-push_board.false)),
           );
     }
 
@@ -50,6 +52,6 @@ pub returns-clause-printed : goal.returns-clause-printed
 returns-clause-printed g c = λ images says choice done.
     let written : c.print_bytes.result ≡ true = cc in
     let all = c.loop-rank.invariant.listed images says choice in
-    lists-all _ images all.0 _ _ _ _ _ all.2
+    lists-all c.args.choice.asked.wanted.now images all.0 _ _ _ _ _ all.2
     (taken-all _ images c.args.choice.asked.level c.args.choice all.0 choice (drawn-all _ images c.args.choice.asked.level _ _ _ _ all.0 all.1.drawn (omega (arith, c.size-rank-end.ensures.boards))))
     (rw c.as_slice.ensures.value at (c.print_bytes.ensures written))

@@ -12,5 +12,5 @@ invariant-loop-rank g l = record {
   unchanged : Unchanged (g.F.Folder.state l.fn.folder) (g.F.Folder.state l.folder);
   listed : (images : List Image) → SaysBy l.choice.asked.source (g.F.Folder.state l.fn.folder).stands images → IsChoice l.choice.asked.wanted.now images l.choice.asked.level l.choice
       → (boards : List (List ℕ)) × Walked l.choice.asked.wanted.now images l.choice.asked.level l.rank l.choice.sample boards l.walk
-      × Lists l.form images boards (g.W.Write.contents l.fn.writer) (g.W.Write.contents l.writer) l.batch.items;
+      × Lists l.choice.asked.wanted.now images boards (g.W.Write.contents l.fn.writer) (g.W.Write.contents l.writer) l.batch.items;
 }
