@@ -23,7 +23,7 @@ const HANDLE_BYTES = 16;
 const MOVE_BYTES = 8;
 /** Room for what a call writes, six moves or less. */
 const OUT_BYTES = 64;
-/** A slice of so many boards takes some 50 milliseconds. */
+/** A slice of this many boards takes some 50 milliseconds. */
 const SLICE = 100_000;
 
 const NAMES = {
@@ -115,7 +115,7 @@ export class Levels {
   }
 
   /**
-   * Builds a slice of the level that was begun: spreads boards of one distance, about so many, or opens a gain.
+   * Builds a slice of the level that was begun: spreads about this many boards of one distance, or opens a gain.
    * It is refused as 59 if no level was begun, and as 53, and then the level is lost.
    * @returns {{ boards: number, gain: number, settled: boolean }} how many boards of the level are settled and were
    * spread so far, the gain that is open, and whether all gains are closed

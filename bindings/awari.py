@@ -6,11 +6,11 @@
             print(move)
 
 A board is its word, or the twelve numbers of its pits. `Levels` reads a folder and verifies each level,
-so what it says is right. `Levels.mapped` answers from the files where they lie, and verifies nothing: that
-is the truth if `awari verify` says yes to these files, or if their last digest is one that you trust.
+so what it says is right. `Levels.mapped` maps the files and verifies nothing. Its answers are the
+truth if `awari verify` says yes to these files, or if their last digest is one that you trust.
 A refusal is a `Refused`, with the number and the name of docs/FORMATS.md.
 
-The calls that give or take arrays want numpy. The rest wants nothing.
+The calls that give or take arrays need numpy. The rest needs nothing.
 """
 from __future__ import annotations
 
@@ -569,5 +569,5 @@ def boards(level: int, ranks):
 
 
 def _before(numpy, pits: int):
-    """For each number of stones: in how many ways at most so many lie in so many pits."""
+    """For each number of stones: how many ways there are to lay at most this many in this many pits."""
     return numpy.array([comb(stones + pits, pits) for stones in range(HIGHEST_LEVEL + 1)], numpy.int64)

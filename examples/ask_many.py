@@ -25,12 +25,12 @@ from pathlib import Path
 
 AWARI = os.environ.get("AWARI") or Path(__file__).resolve().parent.parent / "awari"
 
-# So many questions are sent at once, but for --in-turn.
+# how many questions are sent at once, unless --in-turn is given
 BATCH = 1000
 
 
 def random_board(stones):
-    """Any board of so many stones, each as likely: eleven bars among the stones part the pits."""
+    """A board with this many stones, each equally likely: eleven bars among the stones part the pits."""
     bars = sorted(random.sample(range(stones + 11), 11))
     pits = [after - before - 1 for before, after in itertools.pairwise([-1, *bars, stones + 11])]
     return ",".join(map(str, pits[:6])) + "/" + ",".join(map(str, pits[6:]))

@@ -4,7 +4,7 @@
     pip install ./bindings
     python3 examples/distances.py levels 6
 
-It wants numpy. The level's file stays where it lies, and nothing is verified: `awari verify` does that.
+It needs numpy. The level's file is mapped, and nothing is verified: `awari verify` does that.
 """
 import sys
 

@@ -29,7 +29,7 @@ static int known(const uint8_t pits[12]) {
     return gain;
 }
 
-/* What the mover gains within so many plies, if that is more than `least` and less than `most`; stones that
+/* What the mover gains within this many plies, if that is more than `least` and less than `most`; stones that
  * are still in play then count for nobody. */
 static int search(const uint8_t pits[12], int plies, int least, int most) {
     int found = known(pits);

@@ -143,7 +143,7 @@ impl Levels {
     pub fn entries(&self, boards: &[Board]) -> Result<Vec<Entry>, Refusal> {
         let mut found = vec![PlainEntry::default(); boards.len()];
         let mut told = 0;
-        // SAFETY: a board is twelve bytes. The library reads so many, and writes as many entries.
+        // SAFETY: a board is twelve bytes. The library reads as many as are told, and writes one entry for each.
         refused(unsafe {
             awari_probe_many(
                 &mut **self.handle(),
