@@ -1,6 +1,6 @@
 # shellcheck shell=bash disable=SC2154
-# Functions of ./awari, ./install, ./prove, ./test, bindings/make and release/make, which set `top` to the
-# repository's folder.
+# Functions of ./awari, ./install, ./prove, bindings/make, release/make and tests/common.sh, which set `top`
+# to the repository's folder.
 
 # the digest of the sources: of the list of crates, and of the code, definitions and proofs of each crate
 sources_digest() {
@@ -84,6 +84,19 @@ unpack() {
     fail "release/awari-x86_64.xz can't be unpacked by xz to $1"
   fi
   expect_shipped "$1" program release/awari-x86_64.xz
+}
+
+# the program that is shipped, unpacked into the folder for what is kept on its first use
+shipped() {
+  local kept=$1 name made
+  name=awari-$(manifest program)
+  if [ ! -x "$kept/$name" ]; then
+    made=$(mktemp "$kept/unpacked.XXXXXX")
+    unpack "$made"
+    keep "$made" "$kept" "$name"
+    tell "this is the shipped program, proved and built from ${2:-the sources here}; ./prove does so again"
+  fi
+  echo "$kept/$name"
 }
 
 # unpacks the library that is shipped into this folder: libawari.a and libawari.so.0
