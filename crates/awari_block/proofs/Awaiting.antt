@@ -12,12 +12,12 @@ use Rattle.awari_block.specs.declared.cells.Cell.{Cell}
 use Rattle.awari_block.specs.declared.cells.Mark.{Mark}
 use Rattle.awari_block.specs.declared.cells.Mark.TheVariants as mark
 use Rattle.awari_block.specs.declared.stakes.Stake.{Stake}
-use Rattle.awari_block.specs.Awaited.{AwaitsNoMore, AwaitsNone, MayOpen, NoneAwait, TellAwaited}
+use Rattle.awari_block.specs.Awaited.{NoneAwait, TellAwaited}
 use Rattle.awari_block.specs.Blocks.{Due, no_cell}
 use Rattle.awari_block.specs.Boards.{OpensCells}
 use Rattle.awari_block.specs.Part.{Part, part_of}
 use Rattle.awari_block.proofs.Opening.{opens_still}
-use Rattle.awari_block.specs.Cells.{status_by, view_of}
+use Rattle.awari_block.specs.Cells.{AwaitsNoMore, AwaitsNone, MayOpen, status_by, view_of}
 use Rattle.awari_block.specs.Tally as tally
 use Rattle.awari_block.specs.Steps.{after_opening, cell_after_opening}
 

@@ -40,7 +40,7 @@ module _ {F : Type 0} (dues : ℕ → List Cell → F → List Due) (right : ℕ
     can = subst (λ (o : Part). CanPut o rank new) (sym view) can_here
 
     keep : KeepFresh a.start a.cells.items after fresh
-    keep = put_keeps a.stake a.start a.cells.items fresh rank new can.held.0 can.held.1 sound.block can.keeps
+    keep = put_keeps a.stake a.start a.cells.items fresh rank new can.held.0 can.held.1 sound.block can.steps.keeps
 
     still : (rest : F) → right a.stake.wave a.start after rest → Settles (seen a) (seen (with_cell a rank new rest)) → IsBlock a.stake a.start after (dues a.start after rest) → IsBoards dues right (with_cell a rank new rest)
     still rest is_right settles block = record {
@@ -51,7 +51,7 @@ module _ {F : Type 0} (dues : ℕ → List Cell → F → List Due) (right : ℕ
       within = sound.within;
       right = is_right;
       block = block;
-      awaited = awaited_put a.stake.level (rank - a.start) a.cells.items a.awaits.items new can.held.1 can.awaits sound.awaited;
+      awaited = awaited_put a.stake.level (rank - a.start) a.cells.items a.awaits.items new can.held.1 can.steps.awaits sound.awaited;
       count = let count = sound.count in let same = settles.unspread in let size = settles.size in omega (arith, count, same, size);
     }
 
@@ -67,7 +67,7 @@ module _ {F : Type 0} (dues : ℕ → List Cell → F → List Due) (right : ℕ
         right = sound.right;
         new = none (is_settled_in a.start a.cells.items rank) (sound.block.settled rank) (is_settled_in-here a.start a.cells.items rank can.held.0 ∙ unset_here);
         others = keep;
-        valued = λ zero. let one = sound.opened in elim ((can.timely unset_here settled).0) [
+        valued = λ zero. let one = sound.opened in elim ((can.steps.timely unset_here settled).0) [
           | inl won ↦ omega (arith, ints, zero, won, one)
           | inr lost ↦ omega (arith, ints, zero, lost, one)
         ];

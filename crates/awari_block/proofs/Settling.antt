@@ -104,8 +104,8 @@ module _ (stake : Stake) (start : ℕ) (cells : List Cell) (fresh : List Due) (s
   put_settles rest joins block step = record {
     same = record { level = refl; gain = refl; wave = refl; start = refl };
     size = length-set cells (rank - start) c;
-    stays = put_stays start cells rank c can.held.0 can.held.1 can.keeps;
-    joins = put_joins stake start cells fresh rank c can.held.0 can.held.1 sound rest can.keeps joins;
+    stays = put_stays start cells rank c can.held.0 can.held.1 can.steps.keeps;
+    joins = put_joins stake start cells fresh rank c can.held.0 can.held.1 sound rest can.steps.keeps joins;
     unspread = put_unspread start cells fresh rest rank c can.held.1 step;
     fresh = λ _. fresh_of_block stake start after rest block;
   }
@@ -113,7 +113,7 @@ module _ (stake : Stake) (start : ℕ) (cells : List Cell) (fresh : List Due) (s
   -- a newly settled board joins the fresh ones
   module _ (new : is_settled c.mark ≡ true) (unset : is_settled was.mark ≡ false) (rest : List Due) (moved : IsPermutation ((c.dist, rank) ∷ fresh) rest) where
     pub joined_block : IsBlock stake start after rest
-    joined_block = put_joined stake start cells fresh rank c can.held.0 can.held.1 sound rest can.fits (can.timely unset new) can.keeps new unset moved
+    joined_block = put_joined stake start cells fresh rank c can.held.0 can.held.1 sound rest can.steps.fits (can.steps.timely unset new) can.steps.keeps new unset moved
 
     pub joined : Joins was c rank fresh rest
     joined = subst₂ (λ a b. JoinsIf (a && not b) c rank fresh rest) (sym new) (sym unset) moved
@@ -128,10 +128,10 @@ module _ (stake : Stake) (start : ℕ) (cells : List Cell) (fresh : List Due) (s
   -- and else they stay
   module _ (back : is_settled c.mark ≡ true → is_settled was.mark ≡ true) where
     same_mark : is_settled c.mark ≡ is_settled was.mark
-    same_mark = alike was c can.keeps (is_settled was.mark) refl back
+    same_mark = alike was c can.steps.keeps (is_settled was.mark) refl back
 
     pub kept_block : IsBlock stake start after fresh
-    kept_block = put_kept stake start cells fresh rank c can.held.0 can.held.1 sound can.fits can.keeps same_mark
+    kept_block = put_kept stake start cells fresh rank c can.held.0 can.held.1 sound can.steps.fits can.steps.keeps same_mark
 
     pub kept : Joins was c rank fresh fresh
     kept = subst (λ b. JoinsIf b c rank fresh fresh) (sym (not_new (is_settled c.mark) (is_settled was.mark) back)) refl

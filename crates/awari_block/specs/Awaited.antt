@@ -1,26 +1,8 @@
 -- Which gain the boards of a block await.
-use Rattle.std.specs.Prelude.{◌≡◌, ◌≢◌, ℕ, ◌<◌, ◌≤◌, ℤ, List, length, slice_index_or}
-use Rattle.awari_block.specs.Cells.{IsEither}
+use Rattle.std.specs.Prelude.{◌≡◌, ◌≢◌, ℕ, ◌<◌, ◌≤◌, List, length, slice_index_or}
+use Rattle.awari_block.specs.Cells.{MayOpen}
 use Rattle.awari_block.specs.Blocks.{no_cell}
 use Rattle.awari_block.specs.declared.cells.Cell.{Cell}
-use Rattle.awari_block.specs.declared.cells.Mark.{Mark}
-use Rattle.awari_block.specs.declared.cells.Mark.TheVariants as mark
-
--- in the level of n stones the opening of gain t may settle a board of this mark and score
-abbrev pub MayOpen : Mark → ℤ → ℕ → ℕ → Type 0
-MayOpen mark.Ended score n t = t ≡ n
-MayOpen mark.Capturing score n t = IsEither t score
-MayOpen mark.Quiet score n t = ⊥
-MayOpen mark.Noted score n t = ⊥
-MayOpen mark.Settled score n t = ⊥
-
--- in the level of n stones no opening settles a board of this cell
-abbrev pub AwaitsNone : Cell → ℕ → Type 0
-AwaitsNone c n = (t : ℕ) → MayOpen c.mark c.score n t → ⊥
-
--- what a cell awaits, it awaited before
-abbrev pub AwaitsNoMore : Cell → Cell → Type 0
-AwaitsNoMore old new = (n t : ℕ) → MayOpen new.mark new.score n t → MayOpen old.mark old.score n t
 
 -- The bytes of these boards of the level of n stones: if the opening of a gain may settle a board, its byte is that gain. A board that
 -- awaits none may have any.

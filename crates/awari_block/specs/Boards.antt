@@ -1,9 +1,8 @@
 -- What becomes of the boards of a block, and what is needed for it. The steps of owners and of segments go by this too.
 use Rattle.std.specs.Prelude.{◌≡◌, ℕ, ℤ, pos, neg_ℤ, ◌-◌, ◌^◌, ◌<◌, ◌≤◌, ◌⊎◌, ◌∷◌, ◌++◌, ◌&&◌, not, Bool, true, false, List, map, length, All, Option, Some, None, slice_index_or, slice_set}
 use Rattle.std.specs.List.Sorted.{IsPermutation}
-use Rattle.awari_block.specs.Awaited.{AwaitsNoMore}
 use Rattle.awari_block.specs.Steps.{cell_after_note, cell_after_opening}
-use Rattle.awari_block.specs.Cells.{Fits, Keeps, SettlesAtStake, is_settled, view_of}
+use Rattle.awari_block.specs.Cells.{StepsCell, is_settled, view_of}
 use Rattle.awari_block.specs.Blocks.{Due, due_dist, due_rank, no_cell, times_due, IsBlock, KeepSettled}
 use Rattle.awari_block.specs.Part.{Part, AreFresh, InBlock, JoinsFresh, SameLevel, settled_at, stored_at, unspread}
 use Rattle.awari_block.specs.declared.cells.Cell.{Cell}
@@ -51,10 +50,7 @@ Joins old new rank fresh after = JoinsIf (is_settled new.mark && not (is_settled
 -- this cell may take the place of that of the board of this rank
 pub record CanPut (part : Part) (rank : ℕ) (cell : Cell) : Type 0 where
   pub held : InBlock part rank
-  pub fits : Fits (stake_of part) cell
-  pub keeps : Keeps (stored_at part rank) cell
-  pub timely : SettlesAtStake (stake_of part) (stored_at part rank) cell
-  pub awaits : AwaitsNoMore (stored_at part rank) cell
+  pub steps : StepsCell (stake_of part) (stored_at part rank) cell
 
 -- a note of this pit, of the open gain and wave, may be heard for the board of this rank
 pub record CanHear (part : Part) (target pit : ℕ) : Type 0 where

@@ -66,6 +66,20 @@ FitsBy mark.Ended n t score dist = IsEither n score
 abbrev pub Fits : Stake → Cell → Type 0
 Fits stake c = FitsBy c.mark stake.level stake.gain c.score c.dist
 
+-- in the level of n stones the opening of gain t may settle a board of this mark and score
+abbrev pub MayOpen : Mark → ℤ → ℕ → ℕ → Type 0
+MayOpen mark.Ended score n t = t ≡ n
+MayOpen mark.Capturing score n t = IsEither t score
+MayOpen mark.Quiet score n t = ⊥
+MayOpen mark.Noted score n t = ⊥
+MayOpen mark.Settled score n t = ⊥
+
+-- in the level of n stones no opening settles a board of this cell
+abbrev pub AwaitsNone : Cell → ℕ → Type 0
+AwaitsNone c n = (t : ℕ) → MayOpen c.mark c.score n t → ⊥
+
+-- ---- steps of a cell
+
 -- a settled cell keeps value and distance
 abbrev pub Keeps : Cell → Cell → Type 0
 Keeps old new = is_settled old.mark ≡ true → (new.mark ≡ old.mark) × (new.score ≡ old.score) × (new.dist ≡ old.dist)
@@ -76,3 +90,22 @@ IsAtStake stake c = IsEither stake.gain c.score × (stake.wave ≤ c.dist)
 
 abbrev pub SettlesAtStake : Stake → Cell → Cell → Type 0
 SettlesAtStake stake old new = is_settled old.mark ≡ false → is_settled new.mark ≡ true → IsAtStake stake new
+
+-- what a cell awaits, it awaited before
+abbrev pub AwaitsNoMore : Cell → Cell → Type 0
+AwaitsNoMore old new = (n t : ℕ) → MayOpen new.mark new.score n t → MayOpen old.mark old.score n t
+
+-- a note of this pit, of the open gain and wave, may be heard at the cell
+pub record CanHearAt (stake : Stake) (pit : ℕ) (cell : Cell) : Type 0 where
+  pub own : pit < 6
+  pub low : stake.level ≤ 24
+  pub opened : stake.gain ≤ stake.level
+  pub near : stake.wave < 2 ^ 32 - 1
+  pub fits : Fits stake cell
+
+-- A step of a cell, which fits then: what was settled stays, nothing more is awaited, and what is newly settled is at stake.
+pub record StepsCell (stake : Stake) (old new : Cell) : Type 0 where
+  pub keeps : Keeps old new
+  pub awaits : AwaitsNoMore old new
+  pub timely : SettlesAtStake stake old new
+  pub fits : Fits stake new

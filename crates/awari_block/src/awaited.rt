@@ -4,9 +4,9 @@
 //! bytes, and reads the cells of the few boards that may await it.
 
 ghost use Rattle.std.specs.Prelude.{◌≡◌, ◌≢◌, ℕ, ◌+◌, ◌<◌, ◌≤◌, false, All, IfNone, IfOk, IfSome, length, slice_index_or};
-ghost use Rattle.awari_block.specs.Awaited.{AwaitsNone, NoneAwait, TellAwaited};
+ghost use Rattle.awari_block.specs.Awaited.{NoneAwait, TellAwaited};
 ghost use Rattle.awari_block.specs.Blocks.{no_cell};
-ghost use Rattle.awari_block.specs.Cells.{FitsBy};
+ghost use Rattle.awari_block.specs.Cells.{AwaitsNone, FitsBy};
 
 use crate::cells::Cell;
 use std::alloc::{AllocError, Global};

@@ -1,8 +1,7 @@
 //! What is kept of each board of a block.
 
-ghost use Rattle.std.specs.Prelude.{◌≡◌, ℕ, ◌⊎◌, ◌+◌, ◌-◌, ◌^◌, ◌<◌, ◌≤◌, IfSome, Some, None};
-ghost use Rattle.awari_block.specs.Awaited.{AwaitsNoMore, MayOpen};
-ghost use Rattle.awari_block.specs.Cells.{status_of, view_of, is_settled, status_with_gain, Fits, FitsBy, IsBeyond, IsOpen, IsWithin, IsEither, Keeps, SettlesAtStake};
+ghost use Rattle.std.specs.Prelude.{◌≡◌, ℕ, ◌⊎◌, ◌+◌, ◌<◌, ◌≤◌, IfSome, Some, None};
+ghost use Rattle.awari_block.specs.Cells.{status_of, view_of, is_settled, status_with_gain, CanHearAt, Fits, FitsBy, IsBeyond, IsOpen, IsWithin, IsEither, MayOpen, StepsCell};
 ghost use Rattle.awari_block.specs.Notes.{kind_of};
 ghost use Rattle.awari_block.specs.Part.{settled_by};
 ghost use Rattle.awari_block.specs.Pits.{has_pit};
@@ -97,16 +96,9 @@ impl Cell {
     /// unless a capture does better.
     #[inline(always)]
     pub fn hear(&mut self, stake: Stake, pit: u8, kind: Kind)
-        requires pit { pit < 6 }
-        requires low { stake.level ≤ 24 }
-        requires gain { stake.gain ≤ stake.level }
-        requires near { stake.wave < 2 ^ 32 - 1 }
-        requires fits { Fits stake self.old }
+        requires { CanHearAt stake pit self.old }
         ensures cell { view_of self.new ≡ cell_after_note (view_of self.old) kind pit stake.gain stake.wave }
-        ensures keeps { Keeps self.old self.new }
-        ensures awaits { AwaitsNoMore self.old self.new }
-        ensures timely { SettlesAtStake stake self.old self.new }
-        ensures fits { Fits stake self.new }
+        ensures steps { StepsCell stake self.old self.new }
     {
         self.left = self.left.without(pit);
         match kind {
@@ -118,17 +110,10 @@ impl Cell {
     /// Hears that the move from this pit leads to a lost board.
     #[inline(always)]
     fn hear_lost(&mut self, stake: Stake, pit: u8)
-        requires pit { pit < 6 }
-        requires low { stake.level ≤ 24 }
-        requires gain { stake.gain ≤ stake.level }
-        requires near { stake.wave < 2 ^ 32 - 1 }
-        requires fits { Fits stake self.old }
+        requires { CanHearAt stake pit self.old }
         ensures known { status_of self.new ≡ after_note self.old.left (status_of self.old) Lost pit stake.gain stake.wave }
         ensures left { self.new.left ≡ self.old.left }
-        ensures keeps { Keeps self.old self.new }
-        ensures awaits { AwaitsNoMore self.old self.new }
-        ensures timely { SettlesAtStake stake self.old self.new }
-        ensures fits { Fits stake self.new }
+        ensures steps { StepsCell stake self.old self.new }
     {
         let gain = stake.gain as i8;
         let dist = stake.wave + 1;
@@ -149,17 +134,10 @@ impl Cell {
     /// Hears that the move from this pit leads to a won board.
     #[inline(always)]
     fn hear_won(&mut self, stake: Stake, pit: u8)
-        requires pit { pit < 6 }
-        requires low { stake.level ≤ 24 }
-        requires gain { stake.gain ≤ stake.level }
-        requires near { stake.wave < 2 ^ 32 - 1 }
-        requires fits { Fits stake self.old }
+        requires { CanHearAt stake pit self.old }
         ensures known { status_of self.new ≡ after_note self.old.left (status_of self.old) Won pit stake.gain stake.wave }
         ensures left { self.new.left ≡ self.old.left }
-        ensures keeps { Keeps self.old self.new }
-        ensures awaits { AwaitsNoMore self.old self.new }
-        ensures timely { SettlesAtStake stake self.old self.new }
-        ensures fits { Fits stake self.new }
+        ensures steps { StepsCell stake self.old self.new }
     {
         if self.mark == Mark::Settled || self.mark == Mark::Ended {
             return;
@@ -224,10 +202,7 @@ impl Cell {
         requires opened { stake.wave ≡ 0 }
         requires fits { Fits stake self }
         ensures cell { view_of result ≡ cell_after_opening (view_of self) stake.level stake.gain }
-        ensures keeps { Keeps self result }
-        ensures awaits { AwaitsNoMore self result }
-        ensures timely { SettlesAtStake stake self result }
-        ensures fits { Fits stake result }
+        ensures steps { StepsCell stake self result }
     {
         match self.mark {
             Mark::Settled | Mark::Quiet | Mark::Noted => self,
