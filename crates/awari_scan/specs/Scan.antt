@@ -22,6 +22,17 @@ use Rattle.awari_block.specs.declared.cells.Cell.{Cell}
 abbrev pub IsRanged : (List ℕ → ℤ) → ℕ → Type 0
 IsRanged value n = (q : List ℕ) → IsBoard q → sum q < n → IsWithin (sum q) (value q)
 
+-- what captures from boards of n stones gain is known by these values
+pub record CanValue (value : List ℕ → ℤ) (n : ℕ) : Type 0 where
+  pub low : n ≤ HIGHEST_LEVEL
+  pub ranged : IsRanged value n
+
+-- a capture of c of n stones leaves the board q
+pub record CapturesTo (n c : ℕ) (q : List ℕ) : Type 0 where
+  pub board : IsBoard q
+  pub kept : sum q + c ≡ n
+  pub some : 0 < c
+
 -- the best that a capture from a pit below k gains, or none where none is legal
 abbrev pub IsBestBelow : (List ℕ → ℤ) → List ℕ → ℕ → Option ℤ → Type 0
 IsBestBelow value p k None = (x c : ℕ) (q : List ℕ) → x < k → IsMove p x c q → 0 < c → ⊥
@@ -67,9 +78,9 @@ pub record AreMovesBelow (p : List ℕ) (k near far : ℕ) : Type 0 where
   pub legal : (x : ℕ) → has_pit far x ≡ true → IsLegal p x
   pub all : (x : ℕ) → x < k → IsLegal p x → (has_pit near x ≡ true) ⊎ (has_pit far x ≡ true)
 
--- what is needed to scan so many boards of n stones from rank `first` on, with an index of this level
-pub record CanScan (n index first boards : ℕ) : Type 0 where
-  pub low : n ≤ HIGHEST_LEVEL
+-- what is needed to scan so many boards of n stones from rank `first` on, by these values and an index of this level
+pub record CanScan (value : List ℕ → ℤ) (n index first boards : ℕ) : Type 0 where
+  pub values : CanValue value n
   pub level : index ≡ n
   pub within : first + boards ≤ size_of n
   pub short : first + boards < 2 ^ 32

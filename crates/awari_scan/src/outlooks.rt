@@ -1,13 +1,12 @@
 //! What the moves of a board tell of it before it hears any note: its quiet moves, and what its best
 //! captures gain by the shelf.
 
-ghost use Rattle.std.specs.Prelude.{◌≡◌, ◌<◌, ◌≤◌, ◌+◌, ℕ, ℤ, pos, ◌-ℤ◌, List, None, length, sum};
+ghost use Rattle.std.specs.Prelude.{◌≡◌, ◌<◌, ◌+◌, ℕ, ℤ, pos, ◌-ℤ◌, List, None, length, sum};
 ghost use Rattle.awari_board.specs.Rules.{IsBoard, IsEnd, IsEnded, IsMove};
 ghost use Rattle.awari_table.specs.Images.{table_of};
-ghost use Rattle.awari_table.specs.declared.TheConstants.{HIGHEST_LEVEL};
 ghost use Rattle.awari_block.specs.Cells.{IsWithin};
 ghost use Rattle.awari_block.specs.Steps.{greater_of, pits_after};
-ghost use Rattle.awari_scan.specs.Scan.{IsOutlook, IsRanged, IsScannedCell};
+ghost use Rattle.awari_scan.specs.Scan.{CanValue, CapturesTo, IsOutlook, IsRanged, IsScannedCell};
 
 use awari_block::{Cell, Pits};
 use awari_packed::{PackedBoard, PackedMove};
@@ -37,11 +36,8 @@ pub fn see_quiet(seen: &mut Outlook, pit: u8)
 #[inline(always)]
 pub fn see_capture(seen: &mut Outlook, shelf: &Shelf, pit: u8, moved: &PackedMove)
     requires own { pit < 6 }
-    requires kept { sum moved.now.board + moved.now.captured ≡ length shelf.now }
-    requires board { IsBoard moved.now.board }
-    requires low { length shelf.now ≤ HIGHEST_LEVEL }
-    requires ranged { IsRanged (table_of shelf.now).value (length shelf.now) }
-    requires captures { 0 < moved.now.captured }
+    requires captures { CapturesTo (length shelf.now) moved.now.captured moved.now.board }
+    requires values { CanValue (table_of shelf.now).value (length shelf.now) }
     ensures { (p : List ℕ) → sum p ≡ length shelf.now → IsMove p pit moved.now.captured moved.now.board
         → IsOutlook (table_of shelf.now).value p pit seen.old.quiet seen.old.best seen.old.plans
         → IsOutlook (table_of shelf.now).value p (pit + 1) seen.new.quiet seen.new.best seen.new.plans }
@@ -75,11 +71,8 @@ fn put_capture(seen: &mut Outlook, pit: u8, gain: i8)
 /// What a capture gains: the stones captured, less the value of the board that it leaves.
 #[inline(always)]
 fn gain_of(shelf: &Shelf, moved: &PackedMove) -> i8
-    requires kept { sum moved.now.board + moved.now.captured ≡ length shelf.now }
-    requires board { IsBoard moved.now.board }
-    requires low { length shelf.now ≤ HIGHEST_LEVEL }
-    requires ranged { IsRanged (table_of shelf.now).value (length shelf.now) }
-    requires captures { 0 < moved.now.captured }
+    requires captures { CapturesTo (length shelf.now) moved.now.captured moved.now.board }
+    requires values { CanValue (table_of shelf.now).value (length shelf.now) }
     ensures gain { result ≡ (pos moved.now.captured -ℤ (table_of shelf.now).value moved.now.board) }
     ensures within { IsWithin (length shelf.now) result }
 {

@@ -1,11 +1,10 @@
 //! The boards of a block, scanned by as many threads as there are processors.
 
-ghost use Rattle.std.specs.Prelude.{◌≡◌, ◌≤◌, ◌+◌, IfOk, length, vec_len};
+ghost use Rattle.std.specs.Prelude.{◌≡◌, ◌+◌, IfOk, length, vec_len};
 ghost use Rattle.std.specs.Thread.{IsSync};
 ghost use Rattle.awari_table.specs.Images.{table_of};
-ghost use Rattle.awari_table.specs.declared.TheConstants.{HIGHEST_LEVEL};
 ghost use Rattle.awari_block.specs.Shares.{IsBlockOf};
-ghost use Rattle.awari_scan.specs.Scan.{AreScanned, CanScan, IsRanged};
+ghost use Rattle.awari_scan.specs.Scan.{AreScanned, CanScan, CanValue};
 
 use crate::runs::{scan_cells, unscanned_cells};
 use awari_block::{Block, Cell};
@@ -30,8 +29,7 @@ pub fn scanned_cells_parallel<R: Threads + Sync>(
     index: &Index,
     block: Block,
 ) -> Result<Vec<Cell>, AllocError>
-    requires low { length shelf.now ≤ HIGHEST_LEVEL }
-    requires ranged { IsRanged (table_of shelf.now).value (length shelf.now) }
+    requires values { CanValue (table_of shelf.now).value (length shelf.now) }
     requires level { index.now ≡ length shelf.now }
     requires block { IsBlockOf (length shelf.now) block }
     ensures size { IfOk result (λ cells. block.start + vec_len cells ≡ block.end) }
@@ -62,8 +60,7 @@ fn scan_pieces<R: Threads + Sync>(
     pieces: usize,
     cells: &mut [Cell],
 )
-    requires ranged { IsRanged (table_of scan.shelf.now).value (length scan.shelf.now) }
-    requires can { CanScan (length scan.shelf.now) scan.index.now first (length cells.old) }
+    requires { CanScan (table_of scan.shelf.now).value (length scan.shelf.now) scan.index.now first (length cells.old) }
     ensures size { length cells.new ≡ length cells.old }
     ensures scanned { AreScanned (table_of scan.entry.shelf.now).value (length scan.entry.shelf.now) first (first + length cells.old) cells.new }
 {
@@ -78,12 +75,12 @@ fn scan_pieces<R: Threads + Sync>(
     join_mut(
         rt,
         &mut ||
-            requires { IsSync R.row × IsRanged (table_of scan.shelf.now).value (length scan.shelf.now) × CanScan (length scan.shelf.now) scan.index.now first (length low.now) }
+            requires { IsSync R.row × CanScan (table_of scan.shelf.now).value (length scan.shelf.now) scan.index.now first (length low.now) }
             ensures size { length low.exit.now ≡ length low.entry.now }
             ensures scanned { AreScanned (table_of scan.entry.shelf.now).value (length scan.entry.shelf.now) first (first + length low.entry.now) low.exit.now }
         { scan_pieces(rt, scan, first, pieces, low) },
         &mut ||
-            requires { IsSync R.row × IsRanged (table_of scan.shelf.now).value (length scan.shelf.now) × CanScan (length scan.shelf.now) scan.index.now middle (length high.now) }
+            requires { IsSync R.row × CanScan (table_of scan.shelf.now).value (length scan.shelf.now) scan.index.now middle (length high.now) }
             ensures size { length high.exit.now ≡ length high.entry.now }
             ensures scanned { AreScanned (table_of scan.entry.shelf.now).value (length scan.entry.shelf.now) middle (middle + length high.entry.now) high.exit.now }
         { scan_pieces(rt, scan, middle, pieces, high) },

@@ -9,7 +9,7 @@ ghost use Rattle.awari_board.specs.Rules.{IsBoard};
 ghost use Rattle.awari_rank.specs.Rank.{size_of};
 ghost use Rattle.awari_table.specs.Images.{table_of};
 ghost use Rattle.awari_table.specs.declared.TheConstants.{HIGHEST_LEVEL};
-ghost use Rattle.awari_scan.specs.Scan.{AreMovesBelow, AreScanned, CanScan, IsOutlook, IsRanged, IsScannedCell};
+ghost use Rattle.awari_scan.specs.Scan.{AreMovesBelow, AreScanned, CanScan, CanValue, IsOutlook, IsScannedCell};
 
 use crate::outlooks::{Outlook, cell_of, see_capture, see_quiet};
 use awari_block::{Cell, Pits};
@@ -61,8 +61,7 @@ pub fn unscanned_cells(alloc: Global, boards: usize) -> Result<Vec<Cell>, AllocE
 
 /// Scans the boards from rank `start` on, one for each cell.
 pub fn scan_cells(shelf: &Shelf, index: &Index, start: u32, cells: &mut [Cell])
-    requires ranged { IsRanged (table_of shelf.now).value (length shelf.now) }
-    requires can { CanScan (length shelf.now) index.now start (length cells.old) }
+    requires { CanScan (table_of shelf.now).value (length shelf.now) index.now start (length cells.old) }
     ensures size { length cells.new ≡ length cells.old }
     ensures scanned { AreScanned (table_of shelf.now).value (length shelf.now) start (start + length cells.old) cells.new }
 {
@@ -76,12 +75,9 @@ pub fn scan_cells(shelf: &Shelf, index: &Index, start: u32, cells: &mut [Cell])
 /// Scans the boards of one run from rank `rank` on, as far as there are cells, the first of which is
 /// that of rank `start`. Gives the rank after them.
 fn scan_run(shelf: &Shelf, index: &Index, start: u32, rank: u32, cells: &mut [Cell]) -> u32
-    requires ranged { IsRanged (table_of shelf.now).value (length shelf.now) }
-    requires can { CanScan (length shelf.now) index.now start (length cells.old) }
-    requires order { start ≤ rank }
-    requires inside { rank < start + length cells.old }
-    ensures farther { rank < result }
-    ensures within { result ≤ start + length cells.old }
+    requires can { CanScan (table_of shelf.now).value (length shelf.now) index.now start (length cells.old) }
+    requires inside { (start ≤ rank) × (rank < start + length cells.old) }
+    ensures farther { (rank < result) × (result ≤ start + length cells.old) }
     ensures size { length cells.new ≡ length cells.old }
     ensures scanned { AreScanned (table_of shelf.now).value (length shelf.now) start rank cells.old
         → AreScanned (table_of shelf.now).value (length shelf.now) start result cells.new }
@@ -141,8 +137,7 @@ fn with_move(moves: RunMoves, head: &PackedBoard, pit: u8) -> RunMoves
 fn scanned(shelf: &Shelf, moves: &RunMoves, board: &PackedBoard) -> Cell
     requires board { IsBoard board.now }
     requires stones { sum board.now ≡ length shelf.now }
-    requires low { length shelf.now ≤ HIGHEST_LEVEL }
-    requires ranged { IsRanged (table_of shelf.now).value (length shelf.now) }
+    requires values { CanValue (table_of shelf.now).value (length shelf.now) }
     requires moves { AreMovesBelow board.now 6 moves.now.near moves.now.far }
     ensures { IsScannedCell (table_of shelf.now).value board.now result }
 {
@@ -165,8 +160,7 @@ fn scanned(shelf: &Shelf, moves: &RunMoves, board: &PackedBoard) -> Cell
 #[inline(always)]
 fn see_pit(seen: &mut Outlook, shelf: &Shelf, moves: &RunMoves, board: &PackedBoard, pit: u8)
     requires stones { sum board.now ≡ length shelf.now }
-    requires low { length shelf.now ≤ HIGHEST_LEVEL }
-    requires ranged { IsRanged (table_of shelf.now).value (length shelf.now) }
+    requires values { CanValue (table_of shelf.now).value (length shelf.now) }
     requires moves { AreMovesBelow board.now 6 moves.now.near moves.now.far }
     requires own { pit < 6 }
     requires seen { IsOutlook (table_of shelf.now).value board.now pit seen.old.quiet seen.old.best seen.old.plans }

@@ -14,5 +14,5 @@ returns c = λ p stones move seen.
     let put : ℤ → Outlook = λ z. record c.args.seen.now { best = greater_of c.args.seen.now.best z; plans = pits_after c.args.seen.now.best c.args.seen.now.plans z c.args.pit } in
     subst (λ (o : Outlook). IsOutlook (table_of c.args.shelf.now).value p (c.args.pit + 1) o.quiet o.best o.plans) (sym (c.put_capture.ensures ∙ ap put (to_z-of_z w8 c.gain_of-gain.result fits)))
     (seen_captures (table_of c.args.shelf.now).value p c.args.pit c.args.seen.now.quiet c.args.moved.now.captured c.args.moved.now.board c.gain_of-gain.result
-    c.requires.own move c.requires.captures c.gain_of-gain.ensures.gain (subst (λ n. IsWithin n c.gain_of-gain.result) (sym stones) c.gain_of-gain.ensures.within)
+    c.requires.own move c.requires.captures.some c.gain_of-gain.ensures.gain (subst (λ n. IsWithin n c.gain_of-gain.result) (sym stones) c.gain_of-gain.ensures.within)
     c.args.seen.now.best c.args.seen.now.plans seen)

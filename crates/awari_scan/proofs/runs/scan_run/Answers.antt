@@ -24,12 +24,12 @@ loop-k-preserved c =
     let found =
     of_stretch n c.args.index.now c.args.rank c.loop-k.k c.stretch-stretch.result.head c.joined-board.result c.index-stretch-k.result c.stretch-stretch.result.tails.now
     c.requires.can.level c.stretch-stretch.ensures.boards c.loop-k-test.true c.joined-board.ensures.joined in
-    let place : c.args.rank - c.args.start + c.loop-k.k ≡ c.args.rank + c.loop-k.k - c.args.start = (let from = c.requires.order in omega (arith, from)) in
+    let place : c.args.rank - c.args.start + c.loop-k.k ≡ c.args.rank + c.loop-k.k - c.args.start = (let from = c.requires.inside.0 in omega (arith, from)) in
     record {
       size = length-set _ _ _ ∙ c.loop-k.invariant.size;
       scanned = λ before.
           subst (λ j. AreScanned value n c.args.start (c.args.rank + (c.loop-k.k + 1)) (set c.loop-k.cells j c.scanned.result)) (sym place)
           (subst (λ r. AreScanned value n c.args.start r (set c.loop-k.cells (c.args.rank + c.loop-k.k - c.args.start) c.scanned.result)) (let next : (c.args.rank + c.loop-k.k) + 1 ≡ c.args.rank + (c.loop-k.k + 1) = omega arith in next)
           (scanned-more value n c.args.start (c.args.rank + c.loop-k.k) c.loop-k.cells c.scanned.result c.joined-board.result c.ranks_tell_boards_apart.ensures
-          found.at.board found.at.stones found.at.rank (let from = c.requires.order in omega (arith, from)) (search rules) c.scanned.ensures (c.loop-k.invariant.scanned before)));
+          found.at.board found.at.stones found.at.rank (let from = c.requires.inside.0 in omega (arith, from)) (search rules) c.scanned.ensures (c.loop-k.invariant.scanned before)));
     }

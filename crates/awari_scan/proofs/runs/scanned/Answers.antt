@@ -15,4 +15,4 @@ cell_of-requires c = record {
 pub returns : goal.returns
 returns c =
     c.cell_of.ensures (table_of c.args.shelf.now).value c.requires.board
-    (subst (IsRanged (table_of c.args.shelf.now).value) (sym c.requires.stones) c.requires.ranged) c.see_pit-6.ensures
+    (subst (IsRanged (table_of c.args.shelf.now).value) (sym c.requires.stones) c.requires.values.ranged) c.see_pit-6.ensures
