@@ -97,6 +97,12 @@ module _ {T : Type 0} where
   abbrev pub Paired : Ends T → Ends T → Type 0
   Paired a b = PairedOn (pair_of a b.owner) (pair_of b a.owner)
 
+  -- the ends of two owners of one grid, with the two rings between them
+  pub record AreLinked (a b : Ends T) : Type 0 where
+    pub other : IsOther a b.owner
+    pub this : IsOther b a.owner
+    pub paired : Paired a b
+
   -- nothing was sent or received, and all room is known to be free
   abbrev pub UnusedOn : Option (RingPair T) → Type 0
   UnusedOn None = Unit {0}

@@ -24,7 +24,7 @@ pub struct Ends<T> {
 impl<T> Ends<T> {
     ghost use Rattle.std.specs.Prelude.{◌≡◌, ◌+◌, ◌<◌, ◌≤◌, ◌++◌, ◌∷◌, [], length, IfOk, IfErr, OnOk, IfSome, IfNone, IsOk, IsSome, IsTrue, ◌↔◌};
     ghost use mathlib.Core.List.{IsPrefix};
-    ghost use Rattle.awari_lines.specs.Rings.{IsOther, owners_of, sent_to, received_from, waiting_from, free_to, SendsOnly, TakesOnly, Paired, Connected, Looked, IsExact, NothingWaits, SameHistory};
+    ghost use Rattle.awari_lines.specs.Rings.{IsOther, owners_of, sent_to, received_from, waiting_from, free_to, SendsOnly, TakesOnly, AreLinked, Connected, Looked, IsExact, NothingWaits, SameHistory};
 
     /// The owner's number.
     pub fn owner(&self) -> u8
@@ -114,9 +114,7 @@ impl<T> Ends<T> {
     /// Looks at both rings between two owners of one grid. True if nothing waits on them. It takes no
     /// memory.
     pub fn look_beside(&mut self, other: &mut Ends<T>) -> bool
-        requires other { IsOther self.old other.old.owner }
-        requires this { IsOther other.old self.old.owner }
-        requires paired { Paired self.old other.old }
+        requires { AreLinked self.old other.old }
         ensures here { Looked self.old self.new other.old.owner }
         ensures there { Looked other.old other.new self.old.owner }
         ensures exact { IsExact self.new other.new }

@@ -2,17 +2,12 @@ use Rattle.std.proofs.Common.{refl}
 use Rattle.awari_phase.proofs.Pairs.{other_of, this_of, owners_paired, owners_looked, owners_flag, rest_written}
 use Rattle.awari_phase.proofs.settling.settle_pair.Goals as goal
 
-pub look_beside-requires-clause-other : goal.look_beside-requires-clause-other
-look_beside-requires-clause-other c =
-    other_of c.args.all.now _ _ c.args.i c.args.j c.index-front-i.result c.index-back-0.result c.split_at_mut-front.ensures.front c.split_at_mut-front.ensures.back c.requires.pair.0 c.requires.pair.1 c.requires.grid
-
-pub look_beside-requires-clause-this : goal.look_beside-requires-clause-this
-look_beside-requires-clause-this c =
-    this_of c.args.all.now _ _ c.args.i c.args.j c.index-front-i.result c.index-back-0.result c.split_at_mut-front.ensures.front c.split_at_mut-front.ensures.back c.requires.pair.0 c.requires.pair.1 c.requires.grid
-
-pub look_beside-requires-clause-paired : goal.look_beside-requires-clause-paired
-look_beside-requires-clause-paired c =
-    owners_paired c.args.all.now _ _ c.args.i c.args.j c.index-front-i.result c.index-back-0.result c.split_at_mut-front.ensures.front c.split_at_mut-front.ensures.back c.requires.pair.0 c.requires.pair.1 c.requires.grid
+pub look_beside-requires : goal.look_beside-requires
+look_beside-requires c = record {
+  other = other_of c.args.all.now _ _ c.args.i c.args.j c.index-front-i.result c.index-back-0.result c.split_at_mut-front.ensures.front c.split_at_mut-front.ensures.back c.requires.pair.0 c.requires.pair.1 c.requires.grid;
+  this = this_of c.args.all.now _ _ c.args.i c.args.j c.index-front-i.result c.index-back-0.result c.split_at_mut-front.ensures.front c.split_at_mut-front.ensures.back c.requires.pair.0 c.requires.pair.1 c.requires.grid;
+  paired = owners_paired c.args.all.now _ _ c.args.i c.args.j c.index-front-i.result c.index-back-0.result c.split_at_mut-front.ensures.front c.split_at_mut-front.ensures.back c.requires.pair.0 c.requires.pair.1 c.requires.grid;
+}
 
 pub returns-clause-looked : goal.returns-clause-looked
 returns-clause-looked c =
