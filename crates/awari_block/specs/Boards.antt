@@ -52,6 +52,13 @@ pub record CanPut (part : Part) (rank : ℕ) (cell : Cell) : Type 0 where
   pub held : InBlock part rank
   pub steps : StepsCell (stake_of part) (stored_at part rank) cell
 
+-- notes of this stake may be told: a gain is open, and the distance can be one more
+pub record CanTell (stake : Stake) : Type 0 where
+  pub low : stake.level ≤ 24
+  pub positive : 1 ≤ stake.gain
+  pub inward : stake.gain ≤ stake.level
+  pub near : stake.wave < 2 ^ 32 - 1
+
 -- a note of this pit, of the open gain and wave, may be heard for the board of this rank
 pub record CanHear (part : Part) (target pit : ℕ) : Type 0 where
   pub held : InBlock part target

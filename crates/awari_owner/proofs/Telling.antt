@@ -11,7 +11,7 @@ use Rattle.awari_block.specs.Boards.{Settles}
 use Rattle.awari_block.specs.declared.notes.Kind.{Kind}
 use Rattle.awari_scan.specs.Found.{Lists, Source, IsSource, IsCodeOf}
 use Rattle.awari_owner.specs.Queues.{Queue, queue_in, room_in}
-use Rattle.awari_owner.specs.Spread.{is_held, PutsAll, with_sent, own_notes}
+use Rattle.awari_owner.specs.Spread.{is_held, PutsAll, TellsAll, with_sent, own_notes}
 use Rattle.awari_scan.proofs.Finding.{IsNext, code_parts, next_source, none_left}
 use Rattle.awari_owner.proofs.Spreading.{held_still, told_more}
 use Rattle.awari_owner.proofs.Sending.{puts_more}
@@ -91,7 +91,12 @@ IsTelling-more old now new span kind before middle after q targets n k t telling
 
 -- in the end all are
 pub IsTelling-end : (old now : Part) (span : ℕ) (kind : Kind) (before after : List Queue) (q : List ℕ) (targets : List ℕ) (n k : ℕ)
-    → IsTelling old now span kind before after q targets n k → n ≤ k
-    → (sources : List Source) × IsPredecessors q sources × HearsNotes (own_notes old kind sources) old now × PutsAll old span kind before after sources
-IsTelling-end old now span kind before after q targets n k telling end =
-    (telling.seen, subst (IsPredecessors q) (none_left targets n k telling.seen telling.left telling.many telling.listed end) telling.predecessors, telling.told, telling.sent)
+    → IsTelling old now span kind before after q targets n k → Settles old now → length after ≡ length before → n ≤ k → TellsAll q kind span old now before after
+IsTelling-end old now span kind before after q targets n k telling settles many end = record {
+  sources = telling.seen;
+  predecessors = subst (IsPredecessors q) (none_left targets n k telling.seen telling.left telling.many telling.listed end) telling.predecessors;
+  hears = telling.told;
+  settles = settles;
+  many = many;
+  puts = telling.sent;
+}

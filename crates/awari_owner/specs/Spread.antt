@@ -6,6 +6,7 @@ use Rattle.awari_block.specs.Notes.{IsQuietMove, IsNoteOf, kind_of}
 use Rattle.awari_unmove.specs.Predecessors.{IsPredecessors}
 use Rattle.awari_block.specs.Cells.{IsEither}
 use Rattle.awari_block.specs.Blocks.{times_due, due_dist, due_rank, is_settled_in}
+use Rattle.awari_block.specs.Boards.{Settles}
 use Rattle.awari_block.specs.Part.{Part, InBlock, IsTallied, settled_at, stored_at}
 use Rattle.awari_block.specs.Shares.{first_rank}
 use Rattle.awari_owner.specs.Outboxes.{Outboxes, queue_to, with_note, with_notes}
@@ -13,7 +14,7 @@ use Rattle.awari_owner.specs.Queues.{Queue, queue_in}
 use Rattle.awari_block.specs.declared.notes.Note.{Note}
 use Rattle.awari_block.specs.declared.notes.Kind.{Kind}
 use Rattle.awari_scan.specs.Found.{Source}
-use Rattle.awari_heard.specs.Heard.{IsSpread, HearsOwn, SameBlock, with_heard}
+use Rattle.awari_heard.specs.Heard.{IsSpread, HearsNotes, HearsOwn, SameBlock, with_heard}
 
 -- whether the board of this rank is in the block
 abbrev pub is_held : Part → ℕ → Bool
@@ -113,3 +114,12 @@ with_all_sent part span to kind queue sources = fold (with_sent part span to kin
 abbrev pub PutsAll : Part → ℕ → Kind → List Queue → List Queue → List Source → Type 0
 PutsAll part span kind queues queues' sources =
     (to : ℕ) → to < length queues → queue_in queues' to ≡ with_all_sent part span to kind (queue_in queues to) sources
+
+-- All predecessors of a board are told: those of the block hear, and the notes for others are put to the queues of their owners.
+pub record TellsAll (board : List ℕ) (kind : Kind) (span : ℕ) (old new : Part) (queues queues' : List Queue) : Type 0 where
+  pub sources : List Source
+  pub predecessors : IsPredecessors board sources
+  pub hears : HearsNotes (own_notes old kind sources) old new
+  pub settles : Settles old new
+  pub many : length queues' ≡ length queues
+  pub puts : PutsAll old span kind queues queues' sources

@@ -1,17 +1,16 @@
 //! One owner's part of a level, and what is asked of it between two spreads.
 
-ghost use Rattle.std.specs.Prelude.{◌≡◌, ℕ, ℤ, ◌+◌, ◌-◌, ◌^◌, ◌<◌, ◌≤◌, ◌↔◌, IsTrue, OnOk, OnErr, IfOk, IfErr, IfSome, All, true, false, length, vec_len, []};
+ghost use Rattle.std.specs.Prelude.{◌≡◌, ℕ, ℤ, ◌+◌, ◌^◌, ◌<◌, ◌≤◌, ◌↔◌, IsTrue, OnOk, OnErr, IfOk, IfErr, IfSome, All, true, false, length, vec_len, []};
 ghost use Rattle.awari_rank.specs.Rank.{size_of};
 ghost use Rattle.awari_block.specs.Cells.{IsWithin, IsBeyond};
 ghost use Rattle.awari_block.specs.Blocks.{due_dist};
-ghost use Rattle.awari_block.specs.Boards.{Settles};
 ghost use Rattle.awari_block.specs.Counts.{spread_of};
 ghost use Rattle.awari_block.specs.Part.{Part as PartView, InBlock, Leaves, IsExpected, stored_at, settled_at, IsLeastDue, AreFresh, IsClosed};
 ghost use Rattle.awari_owner.specs.OwnerFault.{IsFaultOf};
 ghost use Rattle.awari_owner.specs.Leaving.{AreLeaving};
 ghost use Rattle.awari_scan.specs.Scan.{AreScanned, IsScannedPart};
 ghost use Rattle.awari_heard.specs.Level.{IsWhole};
-ghost use Rattle.awari_owner.specs.Sound.{CanTake, IsScannedOwner, IsSpreadFault, KeepsOwn, KeepsTally, SameStake, SpreadsFirst, TakesNote};
+ghost use Rattle.awari_owner.specs.Sound.{CanTake, IsScannedOwner, IsSpreadFault, OpensGain, OpensWave, SameStake, SpreadsFirst, TakesNote};
 ghost use Rattle.awari_owner.specs.Spread.{IsPartOf};
 ghost use Rattle.awari_table.specs.Images.{table_of};
 ghost use Rattle.awari_table.specs.declared.TheConstants.{HIGHEST_LEVEL};
@@ -199,10 +198,7 @@ impl Part {
         requires idle { self.old.fresh ≡ [] }
         requires next { gain + 1 ≡ self.old.gain }
         requires positive { 1 ≤ gain }
-        ensures settles { Settles (record self.old { gain = gain; wave = 0 }) self.new }
-        ensures tallied { KeepsTally self.old self.new }
-        ensures own { KeepsOwn self.old self.new }
-        ensures fresh { AreFresh self.new }
+        ensures { OpensGain gain self.old self.new }
     {
         let Ok(()) = self.boards.open_gain(gain) else {
             unreachable!()
@@ -213,10 +209,7 @@ impl Part {
     pub fn open_wave(&mut self, dist: u32)
         requires farther { self.old.wave < dist }
         requires nearest { All (λ f. dist ≤ due_dist f) self.old.fresh }
-        ensures wave { self.new ≡ record self.old { wave = dist } }
-        ensures tallied { KeepsTally self.old self.new }
-        ensures own { KeepsOwn self.old self.new }
-        ensures fresh { AreFresh self.new }
+        ensures { OpensWave dist self.old self.new }
     {
         self.boards.open_wave(dist);
     }

@@ -1,15 +1,14 @@
 //! How the predecessors of a board that is spread hear of it. Those in the block hear at once, the
 //! others by notes that go to their owners' queues.
 
-ghost use Rattle.std.specs.Prelude.{◌%◌, ◌≡◌, ℕ, ◌+◌, ◌-◌, ◌^◌, ◌<◌, ◌≤◌, ◌/◌, ◌∷◌, [], List, vec_len, false};
+ghost use Rattle.std.specs.Prelude.{◌%◌, ◌≡◌, ℕ, ◌+◌, ◌<◌, ◌≤◌, ◌/◌, ◌∷◌, [], vec_len, false};
 ghost use Rattle.awari_rank.specs.Rank.{size_of};
 ghost use Rattle.awari_owner.specs.Queues.{queue_in, room_in};
-ghost use Rattle.awari_unmove.specs.Predecessors.{IsPredecessors};
-ghost use Rattle.awari_block.specs.Boards.{Settles};
+ghost use Rattle.awari_block.specs.Boards.{CanTell, Settles, stake_of};
 ghost use Rattle.awari_owner.specs.Lookahead.{ArePredecessors};
 ghost use Rattle.awari_scan.specs.Found.{IsCodeOf, Source};
 ghost use Rattle.awari_heard.specs.Heard.{HearsNotes};
-ghost use Rattle.awari_owner.specs.Spread.{is_held, own_notes, PutsAll, with_sent};
+ghost use Rattle.awari_owner.specs.Spread.{is_held, own_notes, TellsAll, with_sent};
 
 use crate::lookahead::Predecessors;
 use crate::queues::Queue;
@@ -25,17 +24,12 @@ pub fn tell_all(
     span: u32,
     kind: Kind,
 )
-    requires low { boards.old.level ≤ 24 }
-    requires gain { (1 ≤ boards.old.gain) × (boards.old.gain ≤ boards.old.level) }
-    requires near { boards.old.wave < 2 ^ 32 - 1 }
+    requires can { CanTell (stake_of boards.old) }
     requires found { ArePredecessors boards.old.level predecessors.now }
     requires blocks { 0 < span }
     requires room { (r : ℕ) → r < size_of boards.old.level → is_held boards.old r ≡ false
         → (r / span < vec_len queues.old) × (288 ≤ room_in queues.old.items (r / span)) }
-    ensures told { (sources : List Source) × IsPredecessors predecessors.now.board sources × HearsNotes (own_notes boards.old kind sources) boards.old boards.new
-        × PutsAll boards.old span kind queues.old.items queues.new.items sources }
-    ensures queues { vec_len queues.new ≡ vec_len queues.old }
-    ensures settles { Settles boards.old boards.new }
+    ensures { TellsAll predecessors.now.board kind span boards.old boards.new queues.old.items queues.new.items }
 {
     moves_keep_boards();
     for k in 0..predecessors.count {
@@ -46,9 +40,7 @@ pub fn tell_all(
 /// Tells a predecessor, of which this is the code, that its quiet move leads to a won or a lost board.
 #[inline(always)]
 fn tell_one(boards: &mut Boards<InOrder>, queues: &mut Vec<Queue>, span: u32, kind: Kind, code: u32)
-    requires low { boards.old.level ≤ 24 }
-    requires gain { (1 ≤ boards.old.gain) × (boards.old.gain ≤ boards.old.level) }
-    requires near { boards.old.wave < 2 ^ 32 - 1 }
+    requires can { CanTell (stake_of boards.old) }
     requires own { code % 8 < 6 }
     requires blocks { 0 < span }
     requires room { is_held boards.old (code / 8) ≡ false

@@ -12,10 +12,9 @@ loop-part-preserved c =
     let i = c.loop-part.part-index in
     let low : i < length items = search rules in
     let was : get_or items i c.part-item.result ≡ get_or c.args.parts.now.items i no_part = sym (get_or_default items i no_part c.part-item.result low) ∙ c.loop-part.invariant.later i (omega arith) in
-    let done = c.open_gain.ensures in
     record {
       count = length-set items i c.open_gain.new.self ∙ c.loop-part.invariant.count;
       opened = more_set (λ k p. OpensGain c.args.gain (get_or c.args.parts.now.items k no_part) p) items no_part i c.open_gain.new.self low c.loop-part.invariant.opened
-          (subst (λ (p : Part). OpensGain c.args.gain p c.open_gain.new.self) was (record { settles = done.settles; tallied = done.tallied; own = done.own; fresh = done.fresh }));
+          (subst (λ (p : Part). OpensGain c.args.gain p c.open_gain.new.self) was c.open_gain.ensures);
       later = later_set items c.args.parts.now.items no_part i c.open_gain.new.self c.loop-part.invariant.later;
     }

@@ -39,5 +39,5 @@ loop-k-preserved c =
           (λ y at to inside. c.tell_one.ensures.sent y at to (search (rules, inside))) c.tell_one.ensures.room;
     }
 
-pub returns-clause-told : goal.returns-clause-told
-returns-clause-told c = IsTelling-end _ _ _ _ _ _ _ _ _ _ c.loop-k.invariant.telling c.loop-k-test.false
+pub returns : goal.returns
+returns c = IsTelling-end _ _ _ _ _ _ _ _ _ _ c.loop-k.invariant.telling c.loop-k.invariant.settles (search rules) c.loop-k-test.false

@@ -57,5 +57,5 @@ returns-clause-sent c = λ y at to low.
 pub returns-clause-told : goal.returns-clause-told
 returns-clause-told c = λ y at.
     let inside : is_held c.args.boards.now (c.args.code / 8) ≡ true = held_by c.args.boards.now (c.args.code / 8) c.holds.result c.holds.ensures ∙ c.if-not-holds.false in
-    told_here c.args.boards.now c.hear.new.self c.args.kind y c.ranks_tell_boards_apart.ensures c.requires.gain.0 (ap (is_held c.args.boards.now) at.0 ∙ inside)
+    told_here c.args.boards.now c.hear.new.self c.args.kind y c.ranks_tell_boards_apart.ensures c.requires.can.positive (ap (is_held c.args.boards.now) at.0 ∙ inside)
     (subst (λ x. x < 6) (sym at.1) c.requires.own) c.in-Ok.ensures.settles.same (subst₂ (λ r x. HearsNote c.args.boards.now c.hear.new.self r x c.args.kind) (sym at.0) (sym at.1) c.in-Ok.ensures.hears)

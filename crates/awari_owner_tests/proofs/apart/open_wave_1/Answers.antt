@@ -4,8 +4,8 @@ use Rattle.awari_phase.proofs.Gaining.{grown_wave}
 use Rattle.awari_owner_tests.proofs.apart.open_wave_1.Goals as goal
 
 pub returns : goal.returns
-returns g c = let done = c.open_wave.ensures in record {
-  grown = grown_wave c.args.owner.now _ 1 refl refl (record { wave = done.wave; tallied = done.tallied; own = done.own; fresh = done.fresh }) (c.is_empty.ensures.empty.0 (search rules));
+returns g c = record {
+  grown = grown_wave c.args.owner.now _ 1 refl refl c.open_wave.ensures (c.is_empty.ensures.empty.0 (search rules));
   ends = refl;
   wave = (let now = ap (λ (p : Part). p.wave) c.open_wave.ensures.wave in let was : c.args.owner.now.part.wave ≡ 0 = search rules in omega (arith, now, was));
 }

@@ -1,7 +1,7 @@
 use Rattle.std.proofs.Common.{◌≡◌, ◌+◌, subst, sym, ap, ◌∙◌, arith}
 use Rattle.awari_block.specs.Boards.{Settles}
 use Rattle.awari_block.specs.Part.{Part, IsTallied}
-use Rattle.awari_heard.specs.Heard.{HearsOwn}
+use Rattle.awari_owner.specs.Sound.{OpensGain}
 use Rattle.awari_heard.proofs.Gains.{opened}
 use Rattle.awari_owner.proofs.Hearing.{hears_still}
 use Rattle.awari_block.proofs.Settling.{same_stake}
@@ -19,23 +19,19 @@ invariant_of-self c =
       leaving = leaving_still c.self.inside.boards c.open_gain.new.self c.self.inside.leaving.items settles.same.level settles.same.start settles.size c.self.invariant.leaving;
     }
 
-pub returns-clause-tallied : goal.returns-clause-tallied
-returns-clause-tallied c = λ value notes.
+pub returns : goal.returns
+returns c =
     let old : Part = c.self.inside.boards in
     let new : Part = c.open_gain.new.self in
     let next : c.args.gain + 1 ≡ old.gain = c.requires.next ∙ sym (ap (λ (v : Part). v.gain) c.self.view_is) in
-    let settles : Settles (record old { gain = c.args.gain; wave = 0 }) new = c.in-Ok.ensures.opens.settles in
-    subst (λ (o : Part). IsTallied value o notes → IsTallied value new notes) c.self.view_is
-    (λ tallied. subst (λ (n : Part). IsTallied value n notes) (same_stake (record old { gain = c.args.gain; wave = 0 }) new settles.same)
-    (opened value notes old new.cells new.fresh c.args.gain c.requires.positive next settles.size (λ k high. c.in-Ok.ensures.opens.cells.inside k high (omega arith) high) tallied))
-
-pub returns-clause-own : goal.returns-clause-own
-returns-clause-own c = λ notes.
-    let old : Part = c.self.inside.boards in
-    let new : Part = c.open_gain.new.self in
-    let settles : Settles (record old { gain = c.args.gain; wave = 0 }) new = c.in-Ok.ensures.opens.settles in
-    subst (λ (o : Part). HearsOwn o notes → HearsOwn new notes) c.self.view_is
-    (λ own. hears_still old new notes own settles.same.level settles.same.start settles.size settles.stays settles.joins)
-
-pub returns-clause-settles : goal.returns-clause-settles
-returns-clause-settles c = subst (λ (o : Part). Settles (record o { gain = c.args.gain; wave = 0 }) c.open_gain.new.self) c.self.view_is c.in-Ok.ensures.opens.settles
+    let opens = c.in-Ok.ensures.opens in
+    let settles : Settles (record old { gain = c.args.gain; wave = 0 }) new = opens.settles in
+    let does : OpensGain c.args.gain old new = record {
+      settles = settles;
+      tallied = λ value notes tallied.
+          subst (λ (n : Part). IsTallied value n notes) (same_stake (record old { gain = c.args.gain; wave = 0 }) new settles.same)
+          (opened value notes old new.cells new.fresh c.args.gain c.requires.positive next settles.size (λ k high. opens.cells.inside k high (omega arith) high) tallied);
+      own = λ notes own. hears_still old new notes own settles.same.level settles.same.start settles.size settles.stays settles.joins;
+      fresh = c.in-Ok.ensures.fresh;
+    } in
+    subst (λ (o : Part). OpensGain c.args.gain o new) c.self.view_is does

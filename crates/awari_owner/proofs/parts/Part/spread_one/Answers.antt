@@ -40,12 +40,14 @@ tell_all-requires-clause-found c =
     let first = ahead_at _ _ _ _ c.index-predecessors.result.now c.place_of-place.ensures.ahead c.place_of-place.ensures.place c.index-predecessors.ensures in
     first.0
 
-pub tell_all-requires-clause-gain : goal.tell_all-requires-clause-gain
-tell_all-requires-clause-gain c =
-    let takes : TakesFirst c.self.inside.boards c.take_first-rank.new.self c.take_first-rank.result = c.take_first-rank.ensures.first in (
-      subst (λ (t : Part). 1 ≤ t.gain) (sym takes.rest) c.self.invariant.opened,
-      taken_low c.self.inside.boards c.take_first-rank.new.self c.take_first-rank.result takes,
-    )
+pub tell_all-requires-clause-can : goal.tell_all-requires-clause-can
+tell_all-requires-clause-can c =
+    let takes : TakesFirst c.self.inside.boards c.take_first-rank.new.self c.take_first-rank.result = c.take_first-rank.ensures.first in record {
+      low = search rules;
+      positive = subst (λ (t : Part). 1 ≤ t.gain) (sym takes.rest) c.self.invariant.opened;
+      inward = taken_low c.self.inside.boards c.take_first-rank.new.self c.take_first-rank.result takes;
+      near = search rules;
+    }
 
 pub tell_all-requires-clause-room : goal.tell_all-requires-clause-room
 tell_all-requires-clause-room c =
@@ -77,10 +79,10 @@ invariant_of-outboxes-2 c =
     let old : Part = c.self.inside.boards in
     let takes : TakesFirst old c.take_first-rank.new.self c.take_first-rank.result = c.take_first-rank.ensures.first in
     let made : IsPartOf old (outboxes_of c.outboxes.inside.owner c.outboxes.inside.queues.items) = subst₂ (λ (o : Part) (b : Outboxes). IsPartOf o b) (sym c.self.view_is) (sym c.outboxes.view_is) c.requires.part in
-    let told = c.tell_all.ensures.told in
-    let puts : PutsAll old c.block_length-span.result c.kind-kind.result c.reserve_others.new.queues.items c.tell_all.new.queues.items told.0 =
-    subst (λ (t : Part). PutsAll t c.block_length-span.result c.kind-kind.result c.reserve_others.new.queues.items c.tell_all.new.queues.items told.0) takes.rest told.3 in
-    let are = sources_of c.index-predecessors.result.now.board told.0 (λ p x is move. c.moves_keep_boards.ensures.stones p c.index-predecessors.result.now.board x 0 is move) told.1 in
+    let told = c.tell_all.ensures in
+    let puts : PutsAll old c.block_length-span.result c.kind-kind.result c.reserve_others.new.queues.items c.tell_all.new.queues.items told.sources =
+    subst (λ (t : Part). PutsAll t c.block_length-span.result c.kind-kind.result c.reserve_others.new.queues.items c.tell_all.new.queues.items told.sources) takes.rest told.puts in
+    let are = sources_of c.index-predecessors.result.now.board told.sources (λ p x is move. c.moves_keep_boards.ensures.stones p c.index-predecessors.result.now.board x 0 is move) told.predecessors in
     let first = ahead_at _ _ _ _ c.index-predecessors.result.now c.place_of-place.ensures.ahead c.place_of-place.ensures.place c.index-predecessors.ensures in
     let stones = first.0.stones ∙ ap (λ (t : Part). t.level) takes.rest in
     let many : 0 < size_of old.level = subst (λ (p : Stake). 0 < size_of p.level) c.stake-stake.ensures.stake (subst (λ n. 0 < n) c.size.ensures.boards c.size.ensures.some) in
@@ -92,9 +94,9 @@ invariant_of-outboxes-2 c =
       few = omega (arith, many', c.outboxes.invariant.few);
       one = omega (arith, many', c.outboxes.invariant.one);
       own =
-          own_stays old c.index-predecessors.result.now.board told.0 c.kind-kind.result c.block_length-span.result c.outboxes.inside.owner c.outboxes.inside.queues.items c.reserve_others.new.queues.items c.tell_all.new.queues.items
+          own_stays old c.index-predecessors.result.now.board told.sources c.kind-kind.result c.block_length-span.result c.outboxes.inside.owner c.outboxes.inside.queues.items c.reserve_others.new.queues.items c.tell_all.new.queues.items
           are stones made many spans c.in_ok-reserve_others.ensures.same puts ∙ c.outboxes.invariant.own;
-      batches = all_batches old c.block_length-span.result c.kind-kind.result told.0 c.outboxes.inside.queues.items c.reserve_others.new.queues.items c.tell_all.new.queues.items after c.in_ok-reserve_others.ensures.same puts
+      batches = all_batches old c.block_length-span.result c.kind-kind.result told.sources c.outboxes.inside.queues.items c.reserve_others.new.queues.items c.tell_all.new.queues.items after c.in_ok-reserve_others.ensures.same puts
           c.outboxes.invariant.batches;
     }
 
@@ -103,27 +105,27 @@ returns-clause-spread c = λ _.
     let old : Part = c.self.inside.boards in
     let takes : TakesFirst old c.take_first-rank.new.self c.take_first-rank.result = c.take_first-rank.ensures.first in
     let made : IsPartOf old (outboxes_of c.outboxes.inside.owner c.outboxes.inside.queues.items) = subst₂ (λ (o : Part) (b : Outboxes). IsPartOf o b) (sym c.self.view_is) (sym c.outboxes.view_is) c.requires.part in
-    let told = c.tell_all.ensures.told in
-    let puts : PutsAll old c.block_length-span.result c.kind-kind.result c.reserve_others.new.queues.items c.tell_all.new.queues.items told.0 =
-    subst (λ (t : Part). PutsAll t c.block_length-span.result c.kind-kind.result c.reserve_others.new.queues.items c.tell_all.new.queues.items told.0) takes.rest told.3 in
+    let told = c.tell_all.ensures in
+    let puts : PutsAll old c.block_length-span.result c.kind-kind.result c.reserve_others.new.queues.items c.tell_all.new.queues.items told.sources =
+    subst (λ (t : Part). PutsAll t c.block_length-span.result c.kind-kind.result c.reserve_others.new.queues.items c.tell_all.new.queues.items told.sources) takes.rest told.puts in
     let level = ap (λ (p : Stake). p.level) c.stake-stake.ensures.stake in
     let wave = ap (λ (p : Stake). p.wave) c.stake-stake.ensures.stake in
     let first = ahead_at _ _ _ _ c.index-predecessors.result.now c.place_of-place.ensures.ahead c.place_of-place.ensures.place c.index-predecessors.ensures in
-    let both : Spreads old c.tell_all.new.boards c.index-predecessors.result.now.board told.0 × IsTold old c.index-predecessors.result.now.board told.0 c.kind-kind.result =
-    spread_first old c.take_first-rank.new.self c.tell_all.new.boards c.take_first-rank.result takes c.tell_all.ensures.settles c.cell.result c.index-predecessors.result.now.board told.0 c.kind-kind.result
+    let both : Spreads old c.tell_all.new.boards c.index-predecessors.result.now.board told.sources × IsTold old c.index-predecessors.result.now.board told.sources c.kind-kind.result =
+    spread_first old c.take_first-rank.new.self c.tell_all.new.boards c.take_first-rank.result takes c.tell_all.ensures.settles c.cell.result c.index-predecessors.result.now.board told.sources c.kind-kind.result
     c.ranks_tell_boards_apart.ensures
     (λ p x r is move. c.moves_keep_boards.ensures.board p r x 0 is move)
     (λ p x r is move. c.moves_keep_boards.ensures.stones p r x 0 is move)
     (let far = c.if-dist.false in let at = c.if-dist-stake.false in search (rules, wave)) c.self.invariant.opened first.0.board (first.0.stones ∙ ap (λ (t : Part). t.level) takes.rest) (first.0.rank ∙ first.1)
-    c.cell.ensures.stored c.kind-kind.ensures told.1 told.2 in
+    c.cell.ensures.stored c.kind-kind.ensures told.predecessors told.hears in
     let many : 0 < size_of old.level = subst (λ (p : Stake). 0 < size_of p.level) c.stake-stake.ensures.stake (subst (λ n. 0 < n) c.size.ensures.boards c.size.ensures.some) in
     let spans = span_is old c.stake-stake.result c.size.result c.len.result (length c.outboxes.inside.queues.items) c.block_length-span.result c.stake-stake.ensures.stake c.size.ensures.boards (search rules) c.block_length-span.ensures in
     let after : length c.tell_all.new.queues.items ≡ length c.outboxes.inside.queues.items = search rules in
-    let sends = sends_by old c.index-predecessors.result.now.board told.0 c.kind-kind.result c.block_length-span.result c.outboxes.inside.owner c.outboxes.inside.queues.items c.reserve_others.new.queues.items c.tell_all.new.queues.items
+    let sends = sends_by old c.index-predecessors.result.now.board told.sources c.kind-kind.result c.block_length-span.result c.outboxes.inside.owner c.outboxes.inside.queues.items c.reserve_others.new.queues.items c.tell_all.new.queues.items
     c.self.invariant.opened both.1 made many spans after c.in_ok-reserve_others.ensures.same puts in
     let does : SpreadsFirst old c.tell_all.new.boards (outboxes_of c.outboxes.inside.owner c.outboxes.inside.queues.items) (outboxes_of c.outboxes.inside.owner c.tell_all.new.queues.items) = record {
       board = c.index-predecessors.result.now.board;
-      sources = told.0;
+      sources = told.sources;
       notes = _;
       spreads = both.0;
       sends = sends;
@@ -132,7 +134,7 @@ returns-clause-spread c = λ _.
       sound = λ value taken sent coming.
           sound_spread c.ranks_tell_boards_apart.ensures
           (λ p x r is move. (c.moves_keep_boards.ensures.board p r x 0 is move, (let kept = c.moves_keep_boards.ensures.stones p r x 0 is move in omega (arith, kept))))
-          value old c.tell_all.new.boards _ _ taken sent coming c.index-predecessors.result.now.board told.0 _ both.0 sends (taken_place old c.take_first-rank.new.self c.tell_all.new.boards c.take_first-rank.result takes c.tell_all.ensures.settles) (c.tell_all.ensures.settles.fresh c.take_first-rank.ensures.fresh);
+          value old c.tell_all.new.boards _ _ taken sent coming c.index-predecessors.result.now.board told.sources _ both.0 sends (taken_place old c.take_first-rank.new.self c.tell_all.new.boards c.take_first-rank.result takes c.tell_all.ensures.settles) (c.tell_all.ensures.settles.fresh c.take_first-rank.ensures.fresh);
     } in
     subst₂ (λ (o : Part) (b : Outboxes). SpreadsFirst o c.tell_all.new.boards b (outboxes_of c.outboxes.inside.owner c.tell_all.new.queues.items)) c.self.view_is c.outboxes.view_is does
 
